@@ -1,1 +1,4 @@
 pub mod Status
+pub mod Faults
+pub mod Memories
+pub mod Device

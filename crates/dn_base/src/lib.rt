@@ -2,14 +2,25 @@
 //! contracts can compare, and the program's outside (where text comes from, where it goes, and the gate of a bank's turn).
 #![tactic(auto)]
 
+mod calls;
 mod failure;
 mod ids;
 mod name;
+mod outside;
 mod sequence;
+mod standard;
 mod status;
+#[cfg(test)]
+mod tests;
+mod text_source;
+mod vec_sink;
 
 pub use failure::{Failed, Memory};
 pub use ids::{BankId, CoreId, Grant, LoadSeen, LockId, PhaseId, Shape, WordId};
 pub use name::Name;
+pub use outside::{Gate, OpenGate, Sink, Source};
 pub use sequence::Sequence;
+pub use standard::{StdSink, StdSource};
 pub use status::{Outcome, Status};
+pub use text_source::TextSource;
+pub use vec_sink::VecSink;

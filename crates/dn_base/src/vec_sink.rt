@@ -1,0 +1,145 @@
+ghost use Rattle.std.specs.Prelude.{◌≡◌, ◌≤◌, ◌<◌, ◌+◌, ◌-◌, ◌++◌, ◌↔◌, ◌⊎◌, ℕ, List, Option, Some, [], length, min, take, IfOk, IsErr, OnOk, OnErr, Contains};
+ghost use Rattle.std.specs.Io.KnownBytes.{Keeps, WriteAppends};
+ghost use Rattle.dn_base.specs.Faults.{Rose, raised};
+ghost use Rattle.dn_base.specs.Memories.{one_more};
+
+use crate::calls::lists;
+use crate::failure::{Failed, Memory};
+use crate::outside::Sink;
+use std::alloc::Global;
+use std::marker::Model;
+
+/// Bytes in memory that take what is written a few bytes at a time, with a fixed room, and whose calls fail where a
+/// test wants them to.
+#[derive(Debug, Drop)]
+pub struct VecSink {
+    bytes: Vec<u8>,
+    room: u32,
+    per_write: u32,
+    fail_at: Vec<u32>,
+    calls: u64,
+    faults: u64,
+}
+
+impl Model for VecSink {
+    ghost use Rattle.std.specs.Prelude.{ℕ, ◌<◌, ◌≤◌, vec_len, vec_capacity};
+    ghost use Rattle.dn_base.specs.Memories.{TakenBytes};
+
+    ghost Value = { TakenBytes };
+
+    ghost view = { λ s. record {
+      held = s.bytes.items;
+      room = s.room;
+      per_write = s.per_write;
+      fail_at = s.fail_at.items;
+      calls = s.calls;
+      faults = s.faults;
+    } };
+
+    ghost invariant = { λ s. (vec_len s.bytes ≤ s.room) × (s.room ≤ vec_capacity s.bytes) × (0 < s.per_write) };
+}
+
+impl VecSink {
+    /// A sink with room for `room` bytes, taken now, that takes at most `per_write` bytes at a time, and fails at the
+    /// calls whose numbers, from 0, are listed; writes and flushes count alike.
+    ///
+    /// # Errors
+    /// `Memory` where there is no room for so many bytes or the list.
+    pub fn new(alloc: Global, room: u32, per_write: u32, fail_at: &[u32]) -> Result<VecSink, Memory>
+        requires { 0 < per_write }
+        ensures { IfOk result (λ sink. sink ≡ record {
+          held = [];
+          room = room;
+          per_write = per_write;
+          fail_at = fail_at.now;
+          calls = 0;
+          faults = 0;
+        }) }
+    {
+        Ok(VecSink {
+            bytes: Vec::with_capacity(alloc, room as usize)?,
+            room,
+            per_write,
+            fail_at: Vec::from_slice(alloc, fail_at)?,
+            calls: 0,
+            faults: 0,
+        })
+    }
+
+    /// The bytes that were taken.
+    pub fn bytes(&self) -> &[u8]
+        ensures { result.now ≡ self.now.held }
+    {
+        self.bytes.as_slice()
+    }
+
+    /// Counts a call, and says whether it is one of those that fail; one that fails is counted as a fault.
+    fn counted(&mut self) -> Result<(), Failed>
+        ensures counted { self.old.faults ≤ self.new.faults }
+        ensures failed { IsErr result → Rose self.old.faults self.new.faults }
+        ensures listed { IsErr result ↔ Contains self.old.fail_at self.old.calls }
+        ensures ok { OnOk result (self.new ≡ record self.old { calls = one_more self.old.calls }) }
+        ensures err { OnErr result (self.new
+            ≡ record self.old { calls = one_more self.old.calls; faults = raised self.old.faults }) }
+    {
+        let call = self.calls;
+        self.calls = self.calls.saturating_add(1);
+        if lists(self.fail_at.as_slice(), call) {
+            self.faults = self.faults.saturating_add(1);
+            return Err(Failed);
+        }
+        Ok(())
+    }
+
+    /// Takes these bytes, for which there is room.
+    fn append(&mut self, bytes: &[u8])
+        requires { length self.old.held + length bytes.now ≤ self.old.room }
+        ensures { self.new ≡ record self.old { held = self.old.held ++ bytes.now } }
+    {
+        self.bytes.extend_from_slice(bytes).unwrap();
+    }
+}
+
+impl Sink for VecSink {
+    ghost told = { λ s. Some s.held };
+
+    ghost faults = { λ s. s.faults };
+
+    fn write(&mut self, buf: &[u8]) -> Result<usize, Failed>
+        ensures within { IfOk result (λ count. count ≤ length buf.now) }
+        ensures some { IfOk result (λ count. 0 < length buf.now → 0 < count) }
+        ensures bytes { WriteAppends (Some self.old.held) (Some self.new.held) result buf.now }
+        ensures counted { self.old.faults ≤ self.new.faults }
+        ensures failed { IsErr result → Rose self.old.faults self.new.faults }
+        ensures listed { IsErr result ↔ (Contains self.old.fail_at self.old.calls
+            ⊎ ((self.old.room ≤ length self.old.held) × (0 < length buf.now))) }
+        ensures amount { IfOk result (λ count. count
+            ≡ min self.old.per_write (min (length buf.now) (self.old.room - length self.old.held))) }
+        ensures ok { IfOk result (λ count. self.new
+            ≡ record self.old { held = self.old.held ++ take count buf.now; calls = one_more self.old.calls }) }
+        ensures err { OnErr result (self.new
+            ≡ record self.old { calls = one_more self.old.calls; faults = raised self.old.faults }) }
+    {
+        self.counted()?;
+        let left = self.room as usize - self.bytes.len();
+        if left == 0 && !buf.is_empty() {
+            self.faults = self.faults.saturating_add(1);
+            return Err(Failed);
+        }
+        let count = (self.per_write as usize).min(buf.len().min(left));
+        self.append(&buf[..count]);
+        Ok(count)
+    }
+
+    fn flush(&mut self) -> Result<(), Failed>
+        ensures bytes { Keeps (Some self.old.held) (Some self.new.held) }
+        ensures counted { self.old.faults ≤ self.new.faults }
+        ensures failed { IsErr result → Rose self.old.faults self.new.faults }
+        ensures listed { IsErr result ↔ Contains self.old.fail_at self.old.calls }
+        ensures ok { OnOk result (self.new ≡ record self.old { calls = one_more self.old.calls }) }
+        ensures err { OnErr result (self.new
+            ≡ record self.old { calls = one_more self.old.calls; faults = raised self.old.faults }) }
+    {
+        self.counted()
+    }
+}
