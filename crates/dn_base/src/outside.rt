@@ -57,7 +57,7 @@ pub trait Sink {
 
 /// What is called inside the turn of a bank. It has no meaning of its own: tests watch host workers through it.
 ///
-/// It returns, unless a bound `Wait` of the gate's own type lets it wait.
+/// A gate whose type holds a handle with the bound `Wait` may wait; any other one returns.
 pub trait Gate {
     /// Worker `worker` is inside the turn of this bank.
     fn at(&self, worker: u32, bank: BankId);
