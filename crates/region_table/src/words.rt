@@ -1,0 +1,72 @@
+ghost use Rattle.std.specs.Prelude.{◌≡◌, ◌<◌, ◌≤◌, [], ◌∷◌, IfOk};
+ghost use Rattle.region_table.specs.Words.{has, IsCanonical};
+
+use crate::interval::Interval;
+use dn_base::{Memory, WordId};
+use std::alloc::Global;
+use std::marker::Model;
+
+/// A set of data words, kept as sorted intervals of which none is empty and none touches another.
+///
+/// Contracts see the list of its intervals, and `has` tells whether a word is in it. Two sets with the same words have
+/// the same intervals.
+#[derive(Debug, Drop)]
+pub struct WordSet {
+    intervals: Vec<Interval>,
+}
+
+impl Model for WordSet {
+    ghost use Rattle.std.specs.Prelude.{List};
+    ghost use Rattle.region_table.specs.declared.interval.Interval.{Interval};
+    ghost use Rattle.region_table.specs.Words.{IsCanonical};
+
+    ghost Value = { List Interval };
+
+    ghost view = { λ s. s.intervals.items };
+
+    ghost invariant = { λ s. IsCanonical s.intervals.items };
+}
+
+impl WordSet {
+    /// The empty set; takes no memory.
+    pub fn new(alloc: Global) -> WordSet
+        ensures { result ≡ [] }
+    {
+        WordSet {
+            intervals: Vec::new(alloc),
+        }
+    }
+
+    /// The words from `lo` to before `hi`.
+    ///
+    /// # Errors
+    /// `Memory` where there is no room.
+    pub fn range(alloc: Global, lo: u32, hi: u32) -> Result<WordSet, Memory>
+        requires some { lo < hi }
+        requires within { hi ≤ 65536 }
+        ensures { IfOk result (λ set. set ≡ record { lo = lo; hi = hi } ∷ []) }
+    {
+        let mut intervals = Vec::new(alloc);
+        intervals.push(Interval { lo, hi })?;
+        Ok(WordSet { intervals })
+    }
+
+    /// Whether the word is in the set. The search halves the intervals.
+    pub fn contains(&self, word: WordId) -> bool
+        ensures { result ≡ has self.now word.0 }
+    {
+        let place = self.intervals.partition_point(|i| i.hi <= word.0);
+        match self.intervals.get(place) {
+            Some(interval) => interval.lo <= word.0,
+            None => false,
+        }
+    }
+
+    /// The intervals: they rise, none is empty, and each ends below the start of the next. Takes no memory.
+    pub fn intervals(&self) -> &[Interval]
+        ensures value { result.now ≡ self.now }
+        ensures canonical { IsCanonical self.now }
+    {
+        self.intervals.as_slice()
+    }
+}
