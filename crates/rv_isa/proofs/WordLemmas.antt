@@ -46,6 +46,26 @@ pub bits-below-20 : (w lo : ℕ) → bits w lo 20 < 2 ^ 20
 unfolding bits
 bits-below-20 w lo = omega arith
 
+pub bits-below-8 : (w lo : ℕ) → bits w lo 8 < 2 ^ 8
+unfolding bits
+bits-below-8 w lo = omega arith
+
+pub bits-below-10 : (w lo : ℕ) → bits w lo 10 < 2 ^ 10
+unfolding bits
+bits-below-10 w lo = omega arith
+
+pub bits-below-12 : (w lo : ℕ) → bits w lo 12 < 2 ^ 12
+unfolding bits
+bits-below-12 w lo = omega arith
+
+pub bits-small_5 : (n : ℕ) → n < 2 ^ 5 → bits n 0 5 ≡ n
+unfolding bits
+bits-small_5 n h = omega arith
+
+pub bits-small_20 : (n : ℕ) → n < 2 ^ 20 → bits n 0 20 ≡ n
+unfolding bits
+bits-small_20 n h = omega arith
+
 -- the six fields of a word make it up
 pub word-fields : (w : ℕ) → w < 2 ^ 32 → word (bits w 0 7) (bits w 7 5) (bits w 12 3) (bits w 15 5) (bits w 20 5) (bits w 25 7) ≡ w
 unfolding word

@@ -18,4 +18,4 @@ pub use meaning::{alu, taken};
 pub use ranges::fits;
 pub use reading::decode;
 pub use reg::Reg;
-pub use writing::encode;
+pub use writing::{encode, encoding_is_unique};

@@ -1,9 +1,12 @@
 //! From words to instructions.
-ghost use Rattle.std.specs.Prelude.{◌≡◌, Option, option_map, ◌==◌, if◌then◌else◌};
+ghost use Rattle.std.specs.Prelude.{◌≡◌, ◌↔◌, ◌⊎◌, IfSome, Option, option_map, ◌==◌, if◌then◌else◌};
 ghost use Rattle.rv_isa.specs.Word.{imm_i, imm_s, imm_b};
 ghost use Rattle.rv_isa.specs.Row.{rd, rs1, rs2, funct3, funct7, IsRow};
 ghost use Rattle.rv_isa.specs.Table.{cond_of, load_of, store_of, op_of, op_imm_of};
-ghost use Rattle.rv_isa.specs.Encoding.{decoded, operation_imm};
+ghost use Rattle.rv_isa.specs.Encoding.{decoded, encoded, operation_imm};
+ghost use Rattle.rv_isa.specs.Range.{Fits, HasRegisters};
+ghost use Rattle.rv_isa.specs.declared.instr.Instr.{Instr};
+ghost use Rattle.rv_isa.specs.declared.instr.Instr.TheVariants.{Fence};
 
 use crate::fields::{
     amount, b_immediate, funct3, funct7, i_immediate, j_immediate, opcode, rd, rs1, rs2,
@@ -15,6 +18,19 @@ use crate::instr::{AluOp, Cond, Instr, Width};
 ///
 /// Every word with the opcode and funct3 of FENCE is a FENCE.
 pub fn decode(word: u32) -> Option<Instr>
+    ensures value { result ≡ decoded word }
+
+    // an instruction is read exactly where the word is in its row
+    ensures row { (i : Instr) → (result ≡ Some i) ↔ IsRow i word }
+
+    // what is read fits, and it has this word, unless it is a FENCE
+    ensures fitting { IfSome result (λ i. HasRegisters i × Fits i) }
+    ensures same { IfSome result (λ i. (i ≡ Fence) ⊎ (encoded i ≡ word)) }
+{
+    read(word)
+}
+
+fn read(word: u32) -> Option<Instr>
     ensures { result ≡ decoded word }
 {
     match opcode(word) {

@@ -1,18 +1,38 @@
 //! From instructions to words.
 ghost use Rattle.std.specs.Prelude.{◌≡◌, ◌*◌, ◌+◌, ◌^◌, ◌<◌, if◌then◌else◌};
 ghost use Rattle.rv_isa.specs.Word.{bits, pattern};
-ghost use Rattle.rv_isa.specs.Range.{Fits};
+ghost use Rattle.rv_isa.specs.Range.{Fits, HasRegisters};
+ghost use Rattle.rv_isa.specs.Row.{IsRow};
 ghost use Rattle.rv_isa.specs.Table.{branch_funct3, width_funct3, alu_funct3, alu_funct7, is_shift};
-ghost use Rattle.rv_isa.specs.Encoding.{word, word_i, word_s, word_b, word_u, word_j, encoded};
+ghost use Rattle.rv_isa.specs.Encoding.{word, word_i, word_s, word_b, word_u, word_j, encoded, decoded};
+ghost use Rattle.rv_isa.specs.declared.instr.Instr.{Instr};
 
 use crate::fields::bits;
 use crate::instr::{AluOp, Cond, Instr, Width};
 use crate::reg::Reg;
 
 /// The word of an instruction that fits.
+///
+/// FENCE has the one word 0x0ff0000f, which orders all accesses.
 pub fn encode(instr: &Instr) -> u32
     requires { Fits instr.now }
-    ensures { result ≡ encoded instr.now }
+    ensures value { result ≡ encoded instr.now }
+    ensures row { IsRow instr.now result }
+
+    // to read the word gives the instruction again
+    ensures again { decoded result ≡ Some instr.now }
+{
+    word_of(instr)
+}
+
+/// Two instructions that fit have one word only if they are equal.
+pub fn encoding_is_unique()
+    ensures { (i j : Instr) → HasRegisters i → Fits i → HasRegisters j → Fits j → encoded i ≡ encoded j → i ≡ j }
+{}
+
+fn word_of(instr: &Instr) -> u32
+    ensures value { result ≡ encoded instr.now }
+    ensures registers { HasRegisters instr.now }
 {
     match *instr {
         Instr::Lui { rd, imm } => u_word(0b0110111, rd, imm),
@@ -152,7 +172,8 @@ fn join(opcode: u32, rd: u32, funct3: u32, rs1: u32, rs2: u32, funct7: u32) -> u
 fn i_word(opcode: u32, rd: Reg, funct3: u32, rs1: Reg, imm: u32) -> u32
     requires opcode { opcode < 2 ^ 7 }
     requires funct3 { funct3 < 2 ^ 3 }
-    ensures { result ≡ word_i opcode rd funct3 rs1 imm }
+    ensures value { result ≡ word_i opcode rd funct3 rs1 imm }
+    ensures registers { (rd < 32) × (rs1 < 32) }
 {
     join(
         opcode,
@@ -167,7 +188,8 @@ fn i_word(opcode: u32, rd: Reg, funct3: u32, rs1: Reg, imm: u32) -> u32
 fn s_word(opcode: u32, funct3: u32, rs1: Reg, rs2: Reg, imm: u32) -> u32
     requires opcode { opcode < 2 ^ 7 }
     requires funct3 { funct3 < 2 ^ 3 }
-    ensures { result ≡ word_s opcode funct3 rs1 rs2 imm }
+    ensures value { result ≡ word_s opcode funct3 rs1 rs2 imm }
+    ensures registers { (rs1 < 32) × (rs2 < 32) }
 {
     join(
         opcode,
@@ -182,7 +204,8 @@ fn s_word(opcode: u32, funct3: u32, rs1: Reg, rs2: Reg, imm: u32) -> u32
 fn b_word(opcode: u32, funct3: u32, rs1: Reg, rs2: Reg, imm: u32) -> u32
     requires opcode { opcode < 2 ^ 7 }
     requires funct3 { funct3 < 2 ^ 3 }
-    ensures { result ≡ word_b opcode funct3 rs1 rs2 imm }
+    ensures value { result ≡ word_b opcode funct3 rs1 rs2 imm }
+    ensures registers { (rs1 < 32) × (rs2 < 32) }
 {
     let low = (bits(imm, 1, 4) << 1) + bits(imm, 11, 1);
     let high = (bits(imm, 12, 1) << 6) + bits(imm, 5, 6);
@@ -191,7 +214,8 @@ fn b_word(opcode: u32, funct3: u32, rs1: Reg, rs2: Reg, imm: u32) -> u32
 
 fn u_word(opcode: u32, rd: Reg, imm: u32) -> u32
     requires opcode { opcode < 2 ^ 7 }
-    ensures { result ≡ word_u opcode rd imm }
+    ensures value { result ≡ word_u opcode rd imm }
+    ensures registers { rd < 32 }
 {
     join(
         opcode,
@@ -205,7 +229,8 @@ fn u_word(opcode: u32, rd: Reg, imm: u32) -> u32
 
 fn j_word(opcode: u32, rd: Reg, imm: u32) -> u32
     requires opcode { opcode < 2 ^ 7 }
-    ensures { result ≡ word_j opcode rd imm }
+    ensures value { result ≡ word_j opcode rd imm }
+    ensures registers { rd < 32 }
 {
     let low = (bits(imm, 1, 4) << 1) + bits(imm, 11, 1);
     let high = (bits(imm, 20, 1) << 6) + bits(imm, 5, 6);
@@ -220,7 +245,8 @@ fn j_word(opcode: u32, rd: Reg, imm: u32) -> u32
 }
 
 fn immediate_word(op: AluOp, rd: Reg, a: Reg, imm: u32) -> u32
-    ensures { result ≡ (if is_shift op then word 0b0010011 rd (alu_funct3 op) a (bits imm 0 5) (alu_funct7 op) else word_i 0b0010011 rd (alu_funct3 op) a imm) }
+    ensures registers { (rd < 32) × (a < 32) }
+    ensures value { result ≡ (if is_shift op then word 0b0010011 rd (alu_funct3 op) a (bits imm 0 5) (alu_funct7 op) else word_i 0b0010011 rd (alu_funct3 op) a imm) }
 {
     if is_shift(op) {
         join(
