@@ -8,7 +8,7 @@ use Rattle.region_table.specs.Words.{has}
 use Rattle.rv_core.specs.Access.{holds, under}
 
 shifted : (lock : ℕ) → 32 ≤ lock → 2 ^ (lock - 32) * 2 ^ 32 ≡ 2 ^ lock
-shifted lock high = 
+shifted lock high =
     let e : lock ≡ lock - 32 + 32 = omega arith in
     sym (pow-add 2 (lock - 32) 32) ∙ ap (λ k. 2 ^ k) (sym e)
 
@@ -25,4 +25,4 @@ under-high (s ∷ ss) first held w fits high =
     let rest = under-high ss (first + 1) held w fits (omega arith) in
     grind (arith, nat_tests)
 
-ruleset pub high_locks = under-high
+pub ruleset high_locks = under-high

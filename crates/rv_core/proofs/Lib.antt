@@ -1,1 +1,2 @@
 mod HighLocks
+mod Needs

@@ -1,5 +1,5 @@
 -- The kinds of need, and what each tells of the task.
-use Rattle.std.specs.Prelude.{◌≡◌, ◌≢◌, ℕ, ◌^◌, ◌<◌, true, false, length, slice_index, Option, Some, None, option_and_then, bit_or, bit_xor}
+use Rattle.std.specs.Prelude.{◌≡◌, ◌≢◌, ℕ, ◌%◌, ◌^◌, ◌<◌, true, false, length, slice_index, Option, Some, None, option_and_then, bit_or, bit_xor}
 use Rattle.region_table.specs.Program.{ProgramParts}
 use Rattle.region_table.specs.declared.declared.TaskDecl.{TaskDecl}
 use Rattle.rv_isa.specs.declared.instr.Instr as instr
@@ -8,6 +8,8 @@ use Rattle.rv_core.specs.declared.task.TaskState.{TaskState}
 use Rattle.rv_core.specs.declared.need.Need.{Need}
 use Rattle.rv_core.specs.declared.need.Need.TheVariants.{Local, Load, Store, Acquire, Release, End}
 use Rattle.rv_core.specs.Access.{holds, may_load, may_store}
+use Rattle.rv_core.specs.Need.{address_of}
+use Rattle.rv_core.specs.Place.{size_of}
 use Rattle.rv_core.specs.Step.{advanced}
 
 abbrev pub IsLoad : Need → Type 0
@@ -40,6 +42,12 @@ Tells P d t next (End cause) = Unit {0}
 
 abbrev pub Allowed : ProgramParts → TaskDecl → TaskState → Need → Type 0
 Allowed P d t n = Tells P d t (advanced P t) n
+
+-- a load's or store's address is a multiple of its width
+abbrev pub IsAligned : TaskState → Instr → Type 0
+IsAligned t (instr.TheVariants.Load width rd base offset) = address_of t base offset % size_of width ≡ 0
+IsAligned t (instr.TheVariants.Store width src base offset) = address_of t base offset % size_of width ≡ 0
+IsAligned t _ = Unit {0}
 
 -- the register that an instruction writes, if it writes one
 abbrev pub destination : Instr → Option ℕ

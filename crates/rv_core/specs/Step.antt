@@ -42,7 +42,7 @@ after_call t number lock =
 
 -- what an instruction that loads nothing does
 abbrev pub after_instr : TaskState → Instr → TaskState
-after_instr t (Lui rd imm) = retires t rd (imm * 4096) (next_pc t)
+after_instr t (Lui rd imm) = retires t rd (imm * 4096 % 2 ^ 32) (next_pc t)
 after_instr t (Auipc rd imm) = retires t rd ((t.pc + imm * 4096) % 2 ^ 32) (next_pc t)
 after_instr t (Jal rd offset) = retires t rd (next_pc t) (jump_target t offset)
 after_instr t (Jalr rd base offset) = retires t rd (next_pc t) (register_target t base offset)

@@ -1,6 +1,7 @@
 ghost use Rattle.std.specs.Prelude.{◌≡◌, ℕ, ◌+◌, ◌%◌, ◌^◌, ◌<◌, ◌≤◌, Bool, Option, None, option_map, length};
 ghost use Rattle.region_table.specs.Program.{AreEffects};
 ghost use Rattle.rv_core.specs.Need.{need_of, traps, address_of, jump_target, register_target, jump_need, load_need, store_need, call_need, instr_need};
+ghost use Rattle.rv_core.specs.Kinds.{Allowed};
 ghost use Rattle.rv_core.specs.Place.{data_at, size_of};
 
 use crate::access::{is_held, is_readable, is_writable, least_lock};
@@ -174,14 +175,9 @@ fn instruction(program: &Program, task: &TaskDecl, state: &TaskState, instr: Ins
 }
 
 impl TaskState {
-    /// What the task's next instruction needs. The first of these cases that fits decides: the fuel is used up, the
-    /// program counter is no code word's address, the word is no instruction, and then what the instruction asks.
-    ///
-    /// It depends on the task's own state, its declaration and the program alone. `fuel` is how many instructions the
-    /// task may retire.
+    /// The need, case by case.
     #[tactic(auto, unfolding(crate::specs::Need::need_of))]
-    pub fn need(&self, program: &Program, task: &TaskDecl, fuel: u32) -> Need
-        requires { self.now.end ≡ None }
+    fn look(&self, program: &Program, task: &TaskDecl, fuel: u32) -> Need
         ensures { result ≡ need_of program.now task.now fuel self.now }
     {
         if self.retired == fuel {
@@ -194,5 +190,20 @@ impl TaskState {
             Some(instr) => instruction(program, task, self, instr),
             None => trap(self, TrapKind::Illegal, word),
         }
+    }
+
+    /// What the task's next instruction needs. The first of these cases that fits decides: the fuel is used up, the
+    /// program counter is no code word's address, the word is no instruction, and then what the instruction asks.
+    ///
+    /// It depends on the task's own state, its declaration and the program alone. `fuel` is how many instructions the
+    /// task may retire. The task goes on.
+    pub fn need(&self, program: &Program, task: &TaskDecl, fuel: u32) -> Need
+        requires { self.now.end ≡ None }
+        ensures value { result ≡ need_of program.now task.now fuel self.now }
+
+        // the word or lock of the need is one that the task may use so
+        ensures allowed { Allowed program.now task.now self.now result }
+    {
+        self.look(program, task, fuel)
     }
 }

@@ -1,22 +1,27 @@
-ghost use Rattle.std.specs.Prelude.{◌≡◌, ◌≢◌, ℕ, ◌+◌, ◌<◌, ◌≤◌, None, slice_index};
+ghost use Rattle.std.specs.Prelude.{◌≡◌, ◌+◌, ◌<◌, ◌≤◌, Some, None, length, slice_index, if◌then◌else◌};
+ghost use Rattle.rv_isa.specs.Meaning.{taken_of};
 ghost use Rattle.rv_isa.specs.declared.instr.Instr.TheVariants.{Ecall};
-ghost use Rattle.region_table.specs.Program.{ProgramParts};
-ghost use Rattle.rv_core.specs.Need.{need_of};
-ghost use Rattle.rv_core.specs.Step.{instr_at, next_pc, retires, goes_to, with_locks, after_call, after_instr, after_load, advanced, loaded_of, merged_of};
-ghost use Rattle.rv_core.specs.Kinds.{IsLoad, IsStore, IsAdvance, KeepsOthers};
+ghost use Rattle.rv_core.specs.Registers.{value_in};
+ghost use Rattle.rv_core.specs.Need.{need_of, jump_target};
+ghost use Rattle.rv_core.specs.Step.{instr_at, next_pc, retires, goes_to, after_call, after_instr, after_load, after_store, advanced, loaded_of, merged_of};
+ghost use Rattle.rv_core.specs.Kinds.{IsLoad, IsStore, IsAdvance, IsAligned, KeepsOthers};
 
 use crate::need::{A7, address, register_jump, target};
 use crate::place::{code_word, part, replace};
 use crate::registers::{read, write};
 use crate::task::{A0, TaskState};
 use region_table::{Program, TaskDecl};
-use rv_isa::{Instr, Reg, alu, decode, taken};
+use rv_isa::{Cond, Instr, Reg, alu, decode, taken};
 
 /// The instruction at the task's program counter, if there is one.
 fn instruction(program: &Program, state: &TaskState) -> Option<Instr>
-    ensures { result ≡ instr_at program.now state.now }
+    ensures value { result ≡ instr_at program.now state.now }
+    ensures locks { length program.now.locks ≤ 32 }
 {
-    code_word(program.code.as_slice(), state.pc).and_then(decode)
+    match code_word(program.code.as_slice(), state.pc) {
+        Some(word) => decode(word),
+        None => None,
+    }
 }
 
 impl TaskState {
@@ -25,15 +30,6 @@ impl TaskState {
         ensures { result ≡ next_pc self.now }
     {
         self.pc.wrapping_add(4)
-    }
-
-    /// The instruction retires: the value goes to the register, and the task goes on at `pc`.
-    fn retire(&mut self, rd: Reg, value: u32, pc: u32)
-        requires { self.old.retired < 4294967295 }
-        ensures { self.new ≡ retires self.old rd value pc }
-    {
-        write(&mut self.regs, rd, value);
-        self.go(pc);
     }
 
     /// The instruction retires, and the task goes on at `pc`.
@@ -45,18 +41,41 @@ impl TaskState {
         self.retired += 1;
     }
 
-    /// An ECALL with this number in a7 and this lock in a0 retires: 1 acquires the lock, 2 releases it.
-    fn call(&mut self, number: u32, lock: u32)
-        requires retired { self.old.retired < 4294967295 }
-        requires lock { lock < 32 }
-        ensures { self.new ≡ after_call self.old number lock }
+    /// The instruction retires: the value goes to the register, and the task goes on at `pc`.
+    fn retire(&mut self, rd: Reg, value: u32, pc: u32)
+        requires { self.old.retired < 4294967295 }
+        ensures { self.new ≡ retires self.old rd value pc }
     {
-        if number == 1 {
+        write(&mut self.regs, rd, value);
+        self.go(pc);
+    }
+
+    /// An ECALL retires: with 1 in a7 it acquires the lock in a0, and else it releases it.
+    fn call(&mut self)
+        requires retired { self.old.retired < 4294967295 }
+        requires lock { slice_index self.old.regs 10 < 32 }
+        ensures { self.new ≡ after_call self.old (slice_index self.old.regs 17) (slice_index self.old.regs 10) }
+    {
+        let lock = self.regs[A0];
+        if self.regs[A7] == 1 {
             self.held |= 1 << lock;
         } else {
             self.held ^= 1 << lock;
         }
-        self.go(self.next());
+        let next = self.next();
+        self.go(next);
+    }
+
+    /// Where the task goes on behind a branch.
+    fn branch(&self, cond: Cond, a: Reg, b: Reg, offset: i32) -> u32
+        ensures { result ≡ (if taken_of cond (value_in self.now.regs a) (value_in self.now.regs b)
+            then jump_target self.now offset else next_pc self.now) }
+    {
+        if taken(cond, read(&self.regs, a), read(&self.regs, b)) {
+            target(self, offset)
+        } else {
+            self.next()
+        }
     }
 
     /// Completes an instruction that loads nothing.
@@ -68,35 +87,73 @@ impl TaskState {
         let next = self.next();
         match instr {
             Instr::Lui { rd, imm } => self.retire(rd, imm.wrapping_mul(4096), next),
-            Instr::Auipc { rd, imm } => self.retire(
-                rd,
-                self.pc.wrapping_add(imm.wrapping_mul(4096)),
-                next,
-            ),
-            Instr::Jal { rd, offset } => self.retire(rd, next, target(self, offset)),
-            Instr::Jalr { rd, base, offset } => self.retire(
-                rd,
-                next,
-                register_jump(self, base, offset),
-            ),
+            Instr::Auipc { rd, imm } => {
+                let sum = self.pc.wrapping_add(imm.wrapping_mul(4096));
+                self.retire(rd, sum, next);
+            }
+            Instr::Jal { rd, offset } => {
+                let to = target(self, offset);
+                self.retire(rd, next, to);
+            }
+            Instr::Jalr { rd, base, offset } => {
+                let to = register_jump(self, base, offset);
+                self.retire(rd, next, to);
+            }
             Instr::Branch { cond, a, b, offset } => {
-                if taken(cond, read(&self.regs, a), read(&self.regs, b)) {
-                    self.go(target(self, offset));
-                } else {
-                    self.go(next);
-                }
+                let to = self.branch(cond, a, b, offset);
+                self.go(to);
             }
             Instr::OpImm { op, rd, a, imm } => {
-                self.retire(rd, alu(op, read(&self.regs, a), imm.cast_unsigned()), next);
+                let left = read(&self.regs, a);
+                self.retire(rd, alu(op, left, imm.cast_unsigned()), next);
             }
-            Instr::Op { op, rd, a, b } => self.retire(
-                rd,
-                alu(op, read(&self.regs, a), read(&self.regs, b)),
-                next,
-            ),
+            Instr::Op { op, rd, a, b } => {
+                let left = read(&self.regs, a);
+                let right = read(&self.regs, b);
+                self.retire(rd, alu(op, left, right), next);
+            }
             Instr::Store { .. } | Instr::Fence => self.go(next),
-            Instr::Ecall => self.call(self.regs[A7], self.regs[A0]),
+            Instr::Ecall => self.call(),
             Instr::Load { .. } | Instr::Ebreak => {}
+        }
+    }
+
+    /// Completes a load, whose word has this value; any other instruction does nothing.
+    fn load_by(&mut self, instr: Instr, value: u32)
+        requires retired { self.old.retired < 4294967295 }
+        requires aligned { IsAligned self.old instr }
+        ensures { self.new ≡ after_load self.old value (Some instr) }
+    {
+        if let Instr::Load {
+            width,
+            rd,
+            base,
+            offset,
+        } = instr
+        {
+            let lane = address(self, base, offset) % 4;
+            let next = self.next();
+            self.retire(rd, part(width, value, lane), next);
+        }
+    }
+
+    /// The word after a store, where the word's value was `old`; any other instruction leaves it.
+    fn store_by(&self, instr: Instr, old: u32) -> u32
+        requires { IsAligned self.now instr }
+        ensures { result ≡ after_store self.now old (Some instr) }
+    {
+        if let Instr::Store {
+            width,
+            src,
+            base,
+            offset,
+        } = instr
+        {
+            let lane = address(self, base, offset) % 4;
+            let value = read(&self.regs, src);
+            replace(width, old, lane, value)
+        } else {
+            old
         }
     }
 
@@ -104,6 +161,7 @@ impl TaskState {
     /// counter and the locks that are held. One more instruction has retired then.
     ///
     /// The task goes on, and its need is one of these.
+    #[tactic(auto, unfolding(crate::specs::Step::advanced))]
     pub fn advance(&mut self, program: &Program, task: &TaskDecl, fuel: u32)
         requires open { self.old.end ≡ None }
         requires retired { self.old.retired ≤ fuel }
@@ -113,8 +171,9 @@ impl TaskState {
         ensures within { self.new.retired ≤ fuel }
         ensures others { KeepsOthers (instr_at program.now self.old) self.old self.new }
     {
-        if let Some(instr) = instruction(program, self) {
-            self.advance_by(instr);
+        match instruction(program, self) {
+            Some(instr) => self.advance_by(instr),
+            None => {}
         }
     }
 
@@ -122,6 +181,7 @@ impl TaskState {
     /// retired then.
     ///
     /// The task goes on, and its need is a load.
+    #[tactic(auto, unfolding(crate::specs::Step::loaded_of))]
     pub fn loaded(&mut self, program: &Program, task: &TaskDecl, fuel: u32, value: u32)
         requires open { self.old.end ≡ None }
         requires retired { self.old.retired ≤ fuel }
@@ -132,42 +192,25 @@ impl TaskState {
         ensures others { KeepsOthers (instr_at program.now self.old) self.old self.new }
         ensures locks { self.new.held ≡ self.old.held }
     {
-        if let Some(
-            Instr::Load {
-                width,
-                rd,
-                base,
-                offset,
-            },
-        ) = instruction(program, self)
-        {
-            let lane = address(self, base, offset) % 4;
-            self.retire(rd, part(width, value, lane), self.next());
+        match instruction(program, self) {
+            Some(instr) => self.load_by(instr, value),
+            None => {}
         }
     }
 
     /// The word after the task's store, where the word's value was `old`.
     ///
     /// The task goes on, and its need is a store.
+    #[tactic(auto, unfolding(crate::specs::Step::merged_of))]
     pub fn merged(&self, program: &Program, task: &TaskDecl, fuel: u32, old: u32) -> u32
         requires open { self.now.end ≡ None }
         requires retired { self.now.retired ≤ fuel }
         requires kind { IsStore (need_of program.now task.now fuel self.now) }
         ensures { result ≡ merged_of program.now old self.now }
     {
-        if let Some(
-            Instr::Store {
-                width,
-                src,
-                base,
-                offset,
-            },
-        ) = instruction(program, self)
-        {
-            let lane = address(self, base, offset) % 4;
-            replace(width, old, lane, read(&self.regs, src))
-        } else {
-            old
+        match instruction(program, self) {
+            Some(instr) => self.store_by(instr, old),
+            None => old,
         }
     }
 }
