@@ -1,8 +1,8 @@
 -- The word of an instruction is in its row, and a row has one word for each instruction.
-use Rattle.std.proofs.Common.{◌≡◌, ℕ, ◌^◌, ◌<◌, ℤ, Bool, true, false, ◌⊎◌, inl, inr, refl, sym, ap, ◌∙◌, subst, arith}
-use Rattle.std.specs.Prelude.{Some, IsTrue}
-use Rattle.rv_isa.specs.Word.{bits, pattern}
-use Rattle.rv_isa.specs.Table.{branch_funct3, width_funct3, alu_funct3, alu_funct7, is_shift, has_immediate}
+use Rattle.std.proofs.Common.{◌≡◌, ℕ, ◌^◌, ◌<◌, ℤ, Bool, true, false, ◌⊎◌, inl, inr, refl, sym, ap, ◌∙◌, arith}
+use Rattle.std.specs.Prelude.{Some}
+use Rattle.rv_isa.specs.Word.{bits}
+use Rattle.rv_isa.specs.Table.{branch_funct3, width_funct3, alu_funct3, alu_funct7, is_shift}
 use Rattle.rv_isa.specs.Row.{IsImmediate, IsRow}
 use Rattle.rv_isa.specs.Range.{IsOperand, Fits, HasRegisters}
 use Rattle.rv_isa.specs.Encoding.{decoded, encoded}

@@ -1,10 +1,10 @@
 -- The function `decoded` gives an instruction exactly where the word is in its row.
-use Rattle.std.proofs.Common.{◌≡◌, ℕ, ℤ, pos, Bool, true, false, cond, not, ◌&&◌, ◌||◌, List, [], ◌∷◌, refl, sym, ap, ◌∙◌, subst}
+use Rattle.std.proofs.Common.{◌≡◌, ℕ, ℤ, Bool, true, false, cond, not, ◌&&◌, ◌||◌, List, [], ◌∷◌, refl, sym, subst}
 use Rattle.std.specs.Prelude.{Option, Some, None, option_map, find, IsTrue, ◌==◌}
 use Rattle.std.proofs.lemmas.Bool.{eqb-true, and_parts}
-use Rattle.rv_isa.specs.Word.{bits, imm_i, imm_s, imm_b, imm_u, imm_j}
+use Rattle.rv_isa.specs.Word.{bits}
 use Rattle.rv_isa.specs.Table.{branch_funct3, width_funct3, alu_funct3, alu_funct7, is_shift, has_immediate, is_stored, conds, widths, alu_ops, cond_of, load_of, store_of, op_of, op_imm_of}
-use Rattle.rv_isa.specs.Row.{opcode, rd, funct3, rs1, rs2, funct7, IsR, IsI, IsShift, IsS, IsB, IsU, IsJ, IsImmediate, IsRow}
+use Rattle.rv_isa.specs.Row.{opcode, rd, funct3, rs1, funct7, IsImmediate, IsRow}
 use Rattle.rv_isa.specs.Encoding.{operation_imm, decoded}
 use Rattle.rv_isa.specs.declared.instr.AluOp as alu_op
 use Rattle.rv_isa.specs.declared.instr.AluOp.{AluOp}

@@ -1,12 +1,12 @@
 -- What the fields of a word are, and what the bits of an immediate are.
-use Rattle.std.proofs.Common.{◌≡◌, ℕ, zero, suc, ◌+◌, ◌-◌, ◌*◌, ◌/◌, ◌%◌, ◌^◌, ◌<◌, ◌≤◌, ℤ, pos, ◌-ℤ◌, neg_ℤ, nat_lt, Bool, true, false, IsTrue, if◌then◌else◌, refl, sym, inl, inr, ap, ◌∙◌, subst, arith, cond}
-use Rattle.std.specs.Prelude.{negsuc, ◌≤ℤ◌, ◌<ℤ◌}
-use Rattle.std.proofs.lemmas.Nat.{mod-pow-add, shr-shr, pow_pos}
+use Rattle.std.proofs.Common.{◌≡◌, ℕ, suc, ◌+◌, ◌-◌, ◌*◌, ◌/◌, ◌%◌, ◌^◌, ◌<◌, ◌≤◌, ℤ, pos, inl, inr, ap, ◌∙◌, arith}
+use Rattle.std.specs.Prelude.{negsuc}
+use Rattle.std.proofs.lemmas.Nat.{mod-pow-add, shr-shr}
 use Rattle.std.proofs.lemmas.Int.{ints}
 use Rattle.std.proofs.lemmas.Bool.{cases_lt}
 use Rattle.rv_isa.specs.Word.{bits, pattern, sign_extended}
 use Rattle.rv_isa.specs.Encoding.{word}
-use Rattle.rv_isa.specs.Range.{IsSigned, IsOffset}
+use Rattle.rv_isa.specs.Range.{IsSigned}
 
 -- a field is its upper part and its lower part
 pub bits-join : (w lo n m : ℕ) → bits w lo (m + n) ≡ bits w (lo + n) m * 2 ^ n + bits w lo n

@@ -1,5 +1,5 @@
 -- The word of an instruction, and the instruction of a word, as functions.
-use Rattle.std.specs.Prelude.{ℕ, ◌+◌, ◌*◌, ◌^◌, ℤ, pos, Bool, true, false, Option, Some, None, option_map, ◌==◌, if◌then◌else◌}
+use Rattle.std.specs.Prelude.{ℕ, ◌+◌, ◌*◌, ◌^◌, ℤ, pos, Option, Some, None, option_map, ◌==◌, if◌then◌else◌}
 use Rattle.rv_isa.specs.Word.{bits, pattern, imm_i, imm_s, imm_b, imm_u, imm_j}
 use Rattle.rv_isa.specs.Table.{branch_funct3, width_funct3, alu_funct3, alu_funct7, is_shift, cond_of, load_of, store_of, op_of, op_imm_of}
 use Rattle.rv_isa.specs.Row.{opcode, rd, funct3, rs1, rs2, funct7}
