@@ -46,18 +46,6 @@ pub bits-below-20 : (w lo : ℕ) → bits w lo 20 < 2 ^ 20
 unfolding bits
 bits-below-20 w lo = omega arith
 
-pub bits-below-8 : (w lo : ℕ) → bits w lo 8 < 2 ^ 8
-unfolding bits
-bits-below-8 w lo = omega arith
-
-pub bits-below-10 : (w lo : ℕ) → bits w lo 10 < 2 ^ 10
-unfolding bits
-bits-below-10 w lo = omega arith
-
-pub bits-below-12 : (w lo : ℕ) → bits w lo 12 < 2 ^ 12
-unfolding bits
-bits-below-12 w lo = omega arith
-
 pub bits-small_5 : (n : ℕ) → n < 2 ^ 5 → bits n 0 5 ≡ n
 unfolding bits
 bits-small_5 n h = omega arith

@@ -27,9 +27,11 @@ pub fn encode(instr: &Instr) -> u32
 
 /// Two instructions that fit have one word only if they are equal.
 pub fn encoding_is_unique()
-    ensures { (i j : Instr) → HasRegisters i → Fits i → HasRegisters j → Fits j → encoded i ≡ encoded j → i ≡ j }
+    ensures { (i j : Instr) → HasRegisters i → Fits i → HasRegisters j → Fits j
+        → encoded i ≡ encoded j → i ≡ j }
 {}
 
+#[tactic(auto, unfolding(crate::specs::Encoding::encoded))]
 fn word_of(instr: &Instr) -> u32
     ensures value { result ≡ encoded instr.now }
     ensures registers { HasRegisters instr.now }
@@ -221,6 +223,7 @@ fn j_word(opcode: u32, rd: Reg, imm: i32) -> u32
     )
 }
 
+#[tactic(auto, unfolding(crate::specs::Encoding::encoded))]
 fn immediate_word(op: AluOp, rd: Reg, a: Reg, imm: i32) -> u32
     ensures value { result ≡ encoded (Instr.OpImm op rd a imm) }
     ensures registers { (rd < 32) × (a < 32) }
@@ -240,6 +243,7 @@ fn immediate_word(op: AluOp, rd: Reg, a: Reg, imm: i32) -> u32
     }
 }
 
+#[tactic(auto, unfolding(crate::specs::Encoding::encoded))]
 fn register_word(op: AluOp, rd: Reg, a: Reg, b: Reg) -> u32
     ensures value { result ≡ encoded (Instr.Op op rd a b) }
     ensures registers { (rd < 32) × (a < 32) × (b < 32) }
