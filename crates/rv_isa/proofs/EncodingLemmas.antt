@@ -1,60 +1,62 @@
 -- The word of an instruction is in its row, and a row has one word for each instruction.
-use Rattle.std.proofs.Common.{◌≡◌, ℕ, ◌^◌, ◌<◌, ℤ, Bool, true, false, ◌⊎◌, inl, inr, refl, sym, ap, ◌∙◌, subst, arith}
-use Rattle.std.specs.Prelude.{Some, IsTrue}
-use Rattle.rv_isa.specs.Word.{bits, pattern}
-use Rattle.rv_isa.specs.Table.{branch_funct3, width_funct3, alu_funct3, alu_funct7, is_shift, has_immediate}
+use Rattle.std.proofs.Common.{◌≡◌, ℕ, ◌^◌, ◌<◌, ℤ, Bool, true, false, ◌⊎◌, inl, inr, refl, sym, ap, ◌∙◌, arith}
+use Rattle.std.specs.Prelude.{Some}
+use Rattle.rv_isa.specs.Word.{bits}
+use Rattle.rv_isa.specs.Table.{branch_funct3, width_funct3, alu_funct3, alu_funct7, is_shift}
 use Rattle.rv_isa.specs.Row.{IsImmediate, IsRow}
 use Rattle.rv_isa.specs.Range.{IsOperand, Fits, HasRegisters}
 use Rattle.rv_isa.specs.Encoding.{decoded, encoded}
 use Rattle.rv_isa.proofs.WordLemmas.{bits-below-5}
 use Rattle.rv_isa.proofs.RowLemmas.{row-decoded, decoded-row}
 use Rattle.rv_isa.proofs.FormatLemmas.{r-made, r-makes, shift-made, shift-makes, shift-fits, i-made, i-makes, i-fits, s-made, s-makes, s-fits, b-made, b-makes, b-fits, j-made, j-makes, j-fits, u-made, u-makes, u-fits}
-use Rattle.rv_isa.specs.declared.instr.AluOp as alu_op
 use Rattle.rv_isa.specs.declared.instr.AluOp.{AluOp}
-use Rattle.rv_isa.specs.declared.instr.Cond as cond_name
+use Rattle.rv_isa.specs.declared.instr.AluOp.TheVariants.{Add, Sub, Sll, Slt, Sltu, Xor, Srl, Sra, Or, And}
 use Rattle.rv_isa.specs.declared.instr.Cond.{Cond}
-use Rattle.rv_isa.specs.declared.instr.Width as width_name
+use Rattle.rv_isa.specs.declared.instr.Cond.TheVariants.{Eq, Ne, Lt, Ge, Ltu, Geu}
 use Rattle.rv_isa.specs.declared.instr.Width.{Width}
+use Rattle.rv_isa.specs.declared.instr.Width.TheVariants.{B, H, W, Bu, Hu}
 use Rattle.rv_isa.specs.declared.instr.Instr.{Instr}
 use Rattle.rv_isa.specs.declared.instr.Instr.TheVariants.{Lui, Auipc, Jal, Jalr, Branch, Load, Store, OpImm, Op, Fence, Ecall, Ebreak}
 
 -- the columns have three and seven bits
 branch_funct3-below : (c : Cond) → branch_funct3 c < 8
-branch_funct3-below cond_name.TheVariants.Eq = omega arith
-branch_funct3-below cond_name.TheVariants.Ne = omega arith
-branch_funct3-below cond_name.TheVariants.Lt = omega arith
-branch_funct3-below cond_name.TheVariants.Ge = omega arith
-branch_funct3-below cond_name.TheVariants.Ltu = omega arith
-branch_funct3-below cond_name.TheVariants.Geu = omega arith
+branch_funct3-below Eq = omega arith
+branch_funct3-below Ne = omega arith
+branch_funct3-below Lt = omega arith
+branch_funct3-below Ge = omega arith
+branch_funct3-below Ltu = omega arith
+branch_funct3-below Geu = omega arith
 
 width_funct3-below : (width : Width) → width_funct3 width < 8
-width_funct3-below width_name.TheVariants.B = omega arith
-width_funct3-below width_name.TheVariants.H = omega arith
-width_funct3-below width_name.TheVariants.W = omega arith
-width_funct3-below width_name.TheVariants.Bu = omega arith
-width_funct3-below width_name.TheVariants.Hu = omega arith
+width_funct3-below B = omega arith
+width_funct3-below H = omega arith
+width_funct3-below W = omega arith
+width_funct3-below Bu = omega arith
+width_funct3-below Hu = omega arith
 
 alu_functs-below : (op : AluOp) → (alu_funct3 op < 8) × (alu_funct7 op < 128)
-alu_functs-below alu_op.TheVariants.Add = (omega arith, omega arith)
-alu_functs-below alu_op.TheVariants.Sub = (omega arith, omega arith)
-alu_functs-below alu_op.TheVariants.Sll = (omega arith, omega arith)
-alu_functs-below alu_op.TheVariants.Slt = (omega arith, omega arith)
-alu_functs-below alu_op.TheVariants.Sltu = (omega arith, omega arith)
-alu_functs-below alu_op.TheVariants.Xor = (omega arith, omega arith)
-alu_functs-below alu_op.TheVariants.Srl = (omega arith, omega arith)
-alu_functs-below alu_op.TheVariants.Sra = (omega arith, omega arith)
-alu_functs-below alu_op.TheVariants.Or = (omega arith, omega arith)
-alu_functs-below alu_op.TheVariants.And = (omega arith, omega arith)
+alu_functs-below Add = (omega arith, omega arith)
+alu_functs-below Sub = (omega arith, omega arith)
+alu_functs-below Sll = (omega arith, omega arith)
+alu_functs-below Slt = (omega arith, omega arith)
+alu_functs-below Sltu = (omega arith, omega arith)
+alu_functs-below Xor = (omega arith, omega arith)
+alu_functs-below Srl = (omega arith, omega arith)
+alu_functs-below Sra = (omega arith, omega arith)
+alu_functs-below Or = (omega arith, omega arith)
+alu_functs-below And = (omega arith, omega arith)
 
 -- ---- the word of an instruction is in its row
 
 row-encoded_immediate : (b : Bool) (op : AluOp) (d a : ℕ) (imm : ℤ) → is_shift op ≡ b → d < 32 → a < 32 → IsOperand b imm → IsImmediate b op d a imm (encoded (OpImm op d a imm))
+unfolding encoded
 row-encoded_immediate true op d a imm shift hd ha fits =
     rw shift (shift-made _ _ _ _ _ _ (omega arith) (alu_functs-below op).0 (alu_functs-below op).1 hd ha fits)
 row-encoded_immediate false op d a imm shift hd ha fits =
     rw shift (i-made _ _ _ _ _ (omega arith) (alu_functs-below op).0 hd ha fits)
 
 pub row-encoded : (i : Instr) → HasRegisters i → Fits i → IsRow i (encoded i)
+unfolding encoded
 row-encoded (Lui d imm) regs fits = u-made _ _ _ (omega arith) regs fits
 row-encoded (Auipc d imm) regs fits = u-made _ _ _ (omega arith) regs fits
 row-encoded (Jal d offset) regs fits = j-made _ _ _ (omega arith) regs fits
@@ -76,10 +78,12 @@ row-encoded Ebreak regs fits = refl
 -- ---- a word in the row is the word of the instruction, or the instruction is FENCE
 
 encoded-row_immediate : (b : Bool) (op : AluOp) (d a : ℕ) (imm : ℤ) (w : ℕ) → is_shift op ≡ b → w < 2 ^ 32 → IsImmediate b op d a imm w → encoded (OpImm op d a imm) ≡ w
+unfolding encoded
 encoded-row_immediate true op d a imm w shift h r = rw shift (shift-makes _ _ _ _ _ _ _ h r)
 encoded-row_immediate false op d a imm w shift h r = rw shift (i-makes _ _ _ _ _ _ h r)
 
 pub encoded-row : (i : Instr) (w : ℕ) → w < 2 ^ 32 → IsRow i w → (i ≡ Fence) ⊎ (encoded i ≡ w)
+unfolding encoded
 encoded-row (Lui d imm) w h r = inr (u-makes _ _ _ w h r)
 encoded-row (Auipc d imm) w h r = inr (u-makes _ _ _ w h r)
 encoded-row (Jal d offset) w h r = inr (j-makes _ _ _ w h r)

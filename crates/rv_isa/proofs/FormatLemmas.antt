@@ -2,11 +2,11 @@
 use Rattle.std.proofs.Common.{◌≡◌, ℕ, ◌+◌, ◌*◌, ◌^◌, ◌<◌, ℤ, pos, refl, sym, ap, ◌∙◌, arith}
 use Rattle.std.specs.Prelude.{negsuc}
 use Rattle.std.proofs.lemmas.Int.{ints}
-use Rattle.rv_isa.specs.Word.{bits, pattern, sign_extended, imm_i, imm_s, imm_b, imm_u, imm_j}
+use Rattle.rv_isa.specs.Word.{bits, pattern, sign_extended}
 use Rattle.rv_isa.specs.Range.{IsSigned, IsOffset, IsAmount}
 use Rattle.rv_isa.specs.Row.{IsR, IsI, IsShift, IsS, IsB, IsU, IsJ}
 use Rattle.rv_isa.specs.Encoding.{word, word_i, word_s, word_b, word_u, word_j}
-use Rattle.rv_isa.proofs.WordLemmas.{bits-join, bits-below-1, bits-below-3, bits-below-4, bits-below-5, bits-below-6, bits-below-7, bits-below-8, bits-below-10, bits-below-12, bits-below-20, bits-small_5, bits-small_20, word-fields, AreFields, fields_of, signed-pattern_12, signed-pattern_13, signed-pattern_21, pattern-signed_12, pattern-signed_13, pattern-signed_21, IsSigned-sign_extended_12, IsSigned-sign_extended_13, IsSigned-sign_extended_21}
+use Rattle.rv_isa.proofs.WordLemmas.{bits-join, bits-below-1, bits-below-3, bits-below-4, bits-below-5, bits-below-6, bits-below-7, bits-below-20, bits-small_5, bits-small_20, word-fields, fields_of, signed-pattern_12, signed-pattern_13, signed-pattern_21, pattern-signed_12, pattern-signed_13, pattern-signed_21, IsSigned-sign_extended_12, IsSigned-sign_extended_13, IsSigned-sign_extended_21}
 
 -- ---- R: no immediate
 

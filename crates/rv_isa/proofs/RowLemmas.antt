@@ -1,88 +1,90 @@
 -- The function `decoded` gives an instruction exactly where the word is in its row.
-use Rattle.std.proofs.Common.{◌≡◌, ℕ, ℤ, pos, Bool, true, false, cond, not, ◌&&◌, ◌||◌, List, [], ◌∷◌, refl, sym, ap, ◌∙◌, subst}
+use Rattle.std.proofs.Common.{◌≡◌, ℕ, ℤ, Bool, true, false, cond, not, ◌&&◌, ◌||◌, List, [], ◌∷◌, refl, sym, subst}
 use Rattle.std.specs.Prelude.{Option, Some, None, option_map, find, IsTrue, ◌==◌}
 use Rattle.std.proofs.lemmas.Bool.{eqb-true, and_parts}
-use Rattle.rv_isa.specs.Word.{bits, imm_i, imm_s, imm_b, imm_u, imm_j}
+use Rattle.rv_isa.specs.Word.{bits}
 use Rattle.rv_isa.specs.Table.{branch_funct3, width_funct3, alu_funct3, alu_funct7, is_shift, has_immediate, is_stored, conds, widths, alu_ops, cond_of, load_of, store_of, op_of, op_imm_of}
-use Rattle.rv_isa.specs.Row.{opcode, rd, funct3, rs1, rs2, funct7, IsR, IsI, IsShift, IsS, IsB, IsU, IsJ, IsImmediate, IsRow}
+use Rattle.rv_isa.specs.Row.{opcode, rd, funct3, rs1, funct7, IsImmediate, IsRow}
 use Rattle.rv_isa.specs.Encoding.{operation_imm, decoded}
-use Rattle.rv_isa.specs.declared.instr.AluOp as alu_op
 use Rattle.rv_isa.specs.declared.instr.AluOp.{AluOp}
-use Rattle.rv_isa.specs.declared.instr.Cond as cond_name
+use Rattle.rv_isa.specs.declared.instr.AluOp.TheVariants.{Add, Sub, Sll, Slt, Sltu, Xor, Srl, Sra, Or, And}
 use Rattle.rv_isa.specs.declared.instr.Cond.{Cond}
-use Rattle.rv_isa.specs.declared.instr.Width as width_name
+use Rattle.rv_isa.specs.declared.instr.Cond.TheVariants.{Eq, Ne, Lt, Ge, Ltu, Geu}
 use Rattle.rv_isa.specs.declared.instr.Width.{Width}
+use Rattle.rv_isa.specs.declared.instr.Width.TheVariants.{B, H, W, Bu, Hu}
 use Rattle.rv_isa.specs.declared.instr.Instr.{Instr}
 use Rattle.rv_isa.specs.declared.instr.Instr.TheVariants.{Lui, Auipc, Jal, Jalr, Branch, Load, Store, OpImm, Op, Fence, Ecall, Ebreak}
 
 -- the columns of the table name each mnemonic of an opcode
 cond_of-branch_funct3 : (c : Cond) → cond_of (branch_funct3 c) ≡ Some c
-cond_of-branch_funct3 cond_name.TheVariants.Eq = refl
-cond_of-branch_funct3 cond_name.TheVariants.Ne = refl
-cond_of-branch_funct3 cond_name.TheVariants.Lt = refl
-cond_of-branch_funct3 cond_name.TheVariants.Ge = refl
-cond_of-branch_funct3 cond_name.TheVariants.Ltu = refl
-cond_of-branch_funct3 cond_name.TheVariants.Geu = refl
+cond_of-branch_funct3 Eq = refl
+cond_of-branch_funct3 Ne = refl
+cond_of-branch_funct3 Lt = refl
+cond_of-branch_funct3 Ge = refl
+cond_of-branch_funct3 Ltu = refl
+cond_of-branch_funct3 Geu = refl
 
 load_of-width_funct3 : (width : Width) → load_of (width_funct3 width) ≡ Some width
-load_of-width_funct3 width_name.TheVariants.B = refl
-load_of-width_funct3 width_name.TheVariants.H = refl
-load_of-width_funct3 width_name.TheVariants.W = refl
-load_of-width_funct3 width_name.TheVariants.Bu = refl
-load_of-width_funct3 width_name.TheVariants.Hu = refl
+load_of-width_funct3 B = refl
+load_of-width_funct3 H = refl
+load_of-width_funct3 W = refl
+load_of-width_funct3 Bu = refl
+load_of-width_funct3 Hu = refl
 
 store_of-width_funct3 : (width : Width) → IsTrue (is_stored width) → store_of (width_funct3 width) ≡ Some width
-store_of-width_funct3 width_name.TheVariants.B h = refl
-store_of-width_funct3 width_name.TheVariants.H h = refl
-store_of-width_funct3 width_name.TheVariants.W h = refl
-store_of-width_funct3 width_name.TheVariants.Bu h = cc
-store_of-width_funct3 width_name.TheVariants.Hu h = cc
+store_of-width_funct3 B h = refl
+store_of-width_funct3 H h = refl
+store_of-width_funct3 W h = refl
+store_of-width_funct3 Bu h = cc
+store_of-width_funct3 Hu h = cc
 
 op_of-functs : (op : AluOp) → op_of (alu_funct3 op) (alu_funct7 op) ≡ Some op
-op_of-functs alu_op.TheVariants.Add = refl
-op_of-functs alu_op.TheVariants.Sub = refl
-op_of-functs alu_op.TheVariants.Sll = refl
-op_of-functs alu_op.TheVariants.Slt = refl
-op_of-functs alu_op.TheVariants.Sltu = refl
-op_of-functs alu_op.TheVariants.Xor = refl
-op_of-functs alu_op.TheVariants.Srl = refl
-op_of-functs alu_op.TheVariants.Sra = refl
-op_of-functs alu_op.TheVariants.Or = refl
-op_of-functs alu_op.TheVariants.And = refl
+op_of-functs Add = refl
+op_of-functs Sub = refl
+op_of-functs Sll = refl
+op_of-functs Slt = refl
+op_of-functs Sltu = refl
+op_of-functs Xor = refl
+op_of-functs Srl = refl
+op_of-functs Sra = refl
+op_of-functs Or = refl
+op_of-functs And = refl
 
 op_imm_of-shift : (op : AluOp) → IsTrue (is_shift op) → op_imm_of (alu_funct3 op) (alu_funct7 op) ≡ Some op
-op_imm_of-shift alu_op.TheVariants.Add h = cc
-op_imm_of-shift alu_op.TheVariants.Sub h = cc
-op_imm_of-shift alu_op.TheVariants.Sll h = refl
-op_imm_of-shift alu_op.TheVariants.Slt h = cc
-op_imm_of-shift alu_op.TheVariants.Sltu h = cc
-op_imm_of-shift alu_op.TheVariants.Xor h = cc
-op_imm_of-shift alu_op.TheVariants.Srl h = refl
-op_imm_of-shift alu_op.TheVariants.Sra h = refl
-op_imm_of-shift alu_op.TheVariants.Or h = cc
-op_imm_of-shift alu_op.TheVariants.And h = cc
+op_imm_of-shift Add h = cc
+op_imm_of-shift Sub h = cc
+op_imm_of-shift Sll h = refl
+op_imm_of-shift Slt h = cc
+op_imm_of-shift Sltu h = cc
+op_imm_of-shift Xor h = cc
+op_imm_of-shift Srl h = refl
+op_imm_of-shift Sra h = refl
+op_imm_of-shift Or h = cc
+op_imm_of-shift And h = cc
 
 op_imm_of-other : (op : AluOp) (f7 : ℕ) → IsTrue (has_immediate op) → is_shift op ≡ false → op_imm_of (alu_funct3 op) f7 ≡ Some op
-op_imm_of-other alu_op.TheVariants.Add f7 h k = refl
-op_imm_of-other alu_op.TheVariants.Sub f7 h k = cc
-op_imm_of-other alu_op.TheVariants.Sll f7 h k = cc
-op_imm_of-other alu_op.TheVariants.Slt f7 h k = refl
-op_imm_of-other alu_op.TheVariants.Sltu f7 h k = refl
-op_imm_of-other alu_op.TheVariants.Xor f7 h k = refl
-op_imm_of-other alu_op.TheVariants.Srl f7 h k = cc
-op_imm_of-other alu_op.TheVariants.Sra f7 h k = cc
-op_imm_of-other alu_op.TheVariants.Or f7 h k = refl
-op_imm_of-other alu_op.TheVariants.And f7 h k = refl
+op_imm_of-other Add f7 h k = refl
+op_imm_of-other Sub f7 h k = cc
+op_imm_of-other Sll f7 h k = cc
+op_imm_of-other Slt f7 h k = refl
+op_imm_of-other Sltu f7 h k = refl
+op_imm_of-other Xor f7 h k = refl
+op_imm_of-other Srl f7 h k = cc
+op_imm_of-other Sra f7 h k = cc
+op_imm_of-other Or f7 h k = refl
+op_imm_of-other And f7 h k = refl
 
 -- ---- from the row to `decoded`
 
 row-decoded_immediate : (b : Bool) (op : AluOp) (d a : ℕ) (imm : ℤ) (w : ℕ) → is_shift op ≡ b → IsTrue (has_immediate op) → IsImmediate b op d a imm w → decoded w ≡ Some (OpImm op d a imm)
+unfolding decoded
 row-decoded_immediate true op d a imm w shift has r =
     rw (r.has_opcode, r.has_funct3, r.has_funct7, op_imm_of-shift op shift, shift, r.has_rd, r.has_rs1, r.has_amount) refl
 row-decoded_immediate false op d a imm w shift has r =
     rw (r.has_opcode, r.has_funct3, op_imm_of-other op (funct7 w) has shift, shift, r.has_rd, r.has_rs1, r.has_imm) refl
 
 pub row-decoded : (i : Instr) (w : ℕ) → IsRow i w → decoded w ≡ Some i
+unfolding decoded
 row-decoded (Lui d imm) w r = rw (r.has_opcode, r.has_rd, r.has_imm) refl
 row-decoded (Auipc d imm) w r = rw (r.has_opcode, r.has_rd, r.has_imm) refl
 row-decoded (Jal d offset) w r = rw (r.has_opcode, r.has_rd, r.has_imm) refl
@@ -170,6 +172,7 @@ decoded-row_system w i e =
     from_cond (w == 0x00100073) _ _ i e2 (λ t same. from_some goal Ebreak i same (eqb-true _ _ t)) (λ no. cc))
 
 pub decoded-row : (w : ℕ) (i : Instr) → decoded w ≡ Some i → IsRow i w
+unfolding decoded
 decoded-row w i e0 =
     let goal : Instr → Type 0 = λ j. IsRow j w in
     decoded-at w 0b0110111 _ _ i e0 (λ code same. from_some goal _ i same (record { has_opcode = code; has_rd = refl; has_imm = refl })) (λ e1.

@@ -1,12 +1,12 @@
 -- What the fields of a word are, and what the bits of an immediate are.
-use Rattle.std.proofs.Common.{◌≡◌, ℕ, zero, suc, ◌+◌, ◌-◌, ◌*◌, ◌/◌, ◌%◌, ◌^◌, ◌<◌, ◌≤◌, ℤ, pos, ◌-ℤ◌, neg_ℤ, nat_lt, Bool, true, false, IsTrue, if◌then◌else◌, refl, sym, inl, inr, ap, ◌∙◌, subst, arith, cond}
-use Rattle.std.specs.Prelude.{negsuc, ◌≤ℤ◌, ◌<ℤ◌}
-use Rattle.std.proofs.lemmas.Nat.{mod-pow-add, shr-shr, pow_pos}
+use Rattle.std.proofs.Common.{◌≡◌, ℕ, suc, ◌+◌, ◌-◌, ◌*◌, ◌/◌, ◌%◌, ◌^◌, ◌<◌, ◌≤◌, ℤ, pos, inl, inr, ap, ◌∙◌, arith}
+use Rattle.std.specs.Prelude.{negsuc}
+use Rattle.std.proofs.lemmas.Nat.{mod-pow-add, shr-shr}
 use Rattle.std.proofs.lemmas.Int.{ints}
 use Rattle.std.proofs.lemmas.Bool.{cases_lt}
 use Rattle.rv_isa.specs.Word.{bits, pattern, sign_extended}
 use Rattle.rv_isa.specs.Encoding.{word}
-use Rattle.rv_isa.specs.Range.{IsSigned, IsOffset}
+use Rattle.rv_isa.specs.Range.{IsSigned}
 
 -- a field is its upper part and its lower part
 pub bits-join : (w lo n m : ℕ) → bits w lo (m + n) ≡ bits w (lo + n) m * 2 ^ n + bits w lo n
@@ -45,18 +45,6 @@ bits-below-7 w lo = omega arith
 pub bits-below-20 : (w lo : ℕ) → bits w lo 20 < 2 ^ 20
 unfolding bits
 bits-below-20 w lo = omega arith
-
-pub bits-below-8 : (w lo : ℕ) → bits w lo 8 < 2 ^ 8
-unfolding bits
-bits-below-8 w lo = omega arith
-
-pub bits-below-10 : (w lo : ℕ) → bits w lo 10 < 2 ^ 10
-unfolding bits
-bits-below-10 w lo = omega arith
-
-pub bits-below-12 : (w lo : ℕ) → bits w lo 12 < 2 ^ 12
-unfolding bits
-bits-below-12 w lo = omega arith
 
 pub bits-small_5 : (n : ℕ) → n < 2 ^ 5 → bits n 0 5 ≡ n
 unfolding bits

@@ -1,5 +1,5 @@
 -- The word of an instruction, and the instruction of a word, as functions.
-use Rattle.std.specs.Prelude.{ℕ, ◌+◌, ◌*◌, ◌^◌, ℤ, pos, Bool, true, false, Option, Some, None, option_map, ◌==◌, if◌then◌else◌}
+use Rattle.std.specs.Prelude.{ℕ, ◌+◌, ◌*◌, ◌^◌, ℤ, pos, Option, Some, None, option_map, ◌==◌, if◌then◌else◌}
 use Rattle.rv_isa.specs.Word.{bits, pattern, imm_i, imm_s, imm_b, imm_u, imm_j}
 use Rattle.rv_isa.specs.Table.{branch_funct3, width_funct3, alu_funct3, alu_funct7, is_shift, cond_of, load_of, store_of, op_of, op_imm_of}
 use Rattle.rv_isa.specs.Row.{opcode, rd, funct3, rs1, rs2, funct7}
@@ -29,7 +29,7 @@ word_j code d imm =
     word code d (bits imm 12 3) (bits imm 15 5) (bits imm 1 4 * 2 + bits imm 11 1) (bits imm 20 1 * 2 ^ 6 + bits imm 5 6)
 
 -- the word that an instruction is encoded to
-abbrev pub encoded : Instr → ℕ
+unfoldable pub encoded : Instr → ℕ
 encoded (Lui d imm) = word_u 0b0110111 d imm
 encoded (Auipc d imm) = word_u 0b0010111 d imm
 encoded (Jal d offset) = word_j 0b1101111 d (pattern offset)
@@ -38,7 +38,8 @@ encoded (Branch c a b offset) = word_b 0b1100011 (branch_funct3 c) a b (pattern 
 encoded (Load width d base offset) = word_i 0b0000011 d (width_funct3 width) base (pattern offset)
 encoded (Store width src base offset) = word_s 0b0100011 (width_funct3 width) base src (pattern offset)
 encoded (OpImm op d a imm) =
-    if is_shift op then word 0b0010011 d (alu_funct3 op) a (bits (pattern imm) 0 5) (alu_funct7 op) else word_i 0b0010011 d (alu_funct3 op) a (pattern imm)
+    if is_shift op then word 0b0010011 d (alu_funct3 op) a (bits (pattern imm) 0 5) (alu_funct7 op)
+    else word_i 0b0010011 d (alu_funct3 op) a (pattern imm)
 encoded (Op op d a b) = word 0b0110011 d (alu_funct3 op) a b (alu_funct7 op)
 encoded Fence = 0x0FF0000F
 encoded Ecall = 0x00000073
@@ -49,7 +50,7 @@ abbrev pub operation_imm : AluOp → ℕ → ℤ
 operation_imm op w = if is_shift op then pos (rs2 w) else imm_i w
 
 -- the instruction of a word, if it has one
-abbrev pub decoded : ℕ → Option Instr
+unfoldable pub decoded : ℕ → Option Instr
 decoded w =
     if opcode w == 0b0110111 then Some (Lui (rd w) (imm_u w))
     else if opcode w == 0b0010111 then Some (Auipc (rd w) (imm_u w))

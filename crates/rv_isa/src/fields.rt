@@ -6,7 +6,7 @@ ghost use Rattle.rv_isa.specs.Row.{opcode, rd, funct3, rs1, rs2, funct7};
 use crate::reg::Reg;
 
 /// The `count` bits of `value` from bit `low` upward.
-#[tactic(auto, using(std::proofs::lemmas::Nat::one_shl, std::proofs::lemmas::Nat::and_mask), unfolding(crate::specs::Word::bits))]
+#[tactic(auto, unfolding(crate::specs::Word::bits))]
 pub(crate) fn bits(value: u32, low: u32, count: u32) -> u32
     requires low { low < 32 }
     requires count { count < 32 }

@@ -19,3 +19,6 @@ pub use ranges::fits;
 pub use reading::decode;
 pub use reg::Reg;
 pub use writing::{encode, encoding_is_unique};
+
+#[cfg(test)]
+mod tests;

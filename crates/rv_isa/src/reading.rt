@@ -1,7 +1,6 @@
 //! From words to instructions.
-ghost use Rattle.std.specs.Prelude.{◌≡◌, ◌↔◌, ◌⊎◌, IfSome, Option, option_map, ◌==◌, if◌then◌else◌};
-ghost use Rattle.rv_isa.specs.Word.{imm_i, imm_s, imm_b};
-ghost use Rattle.rv_isa.specs.Row.{rd, rs1, rs2, funct3, funct7, IsRow};
+ghost use Rattle.std.specs.Prelude.{◌≡◌, ◌↔◌, ◌⊎◌, IfSome, ◌==◌, if◌then◌else◌};
+ghost use Rattle.rv_isa.specs.Row.{opcode, IsRow};
 ghost use Rattle.rv_isa.specs.Table.{cond_of, load_of, store_of, op_of, op_imm_of};
 ghost use Rattle.rv_isa.specs.Encoding.{decoded, encoded, operation_imm};
 ghost use Rattle.rv_isa.specs.Range.{Fits, HasRegisters};
@@ -30,6 +29,7 @@ pub fn decode(word: u32) -> Option<Instr>
     read(word)
 }
 
+#[tactic(auto, unfolding(crate::specs::Encoding::decoded))]
 fn read(word: u32) -> Option<Instr>
     ensures { result ≡ decoded word }
 {
@@ -57,8 +57,10 @@ fn read(word: u32) -> Option<Instr>
     }
 }
 
+#[tactic(auto, unfolding(crate::specs::Encoding::decoded))]
 fn jalr(word: u32) -> Option<Instr>
-    ensures { result ≡ (if funct3 word == 0b000 then Some (Instr.Jalr (rd word) (rs1 word) (imm_i word)) else None) }
+    requires { opcode word ≡ 0b1100111 }
+    ensures { result ≡ decoded word }
 {
     if funct3(word) != 0b000 {
         return None;
@@ -84,8 +86,10 @@ fn cond_of(funct3: u32) -> Option<Cond>
     }
 }
 
+#[tactic(auto, unfolding(crate::specs::Encoding::decoded))]
 fn branch(word: u32) -> Option<Instr>
-    ensures { result ≡ option_map (λ cond. Instr.Branch cond (rs1 word) (rs2 word) (imm_b word)) (cond_of (funct3 word)) }
+    requires { opcode word ≡ 0b1100011 }
+    ensures { result ≡ decoded word }
 {
     let cond = cond_of(funct3(word))?;
     Some(Instr::Branch {
@@ -109,8 +113,10 @@ fn load_width(funct3: u32) -> Option<Width>
     }
 }
 
+#[tactic(auto, unfolding(crate::specs::Encoding::decoded))]
 fn load(word: u32) -> Option<Instr>
-    ensures { result ≡ option_map (λ width. Instr.Load width (rd word) (rs1 word) (imm_i word)) (load_of (funct3 word)) }
+    requires { opcode word ≡ 0b0000011 }
+    ensures { result ≡ decoded word }
 {
     let width = load_width(funct3(word))?;
     Some(Instr::Load {
@@ -132,8 +138,10 @@ fn store_width(funct3: u32) -> Option<Width>
     }
 }
 
+#[tactic(auto, unfolding(crate::specs::Encoding::decoded))]
 fn store(word: u32) -> Option<Instr>
-    ensures { result ≡ option_map (λ width. Instr.Store width (rs2 word) (rs1 word) (imm_s word)) (store_of (funct3 word)) }
+    requires { opcode word ≡ 0b0100011 }
+    ensures { result ≡ decoded word }
 {
     let width = store_width(funct3(word))?;
     Some(Instr::Store {
@@ -171,8 +179,10 @@ fn immediate_of(op: AluOp, word: u32) -> i32
     }
 }
 
+#[tactic(auto, unfolding(crate::specs::Encoding::decoded))]
 fn operation_with_immediate(word: u32) -> Option<Instr>
-    ensures { result ≡ option_map (λ op. Instr.OpImm op (rd word) (rs1 word) (operation_imm op word)) (op_imm_of (funct3 word) (funct7 word)) }
+    requires { opcode word ≡ 0b0010011 }
+    ensures { result ≡ decoded word }
 {
     let op = immediate_op(funct3(word), funct7(word))?;
     Some(Instr::OpImm {
@@ -201,8 +211,10 @@ fn register_op(funct3: u32, funct7: u32) -> Option<AluOp>
     }
 }
 
+#[tactic(auto, unfolding(crate::specs::Encoding::decoded))]
 fn operation(word: u32) -> Option<Instr>
-    ensures { result ≡ option_map (λ op. Instr.Op op (rd word) (rs1 word) (rs2 word)) (op_of (funct3 word) (funct7 word)) }
+    requires { opcode word ≡ 0b0110011 }
+    ensures { result ≡ decoded word }
 {
     let op = register_op(funct3(word), funct7(word))?;
     Some(Instr::Op {
@@ -213,8 +225,10 @@ fn operation(word: u32) -> Option<Instr>
     })
 }
 
+#[tactic(auto, unfolding(crate::specs::Encoding::decoded))]
 fn fence(word: u32) -> Option<Instr>
-    ensures { result ≡ (if funct3 word == 0b000 then Some Instr.Fence else None) }
+    requires { opcode word ≡ 0b0001111 }
+    ensures { result ≡ decoded word }
 {
     match funct3(word) {
         0b000 => Some(Instr::Fence),
@@ -223,7 +237,8 @@ fn fence(word: u32) -> Option<Instr>
 }
 
 fn system(word: u32) -> Option<Instr>
-    ensures { result ≡ (if word == 0x00000073 then Some Instr.Ecall else if word == 0x00100073 then Some Instr.Ebreak else None) }
+    ensures { result ≡ (if word == 0x00000073 then Some Instr.Ecall
+        else if word == 0x00100073 then Some Instr.Ebreak else None) }
 {
     match word {
         0x0000_0073 => Some(Instr::Ecall),

@@ -27,9 +27,11 @@ pub fn encode(instr: &Instr) -> u32
 
 /// Two instructions that fit have one word only if they are equal.
 pub fn encoding_is_unique()
-    ensures { (i j : Instr) → HasRegisters i → Fits i → HasRegisters j → Fits j → encoded i ≡ encoded j → i ≡ j }
+    ensures { (i j : Instr) → HasRegisters i → Fits i → HasRegisters j → Fits j
+        → encoded i ≡ encoded j → i ≡ j }
 {}
 
+#[tactic(auto, unfolding(crate::specs::Encoding::encoded))]
 fn word_of(instr: &Instr) -> u32
     ensures value { result ≡ encoded instr.now }
     ensures registers { HasRegisters instr.now }
@@ -37,56 +39,29 @@ fn word_of(instr: &Instr) -> u32
     match *instr {
         Instr::Lui { rd, imm } => u_word(0b0110111, rd, imm),
         Instr::Auipc { rd, imm } => u_word(0b0010111, rd, imm),
-        Instr::Jal { rd, offset } => j_word(0b1101111, rd, offset.cast_unsigned()),
-        Instr::Jalr { rd, base, offset } => i_word(
-            0b1100111,
-            rd,
-            0b000,
-            base,
-            offset.cast_unsigned(),
-        ),
+        Instr::Jal { rd, offset } => j_word(0b1101111, rd, offset),
+        Instr::Jalr { rd, base, offset } => i_word(0b1100111, rd, 0b000, base, offset),
         Instr::Branch { cond, a, b, offset } => b_word(
             0b1100011,
             branch_funct3(cond),
             a,
             b,
-            offset.cast_unsigned(),
+            offset,
         ),
         Instr::Load {
             width,
             rd,
             base,
             offset,
-        } => i_word(
-            0b0000011,
-            rd,
-            width_funct3(width),
-            base,
-            offset.cast_unsigned(),
-        ),
+        } => i_word(0b0000011, rd, width_funct3(width), base, offset),
         Instr::Store {
             width,
             src,
             base,
             offset,
-        } => s_word(
-            0b0100011,
-            width_funct3(width),
-            base,
-            src,
-            offset.cast_unsigned(),
-        ),
-        Instr::OpImm { op, rd, a, imm } => immediate_word(op, rd, a, imm.cast_unsigned()),
-        Instr::Op { op, rd, a, b } => {
-            join(
-                0b0110011,
-                number(rd),
-                alu_funct3(op),
-                number(a),
-                number(b),
-                alu_funct7(op),
-            )
-        }
+        } => s_word(0b0100011, width_funct3(width), base, src, offset),
+        Instr::OpImm { op, rd, a, imm } => immediate_word(op, rd, a, imm),
+        Instr::Op { op, rd, a, b } => register_word(op, rd, a, b),
         Instr::Fence => 0x0ff0_000f,
         Instr::Ecall => 0x0000_0073,
         Instr::Ebreak => 0x0010_0073,
@@ -169,12 +144,13 @@ fn join(opcode: u32, rd: u32, funct3: u32, rs1: u32, rs2: u32, funct7: u32) -> u
     opcode + (rd << 7) + (funct3 << 12) + (rs1 << 15) + (rs2 << 20) + (funct7 << 25)
 }
 
-fn i_word(opcode: u32, rd: Reg, funct3: u32, rs1: Reg, imm: u32) -> u32
+fn i_word(opcode: u32, rd: Reg, funct3: u32, rs1: Reg, imm: i32) -> u32
     requires opcode { opcode < 2 ^ 7 }
     requires funct3 { funct3 < 2 ^ 3 }
-    ensures value { result ≡ word_i opcode rd funct3 rs1 imm }
+    ensures value { result ≡ word_i opcode rd funct3 rs1 (pattern imm) }
     ensures registers { (rd < 32) × (rs1 < 32) }
 {
+    let imm = imm.cast_unsigned();
     join(
         opcode,
         number(rd),
@@ -185,12 +161,13 @@ fn i_word(opcode: u32, rd: Reg, funct3: u32, rs1: Reg, imm: u32) -> u32
     )
 }
 
-fn s_word(opcode: u32, funct3: u32, rs1: Reg, rs2: Reg, imm: u32) -> u32
+fn s_word(opcode: u32, funct3: u32, rs1: Reg, rs2: Reg, imm: i32) -> u32
     requires opcode { opcode < 2 ^ 7 }
     requires funct3 { funct3 < 2 ^ 3 }
-    ensures value { result ≡ word_s opcode funct3 rs1 rs2 imm }
+    ensures value { result ≡ word_s opcode funct3 rs1 rs2 (pattern imm) }
     ensures registers { (rs1 < 32) × (rs2 < 32) }
 {
+    let imm = imm.cast_unsigned();
     join(
         opcode,
         bits(imm, 0, 5),
@@ -201,12 +178,13 @@ fn s_word(opcode: u32, funct3: u32, rs1: Reg, rs2: Reg, imm: u32) -> u32
     )
 }
 
-fn b_word(opcode: u32, funct3: u32, rs1: Reg, rs2: Reg, imm: u32) -> u32
+fn b_word(opcode: u32, funct3: u32, rs1: Reg, rs2: Reg, imm: i32) -> u32
     requires opcode { opcode < 2 ^ 7 }
     requires funct3 { funct3 < 2 ^ 3 }
-    ensures value { result ≡ word_b opcode funct3 rs1 rs2 imm }
+    ensures value { result ≡ word_b opcode funct3 rs1 rs2 (pattern imm) }
     ensures registers { (rs1 < 32) × (rs2 < 32) }
 {
+    let imm = imm.cast_unsigned();
     let low = (bits(imm, 1, 4) << 1) + bits(imm, 11, 1);
     let high = (bits(imm, 12, 1) << 6) + bits(imm, 5, 6);
     join(opcode, low, funct3, number(rs1), number(rs2), high)
@@ -227,11 +205,12 @@ fn u_word(opcode: u32, rd: Reg, imm: u32) -> u32
     )
 }
 
-fn j_word(opcode: u32, rd: Reg, imm: u32) -> u32
+fn j_word(opcode: u32, rd: Reg, imm: i32) -> u32
     requires opcode { opcode < 2 ^ 7 }
-    ensures value { result ≡ word_j opcode rd imm }
+    ensures value { result ≡ word_j opcode rd (pattern imm) }
     ensures registers { rd < 32 }
 {
+    let imm = imm.cast_unsigned();
     let low = (bits(imm, 1, 4) << 1) + bits(imm, 11, 1);
     let high = (bits(imm, 20, 1) << 6) + bits(imm, 5, 6);
     join(
@@ -244,22 +223,39 @@ fn j_word(opcode: u32, rd: Reg, imm: u32) -> u32
     )
 }
 
-fn immediate_word(op: AluOp, rd: Reg, a: Reg, imm: u32) -> u32
+#[tactic(auto, unfolding(crate::specs::Encoding::encoded))]
+fn immediate_word(op: AluOp, rd: Reg, a: Reg, imm: i32) -> u32
+    ensures value { result ≡ encoded (Instr.OpImm op rd a imm) }
     ensures registers { (rd < 32) × (a < 32) }
-    ensures value { result ≡ (if is_shift op then word 0b0010011 rd (alu_funct3 op) a (bits imm 0 5) (alu_funct7 op) else word_i 0b0010011 rd (alu_funct3 op) a imm) }
 {
     if is_shift(op) {
+        let amount = bits(imm.cast_unsigned(), 0, 5);
         join(
             0b0010011,
             number(rd),
             alu_funct3(op),
             number(a),
-            bits(imm, 0, 5),
+            amount,
             alu_funct7(op),
         )
     } else {
         i_word(0b0010011, rd, alu_funct3(op), a, imm)
     }
+}
+
+#[tactic(auto, unfolding(crate::specs::Encoding::encoded))]
+fn register_word(op: AluOp, rd: Reg, a: Reg, b: Reg) -> u32
+    ensures value { result ≡ encoded (Instr.Op op rd a b) }
+    ensures registers { (rd < 32) × (a < 32) × (b < 32) }
+{
+    join(
+        0b0110011,
+        number(rd),
+        alu_funct3(op),
+        number(a),
+        number(b),
+        alu_funct7(op),
+    )
 }
 
 fn number(reg: Reg) -> u32
