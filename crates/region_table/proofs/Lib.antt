@@ -1,1 +1,4 @@
 pub mod WordLemmas
+pub mod JoinLemmas
+pub mod MergeLemmas
+pub mod CommonLemmas

@@ -4,10 +4,15 @@
 
 mod declared;
 mod interval;
+mod merging;
+mod plan;
 mod program;
+mod regions;
+mod searching;
 mod words;
 
 pub use declared::{Effects, Phase, Region, TaskDecl};
 pub use interval::Interval;
+pub use plan::{PhasePlan, plans};
 pub use program::Program;
 pub use words::WordSet;
