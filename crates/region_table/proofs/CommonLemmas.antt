@@ -1,9 +1,9 @@
 -- The least common word of two canonical lists: intervals that end before the other list goes on are passed.
-use Rattle.std.proofs.Common.{◌≡◌, ℕ, ◌+◌, ◌<◌, ◌≤◌, Bool, true, false, List, [], ◌∷◌, length, get_or, drop, refl, sym, ◌∙◌, arith, ⊎_elim}
+use Rattle.std.proofs.Common.{◌≡◌, ℕ, ◌+◌, ◌<◌, ◌≤◌, true, List, ◌∷◌, length, get_or, drop, arith, ⊎_elim}
 use Rattle.std.proofs.lemmas.Bool.{cases_lt, both_ways, or_left}
 use Rattle.std.proofs.lemmas.List.{drop_more}
 use Rattle.region_table.specs.declared.interval.Interval.{Interval}
-use Rattle.region_table.specs.Words.{in_interval, has, AreApart, IsCanonical, IsCommon, IsLeastCommon}
+use Rattle.region_table.specs.Words.{has, AreApart, IsCanonical, IsCommon, IsLeastCommon}
 use Rattle.region_table.proofs.WordLemmas.{AreApart-drop, has-below, has-drop, in_interval-true, in_interval-past}
 
 -- the words of separated intervals come at `from` or later

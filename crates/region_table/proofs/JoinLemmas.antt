@@ -3,7 +3,7 @@ use Rattle.std.proofs.Common.{◌≡◌, ℕ, ◌<◌, ◌≤◌, ◌||◌, ◌+
 use Rattle.std.specs.List.{All}
 use Rattle.std.proofs.lemmas.List.Elements.{All-push, All-pop, All-weaker}
 use Rattle.region_table.specs.declared.interval.Interval.{Interval}
-use Rattle.region_table.specs.Words.{in_interval, has, AreApart, IsCanonical}
+use Rattle.region_table.specs.Words.{in_interval, has, IsCanonical}
 use Rattle.region_table.proofs.WordLemmas.{AreApart-push, AreApart-last, has-append, in_interval-joined, in_interval-covered}
 
 or_regroup : (x y z : Bool) → (x || ((y || z) || false)) ≡ ((x || (y || false)) || z)

@@ -45,7 +45,8 @@ or_nil : (x : Bool) → x ≡ (x || (false || false))
 or_nil true = refl
 or_nil false = refl
 
-rises_on : (done : List Interval) (from to : ℕ) → from ≤ to → RisesTo done from → RisesTo done to
+-- and then to any later word
+pub rises_on : (done : List Interval) (from to : ℕ) → from ≤ to → RisesTo done from → RisesTo done to
 rises_on done from to l r = All-weaker (λ (i : Interval). i.lo ≤ from) (λ (i : Interval). i.lo ≤ to) (λ i h. omega arith) done r
 
 -- what begins at `from` or later follows what rises to `from`

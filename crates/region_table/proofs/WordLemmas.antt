@@ -1,9 +1,9 @@
-use Rattle.std.proofs.Common.{◌≡◌, ℕ, zero, suc, ◌+◌, ◌<◌, ◌≤◌, ◌||◌, ◌++◌, drop, true, false, leb, ltb, Some, None, List, [], ◌∷◌, length, get_or, refl, sym, ap, ◌∙◌, arith, ⊎_elim}
+use Rattle.std.proofs.Common.{◌≡◌, ◌↔◌, ◌⊎◌, IsTrue, ℕ, zero, suc, ◌+◌, ◌<◌, ◌≤◌, ◌||◌, ◌++◌, drop, true, false, leb, ltb, Some, None, List, [], ◌∷◌, length, get_or, refl, sym, ◌∙◌, arith, ⊎_elim}
 use Rattle.std.specs.List.{All, AllWithin, find}
-use Rattle.std.proofs.lemmas.Bool.{lt-leb, le-ltb, le-leb, lt-ltb, leb-false, leb-true, or_from, or_right, and_left, and_right, cases_lt, cases_order, both_ways}
-use Rattle.std.proofs.lemmas.List.Elements.{All-nil, All-cons, All-head, All-tail, All-weaker}
+use Rattle.std.proofs.lemmas.Bool.{lt-leb, le-ltb, le-leb, lt-ltb, leb-false, leb-true, or_from, or_right, or_left, or_cases, and_parts, ltb-true, and_left, and_right, cases_lt, cases_order, both_ways}
+use Rattle.std.proofs.lemmas.List.Elements.{All-nil, All-cons, All-head, All-tail}
 use Rattle.region_table.specs.declared.interval.Interval.{Interval}
-use Rattle.region_table.specs.Words.{in_interval, has, AreApart}
+use Rattle.region_table.specs.Words.{in_interval, has, AreApart, IsCanonical, IsUnion}
 
 -- a word is in an interval
 pub in_interval-true : (i : Interval) (w : ℕ) → i.lo ≤ w → w < i.hi → in_interval i w ≡ true
@@ -171,3 +171,22 @@ in_interval-covered i j w a b =
     (λ (m : i.hi ≤ w). rw (in_interval-past i w m, in_interval-past j w (omega arith)) refl)
     (cases_lt w i.hi))
     (cases_lt w i.lo)
+
+-- the words of a range are those from `lo` to before `hi`
+pub has-range : (lo hi w : ℕ) → IsTrue (has (record { lo = lo; hi = hi } ∷ []) w) ↔ ((lo ≤ w) × (w < hi))
+has-range lo hi w =
+    let i : Interval = record { lo = lo; hi = hi } in (
+      λ h. ⊎_elim (λ (e : in_interval i w ≡ true). let b = and_parts (leb lo w) (ltb w hi) e in (leb-true lo w b.0, ltb-true w hi b.1)) (λ (e : false ≡ true). absurd cc) (or_cases (in_interval i w) false h),
+      λ b. or_left (in_interval i w) false (in_interval-true i w b.0 b.1),
+    )
+
+-- the words of a union come from one of the two
+pub has_of-union : (a b all : List Interval) (w : ℕ) → IsUnion a b all → IsTrue (has all w) ↔ (IsTrue (has a w) ⊎ IsTrue (has b w))
+has_of-union a b all w u = (
+  λ h. or_cases (has a w) (has b w) (sym (u w) ∙ h),
+  λ e. u w ∙ ⊎_elim (λ (l : has a w ≡ true). or_left (has a w) (has b w) l) (λ (r : has b w ≡ true). or_right (has a w) (has b w) r) e,
+)
+
+-- a canonical list with the words of `a` and those of `b` is the only one
+pub union_unique : (a b u v : List Interval) → IsCanonical u → IsCanonical v → IsUnion a b u → IsUnion a b v → u ≡ v
+union_unique a b u v cu cv hu hv = same_words 0 u v cu cv (λ w. hu w ∙ sym (hv w))

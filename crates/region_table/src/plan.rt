@@ -89,10 +89,9 @@ fn plan_of(alloc: Global, program: &Program, phase: &Phase) -> Result<PhasePlan,
     ensures { IfOk result (IsPlan program.now phase.now) }
 {
     let touched = words_written(alloc, phase)?;
-    Ok(PhasePlan {
-        written: whole_regions(alloc, program.regions.as_slice(), &touched)?,
-        guarded: guarded_by_lock(alloc, phase, program.locks.len())?,
-    })
+    let written = whole_regions(alloc, program.regions.as_slice(), touched.intervals())?;
+    let guarded = guarded_by_lock(alloc, phase, program.locks.len())?;
+    Ok(PhasePlan { written, guarded })
 }
 
 /// The plans of the program's phases, in their order: for each phase the words of the whole regions in which some task

@@ -1,5 +1,5 @@
 ghost use Rattle.std.specs.Prelude.{◌≡◌, ℕ, ◌+◌, ◌≤◌, IfOk};
-ghost use Rattle.region_table.specs.Words.{has};
+ghost use Rattle.region_table.specs.Words.{has, IsCanonical};
 ghost use Rattle.region_table.specs.Program.{AreTiled};
 ghost use Rattle.region_table.specs.Overlap.{overlaps, in_overlapped};
 
@@ -11,26 +11,26 @@ use crate::words::WordSet;
 use dn_base::Memory;
 use std::alloc::Global;
 
-/// Whether the set has a word of the region. The search halves the set's intervals.
-fn has_word_of(words: &WordSet, region: &Region) -> bool
-    requires { region.now.start + region.now.len ≤ 65536 }
+/// Whether the intervals have a word of the region. The search halves the intervals.
+fn has_word_of(words: &[Interval], region: &Region) -> bool
+    requires canonical { IsCanonical words.now }
+    requires within { region.now.start + region.now.len ≤ 65536 }
     ensures { result ≡ overlaps words.now region.now }
 {
-    match first_past(words.intervals(), region.start) {
+    match first_past(words, region.start) {
         Some(interval) => interval.lo < region.start + region.len,
         None => false,
     }
 }
 
-/// The words of the whole regions of which the set has a word.
+/// The words of the whole regions of which the intervals have a word.
 pub(crate) fn whole_regions(
     alloc: Global,
     regions: &[Region],
-    words: &WordSet,
+    words: &[Interval],
 ) -> Result<WordSet, Memory>
-    ghost size: { ℕ }
-    requires tiled { AreTiled 0 regions.now size }
-    requires within { size ≤ 65536 }
+    requires canonical { IsCanonical words.now }
+    requires tiled { (size : ℕ) × (size ≤ 65536) × AreTiled 0 regions.now size }
     ensures { IfOk result (λ whole. (w : ℕ) → has whole w ≡ in_overlapped regions.now words.now w) }
 {
     let mut out = Vec::new(alloc);

@@ -1,7 +1,7 @@
-use Rattle.std.proofs.Common.{◌≡◌, ◌≤◌, ◌<◌, ◌++◌, ◌∷◌, []}
+use Rattle.std.proofs.Common.{◌≡◌, ◌≤◌, ◌++◌, ◌∷◌, []}
 use Rattle.region_table.specs.declared.interval.Interval.{Interval}
 use Rattle.std.specs.List.{All}
-use Rattle.region_table.specs.Words.{has, in_interval, IsCanonical}
+use Rattle.region_table.specs.Words.{IsCanonical}
 use Rattle.region_table.proofs.JoinLemmas.{canonical-behind, words-behind, canonical-joined, words-joined, rising-joined, words-covered, last_rises}
 use Rattle.region_table.proofs.merging.join.Goals as goal
 

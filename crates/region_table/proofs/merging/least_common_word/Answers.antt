@@ -1,5 +1,4 @@
-use Rattle.std.proofs.Common.{◌≡◌, ℕ, ◌≤◌, arith}
-use Rattle.region_table.specs.declared.interval.Interval.{Interval}
+use Rattle.std.proofs.Common.{arith}
 use Rattle.region_table.proofs.CommonLemmas.{passed-left, passed-right, least_at}
 use Rattle.region_table.proofs.MergeLemmas.{next-some}
 use Rattle.region_table.proofs.merging.least_common_word.Goals as goal

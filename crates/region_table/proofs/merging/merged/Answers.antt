@@ -1,5 +1,3 @@
-use Rattle.std.proofs.Common.{◌≡◌, ℕ, arith}
-use Rattle.region_table.specs.declared.interval.Interval.{Interval}
 use Rattle.region_table.proofs.MergeLemmas.{next-some, next-rises, merges-left, merges-swap}
 use Rattle.region_table.proofs.merging.merged.Goals as goal
 

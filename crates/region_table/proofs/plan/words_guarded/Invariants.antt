@@ -6,4 +6,4 @@ use Rattle.region_table.specs.Plan.{guards}
 use Rattle.region_table.proofs.plan.words_guarded.Given as goal
 
 abbrev pub invariant-loop-task : goal.invariant-loop-task
-invariant-loop-task l = (w : ℕ) → has l.all w ≡ list_any (λ (t : TaskDecl). guards t l.lock w) (take l.task-index l.task-items)
+invariant-loop-task l = (w : ℕ) → has l.all w ≡ list_any (λ (t : TaskDecl). guards t l.fn.lock w) (take l.task-index l.task-items)

@@ -1,4 +1,4 @@
-use Rattle.std.proofs.Common.{◌≡◌, ltb, Some, None, ap, sym, ◌∙◌}
+use Rattle.std.proofs.Common.{ltb, ap, sym, ◌∙◌}
 use Rattle.std.specs.List.{find}
 use Rattle.region_table.specs.declared.interval.Interval.{Interval}
 use Rattle.region_table.proofs.WordLemmas.{has-found, has-missing}
