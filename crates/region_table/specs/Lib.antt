@@ -1,2 +1,4 @@
 pub mod Words
 pub mod Program
+pub mod Plan
+pub mod Overlap

@@ -1,4 +1,4 @@
-use Rattle.std.specs.Prelude.{ℕ, ◌+◌, ◌<◌, ◌≤◌, Bool, false, ◌&&◌, ◌||◌, nat_le, nat_lt, List, [], ◌∷◌}
+use Rattle.std.specs.Prelude.{◌≡◌, ℕ, ◌+◌, ◌<◌, ◌≤◌, Bool, false, ◌&&◌, ◌||◌, IsTrue, nat_le, nat_lt, List, [], ◌∷◌}
 use Rattle.region_table.specs.declared.interval.Interval.{Interval}
 
 -- whether a word lies in an interval
@@ -18,3 +18,20 @@ AreApart from (i ∷ is) = (from ≤ i.lo) × (i.lo < i.hi) × AreApart (i.hi + 
 -- the intervals rise, none is empty, and none touches another: the one list of intervals that has their words
 abbrev pub IsCanonical : List Interval → Type 0
 IsCanonical is = AreApart 0 is
+
+-- the words of `all` are those of `a` and those of `b`
+abbrev pub IsUnion : List Interval → List Interval → List Interval → Type 0
+IsUnion a b all = (w : ℕ) → has all w ≡ (has a w || has b w)
+
+-- the word is in both
+abbrev pub IsCommon : List Interval → List Interval → ℕ → Type 0
+IsCommon a b w = IsTrue (has a w) × IsTrue (has b w)
+
+-- some word is in both
+abbrev pub Meet : List Interval → List Interval → Type 0
+Meet a b = (w : ℕ) × IsCommon a b w
+
+-- the word is the least one that is in both
+pub record IsLeastCommon (a b : List Interval) (w : ℕ) : Type 0 where
+  pub common : IsCommon a b w
+  pub least : (v : ℕ) → IsCommon a b v → w ≤ v

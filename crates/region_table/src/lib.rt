@@ -4,10 +4,17 @@
 
 mod declared;
 mod interval;
+mod merging;
+mod plan;
 mod program;
+mod regions;
+mod searching;
+#[cfg(test)]
+mod tests;
 mod words;
 
 pub use declared::{Effects, Phase, Region, TaskDecl};
 pub use interval::Interval;
+pub use plan::{PhasePlan, plans};
 pub use program::Program;
 pub use words::WordSet;

@@ -1,7 +1,9 @@
-ghost use Rattle.std.specs.Prelude.{◌≡◌, ◌≤◌};
-ghost use Rattle.region_table.specs.Program.{cores_of};
+ghost use Rattle.std.specs.Prelude.{◌≡◌, ◌<◌, ◌≤◌, max};
+ghost use Rattle.std.specs.List.{All};
+ghost use Rattle.region_table.specs.declared.declared.TaskDecl.{TaskDecl};
+ghost use Rattle.region_table.specs.Program.{cores_of, cores_in};
 
-use crate::declared::{Phase, Region};
+use crate::declared::{Phase, Region, TaskDecl};
 use dn_base::{Name, Sequence};
 use std::marker::Model;
 
@@ -32,7 +34,37 @@ impl Model for Program {
     ghost invariant = { λ p. IsProgram (record { code = p.code; memory = p.memory; regions = p.regions; locks = p.locks; phases = p.phases }) };
 }
 
-fn crosses<T: Send + Sync>(_value: &T) {}
+impl Program {
+    /// How many cores the program needs: 1 more than the greatest core of a task, or 1 where there is no task.
+    pub fn cores(&self) -> u32
+        ensures value { result ≡ cores_of self.now }
+        ensures some { 1 ≤ result }
+        ensures within { result ≤ 16 }
+    {
+        let mut most = 1;
+        for phase in self.phases.as_slice() {
+            most = cores_with(phase.tasks.as_slice(), most);
+        }
+        most
+    }
+}
+
+/// The greater of `most` and 1 more than the greatest core of these tasks.
+fn cores_with(tasks: &[TaskDecl], most: u32) -> u32
+    requires cores { All (λ (t : TaskDecl). t.core.0 < 16) tasks.now }
+    requires some { 1 ≤ most }
+    ensures { result ≡ max most (cores_in tasks.now) }
+{
+    let mut cores = most;
+    for task in tasks {
+        if cores <= task.core.0 {
+            cores = task.core.0 + 1;
+        }
+    }
+    cores
+}
+
+pub(crate) fn crosses<T: Send + Sync>(_value: &T) {}
 
 /// A program may be sent to another thread, and shared with it.
 pub(crate) fn program_crosses(program: &Program) {

@@ -1,7 +1,9 @@
-ghost use Rattle.std.specs.Prelude.{◌≡◌, ◌<◌, ◌≤◌, [], ◌∷◌, IfOk};
-ghost use Rattle.region_table.specs.Words.{has, IsCanonical};
+ghost use Rattle.std.specs.Prelude.{◌≡◌, ◌↔◌, ℕ, ◌<◌, ◌≤◌, List, [], ◌∷◌, IsTrue, IfOk, IfSome, IfNone};
+ghost use Rattle.region_table.specs.Words.{has, IsCanonical, IsUnion, IsCommon, Meet, IsLeastCommon};
 
 use crate::interval::Interval;
+use crate::merging::{least_common_word, merged};
+use crate::searching::first_past;
 use dn_base::{Memory, WordId};
 use std::alloc::Global;
 use std::marker::Model;
@@ -51,12 +53,47 @@ impl WordSet {
         Ok(WordSet { intervals })
     }
 
+    /// The set of the words of these intervals; takes no memory.
+    pub(crate) fn of_intervals(intervals: Vec<Interval>) -> WordSet
+        requires { IsCanonical intervals.items }
+        ensures { result ≡ intervals.items }
+    {
+        WordSet { intervals }
+    }
+
+    /// The words of either set. Its time grows with the intervals of the two.
+    ///
+    /// # Errors
+    /// `Memory` where there is no room.
+    pub fn union(&self, other: &WordSet) -> Result<WordSet, Memory>
+        ensures { IfOk result (IsUnion self.now other.now) }
+    {
+        let alloc = *self.intervals.allocator();
+        let intervals = merged(alloc, self.intervals(), other.intervals())?;
+        Ok(WordSet { intervals })
+    }
+
+    /// Whether some word is in both sets. Its time grows with the intervals of the two.
+    pub fn meets(&self, other: &WordSet) -> bool
+        ensures { IsTrue result ↔ Meet self.now other.now }
+    {
+        self.least_common(other).is_some()
+    }
+
+    /// The least word that is in both sets, or None exactly where they have no word in common. Its time grows with the
+    /// intervals of the two.
+    pub fn least_common(&self, other: &WordSet) -> Option<WordId>
+        ensures some { IfSome result (λ word. IsLeastCommon self.now other.now word.0) }
+        ensures none { IfNone result ((w : ℕ) → IsCommon self.now other.now w → ⊥) }
+    {
+        least_common_word(self.intervals(), other.intervals())
+    }
+
     /// Whether the word is in the set. The search halves the intervals.
     pub fn contains(&self, word: WordId) -> bool
         ensures { result ≡ has self.now word.0 }
     {
-        let place = self.intervals.partition_point(|i| i.hi <= word.0);
-        match self.intervals.get(place) {
+        match first_past(self.intervals(), word.0) {
             Some(interval) => interval.lo <= word.0,
             None => false,
         }
