@@ -35,8 +35,8 @@ lexemes_at before place code i here =
 
 push_some : (c : Bool) (x : Lexeme) (t : Token) (all : List Lexeme) (out : List Token) (rest : List Lexeme) → c ≡ true → token_of x ≡ Some t → is_bad_number x ≡ false → Scans all out (cond c (x ∷ []) [] ++ rest) → Scans all (out ++ t ∷ []) rest
 push_some true x t all out rest is some good s = record {
-    tokens = append_assoc out (t ∷ []) (filter_map token_of rest) ∙ ap (λ (o : Option Token). out ++ cons_option o (filter_map token_of rest)) (sym some) ∙ s.tokens;
-    bad = ap (λ (b : Bool). b || list_any is_bad_number rest) (sym good) ∙ s.bad
+  tokens = append_assoc out (t ∷ []) (filter_map token_of rest) ∙ ap (λ (o : Option Token). out ++ cons_option o (filter_map token_of rest)) (sym some) ∙ s.tokens;
+  bad = ap (λ (b : Bool). b || list_any is_bad_number rest) (sym good) ∙ s.bad;
 }
 push_some false x t all out rest is some good s = cc
 

@@ -1,3 +1,5 @@
+pub mod ByteLemmas
 pub mod NumberLemmas
 pub mod LexemeLemmas
 pub mod LineLemmas
+pub mod LawLemmas

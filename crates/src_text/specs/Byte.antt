@@ -29,6 +29,10 @@ is_minus b = b == 45
 abbrev pub is_mark : ℕ → Bool
 is_mark b = b == 44 || b == 58 || b == 40 || b == 41
 
+-- the bytes of tokens
+abbrev pub is_token_byte : ℕ → Bool
+is_token_byte b = is_word b || is_mark b || is_minus b
+
 -- outside comments no other byte may stand
 abbrev pub is_bad : ℕ → Bool
-is_bad b = not (is_blank b || is_word b || is_mark b || is_minus b)
+is_bad b = not (is_blank b || is_token_byte b)

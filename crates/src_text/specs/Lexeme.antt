@@ -11,10 +11,14 @@ pub record Lexeme : Type 0 where
   pub start : ℕ
   pub bytes : List ℕ
 
+-- behind such a byte a word or a number goes on
+abbrev pub goes_on : ℕ → Bool
+goes_on before = is_word before || is_minus before
+
 -- whether a token begins at a byte: a mark and a minus always begin one, and a byte of a word does where it doesn't
 -- go on with the word or the number before it
 abbrev pub begins : ℕ → ℕ → Bool
-begins before b = is_mark b || is_minus b || (is_word b && not (is_word before) && not (is_minus before))
+begins before b = is_mark b || is_minus b || (is_word b && not (goes_on before))
 
 -- the bytes of the token at the front: a mark alone, and else as many bytes as a word goes on
 abbrev pub front : List ℕ → List ℕ

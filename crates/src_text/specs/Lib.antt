@@ -4,3 +4,4 @@ pub mod Lexeme
 pub mod Line
 pub mod Register
 pub mod RegisterName
+pub mod Laws

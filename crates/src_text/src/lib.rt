@@ -2,11 +2,18 @@
 #![tactic(auto)]
 
 mod byte;
+mod laws;
 mod line;
 mod number;
 mod registers;
 mod token;
 
+pub use laws::{
+    lines_are_numbered, lines_have_their_tokens, lines_make_up_the_text, tokens_are_longest, tokens_make_up_the_code,
+};
 pub use line::{Line, LineFault, tokens};
 pub use registers::register;
 pub use token::{Token, TokenKind};
+
+#[cfg(test)]
+mod tests;

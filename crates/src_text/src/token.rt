@@ -76,11 +76,15 @@ fn kind(bytes: &[u8]) -> Option<TokenKind>
 }
 
 /// The tokens of a line's code, which begins at the place `start` of the text. None where a number is bad.
-pub(crate) fn scan(alloc: Global, start: usize, code: &[u8]) -> Result<Option<Sequence<Token>>, Memory>
+pub(crate) fn scan(
+    alloc: Global,
+    start: usize,
+    code: &[u8],
+) -> Result<Option<Sequence<Token>>, Memory>
     requires { start + length code.now < 2 ^ 32 }
     ensures { IfOk result (λ found. let lexemes = lexemes_after 32 start code.now in
         MatchOption found (list_any is_bad_number lexemes ≡ true)
-            (λ tokens. (list_any is_bad_number lexemes ≡ false) × (tokens ≡ filter_map token_of lexemes))) }
+        (λ tokens. (list_any is_bad_number lexemes ≡ false) × (tokens ≡ filter_map token_of lexemes))) }
 {
     let mut tokens = Sequence::new(alloc);
     let mut before = b' ';

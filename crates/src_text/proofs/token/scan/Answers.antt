@@ -10,7 +10,7 @@ use Rattle.src_text.proofs.token.scan.Goals.{then-begins+in-Some+in_ok-push, els
 renamed : (start i : ℕ) (code : List ℕ) (out out' : List Token) (before before' : ℕ) → out' ≡ out → before' ≡ before → Scans (lexemes_after 32 start code) out (lexemes_after before (start + (i + 1)) (drop (i + 1) code)) → Scans (lexemes_after 32 start code) out' (lexemes_after before' (start + (i + 1)) (drop (i + 1) code))
 renamed start i code out out' before before' same_out same_before s =
     subst (λ (o : List Token). Scans (lexemes_after 32 start code) o (lexemes_after before' (start + (i + 1)) (drop (i + 1) code))) (sym same_out)
-        (subst (λ (b : ℕ). Scans (lexemes_after 32 start code) out (lexemes_after b (start + (i + 1)) (drop (i + 1) code))) (sym same_before) s)
+    (subst (λ (b : ℕ). Scans (lexemes_after 32 start code) out (lexemes_after b (start + (i + 1)) (drop (i + 1) code))) (sym same_before) s)
 
 pub loop-i-preserved : goal.loop-i-preserved
 loop-i-preserved c =
@@ -18,13 +18,13 @@ loop-i-preserved c =
     let start = c.args.start in
     let i = c.loop-i.i in
     elim c.if-begins.branch [
-        then-begins+in-Some+in_ok-push w ↦
-            let begun : begins c.loop-i.before (get_or code i 0) ≡ true = cc in
-            let kind : kind_of w.front-lexeme.result.now ≡ Some w.in-Some.kind = sym w.kind.ensures ∙ w.in-Some.is in
-            let next = scans_token (lexemes_after 32 start code) c.loop-i.tokens c.loop-i.before start code w.front-lexeme.result.now i w.in-Some.kind c.loop-i-test.true begun (w.front-lexeme.ensures.value ∙ ap front (take_rest code i)) kind c.loop-i.invariant in
-            renamed start i code _ _ _ _ (w.tokens-is ∙ w.in_ok-push.ensures.ok) w.before-is next
-        | else-begins w ↦
-            let goes_on : begins c.loop-i.before (get_or code i 0) ≡ false = cc in
-            let next = scans_none (lexemes_after 32 start code) c.loop-i.tokens c.loop-i.before start code i c.loop-i-test.true goes_on c.loop-i.invariant in
-            renamed start i code _ _ _ _ w.tokens-is w.before-is next
+      | then-begins+in-Some+in_ok-push w ↦
+          let begun : begins c.loop-i.before (get_or code i 0) ≡ true = cc in
+          let kind : kind_of w.front-lexeme.result.now ≡ Some w.in-Some.kind = sym w.kind.ensures ∙ w.in-Some.is in
+          let next = scans_token (lexemes_after 32 start code) c.loop-i.tokens c.loop-i.before start code w.front-lexeme.result.now i w.in-Some.kind c.loop-i-test.true begun (w.front-lexeme.ensures.value ∙ ap front (take_rest code i)) kind c.loop-i.invariant in
+          renamed start i code _ _ _ _ (w.tokens-is ∙ w.in_ok-push.ensures.ok) w.before-is next
+      | else-begins w ↦
+          let goes_on : begins c.loop-i.before (get_or code i 0) ≡ false = cc in
+          let next = scans_none (lexemes_after 32 start code) c.loop-i.tokens c.loop-i.before start code i c.loop-i-test.true goes_on c.loop-i.invariant in
+          renamed start i code _ _ _ _ w.tokens-is w.before-is next
     ]
