@@ -28,9 +28,9 @@ apart_after : (before place from : ℕ) (bs : List ℕ) → from ≤ place + rea
 apart_after before place from [] low = tt
 apart_after before place from (b ∷ bs) low =
     apart_step (begins before b) from (record { start = place; bytes = front (b ∷ bs) }) (lexemes_after b (place + 1) bs)
-        (λ begun. let none = begins_ends before b bs begun in let long = length-front before b bs begun in
-            (omega arith, apart_after b (place + 1) (place + length (front (b ∷ bs))) bs (omega arith)))
-        (λ past. apart_after b (place + 1) from bs (let on = reach_on before b bs in omega arith))
+    (λ begun. let none = begins_ends before b bs begun in let long = length-front before b bs begun in
+    (omega arith, apart_after b (place + 1) (place + length (front (b ∷ bs))) bs (omega arith)))
+    (λ past. apart_after b (place + 1) from bs (let on = reach_on before b bs in omega arith))
 
 -- every byte of a token is in a lexeme
 
@@ -40,8 +40,8 @@ or_right false = refl
 
 covers_step : (c : Bool) (p : ℕ) (x : Lexeme) (rest : List Lexeme) → (c ≡ true → (covers p x ≡ true) ⊎ (list_any (covers p) rest ≡ true)) → (c ≡ false → list_any (covers p) rest ≡ true) → list_any (covers p) (cond c (x ∷ []) [] ++ rest) ≡ true
 covers_step true p x rest here past = elim (here refl) [
-    inl first ↦ ap (λ (t : Bool). t || list_any (covers p) rest) first
-    | inr later ↦ ap (λ (t : Bool). covers p x || t) later ∙ or_right (covers p x)
+  | inl first ↦ ap (λ (t : Bool). t || list_any (covers p) rest) first
+  | inr later ↦ ap (λ (t : Bool). covers p x || t) later ∙ or_right (covers p x)
 ]
 covers_step false p x rest here past = past refl
 
@@ -52,19 +52,19 @@ covered_after : (before place : ℕ) (bs : List ℕ) (p : ℕ) → p < length bs
 covered_after before place [] p short solid low = absurd (omega arith)
 covered_after before place (b ∷ bs) zero short solid low =
     covers_step (begins before b) (place + 0) (record { start = place; bytes = front (b ∷ bs) }) (lexemes_after b (place + 1) bs)
-        (λ begun. let long = length-front before b bs begun in inl (covers_at (place + 0) place (front (b ∷ bs)) (omega arith) (omega arith)))
-        (λ past. let begun = begins_there before b bs solid low in cc)
+    (λ begun. let long = length-front before b bs begun in inl (covers_at (place + 0) place (front (b ∷ bs)) (omega arith) (omega arith)))
+    (λ past. let begun = begins_there before b bs solid low in cc)
 covered_after before place (b ∷ bs) (suc q) short solid low =
     let same : place + 1 + q ≡ place + suc q = omega arith in
     let rest : reach b bs ≤ q → list_any (covers (place + suc q)) (lexemes_after b (place + 1) bs) ≡ true =
-        λ reached. subst (λ (w : ℕ). list_any (covers w) (lexemes_after b (place + 1) bs) ≡ true) same (covered_after b (place + 1) bs q (omega arith) solid reached) in
+    λ reached. subst (λ (w : ℕ). list_any (covers w) (lexemes_after b (place + 1) bs) ≡ true) same (covered_after b (place + 1) bs q (omega arith) solid reached) in
     covers_step (begins before b) (place + suc q) (record { start = place; bytes = front (b ∷ bs) }) (lexemes_after b (place + 1) bs)
-        (λ begun. let long = length-front before b bs begun in
-            elim (cases_lt (suc q) (length (front (b ∷ bs)))) [
-                inl within ↦ inl (covers_at (place + suc q) place (front (b ∷ bs)) (omega arith) (omega arith))
-                | inr behind ↦ inr (rest (omega arith))
-            ])
-        (λ past. let back = reach_back before b bs past in rest (omega arith))
+    (λ begun. let long = length-front before b bs begun in
+    elim (cases_lt (suc q) (length (front (b ∷ bs)))) [
+      | inl within ↦ inl (covers_at (place + suc q) place (front (b ∷ bs)) (omega arith) (omega arith))
+      | inr behind ↦ inr (rest (omega arith))
+    ])
+    (λ past. let back = reach_back before b bs past in rest (omega arith))
 
 -- each lexeme stands where a token begins
 
@@ -79,14 +79,14 @@ stands_after : (before place : ℕ) (bs : List ℕ) → All (Stands before place
 stands_after before place [] = All-nil (Stands before place [])
 stands_after before place (b ∷ bs) =
     All-append (Stands before place (b ∷ bs)) _ (lexemes_after b (place + 1) bs)
-        (stands_first before place b bs (begins before b) refl)
-        (All-weaker (Stands b (place + 1) bs) (Stands before place (b ∷ bs)) (λ l s. (suc s.0, omega (arith, s.1), s.2, s.3)) (lexemes_after b (place + 1) bs) (stands_after b (place + 1) bs))
+    (stands_first before place b bs (begins before b) refl)
+    (All-weaker (Stands b (place + 1) bs) (Stands before place (b ∷ bs)) (λ l s. (suc s.0, omega (arith, s.1), s.2, s.3)) (lexemes_after b (place + 1) bs) (stands_after b (place + 1) bs))
 
 pub AreLexemesOf-lexemes_of : (place : ℕ) (line : List ℕ) → AreLexemesOf place line (lexemes_of place line)
 AreLexemesOf-lexemes_of place line = record {
-    stand = All-weaker (Stands 32 place (code_of line)) (λ l. (p : ℕ) × StandsAt place p (code_of line) l) (λ l s. (s.0, record { start = s.1; bytes = s.2; begun = s.3 })) (lexemes_of place line) (stands_after 32 place (code_of line));
-    apart = apart_after 32 place place (code_of line) (omega arith);
-    whole = λ p short solid. covered_after 32 place (code_of line) p short solid (omega arith)
+  stand = All-weaker (Stands 32 place (code_of line)) (λ l. (p : ℕ) × StandsAt place p (code_of line) l) (λ l s. (s.0, record { start = s.1; bytes = s.2; begun = s.3 })) (lexemes_of place line) (stands_after 32 place (code_of line));
+  apart = apart_after 32 place place (code_of line) (omega arith);
+  whole = λ p short solid. covered_after 32 place (code_of line) p short solid (omega arith);
 }
 
 -- a token is as long as it can be
@@ -96,26 +96,26 @@ words bs = λ k d short. let long = length-prefix_len is_word bs in rw (get_or-t
 
 stops_behind : (bs : List ℕ) → is_word (get_or bs (prefix_len is_word bs) 0) ≡ false
 stops_behind bs = elim (cases_lt (prefix_len is_word bs) (length bs)) [
-    inl within ↦ prefix_len_stops is_word bs 0 within
-    | inr past ↦ ap is_word (get_or_past bs (prefix_len is_word bs) 0 past)
+  | inl within ↦ prefix_len_stops is_word bs 0 within
+  | inr past ↦ ap is_word (get_or_past bs (prefix_len is_word bs) 0 past)
 ]
 
 longest : (m : Bool) (b : ℕ) (bs : List ℕ) → is_mark b ≡ m → IsLongest (b ∷ bs) (cond m (b ∷ []) (b ∷ take_while is_word bs))
 longest true b bs mark = record {
-    first = refl;
-    some = omega arith;
-    mark = λ _. refl;
-    word = All-nil (λ b. is_word b ≡ true);
-    stops = λ no_mark. cc
+  first = refl;
+  some = omega arith;
+  mark = λ _. refl;
+  word = All-nil (λ b. is_word b ≡ true);
+  stops = λ no_mark. cc;
 }
 longest false b bs mark =
     let long = length-prefix_len is_word bs in
     record {
-        first = ap (λ (n : ℕ). b ∷ take n bs) long;
-        some = omega arith;
-        mark = λ is. cc;
-        word = words bs;
-        stops = λ _. ap (λ (n : ℕ). is_word (get_or bs n 0)) long ∙ stops_behind bs
+      first = ap (λ (n : ℕ). b ∷ take n bs) long;
+      some = omega arith;
+      mark = λ is. cc;
+      word = words bs;
+      stops = λ _. ap (λ (n : ℕ). is_word (get_or bs n 0)) long ∙ stops_behind bs;
     }
 
 pub IsLongest-front : (b : ℕ) (bs : List ℕ) → IsLongest (b ∷ bs) (front (b ∷ bs))

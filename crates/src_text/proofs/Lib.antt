@@ -2,4 +2,5 @@ pub mod ByteLemmas
 pub mod NumberLemmas
 pub mod LexemeLemmas
 pub mod LineLemmas
+pub mod CutLemmas
 pub mod LawLemmas

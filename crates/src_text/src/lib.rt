@@ -9,7 +9,8 @@ mod registers;
 mod token;
 
 pub use laws::{
-    lines_are_numbered, lines_have_their_tokens, lines_make_up_the_text, tokens_are_longest, tokens_make_up_the_code,
+    lines_are_numbered, lines_have_their_tokens, lines_make_up_the_text, tokens_are_longest,
+    tokens_make_up_the_code,
 };
 pub use line::{Line, LineFault, tokens};
 pub use registers::register;
