@@ -4,3 +4,4 @@ pub mod LexemeLemmas
 pub mod LineLemmas
 pub mod CutLemmas
 pub mod LawLemmas
+pub mod SliceLemmas

@@ -69,3 +69,7 @@ pub record IsTokenOf (l : Lexeme) (t : Token) : Type 0 where
 -- one token for each lexeme, in their order
 abbrev pub AreTokensOf : List Lexeme → List Token → Type 0
 AreTokensOf ls ts = AllZip IsTokenOf ls ts
+
+-- the bytes from the token's start to its end are a token of its kind
+abbrev pub IsSliceOf : List ℕ → Token → Type 0
+IsSliceOf text t = kind_of (slice_range text t.start t.end) ≡ Some t.kind

@@ -1,6 +1,7 @@
 -- The code's table of register names.
+use Rattle.std.specs.Prelude.{ℕ, List}
+use denote.Ref.{Bor}
 use Rattle.src_text.specs.Register.{Register, row}
-use Rattle.src_text.specs.declared.registers.RegisterName.{RegisterName}
 
-abbrev pub row_of : RegisterName → Register
-row_of r = row r.name.now r.number
+abbrev pub row_of : Bor (List ℕ) × ℕ → Register
+row_of r = row r.0.now r.1

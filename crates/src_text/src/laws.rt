@@ -1,9 +1,9 @@
 //! What holds of the lines and the tokens of every text, as laws: functions that do nothing, whose contracts say it.
 
-ghost use Rattle.std.specs.Prelude.{◌≡◌, ◌≢◌, ℕ, List, [], ◌∷◌, None};
-ghost use Rattle.src_text.specs.Laws.{AreLexemesOf, AreLinesOf, AreNumbered, AreTokensOf, IsLongest};
+ghost use Rattle.std.specs.Prelude.{◌≡◌, ◌≢◌, ℕ, List, [], ◌∷◌, None, All};
+ghost use Rattle.src_text.specs.Laws.{AreLexemesOf, AreLinesOf, AreNumbered, AreTokensOf, IsLongest, IsSliceOf};
 ghost use Rattle.src_text.specs.Lexeme.{front, lexemes_of};
-ghost use Rattle.src_text.specs.Line.{cut, fault_of, line_of};
+ghost use Rattle.src_text.specs.Line.{cut, fault_of, line_of, lines_of};
 
 /// The lines of a text, each with its newline, are the text, but for a last newline that may be missing.
 pub fn lines_make_up_the_text()
@@ -31,4 +31,9 @@ pub fn lines_have_their_tokens()
         → AreTokensOf (lexemes_of place line) (line_of number place line).tokens }
     ensures faulty { (number place : ℕ) (line : List ℕ) → fault_of number line ≢ None
         → (line_of number place line).tokens ≡ [] }
+{}
+
+/// The tokens of a text are parts of it: the bytes from a token's start to its end are a token of its kind.
+pub fn tokens_are_slices_of_the_text()
+    ensures { (text : List ℕ) → All (λ line. All (IsSliceOf text) line.tokens) (lines_of text) }
 {}

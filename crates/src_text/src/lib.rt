@@ -10,7 +10,7 @@ mod token;
 
 pub use laws::{
     lines_are_numbered, lines_have_their_tokens, lines_make_up_the_text, tokens_are_longest,
-    tokens_make_up_the_code,
+    tokens_are_slices_of_the_text, tokens_make_up_the_code,
 };
 pub use line::{Line, LineFault, tokens};
 pub use registers::register;
