@@ -1,0 +1,4 @@
+pub mod FirstForm
+pub mod OneTask
+pub mod Outside
+pub mod Answers
