@@ -1,0 +1,6 @@
+/// The data words from `lo` to before `hi`.
+#[derive(Clone, Copy, Debug, PartialEq, Eq)]
+pub struct Interval {
+    pub lo: u32,
+    pub hi: u32,
+}

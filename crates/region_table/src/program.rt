@@ -1,0 +1,73 @@
+ghost use Rattle.std.specs.Prelude.{◌≡◌, ◌<◌, ◌≤◌, max};
+ghost use Rattle.std.specs.List.{All};
+ghost use Rattle.region_table.specs.declared.declared.TaskDecl.{TaskDecl};
+ghost use Rattle.region_table.specs.Program.{cores_of, cores_in};
+
+use crate::declared::{Phase, Region, TaskDecl};
+use dn_base::{Name, Sequence};
+use std::marker::Model;
+
+/// An assembled program: its code words, its first memory, its regions, locks and phases.
+///
+/// Every `Program` is well formed: `IsProgram` says what that means, part by part.
+#[derive(Debug, Drop)]
+pub struct Program {
+    /// The code words. Code word `i` has the byte address `0x00001000 + 4i`.
+    pub code: Sequence<u32>,
+    /// The data words before the first phase.
+    pub memory: Sequence<u32>,
+    /// The regions, one behind the other from data word 0; together they are the memory.
+    pub regions: Sequence<Region>,
+    /// The names of the locks, by number.
+    pub locks: Sequence<Name>,
+    /// The phases in the order in which they run.
+    pub phases: Sequence<Phase>,
+}
+
+impl Model for Program {
+    ghost use Rattle.region_table.specs.Program.{ProgramParts, IsProgram};
+
+    ghost Value = { ProgramParts };
+
+    ghost view = { λ p. record { code = p.code; memory = p.memory; regions = p.regions; locks = p.locks; phases = p.phases } };
+
+    ghost invariant = { λ p. IsProgram (record { code = p.code; memory = p.memory; regions = p.regions; locks = p.locks; phases = p.phases }) };
+}
+
+impl Program {
+    /// How many cores the program needs, from 1 to 16: one above the highest core number of its tasks, and one for a
+    /// program without tasks.
+    pub fn cores(&self) -> u32
+        ensures value { result ≡ cores_of self.now }
+        ensures some { 1 ≤ result }
+        ensures within { result ≤ 16 }
+    {
+        let mut most = 1;
+        for phase in self.phases.as_slice() {
+            most = cores_with(phase.tasks.as_slice(), most);
+        }
+        most
+    }
+}
+
+/// The greater of `most` and what these tasks need: one above the highest core number.
+fn cores_with(tasks: &[TaskDecl], most: u32) -> u32
+    requires cores { All (λ (t : TaskDecl). t.core.0 < 16) tasks.now }
+    requires some { 1 ≤ most }
+    ensures { result ≡ max most (cores_in tasks.now) }
+{
+    let mut cores = most;
+    for task in tasks {
+        if cores <= task.core.0 {
+            cores = task.core.0 + 1;
+        }
+    }
+    cores
+}
+
+pub(crate) fn crosses<T: Send + Sync>(_value: &T) {}
+
+/// A program may be sent to another thread, and shared with it.
+pub(crate) fn program_crosses(program: &Program) {
+    crosses(program);
+}

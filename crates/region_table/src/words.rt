@@ -1,0 +1,115 @@
+ghost use Rattle.std.specs.Prelude.{◌≡◌, ◌↔◌, ℕ, ◌<◌, ◌≤◌, List, [], ◌∷◌, IsTrue, IfOk, IfSome, IfNone};
+ghost use Rattle.region_table.specs.declared.interval.Interval.{Interval};
+ghost use Rattle.region_table.specs.Words.{has, IsCanonical, IsUnion, IsCommon, Meet, IsLeastCommon};
+
+use crate::interval::Interval;
+use crate::merging::{least_common_word, merged};
+use crate::searching::first_past;
+use dn_base::{Memory, WordId};
+use std::alloc::Global;
+use std::marker::Model;
+
+/// A set of data words, kept as sorted intervals of which none is empty and none touches another.
+///
+/// Contracts see the list of its intervals, and `has` tells whether a word is in it. Two sets with the same words have
+/// the same intervals.
+#[derive(Debug, Drop)]
+pub struct WordSet {
+    intervals: Vec<Interval>,
+}
+
+impl Model for WordSet {
+    ghost use Rattle.std.specs.Prelude.{List};
+    ghost use Rattle.region_table.specs.declared.interval.Interval.{Interval};
+    ghost use Rattle.region_table.specs.Words.{IsCanonical};
+
+    ghost Value = { List Interval };
+
+    ghost view = { λ s. s.intervals.items };
+
+    ghost invariant = { λ s. IsCanonical s.intervals.items };
+}
+
+impl WordSet {
+    /// The empty set; takes no memory.
+    pub fn new(alloc: Global) -> WordSet
+        ensures { result ≡ [] }
+    {
+        WordSet {
+            intervals: Vec::new(alloc),
+        }
+    }
+
+    /// The words from `lo` to before `hi`.
+    ///
+    /// # Errors
+    /// `Memory` where there is no room.
+    pub fn range(alloc: Global, lo: u32, hi: u32) -> Result<WordSet, Memory>
+        requires some { lo < hi }
+        requires within { hi ≤ 65536 }
+        ensures { IfOk result (λ set. set ≡ record { lo = lo; hi = hi } ∷ []) }
+    {
+        let mut intervals = Vec::new(alloc);
+        intervals.push(Interval { lo, hi })?;
+        Ok(WordSet { intervals })
+    }
+
+    /// The set of the words of these intervals; takes no memory.
+    pub(crate) fn of_intervals(intervals: Vec<Interval>) -> WordSet
+        requires { IsCanonical intervals.items }
+        ensures { result ≡ intervals.items }
+    {
+        WordSet { intervals }
+    }
+
+    /// The words of either set. Its time grows with the intervals of the two.
+    ///
+    /// # Errors
+    /// `Memory` where there is no room.
+    pub fn union(&self, other: &WordSet) -> Result<WordSet, Memory>
+        ensures { IfOk result (IsUnion self.now other.now) }
+    {
+        let alloc = *self.intervals.allocator();
+        let intervals = merged(alloc, self.intervals(), other.intervals())?;
+        Ok(WordSet { intervals })
+    }
+
+    /// Whether some word is in both sets. Its time grows with the intervals of the two.
+    pub fn meets(&self, other: &WordSet) -> bool
+        ensures { IsTrue result ↔ Meet self.now other.now }
+    {
+        self.least_common(other).is_some()
+    }
+
+    /// The least word that is in both sets, or None exactly where they have no word in common. Its time grows with the
+    /// intervals of the two.
+    pub fn least_common(&self, other: &WordSet) -> Option<WordId>
+        ensures some { IfSome result (λ word. IsLeastCommon self.now other.now word.0) }
+        ensures none { IfNone result ((w : ℕ) → IsCommon self.now other.now w → ⊥) }
+    {
+        least_common_word(self.intervals(), other.intervals())
+    }
+
+    /// Whether the word is in the set. The search halves the intervals.
+    pub fn contains(&self, word: WordId) -> bool
+        ensures { result ≡ has self.now word.0 }
+    {
+        match first_past(self.intervals(), word.0) {
+            Some(interval) => interval.lo <= word.0,
+            None => false,
+        }
+    }
+
+    /// The intervals: they rise, none is empty, and each ends below the start of the next. Takes no memory.
+    pub fn intervals(&self) -> &[Interval]
+        ensures value { result.now ≡ self.now }
+        ensures canonical { IsCanonical self.now }
+    {
+        self.intervals.as_slice()
+    }
+
+    /// Two sets with the same words are equal: a set of words has one list of intervals alone.
+    pub fn one_form()
+        ensures { (a b : List Interval) → IsCanonical a → IsCanonical b → ((w : ℕ) → has a w ≡ has b w) → a ≡ b }
+    {}
+}
