@@ -1,17 +1,17 @@
 -- What holds of the lines and the lexemes of every text.
-use Rattle.std.proofs.Common.{◌≡◌, ◌≢◌, ◌⊎◌, inl, inr, ⊎_elim, ℕ, zero, suc, ◌+◌, ◌-◌, ◌<◌, ◌≤◌, Bool, true, false, not, cond, eqb, ltb, leb, ◌||◌, ◌&&◌, List, [], ◌∷◌, ◌++◌, length, take, drop, get_or, Option, Some, None, refl, sym, ◌∙◌, ap, subst, append_assoc, add_assoc, arith}
-use Rattle.std.specs.List.{list_any, AllZip, All, prefix_len, before_first, flat_map, sum_by, slice_get, filter_map, cons_option, take_while}
+use Rattle.std.proofs.Common.{◌≡◌, ◌⊎◌, inl, inr, ℕ, zero, suc, ◌+◌, ◌<◌, ◌≤◌, Bool, true, false, cond, ◌||◌, List, [], ◌∷◌, ◌++◌, length, take, drop, get_or, Option, Some, None, refl, sym, ◌∙◌, ap, subst, arith}
+use Rattle.std.specs.List.{list_any, AllZip, All, prefix_len, filter_map, cons_option, take_while}
 use Rattle.std.specs.Option.{option_map, is_none}
-use Rattle.std.proofs.lemmas.Bool.{eqb-true, cases_lt}
+use Rattle.std.proofs.lemmas.Bool.{cases_lt}
 use Rattle.std.proofs.lemmas.Bool.Decides.{nat_tests}
-use Rattle.std.proofs.lemmas.List.{get_or_past, get_or-take, length-append, length-drop, drop-append-le, take-append-le, append-nil, take_at, drop_at}
-use Rattle.std.proofs.lemmas.List.Sums.{prefix_len_stops, prefix_len_passes, prefix_len-le-length, sum_by-cons}
+use Rattle.std.proofs.lemmas.List.{get_or_past, get_or-take}
+use Rattle.std.proofs.lemmas.List.Sums.{prefix_len_stops, prefix_len_passes}
 use Rattle.std.proofs.lemmas.List.Folds.{length-prefix_len}
 use Rattle.std.proofs.lemmas.List.Elements.{All-nil, All-cons, All-append, All-weaker}
-use Rattle.src_text.specs.Byte.{is_newline, is_word, is_mark, is_minus, is_token_byte}
+use Rattle.src_text.specs.Byte.{is_word, is_mark, is_token_byte}
 use Rattle.src_text.specs.Lexeme.{Lexeme, begins, front, lexemes_after, lexemes_of, code_of, kind_of, token_of, is_bad_number}
-use Rattle.src_text.specs.Line.{cut, onto_first, numbered, line_of, lines_of, line_with, fault_of}
-use Rattle.src_text.specs.Laws.{ended, is_open, AreLinesOf, place_of, AreNumbered, IsLongest, StandsAt, AreApart, covers, AreLexemesOf, IsTokenOf, AreTokensOf}
+use Rattle.src_text.specs.Line.{line_of, line_with, fault_of}
+use Rattle.src_text.specs.Laws.{IsLongest, StandsAt, AreApart, covers, AreLexemesOf, IsTokenOf, AreTokensOf}
 use Rattle.src_text.specs.declared.token.Token.{Token}
 use Rattle.src_text.specs.declared.token.TokenKind.{TokenKind}
 use Rattle.src_text.specs.declared.line.LineFault.{LineFault}

@@ -1,5 +1,5 @@
 -- What holds of the lines and the lexemes of every text.
-use Rattle.std.specs.Prelude.{◌≡◌, ℕ, ◌+◌, ◌<◌, ◌≤◌, Bool, false, true, not, ◌&&◌, List, [], ◌∷◌, ◌++◌, length, take, drop, get_or, slice_get, slice_index, slice_range, nat_le, nat_lt, if◌then◌else◌, IsTrue, IsFalse, Some, All, sum_by, flat_map}
+use Rattle.std.specs.Prelude.{◌≡◌, ℕ, ◌+◌, ◌<◌, ◌≤◌, Bool, false, not, ◌&&◌, List, [], ◌∷◌, ◌++◌, length, take, drop, get_or, slice_get, slice_index, slice_range, nat_le, nat_lt, if◌then◌else◌, IsTrue, IsFalse, Some, All, sum_by, flat_map}
 use Rattle.std.specs.List.{list_any, AllZip}
 use Rattle.src_text.specs.Byte.{is_newline, is_word, is_mark, is_token_byte}
 use Rattle.src_text.specs.Lexeme.{Lexeme, begins, front, code_of, kind_of}

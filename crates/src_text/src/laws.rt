@@ -15,7 +15,7 @@ pub fn lines_are_numbered()
     ensures { (text : List ℕ) → AreNumbered text }
 {}
 
-/// A token is as long as it can be.
+/// No token could be longer.
 pub fn tokens_are_longest()
     ensures { (b : ℕ) (bs : List ℕ) → IsLongest (b ∷ bs) (front (b ∷ bs)) }
 {}
