@@ -1,0 +1,7 @@
+pub mod ByteLemmas
+pub mod NumberLemmas
+pub mod LexemeLemmas
+pub mod LineLemmas
+pub mod CutLemmas
+pub mod LawLemmas
+pub mod SliceLemmas

@@ -1,0 +1,5 @@
+use Rattle.src_text.proofs.SliceLemmas.{AreSlices-lines_of}
+use Rattle.src_text.proofs.laws.tokens_are_slices_of_the_text.Goals as goal
+
+pub returns : goal.returns
+returns c = AreSlices-lines_of

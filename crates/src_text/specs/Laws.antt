@@ -1,0 +1,88 @@
+-- What holds of the lines and the lexemes of every text.
+use Rattle.std.specs.Prelude.{◌≡◌, ℕ, ◌+◌, ◌<◌, ◌≤◌, Bool, false, not, ◌&&◌, List, [], ◌∷◌, ◌++◌, length, take, drop, get_or, slice_get, slice_index, slice_range, nat_le, nat_lt, if◌then◌else◌, IsTrue, IsFalse, Some, All, sum_by, flat_map}
+use Rattle.std.specs.List.{list_any, AllZip}
+use Rattle.src_text.specs.Byte.{is_newline, is_blank, is_word, is_mark, is_token_byte}
+use Rattle.src_text.specs.Lexeme.{Lexeme, begins, front, code_of, kind_of}
+use Rattle.src_text.specs.Line.{cut, line_of, lines_of}
+use Rattle.src_text.specs.declared.token.Token.{Token}
+
+-- a line with its newline
+abbrev pub ended : List ℕ → List ℕ
+ended line = line ++ 10 ∷ []
+
+-- whether the last line lacks its newline
+abbrev pub is_open : List ℕ → Bool
+is_open [] = false
+is_open (b ∷ []) = not (is_newline b)
+is_open (b ∷ c ∷ bs) = is_open (c ∷ bs)
+
+-- the lines with their newlines are the text, but for the last newline, which may be missing; no line holds one
+pub record AreLinesOf (text : List ℕ) (lines : List (List ℕ)) : Type 0 where
+  pub joined : flat_map ended lines ≡ text ++ (if is_open text then 10 ∷ [] else [])
+  pub single : All (λ line. list_any is_newline line ≡ false) lines
+
+-- where a line begins: behind the lines before it and their newlines
+abbrev pub place_of : ℕ → List (List ℕ) → ℕ
+place_of k lines = sum_by (λ line. length line + 1) (take k lines)
+
+-- the line of an index has the next number, and its bytes stand at its place of the text
+pub record AreNumbered (text : List ℕ) : Type 0 where
+  pub count : length (lines_of text) ≡ length (cut text)
+  pub each : (k : ℕ) → k < length (cut text) → slice_get (lines_of text) k ≡ Some (line_of (k + 1) (place_of k (cut text)) (get_or (cut text) k []))
+  pub bytes : (k : ℕ) → k < length (cut text) → slice_range text (place_of k (cut text)) (place_of k (cut text) + length (get_or (cut text) k [])) ≡ get_or (cut text) k []
+
+-- the front of some bytes is as long as it can be: a mark alone, or a byte and all bytes of a word behind it
+pub record IsLongest (bytes front : List ℕ) : Type 0 where
+  pub first : take (length front) bytes ≡ front
+  pub some : 0 < length front
+  pub mark : IsTrue (is_mark (slice_index bytes 0)) → length front ≡ 1
+  pub word : All (λ b. IsTrue (is_word b)) (drop 1 front)
+  pub stops : IsFalse (is_mark (slice_index bytes 0)) → IsFalse (is_word (slice_index bytes (length front)))
+
+-- the lexeme stands at a byte of the code where a token begins, and is the front of what stands there
+pub record StandsAt (place p : ℕ) (code : List ℕ) (l : Lexeme) : Type 0 where
+  pub start : l.start ≡ place + p
+  pub bytes : l.bytes ≡ front (drop p code)
+  pub begun : IsTrue (begins (slice_index (32 ∷ code) p) (slice_index code p))
+
+-- each lexeme begins at or behind the end of the one before it, and none before a place
+abbrev pub AreApart : ℕ → List Lexeme → Type 0
+AreApart from [] = Unit {0}
+AreApart from (l ∷ ls) = (from ≤ l.start) × AreApart (l.start + length l.bytes) ls
+
+-- whether a place is in a lexeme
+abbrev pub covers : ℕ → Lexeme → Bool
+covers place l = nat_le l.start place && nat_lt place (l.start + length l.bytes)
+
+-- the lexemes of a line stand where tokens begin, one behind the other, and leave out no byte of a token
+pub record AreLexemesOf (place : ℕ) (line : List ℕ) (ls : List Lexeme) : Type 0 where
+  pub stand : All (λ l. (p : ℕ) × StandsAt place p (code_of line) l) ls
+  pub apart : AreApart place ls
+  pub whole : (p : ℕ) → p < length (code_of line) → IsTrue (is_token_byte (slice_index (code_of line) p)) → IsTrue (list_any (covers (place + p)) ls)
+
+-- the token says what the lexeme's bytes are and where they stand
+pub record IsTokenOf (l : Lexeme) (t : Token) : Type 0 where
+  pub kind : kind_of l.bytes ≡ Some t.kind
+  pub start : t.start ≡ l.start
+  pub end : t.end ≡ l.start + length l.bytes
+
+-- one token for each lexeme, in their order
+abbrev pub AreTokensOf : List Lexeme → List Token → Type 0
+AreTokensOf ls ts = AllZip IsTokenOf ls ts
+
+-- the bytes from the token's start to its end are a token of its kind
+abbrev pub IsSliceOf : List ℕ → Token → Type 0
+IsSliceOf text t = kind_of (slice_range text t.start t.end) ≡ Some t.kind
+
+-- whether a place is in a token
+abbrev pub holds : ℕ → Token → Bool
+holds place t = nat_le t.start place && nat_lt place t.end
+
+-- each token begins at or behind the end of the one before it, and none before a place
+abbrev pub AreInOrder : ℕ → List Token → Type 0
+AreInOrder from [] = Unit {0}
+AreInOrder from (t ∷ ts) = (from ≤ t.start) × AreInOrder t.end ts
+
+-- no byte of the code is left out but blanks
+abbrev pub LeavesBlanks : ℕ → List ℕ → List Token → Type 0
+LeavesBlanks place line ts = (p : ℕ) → p < length (code_of line) → IsFalse (is_blank (slice_index (code_of line) p)) → IsTrue (list_any (holds (place + p)) ts)

@@ -1,0 +1,58 @@
+-- The lexemes of a line: the bytes of its tokens, each with the place of its first byte.
+use Rattle.std.specs.Prelude.{ℕ, ◌+◌, Bool, not, ◌&&◌, ◌||◌, List, [], ◌∷◌, ◌++◌, length, slice_index, ◌==◌, if◌then◌else◌, is_none, Option, Some, option_map, take_while}
+use Rattle.std.specs.List.{before_first}
+use Rattle.src_text.specs.Byte.{is_word, is_mark, is_minus, is_digit, is_hash}
+use Rattle.src_text.specs.Number.{number_of}
+use Rattle.src_text.specs.declared.token.Token.{Token}
+use Rattle.src_text.specs.declared.token.TokenKind.{TokenKind}
+use Rattle.src_text.specs.declared.token.TokenKind.TheVariants.{Name, Number, Comma, Colon, Left, Right}
+
+pub record Lexeme : Type 0 where
+  pub start : ℕ
+  pub bytes : List ℕ
+
+-- behind such a byte a word or a number goes on
+abbrev pub goes_on : ℕ → Bool
+goes_on before = is_word before || is_minus before
+
+-- whether a token begins at a byte: a mark and a minus always begin one, and a byte of a word does where it doesn't
+-- go on with the word or the number before it
+abbrev pub begins : ℕ → ℕ → Bool
+begins before b = is_mark b || is_minus b || (is_word b && not (goes_on before))
+
+-- the bytes of the token at the front: a mark alone, and else as many bytes as a word goes on
+abbrev pub front : List ℕ → List ℕ
+front [] = []
+front (b ∷ bs) = if is_mark b then b ∷ [] else b ∷ take_while is_word bs
+
+-- the lexemes of the bytes from a place on, behind the byte before them
+abbrev pub lexemes_after : ℕ → ℕ → List ℕ → List Lexeme
+lexemes_after before place [] = []
+lexemes_after before place (b ∷ bs) =
+    (if begins before b then record { start = place; bytes = front (b ∷ bs) } ∷ [] else []) ++ lexemes_after b (place + 1) bs
+
+-- what stands before the comment, which `#` begins
+abbrev pub code_of : List ℕ → List ℕ
+code_of line = before_first is_hash line
+
+-- the lexemes of a line that begins at this place; a line begins as if behind a blank
+abbrev pub lexemes_of : ℕ → List ℕ → List Lexeme
+lexemes_of place line = lexemes_after 32 place (code_of line)
+
+-- what kind of token the bytes are; none where they begin as a number and aren't one
+abbrev pub kind_of : List ℕ → Option TokenKind
+kind_of bs =
+    let b = slice_index bs 0 in
+    if b == 44 then Some Comma
+    else (if b == 58 then Some Colon
+    else (if b == 40 then Some Left
+    else (if b == 41 then Some Right
+    else (if is_digit b || is_minus b then option_map Number (number_of bs)
+    else Some Name))))
+
+abbrev pub is_bad_number : Lexeme → Bool
+is_bad_number l = is_none (kind_of l.bytes)
+
+-- the token of a lexeme, from its first byte's place to the place behind its last
+abbrev pub token_of : Lexeme → Option Token
+token_of l = option_map (λ k. record { kind = k; start = l.start; end = l.start + length l.bytes }) (kind_of l.bytes)

@@ -1,0 +1,43 @@
+//! What holds of the lines and the tokens of every text, as laws: functions that do nothing, whose contracts say it.
+
+ghost use Rattle.std.specs.Prelude.{◌≡◌, ◌≢◌, ℕ, List, [], ◌∷◌, None, All};
+ghost use Rattle.src_text.specs.Laws.{AreInOrder, AreLexemesOf, AreLinesOf, AreNumbered, AreTokensOf, IsLongest, IsSliceOf, LeavesBlanks};
+ghost use Rattle.src_text.specs.Lexeme.{front, lexemes_of};
+ghost use Rattle.src_text.specs.Line.{cut, fault_of, line_of, lines_of};
+
+/// The lines of a text, each with its newline, are the text, but for a last newline that may be missing.
+pub fn lines_make_up_the_text()
+    ensures { (text : List ℕ) → AreLinesOf text (cut text) }
+{}
+
+/// Lines are numbered from 1, and stand in the text one behind the other.
+pub fn lines_are_numbered()
+    ensures { (text : List ℕ) → AreNumbered text }
+{}
+
+/// No token could be longer.
+pub fn tokens_are_longest()
+    ensures { (b : ℕ) (bs : List ℕ) → IsLongest (b ∷ bs) (front (b ∷ bs)) }
+{}
+
+/// The lexemes of a line stand one behind the other, each where one begins, and leave out no byte of a token.
+pub fn tokens_make_up_the_code()
+    ensures { (place : ℕ) (line : List ℕ) → AreLexemesOf place line (lexemes_of place line) }
+{}
+
+/// A line without a fault has one token for each of its lexemes, in order, and they leave out only blanks and the
+/// comment. A line with a fault has no tokens.
+pub fn lines_have_their_tokens()
+    ensures tokens { (number place : ℕ) (line : List ℕ) → fault_of number line ≡ None
+        → AreTokensOf (lexemes_of place line) (line_of number place line).tokens }
+    ensures order { (number place : ℕ) (line : List ℕ) → AreInOrder place (line_of number place line).tokens }
+    ensures whole { (number place : ℕ) (line : List ℕ) → fault_of number line ≡ None
+        → LeavesBlanks place line (line_of number place line).tokens }
+    ensures faulty { (number place : ℕ) (line : List ℕ) → fault_of number line ≢ None
+        → (line_of number place line).tokens ≡ [] }
+{}
+
+/// The tokens of a text are parts of it: the bytes from a token's start to its end are a token of its kind.
+pub fn tokens_are_slices_of_the_text()
+    ensures { (text : List ℕ) → All (λ line. All (IsSliceOf text) line.tokens) (lines_of text) }
+{}

@@ -1,0 +1,20 @@
+//! The lines of a source text and their tokens, and the names of registers.
+#![tactic(auto)]
+
+mod byte;
+mod laws;
+mod line;
+mod number;
+mod registers;
+mod token;
+
+pub use laws::{
+    lines_are_numbered, lines_have_their_tokens, lines_make_up_the_text, tokens_are_longest,
+    tokens_are_slices_of_the_text, tokens_make_up_the_code,
+};
+pub use line::{Line, LineFault, tokens};
+pub use registers::register;
+pub use token::{Token, TokenKind};
+
+#[cfg(test)]
+mod tests;

@@ -1,0 +1,107 @@
+ghost use Rattle.std.specs.Prelude.{◌≡◌, ◌<◌, ◌≤◌, ◌+◌, ◌^◌, length, IfOk, MatchOption, filter_map, true, false};
+ghost use Rattle.std.specs.List.{list_any, prefix_len};
+ghost use Rattle.src_text.specs.Byte.{is_word};
+ghost use Rattle.src_text.specs.Lexeme.{begins, front, is_bad_number, kind_of, lexemes_after, token_of};
+
+use crate::byte::{is_mark, is_word};
+use crate::number::number;
+use dn_base::{Memory, Sequence};
+use std::alloc::Global;
+
+/// What a token is. The value of a number is from -2147483648 to 4294967295.
+#[derive(Clone, Copy, Debug, PartialEq, Eq)]
+pub enum TokenKind {
+    Name,
+    Number(i64),
+    Comma,
+    Colon,
+    Left,
+    Right,
+}
+
+/// A token, with the places in the text of its first byte (`start`) and behind its last (`end`), in bytes from 0.
+#[derive(Clone, Copy, Debug, PartialEq, Eq)]
+pub struct Token {
+    pub kind: TokenKind,
+    pub start: u32,
+    pub end: u32,
+}
+
+/// Whether a token begins at a byte that stands behind `before`.
+fn begins(before: u8, byte: u8) -> bool
+    ensures { result ≡ begins before byte }
+{
+    is_mark(byte) || byte == b'-' || (is_word(byte) && !is_word(before) && before != b'-')
+}
+
+/// How many bytes from the front on belong to a word.
+fn word_length(bytes: &[u8]) -> usize
+    ensures value { result ≡ prefix_len is_word bytes.now }
+    ensures within { result ≤ length bytes.now }
+{
+    let mut length = 0;
+    while length < bytes.len() && is_word(bytes[length]) {
+        length += 1;
+    }
+    length
+}
+
+/// The bytes of the token at the front.
+fn front(bytes: &[u8]) -> &[u8]
+    requires { 0 < length bytes.now }
+    ensures value { result.now ≡ front bytes.now }
+    ensures some { 0 < length result.now }
+    ensures within { length result.now ≤ length bytes.now }
+{
+    if is_mark(bytes[0]) {
+        &bytes[..1]
+    } else {
+        &bytes[..1 + word_length(&bytes[1..])]
+    }
+}
+
+/// What kind of token the bytes are. None where they begin as a number and aren't one.
+fn kind(bytes: &[u8]) -> Option<TokenKind>
+    requires { 0 < length bytes.now }
+    ensures { result ≡ kind_of bytes.now }
+{
+    match bytes[0] {
+        b',' => Some(TokenKind::Comma),
+        b':' => Some(TokenKind::Colon),
+        b'(' => Some(TokenKind::Left),
+        b')' => Some(TokenKind::Right),
+        b'-' | b'0'..=b'9' => number(bytes).map(TokenKind::Number),
+        _ => Some(TokenKind::Name),
+    }
+}
+
+/// The tokens of a line's code, which begins at the place `start` of the text. None where a number is bad.
+pub(crate) fn scan(
+    alloc: Global,
+    start: usize,
+    code: &[u8],
+) -> Result<Option<Sequence<Token>>, Memory>
+    requires { start + length code.now < 2 ^ 32 }
+    ensures { IfOk result (λ found. let lexemes = lexemes_after 32 start code.now in
+        MatchOption found (list_any is_bad_number lexemes ≡ true)
+        (λ tokens. (list_any is_bad_number lexemes ≡ false) × (tokens ≡ filter_map token_of lexemes))) }
+{
+    let mut tokens = Sequence::new(alloc);
+    let mut before = b' ';
+    for (i, byte) in code.iter().enumerate() {
+        if begins(before, *byte) {
+            let lexeme = front(&code[i..]);
+            let Some(kind) = kind(lexeme) else {
+                return Ok(None);
+            };
+            let place = start + i;
+            tokens.push(Token {
+                kind,
+                start: place as u32,
+                end: (place + lexeme.len()) as u32,
+            })?;
+        }
+        before = *byte;
+    }
+    Ok(Some(tokens))
+}
