@@ -1,0 +1,10 @@
+//! The texts that the program prints, byte for byte.
+//!
+//! Every line ends with a newline. Hexadecimal numbers have `0x` and eight digits in lower case, and all others are
+//! decimal.
+#![tactic(auto)]
+
+mod answer;
+mod pieces;
+
+pub use answer::answer_text;

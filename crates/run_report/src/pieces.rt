@@ -1,0 +1,53 @@
+ghost use Rattle.std.specs.Prelude.{◌≡◌, ◌++◌, ◌/◌, ◌%◌, ◌^◌, ◌<◌, OnOk};
+ghost use Rattle.std.specs.Fmt.{decimal};
+ghost use Rattle.run_report.specs.Pieces.{hexadecimal, hex_digit};
+
+use dn_base::Memory;
+
+/// Adds bytes at the end.
+pub(crate) fn push(out: &mut Vec<u8>, bytes: &[u8]) -> Result<(), Memory>
+    ensures { OnOk result (out.new.items ≡ out.old.items ++ bytes.now) }
+{
+    out.extend_from_slice(bytes)?;
+    Ok(())
+}
+
+/// Adds a number in decimal digits.
+pub(crate) fn push_decimal(out: &mut Vec<u8>, number: u32) -> Result<(), Memory>
+    ensures { OnOk result (out.new.items ≡ out.old.items ++ decimal number) }
+{
+    let digits = number.to_string(*out.allocator())?;
+    push(out, digits.as_bytes())
+}
+
+/// A digit of base 16.
+fn digit(value: u32) -> u8
+    requires { value < 16 }
+    ensures { result ≡ hex_digit value }
+{
+    if value < 10 {
+        b'0' + value as u8
+    } else {
+        b'a' + (value as u8 - 10)
+    }
+}
+
+/// Adds a number in `0x` and eight digits of base 16.
+#[tactic(auto, unfolding(crate::specs::Pieces::hexadecimal))]
+pub(crate) fn push_hexadecimal(out: &mut Vec<u8>, number: u32) -> Result<(), Memory>
+    ensures { OnOk result (out.new.items ≡ out.old.items ++ hexadecimal number) }
+{
+    let bytes = [
+        b'0',
+        b'x',
+        digit(number >> 28 & 15),
+        digit(number >> 24 & 15),
+        digit(number >> 20 & 15),
+        digit(number >> 16 & 15),
+        digit(number >> 12 & 15),
+        digit(number >> 8 & 15),
+        digit(number >> 4 & 15),
+        digit(number & 15),
+    ];
+    push(out, &bytes)
+}

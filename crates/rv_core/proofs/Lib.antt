@@ -1,0 +1,2 @@
+mod HighLocks
+mod Needs

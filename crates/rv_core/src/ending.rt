@@ -1,0 +1,33 @@
+use crate::task::TrapKind;
+use dn_base::{CoreId, LockId, Outcome, PhaseId, Sequence};
+
+/// How a started task stands at the end of a run.
+#[derive(Clone, Copy, Debug, PartialEq, Eq)]
+pub enum EndShown {
+    /// It ended by its ECALL with 0 in a7.
+    Finished,
+    /// It ran out of fuel.
+    Fuel,
+    /// It ended by a trap: its kind, the address of its instruction in bytes, and the kind's value.
+    Trap { kind: TrapKind, pc: u32, value: u32 },
+    /// It waits for this lock.
+    Waits { lock: LockId },
+}
+
+/// How the task of a core in a phase stands at the end of a run, and how many instructions it has retired.
+#[derive(Clone, Copy, Debug, PartialEq, Eq)]
+pub struct TaskEnd {
+    pub phase: PhaseId,
+    pub core: CoreId,
+    pub end: EndShown,
+    pub retired: u32,
+}
+
+/// The answer of a run: its outcome, the tasks that started in the order of their phases and cores, and the data words
+/// at the end.
+#[derive(Debug, Drop)]
+pub struct Ending {
+    pub outcome: Outcome,
+    pub tasks: Sequence<TaskEnd>,
+    pub memory: Sequence<u32>,
+}

@@ -1,0 +1,18 @@
+//! One task: its registers, its program counter and the locks that it holds, what its next instruction needs, and what
+//! that instruction does.
+//!
+//! The instructions are those of RV32I; what a task may load and store is what it declares, and what the locks that it
+//! holds guard. A task is plain data: whoever runs it looks at what it needs, gets that, and completes the instruction.
+#![tactic(auto)]
+
+mod access;
+mod ending;
+mod need;
+mod place;
+mod registers;
+mod step;
+mod task;
+
+pub use ending::{EndShown, Ending, TaskEnd};
+pub use need::Need;
+pub use task::{End, TaskState, TrapKind};

@@ -1,0 +1,209 @@
+ghost use Rattle.std.specs.Prelude.{◌≡◌, ℕ, ◌+◌, ◌%◌, ◌^◌, ◌<◌, ◌≤◌, Bool, Option, None, option_map, length};
+ghost use Rattle.region_table.specs.Program.{AreEffects};
+ghost use Rattle.rv_core.specs.Need.{need_of, traps, address_of, jump_target, register_target, jump_need, load_need, store_need, call_need, instr_need};
+ghost use Rattle.rv_core.specs.Kinds.{Allowed};
+ghost use Rattle.rv_core.specs.Place.{data_at, size_of};
+
+use crate::access::{is_held, is_readable, is_writable, least_lock};
+use crate::place::{code_word, data_word, size};
+use crate::registers::read;
+use crate::task::{A0, End, TaskState, TrapKind};
+use dn_base::{LockId, WordId};
+use region_table::{Program, TaskDecl};
+use rv_isa::{Instr, Reg, Width, decode, taken};
+
+/// What a task's next instruction needs before it can retire.
+#[derive(Clone, Copy, Debug, PartialEq, Eq)]
+pub enum Need {
+    /// Nothing but the task's own registers.
+    Local,
+    /// The value of a data word.
+    Load { word: WordId },
+    /// Leave to write a data word; `whole` where the store gives all four bytes.
+    Store { word: WordId, whole: bool },
+    /// A lock that the task doesn't hold.
+    Acquire { lock: LockId },
+    /// To give up a lock that the task holds.
+    Release { lock: LockId },
+    /// The task ends with this cause.
+    End { cause: End },
+}
+
+/// The number of register a7, which holds the number of an ECALL.
+pub(crate) const A7: usize = 17;
+
+/// The trap of this kind at the task's instruction.
+fn trap(state: &TaskState, kind: TrapKind, value: u32) -> Need
+    ensures { result ≡ traps state.now kind value }
+{
+    Need::End {
+        cause: End::Trap {
+            kind,
+            pc: state.pc,
+            value,
+        },
+    }
+}
+
+/// The address that is a register's value and an offset.
+pub(crate) fn address(state: &TaskState, base: Reg, offset: i32) -> u32
+    ensures { result ≡ address_of state.now base offset }
+{
+    read(&state.regs, base).wrapping_add(offset.cast_unsigned())
+}
+
+/// Where a jump to an offset from the instruction goes.
+pub(crate) fn target(state: &TaskState, offset: i32) -> u32
+    ensures { result ≡ jump_target state.now offset }
+{
+    state.pc.wrapping_add(offset.cast_unsigned())
+}
+
+/// Where a jump to a register and an offset goes.
+pub(crate) fn register_jump(state: &TaskState, base: Reg, offset: i32) -> u32
+    ensures { result ≡ register_target state.now base offset }
+{
+    address(state, base, offset) / 2 * 2
+}
+
+/// A jump to this address.
+fn jump(state: &TaskState, target: u32) -> Need
+    ensures { result ≡ jump_need state.now target }
+{
+    if target % 4 == 0 {
+        Need::Local
+    } else {
+        trap(state, TrapKind::Target, target)
+    }
+}
+
+/// A load at this address.
+fn load(program: &Program, task: &TaskDecl, state: &TaskState, address: u32) -> Need
+    ensures { result ≡ load_need task.now state.now address (data_at (length program.now.memory) address) }
+{
+    match data_word(program.memory.len(), address) {
+        Some(word) if is_readable(task, state.held, WordId(word)) => Need::Load {
+            word: WordId(word),
+        },
+        _ => trap(state, TrapKind::Outside, address),
+    }
+}
+
+/// A store at this address.
+fn store(program: &Program, task: &TaskDecl, state: &TaskState, whole: bool, address: u32) -> Need
+    ensures { result ≡ store_need task.now state.now whole address (data_at (length program.now.memory) address) }
+{
+    match data_word(program.memory.len(), address) {
+        Some(word) if is_writable(task, state.held, WordId(word)) => Need::Store {
+            word: WordId(word),
+            whole,
+        },
+        _ => trap(state, TrapKind::Outside, address),
+    }
+}
+
+/// An ECALL with this number in a7 and this lock in a0.
+fn call(program: &Program, state: &TaskState, number: u32, lock: u32) -> Need
+    ensures { result ≡ call_need program.now state.now number lock }
+{
+    match number {
+        0 if state.held == 0 => Need::End {
+            cause: End::Finished,
+        },
+        0 => trap(state, TrapKind::HeldEnd, least_lock(state.held)),
+        1 | 2 if lock as usize >= program.locks.len() => trap(state, TrapKind::NoLock, lock),
+        1 if is_held(state.held, lock) => trap(state, TrapKind::Held, lock),
+        1 => Need::Acquire { lock: LockId(lock) },
+        2 if is_held(state.held, lock) => Need::Release { lock: LockId(lock) },
+        2 => trap(state, TrapKind::NotHeld, lock),
+        _ => trap(state, TrapKind::Call, number),
+    }
+}
+
+/// What an instruction needs.
+fn instruction(program: &Program, task: &TaskDecl, state: &TaskState, instr: Instr) -> Need
+    ensures { result ≡ instr_need program.now task.now state.now instr }
+{
+    match instr {
+        Instr::Jal { rd: _, offset } => jump(state, target(state, offset)),
+        Instr::Jalr {
+            rd: _,
+            base,
+            offset,
+        } => jump(state, register_jump(state, base, offset)),
+        Instr::Branch { cond, a, b, offset } => {
+            if taken(cond, read(&state.regs, a), read(&state.regs, b)) {
+                jump(state, target(state, offset))
+            } else {
+                Need::Local
+            }
+        }
+        Instr::Load {
+            width,
+            rd: _,
+            base,
+            offset,
+        } => {
+            let at = address(state, base, offset);
+            if at % size(width) == 0 {
+                load(program, task, state, at)
+            } else {
+                trap(state, TrapKind::Misaligned, at)
+            }
+        }
+        Instr::Store {
+            width,
+            src: _,
+            base,
+            offset,
+        } => {
+            let at = address(state, base, offset);
+            if at % size(width) == 0 {
+                store(program, task, state, width == Width::W, at)
+            } else {
+                trap(state, TrapKind::Misaligned, at)
+            }
+        }
+        Instr::Ebreak => trap(state, TrapKind::Break, 0),
+        Instr::Ecall => call(program, state, state.regs[A7], state.regs[A0]),
+        Instr::Lui { .. }
+        | Instr::Auipc { .. }
+        | Instr::OpImm { .. }
+        | Instr::Op { .. }
+        | Instr::Fence => Need::Local,
+    }
+}
+
+impl TaskState {
+    /// The need, case by case.
+    #[tactic(auto, unfolding(crate::specs::Need::need_of))]
+    fn look(&self, program: &Program, task: &TaskDecl, fuel: u32) -> Need
+        ensures { result ≡ need_of program.now task.now fuel self.now }
+    {
+        if self.retired == fuel {
+            return Need::End { cause: End::Fuel };
+        }
+        let Some(word) = code_word(program.code.as_slice(), self.pc) else {
+            return trap(self, TrapKind::Fetch, self.pc);
+        };
+        match decode(word) {
+            Some(instr) => instruction(program, task, self, instr),
+            None => trap(self, TrapKind::Illegal, word),
+        }
+    }
+
+    /// What the task's next instruction needs. The first of these cases that fits decides: the fuel is used up, the
+    /// program counter is no code word's address, the word is no instruction, and then what the instruction asks.
+    ///
+    /// It depends on the task's own state, its declaration and the program alone. `fuel` is how many instructions the
+    /// task may retire. The task goes on.
+    pub fn need(&self, program: &Program, task: &TaskDecl, fuel: u32) -> Need
+        requires { self.now.end ≡ None }
+        ensures value { result ≡ need_of program.now task.now fuel self.now }
+
+        // the word or lock of the need is one that the task may use so
+        ensures allowed { Allowed program.now task.now self.now result }
+    {
+        self.look(program, task, fuel)
+    }
+}

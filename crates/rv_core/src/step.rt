@@ -1,0 +1,216 @@
+ghost use Rattle.std.specs.Prelude.{◌≡◌, ◌+◌, ◌<◌, ◌≤◌, Some, None, length, slice_index, if◌then◌else◌};
+ghost use Rattle.rv_isa.specs.Meaning.{taken_of};
+ghost use Rattle.rv_isa.specs.declared.instr.Instr.TheVariants.{Ecall};
+ghost use Rattle.rv_core.specs.Registers.{value_in};
+ghost use Rattle.rv_core.specs.Need.{need_of, jump_target};
+ghost use Rattle.rv_core.specs.Step.{instr_at, next_pc, retires, goes_to, after_call, after_instr, after_load, after_store, advanced, loaded_of, merged_of};
+ghost use Rattle.rv_core.specs.Kinds.{IsLoad, IsStore, IsAdvance, IsAligned, KeepsOthers};
+
+use crate::need::{A7, address, register_jump, target};
+use crate::place::{code_word, part, replace};
+use crate::registers::{read, write};
+use crate::task::{A0, TaskState};
+use region_table::{Program, TaskDecl};
+use rv_isa::{Cond, Instr, Reg, alu, decode, taken};
+
+/// The instruction at the task's program counter, if there is one.
+fn instruction(program: &Program, state: &TaskState) -> Option<Instr>
+    ensures value { result ≡ instr_at program.now state.now }
+    ensures locks { length program.now.locks ≤ 32 }
+{
+    match code_word(program.code.as_slice(), state.pc) {
+        Some(word) => decode(word),
+        None => None,
+    }
+}
+
+impl TaskState {
+    /// The address of the instruction behind this one.
+    fn next(&self) -> u32
+        ensures { result ≡ next_pc self.now }
+    {
+        self.pc.wrapping_add(4)
+    }
+
+    /// The instruction retires, and the task goes on at `pc`.
+    fn go(&mut self, pc: u32)
+        requires { self.old.retired < 4294967295 }
+        ensures { self.new ≡ goes_to self.old pc }
+    {
+        self.pc = pc;
+        self.retired += 1;
+    }
+
+    /// The instruction retires: the value goes to the register, and the task goes on at `pc`.
+    fn retire(&mut self, rd: Reg, value: u32, pc: u32)
+        requires { self.old.retired < 4294967295 }
+        ensures { self.new ≡ retires self.old rd value pc }
+    {
+        write(&mut self.regs, rd, value);
+        self.go(pc);
+    }
+
+    /// An ECALL retires: with 1 in a7 it acquires the lock in a0, and else it releases it.
+    fn call(&mut self)
+        requires retired { self.old.retired < 4294967295 }
+        requires lock { slice_index self.old.regs 10 < 32 }
+        ensures { self.new ≡ after_call self.old (slice_index self.old.regs 17) (slice_index self.old.regs 10) }
+    {
+        let lock = self.regs[A0];
+        if self.regs[A7] == 1 {
+            self.held |= 1 << lock;
+        } else {
+            self.held ^= 1 << lock;
+        }
+        let next = self.next();
+        self.go(next);
+    }
+
+    /// Where the task goes on behind a branch.
+    fn branch(&self, cond: Cond, a: Reg, b: Reg, offset: i32) -> u32
+        ensures { result ≡ (if taken_of cond (value_in self.now.regs a) (value_in self.now.regs b)
+            then jump_target self.now offset else next_pc self.now) }
+    {
+        if taken(cond, read(&self.regs, a), read(&self.regs, b)) {
+            target(self, offset)
+        } else {
+            self.next()
+        }
+    }
+
+    /// Completes an instruction that loads nothing.
+    fn advance_by(&mut self, instr: Instr)
+        requires retired { self.old.retired < 4294967295 }
+        requires lock { instr ≡ Ecall → slice_index self.old.regs 10 < 32 }
+        ensures { self.new ≡ after_instr self.old instr }
+    {
+        let next = self.next();
+        match instr {
+            Instr::Lui { rd, imm } => self.retire(rd, imm.wrapping_mul(4096), next),
+            Instr::Auipc { rd, imm } => {
+                let sum = self.pc.wrapping_add(imm.wrapping_mul(4096));
+                self.retire(rd, sum, next);
+            }
+            Instr::Jal { rd, offset } => {
+                let to = target(self, offset);
+                self.retire(rd, next, to);
+            }
+            Instr::Jalr { rd, base, offset } => {
+                let to = register_jump(self, base, offset);
+                self.retire(rd, next, to);
+            }
+            Instr::Branch { cond, a, b, offset } => {
+                let to = self.branch(cond, a, b, offset);
+                self.go(to);
+            }
+            Instr::OpImm { op, rd, a, imm } => {
+                let left = read(&self.regs, a);
+                self.retire(rd, alu(op, left, imm.cast_unsigned()), next);
+            }
+            Instr::Op { op, rd, a, b } => {
+                let left = read(&self.regs, a);
+                let right = read(&self.regs, b);
+                self.retire(rd, alu(op, left, right), next);
+            }
+            Instr::Store { .. } | Instr::Fence => self.go(next),
+            Instr::Ecall => self.call(),
+            Instr::Load { .. } | Instr::Ebreak => {}
+        }
+    }
+
+    /// Completes a load, whose word has this value; any other instruction does nothing.
+    fn load_by(&mut self, instr: Instr, value: u32)
+        requires retired { self.old.retired < 4294967295 }
+        requires aligned { IsAligned self.old instr }
+        ensures { self.new ≡ after_load self.old value (Some instr) }
+    {
+        if let Instr::Load {
+            width,
+            rd,
+            base,
+            offset,
+        } = instr
+        {
+            let lane = address(self, base, offset) % 4;
+            let next = self.next();
+            self.retire(rd, part(width, value, lane), next);
+        }
+    }
+
+    /// The word after a store, where the word's value was `old`; any other instruction leaves it.
+    fn store_by(&self, instr: Instr, old: u32) -> u32
+        requires { IsAligned self.now instr }
+        ensures { result ≡ after_store self.now old (Some instr) }
+    {
+        if let Instr::Store {
+            width,
+            src,
+            base,
+            offset,
+        } = instr
+        {
+            let lane = address(self, base, offset) % 4;
+            let value = read(&self.regs, src);
+            replace(width, old, lane, value)
+        } else {
+            old
+        }
+    }
+
+    /// Completes an instruction that needs nothing, a store, an acquire or a release: its registers, the program
+    /// counter and the locks that are held. One more instruction has retired then.
+    ///
+    /// The task goes on, and its need is one of these.
+    #[tactic(auto, unfolding(crate::specs::Step::advanced))]
+    pub fn advance(&mut self, program: &Program, task: &TaskDecl, fuel: u32)
+        requires open { self.old.end ≡ None }
+        requires retired { self.old.retired ≤ fuel }
+        requires kind { IsAdvance (need_of program.now task.now fuel self.old) }
+        ensures value { self.new ≡ advanced program.now self.old }
+        ensures retired { self.new.retired ≡ self.old.retired + 1 }
+        ensures within { self.new.retired ≤ fuel }
+        ensures others { KeepsOthers (instr_at program.now self.old) self.old self.new }
+    {
+        match instruction(program, self) {
+            Some(instr) => self.advance_by(instr),
+            None => {}
+        }
+    }
+
+    /// Completes a load, whose word has this value: its register and the program counter. One more instruction has
+    /// retired then.
+    ///
+    /// The task goes on, and its need is a load.
+    #[tactic(auto, unfolding(crate::specs::Step::loaded_of))]
+    pub fn loaded(&mut self, program: &Program, task: &TaskDecl, fuel: u32, value: u32)
+        requires open { self.old.end ≡ None }
+        requires retired { self.old.retired ≤ fuel }
+        requires kind { IsLoad (need_of program.now task.now fuel self.old) }
+        ensures value { self.new ≡ loaded_of program.now value self.old }
+        ensures retired { self.new.retired ≡ self.old.retired + 1 }
+        ensures within { self.new.retired ≤ fuel }
+        ensures others { KeepsOthers (instr_at program.now self.old) self.old self.new }
+        ensures locks { self.new.held ≡ self.old.held }
+    {
+        match instruction(program, self) {
+            Some(instr) => self.load_by(instr, value),
+            None => {}
+        }
+    }
+
+    /// The word after the task's store, where the word's value was `old`.
+    ///
+    /// The task goes on, and its need is a store.
+    #[tactic(auto, unfolding(crate::specs::Step::merged_of))]
+    pub fn merged(&self, program: &Program, task: &TaskDecl, fuel: u32, old: u32) -> u32
+        requires open { self.now.end ≡ None }
+        requires retired { self.now.retired ≤ fuel }
+        requires kind { IsStore (need_of program.now task.now fuel self.now) }
+        ensures { result ≡ merged_of program.now old self.now }
+    {
+        match instruction(program, self) {
+            Some(instr) => self.store_by(instr, old),
+            None => old,
+        }
+    }
+}
