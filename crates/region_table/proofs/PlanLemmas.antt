@@ -9,7 +9,7 @@ use Rattle.region_table.specs.declared.declared.Phase.{Phase}
 use Rattle.region_table.specs.declared.plan.PhasePlan.{PhasePlan}
 use Rattle.region_table.specs.Words.{has}
 use Rattle.region_table.specs.Program.{ProgramParts}
-use Rattle.region_table.specs.Plan.{guards, IsPlan}
+use Rattle.region_table.specs.Plan.{task_guards, IsPlan}
 
 or_assoc : (x y z : Bool) → ((x || y) || z) ≡ (x || (y || z))
 or_assoc true y z = refl
@@ -18,15 +18,15 @@ or_assoc false y z = refl
 -- a task's guarded reads and writes of a lock are added to those of the tasks before it
 pub guards_more : (tasks : List TaskDecl) (k lock w : ℕ) (t : TaskDecl) (before reads all r s : List Interval) → k < length tasks → t ≡ get_or tasks k t
     → r ≡ get_or t.effects.guarded_reads lock [] → s ≡ get_or t.effects.guarded_writes lock []
-    → has before w ≡ list_any (λ (t : TaskDecl). guards t lock w) (take k tasks) → has reads w ≡ (has before w || has r w) → has all w ≡ (has reads w || has s w)
-    → has all w ≡ list_any (λ (t : TaskDecl). guards t lock w) (take (k + 1) tasks)
+    → has before w ≡ list_any (λ (t : TaskDecl). task_guards t lock w) (take k tasks) → has reads w ≡ (has before w || has r w) → has all w ≡ (has reads w || has s w)
+    → has all w ≡ list_any (λ (t : TaskDecl). task_guards t lock w) (take (k + 1) tasks)
 guards_more tasks k lock w t before reads all r s l e er es eb erd eal =
-    let more = list_any_more (λ (t : TaskDecl). guards t lock w) tasks k t l in
-    let last : list_any (λ (t : TaskDecl). guards t lock w) (take (k + 1) tasks) ≡ (list_any (λ (t : TaskDecl). guards t lock w) (take k tasks) || guards t lock w) =
-    more ∙ ap (λ (u : TaskDecl). list_any (λ (t : TaskDecl). guards t lock w) (take k tasks) || guards u lock w) (sym e) in
-    eal ∙ ap (λ b. b || has s w) (erd ∙ ap (λ b. b || has r w) eb) ∙ or_assoc (list_any (λ (t : TaskDecl). guards t lock w) (take k tasks)) (has r w) (has s w)
-    ∙ ap (λ (set : List Interval). list_any (λ (t : TaskDecl). guards t lock w) (take k tasks) || (has set w || has s w)) er
-    ∙ ap (λ (set : List Interval). list_any (λ (t : TaskDecl). guards t lock w) (take k tasks) || (has (get_or t.effects.guarded_reads lock []) w || has set w)) es
+    let more = list_any_more (λ (t : TaskDecl). task_guards t lock w) tasks k t l in
+    let last : list_any (λ (t : TaskDecl). task_guards t lock w) (take (k + 1) tasks) ≡ (list_any (λ (t : TaskDecl). task_guards t lock w) (take k tasks) || task_guards t lock w) =
+    more ∙ ap (λ (u : TaskDecl). list_any (λ (t : TaskDecl). task_guards t lock w) (take k tasks) || task_guards u lock w) (sym e) in
+    eal ∙ ap (λ b. b || has s w) (erd ∙ ap (λ b. b || has r w) eb) ∙ or_assoc (list_any (λ (t : TaskDecl). task_guards t lock w) (take k tasks)) (has r w) (has s w)
+    ∙ ap (λ (set : List Interval). list_any (λ (t : TaskDecl). task_guards t lock w) (take k tasks) || (has set w || has s w)) er
+    ∙ ap (λ (set : List Interval). list_any (λ (t : TaskDecl). task_guards t lock w) (take k tasks) || (has (get_or t.effects.guarded_reads lock []) w || has set w)) es
     ∙ sym last
 
 -- one pair more at the ends of two lists that are related place by place

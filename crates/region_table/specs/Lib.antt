@@ -1,4 +1,5 @@
 pub mod Words
 pub mod Program
+pub mod Merging
 pub mod Plan
 pub mod Overlap

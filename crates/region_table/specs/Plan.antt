@@ -17,22 +17,22 @@ abbrev pub uses_plainly : TaskDecl → ℕ → Bool
 uses_plainly t w = has t.effects.reads w || has t.effects.writes w
 
 -- whether a lock guards a word for a task
-abbrev pub guards : TaskDecl → ℕ → ℕ → Bool
-guards t lock w =
+abbrev pub task_guards : TaskDecl → ℕ → ℕ → Bool
+task_guards t lock w =
     has (slice_index_or t.effects.guarded_reads lock []) w || has (slice_index_or t.effects.guarded_writes lock []) w
 
 -- whether a word is one of the task's writes, or of its guarded writes of some lock
-abbrev pub writes : TaskDecl → ℕ → Bool
-writes t w =
+abbrev pub task_writes : TaskDecl → ℕ → Bool
+task_writes t w =
     has t.effects.writes w || list_any (λ (set : List Interval). has set w) t.effects.guarded_writes
 
 -- whether a lock guards a word for some task of the phase
 abbrev pub phase_guards : Phase → ℕ → ℕ → Bool
-phase_guards p lock w = list_any (λ (t : TaskDecl). guards t lock w) p.tasks
+phase_guards p lock w = list_any (λ (t : TaskDecl). task_guards t lock w) p.tasks
 
 -- whether some task of the phase writes a word, plainly or under a lock
 abbrev pub phase_writes : Phase → ℕ → Bool
-phase_writes p w = list_any (λ (t : TaskDecl). writes t w) p.tasks
+phase_writes p w = list_any (λ (t : TaskDecl). task_writes t w) p.tasks
 
 -- some task of the phase writes some word of the region
 abbrev pub IsTouched : Phase → Region → Type 0

@@ -22,7 +22,7 @@ tasks_of phases = flat_map (λ (p : Phase). p.tasks) phases
 abbrev pub names_of : ProgramParts → List (List ℕ)
 names_of p = map (λ (r : Region). r.name) p.regions ++ p.locks
 
--- 1 more than the greatest core of these tasks, or 1 where there is no task
+-- enough cores for the numbers of these tasks' cores, and at least one
 abbrev pub cores_in : List TaskDecl → ℕ
 cores_in [] = 1
 cores_in (t ∷ ts) = max (t.core.0 + 1) (cores_in ts)
@@ -69,7 +69,7 @@ pub record IsProgram (p : ProgramParts) : Type 0 where
   pub locks : length p.locks ≤ 32
   pub phases : length p.phases ≤ 64
   pub tasks : length (tasks_of p.phases) ≤ 64
-  -- the regions lie one behind the other from word 0, and make up the memory
+  -- the first region begins at word 0, each other one where the one before it ends, and the last ends with the memory
   pub tiled : AreTiled 0 p.regions (length p.memory)
   -- no two regions, no two locks, and no region and lock have the same name
   pub names : AllPairs (λ (a b : List ℕ). a ≢ b) (names_of p)

@@ -1,6 +1,7 @@
-ghost use Rattle.std.specs.Prelude.{◌≡◌, ℕ, ◌<◌, ◌≤◌, ◌||◌, ◌⊎◌, IsTrue, IfOk, OnOk, IfSome, IfNone, slice_index_or, length, Bool, true, false};
+ghost use Rattle.std.specs.Prelude.{◌≡◌, ℕ, ◌<◌, ◌≤◌, ◌||◌, ◌⊎◌, IfOk, OnOk, IfSome, IfNone, length, true, false};
 ghost use Rattle.std.specs.List.{All};
 ghost use Rattle.region_table.specs.declared.interval.Interval.{Interval};
+ghost use Rattle.region_table.specs.Merging.{IsNext};
 ghost use Rattle.region_table.specs.Words.{has, in_interval, IsCanonical, IsUnion, IsCommon, IsLeastCommon};
 
 use crate::interval::Interval;
@@ -32,11 +33,11 @@ pub(crate) fn join(out: &mut Vec<Interval>, next: Interval) -> Result<(), Memory
     Ok(())
 }
 
-/// Whether the next interval is that of `a` at `i`, and not that of `b` at `j`: the one that begins earlier.
+/// Whether interval `i` of `a` comes before interval `j` of `b`: the one that begins earlier does.
 fn is_left_next(a: &[Interval], i: usize, b: &[Interval], j: usize) -> bool
     requires { (i < length a.now) ⊎ (j < length b.now) }
-    ensures left { IsTrue result → (i < length a.now) × (j < length b.now → (slice_index_or a.now i (record { lo = 0; hi = 0 })).lo ≤ (slice_index_or b.now j (record { lo = 0; hi = 0 })).lo) }
-    ensures right { result ≡ false → (j < length b.now) × (i < length a.now → (slice_index_or b.now j (record { lo = 0; hi = 0 })).lo ≤ (slice_index_or a.now i (record { lo = 0; hi = 0 })).lo) }
+    ensures left { result ≡ true → IsNext a.now i b.now j }
+    ensures right { result ≡ false → IsNext b.now j a.now i }
 {
     if i < a.len() && j < b.len() {
         a[i].lo <= b[j].lo

@@ -97,7 +97,8 @@ fn plan_of(alloc: Global, program: &Program, phase: &Phase) -> Result<PhasePlan,
 /// The plans of the program's phases, in their order: for each phase the words of the whole regions in which some task
 /// writes, plainly or under a lock, and for each lock the words that it guards for some task.
 ///
-/// Its time grows with the intervals of the tasks' effects, and with the regions.
+/// It makes at most one union for each task and lock, each in the time of the intervals joined so far, and then halves
+/// these intervals once for each region.
 ///
 /// # Errors
 /// `Memory` where there is no room.

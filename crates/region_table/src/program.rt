@@ -35,7 +35,8 @@ impl Model for Program {
 }
 
 impl Program {
-    /// How many cores the program needs: 1 more than the greatest core of a task, or 1 where there is no task.
+    /// How many cores the program needs, from 1 to 16: one above the highest core number of its tasks, and one for a
+    /// program without tasks.
     pub fn cores(&self) -> u32
         ensures value { result ≡ cores_of self.now }
         ensures some { 1 ≤ result }
@@ -49,7 +50,7 @@ impl Program {
     }
 }
 
-/// The greater of `most` and 1 more than the greatest core of these tasks.
+/// The greater of `most` and what these tasks need: one above the highest core number.
 fn cores_with(tasks: &[TaskDecl], most: u32) -> u32
     requires cores { All (λ (t : TaskDecl). t.core.0 < 16) tasks.now }
     requires some { 1 ≤ most }

@@ -1,4 +1,5 @@
 ghost use Rattle.std.specs.Prelude.{◌≡◌, ◌↔◌, ℕ, ◌<◌, ◌≤◌, List, [], ◌∷◌, IsTrue, IfOk, IfSome, IfNone};
+ghost use Rattle.region_table.specs.declared.interval.Interval.{Interval};
 ghost use Rattle.region_table.specs.Words.{has, IsCanonical, IsUnion, IsCommon, Meet, IsLeastCommon};
 
 use crate::interval::Interval;
@@ -106,4 +107,9 @@ impl WordSet {
     {
         self.intervals.as_slice()
     }
+
+    /// Two sets with the same words are equal: a set of words has one list of intervals alone.
+    pub fn one_form()
+        ensures { (a b : List Interval) → IsCanonical a → IsCanonical b → ((w : ℕ) → has a w ≡ has b w) → a ≡ b }
+    {}
 }

@@ -1,14 +1,13 @@
 -- A text and its lines.
-use Rattle.std.proofs.Common.{◌≡◌, ◌⊎◌, inl, inr, ℕ, zero, suc, ◌+◌, ◌-◌, ◌<◌, ◌≤◌, Bool, true, false, not, cond, ◌||◌, List, [], ◌∷◌, ◌++◌, length, take, drop, get_or, Some, refl, sym, ◌∙◌, ap, subst, append_assoc, arith}
-use Rattle.std.specs.List.{list_any, All, before_first, flat_map, sum_by, slice_get}
+use Rattle.std.proofs.Common.{◌≡◌, ℕ, zero, suc, ◌+◌, ◌-◌, ◌<◌, ◌≤◌, Bool, true, false, not, cond, ◌||◌, List, [], ◌∷◌, ◌++◌, length, take, drop, get_or, Some, refl, sym, ◌∙◌, ap, append_assoc, arith}
+use Rattle.std.specs.List.{list_any, All, flat_map, slice_get}
 use Rattle.std.proofs.lemmas.Bool.{eqb-true}
-use Rattle.std.proofs.lemmas.List.{length-append, length-drop, length-take, drop-append-le, take-append-le, drop-drop, take_at, drop_at}
+use Rattle.std.proofs.lemmas.List.{length-append, length-drop, drop-append-le, take-append-le, drop-drop, take_at, drop_at}
 use Rattle.std.proofs.lemmas.List.Sums.{sum_by-cons}
 use Rattle.std.proofs.lemmas.List.Elements.{All-nil, All-cons, All-head, All-tail}
 use Rattle.src_text.specs.Byte.{is_newline}
-use Rattle.src_text.specs.Line.{cut, onto_first, numbered, line_of, lines_of}
+use Rattle.src_text.specs.Line.{cut, onto_first, numbered, line_of}
 use Rattle.src_text.specs.Laws.{ended, is_open, AreLinesOf, place_of, AreNumbered}
-use Rattle.src_text.specs.declared.line.Line.{Line}
 use Rattle.src_text.proofs.LineLemmas.{cut-first}
 
 -- the newline that a text may lack

@@ -1,20 +1,21 @@
 -- What holds of the lines and the lexemes of every text.
-use Rattle.std.proofs.Common.{◌≡◌, ◌≢◌, ◌⊎◌, inl, inr, ⊎_elim, ℕ, zero, suc, ◌+◌, ◌-◌, ◌<◌, ◌≤◌, Bool, true, false, not, cond, eqb, ltb, leb, ◌||◌, ◌&&◌, List, [], ◌∷◌, ◌++◌, length, take, drop, get_or, Option, Some, None, refl, sym, ◌∙◌, ap, subst, append_assoc, add_assoc, arith}
-use Rattle.std.specs.List.{list_any, AllZip, All, prefix_len, before_first, flat_map, sum_by, slice_get, filter_map, cons_option, take_while}
+use Rattle.std.proofs.Common.{◌≡◌, ◌⊎◌, inl, inr, ℕ, zero, suc, ◌+◌, ◌<◌, ◌≤◌, Bool, true, false, cond, not, leb, ltb, ◌||◌, ◌&&◌, List, [], ◌∷◌, ◌++◌, length, take, drop, get_or, Option, Some, None, refl, sym, ◌∙◌, ap, subst, arith}
+use Rattle.std.specs.List.{list_any, AllZip, All, prefix_len, filter_map, cons_option, take_while}
 use Rattle.std.specs.Option.{option_map, is_none}
-use Rattle.std.proofs.lemmas.Bool.{eqb-true, cases_lt}
+use Rattle.std.proofs.lemmas.Bool.{cases_lt, cases_Bool}
 use Rattle.std.proofs.lemmas.Bool.Decides.{nat_tests}
-use Rattle.std.proofs.lemmas.List.{get_or_past, get_or-take, length-append, length-drop, drop-append-le, take-append-le, append-nil, take_at, drop_at}
-use Rattle.std.proofs.lemmas.List.Sums.{prefix_len_stops, prefix_len_passes, prefix_len-le-length, sum_by-cons}
-use Rattle.std.proofs.lemmas.List.Folds.{length-prefix_len}
+use Rattle.std.proofs.lemmas.List.{get_or_past, get_or-take}
+use Rattle.std.proofs.lemmas.List.Sums.{prefix_len_stops, prefix_len_passes}
+use Rattle.std.proofs.lemmas.List.Folds.{length-prefix_len, list_any_at}
 use Rattle.std.proofs.lemmas.List.Elements.{All-nil, All-cons, All-append, All-weaker}
-use Rattle.src_text.specs.Byte.{is_newline, is_word, is_mark, is_minus, is_token_byte}
+use Rattle.src_text.specs.Byte.{is_word, is_mark, is_blank, is_bad, is_token_byte}
 use Rattle.src_text.specs.Lexeme.{Lexeme, begins, front, lexemes_after, lexemes_of, code_of, kind_of, token_of, is_bad_number}
-use Rattle.src_text.specs.Line.{cut, onto_first, numbered, line_of, lines_of, line_with, fault_of}
-use Rattle.src_text.specs.Laws.{ended, is_open, AreLinesOf, place_of, AreNumbered, IsLongest, StandsAt, AreApart, covers, AreLexemesOf, IsTokenOf, AreTokensOf}
+use Rattle.src_text.specs.Line.{line_of, line_with, fault_of, is_over_limit}
+use Rattle.src_text.specs.Laws.{IsLongest, StandsAt, AreApart, AreInOrder, LeavesBlanks, covers, holds, AreLexemesOf, IsTokenOf, AreTokensOf}
 use Rattle.src_text.specs.declared.token.Token.{Token}
 use Rattle.src_text.specs.declared.token.TokenKind.{TokenKind}
 use Rattle.src_text.specs.declared.line.LineFault.{LineFault}
+use Rattle.src_text.specs.declared.line.LineFault.TheVariants.{BadByte, BadNumber, LineLimit}
 use Rattle.src_text.proofs.LexemeLemmas.{bad_number_anywhere}
 use Rattle.src_text.proofs.ByteLemmas.{reach, begins_ends, begins_there, length-front, reach_back, reach_on}
 
@@ -148,3 +149,51 @@ AreTokensOf-line_of number place line none =
     let here = bad_number_anywhere 32 place 0 (code_of line) ∙ good in
     let ts = filter_map token_of (lexemes_of place line) in
     subst (λ (f : Option LineFault). AreTokensOf (lexemes_of place line) (line_with number ts f).tokens) (sym none) (zip_all (lexemes_of place line) here)
+
+-- the tokens stand where their lexemes do
+
+order_of : (from : ℕ) (ls : List Lexeme) (ts : List Token) → AllZip IsTokenOf ls ts → AreApart from ls → AreInOrder from ts
+order_of from [] [] zip apart = tt
+order_of from [] (t ∷ ts) zip apart = absurd zip
+order_of from (l ∷ ls) [] zip apart = absurd zip
+order_of from (l ∷ ls) (t ∷ ts) zip apart =
+    (omega (arith, zip.0.start, apart.0), subst (λ (n : ℕ). AreInOrder n ts) (sym zip.0.end) (order_of (l.start + length l.bytes) ls ts zip.1 apart.1))
+
+order_by : (number place : ℕ) (ls : List Lexeme) (ts : List Token) (f : Option LineFault) → (f ≡ None → AllZip IsTokenOf ls (line_with number ts f).tokens) → AreApart place ls → AreInOrder place (line_with number ts f).tokens
+order_by number place ls ts None zip apart = order_of place ls ts (zip refl) apart
+order_by number place ls ts (Some f) zip apart = tt
+
+pub AreInOrder-line_of : (number place : ℕ) (line : List ℕ) → AreInOrder place (line_of number place line).tokens
+AreInOrder-line_of number place line =
+    order_by number place (lexemes_of place line) (filter_map token_of (lexemes_of place line)) (fault_of number line) (AreTokensOf-line_of number place line) (AreLexemesOf-lexemes_of place line).apart
+
+holds_as : (p : ℕ) (l : Lexeme) (t : Token) → IsTokenOf l t → covers p l ≡ holds p t
+holds_as p l t is = ap (λ (n : ℕ). leb n p && ltb p (l.start + length l.bytes)) (sym is.start) ∙ ap (λ (n : ℕ). leb t.start p && ltb p n) (sym is.end)
+
+holds_all : (p : ℕ) (ls : List Lexeme) (ts : List Token) → AllZip IsTokenOf ls ts → list_any (covers p) ls ≡ list_any (holds p) ts
+holds_all p [] [] zip = refl
+holds_all p [] (t ∷ ts) zip = absurd zip
+holds_all p (l ∷ ls) [] zip = absurd zip
+holds_all p (l ∷ ls) (t ∷ ts) zip = ap (λ (b : Bool). b || list_any (covers p) ls) (holds_as p l t zip.0) ∙ ap (λ (b : Bool). holds p t || b) (holds_all p ls ts zip.1)
+
+no_bad_byte : (a b c : Bool) (x y z : LineFault) → cond a (Some x) (cond b (Some y) (cond c (Some z) None)) ≡ None → a ≡ false
+no_bad_byte true b c x y z none = cc
+no_bad_byte false b c x y z none = refl
+
+good_byte : (code : List ℕ) (p : ℕ) → list_any is_bad code ≡ false → p < length code → is_bad (get_or code p 0) ≡ false
+good_byte code p good short = elim (cases_Bool (is_bad (get_or code p 0))) [
+  | inl bad ↦ let found = list_any_at is_bad code p 0 short bad in cc
+  | inr fine ↦ fine
+]
+
+token_byte : (a b : Bool) → not (a || b) ≡ false → a ≡ false → b ≡ true
+token_byte true b good blank = cc
+token_byte false true good blank = refl
+token_byte false false good blank = cc
+
+pub LeavesBlanks-line_of : (number place : ℕ) (line : List ℕ) → fault_of number line ≡ None → LeavesBlanks place line (line_of number place line).tokens
+LeavesBlanks-line_of number place line none = λ p short not_blank.
+    let clean : list_any is_bad (code_of line) ≡ false = no_bad_byte (list_any is_bad (code_of line)) (list_any is_bad_number (lexemes_of 0 line)) (is_over_limit number line) BadByte BadNumber LineLimit none in
+    let good = good_byte (code_of line) p clean short in
+    let solid = token_byte (is_blank (get_or (code_of line) p 0)) (is_token_byte (get_or (code_of line) p 0)) good not_blank in
+    sym (holds_all (place + p) (lexemes_of place line) (line_of number place line).tokens (AreTokensOf-line_of number place line none)) ∙ (AreLexemesOf-lexemes_of place line).whole p short solid

@@ -1,11 +1,11 @@
 -- The lines of a text.
-use Rattle.std.proofs.Common.{◌≡◌, ℕ, suc, ◌+◌, ◌<◌, Bool, true, false, not, cond, List, [], ◌∷◌, length, drop, take, Some, None, refl, sym, ◌∙◌, ap, arith}
-use Rattle.std.specs.List.{before_first, position_or_len, list_any, filter_map}
+use Rattle.std.proofs.Common.{◌≡◌, ℕ, suc, ◌+◌, ◌<◌, Bool, true, false, not, cond, List, [], ◌∷◌, length, drop, take, Some, None, refl, ◌∙◌, ap, arith}
+use Rattle.std.specs.List.{before_first, position_or_len, list_any}
 use Rattle.src_text.specs.Byte.{is_newline, is_bad}
-use Rattle.src_text.specs.Lexeme.{code_of, lexemes_of, is_bad_number, token_of}
+use Rattle.src_text.specs.Lexeme.{code_of, lexemes_of, is_bad_number}
 use Rattle.std.proofs.lemmas.List.{drop-drop, length-drop}
-use Rattle.src_text.specs.Line.{cut, numbered, onto_first, fault_of, line_of, line_with, is_over_limit}
-use Rattle.src_text.specs.declared.line.LineFault.TheVariants.{BadByte, BadNumber, LineLimit}
+use Rattle.src_text.specs.Line.{cut, numbered, onto_first, fault_of, line_of, is_over_limit}
+use Rattle.src_text.specs.declared.line.LineFault.TheVariants.{BadNumber, LineLimit}
 use Rattle.src_text.proofs.LexemeLemmas.{bad_number_anywhere}
 
 -- the first line of bytes, of which the first n stand before a newline

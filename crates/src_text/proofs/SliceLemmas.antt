@@ -1,14 +1,14 @@
 -- The tokens of a text as parts of it.
-use Rattle.std.proofs.Common.{◌≡◌, ◌⊎◌, inl, inr, ℕ, zero, suc, ◌+◌, ◌-◌, ◌<◌, ◌≤◌, Bool, true, false, cond, List, [], ◌∷◌, ◌++◌, length, take, drop, get_or, Option, Some, None, refl, sym, ◌∙◌, ap, subst, append_assoc, arith}
-use Rattle.std.specs.List.{All, slice_range, slice_get, filter_map, AllZip, position_or_len}
+use Rattle.std.proofs.Common.{◌≡◌, inl, inr, ℕ, ◌+◌, ◌-◌, ◌<◌, ◌≤◌, true, List, [], ◌∷◌, ◌++◌, length, take, drop, get_or, Option, Some, None, refl, sym, ◌∙◌, ap, subst, append_assoc, arith}
+use Rattle.std.specs.List.{All, slice_range, filter_map, AllZip, position_or_len}
 use Rattle.std.proofs.lemmas.Bool.{cases_lt}
 use Rattle.std.proofs.lemmas.Option.{same_Some, slice_get-get_or}
-use Rattle.std.proofs.lemmas.List.{take-append-drop, length-drop, drop-append-le, drop-drop, drop_all, drop_more, get_or_past, take_at}
+use Rattle.std.proofs.lemmas.List.{take-append-drop, length-drop, drop-append-le, drop-drop, get_or_past, take_at}
 use Rattle.std.proofs.lemmas.List.Elements.{All-nil, All-cons, All-head, All-tail, All-weaker}
 use Rattle.src_text.specs.Byte.{is_hash}
 use Rattle.src_text.specs.Lexeme.{Lexeme, begins, front, lexemes_of, code_of, kind_of, token_of}
 use Rattle.src_text.specs.Line.{cut, line_of, line_with, lines_of, fault_of}
-use Rattle.src_text.specs.Laws.{place_of, IsLongest, StandsAt, IsTokenOf, AreTokensOf, IsSliceOf}
+use Rattle.src_text.specs.Laws.{place_of, StandsAt, IsTokenOf, IsSliceOf}
 use Rattle.src_text.specs.declared.token.Token.{Token}
 use Rattle.src_text.specs.declared.line.Line.{Line}
 use Rattle.src_text.specs.declared.line.LineFault.{LineFault}

@@ -1,7 +1,7 @@
 -- What holds of the lines and the lexemes of every text.
-use Rattle.std.specs.Prelude.{◌≡◌, ℕ, ◌+◌, ◌<◌, ◌≤◌, Bool, false, true, not, ◌&&◌, List, [], ◌∷◌, ◌++◌, length, take, drop, get_or, slice_get, slice_index, slice_range, nat_le, nat_lt, if◌then◌else◌, IsTrue, IsFalse, Some, All, sum_by, flat_map}
+use Rattle.std.specs.Prelude.{◌≡◌, ℕ, ◌+◌, ◌<◌, ◌≤◌, Bool, false, not, ◌&&◌, List, [], ◌∷◌, ◌++◌, length, take, drop, get_or, slice_get, slice_index, slice_range, nat_le, nat_lt, if◌then◌else◌, IsTrue, IsFalse, Some, All, sum_by, flat_map}
 use Rattle.std.specs.List.{list_any, AllZip}
-use Rattle.src_text.specs.Byte.{is_newline, is_word, is_mark, is_token_byte}
+use Rattle.src_text.specs.Byte.{is_newline, is_blank, is_word, is_mark, is_token_byte}
 use Rattle.src_text.specs.Lexeme.{Lexeme, begins, front, code_of, kind_of}
 use Rattle.src_text.specs.Line.{cut, line_of, lines_of}
 use Rattle.src_text.specs.declared.token.Token.{Token}
@@ -73,3 +73,16 @@ AreTokensOf ls ts = AllZip IsTokenOf ls ts
 -- the bytes from the token's start to its end are a token of its kind
 abbrev pub IsSliceOf : List ℕ → Token → Type 0
 IsSliceOf text t = kind_of (slice_range text t.start t.end) ≡ Some t.kind
+
+-- whether a place is in a token
+abbrev pub holds : ℕ → Token → Bool
+holds place t = nat_le t.start place && nat_lt place t.end
+
+-- each token begins at or behind the end of the one before it, and none before a place
+abbrev pub AreInOrder : ℕ → List Token → Type 0
+AreInOrder from [] = Unit {0}
+AreInOrder from (t ∷ ts) = (from ≤ t.start) × AreInOrder t.end ts
+
+-- no byte of the code is left out but blanks
+abbrev pub LeavesBlanks : ℕ → List ℕ → List Token → Type 0
+LeavesBlanks place line ts = (p : ℕ) → p < length (code_of line) → IsFalse (is_blank (slice_index (code_of line) p)) → IsTrue (list_any (holds (place + p)) ts)

@@ -1,5 +1,5 @@
 -- The lexemes of a line: the bytes of its tokens, each with the place of its first byte.
-use Rattle.std.specs.Prelude.{ℕ, ◌+◌, Bool, not, ◌&&◌, ◌||◌, List, [], ◌∷◌, ◌++◌, length, slice_index, ◌==◌, if◌then◌else◌, is_none, Option, Some, None, option_map, filter_map, take_while}
+use Rattle.std.specs.Prelude.{ℕ, ◌+◌, Bool, not, ◌&&◌, ◌||◌, List, [], ◌∷◌, ◌++◌, length, slice_index, ◌==◌, if◌then◌else◌, is_none, Option, Some, option_map, take_while}
 use Rattle.std.specs.List.{before_first}
 use Rattle.src_text.specs.Byte.{is_word, is_mark, is_minus, is_digit, is_hash}
 use Rattle.src_text.specs.Number.{number_of}
@@ -31,7 +31,7 @@ lexemes_after before place [] = []
 lexemes_after before place (b ∷ bs) =
     (if begins before b then record { start = place; bytes = front (b ∷ bs) } ∷ [] else []) ++ lexemes_after b (place + 1) bs
 
--- a comment goes from `#` to the line's end
+-- what stands before the comment, which `#` begins
 abbrev pub code_of : List ℕ → List ℕ
 code_of line = before_first is_hash line
 

@@ -1,7 +1,7 @@
 //! What holds of the lines and the tokens of every text, as laws: functions that do nothing, whose contracts say it.
 
 ghost use Rattle.std.specs.Prelude.{◌≡◌, ◌≢◌, ℕ, List, [], ◌∷◌, None, All};
-ghost use Rattle.src_text.specs.Laws.{AreLexemesOf, AreLinesOf, AreNumbered, AreTokensOf, IsLongest, IsSliceOf};
+ghost use Rattle.src_text.specs.Laws.{AreInOrder, AreLexemesOf, AreLinesOf, AreNumbered, AreTokensOf, IsLongest, IsSliceOf, LeavesBlanks};
 ghost use Rattle.src_text.specs.Lexeme.{front, lexemes_of};
 ghost use Rattle.src_text.specs.Line.{cut, fault_of, line_of, lines_of};
 
@@ -15,20 +15,24 @@ pub fn lines_are_numbered()
     ensures { (text : List ℕ) → AreNumbered text }
 {}
 
-/// A token is as long as it can be.
+/// No token could be longer.
 pub fn tokens_are_longest()
     ensures { (b : ℕ) (bs : List ℕ) → IsLongest (b ∷ bs) (front (b ∷ bs)) }
 {}
 
-/// The tokens of a line stand one behind the other, each where one begins, and leave out no byte that isn't blank.
+/// The lexemes of a line stand one behind the other, each where one begins, and leave out no byte of a token.
 pub fn tokens_make_up_the_code()
     ensures { (place : ℕ) (line : List ℕ) → AreLexemesOf place line (lexemes_of place line) }
 {}
 
-/// A line without a fault has one token for each of its lexemes, and a line with a fault has none.
+/// A line without a fault has one token for each of its lexemes, in order, and they leave out only blanks and the
+/// comment. A line with a fault has no tokens.
 pub fn lines_have_their_tokens()
     ensures tokens { (number place : ℕ) (line : List ℕ) → fault_of number line ≡ None
         → AreTokensOf (lexemes_of place line) (line_of number place line).tokens }
+    ensures order { (number place : ℕ) (line : List ℕ) → AreInOrder place (line_of number place line).tokens }
+    ensures whole { (number place : ℕ) (line : List ℕ) → fault_of number line ≡ None
+        → LeavesBlanks place line (line_of number place line).tokens }
     ensures faulty { (number place : ℕ) (line : List ℕ) → fault_of number line ≢ None
         → (line_of number place line).tokens ≡ [] }
 {}

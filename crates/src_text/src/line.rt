@@ -17,7 +17,7 @@ pub enum LineFault {
     /// A number token isn't an optional `-` and decimal digits or `0x` and hexadecimal digits, or its value isn't
     /// from -2147483648 to 4294967295.
     BadNumber,
-    /// The line has more than 1,024 bytes, or its number is above 65,536.
+    /// The line is longer than 1,024 bytes, or 65,536 lines stand before it.
     LineLimit,
 }
 
@@ -108,10 +108,10 @@ fn read_line(alloc: Global, number: u32, start: usize, line: &[u8]) -> Result<Li
 
 /// Every line of a text of at most 1,048,576 bytes, in order.
 ///
-/// A text is cut at each newline (byte 10), and a last piece without a byte is no line. A comment goes from `#` to
-/// the line's end and may hold any byte. A name starts with a letter, `_` or `.`, a number with a digit or `-`, and
-/// both go on through letters, digits, `_` and `.`; the other tokens are `,`, `:`, `(` and `)`. Tokens are as long as
-/// they can be.
+/// Each newline (byte 10) ends a line, and what follows the last one is a line only if it has a byte. Space, tab and
+/// carriage return are blanks, and `#` makes the rest of its line a comment, whatever bytes that has. Names begin with
+/// a letter, `_` or `.`, numbers with a digit or `-`, and both take in every letter, digit, `_` and `.` behind that;
+/// `,`, `:`, `(` and `)` are tokens by themselves. A line with a fault has no tokens.
 ///
 /// # Errors
 /// `Memory` where there is no room for the lines.

@@ -2,8 +2,8 @@ use Rattle.std.proofs.Common.{◌≡◌, ℕ, take}
 use Rattle.std.specs.List.{list_any}
 use Rattle.region_table.specs.declared.declared.TaskDecl.{TaskDecl}
 use Rattle.region_table.specs.Words.{has}
-use Rattle.region_table.specs.Plan.{guards}
+use Rattle.region_table.specs.Plan.{task_guards}
 use Rattle.region_table.proofs.plan.words_guarded.Given as goal
 
 abbrev pub invariant-loop-task : goal.invariant-loop-task
-invariant-loop-task l = (w : ℕ) → has l.all w ≡ list_any (λ (t : TaskDecl). guards t l.fn.lock w) (take l.task-index l.task-items)
+invariant-loop-task l = (w : ℕ) → has l.all w ≡ list_any (λ (t : TaskDecl). task_guards t l.fn.lock w) (take l.task-index l.task-items)

@@ -1,9 +1,9 @@
-use Rattle.std.proofs.Common.{◌≡◌, ◌∙◌, ℕ, List, sym, ap, true, false, filter_map, None, Some}
+use Rattle.std.proofs.Common.{◌≡◌, ◌∙◌, ℕ, List, sym, ap, true, false, filter_map, None}
 use Rattle.std.specs.List.{list_any}
 use Rattle.std.proofs.lemmas.Option.{MatchOption-at_none, MatchOption-at_some}
 use Rattle.src_text.specs.Byte.{is_bad}
 use Rattle.src_text.specs.Lexeme.{code_of, lexemes_of, lexemes_after, is_bad_number, token_of}
-use Rattle.src_text.specs.Line.{line_with, fault_of, line_of, is_over_limit}
+use Rattle.src_text.specs.Line.{line_with, is_over_limit}
 use Rattle.src_text.specs.declared.token.Token.{Token}
 use Rattle.src_text.proofs.LineLemmas.{fault-bad_number, fault-limit, no_fault}
 use Rattle.src_text.proofs.line.read_line.Goals as goal

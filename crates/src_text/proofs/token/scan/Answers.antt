@@ -1,4 +1,4 @@
-use Rattle.std.proofs.Common.{◌≡◌, ◌∙◌, sym, ◌+◌, ◌++◌, ◌∷◌, [], List, ℕ, get_or, drop, Some, true, false, subst, ap}
+use Rattle.std.proofs.Common.{◌≡◌, ◌∙◌, sym, ◌+◌, List, ℕ, get_or, drop, Some, true, false, subst, ap}
 use Rattle.std.proofs.lemmas.List.{take_rest}
 use Rattle.src_text.specs.Lexeme.{begins, kind_of, lexemes_after, front}
 use Rattle.src_text.specs.declared.token.Token.{Token}
