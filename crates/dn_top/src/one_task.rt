@@ -100,7 +100,8 @@ pub(crate) fn run(
     fuel: u32,
 ) -> Result<Ending, Memory>
     requires { fuel ≤ 32768 }
-    ensures { IfOk result (λ ending. ending ≡ ending_of program.now task.now fuel) }
+    ensures value { IfOk result (λ ending. ending ≡ ending_of program.now task.now fuel) }
+    ensures within { IfOk result (λ ending. (length ending.memory ≤ 65536) × (length ending.tasks ≤ 64)) }
 {
     let mut state = TaskState::new(task);
     let mut memory = Vec::from_slice(alloc, program.memory.as_slice())?;

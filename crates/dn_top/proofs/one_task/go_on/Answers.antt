@@ -16,9 +16,9 @@ loop-done-preserved c =
     let d = c.args.task.now in
     record {
       leads =
-        ap (flat_steps P d c.args.fuel (suc c.args.fuel - (c.loop-done._done + 1))) c.step.ensures.value
-        ∙ sym (steps_more P d c.args.fuel c.loop-done._done now (omega arith))
-        ∙ c.loop-done.invariant.leads;
+          ap (flat_steps P d c.args.fuel (suc c.args.fuel - (c.loop-done._done + 1))) c.step.ensures.value
+          ∙ sym (steps_more P d c.args.fuel c.loop-done._done now (omega arith))
+          ∙ c.loop-done.invariant.leads;
       size = c.step.ensures.size;
       retired = c.step.ensures.retired;
     }

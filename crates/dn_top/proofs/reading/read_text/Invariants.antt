@@ -1,0 +1,14 @@
+use Rattle.std.proofs.Common.{◌≡◌, ◌≤◌, ◌-◌, vec_len, length}
+use Rattle.std.specs.Io.KnownBytes.{Consumes}
+use Rattle.dn_top.proofs.reading.read_text.Given as goal
+
+abbrev pub invariant-loop-buf : goal.invariant-loop-buf
+invariant-loop-buf g l =
+    record {
+      bytes : Consumes (g.S.Source.told l.fn.source) (g.S.Source.told l.source) l.text.items;
+      within : length l.text.items ≤ 1048577;
+      counted : g.S.Source.faults l.fn.source ≤ g.S.Source.faults l.source;
+    }
+
+abbrev pub decreases-loop-buf : goal.decreases-loop-buf
+decreases-loop-buf g l = 1048577 - vec_len l.text
