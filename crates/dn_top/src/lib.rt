@@ -17,6 +17,8 @@ mod first_form;
 mod form;
 mod one_task;
 mod reading;
+#[cfg(test)]
+mod tests;
 mod writing;
 
 use answers::output_of;
