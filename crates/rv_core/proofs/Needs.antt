@@ -1,12 +1,11 @@
 -- What a need tells of the task, its instruction and what the instruction does.
-use Rattle.std.proofs.Common.{◌≡◌, ◌↔◌, ℕ, ◌+◌, ◌-◌, ◌/◌, ◌%◌, ◌^◌, ◌<◌, ◌≤◌, Bool, true, false, cond, ◌&&◌, ◌||◌, nat_le, nat_lt, ◌==◌, List, length, slice_index, slice_get, Option, Some, None, refl, ap, subst, ◌∙◌, arith, bit_or, bit_xor}
+use Rattle.std.proofs.Common.{◌≡◌, ◌↔◌, ℕ, ◌+◌, ◌-◌, ◌/◌, ◌%◌, ◌^◌, ◌<◌, Bool, true, false, cond, ◌&&◌, nat_le, nat_lt, ◌==◌, length, slice_index, Option, Some, None, refl, ap, subst, ◌∙◌, arith, bit_or, bit_xor}
 use Rattle.std.proofs.lemmas.Bool.Decides.{nat_tests}
 use Rattle.region_table.specs.Program.{ProgramParts}
 use Rattle.region_table.specs.declared.declared.TaskDecl.{TaskDecl}
 use Rattle.rv_isa.specs.Encoding.{decoded}
 use Rattle.rv_isa.specs.declared.instr.Instr as instr
 use Rattle.rv_isa.specs.declared.instr.Instr.{Instr}
-use Rattle.rv_isa.specs.declared.instr.Width.{Width}
 use Rattle.rv_isa.specs.Meaning.{taken_of}
 use Rattle.rv_core.specs.declared.task.TaskState.{TaskState}
 use Rattle.rv_core.specs.declared.task.End as cause
@@ -17,7 +16,7 @@ use Rattle.rv_core.specs.Access.{holds, least_held, may_load, may_store}
 use Rattle.rv_core.specs.Place.{code_at, data_at, size_of, is_whole}
 use Rattle.rv_core.specs.Registers.{value_in}
 use Rattle.rv_core.specs.Need.{need_of, fetch_need, word_need, instr_need, jump_need, load_need, store_need, call_need, traps, address_of, jump_target, register_target}
-use Rattle.rv_core.specs.Step.{read_instr, instr_at, after, after_instr, after_load, after_call, with_locks, advanced, loaded_of}
+use Rattle.rv_core.specs.Step.{read_instr, instr_at, after, after_instr, after_load, after_call, with_locks, advanced}
 use Rattle.rv_core.specs.Kinds.{IsLoad, IsStore, IsAdvance, EndsByFuel, IsAligned, Tells, Allowed}
 
 -- a fact that holds of neither choice doesn't hold of the one that a test takes
