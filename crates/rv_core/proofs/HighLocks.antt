@@ -1,10 +1,9 @@
 -- No lock from 32 on is held.
-use Rattle.std.proofs.Common.{◌≡◌, ℕ, ◌+◌, ◌-◌, ◌*◌, ◌/◌, ◌%◌, ◌^◌, ◌<◌, ◌≤◌, Bool, false, ◌&&◌, ◌||◌, nat_lt, List, [], ◌∷◌, refl, arith, ap, ◌∙◌, sym}
+use Rattle.std.proofs.Common.{◌≡◌, ℕ, ◌+◌, ◌-◌, ◌*◌, ◌^◌, ◌<◌, ◌≤◌, false, List, [], ◌∷◌, refl, arith, ap, ◌∙◌, sym}
 use Rattle.std.specs.Int.Bits.{bit_and, and_shifted}
 use Rattle.std.proofs.lemmas.Nat.{pow-add, and_comm}
 use Rattle.std.proofs.lemmas.Bool.Decides.{nat_tests}
 use Rattle.region_table.specs.declared.interval.Interval.{Interval}
-use Rattle.region_table.specs.Words.{has}
 use Rattle.rv_core.specs.Access.{holds, under}
 
 shifted : (lock : ℕ) → 32 ≤ lock → 2 ^ (lock - 32) * 2 ^ 32 ≡ 2 ^ lock

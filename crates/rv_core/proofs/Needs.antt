@@ -1,12 +1,11 @@
 -- What a need tells of the task, its instruction and what the instruction does.
-use Rattle.std.proofs.Common.{◌≡◌, ℕ, ◌+◌, ◌-◌, ◌/◌, ◌%◌, ◌^◌, ◌<◌, ◌≤◌, Bool, true, false, cond, ◌&&◌, ◌||◌, nat_le, nat_lt, ◌==◌, List, length, slice_index, slice_get, Option, Some, None, refl, ap, subst, ◌∙◌, arith, bit_or, bit_xor}
+use Rattle.std.proofs.Common.{◌≡◌, ◌↔◌, ℕ, ◌+◌, ◌-◌, ◌/◌, ◌%◌, ◌^◌, ◌<◌, Bool, true, false, cond, ◌&&◌, nat_le, nat_lt, ◌==◌, length, slice_index, Option, Some, None, refl, ap, subst, ◌∙◌, arith, bit_or, bit_xor}
 use Rattle.std.proofs.lemmas.Bool.Decides.{nat_tests}
 use Rattle.region_table.specs.Program.{ProgramParts}
 use Rattle.region_table.specs.declared.declared.TaskDecl.{TaskDecl}
 use Rattle.rv_isa.specs.Encoding.{decoded}
 use Rattle.rv_isa.specs.declared.instr.Instr as instr
 use Rattle.rv_isa.specs.declared.instr.Instr.{Instr}
-use Rattle.rv_isa.specs.declared.instr.Width.{Width}
 use Rattle.rv_isa.specs.Meaning.{taken_of}
 use Rattle.rv_core.specs.declared.task.TaskState.{TaskState}
 use Rattle.rv_core.specs.declared.task.End as cause
@@ -17,8 +16,8 @@ use Rattle.rv_core.specs.Access.{holds, least_held, may_load, may_store}
 use Rattle.rv_core.specs.Place.{code_at, data_at, size_of, is_whole}
 use Rattle.rv_core.specs.Registers.{value_in}
 use Rattle.rv_core.specs.Need.{need_of, fetch_need, word_need, instr_need, jump_need, load_need, store_need, call_need, traps, address_of, jump_target, register_target}
-use Rattle.rv_core.specs.Step.{read_instr, instr_at, after, after_instr, after_load, after_call, with_locks, advanced, loaded_of}
-use Rattle.rv_core.specs.Kinds.{IsLoad, IsStore, IsAdvance, IsAligned, Tells, Allowed}
+use Rattle.rv_core.specs.Step.{read_instr, instr_at, after, after_instr, after_load, after_call, with_locks, advanced}
+use Rattle.rv_core.specs.Kinds.{IsLoad, IsStore, IsAdvance, EndsByFuel, IsAligned, Tells, Allowed}
 
 -- a fact that holds of neither choice doesn't hold of the one that a test takes
 neither : (K : Need → Type 0) (b : Bool) (x y : Need) → (K x → ⊥) → (K y → ⊥) → K (cond b x y) → ⊥
@@ -146,7 +145,7 @@ call_locks P t number lock k =
 
 call_retires : (t : TaskState) (number lock : ℕ) → (after_call t number lock).retired ≡ t.retired + 1
 call_retires t number lock = by_number (number == 1)
-    where
+  where
     by_number : (b : Bool) → (cond b (with_locks t (bit_or t.held (2 ^ lock))) (with_locks t (bit_xor t.held (2 ^ lock)))).retired ≡ t.retired + 1
     by_number true = refl
     by_number false = refl
@@ -183,14 +182,14 @@ advance-tells P d fuel t k = advance_fetched P d t (code_at P.code t.pc) (fuelle
 
 data-within : (words address w : ℕ) → data_at words address ≡ Some w → w < words
 data-within words address w e = by_test (nat_le 0x10000000 address && nat_lt ((address - 0x10000000) / 4) words) refl e
-    where
+  where
     by_test : (b : Bool) → (nat_le 0x10000000 address && nat_lt ((address - 0x10000000) / 4) words) ≡ b → cond b (Some ((address - 0x10000000) / 4)) None ≡ Some w → w < words
     by_test true test e = let same : (address - 0x10000000) / 4 ≡ w = cc in grind (arith, nat_tests)
     by_test false test e = cc
 
 jump_tells : (P : ProgramParts) (d : TaskDecl) (t next : TaskState) (target : ℕ) → next.held ≡ t.held → Tells P d t next (jump_need t target)
 jump_tells P d t next target same = by_test (target % 4 == 0)
-    where
+  where
     by_test : (b : Bool) → Tells P d t next (cond b Local (traps t kind.TheVariants.Target target))
     by_test true = same
     by_test false = tt
@@ -199,7 +198,7 @@ load_tells : (P : ProgramParts) (d : TaskDecl) (t next : TaskState) (address : �
     → Tells P d t next (load_need d t address w)
 load_tells P d t next address None within = tt
 load_tells P d t next address (Some v) within = by_test (may_load d t.held v) refl
-    where
+  where
     by_test : (b : Bool) → may_load d t.held v ≡ b → Tells P d t next (cond b (Load (record { 0 = v })) (traps t kind.TheVariants.Outside address))
     by_test true e = (within v refl, e)
     by_test false e = tt
@@ -208,7 +207,7 @@ store_tells : (P : ProgramParts) (d : TaskDecl) (t next : TaskState) (whole : Bo
     → next.held ≡ t.held → Tells P d t next (store_need d t whole address w)
 store_tells P d t next whole address None within same = tt
 store_tells P d t next whole address (Some v) within same = by_test (may_store d t.held v) refl
-    where
+  where
     by_test : (b : Bool) → may_store d t.held v ≡ b → Tells P d t next (cond b (Store (record { 0 = v }) whole) (traps t kind.TheVariants.Outside address))
     by_test true e = (within v refl, e, same)
     by_test false e = tt
@@ -217,14 +216,14 @@ store_tells P d t next whole address (Some v) within same = by_test (may_store d
 call_tells : (P : ProgramParts) (d : TaskDecl) (t : TaskState) (number lock : ℕ) → Tells P d t (after_call t number lock) (call_need P t number lock)
 call_tells P d t number lock =
     by_tests (nat_lt 2 number) (number == 0) (t.held == 0) (nat_le (length P.locks) lock) (number == 1) (holds t.held lock) refl refl
-    where
+  where
     by_tests : (unknown zero none outside one held : Bool) → nat_le (length P.locks) lock ≡ outside → holds t.held lock ≡ held
         → Tells P d t (cond one (with_locks t (bit_or t.held (2 ^ lock))) (with_locks t (bit_xor t.held (2 ^ lock))))
-            (cond unknown (traps t kind.TheVariants.Call number)
-            (cond zero (cond none (End cause.TheVariants.Finished) (traps t kind.TheVariants.HeldEnd (least_held t.held)))
-            (cond outside (traps t kind.TheVariants.NoLock lock)
-            (cond one (cond held (traps t kind.TheVariants.Held lock) (Acquire (record { 0 = lock })))
-            (cond held (Release (record { 0 = lock })) (traps t kind.TheVariants.NotHeld lock))))))
+        (cond unknown (traps t kind.TheVariants.Call number)
+        (cond zero (cond none (End cause.TheVariants.Finished) (traps t kind.TheVariants.HeldEnd (least_held t.held)))
+        (cond outside (traps t kind.TheVariants.NoLock lock)
+        (cond one (cond held (traps t kind.TheVariants.Held lock) (Acquire (record { 0 = lock })))
+        (cond held (Release (record { 0 = lock })) (traps t kind.TheVariants.NotHeld lock))))))
     by_tests true zero none outside one held o h = tt
     by_tests false true true outside one held o h = tt
     by_tests false true false outside one held o h = tt
@@ -241,17 +240,17 @@ instr_tells P d t (instr.TheVariants.Jal rd offset) = jump_tells P d t (after_in
 instr_tells P d t (instr.TheVariants.Jalr rd base offset) =
     jump_tells P d t (after_instr t (instr.TheVariants.Jalr rd base offset)) (register_target t base offset) refl
 instr_tells P d t (instr.TheVariants.Branch test a b offset) = by_test (taken_of test (value_in t.regs a) (value_in t.regs b))
-    where
+  where
     by_test : (taken : Bool) → Tells P d t (after_instr t (instr.TheVariants.Branch test a b offset)) (cond taken (jump_need t (jump_target t offset)) Local)
     by_test true = jump_tells P d t (after_instr t (instr.TheVariants.Branch test a b offset)) (jump_target t offset) refl
     by_test false = refl
 instr_tells P d t (instr.TheVariants.Load width rd base offset) = by_test (address_of t base offset % size_of width == 0)
-    where
+  where
     by_test : (b : Bool) → Tells P d t t (cond b (load_need d t (address_of t base offset) (data_at (length P.memory) (address_of t base offset))) (traps t kind.TheVariants.Misaligned (address_of t base offset)))
     by_test true = load_tells P d t t (address_of t base offset) (data_at (length P.memory) (address_of t base offset)) (data-within (length P.memory) (address_of t base offset))
     by_test false = tt
 instr_tells P d t (instr.TheVariants.Store width src base offset) = by_test (address_of t base offset % size_of width == 0)
-    where
+  where
     by_test : (b : Bool) → Tells P d t (after_instr t (instr.TheVariants.Store width src base offset))
         (cond b (store_need d t (is_whole width) (address_of t base offset) (data_at (length P.memory) (address_of t base offset))) (traps t kind.TheVariants.Misaligned (address_of t base offset)))
     by_test true =
@@ -275,7 +274,7 @@ fetch_tells P d t (Some word) = word_tells P d t word (decoded word)
 pub need-allowed : (P : ProgramParts) (d : TaskDecl) (fuel : ℕ) (t : TaskState) → Allowed P d t (need_of P d fuel t)
 unfolding need_of advanced
 need-allowed P d fuel t = by_test (t.retired == fuel)
-    where
+  where
     by_test : (b : Bool) → Tells P d t (after t (instr_at P t)) (cond b (End cause.TheVariants.Fuel) (fetch_need P d t (code_at P.code t.pc)))
     by_test true = tt
     by_test false = fetch_tells P d t (code_at P.code t.pc)
@@ -313,3 +312,58 @@ advance_some P d fuel t k known =
     let F : Option Instr → Type 0 = λ o. (after t o).retired ≡ t.retired + 1 in
     let kept : t.retired ≡ t.retired + 1 = subst F known (advance-tells P d fuel t k).retires in
     omega arith
+
+-- ---- what an instruction needs is never the end by Fuel
+
+jump_unspent : (t : TaskState) (target : ℕ) → EndsByFuel (jump_need t target) → ⊥
+jump_unspent t target = neither EndsByFuel (target % 4 == 0) _ _ (λ x. x) (λ x. x)
+
+load_unspent : (d : TaskDecl) (t : TaskState) (address : ℕ) (w : Option ℕ) → EndsByFuel (load_need d t address w) → ⊥
+load_unspent d t address None k = k
+load_unspent d t address (Some w) k = neither EndsByFuel (may_load d t.held w) _ _ (λ x. x) (λ x. x) k
+
+store_unspent : (d : TaskDecl) (t : TaskState) (whole : Bool) (address : ℕ) (w : Option ℕ) → EndsByFuel (store_need d t whole address w) → ⊥
+store_unspent d t whole address None k = k
+store_unspent d t whole address (Some w) k = neither EndsByFuel (may_store d t.held w) _ _ (λ x. x) (λ x. x) k
+
+call_unspent : (P : ProgramParts) (t : TaskState) (number lock : ℕ) → EndsByFuel (call_need P t number lock) → ⊥
+call_unspent P t number lock =
+    neither EndsByFuel (nat_lt 2 number) _ _ (λ x. x)
+    (neither EndsByFuel (number == 0) _ _ (neither EndsByFuel (t.held == 0) _ _ (λ x. x) (λ x. x))
+    (neither EndsByFuel (nat_le (length P.locks) lock) _ _ (λ x. x)
+    (neither EndsByFuel (number == 1) _ _
+    (neither EndsByFuel (holds t.held lock) _ _ (λ x. x) (λ x. x)) (neither EndsByFuel (holds t.held lock) _ _ (λ x. x) (λ x. x)))))
+
+instr_unspent : (P : ProgramParts) (d : TaskDecl) (t : TaskState) (i : Instr) → EndsByFuel (instr_need P d t i) → ⊥
+instr_unspent P d t (instr.TheVariants.Jal rd offset) k = jump_unspent t (jump_target t offset) k
+instr_unspent P d t (instr.TheVariants.Jalr rd base offset) k = jump_unspent t (register_target t base offset) k
+instr_unspent P d t (instr.TheVariants.Branch test a b offset) k =
+    neither EndsByFuel (taken_of test (value_in t.regs a) (value_in t.regs b)) _ _ (jump_unspent t (jump_target t offset)) (λ x. x) k
+instr_unspent P d t (instr.TheVariants.Load width rd base offset) k =
+    let address = address_of t base offset in
+    neither EndsByFuel (address % size_of width == 0) _ _ (load_unspent d t address (data_at (length P.memory) address)) (λ x. x) k
+instr_unspent P d t (instr.TheVariants.Store width src base offset) k =
+    let address = address_of t base offset in
+    neither EndsByFuel (address % size_of width == 0) _ _ (store_unspent d t (is_whole width) address (data_at (length P.memory) address)) (λ x. x) k
+instr_unspent P d t instr.TheVariants.Ecall k = call_unspent P t (slice_index t.regs 17) (slice_index t.regs 10) k
+instr_unspent P d t _ k = k
+
+word_unspent : (P : ProgramParts) (d : TaskDecl) (t : TaskState) (word : ℕ) (i : Option Instr) → EndsByFuel (word_need P d t word i) → ⊥
+word_unspent P d t word None k = k
+word_unspent P d t word (Some i) k = instr_unspent P d t i k
+
+fetch_unspent : (P : ProgramParts) (d : TaskDecl) (t : TaskState) (word : Option ℕ) → EndsByFuel (fetch_need P d t word) → ⊥
+fetch_unspent P d t None k = k
+fetch_unspent P d t (Some word) k = word_unspent P d t word (decoded word) k
+
+-- a task ends by Fuel exactly where it has retired as many instructions as it may
+pub need-fuel : (P : ProgramParts) (d : TaskDecl) (fuel : ℕ) (t : TaskState) → EndsByFuel (need_of P d fuel t) ↔ (t.retired ≡ fuel)
+unfolding need_of
+need-fuel P d fuel t = by_test (t.retired == fuel) refl
+  where
+    by_test : (b : Bool) → (t.retired == fuel) ≡ b
+        → EndsByFuel (cond b (End cause.TheVariants.Fuel) (fetch_need P d t (code_at P.code t.pc))) ↔ (t.retired ≡ fuel)
+    by_test true e = let same : t.retired ≡ fuel = grind (arith, nat_tests) in (λ k. same, λ s. tt)
+    by_test false e =
+        let differ : t.retired ≡ fuel → ⊥ = grind (arith, nat_tests) in
+        (λ k. absurd (fetch_unspent P d t (code_at P.code t.pc) k), λ s. absurd (differ s))

@@ -18,11 +18,11 @@ abbrev pub under : List (List Interval) → ℕ → ℕ → ℕ → Bool
 under [] first held w = false
 under (s ∷ ss) first held w = (holds held first && has s w) || under ss (first + 1) held w
 
--- a load is of the task's reads or writes, or of the guarded reads or writes of a lock that it holds
+-- what the task may load: the words that it reads or writes, and those that a lock in its hands guards for either
 abbrev pub may_load : TaskDecl → ℕ → ℕ → Bool
 may_load d held w =
     has d.effects.reads w || has d.effects.writes w || under d.effects.guarded_reads 0 held w || under d.effects.guarded_writes 0 held w
 
--- a store is of the task's writes, or of the guarded writes of a lock that it holds
+-- what the task may store: the words that it writes, and those that a lock in its hands guards for writing
 abbrev pub may_store : TaskDecl → ℕ → ℕ → Bool
 may_store d held w = has d.effects.writes w || under d.effects.guarded_writes 0 held w

@@ -5,6 +5,7 @@ use Rattle.region_table.specs.declared.declared.TaskDecl.{TaskDecl}
 use Rattle.rv_isa.specs.declared.instr.Instr as instr
 use Rattle.rv_isa.specs.declared.instr.Instr.{Instr}
 use Rattle.rv_core.specs.declared.task.TaskState.{TaskState}
+use Rattle.rv_core.specs.declared.task.End as cause
 use Rattle.rv_core.specs.declared.need.Need.{Need}
 use Rattle.rv_core.specs.declared.need.Need.TheVariants.{Local, Load, Store, Acquire, Release, End}
 use Rattle.rv_core.specs.Access.{holds, may_load, may_store}
@@ -25,6 +26,11 @@ abbrev pub IsAdvance : Need → Type 0
 IsAdvance (Load word) = ⊥
 IsAdvance (End cause) = ⊥
 IsAdvance _ = Unit {0}
+
+-- the task ends as it has used up its fuel
+abbrev pub EndsByFuel : Need → Type 0
+EndsByFuel (End cause.TheVariants.Fuel) = Unit {0}
+EndsByFuel _ = ⊥
 
 -- what a need says of the task, whose state is `next` once the instruction has retired: the word of a load or store is
 -- a data word that the task may load or store with the locks that it holds, a lock that it acquires is the program's and

@@ -1,5 +1,5 @@
 -- Addresses: which code word and which data word stands at an address, and how the bytes of a word are used.
-use Rattle.std.specs.Prelude.{ℕ, ◌+◌, ◌-◌, ◌/◌, ◌%◌, ◌^◌, ℤ, Bool, true, false, ◌&&◌, nat_le, nat_lt, ◌==◌, List, slice_get, slice_index, slice_set, Option, Some, None, if◌then◌else◌, [], ◌∷◌}
+use Rattle.std.specs.Prelude.{ℕ, ◌+◌, ◌-◌, ◌/◌, ◌%◌, Bool, true, false, ◌&&◌, nat_le, nat_lt, ◌==◌, List, slice_get, slice_index, slice_set, Option, Some, None, if◌then◌else◌, [], ◌∷◌}
 use Rattle.std.specs.Int.{w8, w16, w32, cast_signed, cast_unsigned, to_le_bytes, from_le_bytes}
 use Rattle.rv_isa.specs.declared.instr.Width.{Width}
 use Rattle.rv_isa.specs.declared.instr.Width as width

@@ -1,5 +1,5 @@
 -- What a task's next instruction does to the task's own state, and to the word that it stores.
-use Rattle.std.specs.Prelude.{◌≡◌, ◌≢◌, ℕ, ◌+◌, ◌*◌, ◌%◌, ◌^◌, Bool, ◌==◌, List, slice_index, Option, Some, None, if◌then◌else◌, bit_or, bit_xor}
+use Rattle.std.specs.Prelude.{ℕ, ◌+◌, ◌*◌, ◌%◌, ◌^◌, ◌==◌, slice_index, Option, Some, None, if◌then◌else◌, bit_or, bit_xor}
 use Rattle.region_table.specs.Program.{ProgramParts}
 use Rattle.rv_isa.specs.Encoding.{decoded}
 use Rattle.rv_isa.specs.Meaning.{alu_of, taken_of}

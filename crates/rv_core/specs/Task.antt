@@ -1,5 +1,5 @@
 -- A task's state: how it starts, and how it ends.
-use Rattle.std.specs.Prelude.{ℕ, ◌+◌, List, replicate, slice_set, Some, None}
+use Rattle.std.specs.Prelude.{◌+◌, replicate, slice_set, Some, None}
 use Rattle.region_table.specs.declared.declared.TaskDecl.{TaskDecl}
 use Rattle.rv_core.specs.declared.task.TaskState.{TaskState}
 use Rattle.rv_core.specs.declared.task.End.{End}

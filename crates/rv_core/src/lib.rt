@@ -16,3 +16,6 @@ mod task;
 pub use ending::{EndShown, Ending, TaskEnd};
 pub use need::Need;
 pub use task::{End, TaskState, TrapKind};
+
+#[cfg(test)]
+mod tests;

@@ -1,7 +1,7 @@
-ghost use Rattle.std.specs.Prelude.{◌≡◌, ℕ, ◌+◌, ◌%◌, ◌^◌, ◌<◌, ◌≤◌, Bool, Option, None, option_map, length};
+ghost use Rattle.std.specs.Prelude.{◌≡◌, ◌↔◌, ℕ, ◌+◌, ◌%◌, ◌^◌, ◌<◌, ◌≤◌, Bool, Option, None, option_map, length};
 ghost use Rattle.region_table.specs.Program.{AreEffects};
 ghost use Rattle.rv_core.specs.Need.{need_of, traps, address_of, jump_target, register_target, jump_need, load_need, store_need, call_need, instr_need};
-ghost use Rattle.rv_core.specs.Kinds.{Allowed};
+ghost use Rattle.rv_core.specs.Kinds.{Allowed, EndsByFuel};
 ghost use Rattle.rv_core.specs.Place.{data_at, size_of};
 
 use crate::access::{is_held, is_readable, is_writable, least_lock};
@@ -200,6 +200,9 @@ impl TaskState {
     pub fn need(&self, program: &Program, task: &TaskDecl, fuel: u32) -> Need
         requires { self.now.end ≡ None }
         ensures value { result ≡ need_of program.now task.now fuel self.now }
+
+        // a task ends by Fuel once it has retired as many instructions as it may, and never before
+        ensures fuel { EndsByFuel result ↔ (self.now.retired ≡ fuel) }
 
         // the word or lock of the need is one that the task may use so
         ensures allowed { Allowed program.now task.now self.now result }

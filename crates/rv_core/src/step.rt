@@ -170,6 +170,8 @@ impl TaskState {
         ensures retired { self.new.retired ≡ self.old.retired + 1 }
         ensures within { self.new.retired ≤ fuel }
         ensures others { KeepsOthers (instr_at program.now self.old) self.old self.new }
+        ensures zero { slice_index self.new.regs 0 ≡ slice_index self.old.regs 0 }
+        ensures open { self.new.end ≡ None }
     {
         match instruction(program, self) {
             Some(instr) => self.advance_by(instr),
@@ -190,6 +192,8 @@ impl TaskState {
         ensures retired { self.new.retired ≡ self.old.retired + 1 }
         ensures within { self.new.retired ≤ fuel }
         ensures others { KeepsOthers (instr_at program.now self.old) self.old self.new }
+        ensures zero { slice_index self.new.regs 0 ≡ slice_index self.old.regs 0 }
+        ensures open { self.new.end ≡ None }
         ensures locks { self.new.held ≡ self.old.held }
     {
         match instruction(program, self) {

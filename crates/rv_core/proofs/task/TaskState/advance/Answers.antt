@@ -1,6 +1,5 @@
-use Rattle.std.proofs.Common.{◌≡◌, ◌+◌, ◌<◌, Some, arith, ap, sym, slice_index, length, ◌∙◌}
-use Rattle.rv_core.specs.Step.{advanced, instr_at}
-use Rattle.rv_core.proofs.Needs.{advance-tells, advance_lock, advance_retires, advance_some, fuelled}
+use Rattle.std.proofs.Common.{arith, sym}
+use Rattle.rv_core.proofs.Needs.{advance_lock, advance_retires, advance_some, fuelled}
 use Rattle.rv_core.specs.Kinds.{IsAdvance}
 use Rattle.rv_core.proofs.task.TaskState.advance.Goals as goal
 

@@ -1,4 +1,4 @@
-use Rattle.std.proofs.Common.{◌≡◌, ◌+◌, ◌<◌, Some, arith, sym}
+use Rattle.std.proofs.Common.{arith, sym}
 use Rattle.rv_core.proofs.Needs.{load_retires, load_some, fuelled}
 use Rattle.rv_core.specs.Kinds.{IsLoad}
 use Rattle.rv_core.proofs.task.TaskState.loaded.Goals as goal
