@@ -1,6 +1,9 @@
 use crate::denovo_main;
 use dn_base::{Memory, OpenGate, TextSource, VecSink};
+use std::alloc::Global;
+use std::sync::Wait;
 use std::test::Fail;
+use std::thread::Threads;
 
 const STORE_FIVE: &str =
     ".region m, 1\n.phase\n.task 0, go, 0\n.writes m\ngo: lui t0, 0x10000\n addi t1, x0, 5\n sw t1, 0(t0)\n addi a7, x0, 0\n ecall\n";
@@ -9,14 +12,16 @@ const ANSWER: &str =
     "outcome done\ntask 0 0 finished retired 5\nwords 1\nword 0x10000000 0x00000005\n";
 
 /// The exit code and the output of the program on these words and this text, read and written without a fault.
-fn run(rt: &HostRuntime, words: &[String], text: &[u8]) -> Result<(u8, Vec<u8>), Memory> {
-    let mut source = TextSource::new(rt.alloc(), text, 4096, &[])?;
-    let mut sink = VecSink::new(rt.alloc(), 4096, 4096, &[])?;
-    let answer = denovo_main(rt, rt.alloc(), words, &mut source, &mut sink, &OpenGate);
-    Ok((
-        answer.status.code(),
-        Vec::from_slice(rt.alloc(), sink.bytes())?,
-    ))
+fn run<R: Threads + Wait + Sync>(
+    rt: &R,
+    alloc: Global,
+    words: &[String],
+    text: &[u8],
+) -> Result<(u8, Vec<u8>), Memory> {
+    let mut source = TextSource::new(alloc, text, 4096, &[])?;
+    let mut sink = VecSink::new(alloc, 4096, 4096, &[])?;
+    let answer = denovo_main(rt, alloc, words, &mut source, &mut sink, &OpenGate);
+    Ok((answer.status.code(), Vec::from_slice(alloc, sink.bytes())?))
 }
 
 #[test]
@@ -50,7 +55,7 @@ fn texts_run_or_are_refused_with_their_first_line(rt: HostRuntime) -> Result<(),
         (".region m, 65537\n", 2, "refused source 1 unknown-word\n"),
     ];
     for (text, code, output) in cases {
-        let answer = run(&rt, &[], text.as_bytes())?;
+        let answer = run(&rt, rt.alloc(), &[], text.as_bytes())?;
         assert_eq!(rt; answer.0, code, "{text}");
         assert_eq!(rt; answer.1.as_slice(), output.as_bytes(), "{text}");
     }
@@ -61,11 +66,11 @@ fn texts_run_or_are_refused_with_their_first_line(rt: HostRuntime) -> Result<(),
 fn a_text_of_one_byte_too_many_is_refused(rt: HostRuntime) -> Result<(), Fail> {
     let most = vec![in rt.alloc(); b'\n'; 1_048_576]?;
     assert_eq!(rt;
-        run(&rt, &[], &most)?.1.as_slice(),
+        run(&rt, rt.alloc(), &[], &most)?.1.as_slice(),
         b"refused source 1 unknown-word\n".as_slice()
     );
     let more = vec![in rt.alloc(); b'\n'; 1_048_577]?;
-    let answer = run(&rt, &[], &more)?;
+    let answer = run(&rt, rt.alloc(), &[], &more)?;
     assert_eq!(rt; answer.0, 2);
     assert_eq!(rt;
         answer.1.as_slice(),
@@ -77,7 +82,7 @@ fn a_text_of_one_byte_too_many_is_refused(rt: HostRuntime) -> Result<(), Fail> {
 #[test]
 fn a_word_is_refused(rt: HostRuntime) -> Result<(), Fail> {
     let words = vec![in rt.alloc(); "x".to_string(rt.alloc())?]?;
-    let answer = run(&rt, &words, STORE_FIVE.as_bytes())?;
+    let answer = run(&rt, rt.alloc(), &words, STORE_FIVE.as_bytes())?;
     assert_eq!(rt; answer.0, 1);
     assert_eq!(rt; answer.1.as_slice(), b"refused usage\n".as_slice());
     Ok(())

@@ -6,5 +6,7 @@
 
 mod answer;
 mod pieces;
+#[cfg(test)]
+mod tests;
 
 pub use answer::answer_text;
