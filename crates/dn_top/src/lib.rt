@@ -47,8 +47,8 @@ fn finish<K: Sink>(sink: &mut K, bytes: &[u8], status: Status) -> Answer
 
 /// Answers these command words and this source on one thread.
 ///
-/// No word is taken yet. The source is read to its end, or until 1,048,577 bytes came; its text is read as a program,
-/// which runs; the whole answer is made, and then written and flushed. The first step that refuses decides.
+/// No word is taken yet. A text is read whole, or one byte past the most that a text may have; it is taken as a program,
+/// which runs; its whole answer is made, and only then written and flushed. What refuses first decides.
 pub fn answer_words<S: Source, K: Sink>(
     alloc: Global,
     words: &[String],
