@@ -1,0 +1,63 @@
+ghost use Rattle.std.specs.Prelude.{◌≡◌};
+
+use region_table::Program;
+use std::marker::Model;
+
+/// A program whose declared effects are checked: in each phase
+///
+/// - a word that a task writes plainly, that is whatever locks it holds, is read or written plainly by no other task,
+/// - a word that a lock guards for some task is read or written plainly by no task, and
+/// - a word is guarded by one lock at the most.
+///
+/// Contracts see the program, and every `Checked` is checked.
+#[derive(Debug, Drop)]
+pub struct Checked {
+    program: Program,
+}
+
+impl Model for Checked {
+    ghost use Rattle.region_table.specs.Program.{ProgramParts};
+    ghost use Rattle.effect_checker.specs.Checked.{IsChecked};
+
+    ghost Value = { ProgramParts };
+
+    ghost view = { λ c. c.program };
+
+    ghost invariant = { λ c. IsChecked c.program };
+}
+
+impl Checked {
+    ghost use Rattle.effect_checker.specs.Checked.{IsChecked};
+
+    /// The checked program; takes no memory.
+    pub(crate) fn of_program(program: Program) -> Checked
+        requires { IsChecked program }
+        ensures { result ≡ program }
+    {
+        Checked { program }
+    }
+
+    /// The program that was checked. Takes no memory.
+    pub fn program(&self) -> &Program
+        ensures value { result.now ≡ self.now }
+        ensures checked { IsChecked self.now }
+    {
+        &self.program
+    }
+
+    /// Gives the program back. Takes no memory.
+    pub fn into_program(self) -> Program
+        ensures value { result ≡ self }
+        ensures checked { IsChecked self }
+    {
+        let Checked { program } = self;
+        program
+    }
+}
+
+fn crosses<T: Send + Sync>(_value: &T) {}
+
+/// A checked program may be sent to another thread, and shared with it.
+pub(crate) fn checked_crosses(checked: &Checked) {
+    crosses(checked);
+}
