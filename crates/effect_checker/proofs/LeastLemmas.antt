@@ -1,8 +1,10 @@
 -- The least word of a search, where the test is said in another way or put together from others.
-use Rattle.std.proofs.Common.{◌≡◌, ℕ, ◌+◌, ◌<◌, Bool, true, false, ◌&&◌, ◌||◌, Option, Some, None, List, length, get_or, take, refl, sym, ap, ◌∙◌}
+use Rattle.std.proofs.Common.{◌≡◌, ℕ, ◌+◌, ◌<◌, Bool, true, false, ◌&&◌, ◌||◌, Option, Some, None, List, [], length, get_or, take, refl, sym, ap, ◌∙◌}
 use Rattle.std.proofs.lemmas.List.Folds.{list_any_more}
 use Rattle.dn_base.specs.declared.ids.WordId.{WordId}
+use Rattle.region_table.specs.declared.interval.Interval.{Interval}
 use Rattle.region_table.specs.declared.declared.TaskDecl.{TaskDecl}
+use Rattle.region_table.specs.Words.{has}
 use Rattle.region_table.specs.Plan.{task_guards}
 use Rattle.effect_checker.specs.Checked.{lock_guards}
 use Rattle.effect_checker.specs.Least.{IsLeastWord, IsLeastFound}
@@ -42,6 +44,12 @@ least_right s r t a b found lesser h k =
 pub least_left : (r t s : ℕ → Bool) (a b found : Option WordId) → IsLesser a b found → IsLeastFound (λ w. r w && s w) a → IsLeastFound (λ w. t w && s w) b → IsLeastFound (λ w. (r w || t w) && s w) found
 least_left r t s a b found lesser h k =
     least_same (λ w. (r w && s w) || (t w && s w)) (λ w. (r w || t w) && s w) found (λ w. or_and (r w) (t w) (s w)) (lesser (λ w. r w && s w) (λ w. t w && s w) h k)
+
+-- the sets of a slice are those of the sequence that it comes from
+pub least_in_sequence : (slice sets : List (List Interval)) (s : ℕ → Bool) (lock : ℕ) (found : Option WordId) → slice ≡ sets
+    → IsLeastFound (λ w. has (get_or slice lock []) w && s w) found → IsLeastFound (λ w. has (get_or sets lock []) w && s w) found
+least_in_sequence slice sets s lock found e h =
+    least_same (λ w. has (get_or slice lock []) w && s w) (λ w. has (get_or sets lock []) w && s w) found (λ w. ap (λ (x : List (List Interval)). has (get_or x lock []) w && s w) e) h
 
 -- one task more
 guards_more : (tasks : List TaskDecl) (k : ℕ) (t : TaskDecl) (lock w : ℕ) → k < length tasks → t ≡ get_or tasks k t → lock_guards (take (k + 1) tasks) lock w ≡ (lock_guards (take k tasks) lock w || task_guards t lock w)

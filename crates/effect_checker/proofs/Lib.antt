@@ -1,1 +1,3 @@
 pub mod LeastLemmas
+pub mod CoreLemmas
+pub mod FirstLemmas
