@@ -3,6 +3,7 @@ use Rattle.std.proofs.Common.{◌≡◌, ℕ, ◌+◌, ◌<◌, ◌≤◌, ◌&&
 use Rattle.std.specs.List.{Any, list_any}
 use Rattle.std.proofs.lemmas.Bool.{and_parts, and_from, or_cases, eqb-true, eq-eqb, cases_lt, cases_order}
 use Rattle.std.proofs.lemmas.List.{get_or_default, get_or_read, get_or-take, length-take-le}
+use Rattle.std.proofs.Math.Seq.{take-length}
 use Rattle.std.proofs.lemmas.List.Folds.{Any-from_list_any, list_any-from_Any, list_any_more}
 use Rattle.region_table.specs.declared.declared.TaskDecl.{TaskDecl}
 use Rattle.effect_checker.specs.Checked.{on_core}
@@ -104,6 +105,13 @@ on_core-more test tasks k core w t at' h =
 pub none_more : (test : TaskDecl → ℕ → Bool) (tasks : List TaskDecl) (k : ℕ) (t : TaskDecl) → IsAt tasks k t → NonePasses test (take k tasks) → ((w : ℕ) → IsTrue (test t w) → ⊥) → NonePasses test (take (k + 1) tasks)
 none_more test tasks k t at' none here = λ core w h.
     ⊎_elim (λ e. none core w e) (λ e. here w e.1) (on_core-more test tasks k core w t at' h)
+
+-- no task passes where none of the tasks before the end does
+pub none_whole : (test : TaskDecl → ℕ → Bool) (tasks : List TaskDecl) (k : ℕ) → k ≤ length tasks → length tasks ≤ k → NonePasses test (take k tasks) → NonePasses test tasks
+none_whole test tasks k l m none =
+    let e : k ≡ length tasks = omega arith in
+    let whole : take k tasks ≡ tasks = ap (λ i. take i tasks) e ∙ take-length tasks in
+    rw whole at none
 
 -- the first task at which some word passes
 pub first_passing : (test : TaskDecl → ℕ → Bool) (tasks : List TaskDecl) (k word : ℕ) (t : TaskDecl) → AreRising tasks → IsAt tasks k t → NonePasses test (take k tasks) → IsLeastWord (test t) word

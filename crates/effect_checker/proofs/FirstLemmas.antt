@@ -85,23 +85,3 @@ guarded_first tasks lock core word none h = record {
 pub none_below_more : (R : ℕ → ℕ → ℕ → Type 0) (n : ℕ) → ((a b w : ℕ) → a < n → R a b w → ⊥) → ((b w : ℕ) → R n b w → ⊥) → (a b w : ℕ) → a < n + 1 → R a b w → ⊥
 none_below_more R n none here a b w l h =
     ⊎_elim (λ (m : a < n). none a b w m h) (λ (m : n ≤ a). let e : a ≡ n = omega arith in let same : R n b w = rw (sym e) h in here b w same) (cases_lt a n)
-
--- the first lock with a greater number that guards a word of the lock
-pub other_first : (tasks : List TaskDecl) (lock other word : ℕ) → lock < other → ((b w : ℕ) → b < other → AreTwoLocks tasks lock b w → ⊥)
-    → IsLeastWord (λ w. lock_guards tasks lock w && lock_guards tasks other w) word → IsFirstPair (AreTwoLocks tasks lock) other word
-other_first tasks lock other word l none h =
-    let both = and_parts (lock_guards tasks lock word) (lock_guards tasks other word) h.passes in
-    record {
-      holds = (l, both.0, both.1);
-      lesser = none;
-      least = λ w e. h.least w (and_from (lock_guards tasks lock w) (lock_guards tasks other w) e.1 e.2);
-    }
-
--- one lock more that guards no word of the lock
-pub other_more : (tasks : List TaskDecl) (lock other : ℕ) → ((b w : ℕ) → b < other → AreTwoLocks tasks lock b w → ⊥)
-    → ((w : ℕ) → IsTrue (lock_guards tasks lock w && lock_guards tasks other w) → ⊥) → (b w : ℕ) → b < other + 1 → AreTwoLocks tasks lock b w → ⊥
-other_more tasks lock other none here b w l h =
-    ⊎_elim (λ (m : b < other). none b w m h)
-    (λ (m : other ≤ b). let e : b ≡ other = omega arith in
-    let same : IsTrue (lock_guards tasks other w) = sym (ap (λ x. lock_guards tasks x w) e) ∙ h.2 in
-    here w (and_from (lock_guards tasks lock w) (lock_guards tasks other w) h.1 same)) (cases_lt b other)

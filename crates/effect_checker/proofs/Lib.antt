@@ -1,3 +1,4 @@
 pub mod LeastLemmas
 pub mod CoreLemmas
 pub mod FirstLemmas
+pub mod FaultLemmas
