@@ -76,12 +76,12 @@ pub on_core-before : (test : TaskDecl → ℕ → Bool) (tasks : List TaskDecl) 
 on_core-before test tasks k core w t rising at' l h =
     let p = on_core-some test tasks core w h in
     let before : p.place < k = ⊎_elim (λ (m : p.place < k). m)
-        (λ (m : k ≤ p.place). absurd (⊎_elim
-        (λ (s : p.place ≡ k). let e : p.task.core.0 ≡ t.core.0 = ap (λ (x : TaskDecl). x.core.0) (same_place tasks p.place k p.task t p.at_place at' s) in let on = p.on in let bad : ⊥ = omega arith in bad)
-        (λ o. ⊎_elim (λ (n : p.place < k). let bad : ⊥ = omega arith in bad)
-        (λ (n : k < p.place). let r = places_rise tasks k p.place t p.task rising at' p.at_place n in let on = p.on in let bad : ⊥ = omega arith in bad) o)
-        (cases_order p.place k)))
-        (cases_lt p.place k) in
+    (λ (m : k ≤ p.place). absurd (⊎_elim
+    (λ (s : p.place ≡ k). let e : p.task.core.0 ≡ t.core.0 = ap (λ (x : TaskDecl). x.core.0) (same_place tasks p.place k p.task t p.at_place at' s) in let on = p.on in let bad : ⊥ = omega arith in bad)
+    (λ o. ⊎_elim (λ (n : p.place < k). let bad : ⊥ = omega arith in bad)
+    (λ (n : k < p.place). let r = places_rise tasks k p.place t p.task rising at' p.at_place n in let on = p.on in let bad : ⊥ = omega arith in bad) o)
+    (cases_order p.place k)))
+    (cases_lt p.place k) in
     let within : k < length tasks = at'.within in
     let long : length (take k tasks) ≡ k = length-take-le k tasks (omega arith) in
     on_core-from test (take k tasks) core w p.place p.task

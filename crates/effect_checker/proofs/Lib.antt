@@ -2,3 +2,4 @@ pub mod LeastLemmas
 pub mod CoreLemmas
 pub mod FirstLemmas
 pub mod FaultLemmas
+pub mod SeparationLemmas

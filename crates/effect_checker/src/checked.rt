@@ -1,4 +1,9 @@
-ghost use Rattle.std.specs.Prelude.{◌≡◌};
+ghost use Rattle.std.specs.Prelude.{◌≡◌, ◌≢◌, ℕ, IsTrue};
+ghost use Rattle.std.specs.List.{IsAmong};
+ghost use Rattle.region_table.specs.declared.declared.TaskDecl.{TaskDecl};
+ghost use Rattle.region_table.specs.declared.declared.Phase.{Phase};
+ghost use Rattle.region_table.specs.Program.{ProgramParts};
+ghost use Rattle.region_table.specs.Plan.{uses_plainly, task_guards};
 
 use region_table::Program;
 use std::marker::Model;
@@ -27,7 +32,7 @@ impl Model for Checked {
 }
 
 impl Checked {
-    ghost use Rattle.effect_checker.specs.Checked.{IsChecked};
+    ghost use Rattle.effect_checker.specs.Checked.{IsChecked, writes_plainly};
 
     /// The checked program; takes no memory.
     pub(crate) fn of_program(program: Program) -> Checked
@@ -53,6 +58,26 @@ impl Checked {
         let Checked { program } = self;
         program
     }
+
+    /// A word that a task writes plainly is read or written plainly by no task on another core, in any phase of a checked
+    /// program.
+    pub fn plain_words_are_apart()
+        ensures { (program : ProgramParts) (p : Phase) (t u : TaskDecl) (w : ℕ) → IsChecked program → IsAmong program.phases p → IsAmong p.tasks t → IsAmong p.tasks u
+            → t.core.0 ≢ u.core.0 → IsTrue (writes_plainly t w) → IsTrue (uses_plainly u w) → ⊥ }
+    {}
+
+    /// A word that a lock guards for a task is read or written plainly by no task, the same one among them, in any phase
+    /// of a checked program.
+    pub fn guarded_words_are_not_plain()
+        ensures { (program : ProgramParts) (p : Phase) (t u : TaskDecl) (lock w : ℕ) → IsChecked program → IsAmong program.phases p → IsAmong p.tasks t → IsAmong p.tasks u
+            → IsTrue (task_guards t lock w) → IsTrue (uses_plainly u w) → ⊥ }
+    {}
+
+    /// A word is guarded by one lock at the most, whichever tasks it is guarded for, in any phase of a checked program.
+    pub fn guarded_words_have_one_lock()
+        ensures { (program : ProgramParts) (p : Phase) (t u : TaskDecl) (a b w : ℕ) → IsChecked program → IsAmong program.phases p → IsAmong p.tasks t → IsAmong p.tasks u
+            → IsTrue (task_guards t a w) → IsTrue (task_guards u b w) → a ≡ b }
+    {}
 }
 
 fn crosses<T: Send + Sync>(_value: &T) {}

@@ -7,6 +7,8 @@ mod checking;
 mod fault;
 mod least;
 mod searching;
+#[cfg(test)]
+mod tests;
 
 pub use checked::Checked;
 pub use checking::check;
