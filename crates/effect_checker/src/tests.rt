@@ -1,6 +1,6 @@
-ghost use Rattle.std.specs.Prelude.{◌≡◌, ◌<◌, length, IfOk};
+ghost use Rattle.std.specs.Prelude.{◌≡◌, ◌<◌, [], ◌∷◌, length, IfOk};
 ghost use Rattle.std.specs.List.{All};
-ghost use Rattle.region_table.specs.Program.{LiesIn, AreEffects, IsTask, IsPhase};
+ghost use Rattle.region_table.specs.Program.{LiesIn, IsTask, IsPhase, tasks_of};
 
 use crate::{CheckFault, check};
 use dn_base::{CoreId, LockId, Memory, Name, PhaseId, Sequence, WordId};
@@ -84,23 +84,55 @@ fn phase(alloc: Global, uses: &[Uses; 2]) -> Result<Phase, Memory>
     Ok(Phase { tasks })
 }
 
-/// A program of 16 words in one region, two locks, and two phases.
-fn program(alloc: Global, uses: &[[Uses; 2]; 2]) -> Result<Program, Memory> {
+/// One region, m.
+fn one_region(alloc: Global) -> Result<Sequence<Region>, Memory>
+    ensures { IfOk result (λ regions. regions ≡ record { name = 109 ∷ []; start = 0; len = 16 } ∷ []) }
+{
+    let name = Name::new(alloc, b"m")?;
     let mut regions = Sequence::new(alloc);
     regions.push(Region {
-        name: Name::new(alloc, b"m")?,
+        name,
         start: 0,
         len: 16,
     })?;
+    Ok(regions)
+}
+
+/// Two locks, k and j.
+fn two_locks(alloc: Global) -> Result<Sequence<Name>, Memory>
+    ensures { IfOk result (λ locks. locks ≡ (107 ∷ []) ∷ (106 ∷ []) ∷ []) }
+{
+    let k = Name::new(alloc, b"k")?;
+    let j = Name::new(alloc, b"j")?;
     let mut locks = Sequence::new(alloc);
-    locks.push(Name::new(alloc, b"k")?)?;
-    locks.push(Name::new(alloc, b"j")?)?;
+    locks.push(k)?;
+    locks.push(j)?;
+    Ok(locks)
+}
+
+/// Two phases of two tasks each.
+fn two_phases(alloc: Global, uses: &[[Uses; 2]; 2]) -> Result<Sequence<Phase>, Memory>
+    ensures well { IfOk result (All (IsPhase 16 2)) }
+    ensures two { IfOk result (λ phases. length phases ≡ 2) }
+    ensures tasks { IfOk result (λ phases. length (tasks_of phases) ≡ 4) }
+{
+    let first = phase(alloc, &uses[0])?;
+    let second = phase(alloc, &uses[1])?;
     let mut phases = Sequence::new(alloc);
-    phases.push(phase(alloc, &uses[0])?)?;
-    phases.push(phase(alloc, &uses[1])?)?;
+    phases.push(first)?;
+    phases.push(second)?;
+    Ok(phases)
+}
+
+/// A program of 16 words in one region, two locks, and two phases.
+fn program(alloc: Global, uses: &[[Uses; 2]; 2]) -> Result<Program, Memory> {
+    let memory = Vec::from_slice(alloc, &[0; 16])?;
+    let regions = one_region(alloc)?;
+    let locks = two_locks(alloc)?;
+    let phases = two_phases(alloc, uses)?;
     Ok(Program {
         code: Sequence::new(alloc),
-        memory: Sequence::from_vec(Vec::from_slice(alloc, &[0; 16])?),
+        memory: Sequence::from_vec(memory),
         regions,
         locks,
         phases,
