@@ -1,0 +1,12 @@
+use Rattle.effect_checker.specs.Least.{contends}
+use Rattle.effect_checker.proofs.CoreLemmas.{first_passing, none_whole}
+use Rattle.effect_checker.proofs.searching.first_user.Goals as goal
+
+pub returns-in-Some-clause-some : goal.returns-in-Some-clause-some
+returns-in-Some-clause-some c =
+    first_passing (contends c.args.writer.now) c.args.tasks.now c.loop-user.user-index _ c.user-item.result c.requires.rising (record { within = c.loop-user-test.true; is = c.user-item.is }) c.loop-user.invariant
+    c.in-Some.ensures
+
+pub returns-clause-none : goal.returns-clause-none
+returns-clause-none c =
+    none_whole (contends c.args.writer.now) c.args.tasks.now c.loop-user.user-index c.loop-user.auto.user-index-end c.loop-user-test.false c.loop-user.invariant

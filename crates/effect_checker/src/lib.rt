@@ -1,0 +1,15 @@
+//! The checker of declared effects: whether the tasks of each phase keep out of each other's words, and the first conflict
+//! where they don't.
+#![tactic(auto)]
+
+mod checked;
+mod checking;
+mod fault;
+mod least;
+mod searching;
+#[cfg(test)]
+mod tests;
+
+pub use checked::Checked;
+pub use checking::check;
+pub use fault::CheckFault;
