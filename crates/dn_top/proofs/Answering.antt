@@ -1,5 +1,5 @@
 -- What follows of the text that was read, and of the answer to it that was written or not.
-use Rattle.std.proofs.Common.{◌≡◌, ◌≢◌, ◌⊎◌, inl, inr, ℕ, ◌+◌, ◌<◌, ◌≤◌, nat_lt, Bool, true, false, cond, List, [], ◌∷◌, ◌++◌, length, Option, Some, None, IfSome, refl, sym, ap, subst, ◌∙◌, arith, length-append, append-nil}
+use Rattle.std.proofs.Common.{◌≡◌, ◌≢◌, ◌⊎◌, inl, inr, ℕ, ◌+◌, ◌<◌, ◌≤◌, nat_lt, Bool, true, false, cond, List, [], ◌∷◌, ◌++◌, length, Option, Some, None, IfSome, IsTrue, Result, Ok, Err, refl, sym, ap, subst, ◌∙◌, arith, length-append, append-nil}
 use Rattle.std.proofs.lemmas.Bool.Decides.{nat_tests}
 use Rattle.std.specs.Io.KnownBytes.{Consumes, Appends, IsAtEnd, Keeps}
 use Rattle.dn_base.specs.declared.status.Status.{Status}
@@ -8,37 +8,52 @@ use Rattle.dn_base.specs.declared.status.Outcome.{Outcome}
 use Rattle.dn_base.specs.declared.status.Outcome as outcome
 use Rattle.dn_base.specs.Status.{status_of}
 use Rattle.dn_base.specs.Faults.{Rose}
+use Rattle.region_table.specs.Program.{ProgramParts}
+use Rattle.rv_assembler.specs.declared.fault.SourceFault.{SourceFault}
+use Rattle.rv_assembler.specs.declared.fault.SourceFault as fault
+use Rattle.rv_assembler.specs.Source.{source}
+use Rattle.run_report.specs.declared.refusal.Refusal as refusal
 use Rattle.run_report.specs.Answer.{answer_of}
+use Rattle.run_report.specs.Refusal.{refusal_of}
 use Rattle.dn_top.specs.declared.answers.Output.{Output}
-use Rattle.dn_top.specs.FirstForm.{bad_line, program_of}
-use Rattle.dn_top.specs.Answers.{IsOutcome, IsFinished, IsRefused, IsForm, Ran, run_of, answered, answer_to, answer_by, large_line, unknown_line}
+use Rattle.dn_top.specs.Answers.{IsOutcome, IsFinished, IsRefused, Ran, run_of, is_single, answered, refused, ran, answer_to, answer_by, answer_if, not_built_line}
 use Rattle.dn_top.specs.Outside.{IsRead, TookFront}
 
 -- ---- the three answers to a text
 
 pub data Kind (x : List ℕ) : Type 0 where
-  large : 1048576 < length x → answer_to x ≡ answered status.TheVariants.SourceRefused large_line → Kind x
-  unknown : (line : ℕ) → length x ≤ 1048576 → bad_line x ≡ Some line → answer_to x ≡ answered status.TheVariants.SourceRefused (unknown_line line) → Kind x
-  taken : length x ≤ 1048576 → bad_line x ≡ None → answer_to x ≡ answered (status_of (run_of (program_of x)).outcome) (answer_of (run_of (program_of x))) → Kind x
+  faulty : (f : SourceFault) → source x ≡ Err f → answer_to x ≡ refused (refusal_of (refusal.TheVariants.Source f)) → Kind x
+  unbuilt : (P : ProgramParts) → source x ≡ Ok P → is_single P ≡ false → answer_to x ≡ refused not_built_line → Kind x
+  taken : (P : ProgramParts) → source x ≡ Ok P → is_single P ≡ true → answer_to x ≡ ran (run_of P) → Kind x
 
-answer-large : (x : List ℕ) → 1048576 < length x → answer_to x ≡ answered status.TheVariants.SourceRefused large_line
+answer-source : (x : List ℕ) (r : Result ProgramParts SourceFault) → source x ≡ r → answer_to x ≡ answer_by r
 unfolding answer_to
-answer-large x more = let test : nat_lt 1048576 (length x) ≡ true = grind (arith, nat_tests) in rw test
+answer-source x r e = ap answer_by e
 
-answer-small : (x : List ℕ) → length x ≤ 1048576 → answer_to x ≡ answer_by x (bad_line x)
-unfolding answer_to
-answer-small x less = let test : nat_lt 1048576 (length x) ≡ false = grind (arith, nat_tests) in rw test
+kind_if : (x : List ℕ) (P : ProgramParts) (b : Bool) → source x ≡ Ok P → is_single P ≡ b → answer_to x ≡ answer_if P b → Kind x
+kind_if x P true e test is = taken P e test is
+kind_if x P false e test is = unbuilt P e test is
 
-kind_small : (x : List ℕ) (b : Option ℕ) → length x ≤ 1048576 → bad_line x ≡ b → answer_to x ≡ answer_by x b → Kind x
-kind_small x None less bad is = taken less bad is
-kind_small x (Some line) less bad is = unknown line less bad is
-
-kind_by : (x : List ℕ) (b : Bool) → nat_lt 1048576 (length x) ≡ b → Kind x
-kind_by x true test = let more : 1048576 < length x = grind (arith, nat_tests) in large more (answer-large x more)
-kind_by x false test = let less : length x ≤ 1048576 = grind (arith, nat_tests) in kind_small x (bad_line x) less refl (answer-small x less)
+kind_by : (x : List ℕ) (r : Result ProgramParts SourceFault) → source x ≡ r → Kind x
+kind_by x (Err f) e = faulty f e (answer-source x (Err f) e)
+kind_by x (Ok P) e = kind_if x P (is_single P) e refl (answer-source x (Ok P) e)
 
 pub kind_of : (x : List ℕ) → Kind x
-kind_of x = kind_by x (nat_lt 1048576 (length x)) refl
+kind_of x = kind_by x (source x) refl
+
+source-large : (x : List ℕ) → 1048576 < length x → source x ≡ Err fault.TheVariants.TooLarge
+source-large x more = let test : nat_lt 1048576 (length x) ≡ true = grind (arith, nat_tests) in rw test
+
+answer-large : (x : List ℕ) → 1048576 < length x → answer_to x ≡ answer_by (Err fault.TheVariants.TooLarge)
+answer-large x more = answer-source x (Err fault.TheVariants.TooLarge) (source-large x more)
+
+-- a text with a program isn't too large
+source-small : (x : List ℕ) (P : ProgramParts) → source x ≡ Ok P → length x ≤ 1048576
+source-small x P e = by_test (nat_lt 1048576 (length x)) refl
+    where
+    by_test : (b : Bool) → nat_lt 1048576 (length x) ≡ b → length x ≤ 1048576
+    by_test true test = let more : 1048576 < length x = grind (arith, nat_tests) in let large = source-large x more in cc
+    by_test false test = grind (arith, nat_tests)
 
 -- ---- what was read of a text
 
@@ -64,6 +79,12 @@ same_answer t text (Some rest) read = by_test (nat_lt (length text) 1048577) ref
         let counted = ap length read.bytes in
         answer-large text (omega arith) ∙ sym (answer-large t (omega (arith, length-append text rest)))
 
+is_true : {b : Bool} → b ≡ true → IsTrue b
+is_true {b} e = subst IsTrue (sym e) tt
+
+not_true : {b : Bool} → b ≡ false → IsTrue b → ⊥
+not_true {b} e t = let F : Bool → Type 0 = IsTrue in subst F e t
+
 -- ---- the statuses of an answer
 
 -- the status is that of a refused text or of an outcome
@@ -71,9 +92,9 @@ abbrev IsPlain : Status → Type 0
 IsPlain s = (s ≡ status.TheVariants.SourceRefused) ⊎ ((o : Outcome) × (s ≡ status_of o))
 
 plain_of : (x : List ℕ) (s : Status) → Kind x → s ≡ (answer_to x).status → IsPlain s
-plain_of x s (large more is) e = inl (e ∙ ap (λ (o : Output). o.status) is)
-plain_of x s (unknown line less bad is) e = inl (e ∙ ap (λ (o : Output). o.status) is)
-plain_of x s (taken less bad is) e = inr ((run_of (program_of x)).outcome, e ∙ ap (λ (o : Output). o.status) is)
+plain_of x s (faulty f e is) g = inl (g ∙ ap (λ (o : Output). o.status) is)
+plain_of x s (unbuilt P e test is) g = inl (g ∙ ap (λ (o : Output). o.status) is)
+plain_of x s (taken P e test is) g = inr ((run_of P).outcome, g ∙ ap (λ (o : Output). o.status) is)
 
 -- whether a status is one of those that no answer has
 abbrev other : Status → Bool
@@ -134,37 +155,38 @@ written held holds before now x s (inr (e, rose, took)) apart = absurd (apart e)
 
 ran_kind : (left held holds : Option (List ℕ)) (t : List ℕ) (s : Status) → Kind t → (length t ≤ 1048576 → left ≡ Some []) → s ≡ (answer_to t).status → Appends held holds (answer_to t).bytes
     → IsOutcome s → Ran left held holds t s
-ran_kind left held holds t s (large more is) whole e a o = absurd (outcome_refused s o (e ∙ ap (λ (x : Output). x.status) is))
-ran_kind left held holds t s (unknown line less bad is) whole e a o = absurd (outcome_refused s o (e ∙ ap (λ (x : Output). x.status) is))
-ran_kind left held holds t s (taken less bad is) whole e a o =
+ran_kind left held holds t s (faulty f e is) whole g a o = absurd (outcome_refused s o (g ∙ ap (λ (x : Output). x.status) is))
+ran_kind left held holds t s (unbuilt P e test is) whole g a o = absurd (outcome_refused s o (g ∙ ap (λ (x : Output). x.status) is))
+ran_kind left held holds t s (taken P e test is) whole g a o =
     record {
-      program = program_of t;
-      form = record { within = λ more. absurd (omega arith); lines = bad; read = refl };
-      read = whole less;
+      program = P;
+      source = e;
+      single = is_true test;
+      read = whole (source-small t P e);
       gained = subst (Appends held holds) (ap (λ (x : Output). x.bytes) is) a;
-      ends = e ∙ ap (λ (x : Output). x.status) is;
+      ends = g ∙ ap (λ (x : Output). x.status) is;
     }
 
-pub ran : (coming left held holds : Option (List ℕ)) (before now : ℕ) (text : List ℕ) (s : Status) → IsRead coming left 1048577 text
+pub ran_whole : (coming left held holds : Option (List ℕ)) (before now : ℕ) (text : List ℕ) (s : Status) → IsRead coming left 1048577 text
     → IsFinished held holds before now (answer_to text).bytes (answer_to text).status s → IsOutcome s → IfSome coming (λ t. Ran left held holds t s)
-ran None left held holds before now text s read done o = tt
-ran (Some t) left held holds before now text s read done o =
+ran_whole None left held holds before now text s read done o = tt
+ran_whole (Some t) left held holds before now text s read done o =
     let apart : s ≢ status.TheVariants.WriteFault = λ e. let f = outcome_other s o in let g : other s ≡ true = ap other e in cc in
     let same = same_answer t text left read in
     let w = written held holds before now text s done apart in
     ran_kind left held holds t s (kind_of t) (left_none t text left read) (w.0 ∙ ap (λ (x : Output). x.status) same) (subst (Appends held holds) (ap (λ (x : Output). x.bytes) same) w.1) o
 
 refused_kind : (held holds : Option (List ℕ)) (t : List ℕ) (s : Status) → Kind t → s ≡ (answer_to t).status → Appends held holds (answer_to t).bytes → s ≡ status.TheVariants.SourceRefused → IsRefused held holds t
-refused_kind held holds t s (large more is) e a r = inl (more, subst (Appends held holds) (ap (λ (x : Output). x.bytes) is) a)
-refused_kind held holds t s (unknown line less bad is) e a r =
-    inr ((λ more. absurd (omega arith)), (line, bad, subst (Appends held holds) (ap (λ (x : Output). x.bytes) is) a))
-refused_kind held holds t s (taken less bad is) e a r =
-    absurd (outcome_refused s ((run_of (program_of t)).outcome, e ∙ ap (λ (x : Output). x.status) is) r)
+refused_kind held holds t s (faulty f e is) g a r = inl (f, e, subst (Appends held holds) (ap (λ (x : Output). x.bytes) is) a)
+refused_kind held holds t s (unbuilt P e test is) g a r =
+    inr (P, e, not_true test, subst (Appends held holds) (ap (λ (x : Output). x.bytes) is) a)
+refused_kind held holds t s (taken P e test is) g a r =
+    absurd (outcome_refused s ((run_of P).outcome, g ∙ ap (λ (x : Output). x.status) is) r)
 
-pub refused : (coming left held holds : Option (List ℕ)) (before now : ℕ) (text : List ℕ) (s : Status) → IsRead coming left 1048577 text
+pub refused_whole : (coming left held holds : Option (List ℕ)) (before now : ℕ) (text : List ℕ) (s : Status) → IsRead coming left 1048577 text
     → IsFinished held holds before now (answer_to text).bytes (answer_to text).status s → s ≡ status.TheVariants.SourceRefused → IfSome coming (λ t. IsRefused held holds t)
-refused None left held holds before now text s read done r = tt
-refused (Some t) left held holds before now text s read done r =
+refused_whole None left held holds before now text s read done r = tt
+refused_whole (Some t) left held holds before now text s read done r =
     let apart : s ≢ status.TheVariants.WriteFault = λ e. cc in
     let same = same_answer t text left read in
     let w = written held holds before now text s done apart in

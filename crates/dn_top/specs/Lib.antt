@@ -1,4 +1,3 @@
-pub mod FirstForm
 pub mod OneTask
 pub mod Outside
 pub mod Answers

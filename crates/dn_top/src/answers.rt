@@ -1,14 +1,11 @@
 ghost use Rattle.std.specs.Prelude.{◌≡◌, ◌++◌, ◌≤◌, ◌<◌, length, IfOk, OnOk, option_copied};
-ghost use Rattle.std.specs.Fmt.{decimal};
-ghost use Rattle.dn_base.specs.Status.{status_of};
-ghost use Rattle.run_report.specs.Answer.{answer_of};
-ghost use Rattle.dn_top.specs.Answers.{first_task, run_of, answer_to, answer_by, unknown_line, usage_line};
+ghost use Rattle.dn_top.specs.Answers.{first_task, run_of, is_single, answer_to, answer_by, answer_if, refused, ran};
 
-use crate::form::{FormError, read_form};
 use crate::one_task::run;
 use dn_base::{Memory, Outcome, Sequence, Status};
 use region_table::{Program, TaskDecl};
-use run_report::answer_text;
+use run_report::{Refusal, answer_text, refusal_line};
+use rv_assembler::{SourceFault, assemble};
 use rv_core::Ending;
 use std::alloc::Global;
 
@@ -51,37 +48,46 @@ fn run_program(alloc: Global, program: &Program) -> Result<Ending, Memory>
     }
 }
 
-/// The line that refuses a text for one of its lines.
-fn unknown_word(alloc: Global, line: u32) -> Result<Vec<u8>, Memory>
-    ensures { IfOk result (λ bytes. bytes.items ≡ unknown_line line) }
+/// Whether the program can be run yet: it has at most one phase and one task, and no lock.
+#[tactic(auto, unfolding(crate::specs::Answers::is_single))]
+fn can_run(program: &Program) -> bool
+    ensures { result ≡ is_single program.now }
 {
-    let mut bytes = Vec::from_slice(alloc, b"refused source ")?;
-    let number = line.to_string(alloc)?;
-    bytes.extend_from_slice(number.as_bytes())?;
-    bytes.extend_from_slice(b" unknown-word\n")?;
-    Ok(bytes)
+    program.phases.len() <= 1
+        && program.phases.get(0).is_none_or(|phase| phase.tasks.len() <= 1)
+        && program.locks.len() == 0
 }
 
-/// The refusal of a text.
-fn refused(bytes: Vec<u8>) -> Output
-    ensures { result ≡ record { status = Status.SourceRefused; bytes = bytes.items } }
+/// A refusal with this line.
+fn refusal(line: Vec<u8>) -> Output
+    ensures { result ≡ refused line.items }
 {
     Output {
         status: Status::SourceRefused,
-        bytes: Sequence::from_vec(bytes),
+        bytes: Sequence::from_vec(line),
     }
 }
 
 /// The answer of a program's run.
 fn report(alloc: Global, program: &Program) -> Result<Output, Memory>
-    ensures { IfOk result (λ output. let ending = run_of program.now in
-        output ≡ record { status = status_of ending.outcome; bytes = answer_of ending }) }
+    ensures { IfOk result (λ output. output ≡ ran (run_of program.now)) }
 {
     let ending = run_program(alloc, program)?;
     Ok(Output {
         status: Status::from(ending.outcome),
         bytes: Sequence::from_vec(answer_text(alloc, &ending)?),
     })
+}
+
+/// The answer to a program.
+fn answer_program(alloc: Global, program: &Program) -> Result<Output, Memory>
+    ensures { IfOk result (λ output. output ≡ answer_if program.now (is_single program.now)) }
+{
+    if can_run(program) {
+        report(alloc, program)
+    } else {
+        Ok(refusal(Vec::from_slice(alloc, b"refused not-built\n")?))
+    }
 }
 
 /// The answer to a text.
@@ -92,13 +98,9 @@ fn report(alloc: Global, program: &Program) -> Result<Output, Memory>
 pub(crate) fn output_of(alloc: Global, text: &[u8]) -> Result<Output, Memory>
     ensures { IfOk result (λ output. output ≡ answer_to text.now) }
 {
-    match read_form(alloc, text) {
-        Ok(program) => report(alloc, &program),
-        Err(FormError::TooLarge) => Ok(refused(Vec::from_slice(
-            alloc,
-            b"refused source too-large\n",
-        )?)),
-        Err(FormError::UnknownWord { line }) => Ok(refused(unknown_word(alloc, line)?)),
-        Err(FormError::NoMemory) => Err(Memory),
+    match assemble(alloc, text) {
+        Ok(program) => answer_program(alloc, &program),
+        Err(SourceFault::Memory) => Err(Memory),
+        Err(fault) => Ok(refusal(refusal_line(alloc, &Refusal::Source(fault))?)),
     }
 }

@@ -13,8 +13,6 @@ use std::sync::Wait;
 use std::thread::Threads;
 
 mod answers;
-mod first_form;
-mod form;
 mod one_task;
 mod reading;
 #[cfg(test)]

@@ -1,2 +1,3 @@
 pub mod Pieces
 pub mod Answer
+pub mod Refusal

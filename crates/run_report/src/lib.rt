@@ -6,7 +6,9 @@
 
 mod answer;
 mod pieces;
+mod refusal;
 #[cfg(test)]
 mod tests;
 
 pub use answer::answer_text;
+pub use refusal::{Refusal, refusal_line};

@@ -2,7 +2,7 @@ use Rattle.std.proofs.Common.{◌≡◌, ◌==◌, List, [], true, length, refl,
 use Rattle.std.proofs.lemmas.Bool.Decides.{nat_tests}
 use Rattle.std.proofs.lemmas.List.{nil_from_length}
 use Rattle.dn_base.specs.declared.status.Status as status
-use Rattle.dn_top.proofs.Answering.{ran, refused, faulted, complete, not_other, finished_as}
+use Rattle.dn_top.proofs.Answering.{ran_whole, refused_whole, faulted, complete, not_other, finished_as}
 use Rattle.dn_top.proofs.answer_words.Goals as goal
 
 none_there : {X : Type 0} (xs : List X) → true ≡ (length xs == 0) → xs ≡ []
@@ -10,7 +10,7 @@ none_there xs e = nil_from_length xs (grind (arith, nat_tests))
 
 pub returns-in-Ok-output_of-clause-run : goal.returns-in-Ok-output_of-clause-run
 returns-in-Ok-output_of-clause-run g c =
-    λ o. ran _ _ _ _ _ _ c.in-Ok.text.items _ c.in-Ok.ensures.text
+    λ o. ran_whole _ _ _ _ _ _ c.in-Ok.text.items _ c.in-Ok.ensures.text
     (finished_as _ _ _ _ _ c.in-Ok-output_of.output _ c.in-Ok.text.items _ c.as_slice-in-Ok-output_of.ensures c.in-Ok-output_of.ensures c.as_slice.ensures.value c.finish-in-Ok-output_of.ensures.finished) o
 
 pub returns-in-Ok-output_of-clause-usage : goal.returns-in-Ok-output_of-clause-usage

@@ -1,0 +1,39 @@
+-- The lines that say why words or a text are refused.
+use Rattle.std.specs.Prelude.{ℕ, List, ◌++◌, codes}
+use Rattle.std.specs.Fmt.{decimal}
+use Rattle.rv_assembler.specs.declared.fault.SourceFault.{SourceFault}
+use Rattle.rv_assembler.specs.declared.fault.SourceFault as source
+use Rattle.effect_checker.specs.declared.fault.CheckFault.{CheckFault}
+use Rattle.effect_checker.specs.declared.fault.CheckFault as conflict
+use Rattle.run_report.specs.declared.refusal.Refusal.{Refusal}
+use Rattle.run_report.specs.declared.refusal.Refusal as refusal
+use Rattle.run_report.specs.Pieces.{newline, space}
+
+-- a fault of a line; want of memory is no refusal, and has no line
+unfoldable pub source_text : SourceFault → List ℕ
+source_text source.TheVariants.TooLarge = codes "too-large"
+source_text (source.TheVariants.BadByte line) = decimal line ++ codes " bad-byte"
+source_text (source.TheVariants.BadNumber line) = decimal line ++ codes " bad-number"
+source_text (source.TheVariants.LineLimit line) = decimal line ++ codes " line-limit"
+source_text (source.TheVariants.UnknownWord line) = decimal line ++ codes " unknown-word"
+source_text (source.TheVariants.BadOperand line) = decimal line ++ codes " bad-operand"
+source_text (source.TheVariants.OutOfRange line) = decimal line ++ codes " out-of-range"
+source_text (source.TheVariants.DoubleName line) = decimal line ++ codes " double-name"
+source_text (source.TheVariants.UnknownName line) = decimal line ++ codes " unknown-name"
+source_text (source.TheVariants.Misplaced line) = decimal line ++ codes " misplaced"
+source_text (source.TheVariants.Limit line) = decimal line ++ codes " limit"
+source_text source.TheVariants.Memory = codes "memory"
+
+-- a conflict of a phase, by its kind, two numbers and the word
+unfoldable pub check_text : CheckFault → List ℕ
+check_text (conflict.TheVariants.PlainConflict phase a b word) =
+    codes "phase " ++ decimal phase.0 ++ codes " plain-conflict cores " ++ decimal a.0 ++ space ++ decimal b.0 ++ codes " word " ++ decimal word.0
+check_text (conflict.TheVariants.GuardedPlain phase lock core word) =
+    codes "phase " ++ decimal phase.0 ++ codes " guarded-plain lock " ++ decimal lock.0 ++ codes " core " ++ decimal core.0 ++ codes " word " ++ decimal word.0
+check_text (conflict.TheVariants.TwoLocks phase a b word) =
+    codes "phase " ++ decimal phase.0 ++ codes " two-locks locks " ++ decimal a.0 ++ space ++ decimal b.0 ++ codes " word " ++ decimal word.0
+
+unfoldable pub refusal_of : Refusal → List ℕ
+refusal_of refusal.TheVariants.Usage = codes "refused usage" ++ newline
+refusal_of (refusal.TheVariants.Source fault) = codes "refused source " ++ source_text fault ++ newline
+refusal_of (refusal.TheVariants.Check fault) = codes "refused check " ++ check_text fault ++ newline

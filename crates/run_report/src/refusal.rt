@@ -1,0 +1,112 @@
+ghost use Rattle.std.specs.Prelude.{◌≡◌, ◌≢◌, ◌++◌, IfOk, OnOk};
+ghost use Rattle.std.specs.Fmt.{decimal};
+ghost use Rattle.rv_assembler.specs.declared.fault.SourceFault.TheVariants.{Memory as NoMemory};
+ghost use Rattle.run_report.specs.declared.refusal.Refusal.TheVariants.{Source as OfSource};
+ghost use Rattle.run_report.specs.Refusal.{source_text, check_text, refusal_of};
+
+use dn_base::Memory;
+use effect_checker::CheckFault;
+use rv_assembler::SourceFault;
+use std::alloc::Global;
+
+use crate::pieces::{push, push_decimal};
+
+/// Why command words or a text are refused.
+#[derive(Clone, Copy, Debug, PartialEq, Eq)]
+pub enum Refusal {
+    /// The words aren't of the command.
+    Usage,
+    /// The text is no program.
+    Source(SourceFault),
+    /// Two tasks of the program contend for a word.
+    Check(CheckFault),
+}
+
+/// Adds the number of a line and the kind of its fault.
+fn push_line(out: &mut Vec<u8>, line: u32, kind: &[u8]) -> Result<(), Memory>
+    ensures { OnOk result (out.new.items ≡ out.old.items ++ decimal line ++ kind.now) }
+{
+    push_decimal(out, line)?;
+    push(out, kind)
+}
+
+#[tactic(auto, unfolding(crate::specs::Refusal::source_text))]
+fn push_source(out: &mut Vec<u8>, fault: SourceFault) -> Result<(), Memory>
+    ensures { OnOk result (out.new.items ≡ out.old.items ++ source_text fault) }
+{
+    match fault {
+        SourceFault::TooLarge => push(out, b"too-large"),
+        SourceFault::BadByte { line } => push_line(out, line, b" bad-byte"),
+        SourceFault::BadNumber { line } => push_line(out, line, b" bad-number"),
+        SourceFault::LineLimit { line } => push_line(out, line, b" line-limit"),
+        SourceFault::UnknownWord { line } => push_line(out, line, b" unknown-word"),
+        SourceFault::BadOperand { line } => push_line(out, line, b" bad-operand"),
+        SourceFault::OutOfRange { line } => push_line(out, line, b" out-of-range"),
+        SourceFault::DoubleName { line } => push_line(out, line, b" double-name"),
+        SourceFault::UnknownName { line } => push_line(out, line, b" unknown-name"),
+        SourceFault::Misplaced { line } => push_line(out, line, b" misplaced"),
+        SourceFault::Limit { line } => push_line(out, line, b" limit"),
+        SourceFault::Memory => push(out, b"memory"),
+    }
+}
+
+/// Adds a text and a number.
+fn push_number(out: &mut Vec<u8>, text: &[u8], number: u32) -> Result<(), Memory>
+    ensures { OnOk result (out.new.items ≡ out.old.items ++ text.now ++ decimal number) }
+{
+    push(out, text)?;
+    push_decimal(out, number)
+}
+
+#[tactic(auto, unfolding(crate::specs::Refusal::check_text))]
+fn push_check(out: &mut Vec<u8>, fault: CheckFault) -> Result<(), Memory>
+    ensures { OnOk result (out.new.items ≡ out.old.items ++ check_text fault) }
+{
+    match fault {
+        CheckFault::PlainConflict { phase, core_a, core_b, word } => {
+            push_number(out, b"phase ", phase.0)?;
+            push_number(out, b" plain-conflict cores ", core_a.0)?;
+            push_number(out, b" ", core_b.0)?;
+            push_number(out, b" word ", word.0)
+        }
+        CheckFault::GuardedPlain { phase, lock, core, word } => {
+            push_number(out, b"phase ", phase.0)?;
+            push_number(out, b" guarded-plain lock ", lock.0)?;
+            push_number(out, b" core ", core.0)?;
+            push_number(out, b" word ", word.0)
+        }
+        CheckFault::TwoLocks { phase, lock_a, lock_b, word } => {
+            push_number(out, b"phase ", phase.0)?;
+            push_number(out, b" two-locks locks ", lock_a.0)?;
+            push_number(out, b" ", lock_b.0)?;
+            push_number(out, b" word ", word.0)
+        }
+    }
+}
+
+/// The line that says why words or a text are refused.
+///
+/// Want of memory is no refusal: the fault `SourceFault::Memory` isn't asked for.
+///
+/// # Errors
+/// `Memory` where there is no room for the line.
+#[tactic(auto, unfolding(crate::specs::Refusal::refusal_of))]
+pub fn refusal_line(alloc: Global, refusal: &Refusal) -> Result<Vec<u8>, Memory>
+    requires { refusal.now ≢ OfSource NoMemory }
+    ensures { IfOk result (λ line. line.items ≡ refusal_of refusal.now) }
+{
+    let mut out = Vec::new(alloc);
+    match *refusal {
+        Refusal::Usage => push(&mut out, b"refused usage")?,
+        Refusal::Source(fault) => {
+            push(&mut out, b"refused source ")?;
+            push_source(&mut out, fault)?;
+        }
+        Refusal::Check(fault) => {
+            push(&mut out, b"refused check ")?;
+            push_check(&mut out, fault)?;
+        }
+    }
+    push(&mut out, b"\n")?;
+    Ok(out)
+}
