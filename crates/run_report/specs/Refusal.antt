@@ -7,7 +7,7 @@ use Rattle.effect_checker.specs.declared.fault.CheckFault.{CheckFault}
 use Rattle.effect_checker.specs.declared.fault.CheckFault as conflict
 use Rattle.run_report.specs.declared.refusal.Refusal.{Refusal}
 use Rattle.run_report.specs.declared.refusal.Refusal as refusal
-use Rattle.run_report.specs.Pieces.{newline, space}
+use Rattle.run_report.specs.Pieces.{newline}
 
 -- a fault of a line; want of memory is no refusal, and has no line
 unfoldable pub source_text : SourceFault → List ℕ
@@ -24,14 +24,18 @@ source_text (source.TheVariants.Misplaced line) = decimal line ++ codes " mispla
 source_text (source.TheVariants.Limit line) = decimal line ++ codes " limit"
 source_text source.TheVariants.Memory = codes "memory"
 
--- a conflict of a phase, by its kind, two numbers and the word
-unfoldable pub check_text : CheckFault → List ℕ
+-- a conflict of a phase: its kind, two numbers with what stands between them, and the word
+unfoldable pub conflict_text : ℕ → List ℕ → ℕ → List ℕ → ℕ → ℕ → List ℕ
+conflict_text phase kind first between second word =
+    codes "phase " ++ decimal phase ++ kind ++ decimal first ++ between ++ decimal second ++ codes " word " ++ decimal word
+
+abbrev pub check_text : CheckFault → List ℕ
 check_text (conflict.TheVariants.PlainConflict phase a b word) =
-    codes "phase " ++ decimal phase.0 ++ codes " plain-conflict cores " ++ decimal a.0 ++ space ++ decimal b.0 ++ codes " word " ++ decimal word.0
+    conflict_text phase.0 (codes " plain-conflict cores ") a.0 (codes " ") b.0 word.0
 check_text (conflict.TheVariants.GuardedPlain phase lock core word) =
-    codes "phase " ++ decimal phase.0 ++ codes " guarded-plain lock " ++ decimal lock.0 ++ codes " core " ++ decimal core.0 ++ codes " word " ++ decimal word.0
+    conflict_text phase.0 (codes " guarded-plain lock ") lock.0 (codes " core ") core.0 word.0
 check_text (conflict.TheVariants.TwoLocks phase a b word) =
-    codes "phase " ++ decimal phase.0 ++ codes " two-locks locks " ++ decimal a.0 ++ space ++ decimal b.0 ++ codes " word " ++ decimal word.0
+    conflict_text phase.0 (codes " two-locks locks ") a.0 (codes " ") b.0 word.0
 
 unfoldable pub refusal_of : Refusal → List ℕ
 refusal_of refusal.TheVariants.Usage = codes "refused usage" ++ newline

@@ -2,9 +2,9 @@ ghost use Rattle.std.specs.Prelude.{◌≡◌, ◌≢◌, ◌++◌, IfOk, OnOk};
 ghost use Rattle.std.specs.Fmt.{decimal};
 ghost use Rattle.rv_assembler.specs.declared.fault.SourceFault.TheVariants.{Memory as NoMemory};
 ghost use Rattle.run_report.specs.declared.refusal.Refusal.TheVariants.{Source as OfSource};
-ghost use Rattle.run_report.specs.Refusal.{source_text, check_text, refusal_of};
+ghost use Rattle.run_report.specs.Refusal.{source_text, conflict_text, check_text, refusal_of};
 
-use dn_base::Memory;
+use dn_base::{Memory, PhaseId, WordId};
 use effect_checker::CheckFault;
 use rv_assembler::SourceFault;
 use std::alloc::Global;
@@ -50,36 +50,41 @@ fn push_source(out: &mut Vec<u8>, fault: SourceFault) -> Result<(), Memory>
     }
 }
 
-/// Adds a text and a number.
-fn push_number(out: &mut Vec<u8>, text: &[u8], number: u32) -> Result<(), Memory>
-    ensures { OnOk result (out.new.items ≡ out.old.items ++ text.now ++ decimal number) }
+/// Adds a conflict of a phase: its kind, two numbers with what stands between them, and the word.
+#[tactic(auto, unfolding(crate::specs::Refusal::conflict_text))]
+fn push_conflict(
+    out: &mut Vec<u8>,
+    phase: PhaseId,
+    kind: &[u8],
+    numbers: (u32, u32),
+    between: &[u8],
+    word: WordId,
+) -> Result<(), Memory>
+    ensures { OnOk result (out.new.items
+        ≡ out.old.items ++ conflict_text phase.0 kind.now numbers.0 between.now numbers.1 word.0) }
 {
-    push(out, text)?;
-    push_decimal(out, number)
+    push(out, b"phase ")?;
+    push_decimal(out, phase.0)?;
+    push(out, kind)?;
+    push_decimal(out, numbers.0)?;
+    push(out, between)?;
+    push_decimal(out, numbers.1)?;
+    push(out, b" word ")?;
+    push_decimal(out, word.0)
 }
 
-#[tactic(auto, unfolding(crate::specs::Refusal::check_text))]
 fn push_check(out: &mut Vec<u8>, fault: CheckFault) -> Result<(), Memory>
     ensures { OnOk result (out.new.items ≡ out.old.items ++ check_text fault) }
 {
     match fault {
         CheckFault::PlainConflict { phase, core_a, core_b, word } => {
-            push_number(out, b"phase ", phase.0)?;
-            push_number(out, b" plain-conflict cores ", core_a.0)?;
-            push_number(out, b" ", core_b.0)?;
-            push_number(out, b" word ", word.0)
+            push_conflict(out, phase, b" plain-conflict cores ", (core_a.0, core_b.0), b" ", word)
         }
         CheckFault::GuardedPlain { phase, lock, core, word } => {
-            push_number(out, b"phase ", phase.0)?;
-            push_number(out, b" guarded-plain lock ", lock.0)?;
-            push_number(out, b" core ", core.0)?;
-            push_number(out, b" word ", word.0)
+            push_conflict(out, phase, b" guarded-plain lock ", (lock.0, core.0), b" core ", word)
         }
         CheckFault::TwoLocks { phase, lock_a, lock_b, word } => {
-            push_number(out, b"phase ", phase.0)?;
-            push_number(out, b" two-locks locks ", lock_a.0)?;
-            push_number(out, b" ", lock_b.0)?;
-            push_number(out, b" word ", word.0)
+            push_conflict(out, phase, b" two-locks locks ", (lock_a.0, lock_b.0), b" ", word)
         }
     }
 }
