@@ -1,0 +1,6 @@
+pub mod History
+pub mod Passes
+pub mod Slots
+pub mod Standing
+pub mod Steps
+pub mod Turns
