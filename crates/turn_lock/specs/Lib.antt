@@ -1,3 +1,4 @@
+pub mod Calling
 pub mod History
 pub mod Passes
 pub mod Slots
