@@ -181,9 +181,9 @@ module _ {S X E : Type 0} (by : E → ℕ) (Good : X → List E → S → Type 0
   }
 
   pub leaves : (id : ℕ) (c : Claim E) (n t drawn served : ℕ) (known more : List E) (y : S) (c' : Claim E) (homes : List (Option S)) (views : List (View X E)) → Turns by Good x passes drawn served homes views → get_elem? views id ≡ some (standing x c n (Inside t known)) → served < 2 ^ 64
-      → Good x (known ++ more) y → All (λ e. by e ≡ c.number) more → c'.number ≡ c.number → BeginsWith (known ++ more) c'.seen → filter (λ e. eqb (by e) c.number) (known ++ more) ≡ c'.mine
+      → Good x (known ++ more) y → All (λ e. by e ≡ c.number) more → c'.number ≡ c.number → (BeginsWith known c.seen → filter (λ e. eqb (by e) c.number) known ≡ c.mine → BeginsWith (known ++ more) c'.seen × (filter (λ e. eqb (by e) c.number) (known ++ more) ≡ c'.mine))
       → (homes ≡ none ∷ []) × Turns by Good x passes drawn ((served + 1) % 2 ^ 64) (some y ∷ []) (set views id (standing x c' n Idle))
-  leaves id c n t drawn served known more y c' homes views r at fits good theirs number seen mine =
+  leaves id c n t drawn served known more y c' homes views r at fits good theirs number tells =
       let v : View X E = standing x c n (Inside t known) in
       let w : View X E = standing x c' n Idle in
       let l = lives drawn served homes views r id v at (λ e. absurd (cc)) in
@@ -195,7 +195,8 @@ module _ {S X E : Type 0} (by : E → ℕ) (Good : X → List E → S → Type 0
       let short = line_short drawn served homes views r in
       let len = length-tail r.line id first in
       let owner : get_elem? r.owners c.number ≡ some id = l.0.own.owner in
-      let given = at_less r.owners c.number id owner in (
+      let given = at_less r.owners c.number id owner in
+      let now = tells (subst (λ k. BeginsWith k c.seen) (sym knows) l.0.own.seen) (subst (λ k. filter (λ e. eqb (by e) c.number) k ≡ c.mine) (sym knows) l.0.own.mine) in (
         l.1.3,
         record {
           log = r.log ++ more;
@@ -226,8 +227,8 @@ module _ {S X E : Type 0} (by : E → ℕ) (Good : X → List E → S → Type 0
                   opening = refl;
                   own = record {
                     owner = subst (λ k. get_elem? r.owners k ≡ some id) (sym number) owner;
-                    seen = subst (λ k. BeginsWith (k ++ more) c'.seen) knows seen;
-                    mine = subst (λ k. filter (λ e. eqb (by e) k) (r.log ++ more) ≡ c'.mine) (sym number) (subst (λ k. filter (λ e. eqb (by e) c.number) (k ++ more) ≡ c'.mine) knows mine);
+                    seen = subst (λ k. BeginsWith (k ++ more) c'.seen) knows now.0;
+                    mine = subst (λ k. filter (λ e. eqb (by e) k) (r.log ++ more) ≡ c'.mine) (sym number) (subst (λ k. filter (λ e. eqb (by e) c.number) (k ++ more) ≡ c'.mine) knows now.1);
                   };
                   joined = All-nil _;
                   deals = λ some_left. absurd (omega arith);
