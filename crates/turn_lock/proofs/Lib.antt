@@ -1,3 +1,4 @@
+pub mod Hands
 pub mod Keeps
 pub mod Lists
 pub mod Moves

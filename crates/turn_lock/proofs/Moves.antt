@@ -19,7 +19,7 @@ use Rattle.turn_lock.specs.Steps.{HasTurn, drew, looked, left, passed, told}
 use Rattle.turn_lock.specs.Calling.{IsIdle, IsWaiting}
 use Rattle.turn_lock.proofs.Keeps.{draws, enters, leaves, splits, joins, begins}
 
-module _ {S X E : Type 0} (by : E → ℕ) (Good : X → List E → S → Type 0) (x : X) (passes : ℕ) where
+module _ {S X E : Type 0} (by : E → ℕ) (Good : X → List E → S → Type 0) (x : X) (passes slots : ℕ) where
   kept : (ws : List ℕ) (a b : ℕ) (homes : List (Option S)) (views : List (View X E)) → length ws ≡ 2 → get_or ws 0 0 ≡ a → get_or ws 1 0 ≡ b → Turns by Good x passes a b homes views → Kept by Good x passes (record { words = ws; homes = homes; views = views })
   kept ws a b homes views two first second t = record {
     words = two;
@@ -39,7 +39,7 @@ module _ {S X E : Type 0} (by : E → ℕ) (Good : X → List E → S → Type 0
       let second : get_or (set ws 1 b) 1 0 ≡ b = get_or-set_same ws 1 b 0 (omega arith) in
       kept (set ws 1 b) (get_or ws 0 0) b homes views (length-set ws 1 b ∙ two) first second t
 
-  draw_standing : (id : ℕ) (c : Claim E) (n : ℕ) (st : Step S) → Allows (Kept by Good x passes) 1 id (standing x c n Idle, []) 0 (λ k. (k + 1) % 2 ^ 64) (drew st (standing x c n Idle, []))
+  draw_standing : (id : ℕ) (c : Claim E) (n : ℕ) (st : Step S) → Allows (Kept by Good x passes) slots id (standing x c n Idle, []) 0 (λ k. (k + 1) % 2 ^ 64) (drew st (standing x c n Idle, []))
   draw_standing id c n st s k one at fits = (
     standing x c n (Waiting (get_or s.words 0 0)),
     keeps,
@@ -48,11 +48,11 @@ module _ {S X E : Type 0} (by : E → ℕ) (Good : X → List E → S → Type 0
     refl,
   )
 
-  pub draw : (id : ℕ) (me : Me S (View X E)) (st : Step S) → IsIdle x me → Allows (Kept by Good x passes) 1 id me 0 (λ k. (k + 1) % 2 ^ 64) (drew st me)
+  pub draw : (id : ℕ) (me : Me S (View X E)) (st : Step S) → IsIdle x me → Allows (Kept by Good x passes) slots id me 0 (λ k. (k + 1) % 2 ^ 64) (drew st me)
   draw id me st idle =
-      subst (λ m. Allows (Kept by Good x passes) 1 id m 0 (λ k. (k + 1) % 2 ^ 64) (drew st m)) (sym idle) (draw_standing id me.0.own me.0.next st)
+      subst (λ m. Allows (Kept by Good x passes) slots id m 0 (λ k. (k + 1) % 2 ^ 64) (drew st m)) (sym idle) (draw_standing id me.0.own me.0.next st)
 
-  look_standing : (id : ℕ) (c : Claim E) (n t : ℕ) (st : Step S) → Allows (Kept by Good x passes) 1 id (standing x c n (Waiting t), []) 1 (λ k. k) (looked by Good st (standing x c n (Waiting t), []))
+  look_standing : (id : ℕ) (c : Claim E) (n t : ℕ) (st : Step S) → Allows (Kept by Good x passes) slots id (standing x c n (Waiting t), []) 1 (λ k. k) (looked by Good st (standing x c n (Waiting t), []))
   look_standing id c n t st s k one at fits =
       dite
       (ℕ_discrete (get_or s.words 1 0) t)
@@ -72,15 +72,15 @@ module _ {S X E : Type 0} (by : E → ℕ) (Good : X → List E → S → Type 0
         ((λ is. absurd (other is)), (λ ne. refl)),
       ))
 
-  pub look : (id : ℕ) (t : ℕ) (me : Me S (View X E)) (st : Step S) → IsWaiting x t me → Allows (Kept by Good x passes) 1 id me 1 (λ k. k) (looked by Good st me)
+  pub look : (id : ℕ) (t : ℕ) (me : Me S (View X E)) (st : Step S) → IsWaiting x t me → Allows (Kept by Good x passes) slots id me 1 (λ k. k) (looked by Good st me)
   look id t me st waiting =
-      subst (λ m. Allows (Kept by Good x passes) 1 id m 1 (λ k. k) (looked by Good st m)) (sym waiting) (look_standing id me.0.own me.0.next t st)
+      subst (λ m. Allows (Kept by Good x passes) slots id m 1 (λ k. k) (looked by Good st m)) (sym waiting) (look_standing id me.0.own me.0.next t st)
 
   -- the slot is given back with a value for what the seat then knows
   hand_back : (id : ℕ) (c : Claim E) (n t : ℕ) (known more : List E) (y : S) (c' : Claim E) (then : ℕ → Me S (View X E) → Type 0)
       → Good x (known ++ more) y → All (λ e. by e ≡ c.number) more → c'.number ≡ c.number → (BeginsWith known c.seen → filter (λ e. eqb (by e) c.number) known ≡ c.mine → BeginsWith (known ++ more) c'.seen × (filter (λ e. eqb (by e) c.number) (known ++ more) ≡ c'.mine))
       → ((found : ℕ) → then found (standing x c' n Idle, []))
-      → Allows (Kept by Good x passes) 1 id (standing x c n (Inside t known), (0, y) ∷ []) 1 (λ k. (k + 1) % 2 ^ 64) then
+      → Allows (Kept by Good x passes) slots id (standing x c n (Inside t known), (0, y) ∷ []) 1 (λ k. (k + 1) % 2 ^ 64) then
   hand_back id c n t known more y c' then good theirs number tells told_of s k one at fits =
       let l = leaves by Good x passes id c n t _ _ known more y c' s.homes s.views k.turns at fits good theirs number tells in (
         standing x c' n Idle,
@@ -91,9 +91,9 @@ module _ {S X E : Type 0} (by : E → ℕ) (Good : X → List E → S → Type 0
       )
 
   pub leave : (id : ℕ) (c : Claim E) (n t : ℕ) (known : List E) (y : S) (me : Me S (View X E)) (st : Step S) → me ≡ (standing x c n (Inside t known), (0, y) ∷ []) → Good x known y
-      → Allows (Kept by Good x passes) 1 id me 1 (λ k. (k + 1) % 2 ^ 64) (left st me)
+      → Allows (Kept by Good x passes) slots id me 1 (λ k. (k + 1) % 2 ^ 64) (left st me)
   leave id c n t known y me st is good =
-      subst (λ m. Allows (Kept by Good x passes) 1 id m 1 (λ k. (k + 1) % 2 ^ 64) (left st m)) (sym is)
+      subst (λ m. Allows (Kept by Good x passes) slots id m 1 (λ k. (k + 1) % 2 ^ 64) (left st m)) (sym is)
       (hand_back id c n t known [] y c (left st (standing x c n (Inside t known), (0, y) ∷ []))
         (subst (λ l. Good x l y) (sym (append-nil known)) good)
         (All-nil _)
@@ -102,9 +102,9 @@ module _ {S X E : Type 0} (by : E → ℕ) (Good : X → List E → S → Type 0
         (λ found. refl))
 
   pub pass_on : (history : S → List E) (id : ℕ) (c : Claim E) (n t : ℕ) (known more : List E) (y : S) (me : Me S (View X E)) (st : Step S) → me ≡ (standing x c n (Inside t known), (0, y) ∷ []) → history y ≡ known ++ more → Good x (history y) y → All (λ e. by e ≡ c.number) more
-      → Allows (Kept by Good x passes) 1 id me 1 (λ k. (k + 1) % 2 ^ 64) (passed by history st me)
+      → Allows (Kept by Good x passes) slots id me 1 (λ k. (k + 1) % 2 ^ 64) (passed by history st me)
   pass_on history id c n t known more y me st is longer good theirs =
-      subst (λ m. Allows (Kept by Good x passes) 1 id m 1 (λ k. (k + 1) % 2 ^ 64) (passed by history st m)) (sym is)
+      subst (λ m. Allows (Kept by Good x passes) slots id m 1 (λ k. (k + 1) % 2 ^ 64) (passed by history st m)) (sym is)
       (hand_back id c n t known more y (claim c.number (history y) (filter (λ e. eqb (by e) c.number) (history y))) (passed by history st (standing x c n (Inside t known), (0, y) ∷ []))
         (subst (λ l. Good x l y) longer good)
         theirs

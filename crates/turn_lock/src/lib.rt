@@ -3,6 +3,7 @@
 //! calls stand in its order, each once. `Turn::close` hands that history back beside the object.
 #![tactic(auto)]
 
+mod call;
 mod desk;
 mod entry;
 mod object;
