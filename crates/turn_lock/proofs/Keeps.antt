@@ -438,9 +438,9 @@ module _ {S X E : Type 0} (by : E → ℕ) (Good : X → List E → S → Type 0
         parts = omega (arith, r.parts);
       }
 
-  pub begins : (y : S) → 1 ≤ passes → passes ≤ 17 → Good x [] y → Turns by Good x passes 0 0 (some y ∷ []) (dealer x passes ∷ [])
+  pub begins : (y : S) → 1 ≤ passes → passes ≤ 17 → Good x [] y → Turns by Good x passes 0 0 (some y ∷ []) (dealer x 1 (passes - 1) ∷ [])
   begins y some_pass few good =
-      let d : View X E = dealer x passes in record {
+      let d : View X E = dealer x 1 (passes - 1) in record {
         log = [];
         line = [];
         owners = 0 ∷ [];
@@ -455,7 +455,7 @@ module _ {S X E : Type 0} (by : E → ℕ) (Good : X → List E → S → Type 0
         parts = omega arith;
       }
     where
-      one_seat : (d : View X E) → (seat : ℕ) (v : View X E) → get_elem? (dealer x passes ∷ []) seat ≡ some v → (v.stage ≡ Gone) ⊎ (Lives by x passes (0 ∷ []) [] seat v × Stands 0 [] [] (some y ∷ []) seat v.stage)
+      one_seat : (d : View X E) → (seat : ℕ) (v : View X E) → get_elem? (dealer x 1 (passes - 1) ∷ []) seat ≡ some v → (v.stage ≡ Gone) ⊎ (Lives by x passes (0 ∷ []) [] seat v × Stands 0 [] [] (some y ∷ []) seat v.stage)
       one_seat d zero v e = subst
           (λ k. (k.stage ≡ Gone) ⊎ (Lives by x passes (0 ∷ []) [] 0 k × Stands 0 [] [] (some y ∷ []) 0 k.stage))
           (some-injective _ v e)

@@ -1,3 +1,5 @@
+pub mod Ends
+pub mod Fresh
 pub mod Hands
 pub mod Keeps
 pub mod Lists

@@ -121,5 +121,8 @@ module _ {S X E : Type 0} (by : E → ℕ) (Good : X → List E → S → Type 0
     turns = joins by Good x passes id other v w _ _ s.homes s.views k.turns at ne (sym (set_else s.views id other (gathered v w) ne) ∙ at') idle idle' none_left none_left';
   }
 
-  pub begin : (y : S) → 1 ≤ passes → passes ≤ 17 → Good x [] y → Kept by Good x passes (opening (0 ∷ 0 ∷ []) (y ∷ []) (dealer x passes))
-  begin y some_pass few good = record { words = refl; turns = begins by Good x passes y some_pass few good }
+  pub begin : (items : List S) (y : S) → items ≡ y ∷ [] → 1 ≤ passes → passes ≤ 17 → Good x [] y → Kept by Good x passes (opening (0 ∷ 0 ∷ []) items (dealer x 1 (passes - 1)))
+  begin items y one some_pass few good = subst
+      (λ l. Kept by Good x passes (opening (0 ∷ 0 ∷ []) l (dealer x 1 (passes - 1))))
+      (sym one)
+      (record { words = refl; turns = begins by Good x passes y some_pass few good })

@@ -1,4 +1,5 @@
 pub mod Calling
+pub mod Dealing
 pub mod History
 pub mod Passes
 pub mod Slots

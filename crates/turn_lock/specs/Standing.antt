@@ -40,9 +40,9 @@ module _ {X E : Type 0} where
   abbrev pub standing : X → Claim E → ℕ → Stage E → View X E
   standing x own next stage = record { opening = Some x; own = own; next = next; spare = 0; stage = stage; joined = [] }
 
-  -- the first seat, which has pass 0 and deals out the others
-  abbrev pub dealer : X → ℕ → View X E
-  dealer x passes = record { opening = Some x; own = claim 0 [] []; next = 1; spare = passes - 1; stage = Idle; joined = [] }
+  -- the first seat, which has pass 0 and deals out the others: it may deal so many more, the next with this number
+  abbrev pub dealer : X → ℕ → ℕ → View X E
+  dealer x next spare = record { opening = Some x; own = claim 0 [] []; next = next; spare = spare; stage = Idle; joined = [] }
 
   -- dealing out a pass: the next number goes to a new seat, which has seen as much
   abbrev pub dealt : View X E → View X E

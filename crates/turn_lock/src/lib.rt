@@ -4,11 +4,13 @@
 #![tactic(auto)]
 
 mod call;
+mod close;
 mod desk;
 mod entry;
 mod object;
 mod pass;
 mod rule;
+mod start;
 mod turn;
 mod view;
 

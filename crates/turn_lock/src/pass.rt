@@ -1,8 +1,10 @@
-ghost use Rattle.std.specs.Prelude.{◌≡◌, length};
+ghost use Rattle.std.specs.Prelude.{◌≡◌, [], length};
+ghost use Rattle.turn_lock.specs.declared.view.Stage.TheVariants.{Idle};
+ghost use Rattle.turn_lock.specs.Standing.{standing, claim};
 
 use crate::entry::Entry;
 use crate::object::Object;
-use crate::rule::Chair;
+use crate::rule::{Chair, Plan};
 use std::marker::Model;
 use std::snapshot::Snapshot;
 
@@ -12,7 +14,7 @@ pub struct TurnPass<O: Object> {
     pub(crate) seat: Chair<O>,
     pub(crate) number: u32,
     pub(crate) seen: u64,
-    pub(crate) opening: Snapshot<O>,
+    pub(crate) plan: Snapshot<Plan<O>>,
 }
 
 impl<O: Object> Model for TurnPass<O> {
@@ -24,9 +26,9 @@ impl<O: Object> Model for TurnPass<O> {
 
     ghost Value = { Token O O.In O.Out };
 
-    ghost view = { λ p. record { table = p.seat.table_id; opening = p.opening.value; number = p.number; seen = p.seat.me.0.own.seen; made = p.seat.me.0.own.mine } };
+    ghost view = { λ p. record { table = p.seat.table_id; opening = p.plan.value.object.value; number = p.number; seen = p.seat.me.0.own.seen; made = p.seat.me.0.own.mine } };
 
-    ghost invariant = { λ p. (p.seat.me ≡ (standing p.opening.value p.seat.me.0.own p.seat.me.0.next Idle, [])) × (p.seat.me.0.own.number ≡ p.number) × (length p.seat.me.0.own.seen ≡ p.seen) };
+    ghost invariant = { λ p. (p.seat.me ≡ (standing p.plan.value.object.value p.seat.me.0.own p.seat.me.0.next Idle, [])) × (p.seat.me.0.own.number ≡ p.number) × (length p.seat.me.0.own.seen ≡ p.seen) };
 }
 
 impl<O: Object> TurnPass<O> {
@@ -36,6 +38,18 @@ impl<O: Object> TurnPass<O> {
     {
         self.seen
     }
+
+    pub(crate) fn into_seat(self) -> Chair<O>
+        ensures { (result.table_id ≡ self.table) × (result.me ≡ (standing self.opening (claim self.number self.seen self.made) result.me.0.next Idle, [])) }
+    {
+        let Self {
+            seat,
+            number: _,
+            seen: _,
+            plan: _,
+        } = self;
+        seat
+    }
 }
 
 impl<O: Object> Drop for TurnPass<O> {
@@ -44,7 +58,7 @@ impl<O: Object> Drop for TurnPass<O> {
             seat: _,
             number: _,
             seen: _,
-            opening: _,
+            plan: _,
         } = self;
     }
 }

@@ -1,4 +1,5 @@
 //! The rule of a turn, and what its steps tell. These types are for the proofs alone.
+ghost use Rattle.std.specs.Prelude.{◌-◌};
 ghost use Rattle.turn_lock.specs.History.{maker};
 ghost use Rattle.turn_lock.specs.Standing.{dealer, dealt, newcomer, gathered, spent};
 ghost use Rattle.turn_lock.specs.Turns.{Kept};
@@ -20,6 +21,15 @@ pub struct Plan<O> {
     pub passes: u32,
 }
 
+impl<O> Drop for Plan<O> {
+    fn drop(self) {
+        let Self {
+            object: _,
+            passes: _,
+        } = self;
+    }
+}
+
 pub struct Law<O> {
     object: PhantomData<O>,
 }
@@ -27,7 +37,7 @@ pub struct Law<O> {
 impl<O: Object> TableRule<Option<Desk<O>>, View<O, Entry<O>>, Plan<O>> for Law<O> {
     ghost holds = { λ plan. Kept maker (Lies O.content O.answer O.next) plan.object.value plan.passes };
 
-    ghost first = { λ plan. dealer plan.object.value plan.passes };
+    ghost first = { λ plan. dealer plan.object.value 1 (plan.passes - 1) };
 }
 
 pub type Board<O> = Table<Option<Desk<O>>, View<O, Entry<O>>, Plan<O>, Law<O>, Global>;
