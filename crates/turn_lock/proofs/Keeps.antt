@@ -167,9 +167,9 @@ module _ {S X E : Type 0} (by : E → ℕ) (Good : X → List E → S → Type 0
       ⊎_elim
       (λ home. record { log = r.log; value = home.0; home = home.1; good = home.2; seen = l.0.own.seen; mine = l.0.own.mine; turns = turns })
       (λ out. let o = out.1 in
-              let there : o.0 ≡ id = at_same r.line 0 o.0 id o.3 first in
-              let same : o.1 ≡ v = at_same views id o.1 v (subst (λ k. get_elem? views k ≡ some o.1) there o.4) at in
-              let bad : Inside o.2 r.log ≡ Waiting t = sym o.5 ∙ ap (λ (u : View X E). u.stage) same in absurd (cc))
+      let there : o.0 ≡ id = at_same r.line 0 o.0 id o.3 first in
+      let same : o.1 ≡ v = at_same views id o.1 v (subst (λ k. get_elem? views k ≡ some o.1) there o.4) at in
+      let bad : Inside o.2 r.log ≡ Waiting t = sym o.5 ∙ ap (λ (u : View X E). u.stage) same in absurd (cc))
       r.slot
 
   -- a claim stays true where the history grows by calls of another pass
@@ -211,9 +211,9 @@ module _ {S X E : Type 0} (by : E → ℕ) (Good : X → List E → S → Type 0
               let had = r.lined (suc i) seat behind in
               let below = at_less r.line (suc i) seat behind in
               let ne : seat ≢ id = λ is.
-                  let same : had.0 ≡ v = at_same views id had.0 v (subst (λ k. get_elem? views k ≡ some had.0) is had.1) at in
-                  let tick : some ((served + suc i) % 2 ^ 64) ≡ some t = sym had.2 ∙ ap (λ (u : View X E). ticket u.stage) same in
-                  let ticks : (served + suc i) % 2 ^ 64 ≡ t = some-injective _ _ tick in absurd (omega arith) in
+              let same : had.0 ≡ v = at_same views id had.0 v (subst (λ k. get_elem? views k ≡ some had.0) is had.1) at in
+              let tick : some ((served + suc i) % 2 ^ 64) ≡ some t = sym had.2 ∙ ap (λ (u : View X E). ticket u.stage) same in
+              let ticks : (served + suc i) % 2 ^ 64 ≡ t = some-injective _ _ tick in absurd (omega arith) in
               let next : (served + suc i) % 2 ^ 64 ≡ ((served + 1) % 2 ^ 64 + i) % 2 ^ 64 = omega arith in
               (had.0, set_else views id seat w ne ∙ had.1, had.2 ∙ ap some next);
           slot = inl (y, refl, subst (λ k. Good x (k ++ more) y) knows good);
@@ -236,17 +236,17 @@ module _ {S X E : Type 0} (by : E → ℕ) (Good : X → List E → S → Type 0
                 tt,
               ))
               (λ j u ne e. ⊎_elim
-                (λ gone. inl gone)
-                (λ b. inr (
-                  record {
-                    opening = b.0.opening;
-                    own = claim_more r.owners r.log more id j c.number u.own owner ne theirs b.0.own;
-                    joined = All-weaker _ _ (λ d. claim_more r.owners r.log more id j c.number d owner ne theirs) u.joined b.0.joined;
-                    deals = b.0.deals;
-                  },
-                  stands_next served r.line r.log (r.log ++ more) homes (some y ∷ []) id j u.stage first ne b.1,
-                ))
-                (r.seats j u e));
+              (λ gone. inl gone)
+              (λ b. inr (
+                record {
+                  opening = b.0.opening;
+                  own = claim_more r.owners r.log more id j c.number u.own owner ne theirs b.0.own;
+                  joined = All-weaker _ _ (λ d. claim_more r.owners r.log more id j c.number d owner ne theirs) u.joined b.0.joined;
+                  deals = b.0.deals;
+                },
+                stands_next served r.line r.log (r.log ++ more) homes (some y ∷ []) id j u.stage first ne b.1,
+              ))
+              (r.seats j u e));
           named = All-append (λ e. by e < length r.owners) r.log more r.named (All-weaker (λ e. by e ≡ c.number) (λ e. by e < length r.owners) (λ e is. omega arith) more theirs);
           parts = omega (arith, r.parts);
         },
@@ -291,50 +291,50 @@ module _ {S X E : Type 0} (by : E → ℕ) (Good : X → List E → S → Type 0
             r.slot;
         seats = λ seat u e. ⊎_elim
             (λ old. all_but
-                (λ j d. (d.stage ≡ Gone) ⊎ (Lives by x passes (r.owners ++ length views ∷ []) r.log j d × Stands served r.line r.log homes j d.stage))
-                views
-                id
-                w
-                (inr (
-                  record {
-                    opening = l.0.opening;
-                    own = claim_given r.owners r.log id (length views) v.own l.0.own;
-                    joined = All-weaker _ _ (λ d. claim_given r.owners r.log id (length views) d) v.joined l.0.joined;
-                    deals = λ more. (own0, omega arith, omega arith);
-                  },
-                  l.1,
-                ))
-                (λ j d ne f. ⊎_elim
-                  (λ gone. inl gone)
-                  (λ b. inr (
-                    record {
-                      opening = b.0.opening;
-                      own = claim_given r.owners r.log j (length views) d.own b.0.own;
-                      joined = All-weaker _ _ (λ k. claim_given r.owners r.log j (length views) k) d.joined b.0.joined;
-                      deals = λ more. absurd (ne (at_same r.owners 0 j id (subst (λ k. get_elem? r.owners k ≡ some j) (b.0.deals more).0 b.0.own.owner) owner0));
-                    },
-                    b.1,
-                  ))
-                  (r.seats j d f))
-                seat
-                u
-                old)
+            (λ j d. (d.stage ≡ Gone) ⊎ (Lives by x passes (r.owners ++ length views ∷ []) r.log j d × Stands served r.line r.log homes j d.stage))
+            views
+            id
+            w
+            (inr (
+              record {
+                opening = l.0.opening;
+                own = claim_given r.owners r.log id (length views) v.own l.0.own;
+                joined = All-weaker _ _ (λ d. claim_given r.owners r.log id (length views) d) v.joined l.0.joined;
+                deals = λ more. (own0, omega arith, omega arith);
+              },
+              l.1,
+            ))
+            (λ j d ne f. ⊎_elim
+            (λ gone. inl gone)
+            (λ b. inr (
+              record {
+                opening = b.0.opening;
+                own = claim_given r.owners r.log j (length views) d.own b.0.own;
+                joined = All-weaker _ _ (λ k. claim_given r.owners r.log j (length views) k) d.joined b.0.joined;
+                deals = λ more. absurd (ne (at_same r.owners 0 j id (subst (λ k. get_elem? r.owners k ≡ some j) (b.0.deals more).0 b.0.own.owner) owner0));
+              },
+              b.1,
+            ))
+            (r.seats j d f))
+            seat
+            u
+            old)
             (λ last. subst
-                (λ d. (d.stage ≡ Gone) ⊎ (Lives by x passes (r.owners ++ length views ∷ []) r.log seat d × Stands served r.line r.log homes seat d.stage))
-                last.1
-                (inr (
-                  record {
-                    opening = l.0.opening;
-                    own = record {
-                      owner = subst (λ k. get_elem? (r.owners ++ length views ∷ []) v.next ≡ some k) (sym (last.0 ∙ many)) (at_last r.owners (length views) v.next (sym next));
-                      seen = l.0.own.seen;
-                      mine = none_of by r.log (length r.owners) v.next (omega arith) r.named;
-                    };
-                    joined = All-nil _;
-                    deals = λ more. absurd (omega arith);
-                  },
-                  tt,
-                )))
+            (λ d. (d.stage ≡ Gone) ⊎ (Lives by x passes (r.owners ++ length views ∷ []) r.log seat d × Stands served r.line r.log homes seat d.stage))
+            last.1
+            (inr (
+              record {
+                opening = l.0.opening;
+                own = record {
+                  owner = subst (λ k. get_elem? (r.owners ++ length views ∷ []) v.next ≡ some k) (sym (last.0 ∙ many)) (at_last r.owners (length views) v.next (sym next));
+                  seen = l.0.own.seen;
+                  mine = none_of by r.log (length r.owners) v.next (omega arith) r.named;
+                };
+                joined = All-nil _;
+                deals = λ more. absurd (omega arith);
+              },
+              tt,
+            )))
             (at_snoc_place (set views id w) new u seat e);
         named = All-weaker (λ e. by e < length r.owners) (λ e. by e < length (r.owners ++ length views ∷ [])) (λ e is. omega arith) r.log r.named;
         parts = omega (arith, r.parts);
@@ -396,44 +396,44 @@ module _ {S X E : Type 0} (by : E → ℕ) (Good : X → List E → S → Type 0
             gone
             (inl refl)
             (λ j d apart e. ⊎_elim
-              (λ here. subst
-                (λ k. (k.stage ≡ Gone) ⊎ (Lives by x passes owners' r.log j k × Stands served r.line r.log homes j k.stage))
-                here.1
-                (subst
-                  (λ k. (z.stage ≡ Gone) ⊎ (Lives by x passes owners' r.log k z × Stands served r.line r.log homes k z.stage))
-                  (sym here.0)
-                  (inr (
-                    record {
-                      opening = l.0.opening;
-                      own = claim_moved r.owners r.log id other id id v.own mine l.0.own;
-                      joined = All-append
-                          (IsClaim by owners' r.log id)
-                          v.joined
-                          (w.own ∷ w.joined)
-                          (All-weaker _ _ (λ k. claim_moved r.owners r.log id other id id k mine) v.joined l.0.joined)
-                          (All-cons
-                            (IsClaim by owners' r.log id)
-                            w.own
-                            w.joined
-                            (claim_moved r.owners r.log id other other id w.own theirs l'.0.own)
-                            (All-weaker _ _ (λ k. claim_moved r.owners r.log id other other id k theirs) w.joined l'.0.joined));
-                      deals = λ more. absurd (omega arith);
-                    },
-                    l.1,
-                  ))))
-              (λ else. ⊎_elim
-                (λ old. inl old)
-                (λ b. let same : moved id other j ≡ j = moved-else id other j apart in inr (
-                  record {
-                    opening = b.0.opening;
-                    own = claim_moved r.owners r.log id other j j d.own same b.0.own;
-                    joined = All-weaker _ _ (λ k. claim_moved r.owners r.log id other j j k same) d.joined b.0.joined;
-                    deals = λ more. let was = b.0.deals more in (was.0, omega (arith, was.1), omega (arith, was.2));
-                  },
-                  b.1,
-                ))
-                (r.seats j d else.1))
-              (at_set views id j z d e));
+            (λ here. subst
+            (λ k. (k.stage ≡ Gone) ⊎ (Lives by x passes owners' r.log j k × Stands served r.line r.log homes j k.stage))
+            here.1
+            (subst
+            (λ k. (z.stage ≡ Gone) ⊎ (Lives by x passes owners' r.log k z × Stands served r.line r.log homes k z.stage))
+            (sym here.0)
+            (inr (
+              record {
+                opening = l.0.opening;
+                own = claim_moved r.owners r.log id other id id v.own mine l.0.own;
+                joined = All-append
+                    (IsClaim by owners' r.log id)
+                    v.joined
+                    (w.own ∷ w.joined)
+                    (All-weaker _ _ (λ k. claim_moved r.owners r.log id other id id k mine) v.joined l.0.joined)
+                    (All-cons
+                    (IsClaim by owners' r.log id)
+                    w.own
+                    w.joined
+                    (claim_moved r.owners r.log id other other id w.own theirs l'.0.own)
+                    (All-weaker _ _ (λ k. claim_moved r.owners r.log id other other id k theirs) w.joined l'.0.joined));
+                deals = λ more. absurd (omega arith);
+              },
+              l.1,
+            ))))
+            (λ else. ⊎_elim
+            (λ old. inl old)
+            (λ b. let same : moved id other j ≡ j = moved-else id other j apart in inr (
+              record {
+                opening = b.0.opening;
+                own = claim_moved r.owners r.log id other j j d.own same b.0.own;
+                joined = All-weaker _ _ (λ k. claim_moved r.owners r.log id other j j k same) d.joined b.0.joined;
+                deals = λ more. let was = b.0.deals more in (was.0, omega (arith, was.1), omega (arith, was.2));
+              },
+              b.1,
+            ))
+            (r.seats j d else.1))
+            (at_set views id j z d e));
         named = All-weaker (λ e. by e < length r.owners) (λ e. by e < length owners') (λ e is. omega arith) r.log r.named;
         parts = omega (arith, r.parts);
       }
@@ -487,7 +487,7 @@ module _ {S X E : Type 0} (by : E → ℕ) (Good : X → List E → S → Type 0
       ⊎_elim
       (λ home. settled home.0 home.1 home.2)
       (λ out. let o = out.1 in
-              let apart : id ≢ o.0 = λ is. let same : v ≡ o.1 = at_same views id v o.1 at (subst (λ k. get_elem? views k ≡ some o.1) (sym is) o.4) in let bad : ◌≡◌ {A = Stage E} Idle (Inside o.2 r.log) = sym idle ∙ (ap (λ (u : View X E). u.stage) same ∙ o.5) in absurd (cc) in
-              let two = sum_two weight views id o.0 v o.1 apart at o.4 in
-              let some_weight : weight o.1 ≡ 1 + (o.1.spare + length o.1.joined) = ap (λ k. passes_at k (o.1.spare + length o.1.joined)) o.5 in absurd (omega (arith, r.parts)))
+      let apart : id ≢ o.0 = λ is. let same : v ≡ o.1 = at_same views id v o.1 at (subst (λ k. get_elem? views k ≡ some o.1) (sym is) o.4) in let bad : ◌≡◌ {A = Stage E} Idle (Inside o.2 r.log) = sym idle ∙ (ap (λ (u : View X E). u.stage) same ∙ o.5) in absurd (cc) in
+      let two = sum_two weight views id o.0 v o.1 apart at o.4 in
+      let some_weight : weight o.1 ≡ 1 + (o.1.spare + length o.1.joined) = ap (λ k. passes_at k (o.1.spare + length o.1.joined)) o.5 in absurd (omega (arith, r.parts)))
       r.slot

@@ -57,13 +57,13 @@ module _ {S X E : Type 0} (by : E → ℕ) (Good : X → List E → S → Type 0
       dite
       (ℕ_discrete (get_or s.words 1 0) t)
       (λ own.
-        let e = enters by Good x passes id c n t _ _ s.homes s.views k.turns at fits (sym own) in (
-          standing x c n (Inside t e.log),
-          takes 0 e.value,
-          subst (λ h. get_elem? h 0 ≡ some (some e.value)) (sym e.home) refl,
-          subst (λ h. Kept by Good x passes (record { words = set s.words 1 (get_or s.words 1 0); homes = set h 0 none; views = set s.views id (standing x c n (Inside t e.log)) })) (sym e.home) (kept_served s.words _ (none ∷ []) _ k.words e.turns),
-          ((λ is. record { opening = x; log = e.log; value = e.value; from = refl; me_is = refl; good = e.good; seen = e.seen; mine = e.mine }), (λ ne. absurd (ne own))),
-        ))
+      let e = enters by Good x passes id c n t _ _ s.homes s.views k.turns at fits (sym own) in (
+        standing x c n (Inside t e.log),
+        takes 0 e.value,
+        subst (λ h. get_elem? h 0 ≡ some (some e.value)) (sym e.home) refl,
+        subst (λ h. Kept by Good x passes (record { words = set s.words 1 (get_or s.words 1 0); homes = set h 0 none; views = set s.views id (standing x c n (Inside t e.log)) })) (sym e.home) (kept_served s.words _ (none ∷ []) _ k.words e.turns),
+        ((λ is. record { opening = x; log = e.log; value = e.value; from = refl; me_is = refl; good = e.good; seen = e.seen; mine = e.mine }), (λ ne. absurd (ne own))),
+      ))
       (λ other. (
         standing x c n (Waiting t),
         keeps,
@@ -95,22 +95,22 @@ module _ {S X E : Type 0} (by : E → ℕ) (Good : X → List E → S → Type 0
   leave id c n t known y me st is good =
       subst (λ m. Allows (Kept by Good x passes) slots id m 1 (λ k. (k + 1) % 2 ^ 64) (left st m)) (sym is)
       (hand_back id c n t known [] y c (left st (standing x c n (Inside t known), (0, y) ∷ []))
-        (subst (λ l. Good x l y) (sym (append-nil known)) good)
-        (All-nil _)
-        refl
-        (λ seen mine. (subst (λ l. BeginsWith l c.seen) (sym (append-nil known)) seen, subst (λ l. filter (λ e. eqb (by e) c.number) l ≡ c.mine) (sym (append-nil known)) mine))
-        (λ found. refl))
+      (subst (λ l. Good x l y) (sym (append-nil known)) good)
+      (All-nil _)
+      refl
+      (λ seen mine. (subst (λ l. BeginsWith l c.seen) (sym (append-nil known)) seen, subst (λ l. filter (λ e. eqb (by e) c.number) l ≡ c.mine) (sym (append-nil known)) mine))
+      (λ found. refl))
 
   pub pass_on : (history : S → List E) (id : ℕ) (c : Claim E) (n t : ℕ) (known more : List E) (y : S) (me : Me S (View X E)) (st : Step S) → me ≡ (standing x c n (Inside t known), (0, y) ∷ []) → history y ≡ known ++ more → Good x (history y) y → All (λ e. by e ≡ c.number) more
       → Allows (Kept by Good x passes) slots id me 1 (λ k. (k + 1) % 2 ^ 64) (passed by history st me)
   pass_on history id c n t known more y me st is longer good theirs =
       subst (λ m. Allows (Kept by Good x passes) slots id m 1 (λ k. (k + 1) % 2 ^ 64) (passed by history st m)) (sym is)
       (hand_back id c n t known more y (claim c.number (history y) (filter (λ e. eqb (by e) c.number) (history y))) (passed by history st (standing x c n (Inside t known), (0, y) ∷ []))
-        (subst (λ l. Good x l y) longer good)
-        theirs
-        refl
-        (λ seen mine. (([], sym longer ∙ sym (append-nil (history y))), ap (filter (λ e. eqb (by e) c.number)) (sym longer)))
-        (λ found. refl))
+      (subst (λ l. Good x l y) longer good)
+      theirs
+      refl
+      (λ seen mine. (([], sym longer ∙ sym (append-nil (history y))), ap (filter (λ e. eqb (by e) c.number)) (sym longer)))
+      (λ found. refl))
 
   pub split : (id : ℕ) (v : View X E) → v.stage ≡ Idle → 0 < v.spare → Splits (Kept by Good x passes) id v (dealt v) (newcomer v)
   split id v idle some_left s k at = record { words = k.words; turns = splits by Good x passes id v _ _ s.homes s.views k.turns at idle some_left }

@@ -17,7 +17,12 @@ impl<O: Object> Desk<O> {
     ///
     /// # Errors
     /// `Memory` where the object or the history finds no room: no call was made.
-    pub fn make<F: FnOnce()>(&mut self, pass: u32, input: O::In, inside: F) -> Result<O::Out, Memory>
+    pub fn make<F: FnOnce()>(
+        &mut self,
+        pass: u32,
+        input: O::In,
+        inside: F,
+    ) -> Result<O::Out, Memory>
         requires { F.IsAlwaysCallable inside }
         ensures answer { IfOk result (λ output. output ≡ O.answer (O.content self.old.object) input) }
         ensures content { OnOk result (O.content self.new.object ≡ O.next (O.content self.old.object) input) }

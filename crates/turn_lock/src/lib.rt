@@ -11,6 +11,8 @@ mod object;
 mod pass;
 mod rule;
 mod start;
+#[cfg(test)]
+mod tests;
 mod turn;
 mod view;
 

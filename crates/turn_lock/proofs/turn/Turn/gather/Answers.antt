@@ -32,8 +32,7 @@ join_seat-requires g c =
     let all = All-pop (IsPassOf c.args.self.now) _ _ (Some c.in-Some-pop.pass) split c.loop-pass.invariant.theirs in
     let table = ap (λ (t : Sharing g.row.O.Denot). t.table) c.self.view_is in
     let stage = ap (λ (m : Me (Option (Desk g.row.O.Denot g.row.O-In.Denot g.row.O-Out.Denot)) (View g.row.O.Denot (Entry g.row.O.Denot g.row.O-In.Denot g.row.O-Out.Denot))). m.0.stage) c.into_seat.ensures.1 in
-    let spare = ap (λ (m : Me (Option (Desk g.row.O.Denot g.row.O-In.Denot g.row.O-Out.Denot)) (View g.row.O.Denot (Entry g.row.O.Denot g.row.O-In.Denot g.row.O-Out.Denot))). m.0.spare) c.into_seat.ensures.1 in
-    (
+    let spare = ap (λ (m : Me (Option (Desk g.row.O.Denot g.row.O-In.Denot g.row.O-Out.Denot)) (View g.row.O.Denot (Entry g.row.O.Denot g.row.O-In.Denot g.row.O-Out.Denot))). m.0.spare) c.into_seat.ensures.1 in (
       c.loop-pass.invariant.table ∙ sym table,
       c.into_seat.ensures.0 ∙ (all.1.0 ∙ sym table),
       ap (λ (m : Me (Option (Desk g.row.O.Denot g.row.O-In.Denot g.row.O-Out.Denot)) (View g.row.O.Denot (Entry g.row.O.Denot g.row.O-In.Denot g.row.O-Out.Denot))). m.1) c.into_seat.ensures.1,
