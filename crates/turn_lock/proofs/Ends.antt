@@ -12,7 +12,7 @@ use Rattle.turn_lock.specs.declared.view.View.{View}
 use Rattle.turn_lock.specs.History.{Legal, maker}
 use Rattle.turn_lock.specs.Passes.{Token, IsTold}
 use Rattle.turn_lock.specs.Slots.{Lies}
-use Rattle.turn_lock.specs.Standing.{claim, standing, gathered, weight}
+use Rattle.turn_lock.specs.Standing.{claim, resting, gathered, weight}
 use Rattle.turn_lock.specs.Turns.{Kept}
 use Rattle.turn_lock.specs.Dealing.{Gathers, IsTrueOf}
 use Rattle.turn_lock.proofs.Lists.{at_same}
@@ -56,7 +56,7 @@ module _ {O I U C : Type 0} (content : O → C) (answer : C → I → U) (next :
       }
 
 module _ {S O I U : Type 0} (x : O) where
-  pub gathers_first : (passes left : List (Token O I U)) (p : Token O I U) (n : ℕ) (y : O) (me : Me S (View O (Entry O I U))) → passes ≡ left ++ p ∷ [] → me ≡ (standing y (claim p.number p.seen p.made) n Idle, []) → Gathers x passes left me
+  pub gathers_first : (passes left : List (Token O I U)) (p : Token O I U) (n : ℕ) (y : Option O) (me : Me S (View O (Entry O I U))) → passes ≡ left ++ p ∷ [] → me ≡ (resting y (claim p.number p.seen p.made) n, []) → Gathers x passes left me
   gathers_first passes left p n y me split is = subst (Gathers x passes left) (sym is) (record {
     slot = refl;
     stage = refl;
@@ -65,7 +65,7 @@ module _ {S O I U : Type 0} (x : O) where
     told = λ history own joined others. All-same (IsTold history) passes (left ++ p ∷ []) split (All-push (IsTold history) left p others own);
   })
 
-  pub gathers_more : (passes left rest : List (Token O I U)) (p : Token O I U) (n : ℕ) (y : O) (w : View O (Entry O I U)) (me me' : Me S (View O (Entry O I U))) → Gathers x passes left me → left ≡ rest ++ p ∷ [] → w ≡ standing y (claim p.number p.seen p.made) n Idle → me' ≡ (gathered me.0 w, me.1) → Gathers x passes rest me'
+  pub gathers_more : (passes left rest : List (Token O I U)) (p : Token O I U) (n : ℕ) (y : Option O) (w : View O (Entry O I U)) (me me' : Me S (View O (Entry O I U))) → Gathers x passes left me → left ≡ rest ++ p ∷ [] → w ≡ resting y (claim p.number p.seen p.made) n → me' ≡ (gathered me.0 w, me.1) → Gathers x passes rest me'
   gathers_more passes left rest p n y w me me' had split is after = subst (Gathers x passes rest) (sym (after ∙ ap (λ k. (gathered me.0 k, me.1)) is)) (record {
     slot = had.slot;
     stage = had.stage;

@@ -59,7 +59,9 @@ module _ {O I U C : Type 0} (content : O → C) (answer : C → I → U) (next :
       let value : turn.value ≡ Some desk = same_value turn.value (Some desk) [] (rest me'.1) (sym had ∙ out) in
       let good = subst (λ v. Lies content answer next turn.opening turn.log v) value turn.good in
       let inside : me'.0 ≡ standing x me.0.own me.0.next (Inside ticket turn.log) = ap (λ (m : Me (Option (Desk O I U)) (View O (Entry O I U))). m.0) turn.me_is ∙ ap (λ (v : View O (Entry O I U)). record v { stage = Inside ticket turn.log }) stands in
-      let now : me'' ≡ (standing x me.0.own me.0.next (Inside ticket turn.log), (0, None) ∷ []) = left_in ∙ (ap (λ v. (v, (0, None) ∷ rest me'.1)) inside ∙ ap (λ l. (standing x me.0.own me.0.next (Inside ticket turn.log), (0, None) ∷ rest l)) had) in record {
+      let at : me'' ≡ (standing x me.0.own me.0.next (Inside ticket turn.log), (0, None) ∷ rest me'.1) = left_in ∙ ap (λ v. (v, (0, None) ∷ rest me'.1)) inside in
+      let none_else : rest me'.1 ≡ [] = ap rest had in
+      let now : me'' ≡ (standing x me.0.own me.0.next (Inside ticket turn.log), (0, None) ∷ []) = at ∙ ap (λ l. (standing x me.0.own me.0.next (Inside ticket turn.log), (0, None) ∷ l)) none_else in record {
         ticket = ticket;
         log = turn.log;
         me_is = itself x me.0.own me.0.next (Inside ticket turn.log) ((0, None) ∷ []) me'' now;

@@ -1,5 +1,5 @@
 -- What callers see of a turn and of its passes.
-use Rattle.std.specs.Prelude.{◌≡◌, ℕ, ◌+◌, List, [], ◌∷◌, length, All}
+use Rattle.std.specs.Prelude.{◌≡◌, ℕ, ◌+◌, List, [], ◌∷◌, length, All, Option, Some}
 use Rattle.atomic_table.specs.Seated.{TableId}
 use Rattle.turn_lock.specs.declared.entry.Entry.{Entry}
 use Rattle.turn_lock.specs.History.{BeginsWith, calls_by}
@@ -13,7 +13,7 @@ pub record Sharing (O : Type 0) : Type 0 where
 -- A pass: its turn and that turn's first object, its number, the history that it has seen, and the calls that it made
 pub record Token (O I U : Type 0) : Type 0 where
   pub table : TableId
-  pub opening : O
+  pub opening : Option O
   pub number : ℕ
   pub seen : List (Entry O I U)
   pub made : List (Entry O I U)
@@ -21,7 +21,7 @@ pub record Token (O I U : Type 0) : Type 0 where
 module _ {O I U : Type 0} where
   -- it is a pass of this turn
   abbrev pub IsPassOf : Sharing O → Token O I U → Type 0
-  IsPassOf turn pass = (pass.table ≡ turn.table) × (pass.opening ≡ turn.opening)
+  IsPassOf turn pass = (pass.table ≡ turn.table) × (pass.opening ≡ Some turn.opening)
 
   -- it is a pass of the same turn, with the same number
   abbrev pub IsSamePass : Token O I U → Token O I U → Type 0

@@ -1,5 +1,5 @@
 -- What the seats of a turn know. X is what the shared object is made of, and E is one call.
-use Rattle.std.specs.Prelude.{◌≡◌, ℕ, ◌+◌, ◌-◌, List, [], ◌∷◌, ◌++◌, length, Some, None}
+use Rattle.std.specs.Prelude.{◌≡◌, ℕ, ◌+◌, ◌-◌, List, [], ◌∷◌, ◌++◌, length, Option, Some, None}
 use mathlib.Core.Option as maybe
 use mathlib.Core.Option.{some, none}
 use Rattle.turn_lock.specs.declared.view.Claim.{Claim}
@@ -39,6 +39,10 @@ module _ {X E : Type 0} where
   -- a seat that deals out no passes and has taken none in
   abbrev pub standing : X → Claim E → ℕ → Stage E → View X E
   standing x own next stage = record { opening = Some x; own = own; next = next; spare = 0; stage = stage; joined = [] }
+
+  -- the same between calls, read from the seat itself
+  abbrev pub resting : Option X → Claim E → ℕ → View X E
+  resting opening own next = record { opening = opening; own = own; next = next; spare = 0; stage = Idle; joined = [] }
 
   -- the first seat, which has pass 0 and deals out the others: it may deal so many more, the next with this number
   abbrev pub dealer : X → ℕ → ℕ → View X E

@@ -45,21 +45,19 @@ impl<O: Object> Turn<O> {
             return Err(Memory);
         };
         let turn = Turn { table };
-        let mut all = turn.deal_all(alloc, &mut seat, &plan)?;
+        let mut all = turn.deal_all(alloc, &mut seat, passes)?;
         let first = TurnPass {
             seat,
             number: 0,
             seen: 0,
-            plan: Snapshot::of(&plan),
         };
         all.insert(0, first)?;
         Ok((turn, all))
     }
 
     // Deals out one pass.
-    fn deal(&self, seat: &mut Chair<O>, plan: &Plan<O>, number: u32) -> TurnPass<O>
+    fn deal(&self, seat: &mut Chair<O>, number: u32) -> TurnPass<O>
         requires table { seat.old.table_id ≡ self.now.table }
-        requires plan { plan.now.object.value ≡ self.now.opening }
         requires dealer { Deals self.now.opening number seat.old.me.0.spare seat.old.me }
         requires left { 0 < seat.old.me.0.spare }
         ensures seat { IsSameSeat seat.old seat.new }
@@ -71,7 +69,6 @@ impl<O: Object> Turn<O> {
             seat: other,
             number,
             seen: 0,
-            plan: Snapshot::of(plan),
         }
     }
 
@@ -80,18 +77,18 @@ impl<O: Object> Turn<O> {
         &self,
         alloc: Global,
         seat: &mut Chair<O>,
-        plan: &Plan<O>,
+        passes: u32,
     ) -> Result<Vec<TurnPass<O>>, Memory>
         requires table { seat.old.table_id ≡ self.now.table }
-        requires plan { (plan.now.object.value ≡ self.now.opening) × (1 ≤ plan.now.passes) }
-        requires dealer { Deals self.now.opening 1 (plan.now.passes - 1) seat.old.me }
+        requires passes { 1 ≤ passes }
+        requires dealer { Deals self.now.opening 1 (passes - 1) seat.old.me }
         ensures seat { IsSameSeat seat.old seat.new }
-        ensures dealer { OnOk result (Deals self.now.opening plan.now.passes 0 seat.new.me) }
-        ensures fresh { IfOk result (λ all. AreFresh self.now 1 all.items × (1 + length all.items ≡ plan.now.passes)) }
+        ensures dealer { OnOk result (Deals self.now.opening passes 0 seat.new.me) }
+        ensures fresh { IfOk result (λ all. AreFresh self.now 1 all.items × (1 + length all.items ≡ passes)) }
     {
-        let mut all = Vec::with_capacity(alloc, plan.passes as usize)?;
-        for number in 1..plan.passes {
-            all.push(self.deal(seat, plan, number))?;
+        let mut all = Vec::with_capacity(alloc, passes as usize)?;
+        for number in 1..passes {
+            all.push(self.deal(seat, number))?;
         }
         Ok(all)
     }

@@ -12,7 +12,7 @@ pub loop-number-preserved : goal.loop-number-preserved
 loop-number-preserved g c =
     let had = c.loop-number.invariant in
     let spare = ap (λ (m : Me (Option (Desk g.row.O.Denot g.row.O-In.Denot g.row.O-Out.Denot)) (View g.row.O.Denot (Entry g.row.O.Denot g.row.O-In.Denot g.row.O-Out.Denot))). m.0.spare) had.dealer in
-    let fewer : c.loop-number.seat.me.0.spare - 1 ≡ c.args.plan.now.passes - (c.loop-number.number + 1) = omega (arith, spare) in record {
+    let fewer : c.loop-number.seat.me.0.spare - 1 ≡ c.args.passes - (c.loop-number.number + 1) = omega (arith, spare) in record {
       same = (c.deal.ensures.seat.0 ∙ had.same.0, c.deal.ensures.seat.1 ∙ had.same.1);
       dealer = subst (λ k. Deals c.args.self.now.opening (c.loop-number.number + 1) k c.deal.new.seat.me) fewer c.deal.ensures.dealer;
       fresh = subst (AreFresh c.args.self.now 1) (sym c.in_ok-push.ensures.items) (AreFresh-push c.args.self.now 1 c.loop-number.number c.loop-number.all.items c.deal.result had.fresh had.count c.deal.ensures.fresh);

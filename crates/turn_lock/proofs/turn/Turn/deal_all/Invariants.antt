@@ -7,7 +7,7 @@ use Rattle.turn_lock.proofs.turn.Turn.deal_all.Given as goal
 abbrev pub invariant-loop-number : goal.invariant-loop-number
 invariant-loop-number g l = record {
   same : IsSameSeat l.fn.seat l.seat;
-  dealer : Deals l.self.opening l.number (l.number-end - l.number) l.seat.me;
+  dealer : Deals l.self.opening l.number (l.passes - l.number) l.seat.me;
   fresh : AreFresh l.self 1 l.all.items;
   count : 1 + length l.all.items ≡ l.number;
 }
