@@ -84,3 +84,14 @@ module _ {O I U C : Type 0} (content : O → C) (answer : C → I → U) (next :
     theirs = All-cons (λ (d : Entry O I U). d.pass ≡ me.0.own.number) e [] number (All-nil _);
     legal = subst (λ y. Legal answer next (content x) desk'.history.items y) (sym left) (subst (λ l. Legal answer next (content x) l (next (content desk.object) e.input)) (sym longer) (Legal-push (content x) desk.history.items (content desk.object) e hand.legal output));
   }
+
+  pub reserves : (x : O) (more : List (Entry O I U)) (desk desk' : Desk O I U) (me : Me (Option (Desk O I U)) (View O (Entry O I U))) → InHand content answer next x me more desk → content desk'.object ≡ content desk.object → desk'.history.items ≡ desk.history.items
+      → InHand content answer next x me more desk'
+  reserves x more desk desk' me hand same whole = record {
+    ticket = hand.ticket;
+    log = hand.log;
+    me_is = hand.me_is;
+    longer = whole ∙ hand.longer;
+    theirs = hand.theirs;
+    legal = subst (λ y. Legal answer next (content x) desk'.history.items y) (sym same) (subst (λ l. Legal answer next (content x) l (content desk.object)) (sym whole) hand.legal);
+  }

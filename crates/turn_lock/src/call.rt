@@ -1,6 +1,6 @@
 ghost use Rattle.std.specs.Prelude.{◌≡◌, ◌++◌, ℕ, [], ◌∷◌, MatchBool, IfOk, IfErr, OnOk, OnErr};
 ghost use Rattle.turn_lock.specs.declared.desk.Desk.{Desk};
-ghost use Rattle.turn_lock.specs.declared.entry.Entry.{Entry};
+ghost use Rattle.turn_lock.specs.declared.entry.Entry.{Entry as Call};
 ghost use Rattle.turn_lock.specs.declared.view.Stage.TheVariants.{Idle, Waiting, Inside};
 ghost use Rattle.turn_lock.specs.History.{BeginsWith, EndsWith, Legal, entry, calls_by, maker};
 ghost use Rattle.turn_lock.specs.Passes.{IsPassOf, IsSamePass};
@@ -10,6 +10,7 @@ ghost use Rattle.turn_lock.specs.Steps.{HasTurn};
 ghost use Rattle.turn_lock.specs.Calling.{IsIdle, IsWaiting, IsSameSeat, InHand};
 
 use crate::desk::Desk;
+use crate::entry::Entry;
 use crate::object::Object;
 use crate::pass::TurnPass;
 use crate::rule::{Chair, Draw, Leave, Look, PassOn};
@@ -57,19 +58,20 @@ impl<O: Object> Turn<O> {
         ensures back { IfErr result (λ e. e.1 ≡ input) }
     {
         let mut desk = self.enter(rt, &mut pass.seat);
-        let made = desk.make(pass.number, input, inside);
-        let seen = desk.history.len() as u64;
-        match made {
-            Ok(output) => {
-                self.pass_on(&mut pass.seat, desk);
-                pass.seen = seen;
-                Ok(output)
-            }
-            Err(error) => {
-                self.leave(&mut pass.seat, desk);
-                Err((error, input))
-            }
+        if desk.reserve().is_err() {
+            self.leave(&mut pass.seat, desk);
+            return Err((Memory, input));
         }
+        inside();
+        let output = desk.object.step(input);
+        desk.history.push_reserved(Entry {
+            pass: pass.number,
+            input,
+            output,
+        });
+        pass.seen = desk.history.len() as u64;
+        self.pass_on(&mut pass.seat, desk);
+        Ok(output)
     }
 
     // Draws a ticket.
@@ -137,7 +139,7 @@ impl<O: Object> Turn<O> {
     // Puts the object back with one more call, and passes the turn on.
     fn pass_on(&self, seat: &mut Chair<O>, desk: Desk<O>)
         requires table { seat.old.table_id ≡ self.now.table }
-        requires call { (call : Entry O O.In O.Out) × InHand O.content O.answer O.next self.now.opening seat.old.me (call ∷ []) desk }
+        requires call { (call : Call O O.In O.Out) × InHand O.content O.answer O.next self.now.opening seat.old.me (call ∷ []) desk }
         ensures same { IsSameSeat seat.old seat.new }
         ensures me { seat.new.me ≡ (standing self.now.opening (claim seat.old.me.0.own.number desk.history.items (calls_by seat.old.me.0.own.number desk.history.items)) seat.old.me.0.next Idle, []) }
     {

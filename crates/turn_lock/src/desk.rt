@@ -1,5 +1,4 @@
-ghost use Rattle.std.specs.Prelude.{◌≡◌, ◌++◌, [], ◌∷◌, IfOk, OnOk, OnErr};
-ghost use Rattle.turn_lock.specs.History.{entry};
+ghost use Rattle.std.specs.Prelude.{◌≡◌, ◌<◌, ◌≤◌, OnOk, vec_len, vec_capacity};
 
 use crate::entry::Entry;
 use crate::object::Object;
@@ -13,31 +12,14 @@ pub struct Desk<O: Object> {
 }
 
 impl<O: Object> Desk<O> {
-    /// Makes one call, which the history then ends with. All memory is taken before `inside` is called.
-    ///
-    /// # Errors
-    /// `Memory` where the object or the history finds no room: no call was made.
-    pub fn make<F: FnOnce()>(
-        &mut self,
-        pass: u32,
-        input: O::In,
-        inside: F,
-    ) -> Result<O::Out, Memory>
-        requires { F.IsAlwaysCallable inside }
-        ensures answer { IfOk result (λ output. output ≡ O.answer (O.content self.old.object) input) }
-        ensures content { OnOk result (O.content self.new.object ≡ O.next (O.content self.old.object) input) }
-        ensures history { IfOk result (λ output. self.new.history.items ≡ self.old.history.items ++ entry pass input output ∷ []) }
-        ensures same { OnErr result ((O.content self.new.object ≡ O.content self.old.object) × (self.new.history.items ≡ self.old.history.items)) }
+    /// Takes the memory for one more call and its entry.
+    pub fn reserve(&mut self) -> Result<(), Memory>
+        ensures content { O.content self.new.object ≡ O.content self.old.object }
+        ensures history { self.new.history.items ≡ self.old.history.items }
+        ensures room { OnOk result ((1 ≤ O.spare self.new.object) × (vec_len self.new.history < vec_capacity self.new.history)) }
     {
         self.object.reserve()?;
         self.history.reserve(1)?;
-        inside();
-        let output = self.object.step(input);
-        self.history.push_reserved(Entry {
-            pass,
-            input,
-            output,
-        });
-        Ok(output)
+        Ok(())
     }
 }
