@@ -25,8 +25,7 @@ returns-clause-legal g c =
     let number = sym (ap (λ (o : Claim (Entry g.row.O.Denot g.row.O-In.Denot g.row.O-Out.Denot)). o.number) c.enter-desk.ensures.own.0 ∙ c.pass.invariant.1) in
     let ready = reserves _ _ _ c.args.self.now.opening [] c.enter-desk.result c.reserve.new.self _ c.enter-desk.ensures.hand c.reserve.ensures.content c.reserve.ensures.history in
     let hand = makes _ _ _ c.args.self.now.opening e c.reserve.new.self desk _ ready c.push_reserved.ensures.items number c.step-output.ensures.answer c.step-output.ensures.content in
-    let seen = ap (λ (m : Me (Option (Desk g.row.O.Denot g.row.O-In.Denot g.row.O-Out.Denot)) (View g.row.O.Denot (Entry g.row.O.Denot g.row.O-In.Denot g.row.O-Out.Denot))). m.0.own.seen) c.pass_on.ensures.me in
-    (
+    let seen = ap (λ (m : Me (Option (Desk g.row.O.Denot g.row.O-In.Denot g.row.O-Out.Denot)) (View g.row.O.Denot (Entry g.row.O.Denot g.row.O-In.Denot g.row.O-Out.Denot))). m.0.own.seen) c.pass_on.ensures.me in (
       g.O.Object.content desk.object,
       subst (λ l. Legal g.O.Object.answer g.O.Object.next (g.O.Object.content c.args.self.now.opening) l (g.O.Object.content desk.object)) (sym seen) hand.legal,
     )
