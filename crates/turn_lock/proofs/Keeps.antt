@@ -1,5 +1,5 @@
 -- Each kind of step keeps the rule of a turn.
-use Rattle.std.proofs.Common.{◌≡◌, ℕ, zero, suc, ◌+◌, ◌-◌, ◌%◌, ◌^◌, ◌<◌, ◌≤◌, ◌≢◌, ◌⊎◌, cond, eqb, eq-eqb, ne_eqb, List, [], ◌∷◌, ◌++◌, length, map, set, sum_by, filter, Some, sym, refl, ap, ◌∙◌, subst, inl, inr, ⊎_elim, arith, length-append, length-set}
+use Rattle.std.proofs.Common.{◌≡◌, ℕ, zero, suc, ◌+◌, ◌-◌, ◌%◌, ◌^◌, ◌<◌, ◌≤◌, ◌≢◌, ◌⊎◌, cond, eqb, eq-eqb, ne_eqb, List, [], ◌∷◌, ◌++◌, length, map, set, filter, sym, refl, ap, ◌∙◌, subst, inl, inr, ⊎_elim, arith, length-append, length-set}
 use Rattle.std.proofs.lemmas.List.{length-map}
 use Rattle.std.specs.List.{All}
 use Rattle.std.proofs.lemmas.List.Sums.{sum_by_push, sum_by-le-sum_by}
@@ -14,9 +14,9 @@ use Rattle.turn_lock.specs.declared.view.Stage.{Stage}
 use Rattle.turn_lock.specs.declared.view.Stage.TheVariants.{Idle, Waiting, Inside, Gone}
 use Rattle.turn_lock.specs.declared.view.View.{View}
 use Rattle.turn_lock.specs.History.{BeginsWith}
-use Rattle.turn_lock.specs.Standing.{claim, ticket, in_line, passes_at, weight, standing, dealer, dealt, newcomer, gathered, spent}
+use Rattle.turn_lock.specs.Standing.{ticket, in_line, passes_at, weight, standing, dealer, dealt, newcomer, gathered, spent}
 use Rattle.turn_lock.specs.Turns.{IsClaim, Lives, Stands, HasTicket, IsOut, Turns}
-use Rattle.turn_lock.proofs.Lists.{at_less, at_same, sum_set, sum_at, sum_two, at_snoc_place, tail, at_tail, length-tail, all_but, begins_longer, own_more, others_same, none_of}
+use Rattle.turn_lock.proofs.Lists.{at_less, at_same, sum_set, sum_two, at_snoc_place, tail, at_tail, length-tail, all_but, begins_longer, others_same, none_of}
 
 in_line_le : {E : Type 0} (s : Stage E) (n : ℕ) → in_line s ≤ passes_at s n
 in_line_le Idle n = omega arith

@@ -1,5 +1,5 @@
 -- What the steps ask of the table, from the lemmas that they keep the rule.
-use Rattle.std.proofs.Common.{◌≡◌, ℕ, zero, suc, ◌+◌, ◌-◌, ◌%◌, ◌^◌, ◌<◌, ◌≤◌, ◌≢◌, eqb, List, [], ◌∷◌, ◌++◌, length, get_or, set, filter, Some, sym, refl, ap, ◌∙◌, subst, arith, length-set, get_or-set_same, get_or-set_other, append-nil}
+use Rattle.std.proofs.Common.{◌≡◌, ℕ, ◌+◌, ◌-◌, ◌%◌, ◌^◌, ◌<◌, ◌≤◌, eqb, List, [], ◌∷◌, ◌++◌, length, get_or, set, filter, sym, refl, ap, ◌∙◌, subst, arith, length-set, get_or-set_same, get_or-set_other, append-nil}
 use Rattle.std.proofs.lemmas.List.Elements.{All-nil}
 use Rattle.atomic_table.proofs.Lists.{set_again, set_else}
 use Rattle.std.specs.List.{All}
@@ -7,15 +7,14 @@ use mathlib.Core.Option.{Option, some, none}
 use mathlib.Core.Logic.{dite}
 use native.Mathlib.Decide.{ℕ_discrete}
 use lib.ListN.{get_elem?}
-use Rattle.atomic_table.specs.Table.{State, Me, Step, keeps, takes, gives, Allows, Splits, Joins, opening}
+use Rattle.atomic_table.specs.Table.{Me, Step, keeps, takes, gives, Allows, Splits, Joins, opening}
 use Rattle.turn_lock.specs.declared.view.Claim.{Claim}
-use Rattle.turn_lock.specs.declared.view.Stage.{Stage}
-use Rattle.turn_lock.specs.declared.view.Stage.TheVariants.{Idle, Waiting, Inside, Gone}
+use Rattle.turn_lock.specs.declared.view.Stage.TheVariants.{Idle, Waiting, Inside}
 use Rattle.turn_lock.specs.declared.view.View.{View}
 use Rattle.turn_lock.specs.History.{BeginsWith}
-use Rattle.turn_lock.specs.Standing.{claim, weight, standing, dealer, dealt, newcomer, gathered, spent}
+use Rattle.turn_lock.specs.Standing.{claim, standing, dealer, dealt, newcomer, gathered, spent}
 use Rattle.turn_lock.specs.Turns.{Turns, Kept}
-use Rattle.turn_lock.specs.Steps.{HasTurn, drew, looked, left, passed, told}
+use Rattle.turn_lock.specs.Steps.{drew, looked, left, passed}
 use Rattle.turn_lock.specs.Calling.{IsIdle, IsWaiting}
 use Rattle.turn_lock.proofs.Keeps.{draws, enters, leaves, splits, joins, begins}
 

@@ -4,11 +4,9 @@ use Rattle.atomic_table.specs.Table.{Me}
 use Rattle.atomic_table.specs.declared.shared.Seat.{Seat}
 use Rattle.turn_lock.specs.declared.desk.Desk.{Desk}
 use Rattle.turn_lock.specs.declared.entry.Entry.{Entry}
-use Rattle.turn_lock.specs.declared.view.Claim.{Claim}
 use Rattle.turn_lock.specs.declared.view.Stage.TheVariants.{Idle, Waiting, Inside}
 use Rattle.turn_lock.specs.declared.view.View.{View}
-use Rattle.turn_lock.specs.History.{BeginsWith, Legal, calls_by}
-use Rattle.turn_lock.specs.Slots.{Lies}
+use Rattle.turn_lock.specs.History.{Legal}
 use Rattle.turn_lock.specs.Standing.{standing}
 
 module _ {S V : Type 0} where

@@ -1,10 +1,9 @@
 ghost use Rattle.std.specs.Prelude.{◌≡◌, ◌++◌, ℕ, [], ◌∷◌, MatchBool, IfOk, IfErr, OnOk, OnErr};
-ghost use Rattle.turn_lock.specs.declared.desk.Desk.{Desk};
 ghost use Rattle.turn_lock.specs.declared.entry.Entry.{Entry as Call};
-ghost use Rattle.turn_lock.specs.declared.view.Stage.TheVariants.{Idle, Waiting, Inside};
+ghost use Rattle.turn_lock.specs.declared.view.Stage.TheVariants.{Idle, Waiting};
 ghost use Rattle.turn_lock.specs.History.{BeginsWith, EndsWith, Legal, entry, calls_by, maker};
 ghost use Rattle.turn_lock.specs.Passes.{IsPassOf, IsSamePass};
-ghost use Rattle.turn_lock.specs.Slots.{Lies, history_of};
+ghost use Rattle.turn_lock.specs.Slots.{Lies};
 ghost use Rattle.turn_lock.specs.Standing.{standing, claim};
 ghost use Rattle.turn_lock.specs.Steps.{HasTurn};
 ghost use Rattle.turn_lock.specs.Calling.{IsIdle, IsWaiting, IsSameSeat, InHand};

@@ -3,7 +3,7 @@ ghost use Rattle.turn_lock.specs.declared.view.Stage.TheVariants.{Idle};
 ghost use Rattle.turn_lock.specs.Standing.{weight};
 ghost use Rattle.turn_lock.specs.History.{Legal};
 ghost use Rattle.turn_lock.specs.Dealing.{Gathers, IsTrueOf};
-ghost use Rattle.turn_lock.specs.Passes.{AreAllPasses, IsPassOf, IsTold};
+ghost use Rattle.turn_lock.specs.Passes.{AreAllPasses, IsTold};
 
 use crate::desk::Desk;
 use crate::entry::Entry;

@@ -1,4 +1,4 @@
-ghost use Rattle.std.specs.Prelude.{◌≡◌, ℕ, ◌+◌, ◌%◌, ◌^◌, All, IfSome, IfOk};
+ghost use Rattle.std.specs.Prelude.{ℕ, ◌+◌, ◌%◌, ◌^◌, All, IfSome};
 ghost use Rattle.turn_lock.specs.Passes.{IsPassOf};
 
 use crate::{Entry, Object, Turn, TurnPass};

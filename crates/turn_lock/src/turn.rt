@@ -1,5 +1,3 @@
-ghost use Rattle.std.specs.Prelude.{◌≡◌, ◌≤◌};
-
 use crate::object::Object;
 use crate::rule::Board;
 use std::marker::Model;

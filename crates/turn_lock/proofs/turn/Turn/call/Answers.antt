@@ -1,11 +1,10 @@
-use Rattle.std.proofs.Common.{[], ◌∷◌, Option, sym, ◌∙◌, ap, subst}
+use Rattle.std.proofs.Common.{[], Option, sym, ◌∙◌, ap, subst}
 use Rattle.atomic_table.specs.Table.{Me}
 use Rattle.turn_lock.specs.declared.desk.Desk.{Desk}
 use Rattle.turn_lock.specs.declared.entry.Entry.{Entry}
 use Rattle.turn_lock.specs.declared.view.Claim.{Claim}
 use Rattle.turn_lock.specs.declared.view.View.{View}
 use Rattle.turn_lock.specs.History.{Legal, entry}
-use Rattle.turn_lock.specs.Calling.{InHand}
 use Rattle.turn_lock.proofs.Hands.{reserves, makes}
 use Rattle.turn_lock.proofs.turn.Turn.call.Goals as goal
 

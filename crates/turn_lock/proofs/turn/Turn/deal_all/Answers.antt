@@ -1,4 +1,4 @@
-use Rattle.std.proofs.Common.{◌≡◌, ◌+◌, ◌-◌, length, Option, sym, ap, ◌∙◌, subst, arith}
+use Rattle.std.proofs.Common.{◌≡◌, ◌+◌, ◌-◌, Option, sym, ap, ◌∙◌, subst, arith}
 use Rattle.atomic_table.specs.Table.{Me}
 use Rattle.turn_lock.specs.declared.desk.Desk.{Desk}
 use Rattle.turn_lock.specs.declared.entry.Entry.{Entry}

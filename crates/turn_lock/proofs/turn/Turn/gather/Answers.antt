@@ -1,11 +1,11 @@
-use Rattle.std.proofs.Common.{ℕ, ◌≡◌, ◌≤◌, length, Some, Option, sym, ap, ◌∙◌, arith, rules}
+use Rattle.std.proofs.Common.{Some, Option, sym, ap, ◌∙◌, arith}
 use Rattle.std.proofs.lemmas.Bool.{false≢true}
 use Rattle.std.proofs.lemmas.List.Elements.{All-pop}
 use Rattle.atomic_table.specs.Table.{Me}
 use Rattle.turn_lock.specs.declared.desk.Desk.{Desk}
 use Rattle.turn_lock.specs.declared.entry.Entry.{Entry}
 use Rattle.turn_lock.specs.declared.view.View.{View}
-use Rattle.turn_lock.specs.Passes.{Sharing, Token, IsPassOf}
+use Rattle.turn_lock.specs.Passes.{Sharing, IsPassOf}
 use Rattle.turn_lock.proofs.Ends.{gathers_first, gathers_more}
 use Rattle.turn_lock.proofs.Moves.{join}
 use Rattle.turn_lock.proofs.turn.Turn.gather.Goals as goal

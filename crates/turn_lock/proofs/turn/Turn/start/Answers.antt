@@ -1,4 +1,4 @@
-use Rattle.std.proofs.Common.{List, [], ◌∷◌, ◌++◌, Option, Some, sym, ap, ◌∙◌}
+use Rattle.std.proofs.Common.{List, [], ◌∷◌, ◌++◌, Option, Some, ap, ◌∙◌}
 use Rattle.turn_lock.specs.declared.desk.Desk.{Desk}
 use Rattle.turn_lock.proofs.Moves.{begin}
 use Rattle.turn_lock.proofs.turn.Turn.start.Goals as goal

@@ -1,4 +1,4 @@
-use Rattle.std.proofs.Common.{◌≡◌, ◌<◌, [], ◌∷◌}
+use Rattle.std.proofs.Common.{◌≡◌, ◌<◌, []}
 use Rattle.turn_lock.specs.declared.view.Stage.TheVariants.{Waiting}
 use Rattle.turn_lock.specs.Calling.{IsSameSeat}
 use Rattle.turn_lock.proofs.turn.Turn.wait.Given as goal
