@@ -55,9 +55,9 @@ module _ {O I U C : Type 0} (content : O → C) (answer : C → I → U) (next :
         named = subst (All (λ d. d.pass < passes)) here e.named;
       }
 
-module _ {S O I U : Type 0} (x : O) where
-  pub gathers_first : (passes left : List (Token O I U)) (p : Token O I U) (n : ℕ) (y : Option O) (me : Me S (View O (Entry O I U))) → passes ≡ left ++ p ∷ [] → me ≡ (resting y (claim p.number p.seen p.made) n, []) → Gathers x passes left me
-  gathers_first passes left p n y me split is = subst (Gathers x passes left) (sym is) (record {
+module _ {S O I U : Type 0} where
+  pub gathers_first : (passes left : List (Token O I U)) (p : Token O I U) (n : ℕ) (y : Option O) (me : Me S (View O (Entry O I U))) → passes ≡ left ++ p ∷ [] → me ≡ (resting y (claim p.number p.seen p.made) n, []) → Gathers passes left me
+  gathers_first passes left p n y me split is = subst (Gathers passes left) (sym is) (record {
     slot = refl;
     stage = refl;
     spare = refl;
@@ -65,8 +65,8 @@ module _ {S O I U : Type 0} (x : O) where
     told = λ history own joined others. All-same (IsTold history) passes (left ++ p ∷ []) split (All-push (IsTold history) left p others own);
   })
 
-  pub gathers_more : (passes left rest : List (Token O I U)) (p : Token O I U) (n : ℕ) (y : Option O) (w : View O (Entry O I U)) (me me' : Me S (View O (Entry O I U))) → Gathers x passes left me → left ≡ rest ++ p ∷ [] → w ≡ resting y (claim p.number p.seen p.made) n → me' ≡ (gathered me.0 w, me.1) → Gathers x passes rest me'
-  gathers_more passes left rest p n y w me me' had split is after = subst (Gathers x passes rest) (sym (after ∙ ap (λ k. (gathered me.0 k, me.1)) is)) (record {
+  pub gathers_more : (passes left rest : List (Token O I U)) (p : Token O I U) (n : ℕ) (y : Option O) (w : View O (Entry O I U)) (me me' : Me S (View O (Entry O I U))) → Gathers passes left me → left ≡ rest ++ p ∷ [] → w ≡ resting y (claim p.number p.seen p.made) n → me' ≡ (gathered me.0 w, me.1) → Gathers passes rest me'
+  gathers_more passes left rest p n y w me me' had split is after = subst (Gathers passes rest) (sym (after ∙ ap (λ k. (gathered me.0 k, me.1)) is)) (record {
     slot = had.slot;
     stage = had.stage;
     spare = had.spare;

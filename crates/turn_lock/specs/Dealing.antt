@@ -19,7 +19,7 @@ module _ {O I U : Type 0} where
   IsTrueOf history c = BeginsWith history c.seen × (calls_by c.number history ≡ c.mine)
 
 -- The seat has taken in all but `left` of `passes`, and where its claims are true of a history, that history is told by all passes once it is by those that are left
-pub record Gathers {S O I U : Type 0} (x : O) (passes left : List (Token O I U)) (me : Me S (View O (Entry O I U))) : Type 0 where
+pub record Gathers {S O I U : Type 0} (passes left : List (Token O I U)) (me : Me S (View O (Entry O I U))) : Type 0 where
   pub slot : me.1 ≡ []
   pub stage : me.0.stage ≡ Idle
   pub spare : me.0.spare ≡ 0

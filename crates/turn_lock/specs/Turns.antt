@@ -47,11 +47,15 @@ pub record Turns {S X E : Type 0} (by : E → ℕ) (Good : X → List E → S �
   pub owners : List ℕ
   pub few : passes ≤ 17
   pub given : length owners ≤ passes
+  -- there are as many tickets between the two words as seats in line, and their tickets are the numbers from word 1 on
   pub tickets : drawn ≡ (served + length line) % 2 ^ 64
   pub waiting : sum_by (λ v. in_line v.stage) views ≡ length line
   pub lined : (i seat : ℕ) → get_elem? line i ≡ some seat → HasTicket views seat ((served + i) % 2 ^ 64)
+  -- the object is at home, or with the seat that is being served
   pub slot : ((y : S) × (homes ≡ some y ∷ []) × Good x log y) ⊎ ((homes ≡ none ∷ []) × IsOut line log views)
+  -- a seat is live, or it was taken in by another
   pub seats : (seat : ℕ) (v : View X E) → get_elem? views seat ≡ some v → (v.stage ≡ Gone) ⊎ (Lives by x passes owners log seat v × Stands served line log homes seat v.stage)
+  -- each call is of a number that was given, and the live seats stand for all passes
   pub named : All (λ e. by e < length owners) log
   pub parts : sum_by weight views ≡ passes
 

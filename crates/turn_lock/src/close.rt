@@ -42,7 +42,7 @@ impl<O: Object> Turn<O> {
     fn gather(&self, mut passes: Vec<TurnPass<O>>) -> Chair<O>
         requires { AreAllPasses self.now passes.items }
         ensures table { result.table_id ≡ self.now.table }
-        ensures gathers { Gathers self.now.opening passes.items [] result.me }
+        ensures gathers { Gathers passes.items [] result.me }
     {
         let shared = &self.table.shared;
         let Some(last) = passes.pop() else {

@@ -22,7 +22,7 @@ loop-pass-init g c =
     let split = c.in-Some.ensures.items in
     let all = All-pop (IsPassOf c.args.self.now) _ _ (Some c.in-Some.last) split c.requires.1 in record {
       table = c.into_seat-seat.ensures.0 ∙ all.1.0;
-      gathers = gathers_first _ _ _ c.in-Some.last _ _ _ split c.into_seat-seat.ensures.1;
+      gathers = gathers_first _ _ c.in-Some.last _ _ _ split c.into_seat-seat.ensures.1;
       theirs = all.0;
     }
 
@@ -45,6 +45,6 @@ loop-pass-preserved g c =
     let split = c.in-Some-pop.ensures.items in
     let all = All-pop (IsPassOf c.args.self.now) _ _ (Some c.in-Some-pop.pass) split c.loop-pass.invariant.theirs in record {
       table = c.join_seat.ensures.0 ∙ c.loop-pass.invariant.table;
-      gathers = gathers_more _ _ _ _ c.in-Some-pop.pass _ _ _ _ _ c.loop-pass.invariant.gathers split (ap (λ (m : Me (Option (Desk g.row.O.Denot g.row.O-In.Denot g.row.O-Out.Denot)) (View g.row.O.Denot (Entry g.row.O.Denot g.row.O-In.Denot g.row.O-Out.Denot))). m.0) c.into_seat.ensures.1) c.join_seat.ensures.2;
+      gathers = gathers_more _ _ _ c.in-Some-pop.pass _ _ _ _ _ c.loop-pass.invariant.gathers split (ap (λ (m : Me (Option (Desk g.row.O.Denot g.row.O-In.Denot g.row.O-Out.Denot)) (View g.row.O.Denot (Entry g.row.O.Denot g.row.O-In.Denot g.row.O-Out.Denot))). m.0) c.into_seat.ensures.1) c.join_seat.ensures.2;
       theirs = all.0;
     }

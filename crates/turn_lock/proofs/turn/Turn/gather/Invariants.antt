@@ -7,7 +7,7 @@ use Rattle.turn_lock.proofs.turn.Turn.gather.Given as goal
 abbrev pub invariant-loop-pass : goal.invariant-loop-pass
 invariant-loop-pass g l = record {
   table : l.seat.table_id ≡ l.self.table;
-  gathers : Gathers l.self.opening l.fn.passes.items l.passes.items l.seat.me;
+  gathers : Gathers l.fn.passes.items l.passes.items l.seat.me;
   theirs : All (IsPassOf l.self) l.passes.items;
 }
 
