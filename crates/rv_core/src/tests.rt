@@ -188,8 +188,18 @@ fn traps_end_the_task_at_their_instruction(rt: HostRuntime) -> Result<(), Fail> 
 fn fuel_is_tested_before_the_instruction(rt: HostRuntime) -> Result<(), Fail> {
     let alloc = rt.alloc();
     let none = WordSet::new(alloc);
-    let task = task(alloc, WordSet::new(alloc), WordSet::new(alloc), none)?;
-    let cases: [(&[u32], u8, End, u32); 5] = [
+    let task = task(alloc, WordSet::new(alloc), m(alloc)?, none)?;
+    // stores 5 in the word
+    let store_five = [
+        0x1000_02b7,
+        0x0050_0313,
+        0x0062_a023,
+        0x0000_0893,
+        0x0000_0073,
+    ];
+    let cases: [(&[u32], u8, End, u32); 7] = [
+        (&store_five, 5, End::Finished, 5),
+        (&store_five, 4, End::Fuel, 4),
         // a jump to itself
         (&[0x0000_006f], 1, End::Fuel, 1),
         // an EBREAK, and a word that is no instruction

@@ -1,0 +1,77 @@
+-- Taking all passes in, and the object out.
+use Rattle.std.proofs.Common.{◌≡◌, ℕ, ◌<◌, List, [], ◌∷◌, ◌++◌, length, Option, Some, None, sym, refl, ap, ◌∙◌, subst, arith, length-append}
+use Rattle.std.specs.List.{All}
+use Rattle.std.proofs.lemmas.List.Elements.{All-push, All-pop, All-same}
+use mathlib.Core.Option.{some}
+use lib.ListN.{get_elem?}
+use Rattle.atomic_table.specs.Table.{State, Me, Final, Seen}
+use Rattle.turn_lock.specs.declared.desk.Desk.{Desk}
+use Rattle.turn_lock.specs.declared.entry.Entry.{Entry}
+use Rattle.turn_lock.specs.declared.view.Stage.TheVariants.{Idle}
+use Rattle.turn_lock.specs.declared.view.View.{View}
+use Rattle.turn_lock.specs.History.{Legal, maker}
+use Rattle.turn_lock.specs.Passes.{Token, IsTold}
+use Rattle.turn_lock.specs.Slots.{Lies}
+use Rattle.turn_lock.specs.Standing.{claim, resting, gathered, weight}
+use Rattle.turn_lock.specs.Turns.{Kept}
+use Rattle.turn_lock.specs.Dealing.{Gathers, IsTrueOf}
+use Rattle.turn_lock.proofs.Lists.{at_same}
+use Rattle.turn_lock.proofs.Keeps.{settles}
+
+module _ {O I U C : Type 0} (content : O → C) (answer : C → I → U) (next : C → I → C) (x : O) (passes : ℕ) where
+  -- what is known of the slot of a turn where one seat stands for all passes
+  pub record Ended (v : View O (Entry O I U)) (slot : Option (Desk O I U)) : Type 0 where
+    pub log : List (Entry O I U)
+    pub good : Lies content answer next x log slot
+    pub own : IsTrueOf log v.own
+    pub joined : All (IsTrueOf log) v.joined
+    pub named : All (λ e. e.pass < passes) log
+
+  pub ends : (id : ℕ) (v : View O (Entry O I U)) (words : List ℕ) (items : List (Option (Desk O I U))) (slot : Option (Desk O I U)) → Final (Seen (Kept maker (Lies content answer next) x passes) id v) words items → v.stage ≡ Idle → weight v ≡ passes → get_elem? items 0 ≡ some slot → Ended v slot
+  ends id v words items slot final idle whole taken =
+      let s : State (Option (Desk O I U)) (View O (Entry O I U)) = final.0 in
+      let settled = settles maker (Lies content answer next) x passes id v _ _ s.homes s.views final.1.0.turns final.1.1 idle whole in
+      let there : get_elem? items 0 ≡ some settled.value = final.4 0 settled.value (subst (λ h. get_elem? h 0 ≡ some (some settled.value)) (sym settled.home) refl) in
+      let same : settled.value ≡ slot = at_same items 0 settled.value slot there taken in
+      record { log = settled.log; good = subst (Lies content answer next x settled.log) same settled.good; own = settled.own; joined = settled.joined; named = settled.named }
+
+  pub never_empty : (v : View O (Entry O I U)) (slot : Option (Desk O I U)) → Ended v slot → slot ≡ None → ⊥
+  never_empty v slot e is = subst (Lies content answer next x e.log) is e.good
+
+  -- the same of the desk that was taken out
+  pub record Handed (v : View O (Entry O I U)) (desk : Desk O I U) : Type 0 where
+    pub legal : Legal answer next (content x) desk.history.items (content desk.object)
+    pub own : IsTrueOf desk.history.items v.own
+    pub joined : All (IsTrueOf desk.history.items) v.joined
+    pub named : All (λ e. e.pass < passes) desk.history.items
+
+  pub hands : (v : View O (Entry O I U)) (slot : Option (Desk O I U)) (desk : Desk O I U) → Ended v slot → slot ≡ Some desk → Handed v desk
+  hands v slot desk e is =
+      let good = subst (Lies content answer next x e.log) is e.good in
+      let here = sym good.0 in record {
+        legal = subst (λ l. Legal answer next (content x) l (content desk.object)) here good.1;
+        own = subst (λ l. IsTrueOf l v.own) here e.own;
+        joined = subst (λ l. All (IsTrueOf l) v.joined) here e.joined;
+        named = subst (All (λ d. d.pass < passes)) here e.named;
+      }
+
+module _ {S O I U : Type 0} where
+  pub gathers_first : (passes left : List (Token O I U)) (p : Token O I U) (n : ℕ) (y : Option O) (me : Me S (View O (Entry O I U))) → passes ≡ left ++ p ∷ [] → me ≡ (resting y (claim p.number p.seen p.made) n, []) → Gathers passes left me
+  gathers_first passes left p n y me split is = subst (Gathers passes left) (sym is) (record {
+    slot = refl;
+    stage = refl;
+    spare = refl;
+    count = omega (arith, length-append left (p ∷ []), ap length split);
+    told = λ history own joined others. All-same (IsTold history) passes (left ++ p ∷ []) split (All-push (IsTold history) left p others own);
+  })
+
+  pub gathers_more : (passes left rest : List (Token O I U)) (p : Token O I U) (n : ℕ) (y : Option O) (w : View O (Entry O I U)) (me me' : Me S (View O (Entry O I U))) → Gathers passes left me → left ≡ rest ++ p ∷ [] → w ≡ resting y (claim p.number p.seen p.made) n → me' ≡ (gathered me.0 w, me.1) → Gathers passes rest me'
+  gathers_more passes left rest p n y w me me' had split is after = subst (Gathers passes rest) (sym (after ∙ ap (λ k. (gathered me.0 k, me.1)) is)) (record {
+    slot = had.slot;
+    stage = had.stage;
+    spare = had.spare;
+    count = omega (arith, had.count, length-append rest (p ∷ []), ap length split, length-append me.0.joined (claim p.number p.seen p.made ∷ []));
+    told = λ history own joined others.
+        let all = All-pop (IsTrueOf history) (me.0.joined ++ claim p.number p.seen p.made ∷ []) me.0.joined (Some (claim p.number p.seen p.made)) refl joined in
+        had.told history own all.0 (All-same (IsTold history) left (rest ++ p ∷ []) split (All-push (IsTold history) rest p others all.1));
+  })

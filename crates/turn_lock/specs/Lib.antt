@@ -1,0 +1,8 @@
+pub mod Calling
+pub mod Dealing
+pub mod History
+pub mod Passes
+pub mod Slots
+pub mod Standing
+pub mod Steps
+pub mod Turns

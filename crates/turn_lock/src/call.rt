@@ -1,0 +1,159 @@
+ghost use Rattle.std.specs.Prelude.{◌≡◌, ◌++◌, ℕ, [], ◌∷◌, MatchBool, IfOk, IfErr, OnOk, OnErr};
+ghost use Rattle.turn_lock.specs.declared.entry.Entry.{Entry as Call};
+ghost use Rattle.turn_lock.specs.declared.view.Stage.TheVariants.{Idle, Waiting};
+ghost use Rattle.turn_lock.specs.History.{BeginsWith, EndsWith, Legal, entry, calls_by, maker};
+ghost use Rattle.turn_lock.specs.Passes.{IsPassOf, IsSamePass};
+ghost use Rattle.turn_lock.specs.Slots.{Lies};
+ghost use Rattle.turn_lock.specs.Standing.{standing, claim};
+ghost use Rattle.turn_lock.specs.Steps.{HasTurn};
+ghost use Rattle.turn_lock.specs.Calling.{IsIdle, IsWaiting, IsSameSeat, InHand};
+
+use crate::desk::Desk;
+use crate::entry::Entry;
+use crate::object::Object;
+use crate::pass::TurnPass;
+use crate::rule::{Chair, Draw, Leave, Look, PassOn};
+use crate::turn::Turn;
+use dn_base::Memory;
+use std::sync::Wait;
+use std::thread;
+
+// Word 0 counts the tickets drawn, and word 1 the turns passed on.
+const DRAWN: usize = 0;
+
+const SERVED: usize = 1;
+
+// So many looks a caller takes before it lets others run.
+const LOOKS: u32 = 16;
+
+impl<O: Object> Turn<O> {
+    /// Waits for the turn, makes one call of the object, and passes the turn on. `inside` is called within the turn,
+    /// before the object's step.
+    ///
+    /// # Errors
+    /// `Memory` where the object or the history finds no room: no call was made, the pass is as before, the turn was
+    /// passed on, and the input comes back.
+    pub fn call<R: Wait, F: FnOnce()>(
+        &self,
+        rt: &R,
+        pass: &mut TurnPass<O>,
+        input: O::In,
+        inside: F,
+    ) -> Result<O::Out, (Memory, O::In)>
+        requires pass { IsPassOf self.now pass.old }
+        requires inside { F.IsAlwaysCallable inside }
+        ensures pass { IsSamePass pass.old pass.new }
+        // a single thread could have made the history that is then seen, from the object as it began
+        ensures legal { OnOk result ((left : O.Content) × Legal O.answer O.next (O.content self.now.opening) pass.new.seen left) }
+        // it begins with what was seen before, and ends with this call
+        ensures seen { IfOk result (λ output. EndsWith pass.old.seen (entry pass.old.number input output) pass.new.seen) }
+        // the call is one more of this pass's
+        ensures made { IfOk result (λ output. pass.new.made ≡ pass.old.made ++ entry pass.old.number input output ∷ []) }
+        // and the history has those calls of this pass, in their order, and no others
+        ensures own { OnOk result (calls_by pass.new.number pass.new.seen ≡ pass.new.made) }
+        // the answer is the object's, for some content
+        ensures answer { IfOk result (λ output. (content : O.Content) × (output ≡ O.answer content input)) }
+        ensures same { OnErr result (pass.new ≡ pass.old) }
+        ensures back { IfErr result (λ e. e.1 ≡ input) }
+    {
+        let mut desk = self.enter(rt, &mut pass.seat);
+        if desk.reserve().is_err() {
+            self.leave(&mut pass.seat, desk);
+            return Err((Memory, input));
+        }
+        inside();
+        let output = desk.object.step(input);
+        desk.history.push_reserved(Entry {
+            pass: pass.number,
+            input,
+            output,
+        });
+        pass.seen = desk.history.len() as u64;
+        self.pass_on(&mut pass.seat, desk);
+        Ok(output)
+    }
+
+    // Draws a ticket.
+    fn draw(&self, seat: &mut Chair<O>) -> u64
+        requires { (seat.old.table_id ≡ self.now.table) × IsIdle self.now.opening seat.old.me }
+        ensures { IsSameSeat seat.old seat.new × (seat.new.me ≡ (record seat.old.me.0 { stage = Waiting result }, [])) }
+    {
+        self.table.shared.fetch_add::<Draw>(seat, DRAWN, 1)
+    }
+
+    // Looks at the serving word, and says whether the turn has come. Where it has, the slot is with the seat.
+    fn look(&self, seat: &mut Chair<O>, ticket: u64) -> bool
+        requires { (seat.old.table_id ≡ self.now.table) × IsWaiting self.now.opening ticket seat.old.me }
+        ensures same { IsSameSeat seat.old seat.new }
+        ensures turn { MatchBool result (HasTurn maker (Lies O.content O.answer O.next) seat.old.me.0 ticket seat.new.me) (seat.new.me ≡ seat.old.me) }
+    {
+        self.table.shared.load::<Look<O>>(seat, SERVED) == ticket
+    }
+
+    // Draws a ticket, and looks until its turn has come.
+    fn wait<R: Wait>(&self, rt: &R, seat: &mut Chair<O>)
+        requires { (seat.old.table_id ≡ self.now.table) × IsIdle self.now.opening seat.old.me }
+        ensures same { IsSameSeat seat.old seat.new }
+        ensures turn { (ticket : ℕ) × HasTurn maker (Lies O.content O.answer O.next) seat.old.me.0 ticket seat.new.me }
+    {
+        let ticket = self.draw(seat);
+        let mut looks = 0;
+        for _ in rt.forever() {
+            if self.look(seat, ticket) {
+                break;
+            }
+            looks += 1;
+            if looks == LOOKS {
+                thread::yield_now();
+                looks = 0;
+            }
+        }
+    }
+
+    // Waits for the turn, and takes the object out of the slot.
+    fn enter<R: Wait>(&self, rt: &R, seat: &mut Chair<O>) -> Desk<O>
+        requires { (seat.old.table_id ≡ self.now.table) × IsIdle self.now.opening seat.old.me }
+        ensures same { IsSameSeat seat.old seat.new }
+        ensures own { (seat.new.me.0.own ≡ seat.old.me.0.own) × (seat.new.me.0.next ≡ seat.old.me.0.next) }
+        ensures hand { InHand O.content O.answer O.next self.now.opening seat.new.me [] result }
+        ensures seen { BeginsWith result.history.items seat.old.me.0.own.seen }
+        ensures mine { calls_by seat.old.me.0.own.number result.history.items ≡ seat.old.me.0.own.mine }
+    {
+        self.wait(rt, seat);
+        match self.table.shared.exchange(seat, 0, None) {
+            Some(desk) => desk,
+            None => unreachable!(),
+        }
+    }
+
+    // Puts the object back into the slot.
+    fn put(&self, seat: &mut Chair<O>, desk: Desk<O>)
+        requires slot { (seat.old.table_id ≡ self.now.table) × (seat.old.me.1 ≡ (0, None) ∷ []) }
+        ensures { IsSameSeat seat.old seat.new × (seat.new.me ≡ (seat.old.me.0, (0, Some desk) ∷ [])) }
+    {
+        let old = self.table.shared.exchange(seat, 0, Some(desk));
+        let None = old else { unreachable!() };
+    }
+
+    // Puts the object back with one more call, and passes the turn on.
+    fn pass_on(&self, seat: &mut Chair<O>, desk: Desk<O>)
+        requires table { seat.old.table_id ≡ self.now.table }
+        requires call { (call : Call O O.In O.Out) × InHand O.content O.answer O.next self.now.opening seat.old.me (call ∷ []) desk }
+        ensures same { IsSameSeat seat.old seat.new }
+        ensures me { seat.new.me ≡ (standing self.now.opening (claim seat.old.me.0.own.number desk.history.items (calls_by seat.old.me.0.own.number desk.history.items)) seat.old.me.0.next Idle, []) }
+    {
+        self.put(seat, desk);
+        self.table.shared.fetch_add::<PassOn>(seat, SERVED, 1);
+    }
+
+    // Puts the object back as it was, and passes the turn on.
+    fn leave(&self, seat: &mut Chair<O>, desk: Desk<O>)
+        requires table { seat.old.table_id ≡ self.now.table }
+        requires none { InHand O.content O.answer O.next self.now.opening seat.old.me [] desk }
+        ensures same { IsSameSeat seat.old seat.new }
+        ensures me { seat.new.me ≡ (standing self.now.opening seat.old.me.0.own seat.old.me.0.next Idle, []) }
+    {
+        self.put(seat, desk);
+        self.table.shared.fetch_add::<Leave>(seat, SERVED, 1);
+    }
+}
