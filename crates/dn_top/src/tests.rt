@@ -28,31 +28,34 @@ fn run<R: Threads + Wait + Sync>(
 fn texts_run_or_are_refused_with_their_first_line(rt: HostRuntime) -> Result<(), Fail> {
     let unknown = STORE_FIVE.replace(rt.alloc(), "addi t1", "addq t1")?;
     let unended = STORE_FIVE.replace(rt.alloc(), " ecall\n", "")?;
-    let short = STORE_FIVE.replace(rt.alloc(), "go: ", "")?;
     let commented = STORE_FIVE.replace(rt.alloc(), ".phase", ".phase # one")?;
     let stray = STORE_FIVE.replace(rt.alloc(), "sw t1, 0(t0)", "sw t1, 4(t0)")?;
+    let locked = STORE_FIVE.replace(rt.alloc(), ".phase", ".lock k\n.phase")?;
     let cases = [
         (STORE_FIVE, 0, ANSWER),
+        (commented.as_str(), 0, ANSWER),
         (unknown.as_str(), 2, "refused source 6 unknown-word\n"),
         (
             unended.as_str(),
             3,
             "outcome trapped\ntask 0 0 trap fetch pc 0x00001010 value 0x00001010 retired 4\nwords 1\nword 0x10000000 0x00000005\n",
         ),
-        (short.as_str(), 2, "refused source 5 unknown-word\n"),
-        (commented.as_str(), 2, "refused source 2 unknown-word\n"),
         (
             stray.as_str(),
             3,
             "outcome trapped\ntask 0 0 trap outside pc 0x00001008 value 0x10000004 retired 2\nwords 1\n",
         ),
-        ("", 2, "refused source 1 unknown-word\n"),
         (
-            ".region m, 1\n.phase\n",
-            2,
-            "refused source 3 unknown-word\n",
+            ".phase\n.task 0, go, 0\ngo: j go\n",
+            4,
+            "outcome fuel\ntask 0 0 fuel retired 32768\nwords 0\n",
         ),
-        (".region m, 65537\n", 2, "refused source 1 unknown-word\n"),
+        ("", 0, "outcome done\nwords 0\n"),
+        (".task 0, 0x1000, 0", 2, "refused source 1 misplaced\n"),
+        (".region m, 1\n.region m, 1\n", 2, "refused source 2 double-name\n"),
+        (".phase\n.phase\n", 2, "refused not-built\n"),
+        (locked.as_str(), 2, "refused not-built\n"),
+        (".phase\n.task 0, 4096, 0\n.task 1, 4096, 0\n", 2, "refused not-built\n"),
     ];
     for (text, code, output) in cases {
         let answer = run(&rt, rt.alloc(), &[], text.as_bytes())?;
@@ -64,13 +67,15 @@ fn texts_run_or_are_refused_with_their_first_line(rt: HostRuntime) -> Result<(),
 
 #[test]
 fn a_text_of_one_byte_too_many_is_refused(rt: HostRuntime) -> Result<(), Fail> {
-    let most = vec![in rt.alloc(); b'\n'; 1_048_576]?;
-    assert_eq!(rt;
-        run(&rt, rt.alloc(), &[], &most)?.1.as_slice(),
-        b"refused source 1 unknown-word\n".as_slice()
-    );
-    let more = vec![in rt.alloc(); b'\n'; 1_048_577]?;
-    let answer = run(&rt, rt.alloc(), &[], &more)?;
+    // lines of 1,023 bytes of a comment, which make up the most bytes that a text may have
+    let mut text = Vec::new(rt.alloc());
+    for _line in 0..1_024 {
+        text.extend_from_slice(&[b'#'; 1_023])?;
+        text.push(b'\n')?;
+    }
+    assert_eq!(rt; run(&rt, rt.alloc(), &[], &text)?.1.as_slice(), b"outcome done\nwords 0\n".as_slice());
+    text.push(b'\n')?;
+    let answer = run(&rt, rt.alloc(), &[], &text)?;
     assert_eq!(rt; answer.0, 2);
     assert_eq!(rt;
         answer.1.as_slice(),
