@@ -144,8 +144,8 @@ most_regions version_2 = if version_2 then 4096 else 256
 -- Limit: more than a program may have
 abbrev pub over_limit : Bool → Draft → Bool
 over_limit version_2 d =
-    nat_lt 16384 (length d.code) || nat_lt 65536 d.count.words || nat_lt (most_regions version_2) (length d.regions)
-    || nat_lt 32 (length d.locks) || nat_lt 64 d.phases || nat_lt 64 (length d.tasks)
+    nat_lt 16384 (length d.code) || (nat_lt 65536 d.count.words || (nat_lt (most_regions version_2) (length d.regions)
+    || (nat_lt 32 (length d.locks) || (nat_lt 64 d.phases || nat_lt 64 (length d.tasks)))))
 
 -- the first fault of a line, but for the limits
 abbrev pub early_fault : List ℕ → (List ℕ → Option Meaning) → Draft → Saying → Option SourceFault

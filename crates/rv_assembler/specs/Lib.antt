@@ -10,3 +10,5 @@ pub mod Fault
 pub mod Union
 pub mod Program
 pub mod Source
+pub mod Lookup
+pub mod Whole

@@ -1,5 +1,6 @@
 -- The program that the lines of a text add up to.
-use Rattle.std.specs.Prelude.{ℕ, ◌+◌, ◌*◌, ◌%◌, ◌^◌, Bool, true, false, ◌&&◌, nat_lt, nat_le, ◌==◌, List, [], ◌∷◌, length, map, replicate, slice_set, Option, Some, None, option_map, find, filter, filter_map, range_with_len, if◌then◌else◌}
+use Rattle.std.specs.Prelude.{ℕ, ◌+◌, ◌*◌, ◌%◌, ◌^◌, Bool, true, false, ◌&&◌, nat_lt, nat_le, ◌==◌, List, [], ◌∷◌, length, map, replicate, slice_set, Option, Some, None, option_map, find, filter, filter_map, if◌then◌else◌}
+use Rattle.std.specs.List.{range_with_len}
 use Rattle.dn_base.specs.declared.ids.CoreId.{CoreId}
 use Rattle.region_table.specs.declared.interval.Interval.{Interval}
 use Rattle.region_table.specs.declared.declared.Effects.{Effects}
@@ -33,11 +34,18 @@ is_claim_of t c = c.phase == t.phase && c.core == t.core
 -- the words of a claim of this usage, if they are words of the memory
 abbrev pub interval_of : ℕ → Usage → Claim → Option Interval
 interval_of words usage c =
-    if same_usage c.usage usage && nat_lt c.lo c.hi && nat_le c.hi words then Some (record { lo = c.lo; hi = c.hi }) else None
+    if same_usage c.usage usage && (nat_lt c.lo c.hi && nat_le c.hi words) then Some (record { lo = c.lo; hi = c.hi }) else None
 
 -- the words that claims of this usage have
 abbrev pub words_of : ℕ → List Claim → Usage → List Interval
 words_of words claims usage = united (filter_map (interval_of words usage) claims)
+
+-- the words that claims have while their tasks hold a lock
+abbrev pub read_under : ℕ → List Claim → ℕ → List Interval
+read_under words claims lock = words_of words claims (GuardedReads lock)
+
+abbrev pub written_under : ℕ → List Claim → ℕ → List Interval
+written_under words claims lock = words_of words claims (GuardedWrites lock)
 
 -- the effects of a task by its claims
 abbrev pub effects_of : ℕ → ℕ → List Claim → Effects
@@ -45,8 +53,8 @@ effects_of words locks claims =
     record {
       reads = words_of words claims Reads;
       writes = words_of words claims Writes;
-      guarded_reads = map (λ lock. words_of words claims (GuardedReads lock)) (range_with_len 0 locks);
-      guarded_writes = map (λ lock. words_of words claims (GuardedWrites lock)) (range_with_len 0 locks);
+      guarded_reads = map (read_under words claims) (range_with_len 0 locks);
+      guarded_writes = map (written_under words claims) (range_with_len 0 locks);
     }
 
 abbrev pub task_of : ℕ → ℕ → List Claim → Start → TaskDecl

@@ -26,7 +26,7 @@ use Rattle.rv_assembler.specs.declared.reading.Reading.{Reading}
 use Rattle.rv_assembler.specs.declared.reading.Reading.TheVariants.{Bad, Good}
 use Rattle.rv_assembler.specs.Number.{wrapped}
 use Rattle.rv_assembler.specs.Operand.{bytes_of, token_at, number_at, register_at}
-use Rattle.rv_assembler.specs.Shape.{rows, knows, kind_in, is_name, is_colon, is_plain}
+use Rattle.rv_assembler.specs.Shape.{knows_word, kind_for, is_name, is_colon, is_plain}
 
 -- the code of a mnemonic; operands stand at the places of their tokens, with a comma or a parenthesis between
 abbrev pub code_for : List ℕ → List Token → Mnemonic → Code
@@ -87,8 +87,8 @@ abbrev pub statement_in : Bool → List ℕ → ℕ → List Token → Result St
 statement_in version_2 text line [] = Ok statement.TheVariants.Nothing
 statement_in version_2 text line (t ∷ ts) =
     if not (is_name t.kind) then Err (fault.TheVariants.BadOperand line)
-    else (if not (knows version_2 (bytes_of text t) rows) then Err (fault.TheVariants.UnknownWord line)
-    else statement_of text line ts (kind_in version_2 text (bytes_of text t) ts rows))
+    else (if not (knows_word version_2 (bytes_of text t)) then Err (fault.TheVariants.UnknownWord line)
+    else statement_of text line ts (kind_for version_2 text (bytes_of text t) ts))
 
 -- a line without a label
 abbrev pub said : ℕ → Result Statement SourceFault → Reading

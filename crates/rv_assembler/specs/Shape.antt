@@ -1,5 +1,5 @@
 -- The statements of the source language: their words, and the shapes of their operands.
-use Rattle.std.specs.Prelude.{ℕ, Bool, true, false, not, ◌&&◌, ◌||◌, ◌==◌, List, [], ◌∷◌, Option, option_map, find, codes, bytes_eq, is_some, slice_index}
+use Rattle.std.specs.Prelude.{ℕ, Bool, true, false, not, ◌&&◌, ◌||◌, ◌==◌, List, [], ◌∷◌, Option, Some, None, option_map, find, codes, bytes_eq, is_some, slice_index}
 use Rattle.std.specs.List.{list_any}
 use Rattle.rv_isa.specs.declared.instr.AluOp as op
 use Rattle.rv_isa.specs.declared.instr.Cond as cond
@@ -95,8 +95,9 @@ n_t_n = Number ∷ Comma ∷ Target ∷ Comma ∷ Number ∷ []
 abbrev pub n_n_t_n_n : List Piece
 n_n_t_n_n = Number ∷ Comma ∷ Number ∷ Comma ∷ Target ∷ Comma ∷ Number ∷ Comma ∷ Number ∷ []
 
-unfoldable pub rows : List Shape
-rows =
+-- upper immediates, jumps, branches, loads and stores
+unfoldable pub memory_rows : List Shape
+memory_rows =
     row (codes "lui") r_n (Code mnemonic.TheVariants.Lui)
     ∷ row (codes "auipc") r_n (Code mnemonic.TheVariants.Auipc)
     ∷ row (codes "jal") r_t (Code mnemonic.TheVariants.Jal)
@@ -115,7 +116,12 @@ rows =
     ∷ row (codes "sb") r_at (Code (mnemonic.TheVariants.Store width.TheVariants.B))
     ∷ row (codes "sh") r_at (Code (mnemonic.TheVariants.Store width.TheVariants.H))
     ∷ row (codes "sw") r_at (Code (mnemonic.TheVariants.Store width.TheVariants.W))
-    ∷ row (codes "addi") r_r_n (Code (mnemonic.TheVariants.OpImm op.TheVariants.Add))
+    ∷ []
+
+-- operations on numbers and registers
+unfoldable pub operation_rows : List Shape
+operation_rows =
+    row (codes "addi") r_r_n (Code (mnemonic.TheVariants.OpImm op.TheVariants.Add))
     ∷ row (codes "slti") r_r_n (Code (mnemonic.TheVariants.OpImm op.TheVariants.Slt))
     ∷ row (codes "sltiu") r_r_n (Code (mnemonic.TheVariants.OpImm op.TheVariants.Sltu))
     ∷ row (codes "xori") r_r_n (Code (mnemonic.TheVariants.OpImm op.TheVariants.Xor))
@@ -134,7 +140,12 @@ rows =
     ∷ row (codes "sra") r_r_r (Code (mnemonic.TheVariants.Op op.TheVariants.Sra))
     ∷ row (codes "or") r_r_r (Code (mnemonic.TheVariants.Op op.TheVariants.Or))
     ∷ row (codes "and") r_r_r (Code (mnemonic.TheVariants.Op op.TheVariants.And))
-    ∷ row (codes "fence") none (Code mnemonic.TheVariants.Fence)
+    ∷ []
+
+-- instructions without operands, and those that stand for others
+unfoldable pub short_rows : List Shape
+short_rows =
+    row (codes "fence") none (Code mnemonic.TheVariants.Fence)
     ∷ row (codes "ecall") none (Code mnemonic.TheVariants.Ecall)
     ∷ row (codes "ebreak") none (Code mnemonic.TheVariants.Ebreak)
     ∷ row (codes "nop") none (Code mnemonic.TheVariants.Nop)
@@ -151,7 +162,12 @@ rows =
     ∷ row (codes "li") r_n (Code mnemonic.TheVariants.Li)
     ∷ row (codes "la") r_name (Code mnemonic.TheVariants.La)
     ∷ row (codes ".raw") n (Code mnemonic.TheVariants.Raw)
-    ∷ row (codes ".region") name_n (Table directive.TheVariants.Region)
+    ∷ []
+
+-- directives
+unfoldable pub directive_rows : List Shape
+directive_rows =
+    row (codes ".region") name_n (Table directive.TheVariants.Region)
     ∷ row (codes ".word") name_n_n (Table directive.TheVariants.Word)
     ∷ row (codes ".lock") name (Table directive.TheVariants.Lock)
     ∷ row (codes ".phase") none (Table directive.TheVariants.Phase)
@@ -164,7 +180,12 @@ rows =
     ∷ row (codes ".greads") name_name_n_n (Table (directive.TheVariants.Guarded false form.TheVariants.Part))
     ∷ row (codes ".gwrites") name_name (Table (directive.TheVariants.Guarded true form.TheVariants.Whole))
     ∷ row (codes ".gwrites") name_name_n_n (Table (directive.TheVariants.Guarded true form.TheVariants.Part))
-    ∷ row_2 (codes ".forall") n_n_t_n_n (Table directive.TheVariants.Forall)
+    ∷ []
+
+-- what only version 2 has
+unfoldable pub later_rows : List Shape
+later_rows =
+    row_2 (codes ".forall") n_n_t_n_n (Table directive.TheVariants.Forall)
     ∷ row_2 (codes ".reads") name_n_n_n (Table (directive.TheVariants.Uses false form.TheVariants.Stepped))
     ∷ row_2 (codes ".writes") name_n_n_n (Table (directive.TheVariants.Uses true form.TheVariants.Stepped))
     ∷ row_2 (codes ".greads") name_name_n_n_n (Table (directive.TheVariants.Guarded false form.TheVariants.Stepped))
@@ -228,3 +249,20 @@ is_row version_2 text w ts s = has_word version_2 w s && fits text s.operands ts
 
 abbrev pub kind_in : Bool → List ℕ → List ℕ → List Token → List Shape → Option Kind
 kind_in version_2 text w ts shapes = option_map (λ s. s.kind) (find (is_row version_2 text w ts) shapes)
+
+-- whether some row of the table has the word
+abbrev pub knows_word : Bool → List ℕ → Bool
+knows_word version_2 w =
+    knows version_2 w memory_rows || (knows version_2 w operation_rows || (knows version_2 w short_rows
+    || (knows version_2 w directive_rows || knows version_2 w later_rows)))
+
+-- the first of two, if there is one
+abbrev pub or_else : Option Kind → Option Kind → Option Kind
+or_else (Some k) o = Some k
+or_else None o = o
+
+-- the kind of the first row of the table that fits
+abbrev pub kind_for : Bool → List ℕ → List ℕ → List Token → Option Kind
+kind_for version_2 text w ts =
+    or_else (kind_in version_2 text w ts memory_rows) (or_else (kind_in version_2 text w ts operation_rows) (or_else (kind_in version_2 text w ts short_rows)
+    (or_else (kind_in version_2 text w ts directive_rows) (kind_in version_2 text w ts later_rows))))

@@ -1,9 +1,11 @@
 //! From a text to its program.
-ghost use Rattle.std.specs.Prelude.{◌≡◌, ◌≢◌, ◌↔◌, ◌<◌, ℕ, List, Option, length, Ok, Err, IfOk, IfErr};
+ghost use Rattle.std.specs.Prelude.{◌≡◌, ◌≢◌, ◌↔◌, ◌<◌, ◌≤◌, ℕ, List, Option, length, Ok, Err, IfOk, IfErr};
 ghost use Rattle.region_table.specs.Program.{IsProgram};
+ghost use Rattle.rv_assembler.specs.Lookup.{looked};
 ghost use Rattle.rv_assembler.specs.declared.fault.SourceFault as fault;
 ghost use Rattle.rv_assembler.specs.declared.fault.SourceFault.TheVariants.{TooLarge, Memory as NoMemory};
 ghost use Rattle.rv_assembler.specs.Draft.{no_draft};
+ghost use Rattle.rv_assembler.specs.Whole.{IsWhole};
 ghost use Rattle.rv_assembler.specs.Source.{total, draft_of, source};
 
 use crate::draft::Draft;
@@ -21,8 +23,9 @@ const MOST_BYTES: usize = 1048576;
 
 /// What the lines add up to, or the first fault.
 fn add_up<'a>(alloc: Global, version_2: bool, text: &'a [u8], names: &Names<'a>, readings: &[Reading]) -> Result<Draft, SourceFault>
-    ensures ok { IfOk result (λ draft. total version_2 text.now names.now no_draft readings.now ≡ Ok draft) }
-    ensures err { IfErr result (λ f. f ≢ NoMemory → total version_2 text.now names.now no_draft readings.now ≡ Err f) }
+    ensures ok { IfOk result (λ draft. total version_2 text.now (looked names.now) no_draft readings.now ≡ Ok draft) }
+    ensures err { IfErr result (λ f. f ≢ NoMemory → total version_2 text.now (looked names.now) no_draft readings.now ≡ Err f) }
+    ensures whole { IfOk result IsWhole }
 {
     let mut draft = Draft::new(alloc);
     for reading in readings {
@@ -47,6 +50,7 @@ fn draft_in(alloc: Global, text: &[u8]) -> Result<Draft, SourceFault>
     requires { length text.now ≤ 1048576 }
     ensures ok { IfOk result (λ draft. draft_of text.now ≡ Ok draft) }
     ensures err { IfErr result (λ f. f ≢ NoMemory → draft_of text.now ≡ Err f) }
+    ensures whole { IfOk result IsWhole }
 {
     let lines = tokens(alloc, text)?;
     let readings = readings(alloc, text, lines.as_slice())?;

@@ -1,5 +1,6 @@
 //! What the lines of a text add up to, before it is a program.
 ghost use Rattle.std.specs.Prelude.{◌≡◌, ℕ, ◌-◌, ◌++◌, ◌∷◌, [], Some, None, OnOk};
+ghost use Rattle.rv_assembler.specs.Lookup.{looked};
 ghost use Rattle.rv_assembler.specs.Emission.{words_in, emission};
 ghost use Rattle.rv_assembler.specs.Operand.{bytes_of};
 ghost use Rattle.rv_assembler.specs.Number.{wrapped, more};
@@ -102,7 +103,7 @@ pub(crate) fn lock_number(meaning: Option<Meaning>) -> Option<u32>
 
 /// The entry of a task, counted in code words from address 0.
 fn entry<'a>(text: &'a [u8], names: &Names<'a>, target: Token) -> u32
-    ensures { result ≡ entry_of text.now names.now target }
+    ensures { result ≡ entry_of text.now (looked names.now) target }
 {
     if let TokenKind::Number(number) = target.kind {
         return wrapped(number) / 4;
@@ -115,7 +116,7 @@ fn entry<'a>(text: &'a [u8], names: &Names<'a>, target: Token) -> u32
 
 /// How a task uses the words of an effect; None where the lock isn't declared.
 fn usage_in<'a>(text: &'a [u8], names: &Names<'a>, effect: Effect) -> Option<Usage>
-    ensures { result ≡ usage_of text.now names.now effect }
+    ensures { result ≡ usage_of text.now (looked names.now) effect }
 {
     match effect.lock {
         None => Some(if effect.writes { Usage::Writes } else { Usage::Reads }),
@@ -132,7 +133,8 @@ fn first_word(place: Place, extent: Extent) -> u32
 {
     match extent {
         Extent::Whole => place.start,
-        Extent::Part { lo, .. } | Extent::Stepped { lo, .. } => place.start.wrapping_add(wrapped(lo)),
+        Extent::Part { lo, hi: _ } => place.start.wrapping_add(wrapped(lo)),
+        Extent::Stepped { lo, hi: _, step: _ } => place.start.wrapping_add(wrapped(lo)),
     }
 }
 
@@ -142,7 +144,8 @@ fn past_word(place: Place, extent: Extent) -> u32
 {
     match extent {
         Extent::Whole => place.start.wrapping_add(wrapped(place.len)),
-        Extent::Part { hi, .. } | Extent::Stepped { hi, .. } => place.start.wrapping_add(wrapped(hi)),
+        Extent::Part { lo: _, hi } => place.start.wrapping_add(wrapped(hi)),
+        Extent::Stepped { lo: _, hi, step: _ } => place.start.wrapping_add(wrapped(hi)),
     }
 }
 
@@ -294,7 +297,7 @@ impl Draft {
 
     /// Adds a statement, but for the count.
     fn extend<'a>(&mut self, alloc: Global, text: &'a [u8], names: &Names<'a>, statement: &Statement) -> Result<(), Memory>
-        ensures { OnOk result (self.new ≡ extended text.now names.now self.old statement.now) }
+        ensures { OnOk result (self.new ≡ extended text.now (looked names.now) self.old statement.now) }
     {
         match *statement {
             Statement::Nothing => Ok(()),
@@ -319,7 +322,7 @@ impl Draft {
 
     /// Adds a statement.
     pub fn add<'a>(&mut self, alloc: Global, text: &'a [u8], names: &Names<'a>, statement: &Statement) -> Result<(), Memory>
-        ensures { OnOk result (self.new ≡ after text.now names.now self.old statement.now) }
+        ensures { OnOk result (self.new ≡ after text.now (looked names.now) self.old statement.now) }
     {
         let count = counted(&self.count, statement);
         self.extend(alloc, text, names, statement)?;

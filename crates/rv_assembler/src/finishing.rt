@@ -1,11 +1,11 @@
 //! From what the lines of a text add up to, to the program.
-ghost use Rattle.std.specs.Prelude.{◌≡◌, ℕ, ◌*◌, ◌%◌, ◌^◌, ◌<◌, ◌≤◌, length, IfOk, List, map, filter, filter_map, range_with_len, replicate, option_map, find};
-ghost use Rattle.std.specs.List.{All};
+ghost use Rattle.std.specs.Prelude.{◌≡◌, ℕ, ◌*◌, ◌%◌, ◌^◌, ◌<◌, ◌≤◌, length, IfOk, List, map, filter, filter_map, replicate, slice_set, [], ◌∷◌, ◌++◌, OnOk, option_map, find};
+ghost use Rattle.std.specs.Option.{option_to_list};
+ghost use Rattle.std.specs.List.{All, range_with_len};
 ghost use Rattle.region_table.specs.declared.interval.Interval.{Interval};
 ghost use Rattle.region_table.specs.Program.{IsProgram};
-ghost use Rattle.rv_assembler.specs.declared.draft.Usage.TheVariants.{GuardedReads, GuardedWrites};
 ghost use Rattle.rv_assembler.specs.Fault.{is_task};
-ghost use Rattle.rv_assembler.specs.Program.{stored, same_usage, is_claim_of, interval_of, words_of, effects_of, task_of, task_at, phase_of, program_of};
+ghost use Rattle.rv_assembler.specs.Program.{stored, same_usage, is_claim_of, interval_of, words_of, read_under, written_under, effects_of, task_of, task_at, phase_of, program_of};
 
 use crate::draft::{Claim, Draft, FirstValue, Start, Usage};
 use crate::uniting::united;
@@ -13,16 +13,23 @@ use dn_base::{CoreId, Memory, Sequence};
 use region_table::{Effects, Interval, Phase, Program, TaskDecl, WordSet};
 use std::alloc::Global;
 
+/// Gives a word its first value, if the memory has the word.
+fn store(memory: &mut Vec<u32>, value: FirstValue)
+    ensures { memory.new.items ≡ slice_set memory.old.items value.word value.value }
+{
+    let index = value.word as usize;
+    if index < memory.len() {
+        memory[index] = value.value;
+    }
+}
+
 /// The first values of the memory.
 fn first_memory(alloc: Global, words: u32, values: &[FirstValue]) -> Result<Vec<u32>, Memory>
     ensures { IfOk result (λ memory. memory.items ≡ stored (replicate words 0) values.now) }
 {
     let mut memory = vec![in alloc; 0u32; words as usize]?;
     for value in values {
-        let index = value.word as usize;
-        if index < memory.len() {
-            memory[index] = value.value;
-        }
+        store(&mut memory, *value);
     }
     Ok(memory)
 }
@@ -51,15 +58,23 @@ fn interval_in(words: u32, usage: Usage, claim: Claim) -> Option<Interval>
     }
 }
 
+/// Adds an interval, if there is one.
+fn push(intervals: &mut Vec<Interval>, interval: Option<Interval>) -> Result<(), Memory>
+    ensures { OnOk result (intervals.new.items ≡ intervals.old.items ++ option_to_list interval) }
+{
+    if let Some(interval) = interval {
+        intervals.push(interval)?;
+    }
+    Ok(())
+}
+
 /// The intervals of the claims of this usage.
 fn intervals(alloc: Global, words: u32, claims: &[Claim], usage: Usage) -> Result<Vec<Interval>, Memory>
     ensures { IfOk result (λ found. found.items ≡ filter_map (interval_of words usage) claims.now) }
 {
     let mut found = Vec::new(alloc);
     for claim in claims {
-        if let Some(interval) = interval_in(words, usage, *claim) {
-            found.push(interval)?;
-        }
+        push(&mut found, interval_in(words, usage, *claim))?;
     }
     Ok(found)
 }
@@ -76,7 +91,7 @@ fn words_of(alloc: Global, words: u32, claims: &[Claim], usage: Usage) -> Result
 /// By the number of a lock, the words that claims have under it, to read.
 fn guarded_reads(alloc: Global, words: u32, locks: u32, claims: &[Claim]) -> Result<Sequence<WordSet>, Memory>
     requires { words ≤ 65536 }
-    ensures { IfOk result (λ sets. sets ≡ map (λ lock. words_of words claims.now (GuardedReads lock)) (range_with_len 0 locks)) }
+    ensures { IfOk result (λ sets. sets ≡ map (read_under words claims.now) (range_with_len 0 locks)) }
 {
     let mut sets = Sequence::new(alloc);
     for lock in 0..locks {
@@ -88,7 +103,7 @@ fn guarded_reads(alloc: Global, words: u32, locks: u32, claims: &[Claim]) -> Res
 /// The same, to write.
 fn guarded_writes(alloc: Global, words: u32, locks: u32, claims: &[Claim]) -> Result<Sequence<WordSet>, Memory>
     requires { words ≤ 65536 }
-    ensures { IfOk result (λ sets. sets ≡ map (λ lock. words_of words claims.now (GuardedWrites lock)) (range_with_len 0 locks)) }
+    ensures { IfOk result (λ sets. sets ≡ map (written_under words claims.now) (range_with_len 0 locks)) }
 {
     let mut sets = Sequence::new(alloc);
     for lock in 0..locks {
@@ -148,6 +163,17 @@ fn task_on(tasks: &[Start], phase: u32, core: u32) -> Option<Start>
     None
 }
 
+/// Adds a task, if there is one.
+fn push_task(alloc: Global, tasks: &mut Sequence<TaskDecl>, words: u32, locks: u32, claims: &[Claim], task: Option<Start>) -> Result<(), Memory>
+    requires { words ≤ 65536 }
+    ensures { OnOk result (tasks.new ≡ tasks.old ++ option_to_list (option_map (task_of words locks claims.now) task)) }
+{
+    match task {
+        None => Ok(()),
+        Some(task) => tasks.push(declared(alloc, words, locks, claims, task)?),
+    }
+}
+
 /// The tasks of a phase, by their cores.
 fn phase_of(alloc: Global, words: u32, locks: u32, claims: &[Claim], tasks: &[Start], number: u32) -> Result<Phase, Memory>
     requires { words ≤ 65536 }
@@ -155,9 +181,7 @@ fn phase_of(alloc: Global, words: u32, locks: u32, claims: &[Claim], tasks: &[St
 {
     let mut found = Sequence::new(alloc);
     for core in 0..16 {
-        if let Some(task) = task_on(tasks, number, core) {
-            found.push(declared(alloc, words, locks, claims, task)?)?;
-        }
+        push_task(alloc, &mut found, words, locks, claims, task_on(tasks, number, core))?;
     }
     Ok(Phase { tasks: found })
 }

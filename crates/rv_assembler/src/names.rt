@@ -1,5 +1,6 @@
 //! The names of a text: labels, regions and locks, and what each means.
 ghost use Rattle.std.specs.Prelude.{◌≡◌, ℕ, List, Option, Some, None, bytes_eq, if◌then◌else◌, OnOk, IfOk};
+ghost use Rattle.rv_assembler.specs.Lookup.{looked};
 ghost use Rattle.rv_assembler.specs.Meaning.{first_of, no_count, size_of, length_of, counted, count_after, label_means, name_means, declared_by, meaning_in};
 
 use crate::number::{is_length, more, wrapped};
@@ -9,7 +10,6 @@ use crate::statement::{Code, Statement};
 use dn_base::Memory;
 use std::alloc::Global;
 use std::collections::BTreeMap;
-use std::marker::Model;
 
 /// What a name means, by the line that declares it.
 #[derive(Clone, Copy)]
@@ -85,21 +85,9 @@ pub(crate) struct Names<'a> {
     index: BTreeMap<&'a [u8], Meaning>,
 }
 
-impl<'a> Model for Names<'a> {
-    ghost use Rattle.std.specs.Prelude.{ℕ, List, Option};
-    ghost use Rattle.std.specs.BTreeMap.{get_by};
-    ghost use Rattle.std.specs.Cmp.Lexicographic.{slice_cmp};
-    ghost use Rattle.std.specs.Ordering.{nat_cmp};
-    ghost use Rattle.rv_assembler.specs.declared.names.Meaning.{Meaning};
-
-    ghost Value = { List ℕ → Option Meaning };
-
-    ghost view = { λ n. λ q. get_by (λ k. slice_cmp nat_cmp q k.now) n.index };
-}
-
 impl<'a> Names<'a> {
     fn new(alloc: Global) -> Names<'a>
-        ensures { (q : List ℕ) → result q ≡ None }
+        ensures { (q : List ℕ) → looked result q ≡ None }
     {
         Names {
             index: BTreeMap::new(alloc),
@@ -108,14 +96,14 @@ impl<'a> Names<'a> {
 
     /// What a name means, if it is declared.
     pub fn meaning(&self, name: &'a [u8]) -> Option<Meaning>
-        ensures { result ≡ self.now name.now }
+        ensures { result ≡ looked self.now name.now }
     {
         self.index.get(&name).copied()
     }
 
     /// Gives a name a meaning, unless it has one.
     fn declare(&mut self, name: &'a [u8], meaning: Meaning) -> Result<(), Memory>
-        ensures { OnOk result ((q : List ℕ) → self.new q ≡ first_of (self.old q) (if bytes_eq name.now q then Some meaning else None)) }
+        ensures { OnOk result ((q : List ℕ) → looked self.new q ≡ first_of (looked self.old q) (if bytes_eq name.now q then Some meaning else None)) }
     {
         if self.index.contains_key(&name) {
             return Ok(());
@@ -126,7 +114,7 @@ impl<'a> Names<'a> {
 
     /// Declares the label of a line.
     fn declare_label(&mut self, text: &'a [u8], count: &Count, saying: &Saying) -> Result<(), Memory>
-        ensures { OnOk result ((q : List ℕ) → self.new q ≡ first_of (self.old q) (label_means text.now count.now saying.now q)) }
+        ensures { OnOk result ((q : List ℕ) → looked self.new q ≡ first_of (looked self.old q) (label_means text.now count.now saying.now q)) }
     {
         match saying.label {
             None => Ok(()),
@@ -136,7 +124,7 @@ impl<'a> Names<'a> {
 
     /// Declares the name of a region or a lock.
     fn declare_name(&mut self, text: &'a [u8], count: &Count, statement: &Statement) -> Result<(), Memory>
-        ensures { OnOk result ((q : List ℕ) → self.new q ≡ first_of (self.old q) (name_means text.now count.now statement.now q)) }
+        ensures { OnOk result ((q : List ℕ) → looked self.new q ≡ first_of (looked self.old q) (name_means text.now count.now statement.now q)) }
     {
         match *statement {
             Statement::Region { name, len } => self.declare(bytes(text, name), Meaning::Region { number: count.regions, start: count.words, len }),
@@ -147,7 +135,7 @@ impl<'a> Names<'a> {
 
     /// Declares the names of a line of good form.
     fn declare_good(&mut self, text: &'a [u8], count: &Count, saying: &Saying) -> Result<(), Memory>
-        ensures { OnOk result ((q : List ℕ) → self.new q ≡ first_of (self.old q) (first_of (label_means text.now count.now saying.now q) (name_means text.now count.now saying.now.statement q))) }
+        ensures { OnOk result ((q : List ℕ) → looked self.new q ≡ first_of (looked self.old q) (first_of (label_means text.now count.now saying.now q) (name_means text.now count.now saying.now.statement q))) }
     {
         self.declare_label(text, count, saying)?;
         self.declare_name(text, count, &saying.statement)
@@ -155,7 +143,7 @@ impl<'a> Names<'a> {
 
     /// Declares the names of a line.
     fn declare_line(&mut self, text: &'a [u8], count: &Count, reading: &Reading) -> Result<(), Memory>
-        ensures { OnOk result ((q : List ℕ) → self.new q ≡ first_of (self.old q) (declared_by text.now count.now reading.now q)) }
+        ensures { OnOk result ((q : List ℕ) → looked self.new q ≡ first_of (looked self.old q) (declared_by text.now count.now reading.now q)) }
     {
         match reading {
             Reading::Bad(_) => Ok(()),
@@ -166,7 +154,7 @@ impl<'a> Names<'a> {
 
 /// The names that the lines of good form declare.
 pub(crate) fn survey<'a>(alloc: Global, text: &'a [u8], readings: &[Reading]) -> Result<Names<'a>, Memory>
-    ensures { IfOk result (λ names. (q : List ℕ) → names q ≡ meaning_in text.now no_count readings.now q) }
+    ensures { IfOk result (λ names. (q : List ℕ) → looked names q ≡ meaning_in text.now no_count readings.now q) }
 {
     let mut names = Names::new(alloc);
     let mut count = NO_COUNT;

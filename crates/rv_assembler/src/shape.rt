@@ -1,6 +1,6 @@
 //! The table of statements: their words, the shapes of their operands, and the row that a statement fits.
 ghost use Rattle.std.specs.Prelude.{◌≡◌, map, option_map, find};
-ghost use Rattle.rv_assembler.specs.Shape.{rows, is_name, is_number, is_comma, is_left, is_right, is_plain, piece_fits, fits, has_word, knows, is_row, kind_in};
+ghost use Rattle.rv_assembler.specs.Shape.{memory_rows, operation_rows, short_rows, directive_rows, later_rows, knows_word, kind_for, is_name, is_number, is_comma, is_left, is_right, is_plain, piece_fits, fits, has_word, knows, is_row, kind_in};
 ghost use Rattle.rv_assembler.specs.ShapeRow.{shape_of};
 
 use crate::kind::Piece::{Comma, Left, Name, Number, Register, Right, Target};
@@ -34,7 +34,7 @@ const NAME_NAME_N_N_N: &[Piece] = &[Name, Comma, Name, Comma, Number, Comma, Num
 const N_T_N: &[Piece] = &[Number, Comma, Target, Comma, Number];
 const N_N_T_N_N: &[Piece] = &[Number, Comma, Number, Comma, Target, Comma, Number, Comma, Number];
 
-const ROWS: [Row; 72] = [
+const MEMORY_ROWS: [Row; 18] = [
     (b"lui", R_N, Kind::Code(Mnemonic::Lui), false),
     (b"auipc", R_N, Kind::Code(Mnemonic::Auipc), false),
     (b"jal", R_T, Kind::Code(Mnemonic::Jal), false),
@@ -53,6 +53,9 @@ const ROWS: [Row; 72] = [
     (b"sb", R_AT, Kind::Code(Mnemonic::Store(Width::B)), false),
     (b"sh", R_AT, Kind::Code(Mnemonic::Store(Width::H)), false),
     (b"sw", R_AT, Kind::Code(Mnemonic::Store(Width::W)), false),
+];
+
+const OPERATION_ROWS: [Row; 19] = [
     (b"addi", R_R_N, Kind::Code(Mnemonic::OpImm(AluOp::Add)), false),
     (b"slti", R_R_N, Kind::Code(Mnemonic::OpImm(AluOp::Slt)), false),
     (b"sltiu", R_R_N, Kind::Code(Mnemonic::OpImm(AluOp::Sltu)), false),
@@ -72,6 +75,9 @@ const ROWS: [Row; 72] = [
     (b"sra", R_R_R, Kind::Code(Mnemonic::Op(AluOp::Sra)), false),
     (b"or", R_R_R, Kind::Code(Mnemonic::Op(AluOp::Or)), false),
     (b"and", R_R_R, Kind::Code(Mnemonic::Op(AluOp::And)), false),
+];
+
+const SHORT_ROWS: [Row; 17] = [
     (b"fence", NONE, Kind::Code(Mnemonic::Fence), false),
     (b"ecall", NONE, Kind::Code(Mnemonic::Ecall), false),
     (b"ebreak", NONE, Kind::Code(Mnemonic::Ebreak), false),
@@ -89,6 +95,9 @@ const ROWS: [Row; 72] = [
     (b"li", R_N, Kind::Code(Mnemonic::Li), false),
     (b"la", R_NAME, Kind::Code(Mnemonic::La), false),
     (b".raw", N, Kind::Code(Mnemonic::Raw), false),
+];
+
+const DIRECTIVE_ROWS: [Row; 13] = [
     (b".region", NAME_N, Kind::Table(Directive::Region), false),
     (b".word", NAME_N_N, Kind::Table(Directive::Word), false),
     (b".lock", NAME, Kind::Table(Directive::Lock), false),
@@ -102,6 +111,9 @@ const ROWS: [Row; 72] = [
     (b".greads", NAME_NAME_N_N, Kind::Table(Directive::Guarded { writes: false, form: Form::Part }), false),
     (b".gwrites", NAME_NAME, Kind::Table(Directive::Guarded { writes: true, form: Form::Whole }), false),
     (b".gwrites", NAME_NAME_N_N, Kind::Table(Directive::Guarded { writes: true, form: Form::Part }), false),
+];
+
+const LATER_ROWS: [Row; 5] = [
     (b".forall", N_N_T_N_N, Kind::Table(Directive::Forall), true),
     (b".reads", NAME_N_N_N, Kind::Table(Directive::Uses { writes: false, form: Form::Stepped }), true),
     (b".writes", NAME_N_N_N, Kind::Table(Directive::Uses { writes: true, form: Form::Stepped }), true),
@@ -109,10 +121,39 @@ const ROWS: [Row; 72] = [
     (b".gwrites", NAME_NAME_N_N_N, Kind::Table(Directive::Guarded { writes: true, form: Form::Stepped }), true),
 ];
 
-pub(crate) fn table() -> [Row; 72]
-    ensures { map shape_of result ≡ rows }
+/// The rows of upper immediates, jumps, branches, loads and stores.
+fn memory_table() -> [Row; 18]
+    ensures { map shape_of result ≡ memory_rows }
 {
-    ROWS
+    MEMORY_ROWS
+}
+
+/// The rows of operations on numbers and registers.
+fn operation_table() -> [Row; 19]
+    ensures { map shape_of result ≡ operation_rows }
+{
+    OPERATION_ROWS
+}
+
+/// The rows of instructions without operands, and those that stand for others.
+fn short_table() -> [Row; 17]
+    ensures { map shape_of result ≡ short_rows }
+{
+    SHORT_ROWS
+}
+
+/// The rows of directives.
+fn directive_table() -> [Row; 13]
+    ensures { map shape_of result ≡ directive_rows }
+{
+    DIRECTIVE_ROWS
+}
+
+/// The rows of what only version 2 has.
+fn later_table() -> [Row; 5]
+    ensures { map shape_of result ≡ later_rows }
+{
+    LATER_ROWS
 }
 
 /// A name that may be declared: it doesn't begin with `.`.
@@ -169,12 +210,11 @@ fn has_word(version_2: bool, word: &[u8], row: &Row) -> bool
     row.0 == word && (version_2 || !row.3)
 }
 
-/// Whether some statement of this version begins with the word.
-pub(crate) fn knows(version_2: bool, word: &[u8]) -> bool
-    ensures { result ≡ knows version_2 word.now rows }
+/// Whether some row has the word.
+fn knows_in(version_2: bool, word: &[u8], rows: &[Row]) -> bool
+    ensures { result ≡ knows version_2 word.now (map shape_of rows.now) }
 {
-    let table = table();
-    for row in &table {
+    for row in rows {
         if has_word(version_2, word, row) {
             return true;
         }
@@ -182,15 +222,44 @@ pub(crate) fn knows(version_2: bool, word: &[u8]) -> bool
     false
 }
 
-/// What a statement of this word and these operands is, if there is such a one.
-pub(crate) fn kind(version_2: bool, text: &[u8], word: &[u8], operands: &[Token]) -> Option<Kind>
-    ensures { result ≡ kind_in version_2 text.now word.now operands.now rows }
+/// Whether some statement of this version begins with the word.
+pub(crate) fn knows(version_2: bool, word: &[u8]) -> bool
+    ensures { result ≡ knows_word version_2 word.now }
 {
-    let table = table();
-    for row in &table {
+    knows_in(version_2, word, &memory_table())
+        || knows_in(version_2, word, &operation_table())
+        || knows_in(version_2, word, &short_table())
+        || knows_in(version_2, word, &directive_table())
+        || knows_in(version_2, word, &later_table())
+}
+
+/// What the first row of the word that the operands fit says.
+fn kind_in(version_2: bool, text: &[u8], word: &[u8], operands: &[Token], rows: &[Row]) -> Option<Kind>
+    ensures { result ≡ kind_in version_2 text.now word.now operands.now (map shape_of rows.now) }
+{
+    for row in rows {
         if has_word(version_2, word, row) && fits(text, row.1, operands) {
             return Some(row.2);
         }
     }
     None
+}
+
+/// What a statement of this word and these operands is, if there is such a one.
+pub(crate) fn kind(version_2: bool, text: &[u8], word: &[u8], operands: &[Token]) -> Option<Kind>
+    ensures { result ≡ kind_for version_2 text.now word.now operands.now }
+{
+    if let Some(kind) = kind_in(version_2, text, word, operands, &memory_table()) {
+        return Some(kind);
+    }
+    if let Some(kind) = kind_in(version_2, text, word, operands, &operation_table()) {
+        return Some(kind);
+    }
+    if let Some(kind) = kind_in(version_2, text, word, operands, &short_table()) {
+        return Some(kind);
+    }
+    if let Some(kind) = kind_in(version_2, text, word, operands, &directive_table()) {
+        return Some(kind);
+    }
+    kind_in(version_2, text, word, operands, &later_table())
 }

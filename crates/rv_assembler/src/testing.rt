@@ -1,6 +1,7 @@
 //! The faults of a line that has none by its form.
-ghost use Rattle.std.specs.Prelude.{◌≡◌, ℕ, ◌-◌, ◌+◌, ◌<◌, ◌≤◌, List, Option, IsTrue, ℤ, pos, neg_ℤ, ◌+ℤ◌, ◌≤ℤ◌};
-ghost use Rattle.rv_assembler.specs.Fault.{is_far, is_lost, stepped_fits, extent_far, family_far, entry_far, word_far, out_of_range, label_doubled, name_doubled, doubled, entry_lost, effect_lost, unknown, has_task, taken, misplaced, most_regions, over_limit, early_fault};
+ghost use Rattle.std.specs.Prelude.{◌≡◌, ℕ, ◌-◌, ◌+◌, ◌<◌, ◌≤◌, List, Option, is_none, IsTrue, ℤ, pos, neg_ℤ, ◌+ℤ◌, ◌≤ℤ◌};
+ghost use Rattle.rv_assembler.specs.Lookup.{looked};
+ghost use Rattle.rv_assembler.specs.Fault.{is_far, is_lost, stepped_fits, extent_far, family_far, entry_far, word_far, out_of_range, label_doubled, region_doubled, lock_doubled, name_doubled, doubled, entry_lost, effect_lost, unknown, has_task, taken, misplaced, most_regions, over_limit, early_fault};
 ghost use Rattle.rv_assembler.specs.Operand.{bytes_of};
 ghost use Rattle.rv_assembler.specs.Emission.{emission, label_place};
 ghost use Rattle.rv_assembler.specs.Draft.{region_place, lock_number};
@@ -28,19 +29,17 @@ fn is_lost(emission: Emission) -> bool
 }
 
 /// Whether the interval is one of the region, and so are `count - 1` more, each a step further than the one before.
-fn stepped_fits(lo: i64, hi: i64, step: i64, len: i64, count: u32) -> bool
+#[tactic(auto, using(crate::proofs::LoopLemmas::stepped_more))]
+fn stepped_fits(lo: i128, hi: i128, step: i64, len: i64, count: u32) -> bool
     ensures { result ≡ stepped_fits len step lo hi count }
 {
-    let mut from = i128::from(lo);
-    let mut to = i128::from(hi);
-    for _done in 0..count {
-        if !is_interval(from, to, len) {
-            return false;
-        }
-        from += i128::from(step);
-        to += i128::from(step);
+    if count == 0 {
+        return true;
     }
-    true
+    if !is_interval(lo, hi, len) {
+        return false;
+    }
+    stepped_fits(lo + i128::from(step), hi + i128::from(step), step, len, count - 1)
 }
 
 /// Whether words of a region aren't all its own, for some of `count` tasks.
@@ -53,7 +52,7 @@ fn extent_far(place: Option<Place>, extent: Extent, count: u32) -> bool
     match extent {
         Extent::Whole => false,
         Extent::Part { lo, hi } => !is_interval(i128::from(lo), i128::from(hi), place.len),
-        Extent::Stepped { lo, hi, step } => !stepped_fits(lo, hi, step, place.len, count),
+        Extent::Stepped { lo, hi, step } => !stepped_fits(i128::from(lo), i128::from(hi), step, place.len, count),
     }
 }
 
@@ -91,7 +90,7 @@ fn family_far(family: Family) -> bool
 
 /// Whether a number is outside its range, or a label too far.
 fn out_of_range<'a>(text: &'a [u8], names: &Names<'a>, draft: &Draft, statement: &Statement) -> bool
-    ensures { result ≡ out_of_range text.now names.now draft.now statement.now }
+    ensures { result ≡ out_of_range text.now (looked names.now) draft.now statement.now }
 {
     match *statement {
         Statement::Instruction(code) => is_far(emit(text, names, draft.count.code, code)),
@@ -117,26 +116,40 @@ fn label_doubled(meaning: Option<Meaning>, line: u32) -> bool
     }
 }
 
+/// Whether the name of a region means something else than the region of this number.
+fn region_doubled(meaning: Option<Meaning>, number: u32) -> bool
+    ensures { result ≡ region_doubled meaning number }
+{
+    match meaning {
+        Some(Meaning::Region { number: first, .. }) => first != number,
+        _ => true,
+    }
+}
+
+/// Whether the name of a lock means something else than the lock of this number.
+fn lock_doubled(meaning: Option<Meaning>, number: u32) -> bool
+    ensures { result ≡ lock_doubled meaning number }
+{
+    match meaning {
+        Some(Meaning::Lock { number: first }) => first != number,
+        _ => true,
+    }
+}
+
 /// Whether the name of a region or a lock that a statement declares means something else.
 fn name_doubled<'a>(text: &'a [u8], names: &Names<'a>, count: &Count, statement: &Statement) -> bool
-    ensures { result ≡ name_doubled text.now names.now count.now statement.now }
+    ensures { result ≡ name_doubled text.now (looked names.now) count.now statement.now }
 {
     match *statement {
-        Statement::Region { name, .. } => match names.meaning(bytes(text, name)) {
-            Some(Meaning::Region { number, .. }) => number != count.regions,
-            _ => true,
-        },
-        Statement::Lock { name } => match names.meaning(bytes(text, name)) {
-            Some(Meaning::Lock { number }) => number != count.locks,
-            _ => true,
-        },
+        Statement::Region { name, len: _len } => region_doubled(names.meaning(bytes(text, name)), count.regions),
+        Statement::Lock { name } => lock_doubled(names.meaning(bytes(text, name)), count.locks),
         _ => false,
     }
 }
 
 /// Whether a name that the line declares is declared before.
 fn doubled<'a>(text: &'a [u8], names: &Names<'a>, count: &Count, saying: &Saying) -> bool
-    ensures { result ≡ doubled text.now names.now count.now saying.now }
+    ensures { result ≡ doubled text.now (looked names.now) count.now saying.now }
 {
     if let Some(label) = saying.label {
         if label_doubled(names.meaning(bytes(text, label)), saying.line) {
@@ -148,7 +161,7 @@ fn doubled<'a>(text: &'a [u8], names: &Names<'a>, count: &Count, saying: &Saying
 
 /// Whether an entry is a name and no label.
 fn entry_lost<'a>(text: &'a [u8], names: &Names<'a>, entry: Token) -> bool
-    ensures { result ≡ entry_lost text.now names.now entry }
+    ensures { result ≡ entry_lost text.now (looked names.now) entry }
 {
     if let TokenKind::Number(_) = entry.kind {
         return false;
@@ -158,9 +171,9 @@ fn entry_lost<'a>(text: &'a [u8], names: &Names<'a>, entry: Token) -> bool
 
 /// Whether the region or the lock of an effect isn't declared.
 fn effect_lost<'a>(text: &'a [u8], names: &Names<'a>, effect: Effect) -> bool
-    ensures { result ≡ effect_lost text.now names.now effect }
+    ensures { result ≡ effect_lost text.now (looked names.now) effect }
 {
-    if region_place(names.meaning(bytes(text, effect.region))).is_none() {
+    if no_region(names.meaning(bytes(text, effect.region))) {
         return true;
     }
     match effect.lock {
@@ -169,13 +182,23 @@ fn effect_lost<'a>(text: &'a [u8], names: &Names<'a>, effect: Effect) -> bool
     }
 }
 
+/// Whether a name means no region.
+fn no_region(meaning: Option<Meaning>) -> bool
+    ensures { result ≡ is_none (region_place meaning) }
+{
+    match region_place(meaning) {
+        Some(_) => false,
+        None => true,
+    }
+}
+
 /// Whether a name isn't declared, or is of another kind.
 fn unknown<'a>(text: &'a [u8], names: &Names<'a>, here: u32, statement: &Statement) -> bool
-    ensures { result ≡ unknown text.now names.now here statement.now }
+    ensures { result ≡ unknown text.now (looked names.now) here statement.now }
 {
     match *statement {
         Statement::Instruction(code) => is_lost(emit(text, names, here, code)),
-        Statement::Word { region, .. } => region_place(names.meaning(bytes(text, region))).is_none(),
+        Statement::Word { region, index: _index, value: _value } => no_region(names.meaning(bytes(text, region))),
         Statement::Tasks(family) => entry_lost(text, names, family.entry),
         Statement::Uses(effect) => effect_lost(text, names, effect),
         _ => false,
@@ -238,7 +261,7 @@ pub(crate) fn over_limit(version_2: bool, draft: &Draft) -> bool
 
 /// The first fault of a line, but for the limits.
 pub(crate) fn early_fault<'a>(text: &'a [u8], names: &Names<'a>, draft: &Draft, saying: &Saying) -> Option<SourceFault>
-    ensures { result ≡ early_fault text.now names.now draft.now saying.now }
+    ensures { result ≡ early_fault text.now (looked names.now) draft.now saying.now }
 {
     let line = saying.line;
     if out_of_range(text, names, draft, &saying.statement) {

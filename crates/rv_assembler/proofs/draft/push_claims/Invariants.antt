@@ -3,4 +3,4 @@ use Rattle.rv_assembler.specs.Draft.{claimed}
 use Rattle.rv_assembler.proofs.draft.push_claims.Given as goal
 
 abbrev pub invariant-loop-done : goal.invariant-loop-done
-invariant-loop-done l = l.claims ++ claimed l.claim l.step (l.count - l._done) ≡ l.initial.claims ++ claimed l.first l.step l.count
+invariant-loop-done l = l.claims ++ claimed l.claim l.step (l.count - l._done) ≡ l.initial.claims ++ claimed l.fn.first l.step l.count

@@ -1,8 +1,9 @@
 use Rattle.std.proofs.Common.{◌≡◌, ℕ, List, drop}
+use Rattle.rv_assembler.specs.Lookup.{looked}
 use Rattle.rv_assembler.specs.Meaning.{first_of, no_count, meaning_in}
 use Rattle.rv_assembler.proofs.names.survey.Given as goal
 
 -- what is found already, and else what the lines that are left say
 abbrev pub invariant-loop-reading : goal.invariant-loop-reading
 invariant-loop-reading l =
-    (q : List ℕ) → first_of (l.names q) (meaning_in l.text l.count (drop l.reading-index l.readings) q) ≡ meaning_in l.text no_count l.readings q
+    (q : List ℕ) → first_of (looked l.names q) (meaning_in l.text l.count (drop l.reading-index l.readings) q) ≡ meaning_in l.text no_count l.readings q

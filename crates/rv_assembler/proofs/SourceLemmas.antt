@@ -1,0 +1,25 @@
+-- One line more, and what names mean.
+use Rattle.std.proofs.Common.{◌≡◌, ℕ, Bool, true, false, List, ◌∷◌, Option, Some, None, Result, Ok, Err, refl, ap}
+use Rattle.rv_assembler.specs.declared.fault.SourceFault.{SourceFault}
+use Rattle.rv_assembler.specs.declared.fault.SourceFault as fault
+use Rattle.rv_assembler.specs.declared.reading.Saying.{Saying}
+use Rattle.rv_assembler.specs.declared.reading.Reading.{Reading}
+use Rattle.rv_assembler.specs.declared.reading.Reading.TheVariants.{Bad, Good}
+use Rattle.rv_assembler.specs.declared.names.Meaning.{Meaning}
+use Rattle.rv_assembler.specs.declared.draft.Draft.{Draft}
+use Rattle.rv_assembler.specs.Draft.{after}
+use Rattle.rv_assembler.specs.Fault.{early_fault, over_limit}
+use Rattle.rv_assembler.specs.Source.{total}
+
+pub total-early : (version_2 : Bool) (text : List ℕ) (names : List ℕ → Option Meaning) (d : Draft) (s : Saying) (rs : List Reading) (f : SourceFault) → early_fault text names d s ≡ Some f → total version_2 text names d (Good s ∷ rs) ≡ Err f
+total-early version_2 text names d s rs f e = rw e refl
+
+pub total-limit : (version_2 : Bool) (text : List ℕ) (names : List ℕ → Option Meaning) (d : Draft) (s : Saying) (rs : List Reading) → early_fault text names d s ≡ None → over_limit version_2 (after text names d s.statement) ≡ true → total version_2 text names d (Good s ∷ rs) ≡ Err (fault.TheVariants.Limit s.line)
+total-limit version_2 text names d s rs e l = rw (e, l) refl
+
+pub total-more : (version_2 : Bool) (text : List ℕ) (names : List ℕ → Option Meaning) (d : Draft) (s : Saying) (rs : List Reading) → early_fault text names d s ≡ None → over_limit version_2 (after text names d s.statement) ≡ false → total version_2 text names d (Good s ∷ rs) ≡ total version_2 text names (after text names d s.statement) rs
+total-more version_2 text names d s rs e l = rw (e, l) refl
+
+-- tables in which all names mean the same give the same
+pub total-same : (version_2 : Bool) (text : List ℕ) (f g : List ℕ → Option Meaning) (d : Draft) (rs : List Reading) → ((q : List ℕ) → f q ≡ g q) → total version_2 text f d rs ≡ total version_2 text g d rs
+total-same version_2 text f g d rs h = let e : f ≡ g = λ i q. h q i in ap (λ (n : List ℕ → Option Meaning). total version_2 text n d rs) e
