@@ -1,5 +1,6 @@
 -- One turn of a loop that goes so many times.
-use Rattle.std.proofs.Common.{◌≡◌, ℕ, zero, suc, ◌+◌, ◌-◌, ◌<◌, ◌%◌, ◌^◌, Bool, true, false, ◌&&◌, ℤ, ◌+ℤ◌, List, [], ◌∷◌, ◌++◌, refl, sym, ◌∙◌, append_assoc, arith}
+use Rattle.std.proofs.Common.{◌≡◌, ℕ, zero, suc, ◌+◌, ◌-◌, ◌<◌, ◌%◌, ◌^◌, Bool, true, false, ◌&&◌, ℤ, ◌+ℤ◌, List, [], ◌∷◌, ◌++◌, map, refl, sym, ◌∙◌, append_assoc, arith}
+use Rattle.std.specs.List.{range_with_len}
 use Rattle.rv_assembler.specs.declared.draft.Start.{Start}
 use Rattle.rv_assembler.specs.declared.draft.Claim.{Claim}
 use Rattle.rv_assembler.specs.Number.{more, is_interval}
@@ -23,3 +24,7 @@ claimed_step done c step n k all e h =
 
 pub stepped_join : (len step lo hi : ℤ) (n : ℕ) (inside rest : Bool) → 0 < n → inside ≡ is_interval lo hi len → inside ≡ true → rest ≡ stepped_fits len step (lo +ℤ step) (hi +ℤ step) (n - 1) → rest ≡ stepped_fits len step lo hi n
 stepped_join len step lo hi n inside rest l e i r = let s : is_interval lo hi len ≡ true = sym e ∙ i in r ∙ sym (stepped_more len step lo hi n l ∙ rw s refl)
+
+pub map_step : {X : Type 0} (f : ℕ → X) (done : List X) (a n k : ℕ) (all : List X) → n ≡ suc k → done ++ map f (range_with_len a n) ≡ all → (done ++ f a ∷ []) ++ map f (range_with_len (a + 1) k) ≡ all
+map_step f done a n k all e h =
+    let s : done ++ map f (range_with_len a (suc k)) ≡ all = rw e at h in append_assoc done (f a ∷ []) (map f (range_with_len (a + 1) k)) ∙ s

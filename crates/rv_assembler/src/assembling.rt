@@ -52,11 +52,13 @@ fn draft_in(alloc: Global, text: &[u8]) -> Result<Draft, SourceFault>
     ensures err { IfErr result (λ f. f ≢ NoMemory → draft_of text.now ≡ Err f) }
     ensures whole { IfOk result IsWhole }
 {
-    let lines = tokens(alloc, text)?;
-    let readings = readings(alloc, text, lines.as_slice())?;
-    let names = survey(alloc, text, readings.as_slice())?;
-    let version_2 = 0 < version_line(text, lines.as_slice());
-    add_up(alloc, version_2, text, &names, readings.as_slice())
+    let tokenized = tokens(alloc, text)?;
+    let lines = tokenized.as_slice();
+    let read = readings(alloc, text, lines)?;
+    let said = read.as_slice();
+    let names = survey(alloc, text, said)?;
+    let version_2 = 0 < version_line(text, lines);
+    add_up(alloc, version_2, text, &names, said)
 }
 
 /// The program of a source text, or else the text's first fault.

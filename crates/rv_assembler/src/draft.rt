@@ -7,7 +7,7 @@ ghost use Rattle.rv_assembler.specs.Number.{wrapped, more};
 ghost use Rattle.rv_assembler.specs.Draft.{no_draft, region_place, lock_number, entry_of, members, usage_of, first_word, past_word, step_of, claimed, claims_for, values_for, with_tasks, extended, after};
 
 use crate::emission::{Emission, emit};
-use crate::names::{Count, Meaning, NO_COUNT, Names, counted};
+use crate::names::{Count, Meaning, NO_COUNT, Names, counted, meaning_of};
 use crate::number::{more, wrapped};
 use crate::operand::bytes;
 use crate::statement::{Effect, Extent, Family, Statement};
@@ -101,6 +101,20 @@ pub(crate) fn lock_number(meaning: Option<Meaning>) -> Option<u32>
     }
 }
 
+/// The region of a name.
+pub(crate) fn region_named<'a>(text: &'a [u8], names: &Names<'a>, name: Token) -> Option<Place>
+    ensures { result ≡ region_place (looked names.now (bytes_of text.now name)) }
+{
+    region_place(meaning_of(text, names, name))
+}
+
+/// The number of the lock of a name.
+pub(crate) fn lock_named<'a>(text: &'a [u8], names: &Names<'a>, name: Token) -> Option<u32>
+    ensures { result ≡ lock_number (looked names.now (bytes_of text.now name)) }
+{
+    lock_number(meaning_of(text, names, name))
+}
+
 /// The entry of a task, counted in code words from address 0.
 fn entry<'a>(text: &'a [u8], names: &Names<'a>, target: Token) -> u32
     ensures { result ≡ entry_of text.now (looked names.now) target }
@@ -108,7 +122,7 @@ fn entry<'a>(text: &'a [u8], names: &Names<'a>, target: Token) -> u32
     if let TokenKind::Number(number) = target.kind {
         return wrapped(number) / 4;
     }
-    match names.meaning(bytes(text, target)) {
+    match meaning_of(text, names, target) {
         Some(Meaning::Label { place, .. }) => more(place, 0x400),
         _ => 0,
     }
@@ -120,7 +134,7 @@ fn usage_in<'a>(text: &'a [u8], names: &Names<'a>, effect: Effect) -> Option<Usa
 {
     match effect.lock {
         None => Some(if effect.writes { Usage::Writes } else { Usage::Reads }),
-        Some(lock) => match lock_number(names.meaning(bytes(text, lock))) {
+        Some(lock) => match lock_named(text, names, lock) {
             Some(number) => Some(if effect.writes { Usage::GuardedWrites(number) } else { Usage::GuardedReads(number) }),
             None => None,
         },
@@ -304,7 +318,7 @@ impl Draft {
             Statement::Instruction(code) => self.push_code(emit(text, names, self.count.code, code)),
             Statement::Region { name, len } => self.push_region(alloc, bytes(text, name), len),
             Statement::Word { region, index, value } => {
-                self.push_value(region_place(names.meaning(bytes(text, region))), index, value)
+                self.push_value(region_named(text, names, region), index, value)
             }
             Statement::Lock { name } => self.push_lock(alloc, bytes(text, name)),
             Statement::Phase => {
@@ -313,7 +327,7 @@ impl Draft {
             }
             Statement::Tasks(family) => self.push_tasks(entry(text, names, family.entry), family),
             Statement::Uses(effect) => self.push_effect(
-                region_place(names.meaning(bytes(text, effect.region))),
+                region_named(text, names, effect.region),
                 usage_in(text, names, effect),
                 effect.extent,
             ),

@@ -1,6 +1,7 @@
 //! The names of a text: labels, regions and locks, and what each means.
 ghost use Rattle.std.specs.Prelude.{◌≡◌, ℕ, List, Option, Some, None, bytes_eq, if◌then◌else◌, OnOk, IfOk};
 ghost use Rattle.rv_assembler.specs.Lookup.{looked};
+ghost use Rattle.rv_assembler.specs.Operand.{bytes_of};
 ghost use Rattle.rv_assembler.specs.Meaning.{first_of, no_count, size_of, length_of, counted, count_after, label_means, name_means, declared_by, meaning_in};
 
 use crate::number::{is_length, more, wrapped};
@@ -8,6 +9,7 @@ use crate::operand::bytes;
 use crate::reading::{Reading, Saying};
 use crate::statement::{Code, Statement};
 use dn_base::Memory;
+use src_text::Token;
 use std::alloc::Global;
 use std::collections::BTreeMap;
 
@@ -150,6 +152,13 @@ impl<'a> Names<'a> {
             Reading::Good(saying) => self.declare_good(text, count, saying),
         }
     }
+}
+
+/// What the name of a token means, if it is declared.
+pub(crate) fn meaning_of<'a>(text: &'a [u8], names: &Names<'a>, token: Token) -> Option<Meaning>
+    ensures { result ≡ looked names.now (bytes_of text.now token) }
+{
+    names.meaning(bytes(text, token))
 }
 
 /// The names that the lines of good form declare.

@@ -8,7 +8,7 @@ use crate::number::wrapped;
 use crate::operand::{bytes, number_at, register_at, register_numbered, token_at};
 use crate::shape::{is_name, is_plain, kind, knows};
 use crate::statement::{Code, Effect, Extent, Family, Statement};
-use dn_base::Memory;
+use dn_base::{Memory, Sequence};
 use rv_isa::AluOp;
 use src_text::{Line, LineFault, Token, TokenKind};
 use std::alloc::Global;
@@ -215,11 +215,11 @@ pub(crate) fn version_line(text: &[u8], lines: &[Line]) -> u32
 }
 
 /// What each line says, in order.
-pub(crate) fn readings(alloc: Global, text: &[u8], lines: &[Line]) -> Result<Vec<Reading>, Memory>
-    ensures { IfOk result (λ readings. readings.items ≡ readings_of text.now lines.now) }
+pub(crate) fn readings(alloc: Global, text: &[u8], lines: &[Line]) -> Result<Sequence<Reading>, Memory>
+    ensures { IfOk result (λ readings. readings ≡ readings_of text.now lines.now) }
 {
     let version = version_line(text, lines);
-    let mut readings = Vec::with_capacity(alloc, lines.len())?;
+    let mut readings = Sequence::new(alloc);
     for line in lines {
         readings.push(read_line(version, text, line))?;
     }

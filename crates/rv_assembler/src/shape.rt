@@ -193,14 +193,16 @@ fn piece_fits(text: &[u8], piece: Piece, token: Token) -> bool
 fn fits(text: &[u8], pieces: &[Piece], tokens: &[Token]) -> bool
     ensures { result ≡ fits text.now pieces.now tokens.now }
 {
-    let mut index = 0;
-    while index < pieces.len() && index < tokens.len() {
-        if !piece_fits(text, pieces[index], tokens[index]) {
-            return false;
-        }
-        index += 1;
+    match pieces {
+        [] => match tokens {
+            [] => true,
+            [_, ..] => false,
+        },
+        [piece, more_pieces @ ..] => match tokens {
+            [] => false,
+            [token, more_tokens @ ..] => piece_fits(text, *piece, *token) && fits(text, more_pieces, more_tokens),
+        },
     }
-    pieces.len() == tokens.len()
 }
 
 /// Whether the row is one of this version, and has this word.

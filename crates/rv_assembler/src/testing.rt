@@ -6,12 +6,11 @@ ghost use Rattle.rv_assembler.specs.Operand.{bytes_of};
 ghost use Rattle.rv_assembler.specs.Emission.{emission, label_place};
 ghost use Rattle.rv_assembler.specs.Draft.{region_place, lock_number};
 
-use crate::draft::{Draft, Place, Start, lock_number, region_place};
+use crate::draft::{Draft, Place, Start, lock_named, region_named};
 use crate::emission::{Emission, emit};
 use crate::fault::SourceFault;
-use crate::names::{Count, Meaning, Names};
+use crate::names::{Count, Meaning, Names, meaning_of};
 use crate::number::{is_interval, is_length, more, wrapped};
-use crate::operand::bytes;
 use crate::reading::Saying;
 use crate::statement::{Effect, Extent, Family, Statement};
 use src_text::{Token, TokenKind};
@@ -95,10 +94,10 @@ fn out_of_range<'a>(text: &'a [u8], names: &Names<'a>, draft: &Draft, statement:
     match *statement {
         Statement::Instruction(code) => is_far(emit(text, names, draft.count.code, code)),
         Statement::Region { len, .. } => !is_length(len),
-        Statement::Word { region, index, .. } => word_far(region_place(names.meaning(bytes(text, region))), index),
+        Statement::Word { region, index, value: _value } => word_far(region_named(text, names, region), index),
         Statement::Tasks(family) => family_far(family),
         Statement::Uses(effect) => extent_far(
-            region_place(names.meaning(bytes(text, effect.region))),
+            region_named(text, names, effect.region),
             effect.extent,
             draft.family.count,
         ),
@@ -141,8 +140,8 @@ fn name_doubled<'a>(text: &'a [u8], names: &Names<'a>, count: &Count, statement:
     ensures { result ≡ name_doubled text.now (looked names.now) count.now statement.now }
 {
     match *statement {
-        Statement::Region { name, len: _len } => region_doubled(names.meaning(bytes(text, name)), count.regions),
-        Statement::Lock { name } => lock_doubled(names.meaning(bytes(text, name)), count.locks),
+        Statement::Region { name, len: _len } => region_doubled(meaning_of(text, names, name), count.regions),
+        Statement::Lock { name } => lock_doubled(meaning_of(text, names, name), count.locks),
         _ => false,
     }
 }
@@ -152,7 +151,7 @@ fn doubled<'a>(text: &'a [u8], names: &Names<'a>, count: &Count, saying: &Saying
     ensures { result ≡ doubled text.now (looked names.now) count.now saying.now }
 {
     if let Some(label) = saying.label {
-        if label_doubled(names.meaning(bytes(text, label)), saying.line) {
+        if label_doubled(meaning_of(text, names, label), saying.line) {
             return true;
         }
     }
@@ -166,27 +165,27 @@ fn entry_lost<'a>(text: &'a [u8], names: &Names<'a>, entry: Token) -> bool
     if let TokenKind::Number(_) = entry.kind {
         return false;
     }
-    !matches!(names.meaning(bytes(text, entry)), Some(Meaning::Label { .. }))
+    !matches!(meaning_of(text, names, entry), Some(Meaning::Label { .. }))
 }
 
 /// Whether the region or the lock of an effect isn't declared.
 fn effect_lost<'a>(text: &'a [u8], names: &Names<'a>, effect: Effect) -> bool
     ensures { result ≡ effect_lost text.now (looked names.now) effect }
 {
-    if no_region(names.meaning(bytes(text, effect.region))) {
+    if no_region(text, names, effect.region) {
         return true;
     }
     match effect.lock {
-        Some(lock) => lock_number(names.meaning(bytes(text, lock))).is_none(),
+        Some(lock) => lock_named(text, names, lock).is_none(),
         None => false,
     }
 }
 
 /// Whether a name means no region.
-fn no_region(meaning: Option<Meaning>) -> bool
-    ensures { result ≡ is_none (region_place meaning) }
+fn no_region<'a>(text: &'a [u8], names: &Names<'a>, name: Token) -> bool
+    ensures { result ≡ is_none (region_place (looked names.now (bytes_of text.now name))) }
 {
-    match region_place(meaning) {
+    match region_named(text, names, name) {
         Some(_) => false,
         None => true,
     }
@@ -198,7 +197,7 @@ fn unknown<'a>(text: &'a [u8], names: &Names<'a>, here: u32, statement: &Stateme
 {
     match *statement {
         Statement::Instruction(code) => is_lost(emit(text, names, here, code)),
-        Statement::Word { region, index: _index, value: _value } => no_region(names.meaning(bytes(text, region))),
+        Statement::Word { region, index: _index, value: _value } => no_region(text, names, region),
         Statement::Tasks(family) => entry_lost(text, names, family.entry),
         Statement::Uses(effect) => effect_lost(text, names, effect),
         _ => false,
