@@ -1,5 +1,5 @@
 -- What a line says: its label and its statement.
-use Rattle.std.specs.Prelude.{ℕ, ◌+◌, ℤ, pos, neg_ℤ, Bool, true, false, not, ◌&&◌, nat_lt, ◌==◌, List, [], ◌∷◌, map, length, Option, Some, None, is_none, Result, Ok, Err, if◌then◌else◌, codes, bytes_eq}
+use Rattle.std.specs.Prelude.{ℕ, ◌+◌, ℤ, pos, neg_ℤ, Bool, true, false, not, ◌&&◌, nat_lt, ◌==◌, List, [], ◌∷◌, length, Option, Some, None, is_none, Result, Ok, Err, if◌then◌else◌, codes, bytes_eq}
 use Rattle.rv_isa.specs.declared.instr.AluOp as op
 use Rattle.src_text.specs.declared.line.Line.{Line}
 use Rattle.src_text.specs.declared.line.LineFault as line_fault
@@ -143,7 +143,3 @@ is_blank l = is_none l.fault && length l.tokens == 0
 abbrev pub version_line : List ℕ → List Line → ℕ
 version_line text [] = 0
 version_line text (l ∷ ls) = if is_blank l then version_line text ls else (if is_version text l then l.number else 0)
-
--- what each line says, in order
-abbrev pub readings_of : List ℕ → List Line → List Reading
-readings_of text ls = map (reading_of (version_line text ls) text) ls

@@ -1,6 +1,7 @@
 -- The meaning of a source text: a program, or its first fault.
-use Rattle.std.specs.Prelude.{ℕ, Bool, nat_lt, List, [], ◌∷◌, length, Option, Some, None, Result, Ok, Err, if◌then◌else◌}
+use Rattle.std.specs.Prelude.{ℕ, Bool, nat_lt, List, [], ◌∷◌, length, map, Option, Some, None, Result, Ok, Err, if◌then◌else◌}
 use Rattle.region_table.specs.Program.{ProgramParts}
+use Rattle.src_text.specs.declared.line.Line.{Line}
 use Rattle.src_text.specs.Line.{lines_of}
 use Rattle.rv_assembler.specs.declared.fault.SourceFault.{SourceFault}
 use Rattle.rv_assembler.specs.declared.fault.SourceFault as fault
@@ -9,7 +10,7 @@ use Rattle.rv_assembler.specs.declared.reading.Reading.{Reading}
 use Rattle.rv_assembler.specs.declared.reading.Reading.TheVariants.{Bad, Good}
 use Rattle.rv_assembler.specs.declared.names.Meaning.{Meaning}
 use Rattle.rv_assembler.specs.declared.draft.Draft.{Draft}
-use Rattle.rv_assembler.specs.Reading.{version_line, readings_of}
+use Rattle.rv_assembler.specs.Reading.{version_line, reading_of}
 use Rattle.rv_assembler.specs.Meaning.{first_of, no_count, meaning_in}
 use Rattle.rv_assembler.specs.Draft.{no_draft, after}
 use Rattle.rv_assembler.specs.Fault.{early_fault, over_limit}
@@ -33,22 +34,21 @@ total version_2 text names d (Bad f ∷ rs) = Err f
 total version_2 text names d (Good s ∷ rs) =
     unless_fault (fault_of version_2 text names d s) (total version_2 text names (after text names d s.statement) rs)
 
+-- the same for lines, by what each says
+abbrev pub total_of : ℕ → List ℕ → (List ℕ → Option Meaning) → Draft → List Line → Result Draft SourceFault
+total_of version text names d ls = total (nat_lt 0 version) text names d (map (reading_of version text) ls)
+
 abbrev pub program_in : Result Draft SourceFault → Result ProgramParts SourceFault
 program_in (Ok d) = Ok (program_of d)
 program_in (Err f) = Err f
 
 -- the names of a text are those of all its lines of good form
-abbrev pub names_of : List ℕ → List Reading → List ℕ → Option Meaning
-names_of text rs = meaning_in text no_count rs
-
-abbrev pub is_version_2 : List ℕ → Bool
-is_version_2 text = nat_lt 0 (version_line text (lines_of text))
+abbrev pub names_of : List ℕ → List ℕ → Option Meaning
+names_of text = let ls = lines_of text in meaning_in text no_count (map (reading_of (version_line text ls) text) ls)
 
 -- what the lines of a text add up to
 abbrev pub draft_of : List ℕ → Result Draft SourceFault
-draft_of text =
-    let rs = readings_of text (lines_of text) in
-    total (is_version_2 text) text (names_of text rs) no_draft rs
+draft_of text = let ls = lines_of text in total_of (version_line text ls) text (names_of text) no_draft ls
 
 -- the program of a text, or its first fault
 abbrev pub source : List ℕ → Result ProgramParts SourceFault

@@ -6,37 +6,37 @@ ghost use Rattle.rv_assembler.specs.declared.fault.SourceFault as fault;
 ghost use Rattle.rv_assembler.specs.declared.fault.SourceFault.TheVariants.{TooLarge, Memory as NoMemory};
 ghost use Rattle.rv_assembler.specs.Draft.{no_draft};
 ghost use Rattle.rv_assembler.specs.Whole.{IsWhole};
-ghost use Rattle.rv_assembler.specs.Source.{total, draft_of, source};
+ghost use Rattle.rv_assembler.specs.Source.{total_of, draft_of, source};
 
 use crate::draft::Draft;
 use crate::fault::SourceFault;
 use crate::finishing::finish;
 use crate::names::{Names, survey};
-use crate::reading::{Reading, readings, version_line};
+use crate::reading::{Reading, read_line, version_line};
 use crate::testing::{early_fault, over_limit};
 use region_table::Program;
-use src_text::tokens;
+use src_text::{Line, tokens};
 use std::alloc::Global;
 
 /// The greatest number of bytes of a text.
 const MOST_BYTES: usize = 1048576;
 
-/// What the lines add up to, or the first fault.
-fn add_up<'a>(alloc: Global, version_2: bool, text: &'a [u8], names: &Names<'a>, readings: &[Reading]) -> Result<Draft, SourceFault>
-    ensures ok { IfOk result (λ draft. total version_2 text.now (looked names.now) no_draft readings.now ≡ Ok draft) }
-    ensures err { IfErr result (λ f. f ≢ NoMemory → total version_2 text.now (looked names.now) no_draft readings.now ≡ Err f) }
+/// What the lines add up to, or the first fault. The version line has the number `version`; 0 stands for version 1.
+fn add_up<'a>(alloc: Global, version: u32, text: &'a [u8], names: &Names<'a>, lines: &[Line]) -> Result<Draft, SourceFault>
+    ensures ok { IfOk result (λ draft. total_of version text.now (looked names.now) no_draft lines.now ≡ Ok draft) }
+    ensures err { IfErr result (λ f. f ≢ NoMemory → total_of version text.now (looked names.now) no_draft lines.now ≡ Err f) }
     ensures whole { IfOk result IsWhole }
 {
     let mut draft = Draft::new(alloc);
-    for reading in readings {
-        match reading {
-            Reading::Bad(fault) => return Err(*fault),
+    for line in lines {
+        match read_line(version, text, line) {
+            Reading::Bad(fault) => return Err(fault),
             Reading::Good(saying) => {
-                if let Some(fault) = early_fault(text, names, &draft, saying) {
+                if let Some(fault) = early_fault(text, names, &draft, &saying) {
                     return Err(fault);
                 }
                 draft.add(alloc, text, names, &saying.statement)?;
-                if over_limit(version_2, &draft) {
+                if over_limit(0 < version, &draft) {
                     return Err(SourceFault::Limit { line: saying.line });
                 }
             }
@@ -54,11 +54,9 @@ fn draft_in(alloc: Global, text: &[u8]) -> Result<Draft, SourceFault>
 {
     let tokenized = tokens(alloc, text)?;
     let lines = tokenized.as_slice();
-    let read = readings(alloc, text, lines)?;
-    let said = read.as_slice();
-    let names = survey(alloc, text, said)?;
-    let version_2 = 0 < version_line(text, lines);
-    add_up(alloc, version_2, text, &names, said)
+    let version = version_line(text, lines);
+    let names = survey(alloc, version, text, lines)?;
+    add_up(alloc, version, text, &names, lines)
 }
 
 /// The program of a source text, or else the text's first fault.

@@ -1,15 +1,16 @@
 //! The names of a text: labels, regions and locks, and what each means.
-ghost use Rattle.std.specs.Prelude.{◌≡◌, ℕ, List, Option, Some, None, bytes_eq, if◌then◌else◌, OnOk, IfOk};
+ghost use Rattle.std.specs.Prelude.{◌≡◌, ℕ, List, Option, Some, None, bytes_eq, if◌then◌else◌, OnOk, IfOk, map};
 ghost use Rattle.rv_assembler.specs.Lookup.{looked};
 ghost use Rattle.rv_assembler.specs.Operand.{bytes_of};
+ghost use Rattle.rv_assembler.specs.Reading.{reading_of};
 ghost use Rattle.rv_assembler.specs.Meaning.{first_of, no_count, size_of, length_of, counted, count_after, label_means, name_means, declared_by, meaning_in};
 
 use crate::number::{is_length, more, wrapped};
 use crate::operand::bytes;
-use crate::reading::{Reading, Saying};
+use crate::reading::{Reading, Saying, read_line};
 use crate::statement::{Code, Statement};
 use dn_base::Memory;
-use src_text::Token;
+use src_text::{Line, Token};
 use std::alloc::Global;
 use std::collections::BTreeMap;
 
@@ -162,14 +163,15 @@ pub(crate) fn meaning_of<'a>(text: &'a [u8], names: &Names<'a>, token: Token) ->
 }
 
 /// The names that the lines of good form declare.
-pub(crate) fn survey<'a>(alloc: Global, text: &'a [u8], readings: &[Reading]) -> Result<Names<'a>, Memory>
-    ensures { IfOk result (λ names. (q : List ℕ) → looked names q ≡ meaning_in text.now no_count readings.now q) }
+pub(crate) fn survey<'a>(alloc: Global, version: u32, text: &'a [u8], lines: &[Line]) -> Result<Names<'a>, Memory>
+    ensures { IfOk result (λ names. (q : List ℕ) → looked names q ≡ meaning_in text.now no_count (map (reading_of version text.now) lines.now) q) }
 {
     let mut names = Names::new(alloc);
     let mut count = NO_COUNT;
-    for reading in readings {
-        names.declare_line(text, &count, reading)?;
-        count = count_after(&count, reading);
+    for line in lines {
+        let reading = read_line(version, text, line);
+        names.declare_line(text, &count, &reading)?;
+        count = count_after(&count, &reading);
     }
     Ok(names)
 }

@@ -1,6 +1,6 @@
 //! What a line says: its label and its statement.
-ghost use Rattle.std.specs.Prelude.{◌≡◌, ◌≤◌, map, IfOk};
-ghost use Rattle.rv_assembler.specs.Reading.{code_for, extent_for, directive_for, statement_for, statement_in, said, labelled, read_tokens, fault_at, reading_of, is_version, is_blank, version_line, readings_of};
+ghost use Rattle.std.specs.Prelude.{◌≡◌, ◌≤◌};
+ghost use Rattle.rv_assembler.specs.Reading.{code_for, extent_for, directive_for, statement_for, statement_in, said, labelled, read_tokens, fault_at, reading_of, is_version, is_blank, version_line};
 
 use crate::fault::SourceFault;
 use crate::kind::{Directive, Form, Kind, Mnemonic};
@@ -8,10 +8,8 @@ use crate::number::wrapped;
 use crate::operand::{bytes, number_at, register_at, register_numbered, token_at};
 use crate::shape::{is_name, is_plain, kind, knows};
 use crate::statement::{Code, Effect, Extent, Family, Statement};
-use dn_base::{Memory, Sequence};
 use rv_isa::AluOp;
 use src_text::{Line, LineFault, Token, TokenKind};
-use std::alloc::Global;
 
 /// What a line of good form says, and its number.
 #[derive(Clone, Copy)]
@@ -173,7 +171,7 @@ fn fault_at(line: u32, fault: LineFault) -> SourceFault
 }
 
 /// What a line says, where the version line has the number `version`, or the number is 0 and the version 1.
-fn read_line(version: u32, text: &[u8], line: &Line) -> Reading
+pub(crate) fn read_line(version: u32, text: &[u8], line: &Line) -> Reading
     ensures { result ≡ reading_of version text.now line.now }
 {
     if line.number == version {
@@ -212,16 +210,4 @@ pub(crate) fn version_line(text: &[u8], lines: &[Line]) -> u32
         }
     }
     0
-}
-
-/// What each line says, in order.
-pub(crate) fn readings(alloc: Global, text: &[u8], lines: &[Line]) -> Result<Sequence<Reading>, Memory>
-    ensures { IfOk result (λ readings. readings ≡ readings_of text.now lines.now) }
-{
-    let version = version_line(text, lines);
-    let mut readings = Sequence::new(alloc);
-    for line in lines {
-        readings.push(read_line(version, text, line))?;
-    }
-    Ok(readings)
 }
