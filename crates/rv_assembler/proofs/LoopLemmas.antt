@@ -1,0 +1,30 @@
+-- One turn of a loop that goes so many times.
+use Rattle.std.proofs.Common.{◌≡◌, ℕ, zero, suc, ◌+◌, ◌-◌, ◌<◌, ◌%◌, ◌^◌, Bool, true, false, ◌&&◌, ℤ, ◌+ℤ◌, List, [], ◌∷◌, ◌++◌, map, refl, sym, ◌∙◌, append_assoc, arith}
+use Rattle.std.specs.List.{range_with_len}
+use Rattle.rv_assembler.specs.declared.draft.Start.{Start}
+use Rattle.rv_assembler.specs.declared.draft.Claim.{Claim}
+use Rattle.rv_assembler.specs.Number.{more, is_interval}
+use Rattle.rv_assembler.specs.Draft.{next_task, members, next_claim, claimed}
+use Rattle.rv_assembler.specs.Fault.{has_task, taken, stepped_fits}
+
+pub taken_step : (tasks : List Start) (p core n k : ℕ) (b : Bool) → n ≡ suc k → has_task p core tasks ≡ false → taken tasks p core n ≡ b → taken tasks p (more core 1) k ≡ b
+taken_step tasks p core n k b e f t = let s : taken tasks p core (suc k) ≡ b = rw e at t in rw f at s
+
+pub stepped_more : (len step lo hi : ℤ) (n : ℕ) → 0 < n → stepped_fits len step lo hi n ≡ (is_interval lo hi len && stepped_fits len step (lo +ℤ step) (hi +ℤ step) (n - 1))
+stepped_more len step lo hi zero l = absurd (omega arith)
+stepped_more len step lo hi (suc n) l = let e : suc n - 1 ≡ n = omega arith in rw e refl
+
+pub members_step : (done : List Start) (t : Start) (step n k : ℕ) (all : List Start) → n ≡ suc k → done ++ members t step n ≡ all → (done ++ t ∷ []) ++ members (next_task t step) step k ≡ all
+members_step done t step n k all e h =
+    let s : done ++ members t step (suc k) ≡ all = rw e at h in append_assoc done (t ∷ []) (members (next_task t step) step k) ∙ s
+
+pub claimed_step : (done : List Claim) (c : Claim) (step n k : ℕ) (all : List Claim) → n ≡ suc k → done ++ claimed c step n ≡ all → (done ++ c ∷ []) ++ claimed (next_claim c step) step k ≡ all
+claimed_step done c step n k all e h =
+    let s : done ++ claimed c step (suc k) ≡ all = rw e at h in append_assoc done (c ∷ []) (claimed (next_claim c step) step k) ∙ s
+
+pub stepped_join : (len step lo hi : ℤ) (n : ℕ) (inside rest : Bool) → 0 < n → inside ≡ is_interval lo hi len → inside ≡ true → rest ≡ stepped_fits len step (lo +ℤ step) (hi +ℤ step) (n - 1) → rest ≡ stepped_fits len step lo hi n
+stepped_join len step lo hi n inside rest l e i r = let s : is_interval lo hi len ≡ true = sym e ∙ i in r ∙ sym (stepped_more len step lo hi n l ∙ rw s refl)
+
+pub map_step : {X : Type 0} (f : ℕ → X) (done : List X) (a n k : ℕ) (all : List X) → n ≡ suc k → done ++ map f (range_with_len a n) ≡ all → (done ++ f a ∷ []) ++ map f (range_with_len (a + 1) k) ≡ all
+map_step f done a n k all e h =
+    let s : done ++ map f (range_with_len a (suc k)) ≡ all = rw e at h in append_assoc done (f a ∷ []) (map f (range_with_len (a + 1) k)) ∙ s

@@ -1,0 +1,44 @@
+-- A table of names in which a name keeps its first meaning.
+use Rattle.std.proofs.Common.{◌≡◌, ℕ, Bool, true, false, cond, List, Option, Some, None, refl, sym, ◌∙◌, ap, bytes_eq, ⊎_elim, is_some}
+use Rattle.std.proofs.lemmas.Bool.{cases_Bool}
+use Rattle.std.proofs.lemmas.Slice.Eq.{bytes_eq-Decides}
+use Rattle.rv_assembler.specs.declared.names.Meaning.{Meaning}
+use Rattle.rv_assembler.specs.Meaning.{first_of}
+
+first-none : (o : Option Meaning) → o ≡ first_of o None
+first-none None = refl
+first-none (Some m) = refl
+
+first-some : (o : Option Meaning) (p : Option Meaning) → is_some o ≡ true → o ≡ first_of o p
+first-some None p e = absurd cc
+first-some (Some m) p e = refl
+
+-- a name that has a meaning keeps it
+pub present : (f : List ℕ → Option Meaning) (name q : List ℕ) (m : Meaning) → is_some (f name) ≡ true → f q ≡ first_of (f q) (cond (bytes_eq name q) (Some m) None)
+present f name q m h =
+    ⊎_elim
+    (λ (e : bytes_eq name q ≡ true).
+    let s : name ≡ q = (bytes_eq-Decides name q).0 e in
+    first-some (f q) (cond (bytes_eq name q) (Some m) None) (rw s at h))
+    (λ (e : bytes_eq name q ≡ false). rw e (first-none (f q)))
+    (cases_Bool (bytes_eq name q))
+
+-- a name that has none gets one
+pub absent : (f : List ℕ → Option Meaning) (name q : List ℕ) (m : Meaning) → f name ≡ None → cond (bytes_eq name q) (Some m) (f q) ≡ first_of (f q) (cond (bytes_eq name q) (Some m) None)
+absent f name q m h =
+    ⊎_elim
+    (λ (e : bytes_eq name q ≡ true).
+    let s : name ≡ q = (bytes_eq-Decides name q).0 e in
+    let n : f q ≡ None = rw s at h in
+    rw (e, n) refl)
+    (λ (e : bytes_eq name q ≡ false). rw e (first-none (f q)))
+    (cases_Bool (bytes_eq name q))
+
+-- first of three
+pub first-group : (a b c : Option Meaning) → first_of (first_of a b) c ≡ first_of a (first_of b c)
+first-group None b c = refl
+first-group (Some m) b c = refl
+
+pub none-of : (o : Option Meaning) → is_some o ≡ false → o ≡ None
+none-of None e = refl
+none-of (Some m) e = absurd cc

@@ -1,0 +1,157 @@
+-- The faults of a line of good form, each as a test.
+use Rattle.std.specs.Prelude.{ℕ, zero, suc, ◌+◌, ◌%◌, ℤ, pos, ◌+ℤ◌, int_le, int_lt, Bool, true, false, not, ◌&&◌, ◌||◌, nat_lt, nat_le, ◌==◌, List, [], ◌∷◌, length, Option, Some, None, is_none, if◌then◌else◌}
+use Rattle.std.specs.List.{list_any}
+use Rattle.src_text.specs.declared.token.Token.{Token}
+use Rattle.src_text.specs.declared.token.TokenKind as token
+use Rattle.src_text.specs.declared.token.TokenKind.{TokenKind}
+use Rattle.rv_assembler.specs.declared.fault.SourceFault.{SourceFault}
+use Rattle.rv_assembler.specs.declared.fault.SourceFault as fault
+use Rattle.rv_assembler.specs.declared.statement.Statement.{Statement}
+use Rattle.rv_assembler.specs.declared.statement.Statement as statement
+use Rattle.rv_assembler.specs.declared.statement.Family.{Family}
+use Rattle.rv_assembler.specs.declared.statement.Effect.{Effect}
+use Rattle.rv_assembler.specs.declared.statement.Extent.{Extent}
+use Rattle.rv_assembler.specs.declared.statement.Extent as extent
+use Rattle.rv_assembler.specs.declared.reading.Saying.{Saying}
+use Rattle.rv_assembler.specs.declared.names.Meaning.{Meaning}
+use Rattle.rv_assembler.specs.declared.names.Meaning as meaning
+use Rattle.rv_assembler.specs.declared.names.Count.{Count}
+use Rattle.rv_assembler.specs.declared.emission.Emission.{Emission}
+use Rattle.rv_assembler.specs.declared.emission.Emission.TheVariants.{One, Two, OutOfRange, Unknown}
+use Rattle.rv_assembler.specs.declared.draft.Start.{Start}
+use Rattle.rv_assembler.specs.declared.draft.Draft.{Draft}
+use Rattle.rv_assembler.specs.declared.draft.Place.{Place}
+use Rattle.rv_assembler.specs.Number.{wrapped, more, is_length, is_interval}
+use Rattle.rv_assembler.specs.Operand.{bytes_of}
+use Rattle.rv_assembler.specs.Emission.{emission, label_place}
+use Rattle.rv_assembler.specs.Draft.{region_place, lock_number, after}
+
+abbrev pub is_far : Emission → Bool
+is_far OutOfRange = true
+is_far _ = false
+
+abbrev pub is_lost : Emission → Bool
+is_lost Unknown = true
+is_lost _ = false
+
+-- whether the interval and those a step further, as many as there are tasks, are all intervals of the region
+abbrev pub stepped_fits : ℤ → ℤ → ℤ → ℤ → ℕ → Bool
+stepped_fits len step lo hi zero = true
+stepped_fits len step lo hi (suc n) = is_interval lo hi len && stepped_fits len step (lo +ℤ step) (hi +ℤ step) n
+
+-- where the region isn't declared its words aren't tested
+abbrev pub extent_far : Option Place → Extent → ℕ → Bool
+extent_far None e n = false
+extent_far (Some p) extent.TheVariants.Whole n = false
+extent_far (Some p) (extent.TheVariants.Part lo hi) n = not (is_interval lo hi p.len)
+extent_far (Some p) (extent.TheVariants.Stepped lo hi step) n = not (stepped_fits p.len step lo hi n)
+
+abbrev pub word_far : Option Place → ℤ → Bool
+word_far None i = false
+word_far (Some p) i = not (int_le (pos 0) i && int_lt i p.len)
+
+-- an address of an entry is a multiple of 4
+abbrev pub entry_far : TokenKind → Bool
+entry_far (token.TheVariants.Number n) = not (int_le (pos 0) n && wrapped n % 4 == 0)
+entry_far _ = false
+
+-- the cores of a family are some of 0 to 15
+abbrev pub are_cores : Family → Bool
+are_cores f =
+    int_le (pos 0) f.core && int_le f.core (pos 15) && int_le (pos 1) f.count && int_le f.count (pos 16)
+    && nat_le (wrapped f.core + wrapped f.count) 16
+
+abbrev pub family_far : Family → Bool
+family_far f = not (are_cores f) || entry_far f.entry.kind
+
+-- OutOfRange: a number is outside its range, or a label too far
+abbrev pub out_of_range : List ℕ → (List ℕ → Option Meaning) → Draft → Statement → Bool
+out_of_range text names d (statement.TheVariants.Instruction k) = is_far (emission text names d.count.code k)
+out_of_range text names d (statement.TheVariants.Region name len) = not (is_length len)
+out_of_range text names d (statement.TheVariants.Word region index value) = word_far (region_place (names (bytes_of text region))) index
+out_of_range text names d (statement.TheVariants.Tasks f) = family_far f
+out_of_range text names d (statement.TheVariants.Uses e) = extent_far (region_place (names (bytes_of text e.region))) e.extent d.family.count
+out_of_range text names d _ = false
+
+-- a name means what the first line that declares it says; a later line finds that it means something else
+abbrev pub label_doubled : Option Meaning → ℕ → Bool
+label_doubled (Some (meaning.TheVariants.Label first place)) line = not (first == line)
+label_doubled _ line = true
+
+abbrev pub region_doubled : Option Meaning → ℕ → Bool
+region_doubled (Some (meaning.TheVariants.Region first start len)) number = not (first == number)
+region_doubled _ number = true
+
+abbrev pub lock_doubled : Option Meaning → ℕ → Bool
+lock_doubled (Some (meaning.TheVariants.Lock first)) number = not (first == number)
+lock_doubled _ number = true
+
+abbrev pub name_doubled : List ℕ → (List ℕ → Option Meaning) → Count → Statement → Bool
+name_doubled text names c (statement.TheVariants.Region name len) = region_doubled (names (bytes_of text name)) c.regions
+name_doubled text names c (statement.TheVariants.Lock name) = lock_doubled (names (bytes_of text name)) c.locks
+name_doubled text names c _ = false
+
+abbrev pub label_of_doubled : List ℕ → (List ℕ → Option Meaning) → ℕ → Option Token → Bool
+label_of_doubled text names line None = false
+label_of_doubled text names line (Some t) = label_doubled (names (bytes_of text t)) line
+
+-- DoubleName: the line declares a name that an earlier line declares, or one name twice
+abbrev pub doubled : List ℕ → (List ℕ → Option Meaning) → Count → Saying → Bool
+doubled text names c s = label_of_doubled text names s.line s.label || name_doubled text names c s.statement
+
+abbrev pub entry_kind_lost : TokenKind → Option Meaning → Bool
+entry_kind_lost (token.TheVariants.Number n) m = false
+entry_kind_lost _ m = is_none (label_place m)
+
+abbrev pub entry_lost : List ℕ → (List ℕ → Option Meaning) → Token → Bool
+entry_lost text names t = entry_kind_lost t.kind (names (bytes_of text t))
+
+abbrev pub lock_lost : List ℕ → (List ℕ → Option Meaning) → Option Token → Bool
+lock_lost text names None = false
+lock_lost text names (Some t) = is_none (lock_number (names (bytes_of text t)))
+
+abbrev pub effect_lost : List ℕ → (List ℕ → Option Meaning) → Effect → Bool
+effect_lost text names e = is_none (region_place (names (bytes_of text e.region))) || lock_lost text names e.lock
+
+-- UnknownName: a name isn't declared as what is wanted
+abbrev pub unknown : List ℕ → (List ℕ → Option Meaning) → ℕ → Statement → Bool
+unknown text names here (statement.TheVariants.Instruction k) = is_lost (emission text names here k)
+unknown text names here (statement.TheVariants.Word region index value) = is_none (region_place (names (bytes_of text region)))
+unknown text names here (statement.TheVariants.Tasks f) = entry_lost text names f.entry
+unknown text names here (statement.TheVariants.Uses e) = effect_lost text names e
+unknown text names here _ = false
+
+abbrev pub is_task : ℕ → ℕ → Start → Bool
+is_task phase core t = t.phase == phase && t.core == core
+
+abbrev pub has_task : ℕ → ℕ → List Start → Bool
+has_task phase core tasks = list_any (is_task phase core) tasks
+
+-- whether one of the cores from the first on has a task in the phase
+abbrev pub taken : List Start → ℕ → ℕ → ℕ → Bool
+taken tasks phase core zero = false
+taken tasks phase core (suc n) = has_task phase core tasks || taken tasks phase (more core 1) n
+
+-- Misplaced: tasks before any phase or on a core that has one in this phase, or an effect without a current task
+abbrev pub misplaced : Draft → Statement → Bool
+misplaced d (statement.TheVariants.Tasks f) = d.phases == 0 || taken d.tasks d.phases (wrapped f.core) (wrapped f.count)
+misplaced d (statement.TheVariants.Uses e) = d.family.count == 0
+misplaced d _ = false
+
+abbrev pub most_regions : Bool → ℕ
+most_regions version_2 = if version_2 then 4096 else 256
+
+-- Limit: more than a program may have
+abbrev pub over_limit : Bool → Draft → Bool
+over_limit version_2 d =
+    nat_lt 16384 (length d.code) || (nat_lt 65536 d.count.words || (nat_lt (most_regions version_2) (length d.regions)
+    || (nat_lt 32 (length d.locks) || (nat_lt 64 d.phases || nat_lt 64 (length d.tasks)))))
+
+-- the first fault of a line, but for the limits
+abbrev pub early_fault : List ℕ → (List ℕ → Option Meaning) → Draft → Saying → Option SourceFault
+early_fault text names d s =
+    if out_of_range text names d s.statement then Some (fault.TheVariants.OutOfRange s.line)
+    else (if doubled text names d.count s then Some (fault.TheVariants.DoubleName s.line)
+    else (if unknown text names d.count.code s.statement then Some (fault.TheVariants.UnknownName s.line)
+    else (if misplaced d s.statement then Some (fault.TheVariants.Misplaced s.line)
+    else None)))

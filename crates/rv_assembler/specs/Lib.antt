@@ -1,0 +1,14 @@
+pub mod Number
+pub mod Operand
+pub mod Shape
+pub mod ShapeRow
+pub mod Reading
+pub mod Meaning
+pub mod Emission
+pub mod Draft
+pub mod Fault
+pub mod Union
+pub mod Program
+pub mod Source
+pub mod Lookup
+pub mod Whole

@@ -1,0 +1,48 @@
+-- Numbers of statements: their ranges, and what stands for them in 32 bits.
+use Rattle.std.specs.Prelude.{ℕ, ◌+◌, ◌-◌, ◌%◌, ◌^◌, min, ℤ, pos, neg_ℤ, int_le, int_lt, Bool, true, false, ◌&&◌, ◌==◌, if◌then◌else◌}
+use Rattle.std.specs.Int.{w64, cast_unsigned}
+use Rattle.rv_isa.specs.Word.{bits, pattern}
+use Rattle.rv_isa.specs.Table.{is_shift, has_immediate}
+use Rattle.rv_isa.specs.declared.instr.AluOp.{AluOp}
+
+-- a number modulo 2^32
+abbrev pub wrapped : ℤ → ℕ
+wrapped z = cast_unsigned w64 z % 2 ^ 32
+
+-- a count after some more; counts stand still at the greatest number of 32 bits, far above every limit
+abbrev pub more : ℕ → ℕ → ℕ
+more count by = min (count + by) (2 ^ 32 - 1)
+
+abbrev pub is_within : ℤ → ℤ → ℤ → Bool
+is_within low below z = int_le low z && int_lt z below
+
+abbrev pub is_even : ℤ → Bool
+is_even z = bits (pattern z) 0 1 == 0
+
+-- the number of LUI and AUIPC, for bits 31 to 12
+abbrev pub is_upper : ℤ → Bool
+is_upper z = is_within (pos 0) (pos 0x100000) z
+
+-- the immediates of the I and S formats
+abbrev pub is_immediate : ℤ → Bool
+is_immediate z = is_within (neg_ℤ (pos 2048)) (pos 2048) z
+
+-- the offset of JAL
+abbrev pub is_jump : ℤ → Bool
+is_jump z = is_within (neg_ℤ (pos 0x100000)) (pos 0x100000) z && is_even z
+
+-- the offset of a branch
+abbrev pub is_branch : ℤ → Bool
+is_branch z = is_within (neg_ℤ (pos 4096)) (pos 4096) z && is_even z
+
+-- the immediate of an operation: a shift has an amount from 0 to 31
+abbrev pub is_operand : AluOp → ℤ → Bool
+is_operand op z = has_immediate op && (if is_shift op then is_within (pos 0) (pos 32) z else is_immediate z)
+
+-- how many words a region may have
+abbrev pub is_length : ℤ → Bool
+is_length z = int_le (pos 1) z && int_le z (pos 65536)
+
+-- the words from `lo` to before `hi` are some words of a region of `len` words
+abbrev pub is_interval : ℤ → ℤ → ℤ → Bool
+is_interval lo hi len = int_le (pos 0) lo && int_lt lo hi && int_le hi len

@@ -1,0 +1,12 @@
+-- What holds once no line has a fault.
+use Rattle.std.specs.Prelude.{ℕ, ◌≤◌, length}
+use Rattle.region_table.specs.Program.{IsProgram}
+use Rattle.rv_assembler.specs.declared.draft.Draft.{Draft}
+use Rattle.rv_assembler.specs.Program.{program_of}
+
+-- the lines are within the limits, and add up to a well-formed program
+pub record IsWhole (d : Draft) : Type 0 where
+  pub words : d.count.words ≤ 65536
+  pub locks : length d.locks ≤ 32
+  pub phases : d.phases ≤ 64
+  pub program : IsProgram (program_of d)

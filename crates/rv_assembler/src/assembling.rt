@@ -1,0 +1,82 @@
+//! From a text to its program.
+ghost use Rattle.std.specs.Prelude.{◌≡◌, ◌≢◌, ◌↔◌, ◌<◌, ◌≤◌, ℕ, List, Option, length, Ok, Err, IfOk, IfErr};
+ghost use Rattle.region_table.specs.Program.{IsProgram};
+ghost use Rattle.rv_assembler.specs.Lookup.{looked};
+ghost use Rattle.rv_assembler.specs.declared.fault.SourceFault as fault;
+ghost use Rattle.rv_assembler.specs.declared.fault.SourceFault.TheVariants.{TooLarge, Memory as NoMemory};
+ghost use Rattle.rv_assembler.specs.Draft.{no_draft};
+ghost use Rattle.rv_assembler.specs.Whole.{IsWhole};
+ghost use Rattle.rv_assembler.specs.Source.{total_of, draft_of, source};
+
+use crate::draft::Draft;
+use crate::fault::SourceFault;
+use crate::finishing::finish;
+use crate::names::{Names, survey};
+use crate::reading::{Reading, read_line, version_line};
+use crate::testing::{early_fault, over_limit};
+use region_table::Program;
+use src_text::{Line, tokens};
+use std::alloc::Global;
+
+/// The greatest number of bytes of a text.
+const MOST_BYTES: usize = 1048576;
+
+/// What the lines add up to, or the first fault. The version line has the number `version`; 0 stands for version 1.
+fn add_up<'a>(alloc: Global, version: u32, text: &'a [u8], names: &Names<'a>, lines: &[Line]) -> Result<Draft, SourceFault>
+    ensures ok { IfOk result (λ draft. total_of version text.now (looked names.now) no_draft lines.now ≡ Ok draft) }
+    ensures err { IfErr result (λ f. f ≢ NoMemory → total_of version text.now (looked names.now) no_draft lines.now ≡ Err f) }
+    ensures whole { IfOk result IsWhole }
+{
+    let mut draft = Draft::new(alloc);
+    for line in lines {
+        match read_line(version, text, line) {
+            Reading::Bad(fault) => return Err(fault),
+            Reading::Good(saying) => {
+                if let Some(fault) = early_fault(text, names, &draft, &saying) {
+                    return Err(fault);
+                }
+                draft.add(alloc, text, names, &saying.statement)?;
+                if over_limit(0 < version, &draft) {
+                    return Err(SourceFault::Limit { line: saying.line });
+                }
+            }
+        }
+    }
+    Ok(draft)
+}
+
+/// What the lines of a text add up to, or the text's first fault.
+fn draft_in(alloc: Global, text: &[u8]) -> Result<Draft, SourceFault>
+    requires { length text.now ≤ 1048576 }
+    ensures ok { IfOk result (λ draft. draft_of text.now ≡ Ok draft) }
+    ensures err { IfErr result (λ f. f ≢ NoMemory → draft_of text.now ≡ Err f) }
+    ensures whole { IfOk result IsWhole }
+{
+    let tokenized = tokens(alloc, text)?;
+    let lines = tokenized.as_slice();
+    let version = version_line(text, lines);
+    let names = survey(alloc, version, text, lines)?;
+    add_up(alloc, version, text, &names, lines)
+}
+
+/// The program of a source text, or else the text's first fault.
+///
+/// The text is read line by line. Each line may declare a label and give one statement: an instruction of RV32I or a
+/// pseudo-instruction, or a directive that declares a region of data words, a first value, a lock, a phase, tasks of
+/// the phase, or which words the current tasks use. A name may be used before the line that declares it. A text whose
+/// first line that isn't blank is `.version 2` may declare families of tasks, and 4,096 regions in place of 256.
+///
+/// # Errors
+/// `TooLarge` exactly where the text has more than 1,048,576 bytes. Else the first faulty line decides, and on it the
+/// first fault in the order of `SourceFault`. `Memory` where there is no room.
+pub fn assemble(alloc: Global, text: &[u8]) -> Result<Program, SourceFault>
+    ensures ok { IfOk result (λ program. source text.now ≡ Ok program) }
+    ensures err { IfErr result (λ f. f ≢ NoMemory → source text.now ≡ Err f) }
+    ensures large { 1048576 < length text.now → result ≡ Err TooLarge }
+{
+    if MOST_BYTES < text.len() {
+        return Err(SourceFault::TooLarge);
+    }
+    let draft = draft_in(alloc, text)?;
+    Ok(finish(alloc, draft)?)
+}

@@ -1,0 +1,346 @@
+//! What the lines of a text add up to, before it is a program.
+ghost use Rattle.std.specs.Prelude.{◌≡◌, ℕ, ◌-◌, ◌++◌, ◌∷◌, [], Some, None, OnOk};
+ghost use Rattle.rv_assembler.specs.Lookup.{looked};
+ghost use Rattle.rv_assembler.specs.Emission.{words_in, emission};
+ghost use Rattle.rv_assembler.specs.Operand.{bytes_of};
+ghost use Rattle.rv_assembler.specs.Number.{wrapped, more};
+ghost use Rattle.rv_assembler.specs.Draft.{no_draft, region_place, lock_number, entry_of, members, usage_of, first_word, past_word, step_of, claimed, claims_for, values_for, with_tasks, extended, after};
+
+use crate::emission::{Emission, emit};
+use crate::names::{Count, Meaning, NO_COUNT, Names, counted, meaning_of};
+use crate::number::{more, wrapped};
+use crate::operand::bytes;
+use crate::statement::{Effect, Extent, Family, Statement};
+use dn_base::{Memory, Name, Sequence};
+use region_table::Region;
+use src_text::{Token, TokenKind};
+use std::alloc::Global;
+
+/// The first value of a data word.
+#[derive(Clone, Copy)]
+pub(crate) struct FirstValue {
+    pub word: u32,
+    pub value: u32,
+}
+
+/// A task of a phase, which are numbered from 1. Its entry is counted in code words from address 0.
+#[derive(Clone, Copy)]
+pub(crate) struct Start {
+    pub phase: u32,
+    pub core: u32,
+    pub entry: u32,
+    pub arg: u32,
+}
+
+/// How a task uses words.
+#[derive(Clone, Copy)]
+pub(crate) enum Usage {
+    Reads,
+    Writes,
+    /// While it holds the lock of this number.
+    GuardedReads(u32),
+    GuardedWrites(u32),
+}
+
+/// Words that the task of a phase and a core uses, from `lo` to before `hi`.
+#[derive(Clone, Copy)]
+pub(crate) struct Claim {
+    pub phase: u32,
+    pub core: u32,
+    pub usage: Usage,
+    pub lo: u32,
+    pub hi: u32,
+}
+
+/// The cores of the current tasks: `count` from `first` on.
+#[derive(Clone, Copy)]
+pub(crate) struct Cores {
+    pub first: u32,
+    pub count: u32,
+}
+
+const NO_CORES: Cores = Cores { first: 0, count: 0 };
+
+/// What the lines so far add up to.
+#[derive(Drop)]
+pub(crate) struct Draft {
+    pub code: Sequence<u32>,
+    pub regions: Sequence<Region>,
+    pub locks: Sequence<Name>,
+    pub values: Sequence<FirstValue>,
+    pub tasks: Sequence<Start>,
+    pub claims: Sequence<Claim>,
+    pub phases: u32,
+    pub family: Cores,
+    pub count: Count,
+}
+
+/// The region that a name means: its first word and its length.
+#[derive(Clone, Copy)]
+pub(crate) struct Place {
+    pub start: u32,
+    pub len: i64,
+}
+
+pub(crate) fn region_place(meaning: Option<Meaning>) -> Option<Place>
+    ensures { result ≡ region_place meaning }
+{
+    match meaning {
+        Some(Meaning::Region { start, len, .. }) => Some(Place { start, len }),
+        _ => None,
+    }
+}
+
+/// The number of the lock that a name means.
+pub(crate) fn lock_number(meaning: Option<Meaning>) -> Option<u32>
+    ensures { result ≡ lock_number meaning }
+{
+    match meaning {
+        Some(Meaning::Lock { number }) => Some(number),
+        _ => None,
+    }
+}
+
+/// The region of a name.
+pub(crate) fn region_named<'a>(text: &'a [u8], names: &Names<'a>, name: Token) -> Option<Place>
+    ensures { result ≡ region_place (looked names.now (bytes_of text.now name)) }
+{
+    region_place(meaning_of(text, names, name))
+}
+
+/// The number of the lock of a name.
+pub(crate) fn lock_named<'a>(text: &'a [u8], names: &Names<'a>, name: Token) -> Option<u32>
+    ensures { result ≡ lock_number (looked names.now (bytes_of text.now name)) }
+{
+    lock_number(meaning_of(text, names, name))
+}
+
+/// The entry of a task, counted in code words from address 0.
+fn entry<'a>(text: &'a [u8], names: &Names<'a>, target: Token) -> u32
+    ensures { result ≡ entry_of text.now (looked names.now) target }
+{
+    if let TokenKind::Number(number) = target.kind {
+        return wrapped(number) / 4;
+    }
+    match meaning_of(text, names, target) {
+        Some(Meaning::Label { place, .. }) => more(place, 0x400),
+        _ => 0,
+    }
+}
+
+/// How a task uses the words of an effect; None where the lock isn't declared.
+fn usage_in<'a>(text: &'a [u8], names: &Names<'a>, effect: Effect) -> Option<Usage>
+    ensures { result ≡ usage_of text.now (looked names.now) effect }
+{
+    match effect.lock {
+        None => Some(if effect.writes { Usage::Writes } else { Usage::Reads }),
+        Some(lock) => match lock_named(text, names, lock) {
+            Some(number) => Some(if effect.writes { Usage::GuardedWrites(number) } else { Usage::GuardedReads(number) }),
+            None => None,
+        },
+    }
+}
+
+/// The first word of an effect, modulo 2^32.
+fn first_word(place: Place, extent: Extent) -> u32
+    ensures { result ≡ first_word place extent }
+{
+    match extent {
+        Extent::Whole => place.start,
+        Extent::Part { lo, hi: _ } => place.start.wrapping_add(wrapped(lo)),
+        Extent::Stepped { lo, hi: _, step: _ } => place.start.wrapping_add(wrapped(lo)),
+    }
+}
+
+/// The word behind the last of an effect, modulo 2^32.
+fn past_word(place: Place, extent: Extent) -> u32
+    ensures { result ≡ past_word place extent }
+{
+    match extent {
+        Extent::Whole => place.start.wrapping_add(wrapped(place.len)),
+        Extent::Part { lo: _, hi } => place.start.wrapping_add(wrapped(hi)),
+        Extent::Stepped { lo: _, hi, step: _ } => place.start.wrapping_add(wrapped(hi)),
+    }
+}
+
+/// How many words further the next task has them, modulo 2^32.
+fn step(extent: Extent) -> u32
+    ensures { result ≡ step_of extent }
+{
+    match extent {
+        Extent::Stepped { step, .. } => wrapped(step),
+        _ => 0,
+    }
+}
+
+/// Adds the claims of `count` tasks from the core of the first one on, each `step` words further than the one before.
+fn push_claims(claims: &mut Sequence<Claim>, first: Claim, step: u32, count: u32) -> Result<(), Memory>
+    ensures { OnOk result (claims.new ≡ claims.old ++ claimed first step count) }
+{
+    let mut claim = first;
+    for _done in 0..count {
+        claims.push(claim)?;
+        claim = Claim {
+            phase: claim.phase,
+            core: more(claim.core, 1),
+            usage: claim.usage,
+            lo: claim.lo.wrapping_add(step),
+            hi: claim.hi.wrapping_add(step),
+        };
+    }
+    Ok(())
+}
+
+/// Adds `count` tasks from the first one on, each on the next core and with an argument that is `step` more.
+fn push_members(tasks: &mut Sequence<Start>, first: Start, step: u32, count: u32) -> Result<(), Memory>
+    ensures { OnOk result (tasks.new ≡ tasks.old ++ members first step count) }
+{
+    let mut task = first;
+    for _done in 0..count {
+        tasks.push(task)?;
+        task = Start {
+            phase: task.phase,
+            core: more(task.core, 1),
+            entry: task.entry,
+            arg: task.arg.wrapping_add(step),
+        };
+    }
+    Ok(())
+}
+
+impl Draft {
+    pub fn new(alloc: Global) -> Draft
+        ensures { result ≡ no_draft }
+    {
+        Draft {
+            code: Sequence::new(alloc),
+            regions: Sequence::new(alloc),
+            locks: Sequence::new(alloc),
+            values: Sequence::new(alloc),
+            tasks: Sequence::new(alloc),
+            claims: Sequence::new(alloc),
+            phases: 0,
+            family: NO_CORES,
+            count: NO_COUNT,
+        }
+    }
+
+    fn push_code(&mut self, emission: Emission) -> Result<(), Memory>
+        ensures { OnOk result (self.new ≡ record self.old { code = self.old.code ++ words_in emission }) }
+    {
+        match emission {
+            Emission::One(word) => self.code.push(word),
+            Emission::Two(first, second) => {
+                self.code.push(first)?;
+                self.code.push(second)
+            }
+            _ => Ok(()),
+        }
+    }
+
+    fn push_region(&mut self, alloc: Global, name: &[u8], len: i64) -> Result<(), Memory>
+        ensures { OnOk result (self.new ≡ record self.old { regions = self.old.regions ++ record { name = name.now; start = self.old.count.words; len = wrapped len } ∷ [] }) }
+    {
+        let region = Region {
+            name: Name::new(alloc, name)?,
+            start: self.count.words,
+            len: wrapped(len),
+        };
+        self.regions.push(region)
+    }
+
+    fn push_lock(&mut self, alloc: Global, name: &[u8]) -> Result<(), Memory>
+        ensures { OnOk result (self.new ≡ record self.old { locks = self.old.locks ++ name.now ∷ [] }) }
+    {
+        let name = Name::new(alloc, name)?;
+        self.locks.push(name)
+    }
+
+    fn push_value(&mut self, place: Option<Place>, index: i64, value: u32) -> Result<(), Memory>
+        ensures { OnOk result (self.new ≡ record self.old { values = self.old.values ++ values_for place index value }) }
+    {
+        match place {
+            None => Ok(()),
+            Some(place) => self.values.push(FirstValue {
+                word: place.start.wrapping_add(wrapped(index)),
+                value,
+            }),
+        }
+    }
+
+    fn push_tasks(&mut self, entry: u32, family: Family) -> Result<(), Memory>
+        ensures { OnOk result (self.new ≡ with_tasks self.old entry family) }
+    {
+        let first = Start {
+            phase: self.phases,
+            core: wrapped(family.core),
+            entry,
+            arg: family.arg,
+        };
+        let count = wrapped(family.count);
+        push_members(&mut self.tasks, first, family.step, count)?;
+        self.family = Cores {
+            first: wrapped(family.core),
+            count,
+        };
+        Ok(())
+    }
+
+    fn push_effect(&mut self, place: Option<Place>, usage: Option<Usage>, extent: Extent) -> Result<(), Memory>
+        ensures { OnOk result (self.new ≡ record self.old { claims = self.old.claims ++ claims_for self.old.phases self.old.family place usage extent }) }
+    {
+        let (Some(place), Some(usage)) = (place, usage) else {
+            return Ok(());
+        };
+        let first = Claim {
+            phase: self.phases,
+            core: self.family.first,
+            usage,
+            lo: first_word(place, extent),
+            hi: past_word(place, extent),
+        };
+        push_claims(&mut self.claims, first, step(extent), self.family.count)
+    }
+
+    fn push_phase(&mut self)
+        ensures { self.new ≡ record self.old { phases = more self.old.phases 1; family = record { first = 0; count = 0 } } }
+    {
+        self.phases = more(self.phases, 1);
+        self.family = NO_CORES;
+    }
+
+    /// Adds a statement, but for the count.
+    fn extend<'a>(&mut self, alloc: Global, text: &'a [u8], names: &Names<'a>, statement: &Statement) -> Result<(), Memory>
+        ensures { OnOk result (self.new ≡ extended text.now (looked names.now) self.old statement.now) }
+    {
+        match *statement {
+            Statement::Nothing => Ok(()),
+            Statement::Instruction(code) => self.push_code(emit(text, names, self.count.code, code)),
+            Statement::Region { name, len } => self.push_region(alloc, bytes(text, name), len),
+            Statement::Word { region, index, value } => {
+                self.push_value(region_named(text, names, region), index, value)
+            }
+            Statement::Lock { name } => self.push_lock(alloc, bytes(text, name)),
+            Statement::Phase => {
+                self.push_phase();
+                Ok(())
+            }
+            Statement::Tasks(family) => self.push_tasks(entry(text, names, family.entry), family),
+            Statement::Uses(effect) => self.push_effect(
+                region_named(text, names, effect.region),
+                usage_in(text, names, effect),
+                effect.extent,
+            ),
+        }
+    }
+
+    /// Adds a statement.
+    pub fn add<'a>(&mut self, alloc: Global, text: &'a [u8], names: &Names<'a>, statement: &Statement) -> Result<(), Memory>
+        ensures { OnOk result (self.new ≡ after text.now (looked names.now) self.old statement.now) }
+    {
+        let count = counted(&self.count, statement);
+        self.extend(alloc, text, names, statement)?;
+        self.count = count;
+        Ok(())
+    }
+}

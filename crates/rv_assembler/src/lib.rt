@@ -1,0 +1,23 @@
+//! The assembler: from a source text to the program that the source language gives it, or to the text's first fault.
+#![tactic(auto)]
+
+mod assembling;
+mod draft;
+mod emission;
+mod fault;
+mod finishing;
+mod kind;
+mod names;
+mod number;
+mod operand;
+mod reading;
+mod shape;
+mod statement;
+mod testing;
+mod uniting;
+
+pub use assembling::assemble;
+pub use fault::SourceFault;
+
+#[cfg(test)]
+mod tests;

@@ -1,0 +1,177 @@
+//! The names of a text: labels, regions and locks, and what each means.
+ghost use Rattle.std.specs.Prelude.{◌≡◌, ℕ, List, Option, Some, None, bytes_eq, if◌then◌else◌, OnOk, IfOk, map};
+ghost use Rattle.rv_assembler.specs.Lookup.{looked};
+ghost use Rattle.rv_assembler.specs.Operand.{bytes_of};
+ghost use Rattle.rv_assembler.specs.Reading.{reading_of};
+ghost use Rattle.rv_assembler.specs.Meaning.{first_of, no_count, size_of, length_of, counted, count_after, label_means, name_means, declared_by, meaning_in};
+
+use crate::number::{is_length, more, wrapped};
+use crate::operand::bytes;
+use crate::reading::{Reading, Saying, read_line};
+use crate::statement::{Code, Statement};
+use dn_base::Memory;
+use src_text::{Line, Token};
+use std::alloc::Global;
+use std::collections::BTreeMap;
+
+/// What a name means, by the line that declares it.
+#[derive(Clone, Copy)]
+pub(crate) enum Meaning {
+    /// The label of a line, which stands before the code word of this number.
+    Label { line: u32, place: u32 },
+    /// The region of this number, with its first word and how many words it is declared to have.
+    Region { number: u32, start: u32, len: i64 },
+    /// The lock of this number.
+    Lock { number: u32 },
+}
+
+/// How much the lines so far declare: code words, data words, regions and locks.
+#[derive(Clone, Copy)]
+pub(crate) struct Count {
+    pub code: u32,
+    pub words: u32,
+    pub regions: u32,
+    pub locks: u32,
+}
+
+/// Nothing is declared yet.
+pub(crate) const NO_COUNT: Count = Count {
+    code: 0,
+    words: 0,
+    regions: 0,
+    locks: 0,
+};
+
+/// How many code words a statement gives.
+fn size(code: Code) -> u32
+    ensures { result ≡ size_of code }
+{
+    match code {
+        Code::LoadNumber { .. } | Code::LoadAddress { .. } => 2,
+        _ => 1,
+    }
+}
+
+/// How many data words a region has; none where its length is out of range.
+fn length(len: i64) -> u32
+    ensures { result ≡ length_of len }
+{
+    if is_length(len) { wrapped(len) } else { 0 }
+}
+
+/// The count behind a statement.
+pub(crate) fn counted(count: &Count, statement: &Statement) -> Count
+    ensures { result ≡ counted count.now statement.now }
+{
+    match *statement {
+        Statement::Instruction(code) => Count { code: more(count.code, size(code)), words: count.words, regions: count.regions, locks: count.locks },
+        Statement::Region { len, .. } => Count { code: count.code, words: more(count.words, length(len)), regions: more(count.regions, 1), locks: count.locks },
+        Statement::Lock { .. } => Count { code: count.code, words: count.words, regions: count.regions, locks: more(count.locks, 1) },
+        _ => *count,
+    }
+}
+
+/// The count behind a line.
+fn count_after(count: &Count, reading: &Reading) -> Count
+    ensures { result ≡ count_after count.now reading.now }
+{
+    match reading {
+        Reading::Bad(_) => *count,
+        Reading::Good(saying) => counted(count, &saying.statement),
+    }
+}
+
+/// The names of a text. A look-up takes time by the logarithm of their number, whatever the names are: they are kept
+/// in a tree, so that no choice of names makes it slow. The keys are parts of the text.
+#[derive(Drop)]
+pub(crate) struct Names<'a> {
+    index: BTreeMap<&'a [u8], Meaning>,
+}
+
+impl<'a> Names<'a> {
+    fn new(alloc: Global) -> Names<'a>
+        ensures { (q : List ℕ) → looked result q ≡ None }
+    {
+        Names {
+            index: BTreeMap::new(alloc),
+        }
+    }
+
+    /// What a name means, if it is declared.
+    pub fn meaning(&self, name: &'a [u8]) -> Option<Meaning>
+        ensures { result ≡ looked self.now name.now }
+    {
+        self.index.get(&name).copied()
+    }
+
+    /// Gives a name a meaning, unless it has one.
+    fn declare(&mut self, name: &'a [u8], meaning: Meaning) -> Result<(), Memory>
+        ensures { OnOk result ((q : List ℕ) → looked self.new q ≡ first_of (looked self.old q) (if bytes_eq name.now q then Some meaning else None)) }
+    {
+        if self.index.contains_key(&name) {
+            return Ok(());
+        }
+        self.index.insert(name, meaning)?;
+        Ok(())
+    }
+
+    /// Declares the label of a line.
+    fn declare_label(&mut self, text: &'a [u8], count: &Count, saying: &Saying) -> Result<(), Memory>
+        ensures { OnOk result ((q : List ℕ) → looked self.new q ≡ first_of (looked self.old q) (label_means text.now count.now saying.now q)) }
+    {
+        match saying.label {
+            None => Ok(()),
+            Some(label) => self.declare(bytes(text, label), Meaning::Label { line: saying.line, place: count.code }),
+        }
+    }
+
+    /// Declares the name of a region or a lock.
+    fn declare_name(&mut self, text: &'a [u8], count: &Count, statement: &Statement) -> Result<(), Memory>
+        ensures { OnOk result ((q : List ℕ) → looked self.new q ≡ first_of (looked self.old q) (name_means text.now count.now statement.now q)) }
+    {
+        match *statement {
+            Statement::Region { name, len } => self.declare(bytes(text, name), Meaning::Region { number: count.regions, start: count.words, len }),
+            Statement::Lock { name } => self.declare(bytes(text, name), Meaning::Lock { number: count.locks }),
+            _ => Ok(()),
+        }
+    }
+
+    /// Declares the names of a line of good form.
+    fn declare_good(&mut self, text: &'a [u8], count: &Count, saying: &Saying) -> Result<(), Memory>
+        ensures { OnOk result ((q : List ℕ) → looked self.new q ≡ first_of (looked self.old q) (first_of (label_means text.now count.now saying.now q) (name_means text.now count.now saying.now.statement q))) }
+    {
+        self.declare_label(text, count, saying)?;
+        self.declare_name(text, count, &saying.statement)
+    }
+
+    /// Declares the names of a line.
+    fn declare_line(&mut self, text: &'a [u8], count: &Count, reading: &Reading) -> Result<(), Memory>
+        ensures { OnOk result ((q : List ℕ) → looked self.new q ≡ first_of (looked self.old q) (declared_by text.now count.now reading.now q)) }
+    {
+        match reading {
+            Reading::Bad(_) => Ok(()),
+            Reading::Good(saying) => self.declare_good(text, count, saying),
+        }
+    }
+}
+
+/// What the name of a token means, if it is declared.
+pub(crate) fn meaning_of<'a>(text: &'a [u8], names: &Names<'a>, token: Token) -> Option<Meaning>
+    ensures { result ≡ looked names.now (bytes_of text.now token) }
+{
+    names.meaning(bytes(text, token))
+}
+
+/// The names that the lines of good form declare.
+pub(crate) fn survey<'a>(alloc: Global, version: u32, text: &'a [u8], lines: &[Line]) -> Result<Names<'a>, Memory>
+    ensures { IfOk result (λ names. (q : List ℕ) → looked names q ≡ meaning_in text.now no_count (map (reading_of version text.now) lines.now) q) }
+{
+    let mut names = Names::new(alloc);
+    let mut count = NO_COUNT;
+    for line in lines {
+        let reading = read_line(version, text, line);
+        names.declare_line(text, &count, &reading)?;
+        count = count_after(&count, &reading);
+    }
+    Ok(names)
+}

@@ -1,0 +1,67 @@
+//! The operands of a statement, by the places of their tokens.
+ghost use Rattle.std.specs.Prelude.{◌≡◌, ◌<◌};
+ghost use Rattle.rv_assembler.specs.Operand.{bytes_of, token_at, number_at, register_at, register_number};
+
+use rv_isa::Reg;
+use src_text::{Token, TokenKind, register};
+
+/// What stands where no token is.
+const NO_TOKEN: Token = Token {
+    kind: TokenKind::Comma,
+    start: 0,
+    end: 0,
+};
+
+/// The bytes of a token; none where its place isn't one of the text.
+pub(crate) fn bytes(text: &[u8], token: Token) -> &[u8]
+    ensures { result.now ≡ bytes_of text.now token }
+{
+    let start = token.start as usize;
+    let end = token.end as usize;
+    if start <= end && end <= text.len() {
+        &text[start..end]
+    } else {
+        &text[..0]
+    }
+}
+
+pub(crate) fn token_at(tokens: &[Token], index: usize) -> Token
+    ensures { result ≡ token_at tokens.now index }
+{
+    tokens.get(index).copied().unwrap_or(NO_TOKEN)
+}
+
+/// The number at this place, and 0 where none is.
+pub(crate) fn number_at(tokens: &[Token], index: usize) -> i64
+    ensures { result ≡ number_at tokens.now index }
+{
+    match token_at(tokens, index).kind {
+        TokenKind::Number(number) => number,
+        _ => 0,
+    }
+}
+
+/// The register of a number below 32.
+pub(crate) fn register_numbered(number: u8) -> Reg
+    requires { number < 32 }
+    ensures { result ≡ number }
+{
+    Reg::new(number).unwrap()
+}
+
+/// The register of this number, and x0 where there is none.
+fn register_or_zero(number: Option<u8>) -> Reg
+    ensures { result ≡ register_number number }
+{
+    match number {
+        Some(number) if number < 32 => register_numbered(number),
+        _ => register_numbered(0),
+    }
+}
+
+/// The register at this place, and x0 where none is.
+pub(crate) fn register_at(text: &[u8], tokens: &[Token], index: usize) -> Reg
+    ensures { result ≡ register_at text.now tokens.now index }
+{
+    register_or_zero(register(bytes(text, token_at(tokens, index))))
+}

@@ -1,0 +1,279 @@
+//! The faults of a line that has none by its form.
+ghost use Rattle.std.specs.Prelude.{◌≡◌, ℕ, ◌-◌, ◌+◌, ◌<◌, ◌≤◌, List, Option, is_none, IsTrue, ℤ, pos, neg_ℤ, ◌+ℤ◌, ◌≤ℤ◌};
+ghost use Rattle.rv_assembler.specs.Lookup.{looked};
+ghost use Rattle.rv_assembler.specs.Fault.{is_far, is_lost, stepped_fits, extent_far, family_far, entry_far, word_far, out_of_range, label_doubled, region_doubled, lock_doubled, name_doubled, doubled, entry_lost, effect_lost, unknown, has_task, taken, misplaced, most_regions, over_limit, early_fault};
+ghost use Rattle.rv_assembler.specs.Operand.{bytes_of};
+ghost use Rattle.rv_assembler.specs.Emission.{emission, label_place};
+ghost use Rattle.rv_assembler.specs.Draft.{region_place, lock_number};
+
+use crate::draft::{Draft, Place, Start, lock_named, region_named};
+use crate::emission::{Emission, emit};
+use crate::fault::SourceFault;
+use crate::names::{Count, Meaning, Names, meaning_of};
+use crate::number::{is_interval, is_length, more, wrapped};
+use crate::reading::Saying;
+use crate::statement::{Effect, Extent, Family, Statement};
+use src_text::{Token, TokenKind};
+
+fn is_far(emission: Emission) -> bool
+    ensures { result ≡ is_far emission }
+{
+    matches!(emission, Emission::OutOfRange)
+}
+
+fn is_lost(emission: Emission) -> bool
+    ensures { result ≡ is_lost emission }
+{
+    matches!(emission, Emission::Unknown)
+}
+
+/// Whether the interval is one of the region, and so are `count - 1` more, each a step further than the one before.
+#[tactic(auto, using(crate::proofs::LoopLemmas::stepped_more))]
+fn stepped_fits(lo: i128, hi: i128, step: i64, len: i64, count: u32) -> bool
+    ensures { result ≡ stepped_fits len step lo hi count }
+{
+    if count == 0 {
+        return true;
+    }
+    if !is_interval(lo, hi, len) {
+        return false;
+    }
+    stepped_fits(lo + i128::from(step), hi + i128::from(step), step, len, count - 1)
+}
+
+/// Whether words of a region aren't all its own, for some of `count` tasks.
+fn extent_far(place: Option<Place>, extent: Extent, count: u32) -> bool
+    ensures { result ≡ extent_far place extent count }
+{
+    let Some(place) = place else {
+        return false;
+    };
+    match extent {
+        Extent::Whole => false,
+        Extent::Part { lo, hi } => !is_interval(i128::from(lo), i128::from(hi), place.len),
+        Extent::Stepped { lo, hi, step } => !stepped_fits(i128::from(lo), i128::from(hi), step, place.len, count),
+    }
+}
+
+/// Whether a word's index isn't one of the region's.
+fn word_far(place: Option<Place>, index: i64) -> bool
+    ensures { result ≡ word_far place index }
+{
+    match place {
+        Some(place) => !(0 <= index && index < place.len),
+        None => false,
+    }
+}
+
+/// Whether the address of an entry is negative or no multiple of 4.
+fn entry_far(entry: Token) -> bool
+    ensures { result ≡ entry_far entry.kind }
+{
+    match entry.kind {
+        TokenKind::Number(number) => !(0 <= number && wrapped(number) % 4 == 0),
+        _ => false,
+    }
+}
+
+/// Whether a family of tasks is on other cores than 0 to 15, or has a bad entry.
+fn family_far(family: Family) -> bool
+    ensures { result ≡ family_far family }
+{
+    let on_cores = 0 <= family.core
+        && family.core <= 15
+        && 1 <= family.count
+        && family.count <= 16
+        && u64::from(wrapped(family.core)) + u64::from(wrapped(family.count)) <= 16;
+    !on_cores || entry_far(family.entry)
+}
+
+/// Whether a number is outside its range, or a label too far.
+fn out_of_range<'a>(text: &'a [u8], names: &Names<'a>, draft: &Draft, statement: &Statement) -> bool
+    ensures { result ≡ out_of_range text.now (looked names.now) draft.now statement.now }
+{
+    match *statement {
+        Statement::Instruction(code) => is_far(emit(text, names, draft.count.code, code)),
+        Statement::Region { len, .. } => !is_length(len),
+        Statement::Word { region, index, value: _value } => word_far(region_named(text, names, region), index),
+        Statement::Tasks(family) => family_far(family),
+        Statement::Uses(effect) => extent_far(
+            region_named(text, names, effect.region),
+            effect.extent,
+            draft.family.count,
+        ),
+        _ => false,
+    }
+}
+
+/// Whether the name of a label means something else.
+fn label_doubled(meaning: Option<Meaning>, line: u32) -> bool
+    ensures { result ≡ label_doubled meaning line }
+{
+    match meaning {
+        Some(Meaning::Label { line: first, .. }) => first != line,
+        _ => true,
+    }
+}
+
+/// Whether the name of a region means something else than the region of this number.
+fn region_doubled(meaning: Option<Meaning>, number: u32) -> bool
+    ensures { result ≡ region_doubled meaning number }
+{
+    match meaning {
+        Some(Meaning::Region { number: first, .. }) => first != number,
+        _ => true,
+    }
+}
+
+/// Whether the name of a lock means something else than the lock of this number.
+fn lock_doubled(meaning: Option<Meaning>, number: u32) -> bool
+    ensures { result ≡ lock_doubled meaning number }
+{
+    match meaning {
+        Some(Meaning::Lock { number: first }) => first != number,
+        _ => true,
+    }
+}
+
+/// Whether the name of a region or a lock that a statement declares means something else.
+fn name_doubled<'a>(text: &'a [u8], names: &Names<'a>, count: &Count, statement: &Statement) -> bool
+    ensures { result ≡ name_doubled text.now (looked names.now) count.now statement.now }
+{
+    match *statement {
+        Statement::Region { name, len: _len } => region_doubled(meaning_of(text, names, name), count.regions),
+        Statement::Lock { name } => lock_doubled(meaning_of(text, names, name), count.locks),
+        _ => false,
+    }
+}
+
+/// Whether a name that the line declares is declared before.
+fn doubled<'a>(text: &'a [u8], names: &Names<'a>, count: &Count, saying: &Saying) -> bool
+    ensures { result ≡ doubled text.now (looked names.now) count.now saying.now }
+{
+    if let Some(label) = saying.label {
+        if label_doubled(meaning_of(text, names, label), saying.line) {
+            return true;
+        }
+    }
+    name_doubled(text, names, count, &saying.statement)
+}
+
+/// Whether an entry is a name and no label.
+fn entry_lost<'a>(text: &'a [u8], names: &Names<'a>, entry: Token) -> bool
+    ensures { result ≡ entry_lost text.now (looked names.now) entry }
+{
+    if let TokenKind::Number(_) = entry.kind {
+        return false;
+    }
+    !matches!(meaning_of(text, names, entry), Some(Meaning::Label { .. }))
+}
+
+/// Whether the region or the lock of an effect isn't declared.
+fn effect_lost<'a>(text: &'a [u8], names: &Names<'a>, effect: Effect) -> bool
+    ensures { result ≡ effect_lost text.now (looked names.now) effect }
+{
+    if no_region(text, names, effect.region) {
+        return true;
+    }
+    match effect.lock {
+        Some(lock) => lock_named(text, names, lock).is_none(),
+        None => false,
+    }
+}
+
+/// Whether a name means no region.
+fn no_region<'a>(text: &'a [u8], names: &Names<'a>, name: Token) -> bool
+    ensures { result ≡ is_none (region_place (looked names.now (bytes_of text.now name))) }
+{
+    match region_named(text, names, name) {
+        Some(_) => false,
+        None => true,
+    }
+}
+
+/// Whether a name isn't declared, or is of another kind.
+fn unknown<'a>(text: &'a [u8], names: &Names<'a>, here: u32, statement: &Statement) -> bool
+    ensures { result ≡ unknown text.now (looked names.now) here statement.now }
+{
+    match *statement {
+        Statement::Instruction(code) => is_lost(emit(text, names, here, code)),
+        Statement::Word { region, index: _index, value: _value } => no_region(text, names, region),
+        Statement::Tasks(family) => entry_lost(text, names, family.entry),
+        Statement::Uses(effect) => effect_lost(text, names, effect),
+        _ => false,
+    }
+}
+
+/// Whether a core has a task in a phase.
+fn has_task(tasks: &[Start], phase: u32, core: u32) -> bool
+    ensures { result ≡ has_task phase core tasks.now }
+{
+    tasks.iter().any(|task| task.phase == phase && task.core == core)
+}
+
+/// Whether one of `count` cores from `first` on has a task in a phase.
+fn taken(tasks: &[Start], phase: u32, first: u32, count: u32) -> bool
+    ensures { result ≡ taken tasks.now phase first count }
+{
+    let mut core = first;
+    for _done in 0..count {
+        if has_task(tasks, phase, core) {
+            return true;
+        }
+        core = more(core, 1);
+    }
+    false
+}
+
+/// Whether the statement may not stand here.
+fn misplaced(draft: &Draft, statement: &Statement) -> bool
+    ensures { result ≡ misplaced draft.now statement.now }
+{
+    match *statement {
+        Statement::Tasks(family) => {
+            draft.phases == 0
+                || taken(draft.tasks.as_slice(), draft.phases, wrapped(family.core), wrapped(family.count))
+        }
+        Statement::Uses(_) => draft.family.count == 0,
+        _ => false,
+    }
+}
+
+/// The greatest number of regions.
+fn most_regions(version_2: bool) -> usize
+    ensures { result ≡ most_regions version_2 }
+{
+    if version_2 { 4096 } else { 256 }
+}
+
+/// Whether there is more than a program may have.
+pub(crate) fn over_limit(version_2: bool, draft: &Draft) -> bool
+    ensures { result ≡ over_limit version_2 draft.now }
+{
+    16384 < draft.code.len()
+        || 65536 < draft.count.words
+        || most_regions(version_2) < draft.regions.len()
+        || 32 < draft.locks.len()
+        || 64 < draft.phases
+        || 64 < draft.tasks.len()
+}
+
+/// The first fault of a line, but for the limits.
+pub(crate) fn early_fault<'a>(text: &'a [u8], names: &Names<'a>, draft: &Draft, saying: &Saying) -> Option<SourceFault>
+    ensures { result ≡ early_fault text.now (looked names.now) draft.now saying.now }
+{
+    let line = saying.line;
+    if out_of_range(text, names, draft, &saying.statement) {
+        return Some(SourceFault::OutOfRange { line });
+    }
+    if doubled(text, names, &draft.count, saying) {
+        return Some(SourceFault::DoubleName { line });
+    }
+    if unknown(text, names, draft.count.code, &saying.statement) {
+        return Some(SourceFault::UnknownName { line });
+    }
+    if misplaced(draft, &saying.statement) {
+        return Some(SourceFault::Misplaced { line });
+    }
+    None
+}

@@ -1,0 +1,184 @@
+use crate::SourceFault::{
+    BadByte, BadNumber, BadOperand, DoubleName, Limit, LineLimit, Misplaced, OutOfRange, TooLarge,
+    UnknownName, UnknownWord,
+};
+use crate::{SourceFault, assemble};
+use std::alloc::{AllocError, Global};
+use std::test::Fail;
+
+/// A task that stores 5 into the one data word.
+const STORE_FIVE: &[u8] = b".region m, 1\n.phase\n.task 0, go, 0\n.writes m\ngo: lui t0, 0x10000\n addi t1, x0, 5\n sw t1, 0(t0)\n addi a7, x0, 0\n ecall\n";
+
+/// Four tasks, each of which writes one word of a region.
+const FAMILY: &[u8] = b".version 2\n.region m, 4\n.phase\n.forall 0, 4, go, 10, 5\n.writes m, 0, 1, 1\ngo: li a7, 0\n ecall\n";
+
+/// The fault of a text, if it has one.
+fn fault(alloc: Global, text: &[u8]) -> Option<SourceFault> {
+    assemble(alloc, text).err()
+}
+
+/// A text with the number of a line's copy in place of `@`.
+fn repeated(alloc: Global, out: &mut Vec<u8>, line: &[u8], count: u32) -> Result<(), AllocError> {
+    for number in 0..count {
+        for byte in line {
+            if *byte == b'@' {
+                out.extend_from_slice(number.to_string(alloc)?.as_bytes())?;
+            } else {
+                out.push(*byte)?;
+            }
+        }
+    }
+    Ok(())
+}
+
+#[test]
+fn the_first_faulty_line_is_told_with_its_first_fault(rt: HostRuntime) {
+    let rows: [(&[u8], Option<SourceFault>); 47] = [
+        (b"", None),
+        (b"addi t0, t1, @", Some(BadByte { line: 1 })),
+        (b"# @\n nop # 5x", None),
+        (b"addi t0, t1, 0y5", Some(BadNumber { line: 1 })),
+        (b"addq t0", Some(UnknownWord { line: 1 })),
+        (b".x: foo", Some(UnknownWord { line: 1 })),
+        (b".x: nop", Some(BadOperand { line: 1 })),
+        (b"addi t0, t1", Some(BadOperand { line: 1 })),
+        (b"5 nop", Some(BadOperand { line: 1 })),
+        (b".region .m, 1", Some(BadOperand { line: 1 })),
+        (b"addi t0, t1, 2048", Some(OutOfRange { line: 1 })),
+        (b"addi t0, t1, -2048", None),
+        (b"slli t0, t1, 32", Some(OutOfRange { line: 1 })),
+        (b"lui t0, 1048576", Some(OutOfRange { line: 1 })),
+        (b"beq t0, t1, 4096", Some(OutOfRange { line: 1 })),
+        (b"j 3", Some(OutOfRange { line: 1 })),
+        (b".region m, 0", Some(OutOfRange { line: 1 })),
+        (b".region m, 2\n.word m, 2, 9", Some(OutOfRange { line: 2 })),
+        (b".phase\n.task 16, 0x1000, 0", Some(OutOfRange { line: 2 })),
+        (b".phase\n.task 0, 0x1002, 0", Some(OutOfRange { line: 2 })),
+        (b".region m, 4\n.phase\n.task 0, 0, 0\n.reads m, 2, 2", Some(OutOfRange { line: 4 })),
+        (b"a:\na:", Some(DoubleName { line: 2 })),
+        (b"a: .region a, 1", Some(DoubleName { line: 1 })),
+        (b".lock a\n.region b, 1\n.lock b", Some(DoubleName { line: 3 })),
+        (b"j b", Some(UnknownName { line: 1 })),
+        (b"j q\nq: addq t0", Some(UnknownName { line: 1 })),
+        (b"j q\nq: nop", None),
+        (b"j q\nq:", None),
+        (b".lock k\nla t0, k", Some(UnknownName { line: 2 })),
+        (b".task 0, 0x1000, 0", Some(Misplaced { line: 1 })),
+        (b".region m, 1\n.reads m", Some(Misplaced { line: 2 })),
+        (b".phase\n.task 3, 0, 0\n.task 3, 0, 0", Some(Misplaced { line: 3 })),
+        (b".region m, 1\n.phase\n.task 0, 0, 0\n.phase\n.reads m", Some(Misplaced { line: 5 })),
+        (b"addi t0, t1, 9999\n@", Some(OutOfRange { line: 1 })),
+        (b"j b\naddi t0, t1, 9999", Some(UnknownName { line: 1 })),
+        (b"a:\na: j b", Some(DoubleName { line: 2 })),
+        (b"a:\na: addi t0, t1, 2048", Some(OutOfRange { line: 2 })),
+        (b".version 3", Some(UnknownWord { line: 1 })),
+        (b".version 02", Some(UnknownWord { line: 1 })),
+        (b"# two\n\n .version 2 # x\n.phase", None),
+        (b"nop\n.version 2", Some(UnknownWord { line: 2 })),
+        (b".version 2\n.version 2", Some(UnknownWord { line: 2 })),
+        (b".version 2\n.region m, 4\n.phase\n.forall 0, 4, go, 10, 5\n.writes m, 0, 1, 2\ngo:", Some(OutOfRange { line: 5 })),
+        (b".version 2\n.region m, 4\n.phase\n.forall 14, 3, go, 0, 0\ngo:", Some(OutOfRange { line: 4 })),
+        (b".region m, 4\n.phase\n.forall 0, 4, go, 10, 5\ngo:", Some(UnknownWord { line: 3 })),
+        (b".version 2\n.region m, 4\n.reads m, 0, 1, 9", Some(Misplaced { line: 3 })),
+        (b".version 2\n.region m, 4\n.reads m, 0, 5", Some(OutOfRange { line: 3 })),
+    ];
+    for (text, expected) in &rows {
+        assert_eq!(rt; fault(rt.alloc(), text), *expected);
+    }
+}
+
+#[test]
+fn a_text_that_is_cut_has_the_fault_of_what_is_left(rt: HostRuntime) {
+    let rows: [(usize, Option<SourceFault>); 7] = [
+        (11, Some(BadOperand { line: 1 })),
+        (12, None),
+        (13, None),
+        (20, None),
+        (35, Some(UnknownName { line: 3 })),
+        (45, Some(UnknownName { line: 3 })),
+        (48, None),
+    ];
+    for (length, expected) in &rows {
+        if let Some(text) = STORE_FIVE.get(..*length) {
+            assert_eq!(rt; fault(rt.alloc(), text), *expected);
+        }
+    }
+}
+
+#[test]
+fn each_limit_is_the_last_that_is_taken(rt: HostRuntime) -> Result<(), Fail> {
+    let rows: [(&[u8], &[u8], u32, Option<SourceFault>); 17] = [
+        (b"", b"nop\n", 16384, None),
+        (b"", b"nop\n", 16385, Some(Limit { line: 16385 })),
+        (b"", b"li t0, @\n", 8192, None),
+        (b"", b"li t0, @\n", 8193, Some(Limit { line: 8193 })),
+        (b".region a, 65536\n", b".region b, 1\n", 0, None),
+        (b".region a, 65536\n", b".region b, 1\n", 1, Some(Limit { line: 2 })),
+        (b".region a, 65537\n", b"", 0, Some(OutOfRange { line: 1 })),
+        (b"", b".region r@, 1\n", 256, None),
+        (b"", b".region r@, 1\n", 257, Some(Limit { line: 257 })),
+        (b".version 2\n", b".region r@, 1\n", 4096, None),
+        (b".version 2\n", b".region r@, 1\n", 4097, Some(Limit { line: 4098 })),
+        (b"", b".lock k@\n", 33, Some(Limit { line: 33 })),
+        (b"", b".phase\n", 65, Some(Limit { line: 65 })),
+        (b"", b"#", 1024, None),
+        (b"", b"#", 1025, Some(LineLimit { line: 1 })),
+        (b"", b"\n", 65537, Some(LineLimit { line: 65537 })),
+        (b"", b"#\n", 524289, Some(TooLarge)),
+    ];
+    for (head, line, count, expected) in &rows {
+        let mut text = Vec::from_slice(rt.alloc(), head)?;
+        repeated(rt.alloc(), &mut text, line, *count)?;
+        assert_eq!(rt; fault(rt.alloc(), text.as_slice()), *expected);
+    }
+    let mut tasks = Vec::new(rt.alloc());
+    for _group in 0..4 {
+        tasks.extend_from_slice(b".phase\n")?;
+        repeated(rt.alloc(), &mut tasks, b".task @, 0x1000, 0\n", 16)?;
+    }
+    tasks.extend_from_slice(b".phase\n")?;
+    assert_eq!(rt; fault(rt.alloc(), tasks.as_slice()), None);
+    tasks.extend_from_slice(b".task 0, 0x1000, 0\n")?;
+    assert_eq!(rt; fault(rt.alloc(), tasks.as_slice()), Some(Limit { line: 70 }));
+    Ok(())
+}
+
+#[test]
+fn a_text_has_its_code_and_first_values(rt: HostRuntime) -> Result<(), Fail> {
+    let program = assemble(rt.alloc(), STORE_FIVE)?;
+    let words: [u32; 5] = [0x100002B7, 0x00500313, 0x0062A023, 0x00000893, 0x00000073];
+    assert_eq!(rt; program.code.as_slice(), words.as_slice());
+    assert_eq!(rt; program.memory.as_slice(), [0].as_slice());
+    assert_eq!(rt; program.phases.len(), 1);
+    let values = assemble(
+        rt.alloc(),
+        b".word m, 1, 5\n.word m, 1, -1\n.region a, 2\n.region m, 3\nli t0, 0x12345fff\nla t1, m\n.raw -2\n beqz a0, 8\nlast: j last\nret",
+    )?;
+    assert_eq!(rt; values.memory.as_slice(), [0, 0, 0, 0xffffffff, 0].as_slice());
+    let code: [u32; 8] = [
+        0x123462B7, 0xFFF28293, 0x10000337, 0x00830313, 0xFFFFFFFE, 0x00050463, 0x0000006F, 0x00008067,
+    ];
+    assert_eq!(rt; values.code.as_slice(), code.as_slice());
+    Ok(())
+}
+
+#[test]
+fn a_family_has_a_task_on_each_core_each_a_step_further(rt: HostRuntime) -> Result<(), Fail> {
+    let program = assemble(rt.alloc(), FAMILY)?;
+    assert_eq!(rt; program.phases.len(), 1);
+    let phases = program.phases.as_slice();
+    assert!(rt; phases.len() == 1);
+    let tasks = phases[0].tasks.as_slice();
+    assert_eq!(rt; tasks.len(), 4);
+    let mut core = 0;
+    let mut arg = 10u32;
+    for task in tasks {
+        assert!(rt; task.core.0 == core && task.entry == 0x1000 && task.arg == arg);
+        assert_eq!(rt; task.effects.writes.intervals().len(), 1);
+        let writes = task.effects.writes.intervals();
+        assert!(rt; writes.len() == 1 && writes[0].lo == core && writes[0].hi == core + 1);
+        core = core.wrapping_add(1);
+        arg = arg.wrapping_add(5);
+    }
+    Ok(())
+}
