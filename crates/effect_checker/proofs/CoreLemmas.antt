@@ -1,8 +1,7 @@
 -- Which core's task passes a test, where tasks rise by their cores.
 use Rattle.std.proofs.Common.{◌≡◌, ℕ, ◌+◌, ◌<◌, ◌≤◌, ◌&&◌, ◌||◌, ◌==◌, ◌⊎◌, inl, inr, Bool, true, IsTrue, List, length, get_or, take, refl, sym, ap, ◌∙◌, arith, ⊎_elim}
-use Rattle.std.specs.List.{Any, list_any}
 use Rattle.std.proofs.lemmas.Bool.{and_parts, and_from, or_cases, eqb-true, eq-eqb, cases_lt, cases_order}
-use Rattle.std.proofs.lemmas.List.{get_or_default, get_or_read, get_or-take, length-take-le}
+use Rattle.std.proofs.lemmas.List.{get_or_read, get_or-take, length-take-le}
 use Rattle.std.proofs.Math.Seq.{take-length}
 use Rattle.std.proofs.lemmas.List.Folds.{Any-from_list_any, list_any-from_Any, list_any_more}
 use Rattle.region_table.specs.declared.declared.TaskDecl.{TaskDecl}
@@ -100,11 +99,6 @@ on_core-more test tasks k core w t at' h =
     ⊎_elim (λ (e : on_core test (take k tasks) core w ≡ true). inl e)
     (λ (e : ((t.core.0 == core) && test t w) ≡ true). let parts = and_parts (t.core.0 == core) (test t w) e in inr (eqb-true t.core.0 core parts.0, parts.1))
     (or_cases (on_core test (take k tasks) core w) ((t.core.0 == core) && test t w) (sym last ∙ h))
-
--- a task at which no word passes is passed over
-pub none_more : (test : TaskDecl → ℕ → Bool) (tasks : List TaskDecl) (k : ℕ) (t : TaskDecl) → IsAt tasks k t → NonePasses test (take k tasks) → ((w : ℕ) → IsTrue (test t w) → ⊥) → NonePasses test (take (k + 1) tasks)
-none_more test tasks k t at' none here = λ core w h.
-    ⊎_elim (λ e. none core w e) (λ e. here w e.1) (on_core-more test tasks k core w t at' h)
 
 -- no task passes where none of the tasks before the end does
 pub none_whole : (test : TaskDecl → ℕ → Bool) (tasks : List TaskDecl) (k : ℕ) → k ≤ length tasks → length tasks ≤ k → NonePasses test (take k tasks) → NonePasses test tasks

@@ -1,24 +1,16 @@
--- The least fault of a phase and of a program, and that a program without faults is checked.
-use Rattle.std.proofs.Common.{◌≡◌, ◌≢◌, ◌⊎◌, inl, inr, ℕ, ◌+◌, ◌<◌, ◌≤◌, ◌||◌, IsTrue, true, false, List, [], ◌∷◌, length, get_or, take, refl, sym, ap, subst, ◌∙◌, arith, ⊎_elim}
-use Rattle.std.specs.List.{All, Any}
-use Rattle.std.proofs.lemmas.Bool.{or_cases, cases_lt, cases_eq, cases_order, both_ways}
-use Rattle.std.proofs.lemmas.List.{get_or_past, get_or_read, get_or-take, length-take-le}
+-- That the phases before one are checked, and that the locks of a well-formed phase are the program's.
+use Rattle.std.proofs.Common.{◌≡◌, ℕ, ◌<◌, ◌≤◌, false, List, [], length, get_or, refl, arith, ⊎_elim}
+use Rattle.std.proofs.lemmas.Bool.{or_cases, cases_lt, both_ways}
+use Rattle.std.proofs.lemmas.List.{get_or_past}
 use Rattle.std.proofs.lemmas.List.Folds.{Any-from_list_any}
-use Rattle.dn_base.specs.declared.ids.CoreId.{CoreId}
-use Rattle.dn_base.specs.declared.ids.LockId.{LockId}
-use Rattle.dn_base.specs.declared.ids.PhaseId.{PhaseId}
-use Rattle.dn_base.specs.declared.ids.WordId.{WordId}
 use Rattle.region_table.specs.declared.interval.Interval.{Interval}
 use Rattle.region_table.specs.declared.declared.TaskDecl.{TaskDecl}
 use Rattle.region_table.specs.declared.declared.Phase.{Phase}
 use Rattle.region_table.specs.Words.{has}
-use Rattle.region_table.specs.Program.{ProgramParts, IsPhase, IsTask}
+use Rattle.region_table.specs.Program.{IsPhase, IsTask}
 use Rattle.region_table.specs.Plan.{task_guards}
-use Rattle.effect_checker.specs.declared.fault.CheckFault.{CheckFault}
-use Rattle.effect_checker.specs.declared.fault.CheckFault.TheVariants.{PlainConflict, GuardedPlain, TwoLocks}
-use Rattle.effect_checker.specs.Checked.{lock_guards, IsCheckedPhase}
-use Rattle.effect_checker.specs.Faults.{IsPlainConflict, IsGuardedPlain, AreTwoLocks, phase_of, phase_at, IsFaultAmong, IsFault, numbers_of, IsUpTo, IsLeastFault}
-use Rattle.effect_checker.specs.Least.{IsFirst, HaveLocks, IsFirstAmong}
+use Rattle.effect_checker.specs.Checked.{IsCheckedPhase}
+use Rattle.effect_checker.specs.Least.{HaveLocks}
 
 -- the phases before number `k` are checked
 abbrev pub AreCheckedBefore : List Phase → ℕ → Type 0

@@ -1,11 +1,11 @@
 -- The first conflict of each kind.
-use Rattle.std.proofs.Common.{◌≡◌, ◌≢◌, ℕ, ◌+◌, ◌<◌, ◌≤◌, ◌&&◌, not, ◌==◌, Bool, IsTrue, List, length, take, refl, sym, ap, ◌∙◌, arith, ⊎_elim}
+use Rattle.std.proofs.Common.{◌≡◌, ℕ, ◌+◌, ◌<◌, ◌≤◌, ◌&&◌, not, ◌==◌, IsTrue, List, take, refl, sym, ◌∙◌, arith, ⊎_elim}
 use Rattle.std.proofs.lemmas.Bool.{and_parts, and_from, not-true, not_from_false, eqb-false, ne_eqb, cases_lt}
 use Rattle.region_table.specs.declared.declared.TaskDecl.{TaskDecl}
 use Rattle.region_table.specs.Plan.{uses_plainly}
-use Rattle.effect_checker.specs.Checked.{on_core, writes_plainly, core_writes, core_uses, lock_guards}
-use Rattle.effect_checker.specs.Faults.{IsPlainConflict, IsGuardedPlain, AreTwoLocks}
-use Rattle.effect_checker.specs.Least.{IsLeastWord, IsFirstPair, IsFirst, AreRising, contends, exposes}
+use Rattle.effect_checker.specs.Checked.{on_core, writes_plainly, core_writes, lock_guards}
+use Rattle.effect_checker.specs.Faults.{IsPlainConflict, IsGuardedPlain}
+use Rattle.effect_checker.specs.Least.{IsFirstPair, IsFirst, AreRising, contends, exposes}
 use Rattle.effect_checker.proofs.CoreLemmas.{IsAt, on_core-some, on_core-from, on_core-at, on_core-before, on_core-more}
 
 -- two relations that hold of the same numbers and words have the same first pair

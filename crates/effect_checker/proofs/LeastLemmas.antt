@@ -7,7 +7,7 @@ use Rattle.region_table.specs.declared.declared.TaskDecl.{TaskDecl}
 use Rattle.region_table.specs.Words.{has}
 use Rattle.region_table.specs.Plan.{task_guards}
 use Rattle.effect_checker.specs.Checked.{lock_guards}
-use Rattle.effect_checker.specs.Least.{IsLeastWord, IsLeastFound}
+use Rattle.effect_checker.specs.Least.{IsLeastFound}
 
 -- two tests that pass the same words have the same least word
 pub least_same : (s t : ℕ → Bool) (found : Option WordId) → ((w : ℕ) → s w ≡ t w) → IsLeastFound s found → IsLeastFound t found

@@ -1,5 +1,5 @@
 -- What a checked phase says of its tasks, task by task.
-use Rattle.std.proofs.Common.{◌≡◌, ◌≢◌, ℕ, Bool, ◌==◌, ◌&&◌, IsTrue, List, get_or, refl, sym}
+use Rattle.std.proofs.Common.{◌≡◌, ◌≢◌, ℕ, Bool, IsTrue, List, get_or, refl, sym}
 use Rattle.std.specs.List.{IsAmong}
 use Rattle.std.proofs.lemmas.List.Folds.{list_any-from_Any}
 use Rattle.region_table.specs.declared.declared.TaskDecl.{TaskDecl}

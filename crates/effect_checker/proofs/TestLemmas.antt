@@ -1,12 +1,12 @@
 -- The programs of the tests are well formed.
-use Rattle.std.proofs.Common.{◌≡◌, ◌≢◌, ℕ, ◌+◌, ◌<◌, ◌≤◌, List, [], ◌∷◌, ◌++◌, length, get_or, refl, ap, arith}
+use Rattle.std.proofs.Common.{◌≡◌, ◌≢◌, ℕ, ◌<◌, List, [], ◌∷◌, length, get_or, refl, ap, arith}
 use Rattle.std.specs.List.{All, AllPairs}
 use Rattle.std.proofs.lemmas.List.Elements.{All-nil, All-cons}
 use Rattle.std.proofs.lemmas.List.Kept.{AllPairs-cons}
 use Rattle.region_table.specs.declared.declared.Region.{Region}
 use Rattle.region_table.specs.declared.declared.TaskDecl.{TaskDecl}
 use Rattle.region_table.specs.declared.declared.Phase.{Phase}
-use Rattle.region_table.specs.Program.{ProgramParts, AreTiled, IsTask, IsPhase, IsProgram, tasks_of}
+use Rattle.region_table.specs.Program.{IsTask, IsPhase, IsProgram, tasks_of}
 
 none_alone : {X : Type 0} (R : X → X → Type 0) → AllPairs R []
 none_alone R i j d l m = absurd (omega arith)

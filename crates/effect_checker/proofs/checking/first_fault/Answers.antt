@@ -1,5 +1,4 @@
-use Rattle.std.proofs.Common.{◌≡◌, ℕ, ◌<◌, List, length, get_or, sym, ap, ◌∙◌}
-use Rattle.region_table.specs.declared.declared.TaskDecl.{TaskDecl}
+use Rattle.std.proofs.Common.{◌≡◌, ℕ, ◌<◌, List, length, get_or}
 use Rattle.region_table.specs.declared.declared.Phase.{Phase}
 use Rattle.region_table.specs.Program.{ProgramParts, IsProgram, IsPhase}
 use Rattle.region_table.proofs.ProgramLemmas.{phase-at}
