@@ -50,7 +50,7 @@ answer-large x more = answer-source x (Err fault.TheVariants.TooLarge) (source-l
 -- a text with a program isn't too large
 source-small : (x : List ℕ) (P : ProgramParts) → source x ≡ Ok P → length x ≤ 1048576
 source-small x P e = by_test (nat_lt 1048576 (length x)) refl
-    where
+  where
     by_test : (b : Bool) → nat_lt 1048576 (length x) ≡ b → length x ≤ 1048576
     by_test true test = let more : 1048576 < length x = grind (arith, nat_tests) in let large = source-large x more in cc
     by_test false test = grind (arith, nat_tests)

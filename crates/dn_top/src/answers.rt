@@ -54,7 +54,10 @@ fn can_run(program: &Program) -> bool
     ensures { result ≡ is_single program.now }
 {
     program.phases.len() <= 1
-        && program.phases.get(0).is_none_or(|phase| phase.tasks.len() <= 1)
+        && program
+            .phases
+            .get(0)
+            .is_none_or(|phase| phase.tasks.len() <= 1)
         && program.locks.len() == 0
 }
 

@@ -52,10 +52,18 @@ fn texts_run_or_are_refused_with_their_first_line(rt: HostRuntime) -> Result<(),
         ),
         ("", 0, "outcome done\nwords 0\n"),
         (".task 0, 0x1000, 0", 2, "refused source 1 misplaced\n"),
-        (".region m, 1\n.region m, 1\n", 2, "refused source 2 double-name\n"),
+        (
+            ".region m, 1\n.region m, 1\n",
+            2,
+            "refused source 2 double-name\n",
+        ),
         (".phase\n.phase\n", 2, "refused not-built\n"),
         (locked.as_str(), 2, "refused not-built\n"),
-        (".phase\n.task 0, 4096, 0\n.task 1, 4096, 0\n", 2, "refused not-built\n"),
+        (
+            ".phase\n.task 0, 4096, 0\n.task 1, 4096, 0\n",
+            2,
+            "refused not-built\n",
+        ),
     ];
     for (text, code, output) in cases {
         let answer = run(&rt, rt.alloc(), &[], text.as_bytes())?;
@@ -73,7 +81,10 @@ fn a_text_of_one_byte_too_many_is_refused(rt: HostRuntime) -> Result<(), Fail> {
         text.extend_from_slice(&[b'#'; 1_023])?;
         text.push(b'\n')?;
     }
-    assert_eq!(rt; run(&rt, rt.alloc(), &[], &text)?.1.as_slice(), b"outcome done\nwords 0\n".as_slice());
+    assert_eq!(rt;
+        run(&rt, rt.alloc(), &[], &text)?.1.as_slice(),
+        b"outcome done\nwords 0\n".as_slice()
+    );
     text.push(b'\n')?;
     let answer = run(&rt, rt.alloc(), &[], &text)?;
     assert_eq!(rt; answer.0, 2);
