@@ -80,10 +80,10 @@ same_answer t text (Some rest) read = by_test (nat_lt (length text) 1048577) ref
         answer-large text (omega arith) ∙ sym (answer-large t (omega (arith, length-append text rest)))
 
 is_true : {b : Bool} → b ≡ true → IsTrue b
-is_true {b} e = subst IsTrue (sym e) tt
+is_true {b} e = subst IsTrue (sym e) refl
 
 not_true : {b : Bool} → b ≡ false → IsTrue b → ⊥
-not_true {b} e t = let F : Bool → Type 0 = IsTrue in subst F e t
+not_true {b} e t = let f : IsTrue false = subst IsTrue e t in cc
 
 -- ---- the statuses of an answer
 

@@ -21,7 +21,7 @@ pub returns-in-Ok-output_of-clause-refused : goal.returns-in-Ok-output_of-clause
 returns-in-Ok-output_of-clause-refused g c =
     λ e. (
       none_there _ c.if-not-is_empty.ensures,
-      refused _ _ _ _ _ _ c.in-Ok.text.items _ c.in-Ok.ensures.text
+      refused_whole _ _ _ _ _ _ c.in-Ok.text.items _ c.in-Ok.ensures.text
           (finished_as _ _ _ _ _ c.in-Ok-output_of.output _ c.in-Ok.text.items _ c.as_slice-in-Ok-output_of.ensures c.in-Ok-output_of.ensures c.as_slice.ensures.value c.finish-in-Ok-output_of.ensures.finished) e,
     )
 
