@@ -4,12 +4,11 @@ ghost use Rattle.rv_assembler.specs.declared.fault.SourceFault.TheVariants.{Memo
 ghost use Rattle.run_report.specs.declared.refusal.Refusal.TheVariants.{Source as OfSource};
 ghost use Rattle.run_report.specs.Refusal.{source_text, conflict_text, check_text, refusal_of};
 
+use crate::pieces::{push, push_decimal};
 use dn_base::{Memory, PhaseId, WordId};
 use effect_checker::CheckFault;
 use rv_assembler::SourceFault;
 use std::alloc::Global;
-
-use crate::pieces::{push, push_decimal};
 
 /// Why command words or a text are refused.
 #[derive(Clone, Copy, Debug, PartialEq, Eq)]
@@ -77,14 +76,50 @@ fn push_check(out: &mut Vec<u8>, fault: CheckFault) -> Result<(), Memory>
     ensures { OnOk result (out.new.items ≡ out.old.items ++ check_text fault) }
 {
     match fault {
-        CheckFault::PlainConflict { phase, core_a, core_b, word } => {
-            push_conflict(out, phase, b" plain-conflict cores ", (core_a.0, core_b.0), b" ", word)
+        CheckFault::PlainConflict {
+            phase,
+            core_a,
+            core_b,
+            word,
+        } => {
+            push_conflict(
+                out,
+                phase,
+                b" plain-conflict cores ",
+                (core_a.0, core_b.0),
+                b" ",
+                word,
+            )
         }
-        CheckFault::GuardedPlain { phase, lock, core, word } => {
-            push_conflict(out, phase, b" guarded-plain lock ", (lock.0, core.0), b" core ", word)
+        CheckFault::GuardedPlain {
+            phase,
+            lock,
+            core,
+            word,
+        } => {
+            push_conflict(
+                out,
+                phase,
+                b" guarded-plain lock ",
+                (lock.0, core.0),
+                b" core ",
+                word,
+            )
         }
-        CheckFault::TwoLocks { phase, lock_a, lock_b, word } => {
-            push_conflict(out, phase, b" two-locks locks ", (lock_a.0, lock_b.0), b" ", word)
+        CheckFault::TwoLocks {
+            phase,
+            lock_a,
+            lock_b,
+            word,
+        } => {
+            push_conflict(
+                out,
+                phase,
+                b" two-locks locks ",
+                (lock_a.0, lock_b.0),
+                b" ",
+                word,
+            )
         }
     }
 }

@@ -1,5 +1,7 @@
-use crate::answer_text;
-use dn_base::{CoreId, LockId, Outcome, PhaseId, Sequence};
+use crate::{Refusal, answer_text, refusal_line};
+use dn_base::{CoreId, LockId, Outcome, PhaseId, Sequence, WordId};
+use effect_checker::CheckFault;
+use rv_assembler::SourceFault;
 use rv_core::{EndShown, Ending, TaskEnd, TrapKind};
 use std::test::Fail;
 
@@ -33,5 +35,63 @@ fn an_ending_is_printed_line_by_line(rt: HostRuntime) -> Result<(), Fail> {
     };
     let text = answer_text(alloc, &ending)?;
     assert_eq!(rt; text.as_slice(), STUCK.as_bytes());
+    Ok(())
+}
+
+#[test]
+fn a_refusal_is_one_line(rt: HostRuntime) -> Result<(), Fail> {
+    let phase = PhaseId(0);
+    let plain = CheckFault::PlainConflict {
+        phase,
+        core_a: CoreId(0),
+        core_b: CoreId(1),
+        word: WordId(7),
+    };
+    let guarded = CheckFault::GuardedPlain {
+        phase,
+        lock: LockId(0),
+        core: CoreId(0),
+        word: WordId(0),
+    };
+    let locks = CheckFault::TwoLocks {
+        phase,
+        lock_a: LockId(0),
+        lock_b: LockId(1),
+        word: WordId(3),
+    };
+    let cases = [
+        (Refusal::Usage, "refused usage\n"),
+        (
+            Refusal::Source(SourceFault::TooLarge),
+            "refused source too-large\n",
+        ),
+        (
+            Refusal::Source(SourceFault::BadByte { line: 1 }),
+            "refused source 1 bad-byte\n",
+        ),
+        (
+            Refusal::Source(SourceFault::Limit { line: 257 }),
+            "refused source 257 limit\n",
+        ),
+        (
+            Refusal::Check(plain),
+            "refused check phase 0 plain-conflict cores 0 1 word 7\n",
+        ),
+        (
+            Refusal::Check(guarded),
+            "refused check phase 0 guarded-plain lock 0 core 0 word 0\n",
+        ),
+        (
+            Refusal::Check(locks),
+            "refused check phase 0 two-locks locks 0 1 word 3\n",
+        ),
+    ];
+    for (refusal, line) in cases {
+        assert!(rt; refusal != Refusal::Source(SourceFault::Memory));
+        assert_eq!(rt;
+            refusal_line(rt.alloc(), &refusal)?.as_slice(),
+            line.as_bytes()
+        );
+    }
     Ok(())
 }
