@@ -7,10 +7,12 @@ use std::alloc::{AllocError, Global};
 use std::test::Fail;
 
 /// A task that stores 5 into the one data word.
-const STORE_FIVE: &[u8] = b".region m, 1\n.phase\n.task 0, go, 0\n.writes m\ngo: lui t0, 0x10000\n addi t1, x0, 5\n sw t1, 0(t0)\n addi a7, x0, 0\n ecall\n";
+const STORE_FIVE: &[u8] =
+    b".region m, 1\n.phase\n.task 0, go, 0\n.writes m\ngo: lui t0, 0x10000\n addi t1, x0, 5\n sw t1, 0(t0)\n addi a7, x0, 0\n ecall\n";
 
 /// Four tasks, each of which writes one word of a region.
-const FAMILY: &[u8] = b".version 2\n.region m, 4\n.phase\n.forall 0, 4, go, 10, 5\n.writes m, 0, 1, 1\ngo: li a7, 0\n ecall\n";
+const FAMILY: &[u8] =
+    b".version 2\n.region m, 4\n.phase\n.forall 0, 4, go, 10, 5\n.writes m, 0, 1, 1\ngo: li a7, 0\n ecall\n";
 
 /// The fault of a text, if it has one.
 fn fault(alloc: Global, text: &[u8]) -> Option<SourceFault> {
@@ -54,10 +56,16 @@ fn the_first_faulty_line_is_told_with_its_first_fault(rt: HostRuntime) {
         (b".region m, 2\n.word m, 2, 9", Some(OutOfRange { line: 2 })),
         (b".phase\n.task 16, 0x1000, 0", Some(OutOfRange { line: 2 })),
         (b".phase\n.task 0, 0x1002, 0", Some(OutOfRange { line: 2 })),
-        (b".region m, 4\n.phase\n.task 0, 0, 0\n.reads m, 2, 2", Some(OutOfRange { line: 4 })),
+        (
+            b".region m, 4\n.phase\n.task 0, 0, 0\n.reads m, 2, 2",
+            Some(OutOfRange { line: 4 }),
+        ),
         (b"a:\na:", Some(DoubleName { line: 2 })),
         (b"a: .region a, 1", Some(DoubleName { line: 1 })),
-        (b".lock a\n.region b, 1\n.lock b", Some(DoubleName { line: 3 })),
+        (
+            b".lock a\n.region b, 1\n.lock b",
+            Some(DoubleName { line: 3 }),
+        ),
         (b"j b", Some(UnknownName { line: 1 })),
         (b"j q\nq: addq t0", Some(UnknownName { line: 1 })),
         (b"j q\nq: nop", None),
@@ -65,8 +73,14 @@ fn the_first_faulty_line_is_told_with_its_first_fault(rt: HostRuntime) {
         (b".lock k\nla t0, k", Some(UnknownName { line: 2 })),
         (b".task 0, 0x1000, 0", Some(Misplaced { line: 1 })),
         (b".region m, 1\n.reads m", Some(Misplaced { line: 2 })),
-        (b".phase\n.task 3, 0, 0\n.task 3, 0, 0", Some(Misplaced { line: 3 })),
-        (b".region m, 1\n.phase\n.task 0, 0, 0\n.phase\n.reads m", Some(Misplaced { line: 5 })),
+        (
+            b".phase\n.task 3, 0, 0\n.task 3, 0, 0",
+            Some(Misplaced { line: 3 }),
+        ),
+        (
+            b".region m, 1\n.phase\n.task 0, 0, 0\n.phase\n.reads m",
+            Some(Misplaced { line: 5 }),
+        ),
         (b"addi t0, t1, 9999\n@", Some(OutOfRange { line: 1 })),
         (b"j b\naddi t0, t1, 9999", Some(UnknownName { line: 1 })),
         (b"a:\na: j b", Some(DoubleName { line: 2 })),
@@ -76,11 +90,26 @@ fn the_first_faulty_line_is_told_with_its_first_fault(rt: HostRuntime) {
         (b"# two\n\n .version 2 # x\n.phase", None),
         (b"nop\n.version 2", Some(UnknownWord { line: 2 })),
         (b".version 2\n.version 2", Some(UnknownWord { line: 2 })),
-        (b".version 2\n.region m, 4\n.phase\n.forall 0, 4, go, 10, 5\n.writes m, 0, 1, 2\ngo:", Some(OutOfRange { line: 5 })),
-        (b".version 2\n.region m, 4\n.phase\n.forall 14, 3, go, 0, 0\ngo:", Some(OutOfRange { line: 4 })),
-        (b".region m, 4\n.phase\n.forall 0, 4, go, 10, 5\ngo:", Some(UnknownWord { line: 3 })),
-        (b".version 2\n.region m, 4\n.reads m, 0, 1, 9", Some(Misplaced { line: 3 })),
-        (b".version 2\n.region m, 4\n.reads m, 0, 5", Some(OutOfRange { line: 3 })),
+        (
+            b".version 2\n.region m, 4\n.phase\n.forall 0, 4, go, 10, 5\n.writes m, 0, 1, 2\ngo:",
+            Some(OutOfRange { line: 5 }),
+        ),
+        (
+            b".version 2\n.region m, 4\n.phase\n.forall 14, 3, go, 0, 0\ngo:",
+            Some(OutOfRange { line: 4 }),
+        ),
+        (
+            b".region m, 4\n.phase\n.forall 0, 4, go, 10, 5\ngo:",
+            Some(UnknownWord { line: 3 }),
+        ),
+        (
+            b".version 2\n.region m, 4\n.reads m, 0, 1, 9",
+            Some(Misplaced { line: 3 }),
+        ),
+        (
+            b".version 2\n.region m, 4\n.reads m, 0, 5",
+            Some(OutOfRange { line: 3 }),
+        ),
     ];
     for (text, expected) in &rows {
         assert_eq!(rt; fault(rt.alloc(), text), *expected);
@@ -113,12 +142,22 @@ fn each_limit_is_the_last_that_is_taken(rt: HostRuntime) -> Result<(), Fail> {
         (b"", b"li t0, @\n", 8192, None),
         (b"", b"li t0, @\n", 8193, Some(Limit { line: 8193 })),
         (b".region a, 65536\n", b".region b, 1\n", 0, None),
-        (b".region a, 65536\n", b".region b, 1\n", 1, Some(Limit { line: 2 })),
+        (
+            b".region a, 65536\n",
+            b".region b, 1\n",
+            1,
+            Some(Limit { line: 2 }),
+        ),
         (b".region a, 65537\n", b"", 0, Some(OutOfRange { line: 1 })),
         (b"", b".region r@, 1\n", 256, None),
         (b"", b".region r@, 1\n", 257, Some(Limit { line: 257 })),
         (b".version 2\n", b".region r@, 1\n", 4096, None),
-        (b".version 2\n", b".region r@, 1\n", 4097, Some(Limit { line: 4098 })),
+        (
+            b".version 2\n",
+            b".region r@, 1\n",
+            4097,
+            Some(Limit { line: 4098 }),
+        ),
         (b"", b".lock k@\n", 33, Some(Limit { line: 33 })),
         (b"", b".phase\n", 65, Some(Limit { line: 65 })),
         (b"", b"#", 1024, None),
@@ -139,7 +178,10 @@ fn each_limit_is_the_last_that_is_taken(rt: HostRuntime) -> Result<(), Fail> {
     tasks.extend_from_slice(b".phase\n")?;
     assert_eq!(rt; fault(rt.alloc(), tasks.as_slice()), None);
     tasks.extend_from_slice(b".task 0, 0x1000, 0\n")?;
-    assert_eq!(rt; fault(rt.alloc(), tasks.as_slice()), Some(Limit { line: 70 }));
+    assert_eq!(rt;
+        fault(rt.alloc(), tasks.as_slice()),
+        Some(Limit { line: 70 })
+    );
     Ok(())
 }
 
@@ -154,9 +196,13 @@ fn a_text_has_its_code_and_first_values(rt: HostRuntime) -> Result<(), Fail> {
         rt.alloc(),
         b".word m, 1, 5\n.word m, 1, -1\n.region a, 2\n.region m, 3\nli t0, 0x12345fff\nla t1, m\n.raw -2\n beqz a0, 8\nlast: j last\nret",
     )?;
-    assert_eq!(rt; values.memory.as_slice(), [0, 0, 0, 0xffffffff, 0].as_slice());
+    assert_eq!(rt;
+        values.memory.as_slice(),
+        [0, 0, 0, 0xffffffff, 0].as_slice()
+    );
     let code: [u32; 8] = [
-        0x123462B7, 0xFFF28293, 0x10000337, 0x00830313, 0xFFFFFFFE, 0x00050463, 0x0000006F, 0x00008067,
+        0x123462B7, 0xFFF28293, 0x10000337, 0x00830313, 0xFFFFFFFE, 0x00050463, 0x0000006F,
+        0x00008067,
     ];
     assert_eq!(rt; values.code.as_slice(), code.as_slice());
     Ok(())
