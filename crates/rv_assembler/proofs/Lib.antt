@@ -5,3 +5,4 @@ pub mod TaskLemmas
 pub mod SoundLemmas
 pub mod NameLemmas
 pub mod SourceLemmas
+pub mod LargeLemmas

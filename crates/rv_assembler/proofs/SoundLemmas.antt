@@ -1,15 +1,14 @@
 -- What the lines add up to is a well-formed program, as long as no line has a fault.
-use Rattle.std.proofs.Common.{if◌then◌else◌, ◌≡◌, ◌≢◌, ℕ, zero, suc, ◌+◌, ◌%◌, ◌^◌, ◌<◌, ◌≤◌, ◌&&◌, ◌||◌, not, Bool, true, false, eqb, ltb, leb, ℤ, pos, negsuc, int_le, List, [], ◌∷◌, ◌++◌, length, map, replicate, set, Option, Some, None, refl, sym, ◌∙◌, ap, arith, ⊎_elim, length-append}
+use Rattle.std.proofs.Common.{if◌then◌else◌, ◌≡◌, ◌≢◌, ℕ, ◌+◌, ◌<◌, ◌≤◌, ◌||◌, not, Bool, true, false, eqb, ltb, ℤ, pos, negsuc, int_le, List, [], ◌∷◌, ◌++◌, length, map, replicate, set, Option, Some, None, refl, sym, ◌∙◌, ap, arith, length-append}
 use Rattle.std.specs.List.{All, AllPairs, range_with_len}
-use Rattle.std.proofs.lemmas.Bool.{cases_Bool, and_parts, ltb-false, leb-true}
+use Rattle.std.proofs.lemmas.Bool.{and_parts, ltb-false, leb-true}
 use Rattle.std.proofs.lemmas.List.{length-map, length-set, length-replicate}
 use Rattle.std.proofs.lemmas.List.FromFn.{length-range_with_len}
 use Rattle.std.proofs.lemmas.List.Elements.{All-nil, All-cons, All-append}
 use Rattle.std.proofs.lemmas.List.Kept.{AllPairs-cons}
 use borrow.Author.Tests.{eqb-true}
 use Rattle.region_table.specs.declared.declared.Region.{Region}
-use Rattle.region_table.specs.Program.{AreTiled, IsPhase, IsProgram}
-use Rattle.rv_assembler.specs.declared.fault.SourceFault.{SourceFault}
+use Rattle.region_table.specs.Program.{AreTiled}
 use Rattle.rv_assembler.specs.declared.statement.Statement.{Statement}
 use Rattle.rv_assembler.specs.declared.statement.Statement as statement
 use Rattle.rv_assembler.specs.declared.reading.Saying.{Saying}

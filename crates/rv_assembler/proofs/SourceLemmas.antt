@@ -1,5 +1,5 @@
 -- One line more, and what names mean.
-use Rattle.std.proofs.Common.{◌≡◌, ℕ, Bool, true, false, ◌+◌, ◌<◌, List, ◌∷◌, length, map, drop, get_or, sym, Option, Some, None, Result, Ok, Err, nat_lt, refl, ap, ◌∙◌}
+use Rattle.std.proofs.Common.{◌≡◌, ℕ, Bool, true, false, ◌+◌, ◌<◌, List, ◌∷◌, length, map, drop, get_or, sym, Option, Some, None, Result, Err, nat_lt, refl, ap, ◌∙◌}
 use Rattle.std.proofs.lemmas.List.{drop_more}
 use Rattle.rv_assembler.specs.declared.fault.SourceFault.{SourceFault}
 use Rattle.rv_assembler.specs.declared.fault.SourceFault as fault

@@ -1,10 +1,8 @@
 -- A program has no more tasks than its lines declare.
-use Rattle.std.proofs.Common.{◌≡◌, ℕ, zero, suc, ◌+◌, ◌<◌, ◌≤◌, ◌&&◌, Bool, true, false, eqb, cond, List, [], ◌∷◌, ◌++◌, length, map, filter_map, option_map, Option, Some, None, find, refl, sym, ◌∙◌, ap, arith, ⊎_elim, length-append}
+use Rattle.std.proofs.Common.{◌≡◌, ℕ, zero, suc, ◌+◌, ◌<◌, ◌≤◌, ◌&&◌, Bool, true, false, eqb, cond, List, [], ◌∷◌, length, map, filter_map, option_map, Option, Some, None, find, refl, ◌∙◌, ap, arith, ⊎_elim, length-append}
 use Rattle.std.specs.List.{range_with_len, cons_option}
 use Rattle.std.proofs.lemmas.Bool.{cases_Bool}
 use borrow.Author.Tests.{eqb-true}
-use Rattle.region_table.specs.declared.declared.TaskDecl.{TaskDecl}
-use Rattle.region_table.specs.declared.declared.Phase.{Phase}
 use Rattle.region_table.specs.Program.{tasks_of}
 use Rattle.rv_assembler.specs.declared.draft.Start.{Start}
 use Rattle.rv_assembler.specs.declared.draft.Claim.{Claim}
@@ -62,7 +60,7 @@ module _ (words locks : ℕ) (claims : List Claim) (t : Start) (ts : List Start)
       (λ (e : eqb t.core a ≡ false).
       let h : task_at words locks claims (t ∷ ts) p a ≡ task_at words locks claims ts p a = passed p a (and_none (eqb t.phase p) (eqb t.core a) e) in
       let u : length (filter_map (task_at words locks claims (t ∷ ts) p) (range_with_len a (suc n))) ≡ length (cons_option (task_at words locks claims ts p a) (filter_map (task_at words locks claims (t ∷ ts) p) (range_with_len (a + 1) n))) =
-          ap (λ o. length (cons_option o (filter_map (task_at words locks claims (t ∷ ts) p) (range_with_len (a + 1) n)))) h in
+      ap (λ o. length (cons_option o (filter_map (task_at words locks claims (t ∷ ts) p) (range_with_len (a + 1) n)))) h in
       let v = grows-alike (task_at words locks claims ts p a) (filter_map (task_at words locks claims (t ∷ ts) p) (range_with_len (a + 1) n)) (filter_map (task_at words locks claims ts p) (range_with_len (a + 1) n)) (one-more p (a + 1) n) in
       omega arith)
       (cases_Bool (eqb t.core a))
@@ -96,7 +94,7 @@ unfolding many
 later-phases words locks claims t ts a zero l = refl
 later-phases words locks claims t ts a (suc n) l =
     let e : length (filter_map (task_at words locks claims (t ∷ ts) a) (range_with_len 0 16)) ≡ length (filter_map (task_at words locks claims ts a) (range_with_len 0 16)) =
-        ap (λ xs. length xs) (other-phase words locks claims t ts a (differs t.phase a (λ e. omega arith)) (range_with_len 0 16)) in
+    ap (λ xs. length xs) (other-phase words locks claims t ts a (differs t.phase a (λ e. omega arith)) (range_with_len 0 16)) in
     let f = later-phases words locks claims t ts (a + 1) n (omega arith) in
     omega arith
 
@@ -112,7 +110,7 @@ many-more words locks claims t ts a (suc n) =
     omega arith)
     (λ (e : eqb t.phase a ≡ false).
     let u : length (filter_map (task_at words locks claims (t ∷ ts) a) (range_with_len 0 16)) ≡ length (filter_map (task_at words locks claims ts a) (range_with_len 0 16)) =
-        ap (λ xs. length xs) (other-phase words locks claims t ts a e (range_with_len 0 16)) in
+    ap (λ xs. length xs) (other-phase words locks claims t ts a e (range_with_len 0 16)) in
     let v = many-more words locks claims t ts (a + 1) n in
     omega arith)
     (cases_Bool (eqb t.phase a))

@@ -1,6 +1,5 @@
 -- What the lines of a text add up to, line by line.
-use Rattle.std.specs.Prelude.{ℕ, zero, suc, ◌+◌, ◌/◌, ◌%◌, ◌^◌, ℤ, Bool, true, false, List, [], ◌∷◌, ◌++◌, Option, Some, None, option_map, if◌then◌else◌}
-use Rattle.region_table.specs.declared.declared.Region.{Region}
+use Rattle.std.specs.Prelude.{ℕ, zero, suc, ◌+◌, ◌/◌, ◌%◌, ◌^◌, ℤ, Bool, List, [], ◌∷◌, ◌++◌, Option, Some, None, option_map, if◌then◌else◌}
 use Rattle.src_text.specs.declared.token.Token.{Token}
 use Rattle.src_text.specs.declared.token.TokenKind as token
 use Rattle.src_text.specs.declared.token.TokenKind.{TokenKind}

@@ -1,5 +1,5 @@
 -- The faults of a line of good form, each as a test.
-use Rattle.std.specs.Prelude.{ℕ, zero, suc, ◌+◌, ◌%◌, ℤ, pos, ◌+ℤ◌, int_le, int_lt, Bool, true, false, not, ◌&&◌, ◌||◌, nat_lt, nat_le, ◌==◌, List, [], ◌∷◌, length, Option, Some, None, is_none, if◌then◌else◌}
+use Rattle.std.specs.Prelude.{ℕ, zero, suc, ◌+◌, ◌%◌, ℤ, pos, ◌+ℤ◌, int_le, int_lt, Bool, true, false, not, ◌&&◌, ◌||◌, nat_lt, nat_le, ◌==◌, List, length, Option, Some, None, is_none, if◌then◌else◌}
 use Rattle.std.specs.List.{list_any}
 use Rattle.src_text.specs.declared.token.Token.{Token}
 use Rattle.src_text.specs.declared.token.TokenKind as token
@@ -17,14 +17,14 @@ use Rattle.rv_assembler.specs.declared.names.Meaning.{Meaning}
 use Rattle.rv_assembler.specs.declared.names.Meaning as meaning
 use Rattle.rv_assembler.specs.declared.names.Count.{Count}
 use Rattle.rv_assembler.specs.declared.emission.Emission.{Emission}
-use Rattle.rv_assembler.specs.declared.emission.Emission.TheVariants.{One, Two, OutOfRange, Unknown}
+use Rattle.rv_assembler.specs.declared.emission.Emission.TheVariants.{OutOfRange, Unknown}
 use Rattle.rv_assembler.specs.declared.draft.Start.{Start}
 use Rattle.rv_assembler.specs.declared.draft.Draft.{Draft}
 use Rattle.rv_assembler.specs.declared.draft.Place.{Place}
 use Rattle.rv_assembler.specs.Number.{wrapped, more, is_length, is_interval}
 use Rattle.rv_assembler.specs.Operand.{bytes_of}
 use Rattle.rv_assembler.specs.Emission.{emission, label_place}
-use Rattle.rv_assembler.specs.Draft.{region_place, lock_number, after}
+use Rattle.rv_assembler.specs.Draft.{region_place, lock_number}
 
 abbrev pub is_far : Emission → Bool
 is_far OutOfRange = true

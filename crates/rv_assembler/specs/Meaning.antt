@@ -1,5 +1,5 @@
 -- What the names of a text mean.
-use Rattle.std.specs.Prelude.{ℕ, ◌+◌, ℤ, List, [], ◌∷◌, Option, Some, None, if◌then◌else◌, bytes_eq}
+use Rattle.std.specs.Prelude.{ℕ, ℤ, List, [], ◌∷◌, Option, Some, None, if◌then◌else◌, bytes_eq}
 use Rattle.src_text.specs.declared.token.Token.{Token}
 use Rattle.rv_assembler.specs.declared.statement.Code.{Code}
 use Rattle.rv_assembler.specs.declared.statement.Code.TheVariants.{LoadNumber, LoadAddress}

@@ -1,5 +1,5 @@
 -- Numbers of statements: their ranges, and what stands for them in 32 bits.
-use Rattle.std.specs.Prelude.{ℕ, ◌+◌, ◌-◌, ◌%◌, ◌^◌, min, ℤ, pos, neg_ℤ, int_le, int_lt, Bool, true, false, ◌&&◌, ◌==◌, if◌then◌else◌}
+use Rattle.std.specs.Prelude.{ℕ, ◌+◌, ◌-◌, ◌%◌, ◌^◌, min, ℤ, pos, neg_ℤ, int_le, int_lt, Bool, ◌&&◌, ◌==◌, if◌then◌else◌}
 use Rattle.std.specs.Int.{w64, cast_unsigned}
 use Rattle.rv_isa.specs.Word.{bits, pattern}
 use Rattle.rv_isa.specs.Table.{is_shift, has_immediate}

@@ -1,5 +1,5 @@
 -- The operands of a statement, by the places of their tokens.
-use Rattle.std.specs.Prelude.{ℕ, ℤ, pos, Bool, true, false, ◌&&◌, nat_le, nat_lt, List, [], length, slice_range, slice_index_or, Option, Some, None, if◌then◌else◌}
+use Rattle.std.specs.Prelude.{ℕ, ℤ, pos, ◌&&◌, nat_le, nat_lt, List, [], length, slice_range, slice_index_or, Option, Some, None, if◌then◌else◌}
 use Rattle.src_text.specs.Register.{register_of}
 use Rattle.src_text.specs.declared.token.Token.{Token}
 use Rattle.src_text.specs.declared.token.TokenKind as token

@@ -1,7 +1,6 @@
 -- The program that the lines of a text add up to.
-use Rattle.std.specs.Prelude.{ℕ, ◌+◌, ◌*◌, ◌%◌, ◌^◌, Bool, true, false, ◌&&◌, nat_lt, nat_le, ◌==◌, List, [], ◌∷◌, length, map, replicate, slice_set, Option, Some, None, option_map, find, filter, filter_map, if◌then◌else◌}
+use Rattle.std.specs.Prelude.{ℕ, ◌*◌, ◌%◌, ◌^◌, Bool, true, false, ◌&&◌, nat_lt, nat_le, ◌==◌, List, [], ◌∷◌, length, map, replicate, slice_set, Option, Some, None, option_map, find, filter, filter_map, if◌then◌else◌}
 use Rattle.std.specs.List.{range_with_len}
-use Rattle.dn_base.specs.declared.ids.CoreId.{CoreId}
 use Rattle.region_table.specs.declared.interval.Interval.{Interval}
 use Rattle.region_table.specs.declared.declared.Effects.{Effects}
 use Rattle.region_table.specs.declared.declared.TaskDecl.{TaskDecl}

@@ -1,5 +1,5 @@
 -- What a line says: its label and its statement.
-use Rattle.std.specs.Prelude.{ℕ, ◌+◌, ℤ, pos, neg_ℤ, Bool, true, false, not, ◌&&◌, nat_lt, ◌==◌, List, [], ◌∷◌, length, Option, Some, None, is_none, Result, Ok, Err, if◌then◌else◌, codes, bytes_eq}
+use Rattle.std.specs.Prelude.{ℕ, ◌+◌, pos, neg_ℤ, Bool, true, false, not, ◌&&◌, nat_lt, ◌==◌, List, [], ◌∷◌, length, Option, Some, None, is_none, Result, Ok, Err, if◌then◌else◌, codes, bytes_eq}
 use Rattle.rv_isa.specs.declared.instr.AluOp as op
 use Rattle.src_text.specs.declared.line.Line.{Line}
 use Rattle.src_text.specs.declared.line.LineFault as line_fault
@@ -21,7 +21,6 @@ use Rattle.rv_assembler.specs.declared.statement.Extent.{Extent}
 use Rattle.rv_assembler.specs.declared.statement.Extent as extent
 use Rattle.rv_assembler.specs.declared.statement.Statement.{Statement}
 use Rattle.rv_assembler.specs.declared.statement.Statement as statement
-use Rattle.rv_assembler.specs.declared.reading.Saying.{Saying}
 use Rattle.rv_assembler.specs.declared.reading.Reading.{Reading}
 use Rattle.rv_assembler.specs.declared.reading.Reading.TheVariants.{Bad, Good}
 use Rattle.rv_assembler.specs.Number.{wrapped}

@@ -1,5 +1,5 @@
 -- What holds once no line has a fault.
-use Rattle.std.specs.Prelude.{ℕ, ◌≤◌, length}
+use Rattle.std.specs.Prelude.{◌≤◌, length}
 use Rattle.region_table.specs.Program.{IsProgram}
 use Rattle.rv_assembler.specs.declared.draft.Draft.{Draft}
 use Rattle.rv_assembler.specs.Program.{program_of}

@@ -22,7 +22,13 @@ use std::alloc::Global;
 const MOST_BYTES: usize = 1048576;
 
 /// What the lines add up to, or the first fault. The version line has the number `version`; 0 stands for version 1.
-fn add_up<'a>(alloc: Global, version: u32, text: &'a [u8], names: &Names<'a>, lines: &[Line]) -> Result<Draft, SourceFault>
+fn add_up<'a>(
+    alloc: Global,
+    version: u32,
+    text: &'a [u8],
+    names: &Names<'a>,
+    lines: &[Line],
+) -> Result<Draft, SourceFault>
     ensures ok { IfOk result (λ draft. total_of version text.now (looked names.now) no_draft lines.now ≡ Ok draft) }
     ensures err { IfErr result (λ f. f ≢ NoMemory → total_of version text.now (looked names.now) no_draft lines.now ≡ Err f) }
     ensures whole { IfOk result IsWhole }

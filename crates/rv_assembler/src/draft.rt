@@ -133,9 +133,17 @@ fn usage_in<'a>(text: &'a [u8], names: &Names<'a>, effect: Effect) -> Option<Usa
     ensures { result ≡ usage_of text.now (looked names.now) effect }
 {
     match effect.lock {
-        None => Some(if effect.writes { Usage::Writes } else { Usage::Reads }),
+        None => Some(if effect.writes {
+            Usage::Writes
+        } else {
+            Usage::Reads
+        }),
         Some(lock) => match lock_named(text, names, lock) {
-            Some(number) => Some(if effect.writes { Usage::GuardedWrites(number) } else { Usage::GuardedReads(number) }),
+            Some(number) => Some(if effect.writes {
+                Usage::GuardedWrites(number)
+            } else {
+                Usage::GuardedReads(number)
+            }),
             None => None,
         },
     }
@@ -174,7 +182,12 @@ fn step(extent: Extent) -> u32
 }
 
 /// Adds the claims of `count` tasks from the core of the first one on, each `step` words further than the one before.
-fn push_claims(claims: &mut Sequence<Claim>, first: Claim, step: u32, count: u32) -> Result<(), Memory>
+fn push_claims(
+    claims: &mut Sequence<Claim>,
+    first: Claim,
+    step: u32,
+    count: u32,
+) -> Result<(), Memory>
     ensures { OnOk result (claims.new ≡ claims.old ++ claimed first step count) }
 {
     let mut claim = first;
@@ -192,7 +205,12 @@ fn push_claims(claims: &mut Sequence<Claim>, first: Claim, step: u32, count: u32
 }
 
 /// Adds `count` tasks from the first one on, each on the next core and with an argument that is `step` more.
-fn push_members(tasks: &mut Sequence<Start>, first: Start, step: u32, count: u32) -> Result<(), Memory>
+fn push_members(
+    tasks: &mut Sequence<Start>,
+    first: Start,
+    step: u32,
+    count: u32,
+) -> Result<(), Memory>
     ensures { OnOk result (tasks.new ≡ tasks.old ++ members first step count) }
 {
     let mut task = first;
@@ -286,7 +304,12 @@ impl Draft {
         Ok(())
     }
 
-    fn push_effect(&mut self, place: Option<Place>, usage: Option<Usage>, extent: Extent) -> Result<(), Memory>
+    fn push_effect(
+        &mut self,
+        place: Option<Place>,
+        usage: Option<Usage>,
+        extent: Extent,
+    ) -> Result<(), Memory>
         ensures { OnOk result (self.new ≡ record self.old { claims = self.old.claims ++ claims_for self.old.phases self.old.family place usage extent }) }
     {
         let (Some(place), Some(usage)) = (place, usage) else {
@@ -310,16 +333,29 @@ impl Draft {
     }
 
     /// Adds a statement, but for the count.
-    fn extend<'a>(&mut self, alloc: Global, text: &'a [u8], names: &Names<'a>, statement: &Statement) -> Result<(), Memory>
+    fn extend<'a>(
+        &mut self,
+        alloc: Global,
+        text: &'a [u8],
+        names: &Names<'a>,
+        statement: &Statement,
+    ) -> Result<(), Memory>
         ensures { OnOk result (self.new ≡ extended text.now (looked names.now) self.old statement.now) }
     {
         match *statement {
             Statement::Nothing => Ok(()),
-            Statement::Instruction(code) => self.push_code(emit(text, names, self.count.code, code)),
+            Statement::Instruction(code) => self.push_code(emit(
+                text,
+                names,
+                self.count.code,
+                code,
+            )),
             Statement::Region { name, len } => self.push_region(alloc, bytes(text, name), len),
-            Statement::Word { region, index, value } => {
-                self.push_value(region_named(text, names, region), index, value)
-            }
+            Statement::Word {
+                region,
+                index,
+                value,
+            } => { self.push_value(region_named(text, names, region), index, value) }
             Statement::Lock { name } => self.push_lock(alloc, bytes(text, name)),
             Statement::Phase => {
                 self.push_phase();
@@ -335,7 +371,13 @@ impl Draft {
     }
 
     /// Adds a statement.
-    pub fn add<'a>(&mut self, alloc: Global, text: &'a [u8], names: &Names<'a>, statement: &Statement) -> Result<(), Memory>
+    pub fn add<'a>(
+        &mut self,
+        alloc: Global,
+        text: &'a [u8],
+        names: &Names<'a>,
+        statement: &Statement,
+    ) -> Result<(), Memory>
         ensures { OnOk result (self.new ≡ after text.now (looked names.now) self.old statement.now) }
     {
         let count = counted(&self.count, statement);

@@ -206,7 +206,11 @@ pub(crate) fn emit<'a>(text: &'a [u8], names: &Names<'a>, here: u32, code: Code)
     ensures { result ≡ emission text.now (looked names.now) here code }
 {
     match code {
-        Code::Upper { adds_pc, rd, number } => upper(adds_pc, rd, number),
+        Code::Upper {
+            adds_pc,
+            rd,
+            number,
+        } => upper(adds_pc, rd, number),
         Code::Jump { rd, target } => match offset(text, names, here, target) {
             Some(offset) => jump(rd, offset),
             None => Emission::Unknown,
@@ -216,8 +220,18 @@ pub(crate) fn emit<'a>(text: &'a [u8], names: &Names<'a>, here: u32, code: Code)
             Some(offset) => branch(cond, a, b, offset),
             None => Emission::Unknown,
         },
-        Code::Load { width, rd, base, offset } => load(width, rd, base, offset),
-        Code::Store { width, src, base, offset } => store(width, src, base, offset),
+        Code::Load {
+            width,
+            rd,
+            base,
+            offset,
+        } => load(width, rd, base, offset),
+        Code::Store {
+            width,
+            src,
+            base,
+            offset,
+        } => store(width, src, base, offset),
         Code::OpImm { op, rd, a, imm } => immediate(op, rd, a, imm),
         Code::Op { op, rd, a, b } => Emission::One(encode(&Instr::Op { op, rd, a, b })),
         Code::Fence => Emission::One(encode(&Instr::Fence)),

@@ -39,7 +39,8 @@ fn same_usage(a: Usage, b: Usage) -> bool
 {
     match (a, b) {
         (Usage::Reads, Usage::Reads) | (Usage::Writes, Usage::Writes) => true,
-        (Usage::GuardedReads(k), Usage::GuardedReads(l)) | (Usage::GuardedWrites(k), Usage::GuardedWrites(l)) => k == l,
+        (Usage::GuardedReads(k), Usage::GuardedReads(l))
+        | (Usage::GuardedWrites(k), Usage::GuardedWrites(l)) => k == l,
         _ => false,
     }
 }
@@ -69,7 +70,12 @@ fn push(intervals: &mut Vec<Interval>, interval: Option<Interval>) -> Result<(),
 }
 
 /// The intervals of the claims of this usage.
-fn intervals(alloc: Global, words: u32, claims: &[Claim], usage: Usage) -> Result<Vec<Interval>, Memory>
+fn intervals(
+    alloc: Global,
+    words: u32,
+    claims: &[Claim],
+    usage: Usage,
+) -> Result<Vec<Interval>, Memory>
     ensures { IfOk result (λ found. found.items ≡ filter_map (interval_of words usage) claims.now) }
 {
     let mut found = Vec::new(alloc);
@@ -89,7 +95,12 @@ fn words_of(alloc: Global, words: u32, claims: &[Claim], usage: Usage) -> Result
 }
 
 /// By the number of a lock, the words that claims have under it, to read.
-fn guarded_reads(alloc: Global, words: u32, locks: u32, claims: &[Claim]) -> Result<Sequence<WordSet>, Memory>
+fn guarded_reads(
+    alloc: Global,
+    words: u32,
+    locks: u32,
+    claims: &[Claim],
+) -> Result<Sequence<WordSet>, Memory>
     requires { words ≤ 65536 }
     ensures { IfOk result (λ sets. sets ≡ map (read_under words claims.now) (range_with_len 0 locks)) }
 {
@@ -101,7 +112,12 @@ fn guarded_reads(alloc: Global, words: u32, locks: u32, claims: &[Claim]) -> Res
 }
 
 /// The same, to write.
-fn guarded_writes(alloc: Global, words: u32, locks: u32, claims: &[Claim]) -> Result<Sequence<WordSet>, Memory>
+fn guarded_writes(
+    alloc: Global,
+    words: u32,
+    locks: u32,
+    claims: &[Claim],
+) -> Result<Sequence<WordSet>, Memory>
     requires { words ≤ 65536 }
     ensures { IfOk result (λ sets. sets ≡ map (written_under words claims.now) (range_with_len 0 locks)) }
 {
@@ -138,7 +154,13 @@ fn effects_in(alloc: Global, words: u32, locks: u32, claims: &[Claim]) -> Result
     })
 }
 
-fn declared(alloc: Global, words: u32, locks: u32, claims: &[Claim], task: Start) -> Result<TaskDecl, Memory>
+fn declared(
+    alloc: Global,
+    words: u32,
+    locks: u32,
+    claims: &[Claim],
+    task: Start,
+) -> Result<TaskDecl, Memory>
     requires { words ≤ 65536 }
     ensures { IfOk result (λ declared. declared ≡ task_of words locks claims.now task) }
 {
@@ -164,7 +186,14 @@ fn task_on(tasks: &[Start], phase: u32, core: u32) -> Option<Start>
 }
 
 /// Adds a task, if there is one.
-fn push_task(alloc: Global, tasks: &mut Sequence<TaskDecl>, words: u32, locks: u32, claims: &[Claim], task: Option<Start>) -> Result<(), Memory>
+fn push_task(
+    alloc: Global,
+    tasks: &mut Sequence<TaskDecl>,
+    words: u32,
+    locks: u32,
+    claims: &[Claim],
+    task: Option<Start>,
+) -> Result<(), Memory>
     requires { words ≤ 65536 }
     ensures { OnOk result (tasks.new ≡ tasks.old ++ option_to_list (option_map (task_of words locks claims.now) task)) }
 {
@@ -175,19 +204,40 @@ fn push_task(alloc: Global, tasks: &mut Sequence<TaskDecl>, words: u32, locks: u
 }
 
 /// The tasks of a phase, by their cores.
-fn phase_of(alloc: Global, words: u32, locks: u32, claims: &[Claim], tasks: &[Start], number: u32) -> Result<Phase, Memory>
+fn phase_of(
+    alloc: Global,
+    words: u32,
+    locks: u32,
+    claims: &[Claim],
+    tasks: &[Start],
+    number: u32,
+) -> Result<Phase, Memory>
     requires { words ≤ 65536 }
     ensures { IfOk result (λ phase. phase ≡ phase_of words locks claims.now tasks.now number) }
 {
     let mut found = Sequence::new(alloc);
     for core in 0..16 {
-        push_task(alloc, &mut found, words, locks, claims, task_on(tasks, number, core))?;
+        push_task(
+            alloc,
+            &mut found,
+            words,
+            locks,
+            claims,
+            task_on(tasks, number, core),
+        )?;
     }
     Ok(Phase { tasks: found })
 }
 
 /// The phases, which are numbered from 1.
-fn phases_of(alloc: Global, words: u32, locks: u32, claims: &[Claim], tasks: &[Start], count: u32) -> Result<Sequence<Phase>, Memory>
+fn phases_of(
+    alloc: Global,
+    words: u32,
+    locks: u32,
+    claims: &[Claim],
+    tasks: &[Start],
+    count: u32,
+) -> Result<Sequence<Phase>, Memory>
     requires words { words ≤ 65536 }
     requires count { count ≤ 64 }
     ensures { IfOk result (λ phases. phases ≡ map (phase_of words locks claims.now tasks.now) (range_with_len 1 count)) }
@@ -209,9 +259,26 @@ pub(crate) fn finish(alloc: Global, draft: Draft) -> Result<Program, Memory>
 {
     let words = draft.count.words;
     let locks = draft.locks.len() as u32;
-    let phases = phases_of(alloc, words, locks, draft.claims.as_slice(), draft.tasks.as_slice(), draft.phases)?;
+    let phases = phases_of(
+        alloc,
+        words,
+        locks,
+        draft.claims.as_slice(),
+        draft.tasks.as_slice(),
+        draft.phases,
+    )?;
     let memory = first_memory(alloc, words, draft.values.as_slice())?;
-    let Draft { code, regions, locks, values: _, tasks: _, claims: _, phases: _, family: _, count: _ } = draft;
+    let Draft {
+        code,
+        regions,
+        locks,
+        values: _,
+        tasks: _,
+        claims: _,
+        phases: _,
+        family: _,
+        count: _,
+    } = draft;
     Ok(Program {
         code,
         memory: Sequence::from_vec(memory),

@@ -7,6 +7,7 @@ mod emission;
 mod fault;
 mod finishing;
 mod kind;
+mod laws;
 mod names;
 mod number;
 mod operand;
@@ -18,6 +19,7 @@ mod uniting;
 
 pub use assembling::assemble;
 pub use fault::SourceFault;
+pub use laws::only_long_texts_are_too_large;
 
 #[cfg(test)]
 mod tests;

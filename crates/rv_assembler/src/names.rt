@@ -64,9 +64,24 @@ pub(crate) fn counted(count: &Count, statement: &Statement) -> Count
     ensures { result ≡ counted count.now statement.now }
 {
     match *statement {
-        Statement::Instruction(code) => Count { code: more(count.code, size(code)), words: count.words, regions: count.regions, locks: count.locks },
-        Statement::Region { len, .. } => Count { code: count.code, words: more(count.words, length(len)), regions: more(count.regions, 1), locks: count.locks },
-        Statement::Lock { .. } => Count { code: count.code, words: count.words, regions: count.regions, locks: more(count.locks, 1) },
+        Statement::Instruction(code) => Count {
+            code: more(count.code, size(code)),
+            words: count.words,
+            regions: count.regions,
+            locks: count.locks,
+        },
+        Statement::Region { len, .. } => Count {
+            code: count.code,
+            words: more(count.words, length(len)),
+            regions: more(count.regions, 1),
+            locks: count.locks,
+        },
+        Statement::Lock { .. } => Count {
+            code: count.code,
+            words: count.words,
+            regions: count.regions,
+            locks: more(count.locks, 1),
+        },
         _ => *count,
     }
 }
@@ -116,22 +131,50 @@ impl<'a> Names<'a> {
     }
 
     /// Declares the label of a line.
-    fn declare_label(&mut self, text: &'a [u8], count: &Count, saying: &Saying) -> Result<(), Memory>
+    fn declare_label(
+        &mut self,
+        text: &'a [u8],
+        count: &Count,
+        saying: &Saying,
+    ) -> Result<(), Memory>
         ensures { OnOk result ((q : List ℕ) → looked self.new q ≡ first_of (looked self.old q) (label_means text.now count.now saying.now q)) }
     {
         match saying.label {
             None => Ok(()),
-            Some(label) => self.declare(bytes(text, label), Meaning::Label { line: saying.line, place: count.code }),
+            Some(label) => self.declare(
+                bytes(text, label),
+                Meaning::Label {
+                    line: saying.line,
+                    place: count.code,
+                },
+            ),
         }
     }
 
     /// Declares the name of a region or a lock.
-    fn declare_name(&mut self, text: &'a [u8], count: &Count, statement: &Statement) -> Result<(), Memory>
+    fn declare_name(
+        &mut self,
+        text: &'a [u8],
+        count: &Count,
+        statement: &Statement,
+    ) -> Result<(), Memory>
         ensures { OnOk result ((q : List ℕ) → looked self.new q ≡ first_of (looked self.old q) (name_means text.now count.now statement.now q)) }
     {
         match *statement {
-            Statement::Region { name, len } => self.declare(bytes(text, name), Meaning::Region { number: count.regions, start: count.words, len }),
-            Statement::Lock { name } => self.declare(bytes(text, name), Meaning::Lock { number: count.locks }),
+            Statement::Region { name, len } => self.declare(
+                bytes(text, name),
+                Meaning::Region {
+                    number: count.regions,
+                    start: count.words,
+                    len,
+                },
+            ),
+            Statement::Lock { name } => self.declare(
+                bytes(text, name),
+                Meaning::Lock {
+                    number: count.locks,
+                },
+            ),
             _ => Ok(()),
         }
     }
@@ -145,7 +188,12 @@ impl<'a> Names<'a> {
     }
 
     /// Declares the names of a line.
-    fn declare_line(&mut self, text: &'a [u8], count: &Count, reading: &Reading) -> Result<(), Memory>
+    fn declare_line(
+        &mut self,
+        text: &'a [u8],
+        count: &Count,
+        reading: &Reading,
+    ) -> Result<(), Memory>
         ensures { OnOk result ((q : List ℕ) → looked self.new q ≡ first_of (looked self.old q) (declared_by text.now count.now reading.now q)) }
     {
         match reading {
@@ -163,7 +211,12 @@ pub(crate) fn meaning_of<'a>(text: &'a [u8], names: &Names<'a>, token: Token) ->
 }
 
 /// The names that the lines of good form declare.
-pub(crate) fn survey<'a>(alloc: Global, version: u32, text: &'a [u8], lines: &[Line]) -> Result<Names<'a>, Memory>
+pub(crate) fn survey<'a>(
+    alloc: Global,
+    version: u32,
+    text: &'a [u8],
+    lines: &[Line],
+) -> Result<Names<'a>, Memory>
     ensures { IfOk result (λ names. (q : List ℕ) → looked names q ≡ meaning_in text.now no_count (map (reading_of version text.now) lines.now) q) }
 {
     let mut names = Names::new(alloc);

@@ -31,31 +31,125 @@ fn code_for(text: &[u8], operands: &[Token], mnemonic: Mnemonic) -> Code
     ensures { result ≡ code_for text.now operands.now mnemonic }
 {
     match mnemonic {
-        Mnemonic::Lui => Code::Upper { adds_pc: false, rd: register_at(text, operands, 0), number: number_at(operands, 2) },
-        Mnemonic::Auipc => Code::Upper { adds_pc: true, rd: register_at(text, operands, 0), number: number_at(operands, 2) },
-        Mnemonic::Jal => Code::Jump { rd: register_at(text, operands, 0), target: token_at(operands, 2) },
-        Mnemonic::Jalr => Code::JumpRegister { rd: register_at(text, operands, 0), base: register_at(text, operands, 4), offset: number_at(operands, 2) },
-        Mnemonic::Branch(cond) => Code::Branch { cond, a: register_at(text, operands, 0), b: register_at(text, operands, 2), target: token_at(operands, 4) },
-        Mnemonic::Load(width) => Code::Load { width, rd: register_at(text, operands, 0), base: register_at(text, operands, 4), offset: number_at(operands, 2) },
-        Mnemonic::Store(width) => Code::Store { width, src: register_at(text, operands, 0), base: register_at(text, operands, 4), offset: number_at(operands, 2) },
-        Mnemonic::OpImm(op) => Code::OpImm { op, rd: register_at(text, operands, 0), a: register_at(text, operands, 2), imm: number_at(operands, 4) },
-        Mnemonic::Op(op) => Code::Op { op, rd: register_at(text, operands, 0), a: register_at(text, operands, 2), b: register_at(text, operands, 4) },
+        Mnemonic::Lui => Code::Upper {
+            adds_pc: false,
+            rd: register_at(text, operands, 0),
+            number: number_at(operands, 2),
+        },
+        Mnemonic::Auipc => Code::Upper {
+            adds_pc: true,
+            rd: register_at(text, operands, 0),
+            number: number_at(operands, 2),
+        },
+        Mnemonic::Jal => Code::Jump {
+            rd: register_at(text, operands, 0),
+            target: token_at(operands, 2),
+        },
+        Mnemonic::Jalr => Code::JumpRegister {
+            rd: register_at(text, operands, 0),
+            base: register_at(text, operands, 4),
+            offset: number_at(operands, 2),
+        },
+        Mnemonic::Branch(cond) => Code::Branch {
+            cond,
+            a: register_at(text, operands, 0),
+            b: register_at(text, operands, 2),
+            target: token_at(operands, 4),
+        },
+        Mnemonic::Load(width) => Code::Load {
+            width,
+            rd: register_at(text, operands, 0),
+            base: register_at(text, operands, 4),
+            offset: number_at(operands, 2),
+        },
+        Mnemonic::Store(width) => Code::Store {
+            width,
+            src: register_at(text, operands, 0),
+            base: register_at(text, operands, 4),
+            offset: number_at(operands, 2),
+        },
+        Mnemonic::OpImm(op) => Code::OpImm {
+            op,
+            rd: register_at(text, operands, 0),
+            a: register_at(text, operands, 2),
+            imm: number_at(operands, 4),
+        },
+        Mnemonic::Op(op) => Code::Op {
+            op,
+            rd: register_at(text, operands, 0),
+            a: register_at(text, operands, 2),
+            b: register_at(text, operands, 4),
+        },
         Mnemonic::Fence => Code::Fence,
         Mnemonic::Ecall => Code::Ecall,
         Mnemonic::Ebreak => Code::Ebreak,
-        Mnemonic::Nop => Code::OpImm { op: AluOp::Add, rd: register_numbered(0), a: register_numbered(0), imm: 0 },
-        Mnemonic::Mv => Code::OpImm { op: AluOp::Add, rd: register_at(text, operands, 0), a: register_at(text, operands, 2), imm: 0 },
-        Mnemonic::Not => Code::OpImm { op: AluOp::Xor, rd: register_at(text, operands, 0), a: register_at(text, operands, 2), imm: -1 },
-        Mnemonic::Neg => Code::Op { op: AluOp::Sub, rd: register_at(text, operands, 0), a: register_numbered(0), b: register_at(text, operands, 2) },
-        Mnemonic::Seqz => Code::OpImm { op: AluOp::Sltu, rd: register_at(text, operands, 0), a: register_at(text, operands, 2), imm: 1 },
-        Mnemonic::Snez => Code::Op { op: AluOp::Sltu, rd: register_at(text, operands, 0), a: register_numbered(0), b: register_at(text, operands, 2) },
-        Mnemonic::BranchZero(cond) => Code::Branch { cond, a: register_at(text, operands, 0), b: register_numbered(0), target: token_at(operands, 2) },
-        Mnemonic::J => Code::Jump { rd: register_numbered(0), target: token_at(operands, 0) },
-        Mnemonic::Jr => Code::JumpRegister { rd: register_numbered(0), base: register_at(text, operands, 0), offset: 0 },
-        Mnemonic::Ret => Code::JumpRegister { rd: register_numbered(0), base: register_numbered(1), offset: 0 },
-        Mnemonic::Li => Code::LoadNumber { rd: register_at(text, operands, 0), number: number_at(operands, 2) },
-        Mnemonic::La => Code::LoadAddress { rd: register_at(text, operands, 0), name: token_at(operands, 2) },
-        Mnemonic::Raw => Code::Raw { number: number_at(operands, 0) },
+        Mnemonic::Nop => Code::OpImm {
+            op: AluOp::Add,
+            rd: register_numbered(0),
+            a: register_numbered(0),
+            imm: 0,
+        },
+        Mnemonic::Mv => Code::OpImm {
+            op: AluOp::Add,
+            rd: register_at(text, operands, 0),
+            a: register_at(text, operands, 2),
+            imm: 0,
+        },
+        Mnemonic::Not => Code::OpImm {
+            op: AluOp::Xor,
+            rd: register_at(text, operands, 0),
+            a: register_at(text, operands, 2),
+            imm: -1,
+        },
+        Mnemonic::Neg => Code::Op {
+            op: AluOp::Sub,
+            rd: register_at(text, operands, 0),
+            a: register_numbered(0),
+            b: register_at(text, operands, 2),
+        },
+        Mnemonic::Seqz => Code::OpImm {
+            op: AluOp::Sltu,
+            rd: register_at(text, operands, 0),
+            a: register_at(text, operands, 2),
+            imm: 1,
+        },
+        Mnemonic::Snez => Code::Op {
+            op: AluOp::Sltu,
+            rd: register_at(text, operands, 0),
+            a: register_numbered(0),
+            b: register_at(text, operands, 2),
+        },
+        Mnemonic::BranchZero(cond) => Code::Branch {
+            cond,
+            a: register_at(text, operands, 0),
+            b: register_numbered(0),
+            target: token_at(operands, 2),
+        },
+        Mnemonic::J => Code::Jump {
+            rd: register_numbered(0),
+            target: token_at(operands, 0),
+        },
+        Mnemonic::Jr => Code::JumpRegister {
+            rd: register_numbered(0),
+            base: register_at(text, operands, 0),
+            offset: 0,
+        },
+        Mnemonic::Ret => Code::JumpRegister {
+            rd: register_numbered(0),
+            base: register_numbered(1),
+            offset: 0,
+        },
+        Mnemonic::Li => Code::LoadNumber {
+            rd: register_at(text, operands, 0),
+            number: number_at(operands, 2),
+        },
+        Mnemonic::La => Code::LoadAddress {
+            rd: register_at(text, operands, 0),
+            name: token_at(operands, 2),
+        },
+        Mnemonic::Raw => Code::Raw {
+            number: number_at(operands, 0),
+        },
     }
 }
 
@@ -69,7 +163,11 @@ fn extent_for(operands: &[Token], form: Form, first: usize) -> Extent
     match form {
         Form::Whole => Extent::Whole,
         Form::Part => Extent::Part { lo, hi },
-        Form::Stepped => Extent::Stepped { lo, hi, step: number_at(operands, first + 6) },
+        Form::Stepped => Extent::Stepped {
+            lo,
+            hi,
+            step: number_at(operands, first + 6),
+        },
     }
 }
 
@@ -78,14 +176,45 @@ fn directive_for(operands: &[Token], directive: Directive) -> Statement
     ensures { result ≡ directive_for operands.now directive }
 {
     match directive {
-        Directive::Region => Statement::Region { name: token_at(operands, 0), len: number_at(operands, 2) },
-        Directive::Word => Statement::Word { region: token_at(operands, 0), index: number_at(operands, 2), value: wrapped(number_at(operands, 4)) },
-        Directive::Lock => Statement::Lock { name: token_at(operands, 0) },
+        Directive::Region => Statement::Region {
+            name: token_at(operands, 0),
+            len: number_at(operands, 2),
+        },
+        Directive::Word => Statement::Word {
+            region: token_at(operands, 0),
+            index: number_at(operands, 2),
+            value: wrapped(number_at(operands, 4)),
+        },
+        Directive::Lock => Statement::Lock {
+            name: token_at(operands, 0),
+        },
         Directive::Phase => Statement::Phase,
-        Directive::Task => Statement::Tasks(Family { core: number_at(operands, 0), count: 1, entry: token_at(operands, 2), arg: wrapped(number_at(operands, 4)), step: 0 }),
-        Directive::Forall => Statement::Tasks(Family { core: number_at(operands, 0), count: number_at(operands, 2), entry: token_at(operands, 4), arg: wrapped(number_at(operands, 6)), step: wrapped(number_at(operands, 8)) }),
-        Directive::Uses { writes, form } => Statement::Uses(Effect { writes, lock: None, region: token_at(operands, 0), extent: extent_for(operands, form, 0) }),
-        Directive::Guarded { writes, form } => Statement::Uses(Effect { writes, lock: Some(token_at(operands, 0)), region: token_at(operands, 2), extent: extent_for(operands, form, 2) }),
+        Directive::Task => Statement::Tasks(Family {
+            core: number_at(operands, 0),
+            count: 1,
+            entry: token_at(operands, 2),
+            arg: wrapped(number_at(operands, 4)),
+            step: 0,
+        }),
+        Directive::Forall => Statement::Tasks(Family {
+            core: number_at(operands, 0),
+            count: number_at(operands, 2),
+            entry: token_at(operands, 4),
+            arg: wrapped(number_at(operands, 6)),
+            step: wrapped(number_at(operands, 8)),
+        }),
+        Directive::Uses { writes, form } => Statement::Uses(Effect {
+            writes,
+            lock: None,
+            region: token_at(operands, 0),
+            extent: extent_for(operands, form, 0),
+        }),
+        Directive::Guarded { writes, form } => Statement::Uses(Effect {
+            writes,
+            lock: Some(token_at(operands, 0)),
+            region: token_at(operands, 2),
+            extent: extent_for(operands, form, 2),
+        }),
     }
 }
 
@@ -100,7 +229,12 @@ fn statement_for(text: &[u8], operands: &[Token], kind: Kind) -> Statement
 }
 
 /// The statement of these tokens, the first of which is its word.
-fn statement(version_2: bool, text: &[u8], line: u32, tokens: &[Token]) -> Result<Statement, SourceFault>
+fn statement(
+    version_2: bool,
+    text: &[u8],
+    line: u32,
+    tokens: &[Token],
+) -> Result<Statement, SourceFault>
     ensures { result ≡ statement_in version_2 text.now line tokens.now }
 {
     match tokens {
@@ -127,19 +261,32 @@ fn said(line: u32, statement: Result<Statement, SourceFault>) -> Reading
 {
     match statement {
         Err(fault) => Reading::Bad(fault),
-        Ok(statement) => Reading::Good(Saying { line, label: None, statement }),
+        Ok(statement) => Reading::Good(Saying {
+            line,
+            label: None,
+            statement,
+        }),
     }
 }
 
 /// A line says its label and its statement; the label is a name that may be declared.
-fn labelled(text: &[u8], line: u32, label: Token, statement: Result<Statement, SourceFault>) -> Reading
+fn labelled(
+    text: &[u8],
+    line: u32,
+    label: Token,
+    statement: Result<Statement, SourceFault>,
+) -> Reading
     ensures { result ≡ labelled text.now line label statement }
 {
     match statement {
         Err(fault) => Reading::Bad(fault),
         Ok(statement) => {
             if is_plain(text, label) {
-                Reading::Good(Saying { line, label: Some(label), statement })
+                Reading::Good(Saying {
+                    line,
+                    label: Some(label),
+                    statement,
+                })
             } else {
                 Reading::Bad(SourceFault::BadOperand { line })
             }
@@ -175,7 +322,11 @@ pub(crate) fn read_line(version: u32, text: &[u8], line: &Line) -> Reading
     ensures { result ≡ reading_of version text.now line.now }
 {
     if line.number == version {
-        return Reading::Good(Saying { line: line.number, label: None, statement: Statement::Nothing });
+        return Reading::Good(Saying {
+            line: line.number,
+            label: None,
+            statement: Statement::Nothing,
+        });
     }
     match line.fault {
         Some(fault) => Reading::Bad(fault_at(line.number, fault)),
@@ -188,7 +339,8 @@ fn is_version(text: &[u8], line: &Line) -> bool
     ensures { result ≡ is_version text.now line.now }
 {
     match line.tokens.as_slice() {
-        [word, number] => bytes(text, *word) == b".version".as_slice() && bytes(text, *number) == b"2".as_slice(),
+        [word, number] => bytes(text, *word) == b".version".as_slice()
+            && bytes(text, *number) == b"2".as_slice(),
         _ => false,
     }
 }
@@ -206,7 +358,11 @@ pub(crate) fn version_line(text: &[u8], lines: &[Line]) -> u32
 {
     for line in lines {
         if !is_blank(line) {
-            return if is_version(text, line) { line.number } else { 0 };
+            return if is_version(text, line) {
+                line.number
+            } else {
+                0
+            };
         }
     }
     0

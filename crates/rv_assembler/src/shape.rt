@@ -13,26 +13,50 @@ use src_text::{Token, TokenKind, register};
 type Row = (&'static [u8], &'static [Piece], Kind, bool);
 
 const NONE: &[Piece] = &[];
+
 const R: &[Piece] = &[Register];
+
 const T: &[Piece] = &[Target];
+
 const N: &[Piece] = &[Number];
+
 const NAME: &[Piece] = &[Name];
+
 const R_N: &[Piece] = &[Register, Comma, Number];
+
 const R_T: &[Piece] = &[Register, Comma, Target];
+
 const R_R: &[Piece] = &[Register, Comma, Register];
+
 const R_NAME: &[Piece] = &[Register, Comma, Name];
+
 const R_R_T: &[Piece] = &[Register, Comma, Register, Comma, Target];
+
 const R_R_N: &[Piece] = &[Register, Comma, Register, Comma, Number];
+
 const R_R_R: &[Piece] = &[Register, Comma, Register, Comma, Register];
+
 const R_AT: &[Piece] = &[Register, Comma, Number, Left, Register, Right];
+
 const NAME_N: &[Piece] = &[Name, Comma, Number];
+
 const NAME_N_N: &[Piece] = &[Name, Comma, Number, Comma, Number];
+
 const NAME_N_N_N: &[Piece] = &[Name, Comma, Number, Comma, Number, Comma, Number];
+
 const NAME_NAME: &[Piece] = &[Name, Comma, Name];
+
 const NAME_NAME_N_N: &[Piece] = &[Name, Comma, Name, Comma, Number, Comma, Number];
-const NAME_NAME_N_N_N: &[Piece] = &[Name, Comma, Name, Comma, Number, Comma, Number, Comma, Number];
+
+const NAME_NAME_N_N_N: &[Piece] = &[
+    Name, Comma, Name, Comma, Number, Comma, Number, Comma, Number,
+];
+
 const N_T_N: &[Piece] = &[Number, Comma, Target, Comma, Number];
-const N_N_T_N_N: &[Piece] = &[Number, Comma, Number, Comma, Target, Comma, Number, Comma, Number];
+
+const N_N_T_N_N: &[Piece] = &[
+    Number, Comma, Number, Comma, Target, Comma, Number, Comma, Number,
+];
 
 const MEMORY_ROWS: [Row; 18] = [
     (b"lui", R_N, Kind::Code(Mnemonic::Lui), false),
@@ -43,8 +67,18 @@ const MEMORY_ROWS: [Row; 18] = [
     (b"bne", R_R_T, Kind::Code(Mnemonic::Branch(Cond::Ne)), false),
     (b"blt", R_R_T, Kind::Code(Mnemonic::Branch(Cond::Lt)), false),
     (b"bge", R_R_T, Kind::Code(Mnemonic::Branch(Cond::Ge)), false),
-    (b"bltu", R_R_T, Kind::Code(Mnemonic::Branch(Cond::Ltu)), false),
-    (b"bgeu", R_R_T, Kind::Code(Mnemonic::Branch(Cond::Geu)), false),
+    (
+        b"bltu",
+        R_R_T,
+        Kind::Code(Mnemonic::Branch(Cond::Ltu)),
+        false,
+    ),
+    (
+        b"bgeu",
+        R_R_T,
+        Kind::Code(Mnemonic::Branch(Cond::Geu)),
+        false,
+    ),
     (b"lb", R_AT, Kind::Code(Mnemonic::Load(Width::B)), false),
     (b"lh", R_AT, Kind::Code(Mnemonic::Load(Width::H)), false),
     (b"lw", R_AT, Kind::Code(Mnemonic::Load(Width::W)), false),
@@ -56,15 +90,55 @@ const MEMORY_ROWS: [Row; 18] = [
 ];
 
 const OPERATION_ROWS: [Row; 19] = [
-    (b"addi", R_R_N, Kind::Code(Mnemonic::OpImm(AluOp::Add)), false),
-    (b"slti", R_R_N, Kind::Code(Mnemonic::OpImm(AluOp::Slt)), false),
-    (b"sltiu", R_R_N, Kind::Code(Mnemonic::OpImm(AluOp::Sltu)), false),
-    (b"xori", R_R_N, Kind::Code(Mnemonic::OpImm(AluOp::Xor)), false),
+    (
+        b"addi",
+        R_R_N,
+        Kind::Code(Mnemonic::OpImm(AluOp::Add)),
+        false,
+    ),
+    (
+        b"slti",
+        R_R_N,
+        Kind::Code(Mnemonic::OpImm(AluOp::Slt)),
+        false,
+    ),
+    (
+        b"sltiu",
+        R_R_N,
+        Kind::Code(Mnemonic::OpImm(AluOp::Sltu)),
+        false,
+    ),
+    (
+        b"xori",
+        R_R_N,
+        Kind::Code(Mnemonic::OpImm(AluOp::Xor)),
+        false,
+    ),
     (b"ori", R_R_N, Kind::Code(Mnemonic::OpImm(AluOp::Or)), false),
-    (b"andi", R_R_N, Kind::Code(Mnemonic::OpImm(AluOp::And)), false),
-    (b"slli", R_R_N, Kind::Code(Mnemonic::OpImm(AluOp::Sll)), false),
-    (b"srli", R_R_N, Kind::Code(Mnemonic::OpImm(AluOp::Srl)), false),
-    (b"srai", R_R_N, Kind::Code(Mnemonic::OpImm(AluOp::Sra)), false),
+    (
+        b"andi",
+        R_R_N,
+        Kind::Code(Mnemonic::OpImm(AluOp::And)),
+        false,
+    ),
+    (
+        b"slli",
+        R_R_N,
+        Kind::Code(Mnemonic::OpImm(AluOp::Sll)),
+        false,
+    ),
+    (
+        b"srli",
+        R_R_N,
+        Kind::Code(Mnemonic::OpImm(AluOp::Srl)),
+        false,
+    ),
+    (
+        b"srai",
+        R_R_N,
+        Kind::Code(Mnemonic::OpImm(AluOp::Sra)),
+        false,
+    ),
     (b"add", R_R_R, Kind::Code(Mnemonic::Op(AluOp::Add)), false),
     (b"sub", R_R_R, Kind::Code(Mnemonic::Op(AluOp::Sub)), false),
     (b"sll", R_R_R, Kind::Code(Mnemonic::Op(AluOp::Sll)), false),
@@ -87,8 +161,18 @@ const SHORT_ROWS: [Row; 17] = [
     (b"neg", R_R, Kind::Code(Mnemonic::Neg), false),
     (b"seqz", R_R, Kind::Code(Mnemonic::Seqz), false),
     (b"snez", R_R, Kind::Code(Mnemonic::Snez), false),
-    (b"beqz", R_T, Kind::Code(Mnemonic::BranchZero(Cond::Eq)), false),
-    (b"bnez", R_T, Kind::Code(Mnemonic::BranchZero(Cond::Ne)), false),
+    (
+        b"beqz",
+        R_T,
+        Kind::Code(Mnemonic::BranchZero(Cond::Eq)),
+        false,
+    ),
+    (
+        b"bnez",
+        R_T,
+        Kind::Code(Mnemonic::BranchZero(Cond::Ne)),
+        false,
+    ),
     (b"j", T, Kind::Code(Mnemonic::J), false),
     (b"jr", R, Kind::Code(Mnemonic::Jr), false),
     (b"ret", NONE, Kind::Code(Mnemonic::Ret), false),
@@ -103,22 +187,118 @@ const DIRECTIVE_ROWS: [Row; 13] = [
     (b".lock", NAME, Kind::Table(Directive::Lock), false),
     (b".phase", NONE, Kind::Table(Directive::Phase), false),
     (b".task", N_T_N, Kind::Table(Directive::Task), false),
-    (b".reads", NAME, Kind::Table(Directive::Uses { writes: false, form: Form::Whole }), false),
-    (b".reads", NAME_N_N, Kind::Table(Directive::Uses { writes: false, form: Form::Part }), false),
-    (b".writes", NAME, Kind::Table(Directive::Uses { writes: true, form: Form::Whole }), false),
-    (b".writes", NAME_N_N, Kind::Table(Directive::Uses { writes: true, form: Form::Part }), false),
-    (b".greads", NAME_NAME, Kind::Table(Directive::Guarded { writes: false, form: Form::Whole }), false),
-    (b".greads", NAME_NAME_N_N, Kind::Table(Directive::Guarded { writes: false, form: Form::Part }), false),
-    (b".gwrites", NAME_NAME, Kind::Table(Directive::Guarded { writes: true, form: Form::Whole }), false),
-    (b".gwrites", NAME_NAME_N_N, Kind::Table(Directive::Guarded { writes: true, form: Form::Part }), false),
+    (
+        b".reads",
+        NAME,
+        Kind::Table(Directive::Uses {
+            writes: false,
+            form: Form::Whole,
+        }),
+        false,
+    ),
+    (
+        b".reads",
+        NAME_N_N,
+        Kind::Table(Directive::Uses {
+            writes: false,
+            form: Form::Part,
+        }),
+        false,
+    ),
+    (
+        b".writes",
+        NAME,
+        Kind::Table(Directive::Uses {
+            writes: true,
+            form: Form::Whole,
+        }),
+        false,
+    ),
+    (
+        b".writes",
+        NAME_N_N,
+        Kind::Table(Directive::Uses {
+            writes: true,
+            form: Form::Part,
+        }),
+        false,
+    ),
+    (
+        b".greads",
+        NAME_NAME,
+        Kind::Table(Directive::Guarded {
+            writes: false,
+            form: Form::Whole,
+        }),
+        false,
+    ),
+    (
+        b".greads",
+        NAME_NAME_N_N,
+        Kind::Table(Directive::Guarded {
+            writes: false,
+            form: Form::Part,
+        }),
+        false,
+    ),
+    (
+        b".gwrites",
+        NAME_NAME,
+        Kind::Table(Directive::Guarded {
+            writes: true,
+            form: Form::Whole,
+        }),
+        false,
+    ),
+    (
+        b".gwrites",
+        NAME_NAME_N_N,
+        Kind::Table(Directive::Guarded {
+            writes: true,
+            form: Form::Part,
+        }),
+        false,
+    ),
 ];
 
 const LATER_ROWS: [Row; 5] = [
     (b".forall", N_N_T_N_N, Kind::Table(Directive::Forall), true),
-    (b".reads", NAME_N_N_N, Kind::Table(Directive::Uses { writes: false, form: Form::Stepped }), true),
-    (b".writes", NAME_N_N_N, Kind::Table(Directive::Uses { writes: true, form: Form::Stepped }), true),
-    (b".greads", NAME_NAME_N_N_N, Kind::Table(Directive::Guarded { writes: false, form: Form::Stepped }), true),
-    (b".gwrites", NAME_NAME_N_N_N, Kind::Table(Directive::Guarded { writes: true, form: Form::Stepped }), true),
+    (
+        b".reads",
+        NAME_N_N_N,
+        Kind::Table(Directive::Uses {
+            writes: false,
+            form: Form::Stepped,
+        }),
+        true,
+    ),
+    (
+        b".writes",
+        NAME_N_N_N,
+        Kind::Table(Directive::Uses {
+            writes: true,
+            form: Form::Stepped,
+        }),
+        true,
+    ),
+    (
+        b".greads",
+        NAME_NAME_N_N_N,
+        Kind::Table(Directive::Guarded {
+            writes: false,
+            form: Form::Stepped,
+        }),
+        true,
+    ),
+    (
+        b".gwrites",
+        NAME_NAME_N_N_N,
+        Kind::Table(Directive::Guarded {
+            writes: true,
+            form: Form::Stepped,
+        }),
+        true,
+    ),
 ];
 
 /// The rows of upper immediates, jumps, branches, loads and stores.
@@ -200,7 +380,8 @@ fn fits(text: &[u8], pieces: &[Piece], tokens: &[Token]) -> bool
         },
         [piece, more_pieces @ ..] => match tokens {
             [] => false,
-            [token, more_tokens @ ..] => piece_fits(text, *piece, *token) && fits(text, more_pieces, more_tokens),
+            [token, more_tokens @ ..] => piece_fits(text, *piece, *token)
+                && fits(text, more_pieces, more_tokens),
         },
     }
 }
@@ -236,7 +417,13 @@ pub(crate) fn knows(version_2: bool, word: &[u8]) -> bool
 }
 
 /// What the first row of the word that the operands fit says.
-fn kind_in(version_2: bool, text: &[u8], word: &[u8], operands: &[Token], rows: &[Row]) -> Option<Kind>
+fn kind_in(
+    version_2: bool,
+    text: &[u8],
+    word: &[u8],
+    operands: &[Token],
+    rows: &[Row],
+) -> Option<Kind>
     ensures { result ≡ kind_in version_2 text.now word.now operands.now (map shape_of rows.now) }
 {
     for row in rows {

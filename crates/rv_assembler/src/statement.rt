@@ -5,23 +5,67 @@ use src_text::Token;
 #[derive(Clone, Copy)]
 pub(crate) enum Code {
     /// LUI, or AUIPC where the program counter is added.
-    Upper { adds_pc: bool, rd: Reg, number: i64 },
-    Jump { rd: Reg, target: Token },
-    JumpRegister { rd: Reg, base: Reg, offset: i64 },
-    Branch { cond: Cond, a: Reg, b: Reg, target: Token },
-    Load { width: Width, rd: Reg, base: Reg, offset: i64 },
-    Store { width: Width, src: Reg, base: Reg, offset: i64 },
-    OpImm { op: AluOp, rd: Reg, a: Reg, imm: i64 },
-    Op { op: AluOp, rd: Reg, a: Reg, b: Reg },
+    Upper {
+        adds_pc: bool,
+        rd: Reg,
+        number: i64,
+    },
+    Jump {
+        rd: Reg,
+        target: Token,
+    },
+    JumpRegister {
+        rd: Reg,
+        base: Reg,
+        offset: i64,
+    },
+    Branch {
+        cond: Cond,
+        a: Reg,
+        b: Reg,
+        target: Token,
+    },
+    Load {
+        width: Width,
+        rd: Reg,
+        base: Reg,
+        offset: i64,
+    },
+    Store {
+        width: Width,
+        src: Reg,
+        base: Reg,
+        offset: i64,
+    },
+    OpImm {
+        op: AluOp,
+        rd: Reg,
+        a: Reg,
+        imm: i64,
+    },
+    Op {
+        op: AluOp,
+        rd: Reg,
+        a: Reg,
+        b: Reg,
+    },
     Fence,
     Ecall,
     Ebreak,
     /// Two words that load a number.
-    LoadNumber { rd: Reg, number: i64 },
+    LoadNumber {
+        rd: Reg,
+        number: i64,
+    },
     /// Two words that load the address of a region or of a label.
-    LoadAddress { rd: Reg, name: Token },
+    LoadAddress {
+        rd: Reg,
+        name: Token,
+    },
     /// The word itself.
-    Raw { number: i64 },
+    Raw {
+        number: i64,
+    },
 }
 
 /// Tasks of the current phase, on `count` cores from `core` on: their entry, an address or the name of a label, the
@@ -60,10 +104,19 @@ pub(crate) struct Effect {
 pub(crate) enum Statement {
     Nothing,
     Instruction(Code),
-    Region { name: Token, len: i64 },
+    Region {
+        name: Token,
+        len: i64,
+    },
     /// The first value of a word of a region.
-    Word { region: Token, index: i64, value: u32 },
-    Lock { name: Token },
+    Word {
+        region: Token,
+        index: i64,
+        value: u32,
+    },
+    Lock {
+        name: Token,
+    },
     Phase,
     Tasks(Family),
     Uses(Effect),

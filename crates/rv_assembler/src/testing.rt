@@ -38,7 +38,13 @@ fn stepped_fits(lo: i128, hi: i128, step: i64, len: i64, count: u32) -> bool
     if !is_interval(lo, hi, len) {
         return false;
     }
-    stepped_fits(lo + i128::from(step), hi + i128::from(step), step, len, count - 1)
+    stepped_fits(
+        lo + i128::from(step),
+        hi + i128::from(step),
+        step,
+        len,
+        count - 1,
+    )
 }
 
 /// Whether words of a region aren't all its own, for some of `count` tasks.
@@ -51,7 +57,13 @@ fn extent_far(place: Option<Place>, extent: Extent, count: u32) -> bool
     match extent {
         Extent::Whole => false,
         Extent::Part { lo, hi } => !is_interval(i128::from(lo), i128::from(hi), place.len),
-        Extent::Stepped { lo, hi, step } => !stepped_fits(i128::from(lo), i128::from(hi), step, place.len, count),
+        Extent::Stepped { lo, hi, step } => !stepped_fits(
+            i128::from(lo),
+            i128::from(hi),
+            step,
+            place.len,
+            count,
+        ),
     }
 }
 
@@ -94,7 +106,11 @@ fn out_of_range<'a>(text: &'a [u8], names: &Names<'a>, draft: &Draft, statement:
     match *statement {
         Statement::Instruction(code) => is_far(emit(text, names, draft.count.code, code)),
         Statement::Region { len, .. } => !is_length(len),
-        Statement::Word { region, index, value: _value } => word_far(region_named(text, names, region), index),
+        Statement::Word {
+            region,
+            index,
+            value: _value,
+        } => word_far(region_named(text, names, region), index),
         Statement::Tasks(family) => family_far(family),
         Statement::Uses(effect) => extent_far(
             region_named(text, names, effect.region),
@@ -140,7 +156,10 @@ fn name_doubled<'a>(text: &'a [u8], names: &Names<'a>, count: &Count, statement:
     ensures { result ≡ name_doubled text.now (looked names.now) count.now statement.now }
 {
     match *statement {
-        Statement::Region { name, len: _len } => region_doubled(meaning_of(text, names, name), count.regions),
+        Statement::Region { name, len: _len } => region_doubled(
+            meaning_of(text, names, name),
+            count.regions,
+        ),
         Statement::Lock { name } => lock_doubled(meaning_of(text, names, name), count.locks),
         _ => false,
     }
@@ -197,7 +216,11 @@ fn unknown<'a>(text: &'a [u8], names: &Names<'a>, here: u32, statement: &Stateme
 {
     match *statement {
         Statement::Instruction(code) => is_lost(emit(text, names, here, code)),
-        Statement::Word { region, index: _index, value: _value } => no_region(text, names, region),
+        Statement::Word {
+            region,
+            index: _index,
+            value: _value,
+        } => no_region(text, names, region),
         Statement::Tasks(family) => entry_lost(text, names, family.entry),
         Statement::Uses(effect) => effect_lost(text, names, effect),
         _ => false,
@@ -208,7 +231,9 @@ fn unknown<'a>(text: &'a [u8], names: &Names<'a>, here: u32, statement: &Stateme
 fn has_task(tasks: &[Start], phase: u32, core: u32) -> bool
     ensures { result ≡ has_task phase core tasks.now }
 {
-    tasks.iter().any(|task| task.phase == phase && task.core == core)
+    tasks
+        .iter()
+        .any(|task| task.phase == phase && task.core == core)
 }
 
 /// Whether one of `count` cores from `first` on has a task in a phase.
@@ -232,7 +257,12 @@ fn misplaced(draft: &Draft, statement: &Statement) -> bool
     match *statement {
         Statement::Tasks(family) => {
             draft.phases == 0
-                || taken(draft.tasks.as_slice(), draft.phases, wrapped(family.core), wrapped(family.count))
+                || taken(
+                    draft.tasks.as_slice(),
+                    draft.phases,
+                    wrapped(family.core),
+                    wrapped(family.count),
+                )
         }
         Statement::Uses(_) => draft.family.count == 0,
         _ => false,
@@ -259,7 +289,12 @@ pub(crate) fn over_limit(version_2: bool, draft: &Draft) -> bool
 }
 
 /// The first fault of a line, but for the limits.
-pub(crate) fn early_fault<'a>(text: &'a [u8], names: &Names<'a>, draft: &Draft, saying: &Saying) -> Option<SourceFault>
+pub(crate) fn early_fault<'a>(
+    text: &'a [u8],
+    names: &Names<'a>,
+    draft: &Draft,
+    saying: &Saying,
+) -> Option<SourceFault>
     ensures { result ≡ early_fault text.now (looked names.now) draft.now saying.now }
 {
     let line = saying.line;

@@ -1,8 +1,7 @@
-use Rattle.std.proofs.Common.{◌≡◌, ◌<◌, false, None, nat_lt, sym, ◌∙◌}
+use Rattle.std.proofs.Common.{◌≡◌, false, None, nat_lt, sym, ◌∙◌}
 use Rattle.rv_assembler.specs.Lookup.{looked}
-use Rattle.rv_assembler.specs.Draft.{after}
 use Rattle.rv_assembler.specs.Fault.{early_fault, over_limit}
-use Rattle.rv_assembler.proofs.SoundLemmas.{Sound, IsWithin, sound-after, within, whole}
+use Rattle.rv_assembler.proofs.SoundLemmas.{sound-after, within, whole}
 use Rattle.rv_assembler.proofs.SourceLemmas.{line-more}
 use Rattle.rv_assembler.proofs.assembling.add_up.Goals as goal
 

@@ -1,4 +1,4 @@
-use Rattle.std.proofs.Common.{◌+◌, ◌-◌, arith, sym, ◌∙◌}
+use Rattle.std.proofs.Common.{◌+◌, ◌-◌, arith}
 use Rattle.rv_assembler.proofs.LoopLemmas.{claimed_step}
 use Rattle.rv_assembler.proofs.draft.push_claims.Goals as goal
 

@@ -1,4 +1,4 @@
-use Rattle.std.proofs.Common.{rules, ◌≡◌, arith, sym, ◌∙◌, Bool, true}
+use Rattle.std.proofs.Common.{rules, ◌≡◌, arith, true}
 use Rattle.rv_assembler.specs.Number.{is_interval}
 use Rattle.rv_assembler.proofs.LoopLemmas.{stepped_join}
 use Rattle.rv_assembler.proofs.testing.+stepped_fits.Goals as goal

@@ -1,0 +1,9 @@
+//! What holds of the meaning of every text, as laws: functions that do nothing, whose contracts say it.
+ghost use Rattle.std.specs.Prelude.{◌≡◌, ◌<◌, ℕ, List, length, Err};
+ghost use Rattle.rv_assembler.specs.declared.fault.SourceFault.TheVariants.{TooLarge};
+ghost use Rattle.rv_assembler.specs.Source.{source};
+
+/// `TooLarge` is the fault of texts of more than 1,048,576 bytes alone: no line has it.
+pub fn only_long_texts_are_too_large()
+    ensures { (text : List ℕ) → source text ≡ Err TooLarge → 1048576 < length text }
+{}
