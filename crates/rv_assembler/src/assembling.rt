@@ -73,8 +73,8 @@ fn draft_in(alloc: Global, text: &[u8]) -> Result<Draft, SourceFault>
 /// first line that isn't blank is `.version 2` may declare families of tasks, and 4,096 regions in place of 256.
 ///
 /// # Errors
-/// `TooLarge` exactly where the text has more than 1,048,576 bytes. Else the first faulty line decides, and on it the
-/// first fault in the order of `SourceFault`. `Memory` where there is no room.
+/// `TooLarge` where the text has more bytes than 1,048,576, and nowhere else. Of all other texts the first line with a
+/// fault decides, by the first of its faults in the order of `SourceFault`. `Memory` where there is no room.
 pub fn assemble(alloc: Global, text: &[u8]) -> Result<Program, SourceFault>
     ensures ok { IfOk result (λ program. source text.now ≡ Ok program) }
     ensures err { IfErr result (λ f. f ≢ NoMemory → source text.now ≡ Err f) }

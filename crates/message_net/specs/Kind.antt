@@ -1,0 +1,22 @@
+-- The kind of event in which a message is handled.
+use Rattle.message_net.specs.declared.message.Message as message
+use Rattle.message_net.specs.declared.message.Message.{Message}
+use Rattle.message_net.specs.declared.event.EventKind as kind
+use Rattle.message_net.specs.declared.event.EventKind.{EventKind}
+
+-- it is the kind with the message's name
+abbrev pub kind_of : Message → EventKind
+kind_of (message.TheVariants.ReadReq word reader) = kind.TheVariants.ReadReq
+kind_of (message.TheVariants.ReadFwd word reader) = kind.TheVariants.ReadFwd
+kind_of (message.TheVariants.DataReply word value) = kind.TheVariants.DataReply
+kind_of (message.TheVariants.RegReq word core) = kind.TheVariants.RegReq
+kind_of (message.TheVariants.RegFwd word core) = kind.TheVariants.RegFwd
+kind_of (message.TheVariants.RegAck word) = kind.TheVariants.RegAck
+kind_of (message.TheVariants.WriteBack word value core) = kind.TheVariants.WriteBack
+kind_of (message.TheVariants.WbAck word) = kind.TheVariants.WbAck
+kind_of (message.TheVariants.Acquire lock core) = kind.TheVariants.Acquire
+kind_of (message.TheVariants.Release lock core signature) = kind.TheVariants.Release
+kind_of (message.TheVariants.Grant lock signature) = kind.TheVariants.Grant
+kind_of (message.TheVariants.Arrived core bad) = kind.TheVariants.Arrived
+kind_of (message.TheVariants.Go phase) = kind.TheVariants.Go
+kind_of message.TheVariants.Halt = kind.TheVariants.Halt

@@ -1,0 +1,3 @@
+pub mod Kind
+pub mod Id
+pub mod Pool

@@ -1,0 +1,48 @@
+-- The mails in flight, as a list whose order is part of what the calls promise.
+use Rattle.std.specs.Prelude.{ℕ, ◌≤◌, Bool, List, [], ◌∷◌, ◌++◌, length, slice_get, Option, Some, None, count_by, position}
+use Rattle.std.specs.List.{swap_remove}
+use Rattle.message_net.specs.declared.actor.MailId.{MailId}
+use Rattle.message_net.specs.declared.message.Mail.{Mail}
+use Rattle.message_net.specs.Id.{same_id}
+
+-- a pool: the mails, and for how many more of them there is room
+pub record Mails : Type 0 where
+  pub mails : List Mail
+  pub spare : ℕ
+
+-- whether a mail has this id
+abbrev pub of_id : MailId → Mail → Bool
+of_id id m = same_id m.id id
+
+-- how many mails have this id
+abbrev pub count_of : MailId → List Mail → ℕ
+count_of id mails = count_by (of_id id) mails
+
+-- no two mails have one id
+abbrev pub AreDistinct : List Mail → Type 0
+AreDistinct mails = (id : MailId) → count_of id mails ≤ 1
+
+-- what is true of the mails of a pool
+pub record IsPool (mails : List Mail) : Type 0 where
+  pub within : length mails ≤ 4294967295
+  pub distinct : AreDistinct mails
+
+-- a mail is added at the end
+abbrev pub posted : Mail → List Mail → List Mail
+posted m mails = mails ++ m ∷ []
+
+-- the mail at a place, if there is one, leaves, and the last mail moves into the free place
+abbrev pub freed : ℕ → List Mail → Option Mail → List Mail
+freed place mails None = mails
+freed place mails (Some m) = swap_remove mails place m
+
+abbrev pub without : ℕ → List Mail → List Mail
+without place mails = freed place mails (slice_get mails place)
+
+-- the mail with an id, if there is one, and the mails without it
+abbrev pub taken_at : List Mail → Option ℕ → Option Mail × List Mail
+taken_at mails None = (None, mails)
+taken_at mails (Some place) = (slice_get mails place, without place mails)
+
+abbrev pub taken : MailId → List Mail → Option Mail × List Mail
+taken id mails = taken_at mails (position (of_id id) mails)

@@ -1,0 +1,37 @@
+use crate::actor::MailId;
+use dn_base::{CoreId, WordId};
+
+/// One event of the machine.
+#[derive(Clone, Copy, Debug, PartialEq, Eq)]
+pub enum Event {
+    /// An instruction of the core's task, or its miss.
+    Instr(CoreId),
+    /// The core gives up its entry of the word, to make room for another.
+    Evict(CoreId, WordId),
+    /// The core arrives at the barrier.
+    Arrive(CoreId),
+    /// The mail is handled by the actor that it goes to.
+    Handle(MailId),
+}
+
+/// The kinds of event: a core's own, and the handling of each kind of message.
+#[derive(Clone, Copy, Debug, PartialEq, Eq, PartialOrd, Ord)]
+pub enum EventKind {
+    Instr,
+    Evict,
+    Arrive,
+    ReadReq,
+    ReadFwd,
+    DataReply,
+    RegReq,
+    RegFwd,
+    RegAck,
+    WriteBack,
+    WbAck,
+    Acquire,
+    Release,
+    Grant,
+    Arrived,
+    Go,
+    Halt,
+}

@@ -1,0 +1,23 @@
+//! What passes between the cores, the banks and the keeper of a simulated machine: messages, mails, the events of a run,
+//! and the pool of the mails in flight.
+//!
+//! The kinds of message are those of DeNovo (PACT 2011) and DeNovoND (ASPLOS 2013) for single words and queue locks, and
+//! this project's own for the barrier between phases. The network loses nothing, doubles nothing and keeps no order.
+#![tactic(auto)]
+
+mod actor;
+mod event;
+mod laws;
+mod message;
+mod pool;
+#[cfg(test)]
+mod tests;
+
+pub use actor::{Actor, MailId};
+pub use event::{Event, EventKind};
+pub use laws::{
+    a_mail_is_found_by_its_id, a_post_adds_its_mail, a_take_frees_one_mail, equal_ids_are_the_same,
+    ids_stay_distinct,
+};
+pub use message::{Mail, Message, Outgoing};
+pub use pool::Pool;

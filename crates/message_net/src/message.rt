@@ -1,0 +1,117 @@
+ghost use Rattle.std.specs.Prelude.{◌≡◌};
+ghost use Rattle.message_net.specs.Kind.{kind_of};
+
+use crate::actor::{Actor, MailId};
+use crate::event::EventKind;
+use dn_base::{CoreId, LockId, PhaseId, WordId};
+use write_signature::Signature;
+
+/// What one actor tells another.
+#[derive(Clone, Copy, Debug, PartialEq, Eq)]
+pub enum Message {
+    /// A reader asks a word's home for its value.
+    ReadReq {
+        word: WordId,
+        reader: CoreId,
+    },
+    /// The home passes a reader on to the word's registrant.
+    ReadFwd {
+        word: WordId,
+        reader: CoreId,
+    },
+    /// The value of a word, for its reader.
+    DataReply {
+        word: WordId,
+        value: u32,
+    },
+    /// A core that stores to a word asks its home to be its registrant.
+    RegReq {
+        word: WordId,
+        core: CoreId,
+    },
+    /// The home tells the earlier registrant that the core is the registrant now.
+    RegFwd {
+        word: WordId,
+        core: CoreId,
+    },
+    /// The core is the word's registrant.
+    RegAck {
+        word: WordId,
+    },
+    /// A core gives a word that it evicts back to its home.
+    WriteBack {
+        word: WordId,
+        value: u32,
+        core: CoreId,
+    },
+    /// The home has had the write-back.
+    WbAck {
+        word: WordId,
+    },
+    /// A core asks a lock's home for the lock.
+    Acquire {
+        lock: LockId,
+        core: CoreId,
+    },
+    /// A core gives up a lock, with the words that were written under it.
+    Release {
+        lock: LockId,
+        core: CoreId,
+        signature: Signature,
+    },
+    /// The core holds the lock; the signature has the words that were written under it.
+    Grant {
+        lock: LockId,
+        signature: Signature,
+    },
+    /// A core has arrived at the barrier; `bad` where its task ended by a trap or by want of fuel.
+    Arrived {
+        core: CoreId,
+        bad: bool,
+    },
+    /// The next phase begins.
+    Go {
+        phase: PhaseId,
+    },
+    /// The run is over.
+    Halt,
+}
+
+/// A message on its way.
+#[derive(Clone, Copy, Debug, PartialEq, Eq)]
+pub struct Mail {
+    pub id: MailId,
+    pub to: Actor,
+    pub message: Message,
+}
+
+/// A message that an actor sends, and where it goes.
+#[derive(Clone, Copy, Debug, PartialEq, Eq)]
+pub struct Outgoing {
+    pub to: Actor,
+    pub message: Message,
+}
+
+impl Message {
+    /// The kind of event in which the message is handled: the one with its name.
+    pub fn kind(&self) -> EventKind
+        ensures { result ≡ kind_of self.now }
+    {
+        match self {
+            Message::ReadReq { .. } => EventKind::ReadReq,
+            Message::ReadFwd { .. } => EventKind::ReadFwd,
+            Message::DataReply { .. } => EventKind::DataReply,
+            Message::RegReq { .. } => EventKind::RegReq,
+            Message::RegFwd { .. } => EventKind::RegFwd,
+            Message::RegAck { .. } => EventKind::RegAck,
+            Message::WriteBack { .. } => EventKind::WriteBack,
+            Message::WbAck { .. } => EventKind::WbAck,
+            Message::Acquire { .. } => EventKind::Acquire,
+            Message::Release { .. } => EventKind::Release,
+            Message::Grant { .. } => EventKind::Grant,
+            Message::Arrived { .. } => EventKind::Arrived,
+            Message::Go { .. } => EventKind::Go,
+            Message::Halt => EventKind::Halt,
+        }
+    }
+}

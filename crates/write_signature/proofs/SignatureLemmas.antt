@@ -1,0 +1,77 @@
+-- The laws of insertion and join.
+use Rattle.std.proofs.Common.{◌≡◌, ◌≢◌, ℕ, ◌-◌, ◌<◌, max, true, false, ◌||◌, ◌==◌, refl, arith}
+use Rattle.std.proofs.lemmas.Bool.Decides.{nat_tests}
+use Rattle.write_signature.specs.declared.signature.Signature.{Signature}
+use Rattle.write_signature.specs.Signature.{h1, h2, tag, has_bit, with_bit, in_phase, empty, holds, inserted, joined}
+use Rattle.write_signature.proofs.Bits.{or_has, has_bit-with_bit}
+
+tag-with_bit : (k : ℕ) (s : Signature) → tag (with_bit k s) ≡ tag s
+tag-with_bit k s = grind (arith, nat_tests)
+
+pub tag-empty : (p : ℕ) → tag (empty p) ≡ p
+unfolding empty
+tag-empty p = refl
+
+tag-in_phase : (p : ℕ) (s : Signature) → tag (in_phase p s) ≡ p
+tag-in_phase p s = grind (arith, nat_tests, tag-empty p)
+
+pub tag-inserted : (s : Signature) (w p : ℕ) → tag (inserted s w p) ≡ p
+unfolding inserted
+tag-inserted s w p =
+    rw (tag-with_bit (h2 w) (with_bit (h1 w) (in_phase p s)), tag-with_bit (h1 w) (in_phase p s)) (tag-in_phase p s)
+
+pub tag-joined : (a b : Signature) → tag (joined a b) ≡ max (tag a) (tag b)
+unfolding joined
+tag-joined a b = grind (arith, nat_tests)
+
+pub holds-empty : (w p q : ℕ) → holds (empty p) w q ≡ false
+unfolding holds empty
+holds-empty w p q = grind (arith, nat_tests)
+
+pub holds-other_phase : (s : Signature) (w p : ℕ) → tag s ≢ p → holds s w p ≡ false
+unfolding holds
+holds-other_phase s w p other = grind (arith, nat_tests)
+
+-- the bits of an inserted word are set, and those that were set in its phase stay
+has_bit-inserted : (s : Signature) (w p i : ℕ) → has_bit (inserted s w p) i ≡ ((has_bit (in_phase p s) i || (i == h1 w)) || (i == h2 w))
+unfolding inserted
+has_bit-inserted s w p i =
+    rw (has_bit-with_bit (with_bit (h1 w) (in_phase p s)) (h2 w) i, has_bit-with_bit (in_phase p s) (h1 w) i) refl
+
+pub inserted_holds : (s : Signature) (w p : ℕ) → holds (inserted s w p) w p ≡ true
+unfolding holds
+inserted_holds s w p =
+    rw (tag-inserted s w p, has_bit-inserted s w p (h1 w), has_bit-inserted s w p (h2 w)) (grind (arith, nat_tests))
+
+pub inserted_keeps : (s : Signature) (v w p : ℕ) → holds s v p ≡ true → holds (inserted s w p) v p ≡ true
+unfolding holds
+inserted_keeps s v w p held =
+    rw (tag-inserted s w p, has_bit-inserted s w p (h1 v), has_bit-inserted s w p (h2 v)) (grind (arith, nat_tests))
+
+pub inserted-other_phase : (s : Signature) (w p : ℕ) → tag s ≢ p → inserted s w p ≡ inserted (empty p) w p
+unfolding inserted
+inserted-other_phase s w p other = grind (arith, nat_tests, tag-empty p)
+
+pub joined-later : (a b : Signature) → tag b < tag a → joined a b ≡ a
+unfolding joined
+joined-later a b later = grind (arith, nat_tests)
+
+pub joined-earlier : (a b : Signature) → tag a < tag b → joined a b ≡ b
+unfolding joined
+joined-earlier a b earlier = grind (arith, nat_tests)
+
+pub has_bit-joined : (a b : Signature) (i : ℕ) → tag a ≡ tag b → has_bit (joined a b) i ≡ (has_bit a i || has_bit b i)
+unfolding joined
+has_bit-joined a b i same = grind (arith, nat_tests, or_has a.low b.low i, or_has a.high b.high (i - 128))
+
+pub joined_covers_first : (a b : Signature) (w p : ℕ) → tag b ≡ p → holds a w p ≡ true → holds (joined a b) w p ≡ true
+unfolding holds
+joined_covers_first a b w p of_phase held =
+    let same : tag a ≡ tag b = grind (arith, nat_tests) in
+    rw (tag-joined a b, has_bit-joined a b (h1 w) same, has_bit-joined a b (h2 w) same) (grind (arith, nat_tests))
+
+pub joined_covers_second : (a b : Signature) (w p : ℕ) → tag a ≡ p → holds b w p ≡ true → holds (joined a b) w p ≡ true
+unfolding holds
+joined_covers_second a b w p of_phase held =
+    let same : tag a ≡ tag b = grind (arith, nat_tests) in
+    rw (tag-joined a b, has_bit-joined a b (h1 w) same, has_bit-joined a b (h2 w) same) (grind (arith, nat_tests))

@@ -1,0 +1,45 @@
+//! What the definitions of insertion and join come to, for whoever reasons about signatures.
+ghost use Rattle.std.specs.Prelude.{◌≡◌, ◌≢◌, ℕ, ◌<◌, ◌≤◌, ◌||◌, max, false, IsTrue};
+ghost use Rattle.write_signature.specs.declared.signature.Signature.{Signature};
+ghost use Rattle.write_signature.specs.Signature.{tag, has_bit, empty, holds, inserted, joined};
+
+/// Nothing is held by an empty signature, nor in another phase than a signature's own.
+pub fn nothing_is_held_at_first()
+    ensures empty { (w p q : ℕ) → holds (empty p) w q ≡ false }
+    ensures other_phase { (s : Signature) (w p : ℕ) → tag s ≢ p → holds s w p ≡ false }
+{}
+
+/// A word that was inserted in a phase is held in it, and so is all that was held in it before.
+pub fn insert_covers()
+    ensures inserted { (s : Signature) (w p : ℕ) → IsTrue (holds (inserted s w p) w p) }
+    ensures kept { (s : Signature) (v w p : ℕ) → IsTrue (holds s v p) → IsTrue (holds (inserted s w p) v p) }
+{}
+
+/// An insertion in another phase begins with the empty signature.
+pub fn insert_empties()
+    ensures { (s : Signature) (w p : ℕ) → tag s ≢ p → inserted s w p ≡ inserted (empty p) w p }
+{}
+
+/// A join of two signatures of a phase holds in it what either of them holds in it.
+pub fn join_covers()
+    ensures first { (a b : Signature) (w p : ℕ) → tag b ≡ p → IsTrue (holds a w p) → IsTrue (holds (joined a b) w p) }
+    ensures second { (a b : Signature) (w p : ℕ) → tag a ≡ p → IsTrue (holds b w p) → IsTrue (holds (joined a b) w p) }
+{}
+
+/// A join of two signatures of a phase has the bits of either.
+pub fn join_has_the_bits_of_either()
+    ensures { (a b : Signature) (i : ℕ) → tag a ≡ tag b → has_bit (joined a b) i ≡ (has_bit a i || has_bit b i) }
+{}
+
+/// A join of signatures of two phases is the one of the later phase.
+pub fn join_is_of_the_later_phase()
+    ensures first { (a b : Signature) → tag b < tag a → joined a b ≡ a }
+    ensures second { (a b : Signature) → tag a < tag b → joined a b ≡ b }
+{}
+
+/// Which phase a signature is of.
+pub fn tags_are_kept()
+    ensures empty { (p : ℕ) → tag (empty p) ≡ p }
+    ensures inserted { (s : Signature) (w p : ℕ) → tag (inserted s w p) ≡ p }
+    ensures joined { (a b : Signature) → tag (joined a b) ≡ max (tag a) (tag b) }
+{}
