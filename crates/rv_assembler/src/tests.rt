@@ -3,8 +3,9 @@ use crate::SourceFault::{
     UnknownName, UnknownWord,
 };
 use crate::{SourceFault, assemble};
-use region_table::TaskDecl;
+use region_table::{Phase, Program, TaskDecl};
 use std::alloc::{AllocError, Global};
+use std::process::Abort;
 use std::test::Fail;
 
 /// A task that stores 5 into the one data word.
@@ -20,7 +21,7 @@ fn fault(alloc: Global, text: &[u8]) -> Option<SourceFault> {
     assemble(alloc, text).err()
 }
 
-/// A text with the number of a line's copy in place of `@`.
+/// Adds copies of a line, each with its number in place of `@`.
 fn repeated(alloc: Global, out: &mut Vec<u8>, line: &[u8], count: u32) -> Result<(), AllocError> {
     for number in 0..count {
         for byte in line {
@@ -34,155 +35,397 @@ fn repeated(alloc: Global, out: &mut Vec<u8>, line: &[u8], count: u32) -> Result
     Ok(())
 }
 
+/// That a text has this fault, or none.
+fn told(rt: &impl Abort, alloc: Global, text: &[u8], expected: Option<SourceFault>) {
+    assert_eq!(rt; fault(alloc, text), expected);
+}
+
+#[test]
+fn a_line_is_of_good_form(rt: HostRuntime) {
+    told(&rt, rt.alloc(), b"", None);
+    told(&rt, rt.alloc(), b"# @\n nop # 5x", None);
+    told(
+        &rt,
+        rt.alloc(),
+        b"addi t0, t1, @",
+        Some(BadByte { line: 1 }),
+    );
+    told(
+        &rt,
+        rt.alloc(),
+        b"addi t0, t1, 0y5",
+        Some(BadNumber { line: 1 }),
+    );
+    told(&rt, rt.alloc(), b"addq t0", Some(UnknownWord { line: 1 }));
+    told(&rt, rt.alloc(), b".x: foo", Some(UnknownWord { line: 1 }));
+    told(&rt, rt.alloc(), b".x: nop", Some(BadOperand { line: 1 }));
+    told(
+        &rt,
+        rt.alloc(),
+        b"addi t0, t1",
+        Some(BadOperand { line: 1 }),
+    );
+    told(&rt, rt.alloc(), b"5 nop", Some(BadOperand { line: 1 }));
+    told(
+        &rt,
+        rt.alloc(),
+        b".region .m, 1",
+        Some(BadOperand { line: 1 }),
+    );
+}
+
+#[test]
+fn numbers_are_in_the_ranges_of_their_rows(rt: HostRuntime) {
+    told(
+        &rt,
+        rt.alloc(),
+        b"addi t0, t1, 2048",
+        Some(OutOfRange { line: 1 }),
+    );
+    told(&rt, rt.alloc(), b"addi t0, t1, -2048", None);
+    told(
+        &rt,
+        rt.alloc(),
+        b"slli t0, t1, 32",
+        Some(OutOfRange { line: 1 }),
+    );
+    told(
+        &rt,
+        rt.alloc(),
+        b"lui t0, 1048576",
+        Some(OutOfRange { line: 1 }),
+    );
+    told(
+        &rt,
+        rt.alloc(),
+        b"beq t0, t1, 4096",
+        Some(OutOfRange { line: 1 }),
+    );
+    told(&rt, rt.alloc(), b"j 3", Some(OutOfRange { line: 1 }));
+    told(
+        &rt,
+        rt.alloc(),
+        b".region m, 0",
+        Some(OutOfRange { line: 1 }),
+    );
+    told(
+        &rt,
+        rt.alloc(),
+        b".region m, 2\n.word m, 2, 9",
+        Some(OutOfRange { line: 2 }),
+    );
+    told(
+        &rt,
+        rt.alloc(),
+        b".phase\n.task 16, 0x1000, 0",
+        Some(OutOfRange { line: 2 }),
+    );
+    told(
+        &rt,
+        rt.alloc(),
+        b".phase\n.task 0, 0x1002, 0",
+        Some(OutOfRange { line: 2 }),
+    );
+    told(
+        &rt,
+        rt.alloc(),
+        b".region m, 4\n.phase\n.task 0, 0, 0\n.reads m, 2, 2",
+        Some(OutOfRange { line: 4 }),
+    );
+}
+
+#[test]
+fn a_name_is_declared_once_and_anywhere(rt: HostRuntime) {
+    told(&rt, rt.alloc(), b"a:\na:", Some(DoubleName { line: 2 }));
+    told(
+        &rt,
+        rt.alloc(),
+        b"a: .region a, 1",
+        Some(DoubleName { line: 1 }),
+    );
+    told(
+        &rt,
+        rt.alloc(),
+        b".lock a\n.region b, 1\n.lock b",
+        Some(DoubleName { line: 3 }),
+    );
+    told(&rt, rt.alloc(), b"j b", Some(UnknownName { line: 1 }));
+    told(
+        &rt,
+        rt.alloc(),
+        b"j q\nq: addq t0",
+        Some(UnknownName { line: 1 }),
+    );
+    told(&rt, rt.alloc(), b"j q\nq: nop", None);
+    told(&rt, rt.alloc(), b"j q\nq:", None);
+    told(
+        &rt,
+        rt.alloc(),
+        b".lock k\nla t0, k",
+        Some(UnknownName { line: 2 }),
+    );
+    told(
+        &rt,
+        rt.alloc(),
+        b".task 0, 0x1000, 0",
+        Some(Misplaced { line: 1 }),
+    );
+    told(
+        &rt,
+        rt.alloc(),
+        b".region m, 1\n.reads m",
+        Some(Misplaced { line: 2 }),
+    );
+    told(
+        &rt,
+        rt.alloc(),
+        b".phase\n.task 3, 0, 0\n.task 3, 0, 0",
+        Some(Misplaced { line: 3 }),
+    );
+    told(
+        &rt,
+        rt.alloc(),
+        b".region m, 1\n.phase\n.task 0, 0, 0\n.phase\n.reads m",
+        Some(Misplaced { line: 5 }),
+    );
+}
+
 #[test]
 fn the_first_faulty_line_is_told_with_its_first_fault(rt: HostRuntime) {
-    let rows: [(&[u8], Option<SourceFault>); 47] = [
-        (b"", None),
-        (b"addi t0, t1, @", Some(BadByte { line: 1 })),
-        (b"# @\n nop # 5x", None),
-        (b"addi t0, t1, 0y5", Some(BadNumber { line: 1 })),
-        (b"addq t0", Some(UnknownWord { line: 1 })),
-        (b".x: foo", Some(UnknownWord { line: 1 })),
-        (b".x: nop", Some(BadOperand { line: 1 })),
-        (b"addi t0, t1", Some(BadOperand { line: 1 })),
-        (b"5 nop", Some(BadOperand { line: 1 })),
-        (b".region .m, 1", Some(BadOperand { line: 1 })),
-        (b"addi t0, t1, 2048", Some(OutOfRange { line: 1 })),
-        (b"addi t0, t1, -2048", None),
-        (b"slli t0, t1, 32", Some(OutOfRange { line: 1 })),
-        (b"lui t0, 1048576", Some(OutOfRange { line: 1 })),
-        (b"beq t0, t1, 4096", Some(OutOfRange { line: 1 })),
-        (b"j 3", Some(OutOfRange { line: 1 })),
-        (b".region m, 0", Some(OutOfRange { line: 1 })),
-        (b".region m, 2\n.word m, 2, 9", Some(OutOfRange { line: 2 })),
-        (b".phase\n.task 16, 0x1000, 0", Some(OutOfRange { line: 2 })),
-        (b".phase\n.task 0, 0x1002, 0", Some(OutOfRange { line: 2 })),
-        (
-            b".region m, 4\n.phase\n.task 0, 0, 0\n.reads m, 2, 2",
-            Some(OutOfRange { line: 4 }),
-        ),
-        (b"a:\na:", Some(DoubleName { line: 2 })),
-        (b"a: .region a, 1", Some(DoubleName { line: 1 })),
-        (
-            b".lock a\n.region b, 1\n.lock b",
-            Some(DoubleName { line: 3 }),
-        ),
-        (b"j b", Some(UnknownName { line: 1 })),
-        (b"j q\nq: addq t0", Some(UnknownName { line: 1 })),
-        (b"j q\nq: nop", None),
-        (b"j q\nq:", None),
-        (b".lock k\nla t0, k", Some(UnknownName { line: 2 })),
-        (b".task 0, 0x1000, 0", Some(Misplaced { line: 1 })),
-        (b".region m, 1\n.reads m", Some(Misplaced { line: 2 })),
-        (
-            b".phase\n.task 3, 0, 0\n.task 3, 0, 0",
-            Some(Misplaced { line: 3 }),
-        ),
-        (
-            b".region m, 1\n.phase\n.task 0, 0, 0\n.phase\n.reads m",
-            Some(Misplaced { line: 5 }),
-        ),
-        (b"addi t0, t1, 9999\n@", Some(OutOfRange { line: 1 })),
-        (b"j b\naddi t0, t1, 9999", Some(UnknownName { line: 1 })),
-        (b"a:\na: j b", Some(DoubleName { line: 2 })),
-        (b"a:\na: addi t0, t1, 2048", Some(OutOfRange { line: 2 })),
-        (b".version 3", Some(UnknownWord { line: 1 })),
-        (b".version 02", Some(UnknownWord { line: 1 })),
-        (b"# two\n\n .version 2 # x\n.phase", None),
-        (b"nop\n.version 2", Some(UnknownWord { line: 2 })),
-        (b".version 2\n.version 2", Some(UnknownWord { line: 2 })),
-        (
-            b".version 2\n.region m, 4\n.phase\n.forall 0, 4, go, 10, 5\n.writes m, 0, 1, 2\ngo:",
-            Some(OutOfRange { line: 5 }),
-        ),
-        (
-            b".version 2\n.region m, 4\n.phase\n.forall 14, 3, go, 0, 0\ngo:",
-            Some(OutOfRange { line: 4 }),
-        ),
-        (
-            b".region m, 4\n.phase\n.forall 0, 4, go, 10, 5\ngo:",
-            Some(UnknownWord { line: 3 }),
-        ),
-        (
-            b".version 2\n.region m, 4\n.reads m, 0, 1, 9",
-            Some(Misplaced { line: 3 }),
-        ),
-        (
-            b".version 2\n.region m, 4\n.reads m, 0, 5",
-            Some(OutOfRange { line: 3 }),
-        ),
-    ];
-    for (text, expected) in &rows {
-        assert_eq!(rt; fault(rt.alloc(), text), *expected);
+    told(
+        &rt,
+        rt.alloc(),
+        b"addi t0, t1, 9999\n@",
+        Some(OutOfRange { line: 1 }),
+    );
+    told(
+        &rt,
+        rt.alloc(),
+        b"j b\naddi t0, t1, 9999",
+        Some(UnknownName { line: 1 }),
+    );
+    told(&rt, rt.alloc(), b"a:\na: j b", Some(DoubleName { line: 2 }));
+    told(
+        &rt,
+        rt.alloc(),
+        b"a:\na: addi t0, t1, 2048",
+        Some(OutOfRange { line: 2 }),
+    );
+}
+
+#[test]
+fn version_2_is_told_by_the_first_line_that_is_not_blank(rt: HostRuntime) {
+    told(
+        &rt,
+        rt.alloc(),
+        b".version 3",
+        Some(UnknownWord { line: 1 }),
+    );
+    told(
+        &rt,
+        rt.alloc(),
+        b".version 02",
+        Some(UnknownWord { line: 1 }),
+    );
+    told(&rt, rt.alloc(), b"# two\n\n .version 2 # x\n.phase", None);
+    told(
+        &rt,
+        rt.alloc(),
+        b"nop\n.version 2",
+        Some(UnknownWord { line: 2 }),
+    );
+    told(
+        &rt,
+        rt.alloc(),
+        b".version 2\n.version 2",
+        Some(UnknownWord { line: 2 }),
+    );
+    told(
+        &rt,
+        rt.alloc(),
+        b".region m, 4\n.phase\n.forall 0, 4, 0, 10, 5",
+        Some(UnknownWord { line: 3 }),
+    );
+    told(
+        &rt,
+        rt.alloc(),
+        b".version 2\n.region m, 4\n.phase\n.forall 0, 4, 0, 1, 5\n.writes m, 0, 1, 2",
+        Some(OutOfRange { line: 5 }),
+    );
+    told(
+        &rt,
+        rt.alloc(),
+        b".version 2\n.phase\n.forall 14, 3, 0, 0, 0",
+        Some(OutOfRange { line: 3 }),
+    );
+    told(
+        &rt,
+        rt.alloc(),
+        b".version 2\n.region m, 4\n.reads m, 0, 1, 9",
+        Some(Misplaced { line: 3 }),
+    );
+    told(
+        &rt,
+        rt.alloc(),
+        b".version 2\n.region m, 4\n.reads m, 0, 5",
+        Some(OutOfRange { line: 3 }),
+    );
+}
+
+/// That the front of the smallest text has this fault, or none.
+fn told_of_front(rt: &impl Abort, alloc: Global, length: usize, expected: Option<SourceFault>) {
+    if let Some(text) = STORE_FIVE.get(..length) {
+        told(rt, alloc, text, expected);
     }
 }
 
 #[test]
 fn a_text_that_is_cut_has_the_fault_of_what_is_left(rt: HostRuntime) {
-    let rows: [(usize, Option<SourceFault>); 7] = [
-        (11, Some(BadOperand { line: 1 })),
-        (12, None),
-        (13, None),
-        (20, None),
-        (35, Some(UnknownName { line: 3 })),
-        (45, Some(UnknownName { line: 3 })),
-        (48, None),
-    ];
-    for (length, expected) in &rows {
-        if let Some(text) = STORE_FIVE.get(..*length) {
-            assert_eq!(rt; fault(rt.alloc(), text), *expected);
-        }
-    }
+    told_of_front(&rt, rt.alloc(), 11, Some(BadOperand { line: 1 }));
+    told_of_front(&rt, rt.alloc(), 12, None);
+    told_of_front(&rt, rt.alloc(), 13, None);
+    told_of_front(&rt, rt.alloc(), 20, None);
+    told_of_front(&rt, rt.alloc(), 35, Some(UnknownName { line: 3 }));
+    told_of_front(&rt, rt.alloc(), 45, Some(UnknownName { line: 3 }));
+    told_of_front(&rt, rt.alloc(), 48, None);
+}
+
+/// That a text of one line and so many copies of another has this fault, or none.
+fn told_of_copies(
+    rt: &impl Abort,
+    alloc: Global,
+    head: &[u8],
+    line: &[u8],
+    count: u32,
+    expected: Option<SourceFault>,
+) -> Result<(), AllocError> {
+    let mut text = Vec::from_slice(alloc, head)?;
+    repeated(alloc, &mut text, line, count)?;
+    told(rt, alloc, text.as_slice(), expected);
+    Ok(())
 }
 
 #[test]
-fn each_limit_is_the_last_that_is_taken(rt: HostRuntime) -> Result<(), Fail> {
-    let rows: [(&[u8], &[u8], u32, Option<SourceFault>); 17] = [
-        (b"", b"nop\n", 16384, None),
-        (b"", b"nop\n", 16385, Some(Limit { line: 16385 })),
-        (b"", b"li t0, @\n", 8192, None),
-        (b"", b"li t0, @\n", 8193, Some(Limit { line: 8193 })),
-        (b".region a, 65536\n", b".region b, 1\n", 0, None),
-        (
-            b".region a, 65536\n",
-            b".region b, 1\n",
-            1,
-            Some(Limit { line: 2 }),
-        ),
-        (b".region a, 65537\n", b"", 0, Some(OutOfRange { line: 1 })),
-        (b"", b".region r@, 1\n", 256, None),
-        (b"", b".region r@, 1\n", 257, Some(Limit { line: 257 })),
-        (b".version 2\n", b".region r@, 1\n", 4096, None),
-        (
-            b".version 2\n",
-            b".region r@, 1\n",
-            4097,
-            Some(Limit { line: 4098 }),
-        ),
-        (b"", b".lock k@\n", 33, Some(Limit { line: 33 })),
-        (b"", b".phase\n", 65, Some(Limit { line: 65 })),
-        (b"", b"#", 1024, None),
-        (b"", b"#", 1025, Some(LineLimit { line: 1 })),
-        (b"", b"\n", 65537, Some(LineLimit { line: 65537 })),
-        (b"", b"#\n", 524289, Some(TooLarge)),
-    ];
-    for (head, line, count, expected) in &rows {
-        let mut text = Vec::from_slice(rt.alloc(), head)?;
-        repeated(rt.alloc(), &mut text, line, *count)?;
-        assert_eq!(rt; fault(rt.alloc(), text.as_slice()), *expected);
-    }
-    let mut tasks = Vec::new(rt.alloc());
+fn code_and_regions_have_limits(rt: HostRuntime) -> Result<(), Fail> {
+    told_of_copies(&rt, rt.alloc(), b"", b"nop\n", 16384, None)?;
+    told_of_copies(
+        &rt,
+        rt.alloc(),
+        b"",
+        b"nop\n",
+        16385,
+        Some(Limit { line: 16385 }),
+    )?;
+    told_of_copies(
+        &rt,
+        rt.alloc(),
+        b"",
+        b"li t0, @\n",
+        8193,
+        Some(Limit { line: 8193 }),
+    )?;
+    told_of_copies(
+        &rt,
+        rt.alloc(),
+        b".region a, 65536\n",
+        b".region b, 1\n",
+        0,
+        None,
+    )?;
+    told_of_copies(
+        &rt,
+        rt.alloc(),
+        b".region a, 65536\n",
+        b".region b, 1\n",
+        1,
+        Some(Limit { line: 2 }),
+    )?;
+    told_of_copies(
+        &rt,
+        rt.alloc(),
+        b".region a, 65537\n",
+        b"",
+        0,
+        Some(OutOfRange { line: 1 }),
+    )?;
+    told_of_copies(&rt, rt.alloc(), b"", b".region r@, 1\n", 256, None)?;
+    told_of_copies(
+        &rt,
+        rt.alloc(),
+        b"",
+        b".region r@, 1\n",
+        257,
+        Some(Limit { line: 257 }),
+    )?;
+    Ok(())
+}
+
+#[test]
+fn locks_phases_lines_and_bytes_have_limits(rt: HostRuntime) -> Result<(), Fail> {
+    told_of_copies(
+        &rt,
+        rt.alloc(),
+        b".version 2\n",
+        b".region r@, 1\n",
+        4096,
+        None,
+    )?;
+    told_of_copies(
+        &rt,
+        rt.alloc(),
+        b".version 2\n",
+        b".region r@, 1\n",
+        4097,
+        Some(Limit { line: 4098 }),
+    )?;
+    told_of_copies(
+        &rt,
+        rt.alloc(),
+        b"",
+        b".lock k@\n",
+        33,
+        Some(Limit { line: 33 }),
+    )?;
+    told_of_copies(
+        &rt,
+        rt.alloc(),
+        b"",
+        b".phase\n",
+        65,
+        Some(Limit { line: 65 }),
+    )?;
+    told_of_copies(&rt, rt.alloc(), b"", b"#", 1024, None)?;
+    told_of_copies(
+        &rt,
+        rt.alloc(),
+        b"",
+        b"#",
+        1025,
+        Some(LineLimit { line: 1 }),
+    )?;
+    told_of_copies(
+        &rt,
+        rt.alloc(),
+        b"",
+        b"\n",
+        65537,
+        Some(LineLimit { line: 65537 }),
+    )?;
+    told_of_copies(&rt, rt.alloc(), b"", b"#\n", 524289, Some(TooLarge))?;
+    Ok(())
+}
+
+#[test]
+fn a_program_has_at_most_64_tasks(rt: HostRuntime) -> Result<(), Fail> {
+    let mut text = Vec::new(rt.alloc());
     for _group in 0..4 {
-        tasks.extend_from_slice(b".phase\n")?;
-        repeated(rt.alloc(), &mut tasks, b".task @, 0x1000, 0\n", 16)?;
+        text.extend_from_slice(b".phase\n")?;
+        repeated(rt.alloc(), &mut text, b".task @, 0x1000, 0\n", 16)?;
     }
-    tasks.extend_from_slice(b".phase\n")?;
-    assert_eq!(rt; fault(rt.alloc(), tasks.as_slice()), None);
-    tasks.extend_from_slice(b".task 0, 0x1000, 0\n")?;
-    assert_eq!(rt;
-        fault(rt.alloc(), tasks.as_slice()),
-        Some(Limit { line: 70 })
-    );
+    text.extend_from_slice(b".phase\n")?;
+    told(&rt, rt.alloc(), text.as_slice(), None);
+    text.extend_from_slice(b".task 0, 0x1000, 0\n")?;
+    told(&rt, rt.alloc(), text.as_slice(), Some(Limit { line: 70 }));
     Ok(())
 }
 
@@ -376,8 +619,26 @@ fn same_task(a: &TaskDecl, b: &TaskDecl) -> bool {
             .all(|(c, d)| c.intervals() == d.intervals())
 }
 
+/// That two phases have the same eight tasks.
+fn told_same_phase(rt: &impl Abort, p: &Phase, q: &Phase) {
+    assert!(rt; p.tasks.len() == 8 && q.tasks.len() == 8);
+    for (t, u) in p.tasks.as_slice().iter().zip(q.tasks.as_slice()) {
+        assert!(rt; same_task(t, u));
+    }
+}
+
+/// That two programs have the same code, the same first values and the same six phases.
+fn told_same(rt: &impl Abort, a: &Program, b: &Program) {
+    assert!(rt; a.code.as_slice() == b.code.as_slice());
+    assert!(rt; a.memory.as_slice() == b.memory.as_slice());
+    assert!(rt; a.phases.len() == 6 && b.phases.len() == 6);
+    for (p, q) in a.phases.as_slice().iter().zip(b.phases.as_slice()) {
+        told_same_phase(rt, p, q);
+    }
+}
+
 #[test]
-fn families_give_the_tasks_that_are_written_one_by_one(rt: HostRuntime) -> Result<(), Fail> {
+fn a_text_of_three_phases_has_them(rt: HostRuntime) -> Result<(), Fail> {
     let small = Work {
         families: false,
         cores: 4,
@@ -386,18 +647,15 @@ fn families_give_the_tasks_that_are_written_one_by_one(rt: HostRuntime) -> Resul
     let text = generated(rt.alloc(), small, 64)?;
     let made = assemble(rt.alloc(), text.as_bytes())?;
     assert!(rt; made.memory.len() == 128 && made.phases.len() == 3);
+    Ok(())
+}
+
+#[test]
+fn families_give_the_tasks_that_are_written_one_by_one(rt: HostRuntime) -> Result<(), Fail> {
     let single = realistic(rt.alloc(), false)?;
     let family = realistic(rt.alloc(), true)?;
     let a = assemble(rt.alloc(), single.as_bytes())?;
     let b = assemble(rt.alloc(), family.as_bytes())?;
-    assert!(rt; a.code.as_slice() == b.code.as_slice());
-    assert!(rt; a.memory.as_slice() == b.memory.as_slice());
-    assert!(rt; a.phases.len() == 6 && b.phases.len() == 6);
-    for (p, q) in a.phases.as_slice().iter().zip(b.phases.as_slice()) {
-        assert!(rt; p.tasks.len() == 8 && q.tasks.len() == 8);
-        for (t, u) in p.tasks.as_slice().iter().zip(q.tasks.as_slice()) {
-            assert!(rt; same_task(t, u));
-        }
-    }
+    told_same(&rt, &a, &b);
     Ok(())
 }
