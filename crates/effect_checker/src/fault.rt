@@ -7,8 +7,8 @@ use thiserror::Error;
 /// that follows the phase, then by their word.
 #[derive(Clone, Copy, Debug, PartialEq, Eq, Error)]
 pub enum CheckFault {
-    /// The task of `core_a` writes the word, and the task of `core_b`, another core, reads or writes it, both without a
-    /// lock.
+    /// The task of `core_a` declares the word among its plain writes, and the task of `core_b`, another core, among its
+    /// plain reads or writes.
     #[error("phase {} plain-conflict cores {} {} word {}", .phase.0, .core_a.0, .core_b.0, .word.0)]
     PlainConflict {
         phase: PhaseId,
@@ -16,7 +16,7 @@ pub enum CheckFault {
         core_b: CoreId,
         word: WordId,
     },
-    /// The lock guards the word for some task, and the task of `core` reads or writes it without a lock.
+    /// The lock guards the word for some task, and the task of `core` declares it among its plain reads or writes.
     #[error("phase {} guarded-plain lock {} core {} word {}", .phase.0, .lock.0, .core.0, .word.0)]
     GuardedPlain {
         phase: PhaseId,

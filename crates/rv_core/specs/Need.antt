@@ -7,6 +7,7 @@ use Rattle.rv_isa.specs.Meaning.{taken_of}
 use Rattle.rv_isa.specs.Word.{pattern}
 use Rattle.rv_isa.specs.declared.instr.Instr as instr
 use Rattle.rv_isa.specs.declared.instr.Instr.{Instr}
+use Rattle.rv_isa.specs.declared.instr.Width.{Width}
 use Rattle.rv_core.specs.declared.task.TaskState.{TaskState}
 use Rattle.rv_core.specs.declared.task.End as cause
 use Rattle.rv_core.specs.declared.task.TrapKind as kind
@@ -49,6 +50,10 @@ store_need d t whole address None = traps t kind.TheVariants.Outside address
 store_need d t whole address (Some w) =
     if may_store d t.held w then Store (record { 0 = w }) whole else traps t kind.TheVariants.Outside address
 
+-- what an access needs whose address is to be a multiple of its width
+abbrev pub when_aligned : TaskState → Width → ℕ → Need → Need
+when_aligned t width address need = if address % size_of width == 0 then need else traps t kind.TheVariants.Misaligned address
+
 -- an ECALL with this number in a7 and this lock in a0: 0 ends the task, 1 acquires the lock, 2 releases it
 abbrev pub call_need : ProgramParts → TaskState → ℕ → ℕ → Need
 call_need P t number lock =
@@ -66,12 +71,10 @@ instr_need P d t (instr.TheVariants.Branch test a b offset) =
     if taken_of test (value_in t.regs a) (value_in t.regs b) then jump_need t (jump_target t offset) else Local
 instr_need P d t (instr.TheVariants.Load width rd base offset) =
     let address = address_of t base offset in
-    if address % size_of width == 0 then load_need d t address (data_at (length P.memory) address)
-    else traps t kind.TheVariants.Misaligned address
+    when_aligned t width address (load_need d t address (data_at (length P.memory) address))
 instr_need P d t (instr.TheVariants.Store width src base offset) =
     let address = address_of t base offset in
-    if address % size_of width == 0 then store_need d t (is_whole width) address (data_at (length P.memory) address)
-    else traps t kind.TheVariants.Misaligned address
+    when_aligned t width address (store_need d t (is_whole width) address (data_at (length P.memory) address))
 instr_need P d t instr.TheVariants.Ebreak = traps t kind.TheVariants.Break 0
 instr_need P d t instr.TheVariants.Ecall = call_need P t (slice_index t.regs 17) (slice_index t.regs 10)
 instr_need P d t _ = Local

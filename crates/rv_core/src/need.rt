@@ -1,8 +1,8 @@
 ghost use Rattle.std.specs.Prelude.{◌≡◌, ◌↔◌, ℕ, ◌+◌, ◌%◌, ◌^◌, ◌<◌, ◌≤◌, Bool, Option, None, option_map, length};
 ghost use Rattle.region_table.specs.Program.{AreEffects};
-ghost use Rattle.rv_core.specs.Need.{need_of, traps, address_of, jump_target, register_target, jump_need, load_need, store_need, call_need, instr_need};
+ghost use Rattle.rv_core.specs.Need.{need_of, traps, when_aligned, address_of, jump_target, register_target, jump_need, load_need, store_need, call_need, instr_need};
 ghost use Rattle.rv_core.specs.Kinds.{Allowed, EndsByFuel};
-ghost use Rattle.rv_core.specs.Place.{data_at, size_of};
+ghost use Rattle.rv_core.specs.Place.{data_at, is_whole};
 
 use crate::access::{is_held, is_readable, is_writable, least_lock};
 use crate::place::{code_word, data_word, size};
@@ -77,10 +77,14 @@ fn jump(state: &TaskState, target: u32) -> Need
     }
 }
 
-/// A load at this address.
-fn load(program: &Program, task: &TaskDecl, state: &TaskState, address: u32) -> Need
-    ensures { result ≡ load_need task.now state.now address (data_at (length program.now.memory) address) }
+/// A load of this width at this address.
+fn load(program: &Program, task: &TaskDecl, state: &TaskState, width: Width, address: u32) -> Need
+    ensures { result ≡ when_aligned state.now width address
+        (load_need task.now state.now address (data_at (length program.now.memory) address)) }
 {
+    if address % size(width) != 0 {
+        return trap(state, TrapKind::Misaligned, address);
+    }
     match data_word(program.memory.len(), address) {
         Some(word) if is_readable(task, state.held, WordId(word)) => Need::Load {
             word: WordId(word),
@@ -89,14 +93,18 @@ fn load(program: &Program, task: &TaskDecl, state: &TaskState, address: u32) -> 
     }
 }
 
-/// A store at this address.
-fn store(program: &Program, task: &TaskDecl, state: &TaskState, whole: bool, address: u32) -> Need
-    ensures { result ≡ store_need task.now state.now whole address (data_at (length program.now.memory) address) }
+/// A store of this width at this address.
+fn store(program: &Program, task: &TaskDecl, state: &TaskState, width: Width, address: u32) -> Need
+    ensures { result ≡ when_aligned state.now width address
+        (store_need task.now state.now (is_whole width) address (data_at (length program.now.memory) address)) }
 {
+    if address % size(width) != 0 {
+        return trap(state, TrapKind::Misaligned, address);
+    }
     match data_word(program.memory.len(), address) {
         Some(word) if is_writable(task, state.held, WordId(word)) => Need::Store {
             word: WordId(word),
-            whole,
+            whole: width == Width::W,
         },
         _ => trap(state, TrapKind::Outside, address),
     }
@@ -126,11 +134,7 @@ fn instruction(program: &Program, task: &TaskDecl, state: &TaskState, instr: Ins
 {
     match instr {
         Instr::Jal { rd: _, offset } => jump(state, target(state, offset)),
-        Instr::Jalr {
-            rd: _,
-            base,
-            offset,
-        } => jump(state, register_jump(state, base, offset)),
+        Instr::Jalr { base, offset, .. } => jump(state, register_jump(state, base, offset)),
         Instr::Branch { cond, a, b, offset } => {
             if taken(cond, read(&state.regs, a), read(&state.regs, b)) {
                 jump(state, target(state, offset))
@@ -143,27 +147,13 @@ fn instruction(program: &Program, task: &TaskDecl, state: &TaskState, instr: Ins
             rd: _,
             base,
             offset,
-        } => {
-            let at = address(state, base, offset);
-            if at % size(width) == 0 {
-                load(program, task, state, at)
-            } else {
-                trap(state, TrapKind::Misaligned, at)
-            }
-        }
+        } => load(program, task, state, width, address(state, base, offset)),
         Instr::Store {
             width,
             src: _,
             base,
             offset,
-        } => {
-            let at = address(state, base, offset);
-            if at % size(width) == 0 {
-                store(program, task, state, width == Width::W, at)
-            } else {
-                trap(state, TrapKind::Misaligned, at)
-            }
-        }
+        } => store(program, task, state, width, address(state, base, offset)),
         Instr::Ebreak => trap(state, TrapKind::Break, 0),
         Instr::Ecall => call(program, state, state.regs[A7], state.regs[A0]),
         Instr::Lui { .. }

@@ -90,97 +90,70 @@ fn run(program: &Program, task: &TaskDecl, fuel: u8, word: u32) -> Ran {
     Ran { state, word }
 }
 
-#[test]
-fn traps_end_the_task_at_their_instruction(rt: HostRuntime) -> Result<(), Fail> {
-    let alloc = rt.alloc();
+/// How the task that may read region `m` ends, and how many instructions it retired.
+fn ended(alloc: Global, code: &[u32]) -> Result<(Option<End>, u32), Memory>
+    requires { length code.now ≤ 16 }
+{
     let none = WordSet::new(alloc);
     let task = task(alloc, m(alloc)?, WordSet::new(alloc), none)?;
-    let cases: [(&[u32], TrapKind, u32, u32, u32); 13] = [
-        (
-            &[0x0000_12b7, 0x0002_8293, 0x0022_8067],
-            TrapKind::Target,
-            0x1008,
-            0x1002,
-            2,
-        ),
-        (
-            &[0x1000_02b7, 0x0012_a303],
-            TrapKind::Misaligned,
-            0x1004,
-            0x1000_0001,
-            1,
-        ),
-        (
-            &[0x1000_02b7, 0x0042_a303],
-            TrapKind::Outside,
-            0x1004,
-            0x1000_0004,
-            1,
-        ),
-        (
-            &[0x1000_02b7, 0x0062_a023],
-            TrapKind::Outside,
-            0x1004,
-            0x1000_0000,
-            1,
-        ),
-        (&[0], TrapKind::Illegal, 0x1000, 0, 0),
-        (&[0x0000_0013], TrapKind::Fetch, 0x1004, 0x1004, 1),
-        (&[0x0010_0073], TrapKind::Break, 0x1000, 0, 0),
-        (
-            &[0x0000_08b7, 0x0098_8893, 0x0000_0073],
-            TrapKind::Call,
-            0x1008,
-            9,
-            2,
-        ),
-        (
-            &[
-                0x0000_08b7,
-                0x0018_8893,
-                0x0000_0537,
-                0x0055_0513,
-                0x0000_0073,
-            ],
-            TrapKind::NoLock,
-            0x1010,
-            5,
-            4,
-        ),
-        // the program's one lock is lock 0, so there is no lock 1
-        (
-            &[0x0010_0893, 0x0010_0513, 0x0000_0073],
-            TrapKind::NoLock,
-            0x1008,
-            1,
-            2,
-        ),
-        (
-            &[0x0010_0893, 0x0000_0073, 0x0000_0073],
-            TrapKind::Held,
-            0x1008,
-            0,
-            2,
-        ),
-        (&[0x0020_0893, 0x0000_0073], TrapKind::NotHeld, 0x1004, 0, 1),
-        (
-            &[0x0010_0893, 0x0000_0073, 0x0000_0893, 0x0000_0073],
-            TrapKind::HeldEnd,
-            0x100c,
-            0,
-            3,
-        ),
+    let ran = run(&program(alloc, code)?, &task, 99, 0);
+    Ok((ran.state.end, ran.state.retired))
+}
+
+/// A trap at the instruction behind `retired` others that lie in a row.
+fn trapped(kind: TrapKind, value: u32, retired: u8) -> (Option<End>, u32) {
+    let retired = u32::from(retired);
+    let pc = 0x1000 + 4 * retired;
+    (Some(End::Trap { kind, pc, value }), retired)
+}
+
+#[test]
+fn jumps_and_addresses_trap_at_their_instruction(rt: HostRuntime) -> Result<(), Fail> {
+    let alloc = rt.alloc();
+    let target = ended(alloc, &[0x0000_12b7, 0x0002_8293, 0x0022_8067])?;
+    assert_eq!(rt; target, trapped(TrapKind::Target, 0x1002, 2));
+    let misaligned = ended(alloc, &[0x1000_02b7, 0x0012_a303])?;
+    assert_eq!(rt; misaligned, trapped(TrapKind::Misaligned, 0x1000_0001, 1));
+    let behind = ended(alloc, &[0x1000_02b7, 0x0042_a303])?;
+    assert_eq!(rt; behind, trapped(TrapKind::Outside, 0x1000_0004, 1));
+    let not_written = ended(alloc, &[0x1000_02b7, 0x0062_a023])?;
+    assert_eq!(rt; not_written, trapped(TrapKind::Outside, 0x1000_0000, 1));
+    Ok(())
+}
+
+#[test]
+fn what_is_no_instruction_traps(rt: HostRuntime) -> Result<(), Fail> {
+    let alloc = rt.alloc();
+    assert_eq!(rt; ended(alloc, &[0])?, trapped(TrapKind::Illegal, 0, 0));
+    let fetch = ended(alloc, &[0x0000_0013])?;
+    assert_eq!(rt; fetch, trapped(TrapKind::Fetch, 0x1004, 1));
+    let stopped = ended(alloc, &[0x0010_0073])?;
+    assert_eq!(rt; stopped, trapped(TrapKind::Break, 0, 0));
+    let call = ended(alloc, &[0x0000_08b7, 0x0098_8893, 0x0000_0073])?;
+    assert_eq!(rt; call, trapped(TrapKind::Call, 9, 2));
+    Ok(())
+}
+
+#[test]
+fn calls_of_locks_trap(rt: HostRuntime) -> Result<(), Fail> {
+    let alloc = rt.alloc();
+    // the program's one lock is lock 0, so there is no lock 1 and no lock 5
+    let five = [
+        0x0000_08b7,
+        0x0018_8893,
+        0x0000_0537,
+        0x0055_0513,
+        0x0000_0073,
     ];
-    for (code, kind, pc, value, retired) in cases {
-        assert!(rt; code.len() <= 16);
-        let ran = run(&program(alloc, code)?, &task, 99, 0);
-        assert_eq!(rt;
-            ran.state.end,
-            Some(End::Trap { kind, pc, value }),
-            "{kind:?} at {pc}"
-        );
-        assert_eq!(rt; ran.state.retired, retired, "{kind:?} at {pc}");
-    }
+    assert_eq!(rt; ended(alloc, &five)?, trapped(TrapKind::NoLock, 5, 4));
+    let one = ended(alloc, &[0x0010_0893, 0x0010_0513, 0x0000_0073])?;
+    assert_eq!(rt; one, trapped(TrapKind::NoLock, 1, 2));
+    let held = ended(alloc, &[0x0010_0893, 0x0000_0073, 0x0000_0073])?;
+    assert_eq!(rt; held, trapped(TrapKind::Held, 0, 2));
+    let not_held = ended(alloc, &[0x0020_0893, 0x0000_0073])?;
+    assert_eq!(rt; not_held, trapped(TrapKind::NotHeld, 0, 1));
+    let at_the_end = ended(alloc, &[0x0010_0893, 0x0000_0073, 0x0000_0893, 0x0000_0073])?;
+    assert_eq!(rt; at_the_end, trapped(TrapKind::HeldEnd, 0, 3));
     Ok(())
 }
 
