@@ -1,3 +1,5 @@
 pub mod Pieces
 pub mod Answer
 pub mod Refusal
+pub mod Grants
+pub mod Summary

@@ -36,7 +36,7 @@ fn kind_name(kind: TrapKind) -> &'static [u8]
 }
 
 #[tactic(auto, unfolding(crate::specs::Answer::outcome_line))]
-fn push_outcome(out: &mut Vec<u8>, outcome: Outcome) -> Result<(), Memory>
+pub(crate) fn push_outcome(out: &mut Vec<u8>, outcome: Outcome) -> Result<(), Memory>
     ensures { OnOk result (out.new.items ≡ out.old.items ++ outcome_line outcome) }
 {
     push(out, b"outcome ")?;
@@ -90,7 +90,7 @@ fn push_tasks(out: &mut Vec<u8>, tasks: &[TaskEnd]) -> Result<(), Memory>
 }
 
 #[tactic(auto, unfolding(crate::specs::Answer::words_line))]
-fn push_count(out: &mut Vec<u8>, count: u32) -> Result<(), Memory>
+pub(crate) fn push_count(out: &mut Vec<u8>, count: u32) -> Result<(), Memory>
     ensures { OnOk result (out.new.items ≡ out.old.items ++ words_line count) }
 {
     push(out, b"words ")?;

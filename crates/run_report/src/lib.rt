@@ -5,10 +5,14 @@
 #![tactic(auto)]
 
 mod answer;
+mod grants;
 mod pieces;
 mod refusal;
 #[cfg(test)]
 mod tests;
+mod totals;
 
 pub use answer::answer_text;
+pub use grants::grant_text;
 pub use refusal::{Refusal, refusal_line};
+pub use totals::{checked_line, summary};

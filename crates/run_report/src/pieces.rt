@@ -20,6 +20,14 @@ pub(crate) fn push_decimal(out: &mut Vec<u8>, number: u32) -> Result<(), Memory>
     push(out, digits.as_bytes())
 }
 
+/// Adds a number of 64 bits in decimal digits.
+pub(crate) fn push_long(out: &mut Vec<u8>, number: u64) -> Result<(), Memory>
+    ensures { OnOk result (out.new.items ≡ out.old.items ++ decimal number) }
+{
+    let digits = number.to_string(*out.allocator())?;
+    push(out, digits.as_bytes())
+}
+
 /// A digit of base 16.
 fn digit(value: u32) -> u8
     requires { value < 16 }

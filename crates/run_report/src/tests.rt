@@ -1,7 +1,7 @@
-use crate::{Refusal, answer_text, refusal_line};
-use dn_base::{CoreId, LockId, Outcome, PhaseId, Sequence, WordId};
+use crate::{Refusal, answer_text, checked_line, grant_text, refusal_line, summary};
+use dn_base::{CoreId, Grant, LockId, Outcome, PhaseId, Sequence, WordId};
 use effect_checker::CheckFault;
-use rv_assembler::SourceFault;
+use rv_assembler::{SourceFault, assemble};
 use rv_core::{EndShown, Ending, TaskEnd, TrapKind};
 use std::test::Fail;
 
@@ -92,6 +92,59 @@ fn a_refusal_is_one_line(rt: HostRuntime) -> Result<(), Fail> {
             refusal_line(rt.alloc(), &refusal)?.as_slice(),
             line.as_bytes()
         );
+    }
+    Ok(())
+}
+
+#[test]
+fn sums_go_past_32_bits_or_wrap(rt: HostRuntime) -> Result<(), Fail> {
+    let alloc = rt.alloc();
+    let task = TaskEnd {
+        phase: PhaseId(0),
+        core: CoreId(0),
+        end: EndShown::Finished,
+        retired: 0xffff_ffff,
+    };
+    let ending = Ending {
+        outcome: Outcome::Done,
+        tasks: Sequence::from_vec(vec![in alloc; task, task]?),
+        memory: Sequence::from_vec(vec![in alloc; 0xffff_ffff, 0, 0x11]?),
+    };
+    assert_eq!(rt;
+        summary(alloc, &ending)?.as_slice(),
+        b"outcome done\ntasks 2\nretired 8589934590\nwords 3\nsum 0x00000010\n".as_slice()
+    );
+    Ok(())
+}
+
+#[test]
+fn a_grant_is_its_phase_its_core_and_its_lock(rt: HostRuntime) -> Result<(), Fail> {
+    let first = Grant {
+        phase: PhaseId(0),
+        core: CoreId(1),
+        lock: LockId(2),
+    };
+    let second = Grant {
+        phase: PhaseId(63),
+        core: CoreId(15),
+        lock: LockId(31),
+    };
+    assert_eq!(rt;
+        grant_text(rt.alloc(), &[first, second])?.as_slice(),
+        b"grant 0 1 2\ngrant 63 15 31\n".as_slice()
+    );
+    Ok(())
+}
+
+#[test]
+fn a_checked_program_is_counted(rt: HostRuntime) -> Result<(), Fail> {
+    let text = ".region m, 16\n.phase\n.task 0, 4096, 0\n.task 1, 4096, 0\n.phase\n";
+    match assemble(rt.alloc(), text.as_bytes()) {
+        Ok(program) => assert_eq!(rt;
+            checked_line(rt.alloc(), &program)?.as_slice(),
+            b"checked 2 2 16\n".as_slice()
+        ),
+        Err(fault) => assert!(rt; false, "{fault:?}"),
     }
     Ok(())
 }

@@ -1,0 +1,36 @@
+-- The summaries of a run and of a checked program, as they are printed.
+use Rattle.std.specs.Prelude.{ℕ, ◌%◌, ◌^◌, List, ◌++◌, length, codes, sum, sum_by}
+use Rattle.std.specs.Fmt.{decimal}
+use Rattle.region_table.specs.Program.{ProgramParts}
+use Rattle.region_table.specs.declared.declared.Phase.{Phase}
+use Rattle.rv_core.specs.declared.ending.TaskEnd.{TaskEnd}
+use Rattle.rv_core.specs.declared.ending.Ending.{Ending}
+use Rattle.run_report.specs.Pieces.{newline, space, hexadecimal}
+use Rattle.run_report.specs.Answer.{outcome_line, words_line}
+
+-- a word and a number
+unfoldable pub count_line : List ℕ → ℕ → List ℕ
+count_line word count = word ++ decimal count ++ newline
+
+-- the sum of all words, modulo 2^32
+unfoldable pub sum_line : List ℕ → List ℕ
+sum_line memory = codes "sum " ++ hexadecimal (sum memory % 2 ^ 32) ++ newline
+
+-- the instructions that all tasks retired
+abbrev pub retired_by : List TaskEnd → ℕ
+retired_by tasks = sum_by (λ (t : TaskEnd). t.retired) tasks
+
+-- how many tasks all phases have
+abbrev pub tasks_in : List Phase → ℕ
+tasks_in phases = sum_by (λ (p : Phase). length p.tasks) phases
+
+-- the outcome, how many tasks started, how many instructions they retired, how many data words there are, and their sum
+unfoldable pub summary_of : Ending → List ℕ
+summary_of e =
+    outcome_line e.outcome ++ count_line (codes "tasks ") (length e.tasks) ++ count_line (codes "retired ") (retired_by e.tasks)
+    ++ words_line (length e.memory) ++ sum_line e.memory
+
+-- how many phases, tasks and data words a program has
+unfoldable pub checked_of : ProgramParts → List ℕ
+checked_of p =
+    codes "checked " ++ decimal (length p.phases) ++ space ++ decimal (tasks_in p.phases) ++ space ++ decimal (length p.memory) ++ newline
