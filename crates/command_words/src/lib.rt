@@ -1,0 +1,11 @@
+//! The words of the command `denovo`: which lists of words it takes, and what they ask for.
+#![tactic(auto)]
+
+mod command;
+mod options;
+mod reading;
+#[cfg(test)]
+mod tests;
+
+pub use options::{Mode, Options, WordsFault};
+pub use reading::read_words;

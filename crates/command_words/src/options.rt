@@ -1,0 +1,60 @@
+ghost use Rattle.std.specs.Prelude.{◌≡◌};
+
+use std::alloc::AllocError;
+use thiserror::Error;
+
+/// What the program does with a text (this project's profile).
+#[derive(Clone, Copy, Debug, PartialEq, Eq)]
+pub enum Mode {
+    /// Runs the program of the text on the cores, and prints its answer and the run's record.
+    Run,
+    /// Runs the generated text of a size instead of reading one, and prints a summary.
+    Work,
+    /// Assembles and checks the text, and prints how much of what it has.
+    Check,
+    /// Assembles the text, and prints the program as a text again.
+    List,
+    /// Runs the program of the text on one flat memory, and prints its answer and the grants of locks.
+    Flat,
+}
+
+/// What the command's words ask for. A mode leaves options unused that it has no use for.
+#[derive(Clone, Copy, Debug, PartialEq, Eq)]
+pub struct Options {
+    pub mode: Mode,
+    /// The seed of the schedule.
+    pub seed: u32,
+    /// Host threads, from 1 to 16.
+    pub workers: u32,
+    /// Banks of the shared memory, from 1 to 16.
+    pub banks: u32,
+    /// Sets of a core's cache, from 1 to 256.
+    pub sets: u32,
+    /// Ways of each set, from 1 to 16.
+    pub ways: u32,
+    /// How many instructions a task may retire, from 1 to 32,768.
+    pub fuel: u32,
+    /// The size of the generated text, from 1 to 128.
+    pub size: u32,
+}
+
+/// Why words are refused.
+#[derive(Clone, Copy, Debug, PartialEq, Eq, Error)]
+pub enum WordsFault {
+    /// They aren't words of the command.
+    #[error("not words of the command")]
+    Usage,
+    /// There is no room to read them.
+    #[error("out of memory")]
+    Memory,
+}
+
+impl From<AllocError> for WordsFault {
+    ghost use Rattle.command_words.specs.declared.options.WordsFault.TheVariants.{Memory as WantsMemory};
+
+    ghost from_gives = { λ _ fault. fault ≡ WantsMemory };
+
+    fn from(_error: AllocError) -> WordsFault {
+        WordsFault::Memory
+    }
+}

@@ -1,0 +1,99 @@
+ghost use Rattle.std.specs.Prelude.{◌≡◌, ◌≤◌, IfOk, IfErr, map, string_bytes, Some, None, option_map, option_and_then};
+ghost use Rattle.std.specs.Int.{IsInRange};
+ghost use Rattle.clap.specs.Words.{rows_of, found_of, first_of, one_of};
+ghost use Rattle.command_words.specs.Numbers.{number_in_text};
+ghost use Rattle.command_words.specs.Command.{mode_named, mode_in, number_in, options_from, options_of, IsWithinLimits};
+ghost use Rattle.command_words.specs.declared.options.WordsFault.TheVariants.{Usage};
+
+use crate::command::matches_in;
+use crate::options::{Mode, Options, WordsFault};
+use clap::ArgMatches;
+use std::alloc::Global;
+
+/// The mode of this name.
+fn named(text: &str) -> Option<Mode>
+    ensures { result ≡ mode_named text.now }
+{
+    match text {
+        "run" => Some(Mode::Run),
+        "work" => Some(Mode::Work),
+        "check" => Some(Mode::Check),
+        "list" => Some(Mode::List),
+        "flat" => Some(Mode::Flat),
+        _ => None,
+    }
+}
+
+/// The text of an option.
+fn text_of<'a>(matches: &ArgMatches<'a>, name: &str) -> Option<&'a str>
+    ensures { option_map (λ s. s.now) result ≡ first_of name.now (rows_of (found_of matches.now)) }
+{
+    matches.get_str(name)
+}
+
+/// The mode that the words ask for.
+fn mode(matches: &ArgMatches<'_>) -> Option<Mode>
+    ensures { result ≡ mode_in (rows_of (found_of matches.now)) }
+{
+    match text_of(matches, "mode") {
+        Some(text) => named(text),
+        None => None,
+    }
+}
+
+/// The number that an option's text writes.
+fn number_of(matches: &ArgMatches<'_>, name: &str) -> Option<u32>
+    ensures { result ≡ option_and_then number_in_text (one_of name.now (rows_of (found_of matches.now))) }
+{
+    matches.get_one::<u32>(name)
+}
+
+/// The number of an option, where it is from `low` to `high`.
+fn number(matches: &ArgMatches<'_>, name: &str, low: u32, high: u32) -> Option<u32>
+    ensures value { result ≡ number_in (rows_of (found_of matches.now)) name.now low high }
+    ensures within { (n : _) → result ≡ Some n → IsInRange low high n }
+{
+    match number_of(matches, name) {
+        Some(number) if low <= number && number <= high => Some(number),
+        _ => None,
+    }
+}
+
+/// The options that the values give, where the mode is one of the five and each number is in its range.
+#[tactic(auto, unfolding(crate::specs::Command::options_from))]
+fn options(matches: &ArgMatches<'_>) -> Option<Options>
+    ensures value { result ≡ options_from (rows_of (found_of matches.now)) }
+    ensures limits { (o : _) → result ≡ Some o → IsWithinLimits o }
+{
+    Some(Options {
+        mode: mode(matches)?,
+        seed: number(matches, "seed", 0, 4_294_967_295)?,
+        workers: number(matches, "workers", 1, 16)?,
+        banks: number(matches, "banks", 1, 16)?,
+        sets: number(matches, "sets", 1, 256)?,
+        ways: number(matches, "ways", 1, 16)?,
+        fuel: number(matches, "fuel", 1, 32_768)?,
+        size: number(matches, "size", 1, 128)?,
+    })
+}
+
+/// What the command's words ask for; the program's own name isn't among them.
+///
+/// The command has eight options, each with one value, and no other words: `--mode` (run, work, check, list or flat; run
+/// where it isn't given), `--seed` (0 to 4294967295; 1), `--workers` (1 to 16; 1), `--banks` (1 to 16; 4), `--sets` (1
+/// to 256; 64), `--ways` (1 to 16; 4), `--fuel` (1 to 32768; 32768) and `--size` (1 to 128; 4). An option may be written
+/// as `--seed 7` or `--seed=7`, and stands once at most.
+///
+/// # Errors
+/// `Usage` where the words aren't the command's, `Memory` where there is no room to read them.
+#[tactic(auto, unfolding(crate::specs::Command::options_of))]
+pub fn read_words(alloc: Global, words: &[String]) -> Result<Options, WordsFault>
+    ensures taken { IfOk result (λ options. options_of (map string_bytes words.now) ≡ Some options) }
+    ensures limits { IfOk result IsWithinLimits }
+    ensures usage { IfErr result (λ fault. fault ≡ Usage → options_of (map string_bytes words.now) ≡ None) }
+{
+    match options(&matches_in(alloc, words)?) {
+        Some(options) => Ok(options),
+        None => Err(WordsFault::Usage),
+    }
+}
