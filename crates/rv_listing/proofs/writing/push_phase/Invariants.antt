@@ -1,0 +1,7 @@
+use Rattle.std.proofs.Common.{◌≡◌, ◌++◌, drop, flat_map}
+use Rattle.rv_listing.specs.Listing.{text_of, task_lines}
+use Rattle.rv_listing.proofs.writing.push_phase.Given as goal
+
+abbrev pub invariant-loop-task : goal.invariant-loop-task
+invariant-loop-task l =
+    l.out.items ++ text_of (flat_map (task_lines l.regions l.locks) (drop l.task-index l.task-items)) ≡ l.initial.out.items ++ text_of (flat_map (task_lines l.regions l.locks) l.task-items)

@@ -1,0 +1,49 @@
+-- How a statement is written in a listing.
+use Rattle.std.specs.Prelude.{ℕ, ℤ, ◌/◌, ◌%◌, ◌^◌, ◌+◌, nat_lt, List, [], ◌∷◌, ◌++◌, codes, if◌then◌else◌}
+use Rattle.std.specs.Fmt.{decimal, signed_decimal}
+use Rattle.rv_listing.specs.declared.statement.Operand.{Operand}
+use Rattle.rv_listing.specs.declared.statement.Operand.TheVariants.{Name, Register, Number, Offset, Word, Address}
+
+-- a digit of base 16, in lower case
+abbrev pub hex_digit : ℕ → ℕ
+hex_digit d = if nat_lt d 10 then 48 + d else 87 + d
+
+-- the digit of base 16 at a place of a number, counted from its end
+abbrev pub hex_at : ℕ → ℕ → ℕ
+hex_at n place = hex_digit (n / 16 ^ place % 16)
+
+-- a number of 32 bits in base 16, with all its eight digits
+unfoldable pub hexadecimal : ℕ → List ℕ
+hexadecimal n =
+    48 ∷ 120 ∷ hex_at n 7 ∷ hex_at n 6 ∷ hex_at n 5 ∷ hex_at n 4 ∷ hex_at n 3 ∷ hex_at n 2 ∷ hex_at n 1 ∷ hex_at n 0 ∷ []
+
+-- the name of a register: x0 to x31
+abbrev pub register : ℕ → List ℕ
+register n = codes "x" ++ decimal n
+
+-- an address: an offset, and a register in parentheses
+abbrev pub address : ℤ → ℕ → List ℕ
+address offset base = signed_decimal offset ++ (codes "(" ++ (register base ++ codes ")"))
+
+-- the operands behind the first, each behind a comma and a blank
+abbrev pub more_operands : List (List ℕ) → List ℕ
+more_operands [] = []
+more_operands (o ∷ os) = codes ", " ++ (o ++ more_operands os)
+
+-- the operands of a statement behind its word
+abbrev pub operands : List (List ℕ) → List ℕ
+operands [] = []
+operands (o ∷ os) = codes " " ++ (o ++ more_operands os)
+
+-- a statement: its word, a blank, and its operands with a comma and a blank between them
+abbrev pub statement : List ℕ → List (List ℕ) → List ℕ
+statement word os = word ++ operands os
+
+-- how the code's operands are written
+abbrev pub operand_text : Operand → List ℕ
+operand_text (Name name) = name.now
+operand_text (Register number) = register number
+operand_text (Number number) = decimal number
+operand_text (Offset number) = signed_decimal number
+operand_text (Word number) = hexadecimal number
+operand_text (Address offset base) = address offset base

@@ -1,0 +1,210 @@
+//! The listing of a program.
+ghost use Rattle.std.specs.Prelude.{◌≡◌, ℕ, ◌++◌, ◌+◌, ◌≤◌, length, map, flat_map, IfOk, OnOk};
+ghost use Rattle.std.specs.List.{All};
+ghost use Rattle.src_text.specs.Laws.{ended};
+ghost use Rattle.region_table.specs.Program.{AreTiled, IsTask, IsPhase};
+ghost use Rattle.rv_listing.specs.Instruction.{code_line};
+ghost use Rattle.rv_listing.specs.Listing.{text_of, version_lines, region_line, value_line, value_lines, region_values, lock_line, task_line, task_lines, phase_lines, listed_lines, listed};
+
+use crate::effects::push_effects;
+use crate::instruction::push_code;
+use crate::statement::{Operand, push_line};
+use dn_base::{Memory, Name};
+use region_table::{Phase, Program, Region, TaskDecl};
+use std::alloc::Global;
+
+/// The greatest number of regions of a text of version 1.
+const MOST_REGIONS: usize = 256;
+
+/// Adds the version line, where there are more regions than version 1 has.
+fn push_version(out: &mut Vec<u8>, regions: &[Region]) -> Result<(), Memory>
+    ensures { OnOk result (out.new.items ≡ out.old.items ++ text_of (version_lines regions.now)) }
+{
+    if MOST_REGIONS < regions.len() {
+        push_line(out, b".version", &[Operand::Name(b"2")])
+    } else {
+        Ok(())
+    }
+}
+
+#[tactic(auto, unfolding(crate::specs::Listing::region_line))]
+fn push_region(out: &mut Vec<u8>, region: &Region) -> Result<(), Memory>
+    ensures { OnOk result (out.new.items ≡ out.old.items ++ ended (region_line region.now)) }
+{
+    push_line(
+        out,
+        b".region",
+        &[
+            Operand::Name(region.name.bytes()),
+            Operand::Number(region.len),
+        ],
+    )
+}
+
+fn push_regions(out: &mut Vec<u8>, regions: &[Region]) -> Result<(), Memory>
+    ensures { OnOk result (out.new.items ≡ out.old.items ++ text_of (map region_line regions.now)) }
+{
+    for region in regions {
+        push_region(out, region)?;
+    }
+    Ok(())
+}
+
+#[tactic(auto, unfolding(crate::specs::Listing::value_line))]
+fn push_value(out: &mut Vec<u8>, region: &[u8], index: u32, value: u32) -> Result<(), Memory>
+    ensures { OnOk result (out.new.items ≡ out.old.items ++ ended (value_line region.now index value)) }
+{
+    push_line(
+        out,
+        b".word",
+        &[
+            Operand::Name(region),
+            Operand::Number(index),
+            Operand::Word(value),
+        ],
+    )
+}
+
+/// Adds the lines of the words of a region that aren't 0.
+fn push_region_values(out: &mut Vec<u8>, region: &[u8], values: &[u32]) -> Result<(), Memory>
+    requires { length values.now ≤ 65536 }
+    ensures { OnOk result (out.new.items ≡ out.old.items ++ text_of (value_lines region.now 0 values.now)) }
+{
+    let mut index = 0;
+    for value in values {
+        if *value != 0 {
+            push_value(out, region, index, *value)?;
+        }
+        index += 1;
+    }
+    Ok(())
+}
+
+fn push_values(out: &mut Vec<u8>, regions: &[Region], memory: &[u32]) -> Result<(), Memory>
+    requires tiled { AreTiled 0 regions.now (length memory.now) }
+    requires memory { length memory.now ≤ 65536 }
+    ensures { OnOk result (out.new.items ≡ out.old.items ++ text_of (flat_map (region_values memory.now) regions.now)) }
+{
+    for region in regions {
+        let start = region.start as usize;
+        let end = start + region.len as usize;
+        push_region_values(out, region.name.bytes(), &memory[start..end])?;
+    }
+    Ok(())
+}
+
+#[tactic(auto, unfolding(crate::specs::Listing::lock_line))]
+fn push_lock(out: &mut Vec<u8>, lock: &Name) -> Result<(), Memory>
+    ensures { OnOk result (out.new.items ≡ out.old.items ++ ended (lock_line lock.now)) }
+{
+    push_line(out, b".lock", &[Operand::Name(lock.bytes())])
+}
+
+fn push_locks(out: &mut Vec<u8>, locks: &[Name]) -> Result<(), Memory>
+    ensures { OnOk result (out.new.items ≡ out.old.items ++ text_of (map lock_line locks.now)) }
+{
+    for lock in locks {
+        push_lock(out, lock)?;
+    }
+    Ok(())
+}
+
+#[tactic(auto, unfolding(crate::specs::Listing::task_line))]
+fn push_start(out: &mut Vec<u8>, task: &TaskDecl) -> Result<(), Memory>
+    ensures { OnOk result (out.new.items ≡ out.old.items ++ ended (task_line task.now)) }
+{
+    push_line(
+        out,
+        b".task",
+        &[
+            Operand::Number(task.core.0),
+            Operand::Word(task.entry),
+            Operand::Word(task.arg),
+        ],
+    )
+}
+
+/// Adds the lines of a task.
+fn push_task<'a>(
+    out: &mut Vec<u8>,
+    regions: &'a [Region],
+    locks: &'a [Name],
+    task: &TaskDecl,
+) -> Result<(), Memory>
+    requires tiled { (size : ℕ) × (size ≤ 65536) × AreTiled 0 regions.now size }
+    requires reads { length task.now.effects.guarded_reads ≡ length locks.now }
+    requires writes { length task.now.effects.guarded_writes ≡ length locks.now }
+    ensures { OnOk result (out.new.items ≡ out.old.items ++ text_of (task_lines regions.now locks.now task.now)) }
+{
+    push_start(out, task)?;
+    push_effects(out, regions, locks, &task.effects)
+}
+
+/// Adds the lines of a phase.
+fn push_phase<'a>(
+    out: &mut Vec<u8>,
+    regions: &'a [Region],
+    locks: &'a [Name],
+    phase: &Phase,
+) -> Result<(), Memory>
+    requires tiled { (size : ℕ) × (size ≤ 65536) × AreTiled 0 regions.now size }
+    requires tasks { (words : ℕ) × All (IsTask words (length locks.now)) phase.now.tasks }
+    ensures { OnOk result (out.new.items ≡ out.old.items ++ text_of (phase_lines regions.now locks.now phase.now)) }
+{
+    push_line(out, b".phase", &[])?;
+    for task in phase.tasks.as_slice() {
+        push_task(out, regions, locks, task)?;
+    }
+    Ok(())
+}
+
+fn push_phases<'a>(
+    out: &mut Vec<u8>,
+    regions: &'a [Region],
+    locks: &'a [Name],
+    phases: &[Phase],
+) -> Result<(), Memory>
+    requires tiled { (size : ℕ) × (size ≤ 65536) × AreTiled 0 regions.now size }
+    requires phases { (words : ℕ) × All (IsPhase words (length locks.now)) phases.now }
+    ensures { OnOk result (out.new.items ≡ out.old.items ++ text_of (flat_map (phase_lines regions.now locks.now) phases.now)) }
+{
+    for phase in phases {
+        push_phase(out, regions, locks, phase)?;
+    }
+    Ok(())
+}
+
+/// Adds the lines of the code.
+fn push_words(out: &mut Vec<u8>, code: &[u32]) -> Result<(), Memory>
+    ensures { OnOk result (out.new.items ≡ out.old.items ++ text_of (map code_line code.now)) }
+{
+    for word in code {
+        push_code(out, *word)?;
+    }
+    Ok(())
+}
+
+/// The listing of a program, as a source text of one statement a line: the version line where the program has more
+/// than 256 regions, the regions, the words that aren't 0 at first, the locks, each phase with its tasks and the words
+/// that they use, and the code.
+///
+/// Intervals of words are cut at the borders of the regions. A code word is written as the instruction that is encoded
+/// to it, with offsets in bytes for the targets of branches and jumps, and else as a number.
+///
+/// # Errors
+/// `Memory` where there is no room for the text.
+#[tactic(auto, unfolding(crate::specs::Listing::listed_lines))]
+pub fn listing(alloc: Global, program: &Program) -> Result<Vec<u8>, Memory>
+    ensures text { IfOk result (λ text. text.items ≡ listed program.now) }
+{
+    let regions = program.regions.as_slice();
+    let locks = program.locks.as_slice();
+    let mut out = Vec::new(alloc);
+    push_version(&mut out, regions)?;
+    push_regions(&mut out, regions)?;
+    push_values(&mut out, regions, program.memory.as_slice())?;
+    push_locks(&mut out, locks)?;
+    push_phases(&mut out, regions, locks, program.phases.as_slice())?;
+    push_words(&mut out, program.code.as_slice())?;
+    Ok(out)
+}
