@@ -1,2 +1,2 @@
-mod HighLocks
-mod Needs
+pub mod HighLocks
+pub mod Needs

@@ -1,0 +1,76 @@
+-- How a run of the flat machine ends.
+use Rattle.std.specs.Prelude.{ℕ, Bool, true, false, if◌then◌else◌, List, ◌++◌, map, Option, Some, None}
+use Rattle.std.specs.List.{list_any}
+use Rattle.dn_base.specs.declared.ids.Grant.{Grant}
+use Rattle.dn_base.specs.declared.status.Outcome.{Outcome}
+use Rattle.dn_base.specs.declared.status.Outcome as outcome
+use Rattle.region_table.specs.Program.{ProgramParts}
+use Rattle.rv_core.specs.declared.task.End.{End}
+use Rattle.rv_core.specs.declared.task.End as cause
+use Rattle.rv_core.specs.declared.need.Need.{Need}
+use Rattle.rv_core.specs.declared.need.Need as need
+use Rattle.rv_core.specs.declared.ending.EndShown.{EndShown}
+use Rattle.rv_core.specs.declared.ending.EndShown as shown
+use Rattle.rv_core.specs.declared.ending.TaskEnd.{TaskEnd}
+use Rattle.rv_core.specs.declared.ending.Ending.{Ending}
+use Rattle.rv_core.specs.Need.{need_of}
+use Rattle.flat_machine.specs.declared.ending.FlatEnd.{FlatEnd}
+use Rattle.flat_machine.specs.declared.ending.TaskLoads.{TaskLoads}
+use Rattle.flat_machine.specs.Step.{Started}
+use Rattle.flat_machine.specs.Phases.{Flat}
+use Rattle.flat_machine.specs.Grants.{so_far, is_whole}
+
+-- a task that stands still and hasn't ended waits for the lock that it wants; other needs don't occur there
+abbrev pub shown_by : Need → EndShown
+shown_by (need.TheVariants.Acquire lock) = shown.TheVariants.Waits lock
+shown_by _ = shown.TheVariants.Fuel
+
+-- how a task stands
+abbrev pub shown_of : ProgramParts → ℕ → Started → Option End → EndShown
+shown_of P fuel r (Some cause.TheVariants.Finished) = shown.TheVariants.Finished
+shown_of P fuel r (Some cause.TheVariants.Fuel) = shown.TheVariants.Fuel
+shown_of P fuel r (Some (cause.TheVariants.Trap kind pc value)) = shown.TheVariants.Trap kind pc value
+shown_of P fuel r None = shown_by (need_of P r.decl fuel r.state)
+
+abbrev pub task_end : ProgramParts → ℕ → Started → TaskEnd
+task_end P fuel r =
+    record { phase = r.phase; core = r.decl.core; end = shown_of P fuel r r.state.end; retired = r.state.retired }
+
+abbrev pub task_loads : Started → TaskLoads
+task_loads r = record { phase = r.phase; core = r.decl.core; loads = r.loads }
+
+abbrev pub is_waiting : EndShown → Bool
+is_waiting (shown.TheVariants.Waits lock) = true
+is_waiting _ = false
+
+abbrev pub is_trapped : EndShown → Bool
+is_trapped (shown.TheVariants.Trap kind pc value) = true
+is_trapped _ = false
+
+abbrev pub is_spent : EndShown → Bool
+is_spent shown.TheVariants.Fuel = true
+is_spent _ = false
+
+-- Stuck if a started task waits for a lock, else Trapped if one ended by a trap, else Fuel if one ran out of it, else Done
+unfoldable pub outcome_of : List TaskEnd → Outcome
+outcome_of ends =
+    if list_any (λ (e : TaskEnd). is_waiting e.end) ends then outcome.TheVariants.Stuck
+    else if list_any (λ (e : TaskEnd). is_trapped e.end) ends then outcome.TheVariants.Trapped
+    else if list_any (λ (e : TaskEnd). is_spent e.end) ends then outcome.TheVariants.Fuel
+    else outcome.TheVariants.Done
+
+abbrev pub ending_of : List TaskEnd → List ℕ → Ending
+ending_of ends memory = record { outcome = outcome_of ends; tasks = ends; memory = memory }
+
+-- the ending and the loads of all tasks that started, in the order of their phases and cores
+unfoldable pub end_of : ProgramParts → ℕ → Flat → FlatEnd
+end_of P fuel F =
+    record { ending = ending_of (map (task_end P fuel) (F.past ++ F.tasks)) F.memory; loads = map task_loads (F.past ++ F.tasks) }
+
+abbrev pub whole_only : ProgramParts → ℕ → Option Flat → Option FlatEnd
+whole_only P fuel None = None
+whole_only P fuel (Some F) = if is_whole P fuel F then Some (end_of P fuel F) else None
+
+-- the run of a program by a list of grants; None where the list isn't legal or isn't whole
+unfoldable pub flat_end : ProgramParts → ℕ → List Grant → Option FlatEnd
+flat_end P fuel gs = whole_only P fuel (so_far P fuel gs)

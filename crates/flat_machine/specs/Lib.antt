@@ -1,0 +1,4 @@
+pub mod Step
+pub mod Phases
+pub mod Grants
+pub mod Ending

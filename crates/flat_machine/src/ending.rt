@@ -1,0 +1,126 @@
+ghost use Rattle.std.specs.Prelude.{◌≡◌, ◌≤◌, ◌+◌, ◌++◌, length, map, IfOk};
+ghost use Rattle.std.specs.List.{list_any};
+ghost use Rattle.rv_core.specs.declared.ending.TaskEnd.{TaskEnd};
+ghost use Rattle.flat_machine.specs.Ending.{shown_of, task_end, task_loads, outcome_of, is_waiting, is_trapped, is_spent};
+
+use crate::running::Running;
+use dn_base::{CoreId, LoadSeen, Memory, Outcome, PhaseId, Sequence};
+use region_table::Program;
+use rv_core::{End, EndShown, Ending, Need, TaskEnd};
+use std::alloc::Global;
+
+/// The loads of a task: each with the data word and the value of the whole word, in the order in which they retired.
+#[derive(Debug, Drop)]
+pub struct TaskLoads {
+    pub phase: PhaseId,
+    pub core: CoreId,
+    pub loads: Sequence<LoadSeen>,
+}
+
+/// A whole run: its ending, and the loads of the tasks that started, in the order of their phases and cores.
+#[derive(Debug, Drop)]
+pub struct FlatEnd {
+    pub ending: Ending,
+    pub loads: Sequence<TaskLoads>,
+}
+
+/// How a task that stands still is shown.
+fn shown(program: &Program, fuel: u32, running: &Running<'_>) -> EndShown
+    ensures { result ≡ shown_of program.now fuel running.now running.now.state.end }
+{
+    match running.state.end {
+        Some(End::Finished) => EndShown::Finished,
+        Some(End::Fuel) => EndShown::Fuel,
+        Some(End::Trap { kind, pc, value }) => EndShown::Trap { kind, pc, value },
+        None => match running.state.need(program, running.decl, fuel) {
+            Need::Acquire { lock } => EndShown::Waits { lock },
+            _ => EndShown::Fuel,
+        },
+    }
+}
+
+/// How a task stands at the end of a run.
+fn end_of_task(program: &Program, fuel: u32, running: &Running<'_>) -> TaskEnd
+    ensures { result ≡ task_end program.now fuel running.now }
+{
+    TaskEnd {
+        phase: running.phase,
+        core: running.decl.core,
+        end: shown(program, fuel, running),
+        retired: running.state.retired,
+    }
+}
+
+/// Adds how these tasks stand.
+pub(crate) fn push_ends(
+    ends: &mut Sequence<TaskEnd>,
+    program: &Program,
+    fuel: u32,
+    tasks: &[Running<'_>],
+) -> Result<(), Memory>
+    ensures { IfOk result (λ done. ends.new ≡ ends.old ++ map (task_end program.now fuel) tasks.now) }
+{
+    for running in tasks {
+        ends.push(end_of_task(program, fuel, running))?;
+    }
+    Ok(())
+}
+
+/// The loads of a task.
+fn loads_of(running: Running<'_>) -> TaskLoads
+    ensures { result ≡ task_loads running.entry }
+{
+    TaskLoads {
+        phase: running.phase,
+        core: running.decl.core,
+        loads: running.loads,
+    }
+}
+
+/// Adds the loads of these tasks.
+pub(crate) fn push_loads(
+    loads: &mut Sequence<TaskLoads>,
+    tasks: Vec<Running<'_>>,
+) -> Result<(), Memory>
+    ensures { IfOk result (λ done. loads.new ≡ loads.old ++ map task_loads tasks.entry.items) }
+{
+    for running in tasks {
+        loads.push(loads_of(running))?;
+    }
+    Ok(())
+}
+
+/// The outcome of a run in which the tasks that started stand so: stuck where one waits for a lock, else trapped where one
+/// trapped, else out of fuel where one ran out of it, else done.
+#[tactic(auto, unfolding(crate::specs::Ending::outcome_of))]
+pub(crate) fn outcome(ends: &[TaskEnd]) -> Outcome
+    ensures { result ≡ outcome_of ends.now }
+{
+    if any_waits(ends) {
+        Outcome::Stuck
+    } else if any_traps(ends) {
+        Outcome::Trapped
+    } else if any_is_spent(ends) {
+        Outcome::Fuel
+    } else {
+        Outcome::Done
+    }
+}
+
+fn any_waits(ends: &[TaskEnd]) -> bool
+    ensures { result ≡ list_any (λ (e : TaskEnd). is_waiting e.end) ends.now }
+{
+    ends.iter().any(|e| matches!(e.end, EndShown::Waits { .. }))
+}
+
+fn any_traps(ends: &[TaskEnd]) -> bool
+    ensures { result ≡ list_any (λ (e : TaskEnd). is_trapped e.end) ends.now }
+{
+    ends.iter().any(|e| matches!(e.end, EndShown::Trap { .. }))
+}
+
+fn any_is_spent(ends: &[TaskEnd]) -> bool
+    ensures { result ≡ list_any (λ (e : TaskEnd). is_spent e.end) ends.now }
+{
+    ends.iter().any(|e| matches!(e.end, EndShown::Fuel))
+}

@@ -1,0 +1,372 @@
+ghost use Rattle.std.specs.Prelude.{◌≡◌, ◌≤◌, ◌<◌, ℕ, ◌+◌, ◌*◌, ◌++◌, ◌&&◌, true, false, None, Some, length, drop, map, sum_by, slice_get, option_copied, IfOk, IfSome, IfNone, position};
+ghost use Rattle.std.specs.List.{All, HoldsAt, list_any, list_all};
+ghost use Rattle.rv_core.specs.Access.{holds};
+ghost use Rattle.flat_machine.specs.Step.{At, Started, segment, in_state, room, IsWithin, IsWaiting};
+ghost use Rattle.flat_machine.specs.Phases.{Flat, Ran, run_all, begin, has_finished, next_phase, settled, opened, initial, work, IsSound};
+ghost use Rattle.flat_machine.specs.Grants.{is_free, grant_by, grant_for, is_grant, can_take, first_grant, next_grant, resumed, granted, grants_from};
+ghost use Rattle.flat_machine.specs.Ending.{end_of};
+
+use crate::ending::{FlatEnd, outcome, push_ends, push_loads};
+use crate::running::{Running, start};
+use dn_base::{Grant, LockId, Memory, PhaseId, Sequence};
+use region_table::{Phase, Program, TaskDecl};
+use rv_core::{Ending, Need};
+use std::alloc::Global;
+use std::marker::Model;
+
+/// The flat machine between two grants.
+#[derive(Debug, Drop)]
+pub(crate) struct Machine<'a> {
+    /// How many phases have begun.
+    begun: u32,
+    /// The tasks of the phases before the last one that has begun.
+    past: Vec<Running<'a>>,
+    /// The tasks of the last phase that has begun, in the order of their cores.
+    tasks: Vec<Running<'a>>,
+    /// The data words.
+    memory: Vec<u32>,
+}
+
+impl<'a> Model for Machine<'a> {
+    ghost use Rattle.flat_machine.specs.Phases.{Flat};
+
+    ghost Value = { Flat };
+
+    ghost view = { λ m. record { begun = m.begun; past = m.past.items; tasks = m.tasks.items; memory = m.memory.items } };
+}
+
+/// Lets each of these tasks go on from its start, one after the other.
+fn run_all<'a>(
+    alloc: Global,
+    program: &Program,
+    fuel: u32,
+    phase: PhaseId,
+    tasks: &'a [TaskDecl],
+    memory: &mut Vec<u32>,
+) -> Result<Vec<Running<'a>>, Memory>
+    requires fuel { fuel ≤ 32768 }
+    requires words { length memory.old.items ≡ length program.now.memory }
+    ensures value { IfOk result (λ ran. let all : Ran = record { tasks = ran.items; memory = memory.new.items } in
+        all ≡ run_all program.now fuel phase.0 tasks.now memory.old.items) }
+    ensures words { length memory.new.items ≡ length program.now.memory }
+    ensures within { IfOk result (λ ran. All (IsWithin fuel) ran.items) }
+    ensures count { IfOk result (λ ran. length ran.items ≡ length tasks.now) }
+    ensures room { IfOk result (λ ran. sum_by (room fuel) ran.items ≤ length tasks.now * (fuel + 1)) }
+{
+    let mut ran = Vec::new(alloc);
+    for task in tasks {
+        let mut running = start(alloc, phase, task);
+        running.segment(program, fuel, memory)?;
+        ran.push(running)?;
+    }
+    Ok(ran)
+}
+
+/// Whether all of these tasks have finished.
+fn have_finished(tasks: &[Running<'_>]) -> bool
+    ensures { result ≡ list_all has_finished tasks.now }
+{
+    for running in tasks {
+        if !running.has_finished() {
+            return false;
+        }
+    }
+    true
+}
+
+/// Whether none of these tasks holds the lock.
+fn is_free(tasks: &[Running<'_>], lock: LockId) -> bool
+    requires { lock.0 < 32 }
+    ensures { result ≡ is_free tasks.now lock.0 }
+{
+    for running in tasks {
+        if running.state.held & (1 << lock.0) != 0 {
+            return false;
+        }
+    }
+    true
+}
+
+/// The grant that a task can take, among these tasks.
+fn grant_for(
+    program: &Program,
+    fuel: u32,
+    tasks: &[Running<'_>],
+    running: &Running<'_>,
+) -> Option<Grant>
+    requires { length program.now.locks ≤ 32 }
+    ensures { result ≡ grant_for program.now fuel tasks.now running.now }
+{
+    match running.wish(program, fuel) {
+        Some(Need::Acquire { lock }) if is_free(tasks, lock) => Some(Grant {
+            phase: running.phase,
+            core: running.decl.core,
+            lock,
+        }),
+        _ => None,
+    }
+}
+
+/// Whether two grants are one.
+fn is_grant(given: Grant, found: Option<Grant>) -> bool
+    ensures { result ≡ is_grant given found }
+{
+    match found {
+        Some(grant) => {
+            grant.phase.0 == given.phase.0
+                && grant.core.0 == given.core.0
+                && grant.lock.0 == given.lock.0
+        }
+        None => false,
+    }
+}
+
+/// The place of the task that can take this grant.
+fn place_of(program: &Program, fuel: u32, tasks: &[Running<'_>], given: Grant) -> Option<usize>
+    requires { length program.now.locks ≤ 32 }
+    ensures { result ≡ position (can_take program.now fuel tasks.now given) tasks.now }
+{
+    for (place, running) in tasks.iter().enumerate() {
+        if is_grant(given, grant_for(program, fuel, tasks, running)) {
+            return Some(place);
+        }
+    }
+    None
+}
+
+/// The first grant that one of these tasks can take.
+fn first_grant(program: &Program, fuel: u32, tasks: &[Running<'_>]) -> Option<Grant>
+    requires { length program.now.locks ≤ 32 }
+    ensures { result ≡ first_grant program.now fuel tasks.now tasks.now }
+{
+    for running in tasks {
+        let grant = grant_for(program, fuel, tasks, running);
+        if grant.is_some() {
+            return grant;
+        }
+    }
+    None
+}
+
+impl<'a> Machine<'a> {
+    /// The machine before the first phase.
+    fn initial(alloc: Global, program: &Program) -> Result<Machine<'a>, Memory>
+        ensures value { IfOk result (λ machine. machine ≡ initial program.now) }
+        ensures sound { IfOk result (IsSound program.now 0) }
+        ensures locks { length program.now.locks ≤ 32 }
+        ensures words { length program.now.memory ≤ 65536 }
+    {
+        Ok(Machine {
+            begun: 0,
+            past: Vec::new(alloc),
+            tasks: Vec::new(alloc),
+            memory: Vec::from_slice(alloc, program.memory.as_slice())?,
+        })
+    }
+
+    /// The next phase, where it may begin: all tasks have finished.
+    fn next_phase(&self, program: &'a Program) -> Option<&'a Phase>
+        ensures value { option_copied result ≡ next_phase program.now self.now }
+        ensures within { IfSome result (λ phase. self.now.begun < 64) }
+    {
+        if have_finished(self.tasks.as_slice()) {
+            program.phases.get(self.begun as usize)
+        } else {
+            None
+        }
+    }
+
+    /// A phase begins.
+    #[tactic(auto, unfolding(crate::specs::Phases::begin))]
+    fn begin(
+        &mut self,
+        alloc: Global,
+        program: &Program,
+        fuel: u32,
+        phase: &'a Phase,
+    ) -> Result<(), Memory>
+        requires fuel { fuel ≤ 32768 }
+        requires words { length self.old.memory ≡ length program.now.memory }
+        requires begun { self.old.begun < 64 }
+        ensures value { IfOk result (λ done. self.new ≡ begin program.now fuel phase.now self.old) }
+        ensures words { IfOk result (λ done. length self.new.memory ≡ length program.now.memory) }
+        ensures within { IfOk result (λ done. All (IsWithin fuel) self.new.tasks) }
+        ensures count { IfOk result (λ done. length self.new.tasks ≡ length phase.now.tasks) }
+        ensures room { IfOk result (λ done. sum_by (room fuel) self.new.tasks ≤ length phase.now.tasks * (fuel + 1)) }
+    {
+        self.past.append(&mut self.tasks)?;
+        self.tasks = run_all(
+            alloc,
+            program,
+            fuel,
+            PhaseId(self.begun),
+            phase.tasks.as_slice(),
+            &mut self.memory,
+        )?;
+        self.begun += 1;
+        Ok(())
+    }
+}
+
+impl<'a> Machine<'a> {
+    /// As long as all tasks have finished, the next phase begins.
+    fn settle(&mut self, alloc: Global, program: &'a Program, fuel: u32) -> Result<(), Memory>
+        requires fuel { fuel ≤ 32768 }
+        requires sound { IsSound program.now fuel self.old }
+        ensures value { IfOk result (λ done. self.new ≡ settled program.now fuel self.old) }
+        ensures sound { IfOk result (λ done. IsSound program.now fuel self.new) }
+        ensures work { IfOk result (λ done. work program.now fuel self.new ≤ work program.now fuel self.old) }
+    {
+        'phases: while let Some(phase) = self.next_phase(program) {
+            self.begin(alloc, program, fuel, phase)?;
+        }
+        Ok(())
+    }
+
+    /// The machine before any grant.
+    #[tactic(auto, unfolding(crate::specs::Phases::opened))]
+    pub(crate) fn open(
+        alloc: Global,
+        program: &'a Program,
+        fuel: u32,
+    ) -> Result<Machine<'a>, Memory>
+        requires fuel { fuel ≤ 32768 }
+        ensures value { IfOk result (λ machine. machine ≡ opened program.now fuel) }
+        ensures sound { IfOk result (IsSound program.now fuel) }
+        ensures locks { length program.now.locks ≤ 32 }
+        ensures words { length program.now.memory ≤ 65536 }
+    {
+        let mut machine = Machine::initial(alloc, program)?;
+        machine.settle(alloc, program, fuel)?;
+        Ok(machine)
+    }
+
+    /// The task at this place, which wants a lock, acquires it and goes on.
+    fn resume(&mut self, program: &Program, fuel: u32, place: usize) -> Result<(), Memory>
+        requires fuel { fuel ≤ 32768 }
+        requires sound { IsSound program.now fuel self.old }
+        requires place { place < length self.old.tasks }
+        requires wants { HoldsAt (IsWaiting program.now fuel) self.old.tasks place }
+        ensures value { IfOk result (λ done. self.new ≡ resumed program.now fuel self.old place (slice_get self.old.tasks place)) }
+        ensures sound { IfOk result (λ done. IsSound program.now fuel self.new) }
+        ensures work { IfOk result (λ done. work program.now fuel self.new < work program.now fuel self.old) }
+    {
+        let running = &mut self.tasks[place];
+        running.acquire(program, fuel);
+        running.segment(program, fuel, &mut self.memory)?;
+        Ok(())
+    }
+
+    /// Gives a lock to the task that can take this grant; the task goes on, and phases begin as they may. Says whether the
+    /// grant was legal: where it wasn't, nothing has changed.
+    #[tactic(auto, unfolding(crate::specs::Grants::granted))]
+    pub(crate) fn grant(
+        &mut self,
+        alloc: Global,
+        program: &'a Program,
+        fuel: u32,
+        given: Grant,
+    ) -> Result<bool, Memory>
+        requires fuel { fuel ≤ 32768 }
+        requires locks { length program.now.locks ≤ 32 }
+        requires sound { IsSound program.now fuel self.old }
+        ensures legal { result ≡ Ok true → granted program.now fuel given self.old ≡ Some self.new }
+        ensures illegal { result ≡ Ok false → granted program.now fuel given self.old ≡ None }
+        ensures sound { IfOk result (λ legal. IsSound program.now fuel self.new) }
+        ensures work { result ≡ Ok true → work program.now fuel self.new < work program.now fuel self.old }
+    {
+        let Some(place) = place_of(program, fuel, self.tasks.as_slice(), given) else {
+            return Ok(false);
+        };
+        self.resume(program, fuel, place)?;
+        self.settle(alloc, program, fuel)?;
+        Ok(true)
+    }
+
+    /// Gives these grants, one after the other. Says whether they are all legal, and stops at the first that isn't.
+    pub(crate) fn grant_all(
+        &mut self,
+        alloc: Global,
+        program: &'a Program,
+        fuel: u32,
+        grants: &[Grant],
+    ) -> Result<bool, Memory>
+        requires fuel { fuel ≤ 32768 }
+        requires locks { length program.now.locks ≤ 32 }
+        requires sound { IsSound program.now fuel self.old }
+        ensures legal { result ≡ Ok true → grants_from program.now fuel (Some self.old) grants.now ≡ Some self.new }
+        ensures illegal { result ≡ Ok false → grants_from program.now fuel (Some self.old) grants.now ≡ None }
+        ensures sound { IfOk result (λ legal. IsSound program.now fuel self.new) }
+    {
+        for given in grants {
+            if !self.grant(alloc, program, fuel, *given)? {
+                return Ok(false);
+            }
+        }
+        Ok(true)
+    }
+
+    /// Gives the next grant.
+    pub(crate) fn grant_next(
+        &mut self,
+        alloc: Global,
+        program: &'a Program,
+        fuel: u32,
+        next: Grant,
+    ) -> Result<(), Memory>
+        requires fuel { fuel ≤ 32768 }
+        requires locks { length program.now.locks ≤ 32 }
+        requires sound { IsSound program.now fuel self.old }
+        requires next { next_grant program.now fuel self.old ≡ Some next }
+        ensures value { IfOk result (λ done. granted program.now fuel next self.old ≡ Some self.new) }
+        ensures sound { IfOk result (λ done. IsSound program.now fuel self.new) }
+        ensures work { IfOk result (λ done. work program.now fuel self.new < work program.now fuel self.old) }
+    {
+        let _legal = self.grant(alloc, program, fuel, next)?;
+        Ok(())
+    }
+
+    /// The grant to the least core whose wanted lock is free; None where there is none.
+    #[tactic(auto, unfolding(crate::specs::Grants::next_grant))]
+    pub(crate) fn next_grant(&self, program: &Program, fuel: u32) -> Option<Grant>
+        requires { length program.now.locks ≤ 32 }
+        ensures { result ≡ next_grant program.now fuel self.now }
+    {
+        first_grant(program, fuel, self.tasks.as_slice())
+    }
+
+    /// The end of the run.
+    #[tactic(auto, unfolding(crate::specs::Ending::end_of))]
+    pub(crate) fn finish(
+        self,
+        alloc: Global,
+        program: &Program,
+        fuel: u32,
+    ) -> Result<FlatEnd, Memory>
+        requires sound { IsSound program.now fuel self }
+        requires words { length program.now.memory ≤ 65536 }
+        ensures value { IfOk result (λ end. end ≡ end_of program.now fuel self.entry) }
+        ensures within { IfOk result (λ end. (length end.ending.memory ≤ 65536) × (length end.ending.tasks ≤ 64)) }
+    {
+        let mut tasks = Sequence::new(alloc);
+        push_ends(&mut tasks, program, fuel, self.past.as_slice())?;
+        push_ends(&mut tasks, program, fuel, self.tasks.as_slice())?;
+        let mut loads = Sequence::new(alloc);
+        let Machine {
+            begun: _,
+            past,
+            tasks: last,
+            memory,
+        } = self;
+        push_loads(&mut loads, past)?;
+        push_loads(&mut loads, last)?;
+        Ok(FlatEnd {
+            ending: Ending {
+                outcome: outcome(tasks.as_slice()),
+                tasks,
+                memory: Sequence::from_vec(memory),
+            },
+            loads,
+        })
+    }
+}

@@ -1,0 +1,140 @@
+ghost use Rattle.std.specs.Prelude.{◌≡◌, ◌≤◌, ◌<◌, Some, length, IfOk, IfSome, true, false};
+ghost use Rattle.rv_core.specs.Access.{holds};
+ghost use Rattle.rv_core.specs.Kinds.{Allowed};
+ghost use Rattle.rv_core.specs.Step.{advanced};
+ghost use Rattle.flat_machine.specs.Step.{At, fresh, wish, in_state, flat_step, segment, room, IsWithin, HasLock, IsWaiting, IsStill};
+ghost use Rattle.flat_machine.specs.Phases.{has_finished};
+
+use dn_base::{LoadSeen, Memory, PhaseId, Sequence, WordId};
+use region_table::{Program, TaskDecl};
+use rv_core::{End, Need, TaskState};
+use std::alloc::Global;
+use std::marker::Model;
+
+/// A task that has started.
+#[derive(Debug, Drop)]
+pub(crate) struct Running<'a> {
+    pub(crate) phase: PhaseId,
+    pub(crate) decl: &'a TaskDecl,
+    pub(crate) state: TaskState,
+    /// The loads that it has done, in their order.
+    pub(crate) loads: Sequence<LoadSeen>,
+}
+
+impl<'a> Model for Running<'a> {
+    ghost use Rattle.flat_machine.specs.Step.{Started};
+
+    ghost Value = { Started };
+
+    ghost view = { λ r. record { phase = r.phase; decl = r.decl.now; state = r.state; loads = r.loads } };
+}
+
+/// A task at its start. Takes no memory.
+pub(crate) fn start(alloc: Global, phase: PhaseId, decl: &TaskDecl) -> Running<'_>
+    ensures { result ≡ fresh phase.0 decl.now }
+{
+    Running {
+        phase,
+        decl,
+        state: TaskState::new(decl),
+        loads: Sequence::new(alloc),
+    }
+}
+
+impl Running<'_> {
+    /// What the task needs next; None where it has ended.
+    pub(crate) fn wish(&self, program: &Program, fuel: u32) -> Option<Need>
+        requires { length program.now.locks ≤ 32 }
+        ensures value { result ≡ wish program.now fuel self.now }
+        ensures lock { IfSome result HasLock }
+    {
+        match self.state.end {
+            Some(_) => None,
+            None => Some(self.state.need(program, self.decl, fuel)),
+        }
+    }
+
+    /// Whether the task has ended, and neither by a trap nor for want of fuel.
+    pub(crate) fn has_finished(&self) -> bool
+        ensures { result ≡ has_finished self.now }
+    {
+        matches!(self.state.end, Some(End::Finished))
+    }
+
+    /// One instruction of the task; one that has ended or wants a lock stands still. Says whether the task went on.
+    pub(crate) fn step(
+        &mut self,
+        program: &Program,
+        fuel: u32,
+        memory: &mut Vec<u32>,
+    ) -> Result<bool, Memory>
+        requires fuel { fuel ≤ 32768 }
+        requires words { length memory.old.items ≡ length program.now.memory }
+        requires within { IsWithin fuel self.old }
+        ensures value { IfOk result (λ went. let before : At = record { task = self.old; memory = memory.old.items } in
+            record { task = self.new; memory = memory.new.items } ≡ flat_step program.now fuel before) }
+        ensures still { IfOk result (λ went. went ≡ false → let before : At = record { task = self.old; memory = memory.old.items } in
+            IsStill program.now fuel before) }
+        ensures words { length memory.new.items ≡ length program.now.memory }
+        ensures within { IsWithin fuel self.new }
+        ensures room { room fuel self.new ≤ room fuel self.old }
+    {
+        if self.state.end.is_some() {
+            return Ok(false);
+        }
+        match self.state.need(program, self.decl, fuel) {
+            Need::Local | Need::Release { .. } => self.state.advance(program, self.decl, fuel),
+            Need::Load { word } => {
+                let value = memory[word.0 as usize];
+                self.state.loaded(program, self.decl, fuel, value);
+                self.loads.push(LoadSeen { word, value })?;
+            }
+            Need::Store { word, .. } => {
+                let place = word.0 as usize;
+                let value = self.state.merged(program, self.decl, fuel, memory[place]);
+                memory[place] = value;
+                self.state.advance(program, self.decl, fuel);
+            }
+            Need::Acquire { .. } => return Ok(false),
+            Need::End { cause } => self.state.stop(cause),
+        }
+        Ok(true)
+    }
+
+    /// The task, which wants a lock, acquires it.
+    pub(crate) fn acquire(&mut self, program: &Program, fuel: u32)
+        requires fuel { fuel ≤ 32768 }
+        requires within { IsWithin fuel self.old }
+        requires wants { IsWaiting program.now fuel self.old }
+        ensures value { self.new ≡ in_state self.old (advanced program.now self.old.state) }
+        ensures within { IsWithin fuel self.new }
+        ensures room { room fuel self.new < room fuel self.old }
+    {
+        self.state.advance(program, self.decl, fuel);
+    }
+
+    /// Lets the task go on until it waits or ends.
+    #[tactic(auto, unfolding(crate::specs::Step::segment))]
+    pub(crate) fn segment(
+        &mut self,
+        program: &Program,
+        fuel: u32,
+        memory: &mut Vec<u32>,
+    ) -> Result<(), Memory>
+        requires fuel { fuel ≤ 32768 }
+        requires words { length memory.old.items ≡ length program.now.memory }
+        requires within { IsWithin fuel self.old }
+        ensures value { IfOk result (λ done. let before : At = record { task = self.old; memory = memory.old.items } in
+            record { task = self.new; memory = memory.new.items } ≡ segment program.now fuel before) }
+        ensures words { length memory.new.items ≡ length program.now.memory }
+        ensures within { IsWithin fuel self.new }
+        ensures room { room fuel self.new ≤ room fuel self.old }
+    {
+        for _done in 0..fuel + 1 {
+            if !self.step(program, fuel, memory)? {
+                return Ok(());
+            }
+        }
+        Ok(())
+    }
+}

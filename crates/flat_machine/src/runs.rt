@@ -1,0 +1,69 @@
+ghost use Rattle.std.specs.Prelude.{◌≡◌, ◌≤◌, ◌<◌, length, IfOk, IfSome};
+ghost use Rattle.flat_machine.specs.Grants.{IsLeast};
+ghost use Rattle.flat_machine.specs.Ending.{flat_end};
+
+use crate::ending::FlatEnd;
+use crate::machine::Machine;
+use dn_base::{Grant, Memory};
+use effect_checker::Checked;
+use std::alloc::Global;
+
+/// Runs a checked program on one memory, by a list of grants, and gives its end.
+///
+/// Each task of a phase goes on from its start until it waits for a lock or ends, in the order of the cores. Then each
+/// grant in turn lets the task that waits for its lock go on. Once all tasks of a phase have finished the next one begins.
+/// Each task may retire `fuel` instructions, from 1 to 32,768.
+///
+/// The answer is None exactly where the grants aren't a whole legal list: one of them names a phase that isn't the current
+/// one, a core whose task doesn't wait for its lock, or a lock that a task holds, or comes when the run is over; or the list
+/// ends while the lock that some task waits for is free.
+///
+/// The time is in step with the instructions that retire and with the number of grants, and the memory with the data words
+/// and the loads.
+///
+/// # Errors
+/// `Memory` where there is no room for the memory, the tasks, their loads or the end.
+#[tactic(auto, unfolding(crate::specs::Ending::flat_end))]
+pub fn flat(
+    alloc: Global,
+    checked: &Checked,
+    fuel: u32,
+    grants: &[Grant],
+) -> Result<Option<FlatEnd>, Memory>
+    requires some { 1 ≤ fuel }
+    requires most { fuel ≤ 32768 }
+    ensures value { IfOk result (λ end. end ≡ flat_end checked.now fuel grants.now) }
+    ensures within { IfOk result (λ end. IfSome end (λ e. (length e.ending.memory ≤ 65536) × (length e.ending.tasks ≤ 64))) }
+{
+    let program = checked.program();
+    let mut machine = Machine::open(alloc, program, fuel)?;
+    if !machine.grant_all(alloc, program, fuel, grants)? {
+        return Ok(None);
+    }
+    if machine.next_grant(program, fuel).is_some() {
+        return Ok(None);
+    }
+    Ok(Some(machine.finish(alloc, program, fuel)?))
+}
+
+/// The list of grants that at each point gives the least core whose wanted lock is free that lock, until no task waits for
+/// a free lock.
+///
+/// Each task may retire `fuel` instructions, from 1 to 32,768.
+///
+/// # Errors
+/// `Memory` where there is no room for the memory, the tasks, their loads or the list.
+pub fn least_grants(alloc: Global, checked: &Checked, fuel: u32) -> Result<Vec<Grant>, Memory>
+    requires some { 1 ≤ fuel }
+    requires most { fuel ≤ 32768 }
+    ensures { IfOk result (λ grants. IsLeast checked.now fuel grants.items) }
+{
+    let program = checked.program();
+    let mut machine = Machine::open(alloc, program, fuel)?;
+    let mut grants = Vec::new(alloc);
+    'grants: while let Some(next) = machine.next_grant(program, fuel) {
+        machine.grant_next(alloc, program, fuel, next)?;
+        grants.push(next)?;
+    }
+    Ok(grants)
+}
