@@ -2,6 +2,7 @@
 #![tactic(auto)]
 
 mod assembling;
+mod coding;
 mod draft;
 mod emission;
 mod fault;

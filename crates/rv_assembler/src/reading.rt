@@ -1,14 +1,14 @@
 //! What a line says: its label and its statement.
 ghost use Rattle.std.specs.Prelude.{◌≡◌, ◌≤◌};
-ghost use Rattle.rv_assembler.specs.Reading.{code_for, extent_for, directive_for, statement_for, statement_in, said, labelled, read_tokens, fault_at, reading_of, is_version, is_blank, version_line};
+ghost use Rattle.rv_assembler.specs.Reading.{extent_for, directive_for, statement_for, statement_in, said, labelled, read_tokens, fault_at, reading_of, is_version, is_blank, version_line};
 
+use crate::coding::code_for;
 use crate::fault::SourceFault;
-use crate::kind::{Directive, Form, Kind, Mnemonic};
+use crate::kind::{Directive, Form, Kind};
 use crate::number::wrapped;
-use crate::operand::{bytes, number_at, register_at, register_numbered, token_at};
+use crate::operand::{bytes, number_at, token_at};
 use crate::shape::{is_name, is_plain, kind, knows};
-use crate::statement::{Code, Effect, Extent, Family, Statement};
-use rv_isa::AluOp;
+use crate::statement::{Effect, Extent, Family, Statement};
 use src_text::{Line, LineFault, Token, TokenKind};
 
 /// What a line of good form says, and its number.
@@ -24,133 +24,6 @@ pub(crate) struct Saying {
 pub(crate) enum Reading {
     Bad(SourceFault),
     Good(Saying),
-}
-
-/// The code of a mnemonic and its operands.
-fn code_for(text: &[u8], operands: &[Token], mnemonic: Mnemonic) -> Code
-    ensures { result ≡ code_for text.now operands.now mnemonic }
-{
-    match mnemonic {
-        Mnemonic::Lui => Code::Upper {
-            adds_pc: false,
-            rd: register_at(text, operands, 0),
-            number: number_at(operands, 2),
-        },
-        Mnemonic::Auipc => Code::Upper {
-            adds_pc: true,
-            rd: register_at(text, operands, 0),
-            number: number_at(operands, 2),
-        },
-        Mnemonic::Jal => Code::Jump {
-            rd: register_at(text, operands, 0),
-            target: token_at(operands, 2),
-        },
-        Mnemonic::Jalr => Code::JumpRegister {
-            rd: register_at(text, operands, 0),
-            base: register_at(text, operands, 4),
-            offset: number_at(operands, 2),
-        },
-        Mnemonic::Branch(cond) => Code::Branch {
-            cond,
-            a: register_at(text, operands, 0),
-            b: register_at(text, operands, 2),
-            target: token_at(operands, 4),
-        },
-        Mnemonic::Load(width) => Code::Load {
-            width,
-            rd: register_at(text, operands, 0),
-            base: register_at(text, operands, 4),
-            offset: number_at(operands, 2),
-        },
-        Mnemonic::Store(width) => Code::Store {
-            width,
-            src: register_at(text, operands, 0),
-            base: register_at(text, operands, 4),
-            offset: number_at(operands, 2),
-        },
-        Mnemonic::OpImm(op) => Code::OpImm {
-            op,
-            rd: register_at(text, operands, 0),
-            a: register_at(text, operands, 2),
-            imm: number_at(operands, 4),
-        },
-        Mnemonic::Op(op) => Code::Op {
-            op,
-            rd: register_at(text, operands, 0),
-            a: register_at(text, operands, 2),
-            b: register_at(text, operands, 4),
-        },
-        Mnemonic::Fence => Code::Fence,
-        Mnemonic::Ecall => Code::Ecall,
-        Mnemonic::Ebreak => Code::Ebreak,
-        Mnemonic::Nop => Code::OpImm {
-            op: AluOp::Add,
-            rd: register_numbered(0),
-            a: register_numbered(0),
-            imm: 0,
-        },
-        Mnemonic::Mv => Code::OpImm {
-            op: AluOp::Add,
-            rd: register_at(text, operands, 0),
-            a: register_at(text, operands, 2),
-            imm: 0,
-        },
-        Mnemonic::Not => Code::OpImm {
-            op: AluOp::Xor,
-            rd: register_at(text, operands, 0),
-            a: register_at(text, operands, 2),
-            imm: -1,
-        },
-        Mnemonic::Neg => Code::Op {
-            op: AluOp::Sub,
-            rd: register_at(text, operands, 0),
-            a: register_numbered(0),
-            b: register_at(text, operands, 2),
-        },
-        Mnemonic::Seqz => Code::OpImm {
-            op: AluOp::Sltu,
-            rd: register_at(text, operands, 0),
-            a: register_at(text, operands, 2),
-            imm: 1,
-        },
-        Mnemonic::Snez => Code::Op {
-            op: AluOp::Sltu,
-            rd: register_at(text, operands, 0),
-            a: register_numbered(0),
-            b: register_at(text, operands, 2),
-        },
-        Mnemonic::BranchZero(cond) => Code::Branch {
-            cond,
-            a: register_at(text, operands, 0),
-            b: register_numbered(0),
-            target: token_at(operands, 2),
-        },
-        Mnemonic::J => Code::Jump {
-            rd: register_numbered(0),
-            target: token_at(operands, 0),
-        },
-        Mnemonic::Jr => Code::JumpRegister {
-            rd: register_numbered(0),
-            base: register_at(text, operands, 0),
-            offset: 0,
-        },
-        Mnemonic::Ret => Code::JumpRegister {
-            rd: register_numbered(0),
-            base: register_numbered(1),
-            offset: 0,
-        },
-        Mnemonic::Li => Code::LoadNumber {
-            rd: register_at(text, operands, 0),
-            number: number_at(operands, 2),
-        },
-        Mnemonic::La => Code::LoadAddress {
-            rd: register_at(text, operands, 0),
-            name: token_at(operands, 2),
-        },
-        Mnemonic::Raw => Code::Raw {
-            number: number_at(operands, 0),
-        },
-    }
 }
 
 /// The words of an effect whose region stands at the place `first` of the operands.
