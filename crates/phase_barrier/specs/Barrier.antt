@@ -1,0 +1,51 @@
+-- The barrier between phases: who has arrived, and what its keeper answers.
+use Rattle.std.specs.Prelude.{ℕ, ◌+◌, Bool, true, false, ◌||◌, nat_le, List, length, replicate, slice_get, slice_set, Option, Some, None, if◌then◌else◌}
+use Rattle.std.specs.List.{list_all}
+use Rattle.phase_barrier.specs.declared.keeper.Verdict.{Verdict}
+use Rattle.phase_barrier.specs.declared.keeper.Verdict.TheVariants.{Wait, Go, Halt}
+
+-- what the keeper knows: how many phases there are, the current one, for each core whether it has arrived in it, and
+-- whether one that has arrived was bad
+pub record Barrier : Type 0 where
+  pub phases : ℕ
+  pub phase : ℕ
+  pub arrived : List Bool
+  pub bad : Bool
+
+-- the first phase begins, and nobody has arrived
+abbrev pub opened : ℕ → ℕ → Barrier
+opened cores phases = record { phases = phases; phase = 0; arrived = replicate cores false; bad = false }
+
+-- whether every core has arrived
+abbrev pub all_arrived : Barrier → Bool
+all_arrived k = list_all (λ (a : Bool). a) k.arrived
+
+-- whether the run ends once every core has arrived: one was bad, or no phase follows
+abbrev pub is_over : Barrier → Bool
+is_over k = k.bad || nat_le k.phases (k.phase + 1)
+
+-- the next phase begins, and nobody has arrived
+abbrev pub advanced : Barrier → Barrier
+advanced k = record k { phase = k.phase + 1; arrived = replicate (length k.arrived) false }
+
+-- the answer once every core has arrived
+abbrev pub released : Barrier → Barrier × Verdict
+released k = if is_over k then (k, Halt) else (advanced k, Go (record { 0 = k.phase + 1 }))
+
+-- the answer to a core that is counted: it waits while another is missing
+abbrev pub decided : Barrier → Barrier × Verdict
+decided k = if all_arrived k then released k else (k, Wait)
+
+-- the core has arrived, and it may have been bad
+abbrev pub counted : ℕ → Bool → Barrier → Barrier
+counted core bad k = record k { arrived = slice_set k.arrived core true; bad = k.bad || bad }
+
+-- an arrival, by what is known of its core: it isn't there, it has arrived already, or it is new
+abbrev pub arrival : Barrier → ℕ → Bool → Option Bool → Barrier × Verdict
+arrival k core bad None = (k, Wait)
+arrival k core bad (Some true) = (k, Wait)
+arrival k core bad (Some false) = decided (counted core bad k)
+
+-- what the keeper does with an arrival, and what it answers
+abbrev pub keeper_gets : Barrier → ℕ → Bool → Barrier × Verdict
+keeper_gets k core bad = arrival k core bad (slice_get k.arrived core)

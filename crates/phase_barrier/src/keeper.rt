@@ -1,0 +1,127 @@
+ghost use Rattle.std.specs.Prelude.{◌≡◌, ◌+◌, ◌<◌, ◌≤◌, ◌||◌, Some, None, false, length, slice_get, IsTrue};
+ghost use Rattle.phase_barrier.specs.Barrier.{opened, all_arrived, is_over, advanced, released, decided, counted, keeper_gets};
+
+use dn_base::{CoreId, PhaseId};
+use std::marker::Model;
+
+/// What the keeper answers to an arrival.
+#[derive(Clone, Copy, Debug, PartialEq, Eq)]
+pub enum Verdict {
+    /// The core waits: another is missing, or the arrival changed nothing.
+    Wait,
+    /// All have arrived, and the next phase begins.
+    Go { phase: PhaseId },
+    /// All have arrived, and the run is over.
+    Halt,
+}
+
+/// The most cores that a machine has.
+const MOST_CORES: usize = 16;
+
+/// The keeper of the barrier: the current phase, which cores have arrived in it, and whether one was bad.
+///
+/// A contract sees these, and how many phases there are.
+#[derive(Debug, Drop)]
+pub struct Keeper {
+    cores: u32,
+    phases: u32,
+    phase: u32,
+    arrived: [bool; MOST_CORES],
+    bad: bool,
+}
+
+impl Model for Keeper {
+    ghost use Rattle.std.specs.Prelude.{◌≤◌, take};
+    ghost use Rattle.phase_barrier.specs.Barrier.{Barrier};
+
+    ghost Value = { Barrier };
+
+    ghost view = { λ k. record { phases = k.phases; phase = k.phase; arrived = take k.cores k.arrived; bad = k.bad } };
+
+    ghost invariant = { λ k. (k.cores ≤ 16) × (k.phases ≤ 64) × (k.phase ≤ 64) };
+}
+
+impl Keeper {
+    /// The keeper of a machine of `cores` cores, 1 to 16, and a program of `phases` phases, at most 64: the first phase is
+    /// current, and nobody has arrived. Takes no memory.
+    pub fn new(cores: u32, phases: u32) -> Keeper
+        requires some { 1 ≤ cores }
+        requires cores { cores ≤ 16 }
+        requires phases { phases ≤ 64 }
+        ensures { result ≡ opened cores phases }
+    {
+        Keeper {
+            cores,
+            phases,
+            phase: 0,
+            arrived: [false; MOST_CORES],
+            bad: false,
+        }
+    }
+
+    /// Whether each core has arrived.
+    fn flags(&self) -> &[bool]
+        ensures { result.now ≡ self.now.arrived }
+    {
+        &self.arrived[..self.cores as usize]
+    }
+
+    /// Notes that the core has arrived.
+    fn count(&mut self, core: CoreId, bad: bool)
+        requires { core.0 < length self.old.arrived }
+        ensures { self.new ≡ counted core.0 bad self.old }
+    {
+        self.arrived[core.0 as usize] = true;
+        self.bad |= bad;
+    }
+
+    /// Whether every core has arrived.
+    fn is_full(&self) -> bool
+        ensures { result ≡ all_arrived self.now }
+    {
+        self.flags().iter().all(|arrived| *arrived)
+    }
+
+    /// The answer once every core has arrived.
+    fn release(&mut self) -> Verdict
+        ensures keeper { self.new ≡ (released self.old).0 }
+        ensures verdict { result ≡ (released self.old).1 }
+    {
+        if self.bad || self.phases <= self.phase + 1 {
+            return Verdict::Halt;
+        }
+        self.phase += 1;
+        self.arrived = [false; MOST_CORES];
+        Verdict::Go {
+            phase: PhaseId(self.phase),
+        }
+    }
+
+    /// A core has arrived in the current phase; `bad` where its task ended by a trap or by want of fuel.
+    ///
+    /// The verdict is Wait while a core is missing. Once all have arrived it is Halt where one was bad or no phase follows,
+    /// and else Go: the next phase is current then, and nobody has arrived. A core that has arrived already, one that isn't
+    /// there, and every call after Halt get Wait and change nothing. Takes no memory.
+    pub fn arrived(&mut self, core: CoreId, bad: bool) -> Verdict
+        ensures keeper { self.new ≡ (keeper_gets self.old core.0 bad).0 }
+        ensures verdict { result ≡ (keeper_gets self.old core.0 bad).1 }
+    {
+        match self.flags().get(core.0 as usize) {
+            Some(false) => {}
+            _ => return Verdict::Wait,
+        }
+        self.count(core, bad);
+        if self.is_full() {
+            self.release()
+        } else {
+            Verdict::Wait
+        }
+    }
+}
+
+/// Shows that a value goes from thread to thread, and may be shared.
+fn crosses<T: Send + Sync>(_value: &T) {}
+
+fn keeper_crosses(keeper: &Keeper) {
+    crosses(keeper);
+}

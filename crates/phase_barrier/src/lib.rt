@@ -1,0 +1,14 @@
+//! The barrier between the phases of a run. Its keeper counts the cores that arrive, each once, and says when the next
+//! phase begins and when the run is over. The barrier is this project's own.
+#![tactic(auto)]
+
+mod keeper;
+mod laws;
+#[cfg(test)]
+mod tests;
+
+pub use keeper::{Keeper, Verdict};
+pub use laws::{
+    a_count_marks_one_core, a_full_barrier_stays, a_new_core_waits_for_the_others,
+    nobody_has_arrived_after_go, the_last_core_releases_all,
+};

@@ -1,0 +1,17 @@
+//! A queue lock at its home bank: the holder, the cores that wait in the order in which they asked, and the signature of
+//! the words that were written under the lock.
+//!
+//! The lock and its signature are those of DeNovoND (ASPLOS 2013); that the queue stands at the home bank, and not at the
+//! cores that wait, is this project's own.
+#![tactic(auto)]
+
+mod laws;
+mod lock;
+#[cfg(test)]
+mod tests;
+
+pub use laws::{
+    a_new_asker_stands_in_the_queue, a_queue_without_a_core_has_room, locks_stay_well_formed,
+    the_first_in_the_queue_becomes_the_holder, who_waits_stands_in_the_queue,
+};
+pub use lock::LockHome;

@@ -1,0 +1,3 @@
+pub mod BankLemmas
+pub mod Strides
+pub mod ChangeLemmas

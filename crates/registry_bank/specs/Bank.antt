@@ -1,0 +1,120 @@
+-- A bank of the shared memory: what it holds, and what it does with each message.
+use Rattle.std.specs.Prelude.{◌≡◌, ℕ, ◌/◌, ◌%◌, Bool, ◌&&◌, ◌==◌, nat_lt, List, length, slice_get, slice_set, Option, Some, None, if◌then◌else◌}
+use Rattle.dn_base.specs.declared.ids.CoreId.{CoreId}
+use Rattle.dn_base.specs.declared.ids.WordId.{WordId}
+use Rattle.dn_base.specs.declared.ids.LockId.{LockId}
+use Rattle.write_signature.specs.declared.signature.Signature.{Signature}
+use Rattle.message_net.specs.declared.actor.Actor.TheVariants.{Core}
+use Rattle.message_net.specs.declared.message.Message.{Message}
+use Rattle.message_net.specs.declared.message.Message.TheVariants.{ReadReq, ReadFwd, DataReply, RegReq, RegFwd, RegAck, WriteBack, WbAck, Acquire, Release, Grant}
+use Rattle.message_net.specs.declared.message.Outgoing.{Outgoing}
+use Rattle.queue_lock.specs.Lock.{Lock, free_lock, acquired, released}
+use Rattle.registry_bank.specs.declared.bank.BankWord.{BankWord}
+use Rattle.registry_bank.specs.declared.bank.BankWord.TheVariants.{Home, Reg}
+
+-- a bank: its number, how many banks and cores there are, and its words and locks in the order of their numbers
+pub record BankParts : Type 0 where
+  pub bank : ℕ
+  pub banks : ℕ
+  pub cores : ℕ
+  pub words : List BankWord
+  pub locks : List Lock
+
+-- words and locks go round the banks: number n stands in bank `n mod banks`, at place `n div banks`
+abbrev pub is_here : BankParts → ℕ → Bool
+is_here b n = n % b.banks == b.bank
+
+-- what the bank holds for a word, if the word is one of its own
+abbrev pub bank_word : BankParts → ℕ → Option BankWord
+bank_word b w = if is_here b w then slice_get b.words (w / b.banks) else None
+
+-- a lock, if it is one of its own
+abbrev pub bank_lock : BankParts → ℕ → Option Lock
+bank_lock b l = if is_here b l then slice_get b.locks (l / b.banks) else None
+
+-- where a lock stands among the bank's own, if it is one of them
+abbrev pub lock_place : BankParts → ℕ → Option ℕ
+lock_place b l =
+    if is_here b l && nat_lt (l / b.banks) (length b.locks) then Some (l / b.banks) else None
+
+-- the bank with another content for one of its words, and with another state of one of its locks
+abbrev pub with_word : BankParts → ℕ → BankWord → BankParts
+with_word b w content = record b { words = slice_set b.words (w / b.banks) content }
+
+abbrev pub with_lock : BankParts → ℕ → Lock → BankParts
+with_lock b l state = record b { locks = slice_set b.locks (l / b.banks) state }
+
+-- the home of a word that the memory has
+abbrev pub first_word : Option ℕ → Option BankWord
+first_word None = None
+first_word (Some value) = Some (Home value)
+
+-- a bank as a run begins: each of its words holds its value in the first memory, and each of its locks is free
+pub record IsNewBank (bank banks cores : ℕ) (memory : List ℕ) (locks : ℕ) (b : BankParts) : Type 0 where
+  pub number : b.bank ≡ bank
+  pub bank_count : b.banks ≡ banks
+  pub core_count : b.cores ≡ cores
+  pub each_word : (w : ℕ) → bank_word b w ≡ (if w % banks == bank then first_word (slice_get memory w) else None)
+  pub each_lock : (l : ℕ) → bank_lock b l ≡ (if (l % banks == bank) && nat_lt l locks then Some (free_lock cores) else None)
+
+-- a message to a core
+abbrev pub to_core : CoreId → Message → Option Outgoing
+to_core core message = Some (record { to = Core core; message = message })
+
+-- whether a core is this one
+abbrev pub is_core : CoreId → CoreId → Bool
+is_core core other = core.0 == other.0
+
+-- ReadReq, by what the bank holds for the word: its value goes to the reader, or the registrant is asked to send it
+abbrev pub reads : BankParts → WordId → CoreId → Option BankWord → BankParts × Option Outgoing
+reads b word reader None = (b, None)
+reads b word reader (Some (Home value)) = (b, to_core reader (DataReply word value))
+reads b word reader (Some (Reg registrant)) = (b, to_core registrant (ReadFwd word reader))
+
+-- RegReq: the core becomes the registrant; an earlier one, if it is another core, is told so
+abbrev pub registers : BankParts → WordId → CoreId → Option BankWord → BankParts × Option Outgoing
+registers b word core None = (b, None)
+registers b word core (Some (Home value)) = (with_word b word.0 (Reg core), to_core core (RegAck word))
+registers b word core (Some (Reg registrant)) =
+    (with_word b word.0 (Reg core), if is_core registrant core then to_core core (RegAck word) else to_core registrant (RegFwd word core))
+
+-- WriteBack: the value is taken from the registrant alone; the core gets its answer in any case
+abbrev pub takes_back : BankParts → WordId → ℕ → CoreId → Option BankWord → BankParts × Option Outgoing
+takes_back b word value core None = (b, None)
+takes_back b word value core (Some (Home old)) = (b, to_core core (WbAck word))
+takes_back b word value core (Some (Reg registrant)) =
+    (if is_core registrant core then with_word b word.0 (Home value) else b, to_core core (WbAck word))
+
+-- the lock is granted with a signature, if there is one
+abbrev pub grants : LockId → CoreId → Option Signature → Option Outgoing
+grants lock core None = None
+grants lock core (Some signature) = to_core core (Grant lock signature)
+
+abbrev pub hands_on : LockId → Option (CoreId × Signature) → Option Outgoing
+hands_on lock None = None
+hands_on lock (Some next) = to_core next.0 (Grant lock next.1)
+
+-- Acquire and Release, by the lock's state
+abbrev pub acquires : BankParts → LockId → CoreId → Option Lock → BankParts × Option Outgoing
+acquires b lock core None = (b, None)
+acquires b lock core (Some state) =
+    (with_lock b lock.0 (acquired state core).0, grants lock core (acquired state core).1)
+
+abbrev pub releases : BankParts → LockId → CoreId → Signature → Option Lock → BankParts × Option Outgoing
+releases b lock core signature None = (b, None)
+releases b lock core signature (Some state) =
+    (with_lock b lock.0 (released state core signature).0, hands_on lock (released state core signature).1)
+
+-- a message that names a core is of use where the machine has that core, and else changes nothing and sends nothing
+abbrev pub from_core : BankParts → CoreId → BankParts × Option Outgoing → BankParts × Option Outgoing
+from_core b core row = if nat_lt core.0 b.cores then row else (b, None)
+
+-- what the bank does with a message, and what it sends; a message of any other kind changes nothing and sends nothing
+abbrev pub bank_gets : BankParts → Message → BankParts × Option Outgoing
+bank_gets b (ReadReq word reader) = from_core b reader (reads b word reader (bank_word b word.0))
+bank_gets b (RegReq word core) = from_core b core (registers b word core (bank_word b word.0))
+bank_gets b (WriteBack word value core) = from_core b core (takes_back b word value core (bank_word b word.0))
+bank_gets b (Acquire lock core) = from_core b core (acquires b lock core (bank_lock b lock.0))
+bank_gets b (Release lock core signature) =
+    from_core b core (releases b lock core signature (bank_lock b lock.0))
+bank_gets b _ = (b, None)

@@ -1,0 +1,281 @@
+ghost use Rattle.std.specs.Prelude.{◌≡◌, ℕ, ◌+◌, ◌*◌, ◌/◌, ◌%◌, ◌<◌, ◌≤◌, ◌&&◌, ◌==◌, nat_lt, Some, None, IfOk, length, slice_get, slice_set, if◌then◌else◌};
+ghost use Rattle.queue_lock.specs.Lock.{Lock, free_lock, acquired, released};
+ghost use Rattle.registry_bank.specs.Bank.{BankParts, IsNewBank, is_here, bank_word, bank_lock, lock_place, first_word, with_word, with_lock, reads, registers, takes_back, acquires, releases, grants, hands_on, to_core, from_core, bank_gets};
+
+use dn_base::{BankId, CoreId, LockId, Memory, WordId};
+use message_net::{Actor, Message, Outgoing};
+use queue_lock::LockHome;
+use std::alloc::Global;
+use std::marker::Model;
+use write_signature::Signature;
+
+/// What a bank holds for one of its words.
+#[derive(Clone, Copy, Debug, PartialEq, Eq)]
+pub enum BankWord {
+    /// The value of the word.
+    Home(u32),
+    /// The core that has the word registered, and so its value.
+    Reg(CoreId),
+}
+
+/// A bank of the shared memory. Words and locks go round the banks: number `n` is of bank `n mod banks`.
+///
+/// A contract sees the bank's number, how many banks and cores there are, and its words and locks in their order.
+#[derive(Drop)]
+pub struct Bank {
+    bank: BankId,
+    banks: u32,
+    cores: u32,
+    words: Vec<BankWord>,
+    locks: Vec<LockHome>,
+}
+
+impl Model for Bank {
+    ghost use Rattle.std.specs.Prelude.{◌<◌, ◌≤◌};
+    ghost use Rattle.registry_bank.specs.Bank.{BankParts};
+
+    ghost Value = { BankParts };
+
+    ghost view = { λ b. record { bank = b.bank.0; banks = b.banks; cores = b.cores; words = b.words.items; locks = b.locks.items } };
+
+    ghost invariant = { λ b. 0 < b.banks };
+}
+
+/// A message to a core.
+fn send(core: CoreId, message: Message) -> Option<Outgoing>
+    ensures { result ≡ to_core core message }
+{
+    Some(Outgoing {
+        to: Actor::Core(core),
+        message,
+    })
+}
+
+/// The words of a bank, in their order, as a run begins.
+fn own_words(alloc: Global, bank: u32, banks: u32, memory: &[u32]) -> Result<Vec<BankWord>, Memory>
+    requires bank { bank < banks }
+    requires banks { banks ≤ 16 }
+    requires memory { length memory.now ≤ 65536 }
+    ensures { IfOk result (λ words. (w : ℕ) → w % banks ≡ bank → slice_get words.items (w / banks) ≡ first_word (slice_get memory.now w)) }
+{
+    let mut words = Vec::new(alloc);
+    let mut next = bank as usize;
+    while next < memory.len() {
+        words.push(BankWord::Home(memory[next]))?;
+        next += banks as usize;
+    }
+    Ok(words)
+}
+
+/// The locks of a bank, in their order, as a run begins.
+fn own_locks(
+    alloc: Global,
+    bank: u32,
+    banks: u32,
+    cores: u32,
+    locks: u32,
+) -> Result<Vec<LockHome>, Memory>
+    requires bank { bank < banks }
+    requires banks { banks ≤ 16 }
+    requires some { 1 ≤ cores }
+    requires cores { cores ≤ 16 }
+    requires locks { locks ≤ 32 }
+    ensures { IfOk result (λ homes. (l : ℕ) → l % banks ≡ bank → slice_get homes.items (l / banks) ≡ (if nat_lt l locks then Some (free_lock cores) else None)) }
+{
+    let mut homes = Vec::new(alloc);
+    let mut next = bank;
+    while next < locks {
+        homes.push(LockHome::new(alloc, cores)?)?;
+        next += banks;
+    }
+    Ok(homes)
+}
+
+/// The core asks for the lock at this place, and is granted it where it is free.
+fn acquire_at(locks: &mut [LockHome], place: usize, lock: LockId, core: CoreId) -> Option<Outgoing>
+    requires { place < length locks.old }
+    ensures { (state : Lock) → slice_get locks.old place ≡ Some state
+        → (locks.new ≡ slice_set locks.old place (acquired state core).0) × (result ≡ grants lock core (acquired state core).1) }
+{
+    let home = &mut locks[place];
+    let signature = home.acquire(core)?;
+    send(core, Message::Grant { lock, signature })
+}
+
+/// The core gives up the lock at this place, and the first that waits for it is granted it.
+fn release_at(
+    locks: &mut [LockHome],
+    place: usize,
+    lock: LockId,
+    core: CoreId,
+    signature: Signature,
+) -> Option<Outgoing>
+    requires { place < length locks.old }
+    ensures { (state : Lock) → slice_get locks.old place ≡ Some state
+        → (locks.new ≡ slice_set locks.old place (released state core signature).0) × (result ≡ hands_on lock (released state core signature).1) }
+{
+    let home = &mut locks[place];
+    let (next, signature) = home.release(core, signature)?;
+    send(next, Message::Grant { lock, signature })
+}
+
+impl Bank {
+    /// Bank `bank` of a machine with `banks` banks and `cores` cores, 1 to 16 each. `memory` is the whole first memory, of
+    /// at most 65,536 words, and `locks`, at most 32, the number of all locks: the bank keeps its own of both. Each of its
+    /// words holds its value, and each of its locks is free.
+    ///
+    /// # Errors
+    /// `Memory` where there is no room.
+    pub fn new(
+        alloc: Global,
+        bank: BankId,
+        banks: u32,
+        cores: u32,
+        memory: &[u32],
+        locks: u32,
+    ) -> Result<Bank, Memory>
+        requires bank { bank.0 < banks }
+        requires banks { banks ≤ 16 }
+        requires some { 1 ≤ cores }
+        requires cores { cores ≤ 16 }
+        requires memory { length memory.now ≤ 65536 }
+        requires locks { locks ≤ 32 }
+        ensures { IfOk result (IsNewBank bank.0 banks cores memory.now locks) }
+    {
+        Ok(Bank {
+            bank,
+            banks,
+            cores,
+            words: own_words(alloc, bank.0, banks, memory)?,
+            locks: own_locks(alloc, bank.0, banks, cores, locks)?,
+        })
+    }
+
+    /// What the bank holds for a word; None exactly where the word isn't one of this bank's. Takes no memory.
+    pub fn word(&self, word: WordId) -> Option<BankWord>
+        ensures { result ≡ bank_word self.now word.0 }
+    {
+        if word.0 % self.banks == self.bank.0 {
+            self.words.get((word.0 / self.banks) as usize).copied()
+        } else {
+            None
+        }
+    }
+
+    /// Gives one of the bank's words another content.
+    fn put(&mut self, word: WordId, content: BankWord)
+        requires { word.0 / self.old.banks < length self.old.words }
+        ensures { self.new ≡ with_word self.old word.0 content }
+    {
+        self.words[(word.0 / self.banks) as usize] = content;
+    }
+
+    /// A core asks for the value of a word: it gets it, or the registrant is told to send it.
+    fn read(&self, word: WordId, reader: CoreId) -> Option<Outgoing>
+        ensures { result ≡ (reads self.now word reader (bank_word self.now word.0)).1 }
+    {
+        match self.word(word)? {
+            BankWord::Home(value) => send(reader, Message::DataReply { word, value }),
+            BankWord::Reg(registrant) => send(registrant, Message::ReadFwd { word, reader }),
+        }
+    }
+
+    /// A core asks to be the registrant of a word, and becomes it; an earlier registrant is told.
+    fn register(&mut self, word: WordId, core: CoreId) -> Option<Outgoing>
+        ensures bank { self.new ≡ (registers self.old word core (bank_word self.old word.0)).0 }
+        ensures sent { result ≡ (registers self.old word core (bank_word self.old word.0)).1 }
+    {
+        let content = self.word(word)?;
+        self.put(word, BankWord::Reg(core));
+        match content {
+            BankWord::Reg(registrant) if registrant != core => send(
+                registrant,
+                Message::RegFwd { word, core },
+            ),
+            _ => send(core, Message::RegAck { word }),
+        }
+    }
+
+    /// A core gives a word back: its value is taken where the core is the registrant, and the core is answered.
+    fn take_back(&mut self, word: WordId, value: u32, core: CoreId) -> Option<Outgoing>
+        ensures bank { self.new ≡ (takes_back self.old word value core (bank_word self.old word.0)).0 }
+        ensures sent { result ≡ (takes_back self.old word value core (bank_word self.old word.0)).1 }
+    {
+        if self.word(word)? == BankWord::Reg(core) {
+            self.put(word, BankWord::Home(value));
+        }
+        send(core, Message::WbAck { word })
+    }
+
+    /// The place of a lock among the bank's own; None where it isn't one of them.
+    fn place(&self, lock: LockId) -> Option<usize>
+        ensures { result ≡ lock_place self.now lock.0 }
+    {
+        let place = (lock.0 / self.banks) as usize;
+        if lock.0 % self.banks == self.bank.0 && place < self.locks.len() {
+            Some(place)
+        } else {
+            None
+        }
+    }
+
+    /// A core asks for a lock, and is granted it where it is free.
+    fn acquire(&mut self, lock: LockId, core: CoreId) -> Option<Outgoing>
+        ensures bank { self.new ≡ (acquires self.old lock core (bank_lock self.old lock.0)).0 }
+        ensures sent { result ≡ (acquires self.old lock core (bank_lock self.old lock.0)).1 }
+    {
+        let place = self.place(lock)?;
+        acquire_at(self.locks.as_mut_slice(), place, lock, core)
+    }
+
+    /// A core gives up a lock, and the first that waits for it is granted it.
+    fn release(&mut self, lock: LockId, core: CoreId, signature: Signature) -> Option<Outgoing>
+        ensures bank { self.new ≡ (releases self.old lock core signature (bank_lock self.old lock.0)).0 }
+        ensures sent { result ≡ (releases self.old lock core signature (bank_lock self.old lock.0)).1 }
+    {
+        let place = self.place(lock)?;
+        release_at(self.locks.as_mut_slice(), place, lock, core, signature)
+    }
+
+    /// What the bank does with a message, and what it sends.
+    ///
+    /// | Message | The bank has | What happens |
+    /// |---|---|---|
+    /// | ReadReq(w, c) | Home(v) | sends DataReply(w, v) to core c |
+    /// | ReadReq(w, c) | Reg(r) | sends ReadFwd(w, c) to core r |
+    /// | RegReq(w, c) | Home(v), Reg(c) | becomes Reg(c); sends RegAck(w) to core c |
+    /// | RegReq(w, c) | Reg(r), another core | becomes Reg(c); sends RegFwd(w, c) to core r |
+    /// | WriteBack(w, v, c) | Reg(c) | becomes Home(v); sends WbAck(w) to core c |
+    /// | WriteBack(w, v, c) | any other | stays; sends WbAck(w) to core c |
+    /// | Acquire(l, c) | l | acquires the lock for c; where that gives s, sends Grant(l, s) to core c |
+    /// | Release(l, c, s) | l | releases the lock by c; where that gives (d, t), sends Grant(l, t) to core d |
+    ///
+    /// A message of another kind, or one that names a word, lock or core that isn't the bank's or the machine's, changes
+    /// nothing and sends nothing. Takes no memory.
+    pub fn handle(&mut self, message: Message) -> Option<Outgoing>
+        ensures bank { self.new ≡ (bank_gets self.old message).0 }
+        ensures sent { result ≡ (bank_gets self.old message).1 }
+    {
+        match message {
+            Message::ReadReq { word, reader } if reader.0 < self.cores => self.read(word, reader),
+            Message::RegReq { word, core } if core.0 < self.cores => self.register(word, core),
+            Message::WriteBack { word, value, core } if core.0 < self.cores => self.take_back(
+                word, value, core,
+            ),
+            Message::Acquire { lock, core } if core.0 < self.cores => self.acquire(lock, core),
+            Message::Release {
+                lock,
+                core,
+                signature,
+            } if core.0 < self.cores => self.release(lock, core, signature),
+            _ => None,
+        }
+    }
+}
+
+/// Shows that a value goes from thread to thread, and may be shared.
+fn crosses<T: Send + Sync>(_value: &T) {}
+
+fn bank_crosses(bank: &Bank) {
+    crosses(bank);
+}

@@ -1,0 +1,14 @@
+//! The banks of the shared memory. A bank holds for each of its words the value or the word's registrant, and for each of
+//! its locks the holder, the queue and the signature, and answers the messages of the cores.
+//!
+//! That a shared word names its registrant where it holds no data, and that no list of sharers is kept, is DeNovo's
+//! (PACT 2011); queue locks are DeNovoND's (ASPLOS 2013); that write-backs are acknowledged is this project's own.
+#![tactic(auto)]
+
+mod bank;
+mod laws;
+#[cfg(test)]
+mod tests;
+
+pub use bank::{Bank, BankWord};
+pub use laws::{a_bank_keeps_its_place, a_lock_changes_alone, a_word_changes_alone};
