@@ -1,3 +1,3 @@
-pub mod OneTask
-pub mod Outside
 pub mod Answers
+pub mod Outside
+pub mod Serving

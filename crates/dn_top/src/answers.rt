@@ -1,16 +1,19 @@
-ghost use Rattle.std.specs.Prelude.{◌≡◌, ◌++◌, ◌≤◌, ◌<◌, length, IfOk, OnOk, option_copied};
-ghost use Rattle.dn_top.specs.Answers.{first_task, run_of, is_single, answer_to, answer_by, answer_if, refused, ran};
+ghost use Rattle.std.specs.Prelude.{◌≡◌, ◌≢◌, ◌≤◌, length, IfOk};
+ghost use Rattle.rv_assembler.specs.declared.fault.SourceFault.TheVariants.{Memory as NoMemory};
+ghost use Rattle.run_report.specs.declared.refusal.Refusal.TheVariants.{Source as OfSource};
+ghost use Rattle.command_words.specs.declared.options.Mode.TheVariants.{List as Lists};
+ghost use Rattle.dn_top.specs.Answers.{answered, refused, printed, IsRunOf, IsAnswerTo, IsAnswer};
 
-use crate::one_task::run;
-use dn_base::{Memory, Outcome, Sequence, Status};
-use region_table::{Program, TaskDecl};
-use run_report::{Refusal, answer_text, refusal_line};
+use command_words::{Mode, Options};
+use dn_base::{Grant, Memory, Sequence, Status};
+use effect_checker::{Checked, check};
+use flat_machine::{flat, least_grants};
+use region_table::Program;
+use run_report::{Refusal, answer_text, checked_line, grant_text, refusal_line, summary};
 use rv_assembler::{SourceFault, assemble};
 use rv_core::Ending;
+use rv_listing::listing;
 use std::alloc::Global;
-
-/// How many instructions a task may retire.
-const FUEL: u32 = 32_768;
 
 /// A status, and all that is to be written.
 #[derive(Debug, Drop)]
@@ -19,77 +22,82 @@ pub struct Output {
     pub bytes: Sequence<u8>,
 }
 
-/// The first task of the first phase.
-fn task_of(program: &Program) -> Option<&TaskDecl>
-    ensures { option_copied result ≡ first_task program.now }
+/// The answer that refuses a text.
+fn refusal(alloc: Global, why: &Refusal) -> Result<Output, Memory>
+    requires { why.now ≢ OfSource NoMemory }
+    ensures { IfOk result (λ output. output ≡ refused why.now) }
 {
-    match program.phases.get(0) {
-        Some(phase) => phase.tasks.get(0),
-        None => None,
-    }
+    Ok(Output {
+        status: Status::SourceRefused,
+        bytes: Sequence::from_vec(refusal_line(alloc, why)?),
+    })
 }
 
-/// The run of a program with at most one task.
-#[tactic(auto, unfolding(crate::specs::Answers::run_of))]
-fn run_program(alloc: Global, program: &Program) -> Result<Ending, Memory>
-    ensures value { IfOk result (λ ending. ending ≡ run_of program.now) }
-    ensures within { IfOk result (λ ending. (length ending.memory ≤ 65536) × (length ending.tasks ≤ 64)) }
-{
-    match task_of(program) {
-        Some(task) => run(alloc, program, task, FUEL),
-        None => {
-            let memory = Vec::from_slice(alloc, program.memory.as_slice())?;
-            Ok(Ending {
-                outcome: Outcome::Done,
-                tasks: Sequence::new(alloc),
-                memory: Sequence::from_vec(memory),
-            })
-        }
-    }
-}
-
-/// Whether the program can be run yet: it has at most one phase and one task, and no lock.
-#[tactic(auto, unfolding(crate::specs::Answers::is_single))]
-fn can_run(program: &Program) -> bool
-    ensures { result ≡ is_single program.now }
-{
-    program.phases.len() <= 1
-        && program
-            .phases
-            .get(0)
-            .is_none_or(|phase| phase.tasks.len() <= 1)
-        && program.locks.len() == 0
-}
-
-/// A refusal with this line.
-fn refusal(line: Vec<u8>) -> Output
-    ensures { result ≡ refused line.items }
+/// The answer that what was asked for was done.
+fn done(line: Vec<u8>) -> Output
+    ensures { result ≡ answered Status.Done line.items }
 {
     Output {
-        status: Status::SourceRefused,
+        status: Status::Done,
         bytes: Sequence::from_vec(line),
     }
 }
 
-/// The answer of a program's run.
-fn report(alloc: Global, program: &Program) -> Result<Output, Memory>
-    ensures { IfOk result (λ output. output ≡ ran (run_of program.now)) }
+/// The bytes that a run's end and grants are printed as.
+fn print(alloc: Global, mode: Mode, ending: &Ending, grants: &[Grant]) -> Result<Vec<u8>, Memory>
+    requires words { length ending.now.memory ≤ 65536 }
+    requires tasks { length ending.now.tasks ≤ 64 }
+    ensures { IfOk result (λ text. text.items ≡ printed mode ending.now grants.now) }
 {
-    let ending = run_program(alloc, program)?;
+    if mode == Mode::Work {
+        return summary(alloc, ending);
+    }
+    let mut text = answer_text(alloc, ending)?;
+    text.extend_from_slice(grant_text(alloc, grants)?.as_slice())?;
+    Ok(text)
+}
+
+/// The answer of a checked program's run on one flat memory.
+fn run(alloc: Global, options: &Options, checked: &Checked) -> Result<Output, Memory>
+    requires least { 1 ≤ options.now.fuel }
+    requires most { options.now.fuel ≤ 32768 }
+    ensures { IfOk result (λ output. IsRunOf options.now checked.now output) }
+{
+    let grants = least_grants(alloc, checked, options.fuel)?;
+    // the least list is legal and whole
+    let end = flat(alloc, checked, options.fuel, grants.as_slice())?.unwrap();
+    let text = print(alloc, options.mode, &end.ending, grants.as_slice())?;
     Ok(Output {
-        status: Status::from(ending.outcome),
-        bytes: Sequence::from_vec(answer_text(alloc, &ending)?),
+        status: Status::from(end.ending.outcome),
+        bytes: Sequence::from_vec(text),
     })
 }
 
-/// The answer to a program.
-fn answer_program(alloc: Global, program: &Program) -> Result<Output, Memory>
-    ensures { IfOk result (λ output. output ≡ answer_if program.now (is_single program.now)) }
+/// The answer to a program that is checked before anything else.
+fn answer_checked(alloc: Global, options: &Options, program: Program) -> Result<Output, Memory>
+    requires mode { options.now.mode ≢ Lists }
+    requires least { 1 ≤ options.now.fuel }
+    requires most { options.now.fuel ≤ 32768 }
+    ensures { IfOk result (λ output. IsAnswerTo options.now program output) }
 {
-    if can_run(program) {
-        report(alloc, program)
-    } else {
-        Ok(refusal(Vec::from_slice(alloc, b"refused not-built\n")?))
+    match check(program) {
+        Ok(checked) => match options.mode {
+            Mode::Check => Ok(done(checked_line(alloc, checked.program())?)),
+            _ => run(alloc, options, &checked),
+        },
+        Err(fault) => refusal(alloc, &Refusal::Check(fault)),
+    }
+}
+
+/// The answer to a program.
+fn answer_program(alloc: Global, options: &Options, program: Program) -> Result<Output, Memory>
+    requires least { 1 ≤ options.now.fuel }
+    requires most { options.now.fuel ≤ 32768 }
+    ensures { IfOk result (λ output. IsAnswerTo options.now program output) }
+{
+    match options.mode {
+        Mode::List => Ok(done(listing(alloc, &program)?)),
+        _ => answer_checked(alloc, options, program),
     }
 }
 
@@ -97,13 +105,14 @@ fn answer_program(alloc: Global, program: &Program) -> Result<Output, Memory>
 ///
 /// # Errors
 /// `Memory` where there is no room for the program, its run or the answer.
-#[tactic(auto, unfolding(crate::specs::Answers::answer_to))]
-pub(crate) fn output_of(alloc: Global, text: &[u8]) -> Result<Output, Memory>
-    ensures { IfOk result (λ output. output ≡ answer_to text.now) }
+pub(crate) fn output_of(alloc: Global, options: &Options, text: &[u8]) -> Result<Output, Memory>
+    requires least { 1 ≤ options.now.fuel }
+    requires most { options.now.fuel ≤ 32768 }
+    ensures { IfOk result (λ output. IsAnswer options.now text.now output) }
 {
     match assemble(alloc, text) {
-        Ok(program) => answer_program(alloc, &program),
+        Ok(program) => answer_program(alloc, options, program),
         Err(SourceFault::Memory) => Err(Memory),
-        Err(fault) => Ok(refusal(refusal_line(alloc, &Refusal::Source(fault))?)),
+        Err(fault) => refusal(alloc, &Refusal::Source(fault)),
     }
 }

@@ -9,7 +9,7 @@ use Rattle.rv_core.specs.declared.ending.EndShown as shown
 use Rattle.rv_core.specs.declared.ending.EndShown.{EndShown}
 use Rattle.rv_core.specs.declared.ending.TaskEnd.{TaskEnd}
 use Rattle.rv_core.specs.declared.ending.Ending.{Ending}
-use Rattle.run_report.specs.Pieces.{newline, space, hexadecimal}
+use Rattle.text_pieces.specs.Pieces.{newline, space, hexadecimal}
 
 abbrev pub outcome_word : Outcome → List ℕ
 outcome_word outcome.TheVariants.Done = codes "done"

@@ -1,8 +1,8 @@
 -- The grants of locks, as they are printed.
 use Rattle.std.specs.Prelude.{ℕ, List, ◌++◌, codes, flat_map}
 use Rattle.std.specs.Fmt.{decimal}
-use Rattle.dn_base.specs.declared.calls.Grant.{Grant}
-use Rattle.run_report.specs.Pieces.{newline, space}
+use Rattle.dn_base.specs.declared.ids.Grant.{Grant}
+use Rattle.text_pieces.specs.Pieces.{newline, space}
 
 -- the phase, the core and the lock
 unfoldable pub grant_line : Grant → List ℕ

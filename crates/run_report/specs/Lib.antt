@@ -1,4 +1,3 @@
-pub mod Pieces
 pub mod Answer
 pub mod Refusal
 pub mod Grants

@@ -7,7 +7,7 @@ use Rattle.effect_checker.specs.declared.fault.CheckFault.{CheckFault}
 use Rattle.effect_checker.specs.declared.fault.CheckFault as conflict
 use Rattle.run_report.specs.declared.refusal.Refusal.{Refusal}
 use Rattle.run_report.specs.declared.refusal.Refusal as refusal
-use Rattle.run_report.specs.Pieces.{newline}
+use Rattle.text_pieces.specs.Pieces.{newline}
 
 -- a fault of a line; want of memory is no refusal, and has no line
 unfoldable pub source_text : SourceFault → List ℕ

@@ -1,11 +1,10 @@
 -- The summaries of a run and of a checked program, as they are printed.
 use Rattle.std.specs.Prelude.{ℕ, ◌%◌, ◌^◌, List, ◌++◌, length, codes, sum, sum_by}
 use Rattle.std.specs.Fmt.{decimal}
-use Rattle.region_table.specs.Program.{ProgramParts}
-use Rattle.region_table.specs.declared.declared.Phase.{Phase}
+use Rattle.region_table.specs.Program.{ProgramParts, tasks_of}
 use Rattle.rv_core.specs.declared.ending.TaskEnd.{TaskEnd}
 use Rattle.rv_core.specs.declared.ending.Ending.{Ending}
-use Rattle.run_report.specs.Pieces.{newline, space, hexadecimal}
+use Rattle.text_pieces.specs.Pieces.{newline, space, hexadecimal}
 use Rattle.run_report.specs.Answer.{outcome_line, words_line}
 
 -- a word and a number
@@ -20,10 +19,6 @@ sum_line memory = codes "sum " ++ hexadecimal (sum memory % 2 ^ 32) ++ newline
 abbrev pub retired_by : List TaskEnd → ℕ
 retired_by tasks = sum_by (λ (t : TaskEnd). t.retired) tasks
 
--- how many tasks all phases have
-abbrev pub tasks_in : List Phase → ℕ
-tasks_in phases = sum_by (λ (p : Phase). length p.tasks) phases
-
 -- the outcome, how many tasks started, how many instructions they retired, how many data words there are, and their sum
 unfoldable pub summary_of : Ending → List ℕ
 summary_of e =
@@ -33,4 +28,4 @@ summary_of e =
 -- how many phases, tasks and data words a program has
 unfoldable pub checked_of : ProgramParts → List ℕ
 checked_of p =
-    codes "checked " ++ decimal (length p.phases) ++ space ++ decimal (tasks_in p.phases) ++ space ++ decimal (length p.memory) ++ newline
+    codes "checked " ++ decimal (length p.phases) ++ space ++ decimal (length (tasks_of p.phases)) ++ space ++ decimal (length p.memory) ++ newline

@@ -1,10 +1,10 @@
 ghost use Rattle.std.specs.Prelude.{◌≡◌, ◌+◌, ◌*◌, ◌++◌, ◌<◌, ◌≤◌, length, flat_map, IfOk, OnOk};
 ghost use Rattle.run_report.specs.Answer.{outcome_word, kind_word, end_text, outcome_line, task_line, words_line, word_line, word_lines, answer_of};
 
-use crate::pieces::{push, push_decimal, push_hexadecimal};
 use dn_base::{Memory, Outcome};
 use rv_core::{EndShown, Ending, TaskEnd, TrapKind};
 use std::alloc::Global;
+use text_pieces::{push, push_decimal, push_hexadecimal};
 
 fn outcome_name(outcome: Outcome) -> &'static [u8]
     ensures { result.now ≡ outcome_word outcome }

@@ -1,9 +1,9 @@
 ghost use Rattle.std.specs.Prelude.{◌≡◌, ◌++◌, flat_map, IfOk, OnOk};
 ghost use Rattle.run_report.specs.Grants.{grant_line, grants_of};
 
-use crate::pieces::{push, push_decimal};
 use dn_base::{Grant, Memory};
 use std::alloc::Global;
+use text_pieces::{push, push_decimal};
 
 #[tactic(auto, unfolding(crate::specs::Grants::grant_line))]
 fn push_grant(out: &mut Vec<u8>, grant: Grant) -> Result<(), Memory>

@@ -6,7 +6,6 @@
 
 mod answer;
 mod grants;
-mod pieces;
 mod refusal;
 #[cfg(test)]
 mod tests;

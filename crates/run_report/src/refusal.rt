@@ -4,11 +4,11 @@ ghost use Rattle.rv_assembler.specs.declared.fault.SourceFault.TheVariants.{Memo
 ghost use Rattle.run_report.specs.declared.refusal.Refusal.TheVariants.{Source as OfSource};
 ghost use Rattle.run_report.specs.Refusal.{source_text, conflict_text, check_text, refusal_of};
 
-use crate::pieces::{push, push_decimal};
 use dn_base::{Memory, PhaseId, WordId};
 use effect_checker::CheckFault;
 use rv_assembler::SourceFault;
 use std::alloc::Global;
+use text_pieces::{push, push_decimal};
 
 /// Why command words or a text are refused.
 #[derive(Clone, Copy, Debug, PartialEq, Eq)]

@@ -1,12 +1,13 @@
 ghost use Rattle.std.specs.Prelude.{◌≡◌, ◌≤◌, ◌++◌, length, sum, IfOk, OnOk};
-ghost use Rattle.run_report.specs.Summary.{count_line, sum_line, retired_by, tasks_in, summary_of, checked_of};
+ghost use Rattle.region_table.specs.Program.{tasks_of};
+ghost use Rattle.run_report.specs.Summary.{count_line, sum_line, retired_by, summary_of, checked_of};
 
 use crate::answer::{push_count, push_outcome};
-use crate::pieces::{push, push_decimal, push_hexadecimal, push_long};
 use dn_base::Memory;
 use region_table::{Phase, Program};
 use rv_core::{Ending, TaskEnd};
 use std::alloc::Global;
+use text_pieces::{push, push_decimal, push_hexadecimal, push_long};
 
 /// The instructions that all tasks retired.
 fn retired(tasks: &[TaskEnd]) -> u64
@@ -25,14 +26,15 @@ fn word_sum(memory: &[u32]) -> u64
 }
 
 /// How many tasks all phases have.
-fn task_count(phases: &[Phase]) -> u64
-    requires { length phases.now ≤ 64 }
-    ensures { result ≡ tasks_in phases.now }
+fn task_count(phases: &[Phase]) -> u32
+    requires { length (tasks_of phases.now) ≤ 64 }
+    ensures { result ≡ length (tasks_of phases.now) }
 {
-    phases
-        .iter()
-        .map(|phase| u64::from(phase.tasks.len() as u32))
-        .sum()
+    let mut count = 0;
+    for phase in phases {
+        count += phase.tasks.len() as u32;
+    }
+    count
 }
 
 /// Adds a word and a number.
@@ -89,7 +91,7 @@ pub fn checked_line(alloc: Global, program: &Program) -> Result<Vec<u8>, Memory>
     push(&mut out, b"checked ")?;
     push_decimal(&mut out, program.phases.len() as u32)?;
     push(&mut out, b" ")?;
-    push_long(&mut out, task_count(program.phases.as_slice()))?;
+    push_decimal(&mut out, task_count(program.phases.as_slice()))?;
     push(&mut out, b" ")?;
     push_decimal(&mut out, program.memory.len() as u32)?;
     push(&mut out, b"\n")?;

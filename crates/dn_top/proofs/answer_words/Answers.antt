@@ -1,44 +1,63 @@
-use Rattle.std.proofs.Common.{◌≡◌, ◌==◌, List, [], true, length, refl, arith}
-use Rattle.std.proofs.lemmas.Bool.Decides.{nat_tests}
-use Rattle.std.proofs.lemmas.List.{nil_from_length}
-use Rattle.dn_base.specs.declared.status.Status as status
-use Rattle.dn_top.proofs.Answering.{ran_whole, refused_whole, faulted, complete, not_other, finished_as}
+use Rattle.std.proofs.Common.{◌≡◌, Some, None, IfSome, subst, sym, ◌∙◌}
+use Rattle.command_words.specs.declared.options.Options.{Options}
+use Rattle.dn_top.specs.Serving.{text_for, HasFailed, IsDoneBy}
+use Rattle.dn_top.proofs.Answering.{done_clause, refused_clause, failed_clause, complete_clause}
 use Rattle.dn_top.proofs.answer_words.Goals as goal
 
-none_there : {X : Type 0} (xs : List X) → true ≡ (length xs == 0) → xs ≡ []
-none_there xs e = nil_from_length xs (grind (arith, nat_tests))
+same : (o p : Options) → Some o ≡ Some p → o ≡ p
+same o p e = cc
 
-pub returns-in-Ok-output_of-clause-run : goal.returns-in-Ok-output_of-clause-run
-returns-in-Ok-output_of-clause-run g c =
-    λ o. ran_whole _ _ _ _ _ _ c.in-Ok.text.items _ c.in-Ok.ensures.text
-    (finished_as _ _ _ _ _ c.in-Ok-output_of.output _ c.in-Ok.text.items _ c.as_slice-in-Ok-output_of.ensures c.in-Ok-output_of.ensures c.as_slice.ensures.value c.finish-in-Ok-output_of.ensures.finished) o
-
-pub returns-in-Ok-output_of-clause-usage : goal.returns-in-Ok-output_of-clause-usage
-returns-in-Ok-output_of-clause-usage g c =
-    λ e. absurd (not_other _ _ _ _ c.in-Ok.text.items _ status.TheVariants.Usage (finished_as _ _ _ _ _ c.in-Ok-output_of.output _ c.in-Ok.text.items _ c.as_slice-in-Ok-output_of.ensures c.in-Ok-output_of.ensures c.as_slice.ensures.value c.finish-in-Ok-output_of.ensures.finished) e refl (λ x. cc))
-
-pub returns-in-Ok-output_of-clause-refused : goal.returns-in-Ok-output_of-clause-refused
-returns-in-Ok-output_of-clause-refused g c =
-    λ e. (
-      none_there _ c.if-not-is_empty.ensures,
-      refused_whole _ _ _ _ _ _ c.in-Ok.text.items _ c.in-Ok.ensures.text
-          (finished_as _ _ _ _ _ c.in-Ok-output_of.output _ c.in-Ok.text.items _ c.as_slice-in-Ok-output_of.ensures c.in-Ok-output_of.ensures c.as_slice.ensures.value c.finish-in-Ok-output_of.ensures.finished) e,
+pub returns-in-Ok-clause-done : goal.returns-in-Ok-clause-done
+returns-in-Ok-clause-done g c =
+    λ outcome. (
+      c.in-Ok.options,
+      c.in-Ok.ensures.taken,
+      done_clause c.in-Ok.options (g.S.Source.told c.args.source.now) (g.S.Source.told c.answer_options.new.source)
+          (g.S.Source.faults c.args.source.now) (g.S.Source.faults c.answer_options.new.source)
+          (g.K.Sink.told c.args.sink.now) (g.K.Sink.told c.answer_options.new.sink)
+          (g.K.Sink.faults c.args.sink.now) (g.K.Sink.faults c.answer_options.new.sink) c.answer_options.result.status
+          c.answer_options.ensures.served outcome,
     )
 
-pub returns-in-Ok-output_of-clause-read_fault : goal.returns-in-Ok-output_of-clause-read_fault
-returns-in-Ok-output_of-clause-read_fault g c =
-    λ e. absurd (not_other _ _ _ _ c.in-Ok.text.items _ status.TheVariants.ReadFault (finished_as _ _ _ _ _ c.in-Ok-output_of.output _ c.in-Ok.text.items _ c.as_slice-in-Ok-output_of.ensures c.in-Ok-output_of.ensures c.as_slice.ensures.value c.finish-in-Ok-output_of.ensures.finished) e refl (λ x. cc))
+pub returns-in-Ok-clause-refused : goal.returns-in-Ok-clause-refused
+returns-in-Ok-clause-refused g c =
+    λ r. (
+      c.in-Ok.options,
+      c.in-Ok.ensures.taken,
+      refused_clause c.in-Ok.options (g.S.Source.told c.args.source.now) (g.S.Source.told c.answer_options.new.source)
+          (g.S.Source.faults c.args.source.now) (g.S.Source.faults c.answer_options.new.source)
+          (g.K.Sink.told c.args.sink.now) (g.K.Sink.told c.answer_options.new.sink)
+          (g.K.Sink.faults c.args.sink.now) (g.K.Sink.faults c.answer_options.new.sink) c.answer_options.result.status
+          c.answer_options.ensures.served r,
+    )
 
-pub returns-in-Ok-output_of-clause-write_fault : goal.returns-in-Ok-output_of-clause-write_fault
-returns-in-Ok-output_of-clause-write_fault g c =
-    λ e. let f = faulted _ _ _ _ _ _ c.in-Ok.text.items _ c.in-Ok.ensures.text (finished_as _ _ _ _ _ c.in-Ok-output_of.output _ c.in-Ok.text.items _ c.as_slice-in-Ok-output_of.ensures c.in-Ok-output_of.ensures c.as_slice.ensures.value c.finish-in-Ok-output_of.ensures.finished) e in
-    (f.0, (λ some. absurd (some (none_there _ c.if-not-is_empty.ensures))), λ none. f.1)
+pub returns-in-Ok-clause-write_fault : goal.returns-in-Ok-clause-write_fault
+returns-in-Ok-clause-write_fault g c =
+    λ r.
+    let failed = failed_clause c.in-Ok.options (g.S.Source.told c.args.source.now) (g.S.Source.told c.answer_options.new.source)
+        (g.S.Source.faults c.args.source.now) (g.S.Source.faults c.answer_options.new.source)
+        (g.K.Sink.told c.args.sink.now) (g.K.Sink.told c.answer_options.new.sink)
+        (g.K.Sink.faults c.args.sink.now) (g.K.Sink.faults c.answer_options.new.sink) c.answer_options.result.status
+        c.answer_options.ensures.served r in
+    (
+      failed.0,
+      (λ none. let taken = c.in-Ok.ensures.taken in cc),
+      λ o is. subst (λ (p : Options). IfSome (text_for p (g.S.Source.told c.args.source.now))
+          (λ text. HasFailed p (g.K.Sink.told c.args.sink.now) (g.K.Sink.told c.answer_options.new.sink) text))
+          (same c.in-Ok.options o (sym c.in-Ok.ensures.taken ∙ is)) failed.1,
+    )
 
-pub returns-in-Ok-output_of-clause-memory : goal.returns-in-Ok-output_of-clause-memory
-returns-in-Ok-output_of-clause-memory g c =
-    λ e. absurd (not_other _ _ _ _ c.in-Ok.text.items _ status.TheVariants.Memory (finished_as _ _ _ _ _ c.in-Ok-output_of.output _ c.in-Ok.text.items _ c.as_slice-in-Ok-output_of.ensures c.in-Ok-output_of.ensures c.as_slice.ensures.value c.finish-in-Ok-output_of.ensures.finished) e refl (λ x. cc))
-
-pub returns-in-Ok-output_of-clause-complete : goal.returns-in-Ok-output_of-clause-complete
-returns-in-Ok-output_of-clause-complete g c =
-    λ none text told calm_source calm_sink. complete _ _ _ _ _ _ c.in-Ok.text.items text _ c.in-Ok.ensures.text
-    (finished_as _ _ _ _ _ c.in-Ok-output_of.output _ c.in-Ok.text.items _ c.as_slice-in-Ok-output_of.ensures c.in-Ok-output_of.ensures c.as_slice.ensures.value c.finish-in-Ok-output_of.ensures.finished) told calm_sink
+pub returns-in-Ok-clause-complete : goal.returns-in-Ok-clause-complete
+returns-in-Ok-clause-complete g c =
+    λ o is text told calm_source calm_sink.
+    let asked : c.in-Ok.options ≡ o = same c.in-Ok.options o (sym c.in-Ok.ensures.taken ∙ is) in
+    let served = subst (λ (p : Options). IsDoneBy p (g.S.Source.told c.args.source.now) (g.S.Source.told c.answer_options.new.source)
+        (g.S.Source.faults c.args.source.now) (g.S.Source.faults c.answer_options.new.source)
+        (g.K.Sink.told c.args.sink.now) (g.K.Sink.told c.answer_options.new.sink)
+        (g.K.Sink.faults c.args.sink.now) (g.K.Sink.faults c.answer_options.new.sink) c.answer_options.result.status)
+        asked c.answer_options.ensures.served in
+    complete_clause o (g.S.Source.told c.args.source.now) (g.S.Source.told c.answer_options.new.source)
+    (g.S.Source.faults c.args.source.now) (g.S.Source.faults c.answer_options.new.source)
+    (g.K.Sink.told c.args.sink.now) (g.K.Sink.told c.answer_options.new.sink)
+    (g.K.Sink.faults c.args.sink.now) (g.K.Sink.faults c.answer_options.new.sink) c.answer_options.result.status
+    served text told calm_source calm_sink

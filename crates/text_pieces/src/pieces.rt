@@ -1,11 +1,14 @@
 ghost use Rattle.std.specs.Prelude.{◌≡◌, ◌++◌, ◌/◌, ◌%◌, ◌^◌, ◌<◌, OnOk};
-ghost use Rattle.std.specs.Fmt.{decimal};
-ghost use Rattle.run_report.specs.Pieces.{hexadecimal, hex_digit};
+ghost use Rattle.std.specs.Fmt.{decimal, signed_decimal};
+ghost use Rattle.text_pieces.specs.Pieces.{hexadecimal, hex_digit};
 
 use dn_base::Memory;
 
 /// Adds bytes at the end.
-pub(crate) fn push(out: &mut Vec<u8>, bytes: &[u8]) -> Result<(), Memory>
+///
+/// # Errors
+/// `Memory` where there is no room for them.
+pub fn push(out: &mut Vec<u8>, bytes: &[u8]) -> Result<(), Memory>
     ensures { OnOk result (out.new.items ≡ out.old.items ++ bytes.now) }
 {
     out.extend_from_slice(bytes)?;
@@ -13,7 +16,10 @@ pub(crate) fn push(out: &mut Vec<u8>, bytes: &[u8]) -> Result<(), Memory>
 }
 
 /// Adds a number in decimal digits.
-pub(crate) fn push_decimal(out: &mut Vec<u8>, number: u32) -> Result<(), Memory>
+///
+/// # Errors
+/// `Memory` where there is no room for them.
+pub fn push_decimal(out: &mut Vec<u8>, number: u32) -> Result<(), Memory>
     ensures { OnOk result (out.new.items ≡ out.old.items ++ decimal number) }
 {
     let digits = number.to_string(*out.allocator())?;
@@ -21,8 +27,22 @@ pub(crate) fn push_decimal(out: &mut Vec<u8>, number: u32) -> Result<(), Memory>
 }
 
 /// Adds a number of 64 bits in decimal digits.
-pub(crate) fn push_long(out: &mut Vec<u8>, number: u64) -> Result<(), Memory>
+///
+/// # Errors
+/// `Memory` where there is no room for them.
+pub fn push_long(out: &mut Vec<u8>, number: u64) -> Result<(), Memory>
     ensures { OnOk result (out.new.items ≡ out.old.items ++ decimal number) }
+{
+    let digits = number.to_string(*out.allocator())?;
+    push(out, digits.as_bytes())
+}
+
+/// Adds a number in decimal digits, behind `-` where it is below 0.
+///
+/// # Errors
+/// `Memory` where there is no room for them.
+pub fn push_signed(out: &mut Vec<u8>, number: i32) -> Result<(), Memory>
+    ensures { OnOk result (out.new.items ≡ out.old.items ++ signed_decimal number) }
 {
     let digits = number.to_string(*out.allocator())?;
     push(out, digits.as_bytes())
@@ -40,9 +60,12 @@ fn digit(value: u32) -> u8
     }
 }
 
-/// Adds a number in `0x` and eight digits of base 16.
+/// Adds a number in `0x` and eight digits of base 16, with `a` to `f` in lower case.
+///
+/// # Errors
+/// `Memory` where there is no room for them.
 #[tactic(auto, unfolding(crate::specs::Pieces::hexadecimal))]
-pub(crate) fn push_hexadecimal(out: &mut Vec<u8>, number: u32) -> Result<(), Memory>
+pub fn push_hexadecimal(out: &mut Vec<u8>, number: u32) -> Result<(), Memory>
     ensures { OnOk result (out.new.items ≡ out.old.items ++ hexadecimal number) }
 {
     let bytes = [
