@@ -1,0 +1,9 @@
+use Rattle.std.proofs.Common.{◌≡◌, ◌-◌, ◌++◌, flat_map}
+use Rattle.std.specs.List.{range_with_len}
+use Rattle.work_gen.specs.Work.{adding_task, adding_phase}
+use Rattle.work_gen.proofs.declared.push_adding_phase.Given as goal
+
+abbrev pub invariant-loop-core : goal.invariant-loop-core
+invariant-loop-core l =
+    l.out.items ++ flat_map (adding_task l.label l.from l.to l.part) (range_with_len l.core (4 - l.core))
+    ≡ l.fn.out.items ++ adding_phase l.label l.from l.to l.part

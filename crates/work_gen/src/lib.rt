@@ -1,0 +1,41 @@
+//! The text of a work of a chosen size, for the machine to run: three phases of four tasks on two regions, a and b.
+//!
+//! The tasks of the first phase fill a, so that its word i is 3i + 1. Those of the second make each word of b the sum of
+//! the same word of a and the one behind it, and those of the third make each word of a such a sum of words of b. Behind
+//! the last word of a region stands its first.
+#![tactic(auto)]
+
+mod code;
+mod declared;
+mod pieces;
+#[cfg(test)]
+mod tests;
+
+ghost use Rattle.std.specs.Prelude.{◌≡◌, ◌≤◌, IfOk};
+ghost use Rattle.work_gen.specs.Work.{work_of};
+
+use crate::code::{push_adding, push_filling, push_starting};
+use crate::declared::push_declared;
+use dn_base::Memory;
+use std::alloc::Global;
+
+/// The text of the work of a size from 1 to 128: each region has 64 words for each 1 of the size, and each task a fourth
+/// of them.
+///
+/// # Errors
+/// `Memory` where there is no room for the text.
+#[tactic(auto, unfolding(crate::specs::Work::text_for))]
+pub fn work(alloc: Global, size: u32) -> Result<Vec<u8>, Memory>
+    requires least { 1 ≤ size }
+    requires most { size ≤ 128 }
+    ensures { IfOk result (λ text. text.items ≡ work_of size) }
+{
+    let part = 16 * size;
+    let words = 64 * size;
+    let mut out = Vec::new(alloc);
+    push_declared(&mut out, part, words)?;
+    push_filling(&mut out, part)?;
+    push_starting(&mut out)?;
+    push_adding(&mut out, part, words)?;
+    Ok(out)
+}
