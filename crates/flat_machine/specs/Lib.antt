@@ -2,3 +2,4 @@ pub mod Step
 pub mod Phases
 pub mod Grants
 pub mod Ending
+pub mod Laws

@@ -1,0 +1,120 @@
+-- Tasks of one phase of a checked program that hold no lock in common keep out of each other's words.
+use Rattle.std.proofs.Common.{◌≡◌, ◌≢◌, ℕ, zero, suc, ◌+◌, Bool, true, false, ◌&&◌, ◌||◌, ◌⊎◌, inl, inr, IsTrue, length, List, [], ◌∷◌, get_or, refl, sym, ap, ◌∙◌, subst, ⊎_elim, arith}
+use Rattle.std.specs.List.{IsAmong}
+use Rattle.std.proofs.lemmas.Bool.{false≢true, and_parts, or_cases, or_left, or_right}
+use Rattle.region_table.specs.Program.{ProgramParts}
+use Rattle.region_table.specs.Words.{has}
+use Rattle.region_table.specs.Plan.{uses_plainly, task_guards}
+use Rattle.region_table.specs.declared.interval.Interval.{Interval}
+use Rattle.region_table.specs.declared.declared.TaskDecl.{TaskDecl}
+use Rattle.region_table.specs.declared.declared.Phase.{Phase}
+use Rattle.rv_core.specs.Access.{holds, under, may_load, may_store}
+use Rattle.effect_checker.specs.Checked.{IsChecked, writes_plainly}
+use Rattle.effect_checker.proofs.SeparationLemmas.{phase-checked, plain_words_apart, guarded_words_apart, locks_apart}
+use Rattle.flat_machine.specs.Step.{Started}
+use Rattle.flat_machine.specs.Laws.{HoldApart, IsFree}
+use Rattle.flat_machine.proofs.Rights.{not-true}
+use Rattle.flat_machine.proofs.Frames.{KeepsOut, second-task, swapped-memory}
+
+-- a lock that is held, and whose set in a list that begins with that of lock `first` has the word
+record IsUnder (ss : List (List Interval)) (first held w : ℕ) : Type 0 where
+  place : ℕ
+  holds : holds held (first + place) ≡ true
+  has : has (get_or ss place []) w ≡ true
+
+under-some : (ss : List (List Interval)) (first held w : ℕ) → under ss first held w ≡ true → IsUnder ss first held w
+under-some [] first held w e = absurd (false≢true e)
+under-some (s ∷ ss) first held w e =
+    let later = under-some ss (first + 1) held w in
+    ⊎_elim
+    (λ (both : (holds held first && has s w) ≡ true).
+    let parts = and_parts (holds held first) (has s w) both in
+    let here : first ≡ first + 0 = omega arith in
+    let found : IsUnder (s ∷ ss) first held w = record { place = 0; holds = subst (λ (l : ℕ). holds held l ≡ true) here parts.0; has = parts.1 } in
+    found)
+    (λ (behind : under ss (first + 1) held w ≡ true).
+    let u = later behind in
+    let there : first + 1 + u.place ≡ first + suc u.place = omega arith in
+    let found : IsUnder (s ∷ ss) first held w = record { place = suc u.place; holds = subst (λ (l : ℕ). holds held l ≡ true) there u.holds; has = u.has } in
+    found)
+    (or_cases (holds held first && has s w) (under ss (first + 1) held w) e)
+
+-- a lock that the task holds guards the word for it
+record IsGuarded (d : TaskDecl) (held w : ℕ) : Type 0 where
+  lock : ℕ
+  holds : holds held lock ≡ true
+  guards : task_guards d lock w ≡ true
+
+in_hand : (held place : ℕ) → holds held (0 + place) ≡ true → holds held place ≡ true
+in_hand held place h = let e : 0 + place ≡ place = omega arith in subst (λ (l : ℕ). holds held l ≡ true) e h
+
+writes-guarded : (d : TaskDecl) (held w : ℕ) → under d.effects.guarded_writes 0 held w ≡ true → IsGuarded d held w
+writes-guarded d held w e =
+    let u = under-some d.effects.guarded_writes 0 held w e in
+    record {
+      lock = u.place;
+      holds = in_hand held u.place u.holds;
+      guards = or_right (has (get_or d.effects.guarded_reads u.place []) w) (has (get_or d.effects.guarded_writes u.place []) w) u.has;
+    }
+
+reads-guarded : (d : TaskDecl) (held w : ℕ) → under d.effects.guarded_reads 0 held w ≡ true → IsGuarded d held w
+reads-guarded d held w e =
+    let u = under-some d.effects.guarded_reads 0 held w e in
+    record {
+      lock = u.place;
+      holds = in_hand held u.place u.holds;
+      guards = or_left (has (get_or d.effects.guarded_reads u.place []) w) (has (get_or d.effects.guarded_writes u.place []) w) u.has;
+    }
+
+store-cases : (d : TaskDecl) (held w : ℕ) → may_store d held w ≡ true → IsTrue (writes_plainly d w) ⊎ IsGuarded d held w
+store-cases d held w e =
+    ⊎_elim (λ (plain : has d.effects.writes w ≡ true). let found : IsTrue (writes_plainly d w) ⊎ IsGuarded d held w = inl plain in found)
+    (λ (guarded : under d.effects.guarded_writes 0 held w ≡ true). let found : IsTrue (writes_plainly d w) ⊎ IsGuarded d held w = inr (writes-guarded d held w guarded) in found)
+    (or_cases (has d.effects.writes w) (under d.effects.guarded_writes 0 held w) e)
+
+load-cases : (d : TaskDecl) (held w : ℕ) → may_load d held w ≡ true → IsTrue (uses_plainly d w) ⊎ IsGuarded d held w
+load-cases d held w e =
+    let plain : Bool = has d.effects.reads w || has d.effects.writes w in
+    let reads : Bool = under d.effects.guarded_reads 0 held w in
+    let writes : Bool = under d.effects.guarded_writes 0 held w in
+    ⊎_elim
+    (λ (first : (plain || reads) ≡ true).
+    ⊎_elim (λ (h : plain ≡ true). let found : IsTrue (uses_plainly d w) ⊎ IsGuarded d held w = inl h in found)
+    (λ (h : reads ≡ true). let found : IsTrue (uses_plainly d w) ⊎ IsGuarded d held w = inr (reads-guarded d held w h) in found)
+    (or_cases plain reads first))
+    (λ (h : writes ≡ true). let found : IsTrue (uses_plainly d w) ⊎ IsGuarded d held w = inr (writes-guarded d held w h) in found)
+    (or_cases (plain || reads) writes e)
+
+-- two tasks of a phase of a checked program, on two cores, that hold no lock in common
+pub record AreApart (P : ProgramParts) (p : Phase) (a b : Started) : Type 0 where
+  pub checked : IsChecked P
+  pub phase : IsAmong P.phases p
+  pub first : IsAmong p.tasks a.decl
+  pub second : IsAmong p.tasks b.decl
+  pub cores : a.decl.core.0 ≢ b.decl.core.0
+  pub held : HoldApart a.state.held b.state.held
+
+no-word : (P : ProgramParts) (p : Phase) (a b : Started) (w : ℕ) → AreApart P p a b
+    → IsTrue (writes_plainly a.decl w) ⊎ IsGuarded a.decl a.state.held w → IsTrue (uses_plainly b.decl w) ⊎ IsGuarded b.decl b.state.held w → ⊥
+no-word P p a b w h (inl writes) (inl uses) = plain_words_apart p a.decl b.decl w (phase-checked P p h.checked h.phase) h.first h.second h.cores writes uses
+no-word P p a b w h (inl writes) (inr g) =
+    guarded_words_apart p b.decl a.decl g.lock w (phase-checked P p h.checked h.phase) h.second h.first g.guards (or_right (has a.decl.effects.reads w) (has a.decl.effects.writes w) writes)
+no-word P p a b w h (inr g) (inl uses) = guarded_words_apart p a.decl b.decl g.lock w (phase-checked P p h.checked h.phase) h.first h.second g.guards uses
+no-word P p a b w h (inr g) (inr k) =
+    let same = locks_apart p a.decl b.decl g.lock k.lock w (phase-checked P p h.checked h.phase) h.first h.second g.guards k.guards in
+    h.held g.lock g.holds (subst (λ (l : ℕ). holds b.state.held l ≡ true) (sym same) k.holds)
+
+pub keeps-out : (P : ProgramParts) (p : Phase) (a b : Started) → AreApart P p a b → KeepsOut a b
+keeps-out P p a b h =
+    record {
+      out = λ w e. not-true (may_load b.decl b.state.held w)
+          (λ f. no-word P p a b w h (store-cases a.decl a.state.held w e) (load-cases b.decl b.state.held w f));
+    }
+
+pub in-either-order : (P : ProgramParts) (p : Phase) (fuel : ℕ) (a b : Started) (m : List ℕ) → AreApart P p a b → AreApart P p b a → length m ≡ length P.memory → IsFree P fuel a b m
+in-either-order P p fuel a b m ab ba in_m =
+    record {
+      first = second-task P fuel b a m in_m (keeps-out P p b a ba);
+      second = second-task P fuel a b m in_m (keeps-out P p a b ab);
+      memory = swapped-memory P fuel a b m in_m (keeps-out P p a b ab) (keeps-out P p b a ba);
+    }

@@ -1,0 +1,31 @@
+-- What the laws of the flat machine speak of.
+use Rattle.std.specs.Prelude.{◌≡◌, ℕ, Bool, true, List, length, slice_index}
+use Rattle.region_table.specs.Program.{ProgramParts}
+use Rattle.rv_core.specs.Access.{holds}
+use Rattle.flat_machine.specs.Step.{Started, At, segment}
+
+abbrev pub at_memory : Started → List ℕ → At
+at_memory r m = record { task = r; memory = m }
+
+-- two memories have the same values in the words that pass a test
+abbrev pub AgreeOn : (ℕ → Bool) → List ℕ → List ℕ → Type 0
+AgreeOn test m n = (w : ℕ) → test w ≡ true → slice_index m w ≡ slice_index n w
+
+-- from the memories m and n the same task comes out, with the same loads, and words that were the same are the same
+pub record IsAlike (m n : List ℕ) (a b : At) : Type 0 where
+  pub task : a.task ≡ b.task
+  pub left : length a.memory ≡ length m
+  pub right : length b.memory ≡ length n
+  pub kept : (w : ℕ) → slice_index m w ≡ slice_index n w → slice_index a.memory w ≡ slice_index b.memory w
+
+-- no lock is held by both
+abbrev pub HoldApart : ℕ → ℕ → Type 0
+HoldApart a b = (lock : ℕ) → holds a lock ≡ true → holds b lock ≡ true → ⊥
+
+-- the segments of two tasks come to the same in either order: the same tasks, with the same states and loads, and the same
+-- memory; and each task to what it comes to alone
+pub record IsFree (P : ProgramParts) (fuel : ℕ) (a b : Started) (m : List ℕ) : Type 0 where
+  pub first : (segment P fuel (at_memory a (segment P fuel (at_memory b m)).memory)).task ≡ (segment P fuel (at_memory a m)).task
+  pub second : (segment P fuel (at_memory b (segment P fuel (at_memory a m)).memory)).task ≡ (segment P fuel (at_memory b m)).task
+  pub memory : (segment P fuel (at_memory b (segment P fuel (at_memory a m)).memory)).memory
+      ≡ (segment P fuel (at_memory a (segment P fuel (at_memory b m)).memory)).memory

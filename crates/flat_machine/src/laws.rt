@@ -1,0 +1,51 @@
+//! What segments and lists of grants come to, for whoever compares other machines with the flat one.
+ghost use Rattle.std.specs.Prelude.{◌≡◌, ◌≢◌, ℕ, List, [], ◌∷◌, ◌++◌, length, slice_index, Some, None, false};
+ghost use Rattle.std.specs.List.{IsAmong};
+ghost use Rattle.dn_base.specs.declared.ids.Grant.{Grant};
+ghost use Rattle.region_table.specs.Program.{ProgramParts};
+ghost use Rattle.region_table.specs.declared.declared.Phase.{Phase};
+ghost use Rattle.rv_core.specs.Access.{may_load, may_store};
+ghost use Rattle.effect_checker.specs.Checked.{IsChecked};
+ghost use Rattle.flat_machine.specs.Step.{Started, At, segment};
+ghost use Rattle.flat_machine.specs.Phases.{opened};
+ghost use Rattle.flat_machine.specs.Grants.{so_far, granted_if, IsLeast};
+ghost use Rattle.flat_machine.specs.Ending.{end_of, flat_end};
+ghost use Rattle.flat_machine.specs.Laws.{at_memory, AgreeOn, IsAlike, HoldApart, IsFree};
+
+/// A segment changes no word but those that its task may store with the locks that it holds at the start. It only gives
+/// locks up.
+pub fn a_segment_keeps_other_words()
+    ensures { (P : ProgramParts) (fuel : ℕ) (s : At) (w : ℕ) → may_store s.task.decl s.task.state.held w ≡ false
+        → slice_index (segment P fuel s).memory w ≡ slice_index s.memory w }
+{}
+
+/// A segment depends on no word but those that its task may load with the locks that it holds at the start: on two memories
+/// that agree on these it comes to the same state and the same loads, and leaves the same in each word that was the same.
+pub fn a_segment_reads_its_words()
+    ensures { (P : ProgramParts) (fuel : ℕ) (r : Started) (m n : List ℕ) → length m ≡ length P.memory → length n ≡ length P.memory
+        → AgreeOn (may_load r.decl r.state.held) m n → IsAlike m n (segment P fuel (at_memory r m)) (segment P fuel (at_memory r n)) }
+{}
+
+/// The segments of two tasks of one phase of a checked program, which stand on two cores and hold no lock in common, can run
+/// in either order: the states, the loads and the memory come out the same.
+pub fn segments_run_in_either_order()
+    ensures { (P : ProgramParts) (p : Phase) (fuel : ℕ) (a b : Started) (m : List ℕ) → IsChecked P → IsAmong P.phases p → IsAmong p.tasks a.decl → IsAmong p.tasks b.decl
+        → a.decl.core.0 ≢ b.decl.core.0 → HoldApart a.state.held b.state.held → length m ≡ length P.memory → IsFree P fuel a b m }
+{}
+
+/// A list with one more grant at its end is the list, and then the grant.
+pub fn one_more_grant_is_one_step()
+    ensures { (P : ProgramParts) (fuel : ℕ) (gs : List Grant) (g : Grant) → so_far P fuel (gs ++ g ∷ []) ≡ granted_if P fuel (so_far P fuel gs) g }
+{}
+
+/// The least list has a run, and there is one such list.
+pub fn the_least_list_has_a_run()
+    ensures run { (P : ProgramParts) (fuel : ℕ) (gs : List Grant) → IsLeast P fuel gs → flat_end P fuel gs ≢ None }
+    ensures one { (P : ProgramParts) (fuel : ℕ) (gs hs : List Grant) → IsLeast P fuel gs → IsLeast P fuel hs → gs ≡ hs }
+{}
+
+/// A program without locks has one run, which takes no grants and is a function of the program and the fuel.
+pub fn without_locks_there_is_one_run()
+    ensures run { (P : ProgramParts) (fuel : ℕ) → length P.locks ≡ 0 → flat_end P fuel [] ≡ Some (end_of P fuel (opened P fuel)) }
+    ensures only { (P : ProgramParts) (fuel : ℕ) (g : Grant) (gs : List Grant) → length P.locks ≡ 0 → flat_end P fuel (g ∷ gs) ≡ None }
+{}
