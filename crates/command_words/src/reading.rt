@@ -79,10 +79,9 @@ fn options(matches: &ArgMatches<'_>) -> Option<Options>
 
 /// What the command's words ask for; the program's own name isn't among them.
 ///
-/// The command has eight options, each with one value, and no other words: `--mode` (run, work, check, list or flat; run
-/// where it isn't given), `--seed` (0 to 4294967295; 1), `--workers` (1 to 16; 1), `--banks` (1 to 16; 4), `--sets` (1
-/// to 256; 64), `--ways` (1 to 16; 4), `--fuel` (1 to 32768; 32768) and `--size` (1 to 128; 4). An option may be written
-/// as `--seed 7` or `--seed=7`, and stands once at most.
+/// The command has the options `--mode`, `--seed`, `--workers`, `--banks`, `--sets`, `--ways`, `--fuel` and `--size`, each with
+/// one value, and no other words; `Options` has their ranges. An option may be written as `--seed 7` or `--seed=7`, and
+/// stands once at most; what isn't given is run, 1, 1, 4, 64, 4, 32768 and 4.
 ///
 /// # Errors
 /// `Usage` where the words aren't the command's, `Memory` where there is no room to read them.
