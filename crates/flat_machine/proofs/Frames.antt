@@ -156,3 +156,14 @@ pub second-task : (P : ProgramParts) (fuel : ℕ) (a b : Started) (m : List ℕ)
     → (segment P fuel (at_memory b (segment P fuel (at_memory a m)).memory)).task ≡ (segment P fuel (at_memory b m)).task
 second-task P fuel a b m in_m ab =
     (segment-alike P fuel b (segment P fuel (at_memory a m)).memory m (segment-size P fuel a m in_m) in_m (agree-after P fuel a b m ab)).task
+
+-- a step of one task leaves the segment of the other as it was
+pub other-kept : (P : ProgramParts) (fuel : ℕ) (a b : Started) (m : List ℕ) → length m ≡ length P.memory → KeepsOut a b
+    → IsAlike (flat_step P fuel (at_memory a m)).memory m (segment P fuel (at_memory b (flat_step P fuel (at_memory a m)).memory)) (segment P fuel (at_memory b m))
+other-kept P fuel a b m in_m apart =
+    let size = (step-alike P fuel a m m in_m in_m (record { on = λ w h. refl })).left ∙ in_m in
+    segment-alike P fuel b (flat_step P fuel (at_memory a m)).memory m size in_m
+    (record {
+      on = λ w h. step-frame P fuel (at_memory a m) w
+          (not-true (may_store a.decl a.state.held w) (λ e. both-ways (may_load b.decl b.state.held w) (apart.out w e) h));
+    })

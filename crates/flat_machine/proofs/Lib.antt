@@ -6,3 +6,4 @@ pub mod Rights
 pub mod Frames
 pub mod Separation
 pub mod RunLemmas
+pub mod Rest

@@ -11,10 +11,10 @@ use Rattle.region_table.specs.declared.declared.Phase.{Phase}
 use Rattle.rv_core.specs.Access.{holds, under, may_load, may_store}
 use Rattle.effect_checker.specs.Checked.{IsChecked, writes_plainly}
 use Rattle.effect_checker.proofs.SeparationLemmas.{phase-checked, plain_words_apart, guarded_words_apart, locks_apart}
-use Rattle.flat_machine.specs.Step.{Started}
-use Rattle.flat_machine.specs.Laws.{HoldApart, IsFree}
+use Rattle.flat_machine.specs.Step.{Started, flat_step, segment}
+use Rattle.flat_machine.specs.Laws.{at_memory, IsAlike, HoldApart, SameInEitherOrder}
 use Rattle.flat_machine.proofs.Rights.{not-true}
-use Rattle.flat_machine.proofs.Frames.{KeepsOut, second-task, swapped-memory}
+use Rattle.flat_machine.proofs.Frames.{KeepsOut, second-task, swapped-memory, other-kept}
 
 -- a lock that is held, and whose set in a list that begins with that of lock `first` has the word
 record IsUnder (ss : List (List Interval)) (first held w : ℕ) : Type 0 where
@@ -111,10 +111,14 @@ keeps-out P p a b h =
           (λ f. no-word P p a b w h (store-cases a.decl a.state.held w e) (load-cases b.decl b.state.held w f));
     }
 
-pub in-either-order : (P : ProgramParts) (p : Phase) (fuel : ℕ) (a b : Started) (m : List ℕ) → AreApart P p a b → AreApart P p b a → length m ≡ length P.memory → IsFree P fuel a b m
+pub in-either-order : (P : ProgramParts) (p : Phase) (fuel : ℕ) (a b : Started) (m : List ℕ) → AreApart P p a b → AreApart P p b a → length m ≡ length P.memory → SameInEitherOrder P fuel a b m
 in-either-order P p fuel a b m ab ba in_m =
     record {
       first = second-task P fuel b a m in_m (keeps-out P p b a ba);
       second = second-task P fuel a b m in_m (keeps-out P p a b ab);
       memory = swapped-memory P fuel a b m in_m (keeps-out P p a b ab) (keeps-out P p b a ba);
     }
+
+pub step-leaves_other : (P : ProgramParts) (p : Phase) (fuel : ℕ) (a b : Started) (m : List ℕ) → AreApart P p a b → length m ≡ length P.memory
+    → IsAlike (flat_step P fuel (at_memory a m)).memory m (segment P fuel (at_memory b (flat_step P fuel (at_memory a m)).memory)) (segment P fuel (at_memory b m))
+step-leaves_other P p fuel a b m ab in_m = other-kept P fuel a b m in_m (keeps-out P p a b ab)

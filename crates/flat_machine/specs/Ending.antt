@@ -51,7 +51,8 @@ abbrev pub is_spent : EndShown → Bool
 is_spent shown.TheVariants.Fuel = true
 is_spent _ = false
 
--- Stuck if a started task waits for a lock, else Trapped if one ended by a trap, else Fuel if one ran out of it, else Done
+-- a run is stuck where some task still waits; if none does it is trapped where some task trapped; if none did it is out of
+-- fuel where some task ran out; and it is done where all have finished
 unfoldable pub outcome_of : List TaskEnd → Outcome
 outcome_of ends =
     if list_any (λ (e : TaskEnd). is_waiting e.end) ends then outcome.TheVariants.Stuck

@@ -89,6 +89,6 @@ IsLeastFrom P fuel None gs = ⊥
 IsLeastFrom P fuel (Some F) [] = next_grant P fuel F ≡ None
 IsLeastFrom P fuel (Some F) (g ∷ gs) = (next_grant P fuel F ≡ Some g) × IsLeastFrom P fuel (granted P fuel g F) gs
 
--- the list that at each point grants to the least core whose wanted lock is free, until it is whole
+-- each grant of the list is the first that can be taken then, and none can be taken after the last
 abbrev pub IsLeast : ProgramParts → ℕ → List Grant → Type 0
 IsLeast P fuel gs = IsLeastFrom P fuel (Some (opened P fuel)) gs

@@ -1,11 +1,19 @@
 -- What the laws of the flat machine speak of.
-use Rattle.std.specs.Prelude.{◌≡◌, ℕ, Bool, true, List, length, slice_index}
+use Rattle.std.specs.Prelude.{◌≡◌, ℕ, Bool, true, List, length, slice_index, Option, Some, None}
 use Rattle.region_table.specs.Program.{ProgramParts}
 use Rattle.rv_core.specs.Access.{holds}
+use Rattle.rv_core.specs.declared.need.Need.{Need}
+use Rattle.rv_core.specs.declared.need.Need.TheVariants.{Acquire}
 use Rattle.flat_machine.specs.Step.{Started, At, segment}
 
 abbrev pub at_memory : Started → List ℕ → At
 at_memory r m = record { task = r; memory = m }
+
+-- the task has ended or wants a lock
+abbrev pub IsAtRest : Option Need → Type 0
+IsAtRest None = Unit {0}
+IsAtRest (Some (Acquire lock)) = Unit {0}
+IsAtRest _ = ⊥
 
 -- two memories have the same values in the words that pass a test
 abbrev pub AgreeOn : (ℕ → Bool) → List ℕ → List ℕ → Type 0
@@ -24,7 +32,7 @@ HoldApart a b = (lock : ℕ) → holds a lock ≡ true → holds b lock ≡ true
 
 -- the segments of two tasks come to the same in either order: the same tasks, with the same states and loads, and the same
 -- memory; and each task to what it comes to alone
-pub record IsFree (P : ProgramParts) (fuel : ℕ) (a b : Started) (m : List ℕ) : Type 0 where
+pub record SameInEitherOrder (P : ProgramParts) (fuel : ℕ) (a b : Started) (m : List ℕ) : Type 0 where
   pub first : (segment P fuel (at_memory a (segment P fuel (at_memory b m)).memory)).task ≡ (segment P fuel (at_memory a m)).task
   pub second : (segment P fuel (at_memory b (segment P fuel (at_memory a m)).memory)).task ≡ (segment P fuel (at_memory b m)).task
   pub memory : (segment P fuel (at_memory b (segment P fuel (at_memory a m)).memory)).memory

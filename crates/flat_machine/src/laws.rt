@@ -6,11 +6,11 @@ ghost use Rattle.region_table.specs.Program.{ProgramParts};
 ghost use Rattle.region_table.specs.declared.declared.Phase.{Phase};
 ghost use Rattle.rv_core.specs.Access.{may_load, may_store};
 ghost use Rattle.effect_checker.specs.Checked.{IsChecked};
-ghost use Rattle.flat_machine.specs.Step.{Started, At, segment};
+ghost use Rattle.flat_machine.specs.Step.{Started, At, wish, flat_step, segment, IsWithin};
 ghost use Rattle.flat_machine.specs.Phases.{opened};
 ghost use Rattle.flat_machine.specs.Grants.{so_far, granted_if, IsLeast};
 ghost use Rattle.flat_machine.specs.Ending.{end_of, flat_end};
-ghost use Rattle.flat_machine.specs.Laws.{at_memory, AgreeOn, IsAlike, HoldApart, IsFree};
+ghost use Rattle.flat_machine.specs.Laws.{at_memory, IsAtRest, AgreeOn, IsAlike, HoldApart, SameInEitherOrder};
 
 /// A segment changes no word but those that its task may store with the locks that it holds at the start. It only gives
 /// locks up.
@@ -26,11 +26,23 @@ pub fn a_segment_reads_its_words()
         → AgreeOn (may_load r.decl r.state.held) m n → IsAlike m n (segment P fuel (at_memory r m)) (segment P fuel (at_memory r n)) }
 {}
 
+/// A segment ends where its task has ended or wants a lock, and a step of the task before it makes no difference.
+pub fn a_segment_comes_to_rest()
+    ensures rest { (P : ProgramParts) (fuel : ℕ) (s : At) → IsWithin fuel s.task → IsAtRest (wish P fuel (segment P fuel s).task) }
+    ensures step { (P : ProgramParts) (fuel : ℕ) (s : At) → IsWithin fuel s.task → segment P fuel (flat_step P fuel s) ≡ segment P fuel s }
+{}
+
 /// The segments of two tasks of one phase of a checked program, which stand on two cores and hold no lock in common, can run
 /// in either order: the states, the loads and the memory come out the same.
+///
+/// And one instruction of the first leaves the segment of the second as it was.
 pub fn segments_run_in_either_order()
-    ensures { (P : ProgramParts) (p : Phase) (fuel : ℕ) (a b : Started) (m : List ℕ) → IsChecked P → IsAmong P.phases p → IsAmong p.tasks a.decl → IsAmong p.tasks b.decl
-        → a.decl.core.0 ≢ b.decl.core.0 → HoldApart a.state.held b.state.held → length m ≡ length P.memory → IsFree P fuel a b m }
+    ensures either { (P : ProgramParts) (p : Phase) (fuel : ℕ) (a b : Started) (m : List ℕ) → IsChecked P → IsAmong P.phases p → IsAmong p.tasks a.decl → IsAmong p.tasks b.decl
+        → a.decl.core.0 ≢ b.decl.core.0 → HoldApart a.state.held b.state.held → length m ≡ length P.memory → SameInEitherOrder P fuel a b m }
+    ensures step { (P : ProgramParts) (p : Phase) (fuel : ℕ) (a b : Started) (m : List ℕ) → IsChecked P → IsAmong P.phases p → IsAmong p.tasks a.decl → IsAmong p.tasks b.decl
+        → a.decl.core.0 ≢ b.decl.core.0 → HoldApart a.state.held b.state.held → length m ≡ length P.memory
+        → let stepped = (flat_step P fuel (at_memory a m)).memory in
+        IsAlike stepped m (segment P fuel (at_memory b stepped)) (segment P fuel (at_memory b m)) }
 {}
 
 /// A list with one more grant at its end is the list, and then the grant.
