@@ -1,3 +1,4 @@
+pub mod Vocabulary
 pub mod Number
 pub mod Operand
 pub mod Shape
