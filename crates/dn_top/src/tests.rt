@@ -30,7 +30,7 @@ fn answer<R: Threads + Wait + Sync>(
         owned.push(word.to_string(alloc)?)?;
     }
     let mut source = TextSource::new(alloc, text.as_bytes(), 4096, &[])?;
-    let mut sink = VecSink::new(alloc, 65_536, 4096, &[])?;
+    let mut sink = VecSink::new(alloc, 262_144, 4096, &[])?;
     let answer = denovo_main(
         rt,
         alloc,

@@ -35,11 +35,10 @@ pub returns-in-Ok-clause-write_fault : goal.returns-in-Ok-clause-write_fault
 returns-in-Ok-clause-write_fault g c =
     λ r.
     let failed = failed_clause c.in-Ok.options (g.S.Source.told c.args.source.now) (g.S.Source.told c.answer_options.new.source)
-        (g.S.Source.faults c.args.source.now) (g.S.Source.faults c.answer_options.new.source)
-        (g.K.Sink.told c.args.sink.now) (g.K.Sink.told c.answer_options.new.sink)
-        (g.K.Sink.faults c.args.sink.now) (g.K.Sink.faults c.answer_options.new.sink) c.answer_options.result.status
-        c.answer_options.ensures.served r in
-    (
+    (g.S.Source.faults c.args.source.now) (g.S.Source.faults c.answer_options.new.source)
+    (g.K.Sink.told c.args.sink.now) (g.K.Sink.told c.answer_options.new.sink)
+    (g.K.Sink.faults c.args.sink.now) (g.K.Sink.faults c.answer_options.new.sink) c.answer_options.result.status
+    c.answer_options.ensures.served r in (
       failed.0,
       (λ none. let taken = c.in-Ok.ensures.taken in cc),
       λ o is. subst (λ (p : Options). IfSome (text_for p (g.S.Source.told c.args.source.now))
@@ -52,10 +51,10 @@ returns-in-Ok-clause-complete g c =
     λ o is text told calm_source calm_sink.
     let asked : c.in-Ok.options ≡ o = same c.in-Ok.options o (sym c.in-Ok.ensures.taken ∙ is) in
     let served = subst (λ (p : Options). IsDoneBy p (g.S.Source.told c.args.source.now) (g.S.Source.told c.answer_options.new.source)
-        (g.S.Source.faults c.args.source.now) (g.S.Source.faults c.answer_options.new.source)
-        (g.K.Sink.told c.args.sink.now) (g.K.Sink.told c.answer_options.new.sink)
-        (g.K.Sink.faults c.args.sink.now) (g.K.Sink.faults c.answer_options.new.sink) c.answer_options.result.status)
-        asked c.answer_options.ensures.served in
+    (g.S.Source.faults c.args.source.now) (g.S.Source.faults c.answer_options.new.source)
+    (g.K.Sink.told c.args.sink.now) (g.K.Sink.told c.answer_options.new.sink)
+    (g.K.Sink.faults c.args.sink.now) (g.K.Sink.faults c.answer_options.new.sink) c.answer_options.result.status)
+    asked c.answer_options.ensures.served in
     complete_clause o (g.S.Source.told c.args.source.now) (g.S.Source.told c.answer_options.new.source)
     (g.S.Source.faults c.args.source.now) (g.S.Source.faults c.answer_options.new.source)
     (g.K.Sink.told c.args.sink.now) (g.K.Sink.told c.answer_options.new.sink)

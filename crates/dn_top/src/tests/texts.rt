@@ -136,7 +136,7 @@ fn caches_change_no_answer(rt: HostRuntime) -> Result<(), Fail> {
 
 /// How many lines of an output begin with a word, and the sum of their last numbers where those are decimal.
 fn lines_of(output: &str, word: &str) -> (u32, u32) {
-    let mut count = 0;
+    let mut count = 0_u32;
     let mut sum = 0_u32;
     for line in output.lines() {
         if line.starts_with(word) {

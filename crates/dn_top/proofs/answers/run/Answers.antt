@@ -5,7 +5,7 @@ use Rattle.dn_top.proofs.answers.run.Goals as goal
 
 some_there : {X : Type 0} (o : Option X) → o ≢ None → IsSome o
 some_there None there = absurd (there refl)
-some_there (Some x) there = tt
+some_there (Some x) there = refl
 
 pub unwrap-end-requires : goal.unwrap-end-requires
 unwrap-end-requires c =
