@@ -1,18 +1,16 @@
 -- Which words a segment changes, and which words it depends on.
-use Rattle.std.proofs.Common.{◌≡◌, ℕ, zero, suc, ◌<◌, Bool, true, false, List, ◌++◌, [], ◌∷◌, length, get_or, set, Option, Some, None, refl, sym, ap, ◌∙◌, subst, ⊎_elim, arith}
+use Rattle.std.proofs.Common.{◌≡◌, ℕ, zero, suc, ◌<◌, Bool, true, false, List, length, get_or, set, Option, Some, None, refl, sym, ap, ◌∙◌, subst, ⊎_elim}
 use Rattle.std.proofs.lemmas.Bool.{cases_eq}
 use Rattle.std.proofs.lemmas.Grind.{same_number_lists}
 use Rattle.std.proofs.lemmas.List.{get_or-set_same, get_or-set_other, length-set}
-use Rattle.dn_base.specs.declared.ids.LoadSeen.{LoadSeen}
-use Rattle.dn_base.specs.declared.ids.WordId.{WordId}
 use Rattle.region_table.specs.Program.{ProgramParts}
 use Rattle.rv_core.specs.declared.need.Need.{Need}
 use Rattle.rv_core.specs.declared.need.Need as need
 use Rattle.rv_core.specs.Access.{may_load, may_store}
-use Rattle.rv_core.specs.Step.{advanced, loaded_of, merged_of}
-use Rattle.flat_machine.specs.Step.{Started, At, wish, in_state, in_load, step_by, flat_step, flat_steps, segment}
+use Rattle.rv_core.specs.Step.{loaded_of, merged_of}
+use Rattle.flat_machine.specs.Step.{Started, At, wish, in_load, step_by, flat_step, flat_steps, segment}
 use Rattle.flat_machine.specs.Laws.{at_memory, IsAlike}
-use Rattle.flat_machine.proofs.Rights.{IsAfter, step-after, stores-after, loads-after, told, store-loads, both-ways, not-true}
+use Rattle.flat_machine.proofs.Rights.{step-after, stores-after, loads-after, told, store-loads, both-ways, not-true}
 
 -- ---- words that a task may not store
 

@@ -13,7 +13,7 @@ use Rattle.rv_core.specs.declared.need.Need as need
 use Rattle.rv_core.specs.Need.{need_of}
 use Rattle.flat_machine.specs.Step.{Started, wish_unless, IsAcquire, IsWaiting}
 use Rattle.flat_machine.specs.Phases.{Flat}
-use Rattle.flat_machine.specs.Grants.{grant_by, grant_for, is_grant, can_take, granted_at, granted, granted_if, grants_from, first_or, first_grant, next_grant}
+use Rattle.flat_machine.specs.Grants.{grant_by, grant_for, is_grant, can_take, granted_at, granted, grants_from, first_or, first_grant, next_grant}
 
 -- a task that can take a grant waits for its lock
 pub can_take-waits : (P : ProgramParts) (fuel : ℕ) (tasks : List Started) (g : Grant) (r : Started) → can_take P fuel tasks g r ≡ true → IsWaiting P fuel r

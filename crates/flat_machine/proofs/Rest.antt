@@ -1,5 +1,5 @@
 -- A segment comes to rest: its task has ended or waits.
-use Rattle.std.proofs.Common.{◌≡◌, ℕ, zero, suc, ◌+◌, ◌-◌, ◌^◌, ◌≤◌, ◌==◌, Bool, true, false, cond, ◌⊎◌, inl, inr, List, slice_index, Option, Some, None, refl, sym, ap, ◌∙◌, subst, bit_or, bit_xor, arith}
+use Rattle.std.proofs.Common.{◌≡◌, ℕ, zero, suc, ◌+◌, ◌-◌, ◌^◌, ◌≤◌, ◌==◌, Bool, true, false, cond, ◌⊎◌, inl, inr, slice_index, Option, Some, None, refl, sym, ◌∙◌, subst, bit_or, bit_xor, arith}
 use Rattle.std.proofs.lemmas.Option.{none-some}
 use Rattle.region_table.specs.Program.{ProgramParts}
 use Rattle.rv_isa.specs.declared.instr.Instr.{Instr}
@@ -10,7 +10,6 @@ use Rattle.rv_core.specs.declared.task.End as cause
 use Rattle.rv_core.specs.declared.need.Need.{Need}
 use Rattle.rv_core.specs.declared.need.Need as need
 use Rattle.rv_core.specs.Kinds.{IsLoad, IsAdvance}
-use Rattle.rv_core.specs.Need.{need_of}
 use Rattle.rv_core.specs.Step.{after, after_load, after_call, with_locks, advanced, loaded_of, instr_at}
 use Rattle.rv_core.specs.Task.{stopped}
 use Rattle.rv_core.proofs.Needs.{fuelled, advance-tells, load-tells}

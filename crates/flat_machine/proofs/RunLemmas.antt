@@ -1,5 +1,5 @@
 -- What lists of grants come to.
-use Rattle.std.proofs.Common.{◌≡◌, ◌≢◌, ℕ, ◌<◌, Bool, true, false, cond, is_none, List, [], ◌∷◌, ◌++◌, length, get_or, position, Option, Some, None, refl, sym, ap, ◌∙◌, subst, arith}
+use Rattle.std.proofs.Common.{◌≡◌, ◌≢◌, ℕ, ◌<◌, true, false, cond, is_none, List, [], ◌∷◌, ◌++◌, length, get_or, position, Option, Some, None, refl, sym, ap, ◌∙◌, subst, arith}
 use Rattle.std.proofs.lemmas.List.Quantifiers.{position-Some}
 use Rattle.std.proofs.lemmas.Option.{none-some, same_Some}
 use Rattle.dn_base.specs.declared.ids.Grant.{Grant}
@@ -9,7 +9,7 @@ use Rattle.rv_core.specs.declared.need.Need as need
 use Rattle.flat_machine.specs.declared.ending.FlatEnd.{FlatEnd}
 use Rattle.flat_machine.specs.Step.{Started, wish}
 use Rattle.flat_machine.specs.Phases.{Flat, opened}
-use Rattle.flat_machine.specs.Grants.{grant_by, grant_for, is_grant, can_take, granted_at, granted, granted_if, grants_from, so_far, first_or, first_grant, next_grant, IsLeastFrom, IsLeast}
+use Rattle.flat_machine.specs.Grants.{grant_by, grant_for, is_grant, can_take, granted_at, granted, granted_if, grants_from, first_or, first_grant, next_grant, IsLeastFrom, IsLeast}
 use Rattle.flat_machine.specs.Ending.{end_of, whole_only, flat_end}
 use Rattle.flat_machine.proofs.Rights.{told}
 use Rattle.flat_machine.proofs.GrantLemmas.{grants-none}

@@ -1,5 +1,5 @@
 -- Tasks of one phase of a checked program that hold no lock in common keep out of each other's words.
-use Rattle.std.proofs.Common.{◌≡◌, ◌≢◌, ℕ, zero, suc, ◌+◌, Bool, true, false, ◌&&◌, ◌||◌, ◌⊎◌, inl, inr, IsTrue, length, List, [], ◌∷◌, get_or, refl, sym, ap, ◌∙◌, subst, ⊎_elim, arith}
+use Rattle.std.proofs.Common.{◌≡◌, ◌≢◌, ℕ, suc, ◌+◌, Bool, true, ◌&&◌, ◌||◌, ◌⊎◌, inl, inr, IsTrue, length, List, [], ◌∷◌, get_or, sym, subst, ⊎_elim, arith}
 use Rattle.std.specs.List.{IsAmong}
 use Rattle.std.proofs.lemmas.Bool.{false≢true, and_parts, or_cases, or_left, or_right}
 use Rattle.region_table.specs.Program.{ProgramParts}

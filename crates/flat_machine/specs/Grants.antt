@@ -1,5 +1,5 @@
 -- Grants of locks to the tasks of the flat machine.
-use Rattle.std.specs.Prelude.{◌≡◌, ℕ, ◌==◌, Bool, true, false, ◌&&◌, not, if◌then◌else◌, List, [], ◌∷◌, slice_get, slice_set, Option, Some, None, is_none, position}
+use Rattle.std.specs.Prelude.{◌≡◌, ℕ, ◌==◌, Bool, false, ◌&&◌, not, if◌then◌else◌, List, [], ◌∷◌, slice_get, slice_set, Option, Some, None, is_none, position}
 use Rattle.std.specs.List.{list_any}
 use Rattle.dn_base.specs.declared.ids.Grant.{Grant}
 use Rattle.region_table.specs.Program.{ProgramParts}

@@ -6,7 +6,7 @@ use Rattle.region_table.specs.declared.declared.TaskDecl.{TaskDecl}
 use Rattle.region_table.specs.declared.declared.Phase.{Phase}
 use Rattle.rv_core.specs.declared.task.End.{End}
 use Rattle.rv_core.specs.declared.task.End as cause
-use Rattle.flat_machine.specs.Step.{Started, At, fresh, segment, room, IsWithin}
+use Rattle.flat_machine.specs.Step.{Started, fresh, segment, room, IsWithin}
 
 -- the flat machine: how many phases have begun, the tasks of the phases before the last of them, the tasks of that one in
 -- the order of their cores, and the data words

@@ -1,4 +1,4 @@
-use Rattle.std.proofs.Common.{◌≡◌, [], None, Some, sym}
+use Rattle.std.proofs.Common.{◌≡◌, [], None, sym}
 use Rattle.std.proofs.lemmas.List.{append-nil}
 use Rattle.flat_machine.specs.Grants.{next_grant}
 use Rattle.flat_machine.proofs.runs.least_grants.Goals as goal

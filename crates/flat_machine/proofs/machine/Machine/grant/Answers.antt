@@ -1,5 +1,4 @@
-use Rattle.std.proofs.Common.{◌≡◌, List, sym}
-use Rattle.flat_machine.specs.Step.{Started}
+use Rattle.std.proofs.Common.{◌≡◌, sym}
 use Rattle.flat_machine.proofs.GrantLemmas.{place-waits}
 use Rattle.flat_machine.proofs.machine.Machine.grant.Goals as goal
 

@@ -1,4 +1,4 @@
-use Rattle.std.proofs.Common.{◌≡◌, Some, None, sym, ◌∙◌, ap, arith, length}
+use Rattle.std.proofs.Common.{◌≡◌, Some, sym, ◌∙◌, ap, arith}
 use Rattle.flat_machine.specs.Phases.{Flat, next_phase, settled}
 use Rattle.flat_machine.proofs.PhaseLemmas.{HasBegun, settled-more, settled-still, begin-sound, begin-work, begin-begun, begun-within}
 use Rattle.flat_machine.proofs.machine.Machine.settle.Goals as goal

@@ -1,4 +1,4 @@
-use Rattle.std.proofs.Common.{◌≡◌, ◌+◌, ◌-◌, ◌≤◌, false, suc, sym, ap, ◌∙◌, arith}
+use Rattle.std.proofs.Common.{◌≡◌, ◌+◌, ◌-◌, false, suc, sym, ap, ◌∙◌, arith}
 use Rattle.flat_machine.specs.Step.{At, flat_steps, segment}
 use Rattle.flat_machine.proofs.StepLemmas.{steps-still, steps-more}
 use Rattle.flat_machine.proofs.running.Running.segment.Goals as goal
