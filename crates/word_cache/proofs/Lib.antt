@@ -5,3 +5,5 @@ pub mod CountLemmas
 pub mod TimeLemmas
 pub mod SweepLemmas
 pub mod EditLemmas
+pub mod PlacesLemmas
+pub mod LookLemmas

@@ -28,6 +28,10 @@ is_of w p = p.0.0 == w
 abbrev pub shares_set : ℕ → ℕ → Pair → Bool
 shares_set sets w p = p.0.0 % sets == w % sets
 
+-- whether a pair is in this set
+abbrev pub in_set : ℕ → ℕ → Pair → Bool
+in_set sets set p = p.0.0 % sets == set
+
 -- the entry of a word, if it has a pair
 abbrev pub lookup : ℕ → List Pair → Option Entry
 lookup w [] = None

@@ -1,10 +1,12 @@
 ghost use Rattle.std.specs.Prelude.{◌≡◌, ◌≢◌, ◌*◌, ◌<◌, ◌≤◌, ◌||◌, true, None, [], IfOk};
 ghost use Rattle.std.specs.Option.{is_some};
-ghost use Rattle.word_cache.specs.Cache.{Cache, lookup, put, changed, without, touched, has_room, victim_of, pending_count, dropped_written, dropped_signed};
-ghost use Rattle.word_cache.specs.Row.{IsCacheRow, pairs_by_use};
+ghost use Rattle.std.specs.Prelude.{length};
+ghost use Rattle.std.specs.List.{filter};
+ghost use Rattle.word_cache.specs.Cache.{Cache, in_set, lookup, put, changed, without, touched, has_room, victim_of, pending_count, dropped_written, dropped_signed};
+ghost use Rattle.word_cache.specs.Row.{IsCacheRow, AreApart, pairs_by_use};
 
 use crate::edits::{change_entry, take_out, use_again, write_last};
-use crate::looks::{count_pending, entry_of, has_free, victim_in};
+use crate::looks::{count_pending, entry_of, has_free, set_of, victim_in};
 use crate::row::{Entry, Place};
 use crate::sweep::{sweep_grant, sweep_phase};
 use dn_base::{Memory, PhaseId, WordId};
@@ -93,6 +95,17 @@ impl WordCache {
         victim_in(self.places.as_slice(), self.sets, self.ways, word)
     }
 
+    /// The places of a set, which is below the sets: as many as a set may have pairs. They have the set's pairs, and their
+    /// numbers of last use differ and rise along the list of pairs. Takes no memory.
+    pub fn places(&self, set: u32) -> &[Place]
+        requires { set < self.now.sets }
+        ensures count { length result.now ≡ self.now.ways }
+        ensures pairs { pairs_by_use result.now ≡ filter (in_set self.now.sets set) self.now.pairs }
+        ensures times { AreApart result.now }
+    {
+        set_of(self.places.as_slice(), self.sets, self.ways, set)
+    }
+
     /// How many entries are pending. Takes no memory.
     pub fn pending(&self) -> u32
         ensures { result ≡ pending_count self.now.pairs }
@@ -159,6 +172,16 @@ impl WordCache {
         ensures { self.new ≡ record self.old { pairs = dropped_signed signature.now phase.0 words.now self.old.pairs } }
     {
         sweep_grant(&mut self.places, signature, phase, words);
+    }
+}
+
+#[cfg(test)]
+impl WordCache {
+    /// Sets the clock forward to this time; an earlier one changes nothing.
+    pub(crate) fn set_clock(&mut self, time: u64)
+        ensures { self.new ≡ self.old }
+    {
+        self.clock = self.clock.max(time);
     }
 }
 

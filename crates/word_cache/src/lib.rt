@@ -7,6 +7,7 @@
 
 mod cache;
 mod edits;
+mod laws;
 mod looks;
 mod row;
 mod sweep;
@@ -15,4 +16,5 @@ mod tests;
 mod times;
 
 pub use cache::WordCache;
+pub use laws::an_entry_changes_alone;
 pub use row::{Entry, Place};

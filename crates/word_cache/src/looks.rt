@@ -1,9 +1,9 @@
 ghost use Rattle.std.specs.Prelude.{◌≡◌, ◌<◌, ◌≤◌, length, nat_lt, slice_index_or, count_by};
-ghost use Rattle.std.specs.List.{find};
+ghost use Rattle.std.specs.List.{find, filter};
 ghost use Rattle.std.specs.Option.{option_map};
 ghost use Rattle.word_cache.specs.declared.row.Place.{Place};
-ghost use Rattle.word_cache.specs.Cache.{Pair, lookup, set_count, gives_way};
-ghost use Rattle.word_cache.specs.Row.{IsRow, pairs_by_use, place_is_pending};
+ghost use Rattle.word_cache.specs.Cache.{Pair, in_set, lookup, set_count, gives_way};
+ghost use Rattle.word_cache.specs.Row.{IsRow, AreApart, pairs_by_use, place_is_pending};
 
 use crate::row::{Entry, Place, entry_at, free_place, place_of, victim_place};
 use dn_base::WordId;
@@ -68,4 +68,16 @@ pub(crate) fn count_pending(row: &[Place]) -> u32
     ensures { result ≡ count_by place_is_pending row.now }
 {
     row.iter().filter(|place| is_pending(place)).count() as u32
+}
+
+/// The places of a set.
+pub(crate) fn set_of(row: &[Place], sets: u32, ways: u32, set: u32) -> &[Place]
+    requires row { IsRow sets ways row.now }
+    requires set { set < sets }
+    ensures count { length result.now ≡ ways }
+    ensures pairs { pairs_by_use result.now ≡ filter (in_set sets set) (pairs_by_use row.now) }
+    ensures times { AreApart result.now }
+{
+    let start = (set * ways) as usize;
+    &row[start..start + ways as usize]
 }
