@@ -237,21 +237,15 @@ impl Bank {
         release_at(self.locks.as_mut_slice(), place, lock, core, signature)
     }
 
-    /// What the bank does with a message, and what it sends.
+    /// The bank's answer to a message, which may change what it holds.
     ///
-    /// | Message | The bank has | What happens |
-    /// |---|---|---|
-    /// | ReadReq(w, c) | Home(v) | sends DataReply(w, v) to core c |
-    /// | ReadReq(w, c) | Reg(r) | sends ReadFwd(w, c) to core r |
-    /// | RegReq(w, c) | Home(v), Reg(c) | becomes Reg(c); sends RegAck(w) to core c |
-    /// | RegReq(w, c) | Reg(r), another core | becomes Reg(c); sends RegFwd(w, c) to core r |
-    /// | WriteBack(w, v, c) | Reg(c) | becomes Home(v); sends WbAck(w) to core c |
-    /// | WriteBack(w, v, c) | any other | stays; sends WbAck(w) to core c |
-    /// | Acquire(l, c) | l | acquires the lock for c; where that gives s, sends Grant(l, s) to core c |
-    /// | Release(l, c, s) | l | releases the lock by c; where that gives (d, t), sends Grant(l, t) to core d |
+    /// A reader gets the value of a word that is at home; else the word's registrant is told to give it. A core that asks to
+    /// register a word becomes its registrant at once. It hears so from the bank, or from the earlier registrant, which is
+    /// told to. A value that comes back counts from the registrant alone, but whoever gave it back is answered. A lock is
+    /// acquired and released at its home, and whoever holds it through that is granted it.
     ///
-    /// A message of another kind, or one that names a word, lock or core that isn't the bank's or the machine's, changes
-    /// nothing and sends nothing. Takes no memory.
+    /// Where the word, the lock or the core is none of this bank or machine, and on all other kinds of message, nothing
+    /// happens. Takes no memory.
     pub fn handle(&mut self, message: Message) -> Option<Outgoing>
         ensures bank { self.new ≡ (bank_gets self.old message).0 }
         ensures sent { result ≡ (bank_gets self.old message).1 }

@@ -1,0 +1,9 @@
+pub mod SetLemmas
+pub mod OrderLemmas
+pub mod RowLemmas
+pub mod CountLemmas
+pub mod TimeLemmas
+pub mod SweepLemmas
+pub mod EditLemmas
+pub mod PlacesLemmas
+pub mod LookLemmas

@@ -1,0 +1,4 @@
+use Rattle.word_cache.proofs.cache.WordCache.change.Goals as goal
+
+pub invariant_of-self : goal.invariant_of-self
+invariant_of-self c = c.change_entry.ensures.row c.self.inside.clock c.self.invariant

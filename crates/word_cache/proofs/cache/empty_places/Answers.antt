@@ -1,0 +1,7 @@
+use Rattle.std.proofs.Common.{arith}
+use Rattle.word_cache.proofs.EditLemmas.{new_row_pairs}
+use Rattle.word_cache.proofs.cache.empty_places.Goals as goal
+
+pub returns-clause-pairs : goal.returns-clause-pairs
+returns-clause-pairs c =
+    new_row_pairs c.loop-used.places.items (λ i d below. c.loop-used.invariant.each i d (omega (arith, below, c.loop-used.invariant.long)))

@@ -1,0 +1,21 @@
+use Rattle.std.proofs.Common.{None, ap, sym, refl}
+use Rattle.word_cache.specs.declared.row.Place.{Place}
+use Rattle.word_cache.proofs.RowLemmas.{removed_there, absent}
+use Rattle.word_cache.proofs.EditLemmas.{kept_row}
+use Rattle.word_cache.proofs.edits.take_out.Goals as goal
+
+pub returns-in-Some-clause-row : goal.returns-in-Some-clause-row
+returns-in-Some-clause-row c clock good =
+    let within = rw c.as_slice.ensures.value at c.in-Some.ensures.within in
+    kept_row c.args.sets c.args.ways c.in-Some.place clock c.index.result.now (record { pair = None; used = c.index.result.now.used }) c.args.places.now.items good within (ap (λ (p : Place). p.used) c.index.ensures) tt
+
+pub returns-in-Some-clause-pairs : goal.returns-in-Some-clause-pairs
+returns-in-Some-clause-pairs c =
+    let here = rw c.as_slice.ensures.value at (c.in-Some.ensures.some c.index.result.now) in
+    let within = rw c.as_slice.ensures.value at c.in-Some.ensures.within in
+    removed_there c.args.sets c.args.ways c.in-Some.place c.index.result.now c.args.word (record { pair = None; used = c.index.result.now.used }) c.args.places.now.items c.requires.row within here refl (ap (λ (p : Place). p.used) c.index.ensures)
+
+pub returns-in_default-clause-pairs : goal.returns-in_default-clause-pairs
+returns-in_default-clause-pairs c =
+    let none = rw c.as_slice.ensures.value at (rw c.in_default.is at c.place_of.ensures.none) in
+    sym (absent c.args.word.0 c.args.places.now.items none)

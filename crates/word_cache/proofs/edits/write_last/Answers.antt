@@ -1,0 +1,17 @@
+use Rattle.std.proofs.Common.{None, ap, ◌∙◌}
+use Rattle.word_cache.specs.declared.row.Place.{Place}
+use Rattle.word_cache.specs.Cache.{put}
+use Rattle.word_cache.proofs.EditLemmas.{wrote}
+use Rattle.word_cache.proofs.edits.write_last.Goals as goal
+
+-- any place
+some_place : Place
+some_place = record { pair = None; used = 0 }
+
+pub returns : goal.returns
+returns c =
+    let within = rw c.as_slice.ensures.value at c.choose-place.ensures.within in
+    let may = rw c.as_slice.ensures.value at (c.choose-place.ensures.may some_place) in
+    let others = rw c.as_slice.ensures.value at c.choose-place.ensures.others in
+    let did = wrote c.args.sets c.args.ways c.choose-place.result c.tick-used.result some_place c.args.word c.args.entry c.tick-used.new.places.items c.tick-used.ensures.row within c.tick-used.ensures.before c.choose-place.ensures.set may others in
+    record { row = rw c.tick-used.ensures.clock did.0; pairs = did.1 ∙ ap (put c.args.word c.args.entry) c.tick-used.ensures.pairs }

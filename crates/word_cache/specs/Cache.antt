@@ -1,0 +1,117 @@
+-- A cache of words as its calls are described: the pairs of a word and its entry, the least recently used first.
+use Rattle.std.specs.Prelude.{ℕ, ◌%◌, Bool, true, false, not, ◌&&◌, ◌||◌, ◌==◌, nat_lt, List, [], ◌∷◌, ◌++◌, map, Option, Some, None, if◌then◌else◌, count_by}
+use Rattle.std.specs.List.{filter, find}
+use Rattle.std.specs.Option.{option_map}
+use Rattle.dn_base.specs.declared.ids.WordId.{WordId}
+use Rattle.region_table.specs.declared.interval.Interval.{Interval}
+use Rattle.region_table.specs.Words.{has}
+use Rattle.write_signature.specs.declared.signature.Signature.{Signature}
+use Rattle.write_signature.specs.Signature.{holds}
+use Rattle.word_cache.specs.declared.row.Entry.{Entry}
+use Rattle.word_cache.specs.declared.row.Entry.TheVariants.{Valid, Registered, Leaving}
+
+-- a word and its entry
+abbrev pub Pair : Type 0
+Pair = WordId × Entry
+
+-- how many sets there are, how many pairs a set may have, and the pairs
+pub record Cache : Type 0 where
+  pub sets : ℕ
+  pub ways : ℕ
+  pub pairs : List Pair
+
+-- whether a pair is the word's
+abbrev pub is_of : ℕ → Pair → Bool
+is_of w p = p.0.0 == w
+
+-- whether a pair is in the set of the word
+abbrev pub shares_set : ℕ → ℕ → Pair → Bool
+shares_set sets w p = p.0.0 % sets == w % sets
+
+-- whether a pair is in this set
+abbrev pub in_set : ℕ → ℕ → Pair → Bool
+in_set sets set p = p.0.0 % sets == set
+
+-- the entry of a word, if it has a pair
+abbrev pub lookup : ℕ → List Pair → Option Entry
+lookup w [] = None
+lookup w (p ∷ ps) = if is_of w p then Some p.1 else lookup w ps
+
+-- the pairs without the word's
+abbrev pub without : ℕ → List Pair → List Pair
+without w ps = filter (λ (p : Pair). not (is_of w p)) ps
+
+-- the word has this entry, and is the one used last
+abbrev pub put : WordId → Entry → List Pair → List Pair
+put word e ps = without word.0 ps ++ (word, e) ∷ []
+
+-- the word's entry becomes this one, and its pair keeps its place
+abbrev pub changed : ℕ → Entry → List Pair → List Pair
+changed w e ps = map (λ (p : Pair). if is_of w p then (p.0, e) else p) ps
+
+-- the word's pair, if it has one, is the one used last
+abbrev pub used : WordId → Option Entry → List Pair → List Pair
+used word None ps = ps
+used word (Some e) ps = put word e ps
+
+abbrev pub touched : WordId → List Pair → List Pair
+touched word ps = used word (lookup word.0 ps) ps
+
+-- how many pairs the word's set has
+abbrev pub set_count : ℕ → ℕ → List Pair → ℕ
+set_count sets w ps = count_by (shares_set sets w) ps
+
+-- whether the word's set has fewer pairs than it may have
+abbrev pub has_room : Cache → ℕ → Bool
+has_room c w = nat_lt (set_count c.sets w c.pairs) c.ways
+
+-- whether an entry is pending, and whether it may be evicted: Valid, or Registered and not pending
+abbrev pub is_pending : Entry → Bool
+is_pending (Registered value pending) = pending
+is_pending _ = false
+
+abbrev pub is_evictable : Entry → Bool
+is_evictable (Valid value marked) = true
+is_evictable (Registered value pending) = not pending
+is_evictable (Leaving value) = false
+
+-- whether a pair may be evicted to make room for a word
+abbrev pub gives_way : ℕ → ℕ → Pair → Bool
+gives_way sets w p = shares_set sets w p && is_evictable p.1
+
+-- the word that was used least recently among those that may be evicted to make room for a word
+abbrev pub victim_of : Cache → ℕ → Option WordId
+victim_of c w = option_map (λ (p : Pair). p.0) (find (gives_way c.sets w) c.pairs)
+
+-- how many entries are pending
+abbrev pub pending_count : List Pair → ℕ
+pending_count ps = count_by (λ (p : Pair). is_pending p.1) ps
+
+-- what a core keeps at a phase's end of the words that the phase may have written: every entry but a Valid one that is
+-- not marked
+abbrev pub is_kept : Entry → Bool
+is_kept (Valid value marked) = marked
+is_kept _ = true
+
+abbrev pub stays : List Interval → Pair → Bool
+stays words p = is_kept p.1 || not (has words p.0.0)
+
+-- no Valid entry is marked in the next phase
+abbrev pub unmarked : Entry → Entry
+unmarked (Valid value marked) = Valid value false
+unmarked (Registered value pending) = Registered value pending
+unmarked (Leaving value) = Leaving value
+
+abbrev pub dropped_written : List Interval → List Pair → List Pair
+dropped_written words ps = map (λ (p : Pair). (p.0, unmarked p.1)) (filter (stays words) ps)
+
+-- what a core keeps at a grant: every entry but a Valid one of a guarded word that the signature may hold
+abbrev pub is_valid : Entry → Bool
+is_valid (Valid value marked) = true
+is_valid _ = false
+
+abbrev pub is_fresh : Signature → ℕ → List Interval → Pair → Bool
+is_fresh signature phase words p = not (is_valid p.1 && has words p.0.0 && holds signature p.0.0 phase)
+
+abbrev pub dropped_signed : Signature → ℕ → List Interval → List Pair → List Pair
+dropped_signed signature phase words ps = filter (is_fresh signature phase words) ps

@@ -1,0 +1,193 @@
+ghost use Rattle.std.specs.Prelude.{◌≡◌, ◌≢◌, ◌*◌, ◌<◌, ◌≤◌, ◌||◌, true, None, [], IfOk};
+ghost use Rattle.std.specs.Option.{is_some};
+ghost use Rattle.std.specs.Prelude.{length};
+ghost use Rattle.std.specs.List.{filter};
+ghost use Rattle.word_cache.specs.Cache.{Cache, in_set, lookup, put, changed, without, touched, has_room, victim_of, pending_count, dropped_written, dropped_signed};
+ghost use Rattle.word_cache.specs.Row.{IsCacheRow, AreApart, pairs_by_use};
+
+use crate::edits::{change_entry, take_out, use_again, write_last};
+use crate::looks::{count_pending, entry_of, has_free, set_of, victim_in};
+use crate::row::{Entry, Place};
+use crate::sweep::{sweep_grant, sweep_phase};
+use dn_base::{Memory, PhaseId, WordId};
+use region_table::WordSet;
+use std::alloc::Global;
+use std::marker::Model;
+use write_signature::Signature;
+
+/// The private cache of a core: at most `ways` words in each of its `sets` sets. Word `w` is of set `w mod sets`.
+///
+/// A contract sees the pairs of a word and its entry, the least recently used first.
+#[derive(Debug, Drop)]
+pub struct WordCache {
+    sets: u32,
+    ways: u32,
+    places: Vec<Place>,
+    clock: u64,
+}
+
+impl Model for WordCache {
+    ghost use Rattle.word_cache.specs.Cache.{Cache};
+    ghost use Rattle.word_cache.specs.Row.{IsCacheRow, pairs_by_use};
+
+    ghost Value = { Cache };
+
+    ghost view = { λ c. record { sets = c.sets; ways = c.ways; pairs = pairs_by_use c.places.items } };
+
+    ghost invariant = { λ c. IsCacheRow c.sets c.ways c.clock c.places.items };
+}
+
+/// The places of an empty cache, each with a time of its own.
+fn empty_places(alloc: Global, sets: u32, ways: u32) -> Result<Vec<Place>, Memory>
+    requires sets { 0 < sets }
+    requires most_sets { sets ≤ 256 }
+    requires ways { 0 < ways }
+    requires most_ways { ways ≤ 16 }
+    ensures row { IfOk result (λ places. IsCacheRow sets ways (sets * ways) places.items) }
+    ensures pairs { IfOk result (λ places. pairs_by_use places.items ≡ []) }
+{
+    let mut places = Vec::new(alloc);
+    for used in 0..u64::from(sets * ways) {
+        places.push(Place { pair: None, used })?;
+    }
+    Ok(places)
+}
+
+impl WordCache {
+    /// A cache without pairs, of 1 to 256 sets and 1 to 16 ways. All its places are made here.
+    ///
+    /// # Errors
+    /// `Memory` where there is no room for them.
+    pub fn new(alloc: Global, sets: u32, ways: u32) -> Result<WordCache, Memory>
+        requires sets { 0 < sets }
+        requires most_sets { sets ≤ 256 }
+        requires ways { 0 < ways }
+        requires most_ways { ways ≤ 16 }
+        ensures { IfOk result (λ cache. cache ≡ record { sets = sets; ways = ways; pairs = [] }) }
+    {
+        Ok(WordCache {
+            sets,
+            ways,
+            places: empty_places(alloc, sets, ways)?,
+            clock: u64::from(sets * ways),
+        })
+    }
+
+    /// The word's entry; None exactly where the word has no pair. It looks at the word's set alone, and takes no memory.
+    pub fn get(&self, word: WordId) -> Option<Entry>
+        ensures { result ≡ lookup word.0 self.now.pairs }
+    {
+        entry_of(self.places.as_slice(), self.sets, self.ways, word)
+    }
+
+    /// Whether the word's set has fewer pairs than it may have. Takes no memory.
+    pub fn room(&self, word: WordId) -> bool
+        ensures { result ≡ has_room self.now word.0 }
+    {
+        has_free(self.places.as_slice(), self.sets, self.ways, word)
+    }
+
+    /// The word that was used least recently among those of the word's set that are Valid, or Registered and not pending;
+    /// None exactly where there is none. Takes no memory.
+    pub fn victim(&self, word: WordId) -> Option<WordId>
+        ensures { result ≡ victim_of self.now word.0 }
+    {
+        victim_in(self.places.as_slice(), self.sets, self.ways, word)
+    }
+
+    /// The places of a set, which is below the sets: as many as a set may have pairs. They have the set's pairs, and their
+    /// numbers of last use differ and rise along the list of pairs. Takes no memory.
+    pub fn places(&self, set: u32) -> &[Place]
+        requires { set < self.now.sets }
+        ensures count { length result.now ≡ self.now.ways }
+        ensures pairs { pairs_by_use result.now ≡ filter (in_set self.now.sets set) self.now.pairs }
+        ensures times { AreApart result.now }
+    {
+        set_of(self.places.as_slice(), self.sets, self.ways, set)
+    }
+
+    /// How many entries are pending. Takes no memory.
+    pub fn pending(&self) -> u32
+        ensures { result ≡ pending_count self.now.pairs }
+    {
+        count_pending(self.places.as_slice())
+    }
+
+    /// Gives the word this entry; its pair is the one used last then. The word has a pair, or its set has room. Takes no
+    /// memory.
+    pub fn set(&mut self, word: WordId, entry: Entry)
+        requires { (is_some (lookup word.0 self.old.pairs) || has_room self.old word.0) ≡ true }
+        ensures { self.new ≡ record self.old { pairs = put word entry self.old.pairs } }
+    {
+        write_last(
+            &mut self.places,
+            &mut self.clock,
+            self.sets,
+            self.ways,
+            word,
+            entry,
+        );
+    }
+
+    /// Gives the word's pair this entry; the pair keeps its place in the order of use. The word has a pair. Takes no memory.
+    pub fn change(&mut self, word: WordId, entry: Entry)
+        requires { lookup word.0 self.old.pairs ≢ None }
+        ensures { self.new ≡ record self.old { pairs = changed word.0 entry self.old.pairs } }
+    {
+        change_entry(&mut self.places, self.sets, self.ways, word, entry);
+    }
+
+    /// Makes the word's pair the one used last. The word has a pair. Takes no memory.
+    pub fn touch(&mut self, word: WordId)
+        requires { lookup word.0 self.old.pairs ≢ None }
+        ensures { self.new ≡ record self.old { pairs = touched word self.old.pairs } }
+    {
+        use_again(
+            &mut self.places,
+            &mut self.clock,
+            self.sets,
+            self.ways,
+            word,
+        );
+    }
+
+    /// Takes the word's pair out, where there is one. Takes no memory.
+    pub fn remove(&mut self, word: WordId)
+        ensures { self.new ≡ record self.old { pairs = without word.0 self.old.pairs } }
+    {
+        take_out(&mut self.places, self.sets, self.ways, word);
+    }
+
+    /// Drops what a phase leaves stale: the Valid pairs that aren't marked and whose word is in the set. Every other Valid
+    /// pair is then not marked. The order of the pairs stays. Takes no memory.
+    pub fn drop_written(&mut self, words: &WordSet)
+        ensures { self.new ≡ record self.old { pairs = dropped_written words.now self.old.pairs } }
+    {
+        sweep_phase(&mut self.places, words);
+    }
+
+    /// Drops what may be stale at a grant: the Valid pairs whose word is in the set and may have been written in this phase
+    /// under the lock, as the signature says. All other pairs keep their order. Takes no memory.
+    pub fn drop_signed(&mut self, signature: &Signature, phase: PhaseId, words: &WordSet)
+        ensures { self.new ≡ record self.old { pairs = dropped_signed signature.now phase.0 words.now self.old.pairs } }
+    {
+        sweep_grant(&mut self.places, signature, phase, words);
+    }
+}
+
+#[cfg(test)]
+impl WordCache {
+    /// Sets the clock forward to this time; an earlier one changes nothing.
+    pub(crate) fn set_clock(&mut self, time: u64)
+        ensures { self.new ≡ self.old }
+    {
+        self.clock = self.clock.max(time);
+    }
+}
+
+/// Shows that a value goes from thread to thread, and may be shared.
+fn crosses<T: Send + Sync>(_value: &T) {}
+
+fn cache_crosses(cache: &WordCache) {
+    crosses(cache);
+}

@@ -1,0 +1,84 @@
+ghost use Rattle.std.specs.Prelude.{◌≡◌, ◌≢◌, ◌||◌, ℕ, true, None, nat_lt};
+ghost use Rattle.std.specs.Option.{is_some};
+ghost use Rattle.word_cache.specs.Cache.{lookup, set_count, put, touched, changed, without};
+ghost use Rattle.word_cache.specs.Row.{IsRow, IsCacheRow, pairs_by_use};
+
+use crate::row::{Entry, Place, choose, place_of};
+use crate::times::tick;
+use dn_base::WordId;
+
+/// Gives the word this entry, and makes its pair the one used last.
+pub(crate) fn write_last(
+    places: &mut Vec<Place>,
+    clock: &mut u64,
+    sets: u32,
+    ways: u32,
+    word: WordId,
+    entry: Entry,
+)
+    requires row { IsCacheRow sets ways clock.old places.old.items }
+    requires room { (is_some (lookup word.0 (pairs_by_use places.old.items)) || nat_lt (set_count sets word.0 (pairs_by_use places.old.items)) ways) ≡ true }
+    ensures row { IsCacheRow sets ways clock.new places.new.items }
+    ensures pairs { pairs_by_use places.new.items ≡ put word entry (pairs_by_use places.old.items) }
+{
+    let used = tick(places, clock, sets, ways);
+    let place = choose(places.as_slice(), sets, ways, word);
+    places[place] = Place {
+        pair: Some((word, entry)),
+        used,
+    };
+}
+
+/// Gives the word's pair this entry.
+pub(crate) fn change_entry(
+    places: &mut Vec<Place>,
+    sets: u32,
+    ways: u32,
+    word: WordId,
+    entry: Entry,
+)
+    requires row { IsRow sets ways places.old.items }
+    requires there { lookup word.0 (pairs_by_use places.old.items) ≢ None }
+    ensures row { (clock : ℕ) → IsCacheRow sets ways clock places.old.items → IsCacheRow sets ways clock places.new.items }
+    ensures pairs { pairs_by_use places.new.items ≡ changed word.0 entry (pairs_by_use places.old.items) }
+{
+    if let Some(place) = place_of(places.as_slice(), sets, ways, word) {
+        let Place { pair: _, used } = places[place];
+        places[place] = Place {
+            pair: Some((word, entry)),
+            used,
+        };
+    }
+}
+
+/// Makes the word's pair the one used last.
+pub(crate) fn use_again(
+    places: &mut Vec<Place>,
+    clock: &mut u64,
+    sets: u32,
+    ways: u32,
+    word: WordId,
+)
+    requires row { IsCacheRow sets ways clock.old places.old.items }
+    requires there { lookup word.0 (pairs_by_use places.old.items) ≢ None }
+    ensures row { IsCacheRow sets ways clock.new places.new.items }
+    ensures pairs { pairs_by_use places.new.items ≡ touched word (pairs_by_use places.old.items) }
+{
+    let now = tick(places, clock, sets, ways);
+    if let Some(place) = place_of(places.as_slice(), sets, ways, word) {
+        let Place { pair, used: _ } = places[place];
+        places[place] = Place { pair, used: now };
+    }
+}
+
+/// Takes the word's pair out, if it has one.
+pub(crate) fn take_out(places: &mut Vec<Place>, sets: u32, ways: u32, word: WordId)
+    requires row { IsRow sets ways places.old.items }
+    ensures row { (clock : ℕ) → IsCacheRow sets ways clock places.old.items → IsCacheRow sets ways clock places.new.items }
+    ensures pairs { pairs_by_use places.new.items ≡ without word.0 (pairs_by_use places.old.items) }
+{
+    if let Some(place) = place_of(places.as_slice(), sets, ways, word) {
+        let Place { pair: _, used } = places[place];
+        places[place] = Place { pair: None, used };
+    }
+}

@@ -1,0 +1,20 @@
+//! The private cache of a core: words with their states, in sets of a few places each.
+//!
+//! The states are DeNovo's (PACT 2011): a word without a pair is Invalid, and else Valid or Registered; an entry that is
+//! given back and not yet acknowledged is Leaving, which is this project's own. The mark of a Valid entry is the article's
+//! touched bit.
+#![tactic(auto)]
+
+mod cache;
+mod edits;
+mod laws;
+mod looks;
+mod row;
+mod sweep;
+#[cfg(test)]
+mod tests;
+mod times;
+
+pub use cache::WordCache;
+pub use laws::an_entry_changes_alone;
+pub use row::{Entry, Place};

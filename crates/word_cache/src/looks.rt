@@ -1,0 +1,83 @@
+ghost use Rattle.std.specs.Prelude.{◌≡◌, ◌<◌, ◌≤◌, length, nat_lt, slice_index_or, count_by};
+ghost use Rattle.std.specs.List.{find, filter};
+ghost use Rattle.std.specs.Option.{option_map};
+ghost use Rattle.word_cache.specs.declared.row.Place.{Place};
+ghost use Rattle.word_cache.specs.Cache.{Pair, in_set, lookup, set_count, gives_way};
+ghost use Rattle.word_cache.specs.Row.{IsRow, AreApart, pairs_by_use, place_is_pending};
+
+use crate::row::{Entry, Place, entry_at, free_place, place_of, victim_place};
+use dn_base::WordId;
+
+/// The word's entry, if it has a pair. It looks at the word's set alone.
+pub(crate) fn entry_of(row: &[Place], sets: u32, ways: u32, word: WordId) -> Option<Entry>
+    requires { IsRow sets ways row.now }
+    ensures { result ≡ lookup word.0 (pairs_by_use row.now) }
+{
+    match place_of(row, sets, ways, word) {
+        Some(place) => entry_at(row, place),
+        None => None,
+    }
+}
+
+/// Whether the word's set has a place without a pair.
+pub(crate) fn has_free(row: &[Place], sets: u32, ways: u32, word: WordId) -> bool
+    requires { IsRow sets ways row.now }
+    ensures { result ≡ nat_lt (set_count sets word.0 (pairs_by_use row.now)) ways }
+{
+    match free_place(row, sets, ways, word) {
+        Some(_) => true,
+        None => false,
+    }
+}
+
+/// The word at a place; None where no pair stands there.
+fn word_at(row: &[Place], place: usize) -> Option<WordId>
+    requires { place < length row.now }
+    ensures { (d : Place) → result ≡ option_map (λ (p : Pair). p.0) (slice_index_or row.now place d).pair }
+{
+    match row[place].pair {
+        Some((word, _)) => Some(word),
+        None => None,
+    }
+}
+
+/// The word that was used least recently among those of the word's set that may be evicted.
+pub(crate) fn victim_in(row: &[Place], sets: u32, ways: u32, word: WordId) -> Option<WordId>
+    requires { IsRow sets ways row.now }
+    ensures { result ≡ option_map (λ (p : Pair). p.0) (find (gives_way sets word.0) (pairs_by_use row.now)) }
+{
+    match victim_place(row, sets, ways, word) {
+        Some(place) => word_at(row, place),
+        None => None,
+    }
+}
+
+/// Whether the place has a pair whose entry is pending.
+fn is_pending(place: &Place) -> bool
+    ensures { result ≡ place_is_pending place.now }
+{
+    match place.pair {
+        Some((_, entry)) => entry.is_pending(),
+        None => false,
+    }
+}
+
+/// How many entries are pending.
+pub(crate) fn count_pending(row: &[Place]) -> u32
+    requires { length row.now ≤ 4096 }
+    ensures { result ≡ count_by place_is_pending row.now }
+{
+    row.iter().filter(|place| is_pending(place)).count() as u32
+}
+
+/// The places of a set.
+pub(crate) fn set_of(row: &[Place], sets: u32, ways: u32, set: u32) -> &[Place]
+    requires row { IsRow sets ways row.now }
+    requires set { set < sets }
+    ensures count { length result.now ≡ ways }
+    ensures pairs { pairs_by_use result.now ≡ filter (in_set sets set) (pairs_by_use row.now) }
+    ensures times { AreApart result.now }
+{
+    let start = (set * ways) as usize;
+    &row[start..start + ways as usize]
+}
