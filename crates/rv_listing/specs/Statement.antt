@@ -1,21 +1,9 @@
 -- How a statement is written in a listing.
-use Rattle.std.specs.Prelude.{ℕ, ℤ, ◌/◌, ◌%◌, ◌^◌, ◌+◌, nat_lt, List, [], ◌∷◌, ◌++◌, codes, if◌then◌else◌}
+use Rattle.std.specs.Prelude.{ℕ, ℤ, List, [], ◌∷◌, ◌++◌, codes}
 use Rattle.std.specs.Fmt.{decimal, signed_decimal}
+pub use Rattle.text_pieces.specs.Pieces.{hex_digit, hex_at, hexadecimal}
 use Rattle.rv_listing.specs.declared.statement.Operand.{Operand}
 use Rattle.rv_listing.specs.declared.statement.Operand.TheVariants.{Name, Register, Number, Offset, Word, Address}
-
--- a digit of base 16, in lower case
-abbrev pub hex_digit : ℕ → ℕ
-hex_digit d = if nat_lt d 10 then 48 + d else 87 + d
-
--- the digit of base 16 at a place of a number, counted from its end
-abbrev pub hex_at : ℕ → ℕ → ℕ
-hex_at n place = hex_digit (n / 16 ^ place % 16)
-
--- a number of 32 bits in base 16, with all its eight digits
-unfoldable pub hexadecimal : ℕ → List ℕ
-hexadecimal n =
-    48 ∷ 120 ∷ hex_at n 7 ∷ hex_at n 6 ∷ hex_at n 5 ∷ hex_at n 4 ∷ hex_at n 3 ∷ hex_at n 2 ∷ hex_at n 1 ∷ hex_at n 0 ∷ []
 
 -- the name of a register: x0 to x31
 abbrev pub register : ℕ → List ℕ

@@ -1,11 +1,11 @@
 //! How a statement is written.
-ghost use Rattle.std.specs.Prelude.{◌≡◌, ◌++◌, ◌<◌, map, OnOk};
-ghost use Rattle.std.specs.Fmt.{decimal, signed_decimal};
+ghost use Rattle.std.specs.Prelude.{◌≡◌, ◌++◌, map, OnOk};
 ghost use Rattle.src_text.specs.Laws.{ended};
-ghost use Rattle.rv_listing.specs.Statement.{hex_digit, hexadecimal, register, more_operands, operands, statement, operand_text};
+ghost use Rattle.rv_listing.specs.Statement.{register, more_operands, operands, statement, operand_text};
 
 use dn_base::Memory;
 use rv_isa::Reg;
+use text_pieces::{push, push_decimal, push_hexadecimal, push_signed};
 
 /// An operand of a statement.
 #[derive(Clone, Copy)]
@@ -20,62 +20,6 @@ pub(crate) enum Operand<'a> {
     Word(u32),
     /// An offset, and a register in parentheses.
     Address(i32, Reg),
-}
-
-/// Adds bytes at the end.
-fn push(out: &mut Vec<u8>, bytes: &[u8]) -> Result<(), Memory>
-    ensures { OnOk result (out.new.items ≡ out.old.items ++ bytes.now) }
-{
-    out.extend_from_slice(bytes)?;
-    Ok(())
-}
-
-/// Adds a number in decimal digits.
-fn push_decimal(out: &mut Vec<u8>, number: u32) -> Result<(), Memory>
-    ensures { OnOk result (out.new.items ≡ out.old.items ++ decimal number) }
-{
-    let digits = number.to_string(*out.allocator())?;
-    push(out, digits.as_bytes())
-}
-
-/// Adds a number with sign in decimal digits.
-fn push_signed(out: &mut Vec<u8>, number: i32) -> Result<(), Memory>
-    ensures { OnOk result (out.new.items ≡ out.old.items ++ signed_decimal number) }
-{
-    let digits = number.to_string(*out.allocator())?;
-    push(out, digits.as_bytes())
-}
-
-/// A digit of base 16.
-fn digit(value: u32) -> u8
-    requires { value < 16 }
-    ensures { result ≡ hex_digit value }
-{
-    if value < 10 {
-        b'0' + value as u8
-    } else {
-        b'a' + (value as u8 - 10)
-    }
-}
-
-/// Adds a number in `0x` and eight digits of base 16.
-#[tactic(auto, unfolding(crate::specs::Statement::hexadecimal))]
-fn push_hexadecimal(out: &mut Vec<u8>, number: u32) -> Result<(), Memory>
-    ensures { OnOk result (out.new.items ≡ out.old.items ++ hexadecimal number) }
-{
-    let bytes = [
-        b'0',
-        b'x',
-        digit(number >> 28 & 15),
-        digit(number >> 24 & 15),
-        digit(number >> 20 & 15),
-        digit(number >> 16 & 15),
-        digit(number >> 12 & 15),
-        digit(number >> 8 & 15),
-        digit(number >> 4 & 15),
-        digit(number & 15),
-    ];
-    push(out, &bytes)
 }
 
 /// Adds the name of a register.
