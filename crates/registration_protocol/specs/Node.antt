@@ -1,18 +1,14 @@
 -- A node, and what it and its surroundings say of its task.
-use Rattle.std.specs.Prelude.{◌≡◌, ℕ, ◌+◌, ◌%◌, ◌<◌, ◌≤◌, Bool, true, false, ◌&&◌, ◌||◌, ◌==◌, not, nat_lt, List, [], ◌∷◌, length, replicate, slice_get, slice_index_or, Option, Some, None, if◌then◌else◌}
+use Rattle.std.specs.Prelude.{ℕ, ◌%◌, Bool, true, false, ◌||◌, ◌==◌, not, List, [], length, replicate, slice_get, Option, Some, None, if◌then◌else◌}
 use Rattle.std.specs.List.{find}
 use Rattle.std.specs.Option.{option_and_then, option_map, is_some}
 use Rattle.dn_base.specs.declared.ids.CoreId.{CoreId}
-use Rattle.dn_base.specs.declared.ids.WordId.{WordId}
-use Rattle.dn_base.specs.declared.ids.LockId.{LockId}
 use Rattle.dn_base.specs.declared.ids.Shape.{Shape}
 use Rattle.region_table.specs.declared.declared.TaskDecl.{TaskDecl}
 use Rattle.region_table.specs.declared.declared.Phase.{Phase}
 use Rattle.region_table.specs.declared.plan.PhasePlan.{PhasePlan}
 use Rattle.region_table.specs.Program.{ProgramParts}
-use Rattle.region_table.specs.Plan.{uses_plainly}
 use Rattle.rv_core.specs.declared.task.TaskState.{TaskState}
-use Rattle.rv_core.specs.declared.task.End.{End}
 use Rattle.rv_core.specs.declared.need.Need.{Need}
 use Rattle.rv_core.specs.Need.{need_of}
 use Rattle.rv_core.specs.Task.{started}

@@ -3,9 +3,6 @@ use Rattle.std.specs.Prelude.{ℕ, ◌+◌, ◌%◌, Bool, true, false, ◌&&◌
 use Rattle.std.specs.Option.{is_some}
 use Rattle.dn_base.specs.declared.ids.CoreId.{CoreId}
 use Rattle.dn_base.specs.declared.ids.WordId.{WordId}
-use Rattle.dn_base.specs.declared.ids.LockId.{LockId}
-use Rattle.dn_base.specs.declared.ids.LoadSeen.{LoadSeen}
-use Rattle.region_table.specs.declared.interval.Interval.{Interval}
 use Rattle.region_table.specs.declared.declared.TaskDecl.{TaskDecl}
 use Rattle.region_table.specs.Words.{has}
 use Rattle.region_table.specs.Plan.{uses_plainly}
@@ -19,7 +16,6 @@ use Rattle.rv_core.specs.Step.{advanced, loaded_of, merged_of}
 use Rattle.rv_core.specs.Task.{stopped}
 use Rattle.write_signature.specs.declared.signature.Signature.{Signature}
 use Rattle.write_signature.specs.Signature.{empty, inserted}
-use Rattle.message_net.specs.declared.message.Message.{Message}
 use Rattle.message_net.specs.declared.message.Message.TheVariants.{ReadReq, RegReq, WriteBack, Acquire, Release, Arrived}
 use Rattle.message_net.specs.declared.message.Outgoing.{Outgoing}
 use Rattle.word_cache.specs.declared.row.Entry.{Entry}
@@ -27,7 +23,7 @@ use Rattle.word_cache.specs.declared.row.Entry.TheVariants.{Valid, Registered, L
 use Rattle.word_cache.specs.Cache.{Cache, has_room, put, changed, touched, without, is_evictable}
 use Rattle.registration_protocol.specs.declared.node.NodeWait as wait
 use Rattle.registration_protocol.specs.declared.node.Step.{Step}
-use Rattle.registration_protocol.specs.Node.{NodeParts, Setting, declared, goes_on, need_now, entry_of, is_settled, is_active, is_ready, waits_for_nothing, to_home, to_keeper}
+use Rattle.registration_protocol.specs.Node.{NodeParts, Setting, goes_on, need_now, entry_of, is_settled, is_active, is_ready, waits_for_nothing, to_home, to_keeper}
 
 -- whether an access of a word may go on, by its entry: it stalls while the word is leaving, and where there is no entry it
 -- needs room

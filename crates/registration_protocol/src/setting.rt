@@ -1,6 +1,7 @@
 ghost use Rattle.std.specs.Prelude.{◌≡◌};
+ghost use Rattle.std.specs.List.{find};
 ghost use Rattle.std.specs.Option.{option_copied};
-ghost use Rattle.registration_protocol.specs.Node.{declared};
+ghost use Rattle.registration_protocol.specs.Node.{declared, is_for};
 ghost use Rattle.registration_protocol.specs.Setting.{setting};
 
 use dn_base::{CoreId, PhaseId, Shape};
@@ -15,20 +16,24 @@ pub struct Context<'a> {
     pub fuel: u32,
 }
 
+/// The task of the core among these, if it has one.
+fn find_in(tasks: &[TaskDecl], core: CoreId) -> Option<&TaskDecl>
+    ensures { option_copied result ≡ find (is_for core.0) tasks.now }
+{
+    for task in tasks {
+        if task.core.0 == core.0 {
+            return Some(task);
+        }
+    }
+    None
+}
+
 /// The task that the program declares for the core in the phase, if it does.
-pub(crate) fn declaration<'a>(
-    program: &'a Program,
-    phase: PhaseId,
-    core: CoreId,
-) -> Option<&'a TaskDecl>
+pub(crate) fn declaration(program: &Program, phase: PhaseId, core: CoreId) -> Option<&TaskDecl>
     ensures { option_copied result ≡ declared program.now phase.0 core.0 }
 {
     match program.phases.get(phase.0 as usize) {
-        Some(phase) => phase
-            .tasks
-            .as_slice()
-            .iter()
-            .find(|task| task.core.0 == core.0),
+        Some(phase) => find_in(phase.tasks.as_slice(), core),
         None => None,
     }
 }
