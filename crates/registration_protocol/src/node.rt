@@ -1,13 +1,13 @@
 ghost use Rattle.std.specs.Prelude.{◌≡◌, ◌<◌, true, Some, None, if◌then◌else◌};
-ghost use Rattle.registration_protocol.specs.Node.{NodeParts, entry_of, is_settled, goes_on, to_core, to_home};
+ghost use Rattle.registration_protocol.specs.Node.{NodeParts, need_now, entry_of, is_settled, goes_on, to_core, to_home};
 ghost use Rattle.registration_protocol.specs.Setting.{setting};
-ghost use Rattle.registration_protocol.specs.OwnEvents.{may_arrive, arrives, evicted};
+ghost use Rattle.registration_protocol.specs.OwnEvents.{may_access, lets, may_instr, may_arrive, arrives, evicted};
 ghost use Rattle.registration_protocol.specs.Messages.{fills, read_row, data_row, ack_row, forward_row, gone_row};
 
-use crate::setting::Context;
+use crate::setting::{Context, declaration};
 use dn_base::{BankId, CoreId, Grant, LoadSeen, LockId, PhaseId, Sequence, WordId};
 use message_net::{Actor, Message, Outgoing};
-use rv_core::{End, TaskState};
+use rv_core::{End, Need, TaskState};
 use std::marker::Model;
 use word_cache::{Entry, WordCache};
 use write_signature::Signature;
@@ -125,6 +125,49 @@ impl Node {
         ensures { result ≡ may_arrive self.now }
     {
         !(self.halted || self.arrived) && !self.goes_on() && self.is_settled()
+    }
+
+    /// What the next instruction of the node's task needs; None where the node has no task that goes on.
+    fn need(&self, context: &Context<'_>) -> Option<Need>
+        ensures { result ≡ need_now (setting context.now) self.now }
+    {
+        let task = self.task.as_ref()?;
+        if task.end.is_some() {
+            return None;
+        }
+        let declared = declaration(context.program, self.phase, self.core)?;
+        Some(task.need(context.program, declared, context.fuel))
+    }
+
+    /// Whether an access of the word may go on.
+    fn may_access(&self, word: WordId) -> bool
+        ensures { result ≡ may_access self.now word.0 (entry_of self.now word.0) }
+    {
+        match self.cache.get(word) {
+            None => self.cache.room(word),
+            Some(Entry::Leaving(_)) => false,
+            Some(_) => true,
+        }
+    }
+
+    /// Whether an instruction with this need may go on.
+    fn lets(&self, need: Option<Need>) -> bool
+        ensures { result ≡ lets self.now need }
+    {
+        match need {
+            None => false,
+            Some(Need::Local | Need::End { .. } | Need::Acquire { .. }) => true,
+            Some(Need::Release { .. }) => self.is_settled(),
+            Some(Need::Load { word } | Need::Store { word, .. }) => self.may_access(word),
+        }
+    }
+
+    /// Whether the node's next instruction may go on. Takes no memory.
+    pub fn may_instr(&self, context: &Context<'_>) -> bool
+        ensures { result ≡ may_instr (setting context.now) self.now }
+    {
+        let ready = matches!(self.wait, NodeWait::None | NodeWait::Filled(_));
+        !(self.halted || self.arrived) && ready && self.lets(self.need(context))
     }
 
     /// The node arrives at the barrier, and tells the keeper whether its task was bad. It may. Takes no memory.
