@@ -1,0 +1,4 @@
+pub mod Node
+pub mod OwnEvents
+pub mod Messages
+pub mod Setting

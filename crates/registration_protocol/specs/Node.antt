@@ -1,0 +1,113 @@
+-- A node, and what it and its surroundings say of its task.
+use Rattle.std.specs.Prelude.{ℕ, ◌%◌, Bool, true, false, ◌||◌, ◌==◌, not, List, [], length, replicate, slice_get, Option, Some, None, if◌then◌else◌}
+use Rattle.std.specs.List.{find}
+use Rattle.std.specs.Option.{option_and_then, option_map, is_some}
+use Rattle.dn_base.specs.declared.ids.CoreId.{CoreId}
+use Rattle.dn_base.specs.declared.ids.Shape.{Shape}
+use Rattle.region_table.specs.declared.declared.TaskDecl.{TaskDecl}
+use Rattle.region_table.specs.declared.declared.Phase.{Phase}
+use Rattle.region_table.specs.declared.plan.PhasePlan.{PhasePlan}
+use Rattle.region_table.specs.Program.{ProgramParts}
+use Rattle.rv_core.specs.declared.task.TaskState.{TaskState}
+use Rattle.rv_core.specs.declared.need.Need.{Need}
+use Rattle.rv_core.specs.Need.{need_of}
+use Rattle.rv_core.specs.Task.{started}
+use Rattle.write_signature.specs.declared.signature.Signature.{Signature}
+use Rattle.write_signature.specs.Signature.{empty}
+use Rattle.message_net.specs.declared.actor.Actor.TheVariants.{Core, Bank, Keeper}
+use Rattle.message_net.specs.declared.message.Message.{Message}
+use Rattle.message_net.specs.declared.message.Outgoing.{Outgoing}
+use Rattle.word_cache.specs.declared.row.Entry.{Entry}
+use Rattle.word_cache.specs.Cache.{Cache, lookup, pending_count}
+use Rattle.registration_protocol.specs.declared.node.NodeWait as wait
+use Rattle.registration_protocol.specs.declared.node.NodeWait.{NodeWait}
+
+-- a node: its core, the phase, its task in it if there is one, its cache, what it waits for, a signature for each lock, and
+-- whether it has arrived at the barrier and is halted
+pub record NodeParts : Type 0 where
+  pub core : ℕ
+  pub phase : ℕ
+  pub task : Option TaskState
+  pub cache : Cache
+  pub waiting : NodeWait
+  pub signatures : List Signature
+  pub arrived : Bool
+  pub halted : Bool
+
+-- what a node's calls are told: the program, the plans of its phases, the machine's size, and how many instructions a task
+-- may retire
+pub record Setting : Type 0 where
+  pub program : ProgramParts
+  pub plans : List PhasePlan
+  pub shape : Shape
+  pub fuel : ℕ
+
+-- the task that the program declares for a core in a phase, if it does
+abbrev pub is_for : ℕ → TaskDecl → Bool
+is_for core d = d.core.0 == core
+
+abbrev pub declared : ProgramParts → ℕ → ℕ → Option TaskDecl
+declared P phase core = option_and_then (λ (p : Phase). find (is_for core) p.tasks) (slice_get P.phases phase)
+
+-- whether a task goes on
+abbrev pub goes_on : Option TaskState → Bool
+goes_on None = false
+goes_on (Some t) = not (is_some t.end)
+
+-- what the next instruction of a task that goes on needs
+abbrev pub need_by : Setting → Option TaskDecl → TaskState → Option Need
+need_by C None t = None
+need_by C (Some d) t = Some (need_of C.program d C.fuel t)
+
+abbrev pub need_if : Setting → NodeParts → Option TaskState → Option Need
+need_if C n None = None
+need_if C n (Some t) = if is_some t.end then None else need_by C (declared C.program n.phase n.core) t
+
+abbrev pub need_now : Setting → NodeParts → Option Need
+need_now C n = need_if C n n.task
+
+-- the entry of a word
+abbrev pub entry_of : NodeParts → ℕ → Option Entry
+entry_of n w = lookup w n.cache.pairs
+
+-- whether no entry is pending
+abbrev pub is_settled : NodeParts → Bool
+is_settled n = pending_count n.cache.pairs == 0
+
+-- whether the node makes events by itself
+abbrev pub is_active : NodeParts → Bool
+is_active n = not (n.halted || n.arrived)
+
+-- whether the wait lets the next instruction go on: there is none, or the word has come
+abbrev pub is_ready : NodeWait → Bool
+is_ready wait.TheVariants.None = true
+is_ready (wait.TheVariants.Filled word) = true
+is_ready _ = false
+
+abbrev pub waits_for_nothing : NodeWait → Bool
+waits_for_nothing wait.TheVariants.None = true
+waits_for_nothing _ = false
+
+-- mail to the home of a word and of a lock, to a core, and to the keeper
+abbrev pub to_home : Setting → ℕ → Message → Option Outgoing
+to_home C number m = Some (record { to = Bank (record { 0 = number % C.shape.banks }); message = m })
+
+abbrev pub to_core : CoreId → Message → Option Outgoing
+to_core core m = Some (record { to = Core core; message = m })
+
+abbrev pub to_keeper : Message → Option Outgoing
+to_keeper m = Some (record { to = Keeper; message = m })
+
+-- a node as a run begins: in phase 0 with its task, or halted where there are no phases
+abbrev pub opened : Setting → ℕ → NodeParts
+opened C core =
+    record {
+      core = core;
+      phase = 0;
+      task = option_map started (declared C.program 0 core);
+      cache = record { sets = C.shape.sets; ways = C.shape.ways; pairs = [] };
+      waiting = wait.TheVariants.None;
+      signatures = replicate (length C.program.locks) (empty 0);
+      arrived = false;
+      halted = length C.program.phases == 0;
+    }

@@ -1,0 +1,162 @@
+-- A node's own events: when each may come, and what it does.
+use Rattle.std.specs.Prelude.{ℕ, ◌+◌, ◌%◌, Bool, true, false, ◌&&◌, ◌||◌, ◌==◌, not, List, [], ◌∷◌, slice_index_or, Option, Some, None, if◌then◌else◌}
+use Rattle.std.specs.Option.{is_some}
+use Rattle.dn_base.specs.declared.ids.CoreId.{CoreId}
+use Rattle.dn_base.specs.declared.ids.WordId.{WordId}
+use Rattle.region_table.specs.declared.declared.TaskDecl.{TaskDecl}
+use Rattle.region_table.specs.Words.{has}
+use Rattle.region_table.specs.Plan.{uses_plainly}
+use Rattle.rv_core.specs.declared.task.TaskState.{TaskState}
+use Rattle.rv_core.specs.declared.task.End as cause
+use Rattle.rv_core.specs.declared.task.End.{End}
+use Rattle.rv_core.specs.declared.need.Need as need
+use Rattle.rv_core.specs.declared.need.Need.{Need}
+use Rattle.rv_core.specs.Access.{holds as is_held}
+use Rattle.rv_core.specs.Step.{advanced, loaded_of, merged_of}
+use Rattle.rv_core.specs.Task.{stopped}
+use Rattle.write_signature.specs.declared.signature.Signature.{Signature}
+use Rattle.write_signature.specs.Signature.{empty, inserted}
+use Rattle.message_net.specs.declared.message.Message.TheVariants.{ReadReq, RegReq, WriteBack, Acquire, Release, Arrived}
+use Rattle.message_net.specs.declared.message.Outgoing.{Outgoing}
+use Rattle.word_cache.specs.declared.row.Entry.{Entry}
+use Rattle.word_cache.specs.declared.row.Entry.TheVariants.{Valid, Registered, Leaving}
+use Rattle.word_cache.specs.Cache.{Cache, has_room, put, changed, touched, without, is_evictable}
+use Rattle.registration_protocol.specs.declared.node.NodeWait as wait
+use Rattle.registration_protocol.specs.declared.node.Step.{Step}
+use Rattle.registration_protocol.specs.Node.{NodeParts, Setting, goes_on, need_now, entry_of, is_settled, is_active, is_ready, waits_for_nothing, to_home, to_keeper}
+
+-- whether an access of a word may go on, by its entry: it stalls while the word is leaving, and where there is no entry it
+-- needs room
+abbrev pub may_access : NodeParts → ℕ → Option Entry → Bool
+may_access n w None = has_room n.cache w
+may_access n w (Some (Valid value marked)) = true
+may_access n w (Some (Registered value pending)) = true
+may_access n w (Some (Leaving value)) = false
+
+abbrev pub lets : NodeParts → Option Need → Bool
+lets n None = false
+lets n (Some need.TheVariants.Local) = true
+lets n (Some (need.TheVariants.End cause)) = true
+lets n (Some (need.TheVariants.Acquire lock)) = true
+lets n (Some (need.TheVariants.Release lock)) = is_settled n
+lets n (Some (need.TheVariants.Load word)) = may_access n word.0 (entry_of n word.0)
+lets n (Some (need.TheVariants.Store word whole)) = may_access n word.0 (entry_of n word.0)
+
+abbrev pub may_instr : Setting → NodeParts → Bool
+may_instr C n = is_active n && is_ready n.waiting && lets n (need_now C n)
+
+-- the word for which the next instruction lacks a place, if there is one
+abbrev pub crowded : NodeParts → WordId → Option WordId
+crowded n word = if is_some (entry_of n word.0) || has_room n.cache word.0 then None else Some word
+
+abbrev pub wanted_by : NodeParts → Option Need → Option WordId
+wanted_by n (Some (need.TheVariants.Load word)) = crowded n word
+wanted_by n (Some (need.TheVariants.Store word whole)) = crowded n word
+wanted_by n _ = None
+
+-- whether a word may be evicted to make room for the wanted one: it is of that word's set, and Valid, or Registered and not
+-- pending
+abbrev pub may_go : Option Entry → Bool
+may_go None = false
+may_go (Some e) = is_evictable e
+
+abbrev pub makes_room : NodeParts → ℕ → Option WordId → Bool
+makes_room n w None = false
+makes_room n w (Some wanted) = (w % n.cache.sets == wanted.0 % n.cache.sets) && may_go (entry_of n w)
+
+abbrev pub may_evict : Setting → NodeParts → ℕ → Bool
+may_evict C n w = is_active n && waits_for_nothing n.waiting && makes_room n w (wanted_by n (need_now C n))
+
+abbrev pub may_arrive : NodeParts → Bool
+may_arrive n = is_active n && not (goes_on n.task) && is_settled n
+
+-- the cache with other pairs
+abbrev pub with_put : NodeParts → WordId → Entry → Cache
+with_put n word e = record n.cache { pairs = put word e n.cache.pairs }
+
+-- the instruction has retired
+abbrev pub retires : NodeParts → TaskState → NodeParts
+retires n t = record n { task = Some t; waiting = wait.TheVariants.None }
+
+abbrev pub silent : NodeParts → NodeParts × Step
+silent n = (n, record { sent = None; seen = None })
+
+abbrev pub sends : NodeParts → Option Outgoing → NodeParts × Step
+sends n sent = (n, record { sent = sent; seen = None })
+
+abbrev pub sees : NodeParts → WordId → ℕ → NodeParts × Step
+sees n word value = (n, record { sent = None; seen = Some (record { word = word; value = value }) })
+
+abbrev pub me : NodeParts → CoreId
+me n = record { 0 = n.core }
+
+-- a word is asked for
+abbrev pub misses : Setting → NodeParts → WordId → NodeParts × Step
+misses C n word = sends (record n { waiting = wait.TheVariants.Reading word }) (to_home C word.0 (ReadReq word (me n)))
+
+-- Load w, by the entry of w
+abbrev pub loads : Setting → NodeParts → TaskDecl → TaskState → WordId → Option Entry → NodeParts × Step
+loads C n d t word None = misses C n word
+loads C n d t word (Some (Valid value marked)) =
+    sees (record (retires n (loaded_of C.program value t)) { cache = record n.cache { pairs = touched word (changed word.0 (Valid value (marked || uses_plainly d word.0)) n.cache.pairs) } }) word value
+loads C n d t word (Some (Registered value pending)) =
+    sees (record (retires n (loaded_of C.program value t)) { cache = record n.cache { pairs = touched word n.cache.pairs } }) word value
+loads C n d t word (Some (Leaving value)) = silent n
+
+-- the signatures after a store to a word: those of the held locks that guard the word for the task's stores have it then
+abbrev pub noted : TaskDecl → ℕ → ℕ → ℕ → ℕ → List Signature → List Signature
+noted d held w phase l [] = []
+noted d held w phase l (s ∷ ss) =
+    (if is_held held l && has (slice_index_or d.effects.guarded_writes l []) w then inserted s w phase else s) ∷ noted d held w phase (l + 1) ss
+
+-- a store retires, and its word has this entry
+abbrev pub stored : Setting → NodeParts → TaskDecl → TaskState → WordId → Entry → NodeParts
+stored C n d t word e =
+    record (retires n (advanced C.program t)) { cache = with_put n word e; signatures = noted d t.held word.0 n.phase 0 n.signatures }
+
+-- a store registers its word
+abbrev pub registers : Setting → NodeParts → TaskDecl → TaskState → WordId → ℕ → NodeParts × Step
+registers C n d t word value = sends (stored C n d t word (Registered value true)) (to_home C word.0 (RegReq word (me n)))
+
+-- Store w, by the entry of w
+abbrev pub stores : Setting → NodeParts → TaskDecl → TaskState → WordId → Bool → Option Entry → NodeParts × Step
+stores C n d t word whole None = if whole then registers C n d t word (merged_of C.program 0 t) else misses C n word
+stores C n d t word whole (Some (Valid value marked)) = registers C n d t word (merged_of C.program value t)
+stores C n d t word whole (Some (Registered value pending)) =
+    silent (stored C n d t word (Registered (merged_of C.program value t) pending))
+stores C n d t word whole (Some (Leaving value)) = silent n
+
+-- an instruction, by its need
+abbrev pub instr_row : Setting → NodeParts → TaskDecl → TaskState → Need → NodeParts × Step
+instr_row C n d t need.TheVariants.Local = silent (record n { task = Some (advanced C.program t) })
+instr_row C n d t (need.TheVariants.End cause) = silent (record n { task = Some (stopped cause t) })
+instr_row C n d t (need.TheVariants.Load word) = loads C n d t word (entry_of n word.0)
+instr_row C n d t (need.TheVariants.Store word whole) = stores C n d t word whole (entry_of n word.0)
+instr_row C n d t (need.TheVariants.Acquire lock) =
+    sends (record n { waiting = wait.TheVariants.Locking lock }) (to_home C lock.0 (Acquire lock (me n)))
+instr_row C n d t (need.TheVariants.Release lock) =
+    sends (record n { task = Some (advanced C.program t) }) (to_home C lock.0 (Release lock (me n) (slice_index_or n.signatures lock.0 (empty n.phase))))
+
+-- an eviction, by the entry of the word
+abbrev pub evicts : Setting → NodeParts → WordId → Option Entry → NodeParts × Option Outgoing
+evicts C n word (Some (Valid value marked)) = (record n { cache = record n.cache { pairs = without word.0 n.cache.pairs } }, None)
+evicts C n word (Some (Registered value false)) =
+    (record n { cache = record n.cache { pairs = changed word.0 (Leaving value) n.cache.pairs } }, to_home C word.0 (WriteBack word value (me n)))
+evicts C n word _ = (n, None)
+
+abbrev pub evicted : Setting → NodeParts → WordId → NodeParts × Option Outgoing
+evicted C n word = evicts C n word (entry_of n word.0)
+
+-- whether a task ended by a trap or for want of fuel
+abbrev pub ended_badly : Option End → Bool
+ended_badly None = false
+ended_badly (Some cause.TheVariants.Finished) = false
+ended_badly (Some _) = true
+
+abbrev pub is_bad : Option TaskState → Bool
+is_bad None = false
+is_bad (Some t) = ended_badly t.end
+
+-- the arrival at the barrier
+abbrev pub arrives : NodeParts → NodeParts × Option Outgoing
+arrives n = (record n { arrived = true }, to_keeper (Arrived (me n) (is_bad n.task)))

@@ -1,0 +1,6 @@
+-- What a context says.
+use Rattle.registration_protocol.specs.declared.setting.Context.{Context}
+use Rattle.registration_protocol.specs.Node.{Setting}
+
+abbrev pub setting : Context → Setting
+setting c = record { program = c.program.now; plans = c.plans.now; shape = c.shape; fuel = c.fuel }

@@ -1,0 +1,10 @@
+//! A node: a core with its task, its private cache, its wait, its signatures and its marks, and what it does by itself and
+//! with each message. The states of words, registration and the drop at a phase's end are DeNovo's (PACT 2011), queue locks
+//! and signatures DeNovoND's (ASPLOS 2013); what is finer is this project's own.
+#![tactic(auto)]
+
+mod node;
+mod setting;
+
+pub use node::{Node, NodeWait, Received, Step};
+pub use setting::Context;

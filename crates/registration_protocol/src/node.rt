@@ -1,0 +1,325 @@
+ghost use Rattle.std.specs.Prelude.{◌≡◌, ◌<◌, true, Some, None, if◌then◌else◌};
+ghost use Rattle.registration_protocol.specs.Node.{NodeParts, need_now, entry_of, is_settled, goes_on, to_core, to_home};
+ghost use Rattle.registration_protocol.specs.Setting.{setting};
+ghost use Rattle.registration_protocol.specs.OwnEvents.{may_access, lets, may_instr, may_arrive, arrives, evicted};
+ghost use Rattle.registration_protocol.specs.Messages.{fills, read_row, data_row, ack_row, forward_row, gone_row};
+
+use crate::setting::{Context, declaration};
+use dn_base::{BankId, CoreId, Grant, LoadSeen, LockId, PhaseId, Sequence, WordId};
+use message_net::{Actor, Message, Outgoing};
+use rv_core::{End, Need, TaskState};
+use std::marker::Model;
+use word_cache::{Entry, WordCache};
+use write_signature::Signature;
+
+/// What a node waits for.
+#[derive(Clone, Copy, Debug, PartialEq, Eq)]
+pub enum NodeWait {
+    /// Nothing.
+    None,
+    /// The value of a word.
+    Reading(WordId),
+    /// Nothing: the value of the word is there, and the instruction that asked for it is still to complete.
+    Filled(WordId),
+    /// The grant of a lock.
+    Locking(LockId),
+}
+
+/// What an instruction sends, and the load that it completed.
+#[derive(Clone, Copy, Debug, PartialEq, Eq)]
+pub struct Step {
+    pub sent: Option<Outgoing>,
+    pub seen: Option<LoadSeen>,
+}
+
+/// What a message makes a node send, and the lock that it is granted by it.
+#[derive(Clone, Copy, Debug, PartialEq, Eq)]
+pub struct Received {
+    pub sent: Option<Outgoing>,
+    pub granted: Option<Grant>,
+}
+
+/// A core with its task, its cache, its wait, a signature for each lock, and its marks.
+#[derive(Drop)]
+pub struct Node {
+    core: CoreId,
+    phase: PhaseId,
+    task: Option<TaskState>,
+    cache: WordCache,
+    wait: NodeWait,
+    signatures: Sequence<Signature>,
+    arrived: bool,
+    halted: bool,
+}
+
+impl Model for Node {
+    ghost use Rattle.registration_protocol.specs.Node.{NodeParts};
+
+    ghost Value = { NodeParts };
+
+    ghost view = { λ n. record { core = n.core.0; phase = n.phase.0; task = n.task; cache = n.cache; waiting = n.wait; signatures = n.signatures; arrived = n.arrived; halted = n.halted } };
+}
+
+/// What a message brings about that sends nothing and grants nothing.
+fn nothing() -> Received
+    ensures { result ≡ record { sent = None; granted = None } }
+{
+    Received {
+        sent: None,
+        granted: None,
+    }
+}
+
+/// What a message brings about that makes the node send a message to a core.
+fn send(core: CoreId, message: Message) -> Received
+    ensures { result ≡ record { sent = to_core core message; granted = None } }
+{
+    Received {
+        sent: Some(Outgoing {
+            to: Actor::Core(core),
+            message,
+        }),
+        granted: None,
+    }
+}
+
+/// A message to the home of the word or lock of this number.
+fn send_home(context: &Context<'_>, number: u32, message: Message) -> Outgoing
+    requires { 0 < (setting context.now).shape.banks }
+    ensures { Some result ≡ to_home (setting context.now) number message }
+{
+    Outgoing {
+        to: Actor::Bank(BankId(number % context.shape.banks)),
+        message,
+    }
+}
+
+impl Node {
+    /// The entry of a word in the node's cache; None exactly where it has none. Takes no memory.
+    pub fn entry(&self, word: WordId) -> Option<Entry>
+        ensures { result ≡ entry_of self.now word.0 }
+    {
+        self.cache.get(word)
+    }
+
+    /// Whether no entry is pending.
+    fn is_settled(&self) -> bool
+        ensures { result ≡ is_settled self.now }
+    {
+        self.cache.pending() == 0
+    }
+
+    /// Whether the node has a task that goes on.
+    fn goes_on(&self) -> bool
+        ensures { result ≡ goes_on self.now.task }
+    {
+        match &self.task {
+            Some(task) => task.end.is_none(),
+            None => false,
+        }
+    }
+
+    /// Whether the node may arrive at the barrier: it is neither halted nor has it arrived, no task of it goes on, and no
+    /// entry is pending. Takes no memory.
+    pub fn may_arrive(&self) -> bool
+        ensures { result ≡ may_arrive self.now }
+    {
+        !(self.halted || self.arrived) && !self.goes_on() && self.is_settled()
+    }
+
+    /// What the next instruction of the node's task needs; None where the node has no task that goes on.
+    fn need(&self, context: &Context<'_>) -> Option<Need>
+        ensures { result ≡ need_now (setting context.now) self.now }
+    {
+        let task = self.task.as_ref()?;
+        if task.end.is_some() {
+            return None;
+        }
+        let declared = declaration(context.program, self.phase, self.core)?;
+        Some(task.need(context.program, declared, context.fuel))
+    }
+
+    /// Whether an access of the word may go on.
+    fn may_access(&self, word: WordId) -> bool
+        ensures { result ≡ may_access self.now word.0 (entry_of self.now word.0) }
+    {
+        match self.cache.get(word) {
+            None => self.cache.room(word),
+            Some(Entry::Leaving(_)) => false,
+            Some(_) => true,
+        }
+    }
+
+    /// Whether an instruction with this need may go on.
+    fn lets(&self, need: Option<Need>) -> bool
+        ensures { result ≡ lets self.now need }
+    {
+        match need {
+            None => false,
+            Some(Need::Local | Need::End { .. } | Need::Acquire { .. }) => true,
+            Some(Need::Release { .. }) => self.is_settled(),
+            Some(Need::Load { word } | Need::Store { word, .. }) => self.may_access(word),
+        }
+    }
+
+    /// Whether the node's next instruction may go on. Takes no memory.
+    pub fn may_instr(&self, context: &Context<'_>) -> bool
+        ensures { result ≡ may_instr (setting context.now) self.now }
+    {
+        let ready = matches!(self.wait, NodeWait::None | NodeWait::Filled(_));
+        !(self.halted || self.arrived) && ready && self.lets(self.need(context))
+    }
+
+    /// The node arrives at the barrier, and tells the keeper whether its task was bad. It may. Takes no memory.
+    pub fn arrive(&mut self) -> Outgoing
+        requires { may_arrive self.old ≡ true }
+        ensures node { self.new ≡ (arrives self.old).0 }
+        ensures sent { Some result ≡ (arrives self.old).1 }
+    {
+        let bad = match &self.task {
+            Some(task) => matches!(task.end, Some(End::Fuel | End::Trap { .. })),
+            None => false,
+        };
+        self.arrived = true;
+        Outgoing {
+            to: Actor::Keeper,
+            message: Message::Arrived {
+                core: self.core,
+                bad,
+            },
+        }
+    }
+
+    /// The value of a word that the node waits for comes: it becomes a copy, where the word has no entry and its set has room.
+    fn fill(&mut self, word: WordId, value: u32)
+        ensures { self.new ≡ (fills self.old word value (entry_of self.old word.0)).0 }
+    {
+        if self.cache.get(word).is_some() {
+            return;
+        }
+        if !self.cache.room(word) {
+            return;
+        }
+        let entry = Entry::Valid {
+            value,
+            marked: false,
+        };
+        self.cache.set(word, entry);
+        self.wait = NodeWait::Filled(word);
+    }
+
+    /// The value of a word comes.
+    fn data(&mut self, word: WordId, value: u32) -> Received
+        ensures node { self.new ≡ (data_row self.old word value self.old.waiting).0 }
+        ensures received { result ≡ (data_row self.old word value self.old.waiting).1 }
+    {
+        if self.wait == NodeWait::Reading(word) {
+            self.fill(word, value);
+        }
+        nothing()
+    }
+
+    /// A read is forwarded to the node: the value goes to the reader where the node has it for sure, and else the read goes
+    /// back to the word's home.
+    fn read(&self, context: &Context<'_>, word: WordId, reader: CoreId) -> Received
+        requires { 0 < (setting context.now).shape.banks }
+        ensures { result ≡ (read_row (setting context.now) self.now word reader (entry_of self.now word.0)).1 }
+    {
+        match self.cache.get(word) {
+            Some(Entry::Registered { value, .. } | Entry::Leaving(value)) => send(
+                reader,
+                Message::DataReply { word, value },
+            ),
+            _ => Received {
+                sent: Some(send_home(context, word.0, Message::ReadReq { word, reader })),
+                granted: None,
+            },
+        }
+    }
+
+    /// Evicts a word: a copy goes, and a registered word is given back to its home.
+    fn give_up(&mut self, context: &Context<'_>, word: WordId) -> Option<Outgoing>
+        requires { 0 < (setting context.now).shape.banks }
+        ensures node { self.new ≡ (evicted (setting context.now) self.old word).0 }
+        ensures sent { result ≡ (evicted (setting context.now) self.old word).1 }
+    {
+        match self.cache.get(word) {
+            Some(Entry::Valid { .. }) => {
+                self.cache.remove(word);
+                None
+            }
+            Some(
+                Entry::Registered {
+                    value,
+                    pending: false,
+                },
+            ) => {
+                self.cache.change(word, Entry::Leaving(value));
+                let core = self.core;
+                Some(send_home(context, word.0, Message::WriteBack { word, value, core }))
+            }
+            _ => None,
+        }
+    }
+
+    /// The run is over.
+    fn halt(&mut self) -> Received
+        ensures node { self.new ≡ (if self.old.arrived then record self.old { halted = true } else self.old) }
+        ensures received { result ≡ record { sent = None; granted = None } }
+    {
+        if self.arrived {
+            self.halted = true;
+        }
+        nothing()
+    }
+
+    /// The home of a word says that the core is its registrant.
+    fn acknowledged(&mut self, word: WordId) -> Received
+        ensures node { self.new ≡ (ack_row self.old word (entry_of self.old word.0)).0 }
+        ensures received { result ≡ (ack_row self.old word (entry_of self.old word.0)).1 }
+    {
+        if let Some(
+            Entry::Registered {
+                value,
+                pending: true,
+            },
+        ) = self.cache.get(word)
+        {
+            let entry = Entry::Registered {
+                value,
+                pending: false,
+            };
+            self.cache.change(word, entry);
+        }
+        nothing()
+    }
+
+    /// Another core is the registrant of a word now.
+    fn forwarded(&mut self, word: WordId, core: CoreId) -> Received
+        ensures node { self.new ≡ (forward_row self.old word core (entry_of self.old word.0)).0 }
+        ensures received { result ≡ (forward_row self.old word core (entry_of self.old word.0)).1 }
+    {
+        if let Some(Entry::Registered { pending: false, .. }) = self.cache.get(word) {
+            self.cache.remove(word);
+        }
+        send(core, Message::RegAck { word })
+    }
+
+    /// The home of a word has had it back.
+    fn given_back(&mut self, word: WordId) -> Received
+        ensures node { self.new ≡ (gone_row self.old word (entry_of self.old word.0)).0 }
+        ensures received { result ≡ (gone_row self.old word (entry_of self.old word.0)).1 }
+    {
+        if let Some(Entry::Leaving(_)) = self.cache.get(word) {
+            self.cache.remove(word);
+        }
+        nothing()
+    }
+}
+
+/// Shows that a value goes from thread to thread.
+fn crosses<T: Send>(_value: &T) {}
+
+fn node_crosses(node: &Node) {
+    crosses(node);
+}
