@@ -1,4 +1,5 @@
 pub mod Node
+pub mod Fit
 pub mod OwnEvents
 pub mod Messages
 pub mod Setting

@@ -59,12 +59,12 @@ abbrev pub need_by : Setting → Option TaskDecl → TaskState → Option Need
 need_by C None t = None
 need_by C (Some d) t = Some (need_of C.program d C.fuel t)
 
-abbrev pub need_if : Setting → NodeParts → Option TaskState → Option Need
-need_if C n None = None
-need_if C n (Some t) = if is_some t.end then None else need_by C (declared C.program n.phase n.core) t
+abbrev pub need_if : Setting → ℕ → ℕ → Option TaskState → Option Need
+need_if C phase core None = None
+need_if C phase core (Some t) = if is_some t.end then None else need_by C (declared C.program phase core) t
 
 abbrev pub need_now : Setting → NodeParts → Option Need
-need_now C n = need_if C n n.task
+need_now C n = need_if C n.phase n.core n.task
 
 -- the entry of a word
 abbrev pub entry_of : NodeParts → ℕ → Option Entry

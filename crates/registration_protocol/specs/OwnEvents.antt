@@ -11,6 +11,9 @@ use Rattle.rv_core.specs.declared.task.End as cause
 use Rattle.rv_core.specs.declared.task.End.{End}
 use Rattle.rv_core.specs.declared.need.Need as need
 use Rattle.rv_core.specs.declared.need.Need.{Need}
+use Rattle.rv_core.specs.declared.ending.EndShown as shown
+use Rattle.rv_core.specs.declared.ending.EndShown.{EndShown}
+use Rattle.rv_core.specs.declared.ending.TaskEnd.{TaskEnd}
 use Rattle.rv_core.specs.Access.{holds as is_held}
 use Rattle.rv_core.specs.Step.{advanced, loaded_of, merged_of}
 use Rattle.rv_core.specs.Task.{stopped}
@@ -18,12 +21,15 @@ use Rattle.write_signature.specs.declared.signature.Signature.{Signature}
 use Rattle.write_signature.specs.Signature.{empty, inserted}
 use Rattle.message_net.specs.declared.message.Message.TheVariants.{ReadReq, RegReq, WriteBack, Acquire, Release, Arrived}
 use Rattle.message_net.specs.declared.message.Outgoing.{Outgoing}
+use Rattle.message_net.specs.declared.event.Event as event
+use Rattle.message_net.specs.declared.event.Event.{Event}
 use Rattle.word_cache.specs.declared.row.Entry.{Entry}
 use Rattle.word_cache.specs.declared.row.Entry.TheVariants.{Valid, Registered, Leaving}
-use Rattle.word_cache.specs.Cache.{Cache, has_room, put, changed, touched, without, is_evictable}
+use Rattle.word_cache.specs.Cache.{Cache, has_room, put, changed, touched, without, is_evictable, victim_of}
 use Rattle.registration_protocol.specs.declared.node.NodeWait as wait
+use Rattle.registration_protocol.specs.declared.node.NodeWait.{NodeWait}
 use Rattle.registration_protocol.specs.declared.node.Step.{Step}
-use Rattle.registration_protocol.specs.Node.{NodeParts, Setting, goes_on, need_now, entry_of, is_settled, is_active, is_ready, waits_for_nothing, to_home, to_keeper}
+use Rattle.registration_protocol.specs.Node.{NodeParts, Setting, declared, goes_on, need_now, entry_of, is_settled, is_active, is_ready, waits_for_nothing, to_home, to_keeper}
 
 -- whether an access of a word may go on, by its entry: it stalls while the word is leaving, and where there is no entry it
 -- needs room
@@ -98,16 +104,21 @@ misses C n word = sends (record n { waiting = wait.TheVariants.Reading word }) (
 abbrev pub loads : Setting → NodeParts → TaskDecl → TaskState → WordId → Option Entry → NodeParts × Step
 loads C n d t word None = misses C n word
 loads C n d t word (Some (Valid value marked)) =
-    sees (record (retires n (loaded_of C.program value t)) { cache = record n.cache { pairs = touched word (changed word.0 (Valid value (marked || uses_plainly d word.0)) n.cache.pairs) } }) word value
+    sees (record (retires n (loaded_of C.program value t)) { cache = with_put n word (Valid value (marked || uses_plainly d word.0)) }) word value
 loads C n d t word (Some (Registered value pending)) =
     sees (record (retires n (loaded_of C.program value t)) { cache = record n.cache { pairs = touched word n.cache.pairs } }) word value
 loads C n d t word (Some (Leaving value)) = silent n
 
--- the signatures after a store to a word: those of the held locks that guard the word for the task's stores have it then
+-- the signature of a lock after a store to a word: it has the word then where the task holds the lock and the lock guards the
+-- word for the task's stores
+abbrev pub noted_at : TaskDecl → ℕ → ℕ → ℕ → ℕ → Signature → Signature
+noted_at d held w phase lock s =
+    if is_held held lock && has (slice_index_or d.effects.guarded_writes lock []) w then inserted s w phase else s
+
+-- the signatures of the locks from `lock` on
 abbrev pub noted : TaskDecl → ℕ → ℕ → ℕ → ℕ → List Signature → List Signature
-noted d held w phase l [] = []
-noted d held w phase l (s ∷ ss) =
-    (if is_held held l && has (slice_index_or d.effects.guarded_writes l []) w then inserted s w phase else s) ∷ noted d held w phase (l + 1) ss
+noted d held w phase lock [] = []
+noted d held w phase lock (s ∷ ss) = noted_at d held w phase lock s ∷ noted d held w phase (lock + 1) ss
 
 -- a store retires, and its word has this entry
 abbrev pub stored : Setting → NodeParts → TaskDecl → TaskState → WordId → Entry → NodeParts
@@ -137,6 +148,14 @@ instr_row C n d t (need.TheVariants.Acquire lock) =
 instr_row C n d t (need.TheVariants.Release lock) =
     sends (record n { task = Some (advanced C.program t) }) (to_home C lock.0 (Release lock (me n) (slice_index_or n.signatures lock.0 (empty n.phase))))
 
+-- an instruction of a task that goes on
+abbrev pub instr_by : Setting → NodeParts → Option TaskDecl → Option TaskState → Option Need → NodeParts × Step
+instr_by C n (Some d) (Some t) (Some need) = instr_row C n d t need
+instr_by C n _ _ _ = silent n
+
+abbrev pub instructed : Setting → NodeParts → NodeParts × Step
+instructed C n = instr_by C n (declared C.program n.phase n.core) n.task (need_now C n)
+
 -- an eviction, by the entry of the word
 abbrev pub evicts : Setting → NodeParts → WordId → Option Entry → NodeParts × Option Outgoing
 evicts C n word (Some (Valid value marked)) = (record n { cache = record n.cache { pairs = without word.0 n.cache.pairs } }, None)
@@ -160,3 +179,43 @@ is_bad (Some t) = ended_badly t.end
 -- the arrival at the barrier
 abbrev pub arrives : NodeParts → NodeParts × Option Outgoing
 arrives n = (record n { arrived = true }, to_keeper (Arrived (me n) (is_bad n.task)))
+
+-- the cache's victim for the wanted word, if there is one
+abbrev pub victim_for : NodeParts → Option WordId → Option WordId
+victim_for n None = None
+victim_for n (Some wanted) = victim_of n.cache wanted.0
+
+abbrev pub eviction_of : Setting → NodeParts → Option WordId → Option Event
+eviction_of C n None = None
+eviction_of C n (Some victim) = if may_evict C n victim.0 then Some (event.TheVariants.Evict (me n) victim) else None
+
+abbrev pub eviction : Setting → NodeParts → Option Event
+eviction C n = eviction_of C n (victim_for n (wanted_by n (need_now C n)))
+
+abbrev pub arrival : NodeParts → Option Event
+arrival n = if may_arrive n then Some (event.TheVariants.Arrive (me n)) else None
+
+abbrev pub first_of : Option Event → Option Event → Option Event
+first_of None e = e
+first_of (Some a) e = Some a
+
+-- the node's next event by itself: its instruction where it may go on, else the eviction of the cache's victim, else its
+-- arrival
+abbrev pub own_event : Setting → NodeParts → Option Event
+own_event C n = if may_instr C n then Some (event.TheVariants.Instr (me n)) else first_of (eviction C n) (arrival n)
+
+-- how a task stands: how it ended, or which lock it waits for; None where it goes on and waits for none
+abbrev pub shown_by : Option End → NodeWait → Option EndShown
+shown_by (Some cause.TheVariants.Finished) waiting = Some shown.TheVariants.Finished
+shown_by (Some cause.TheVariants.Fuel) waiting = Some shown.TheVariants.Fuel
+shown_by (Some (cause.TheVariants.Trap kind pc value)) waiting = Some (shown.TheVariants.Trap kind pc value)
+shown_by None (wait.TheVariants.Locking lock) = Some (shown.TheVariants.Waits lock)
+shown_by None _ = None
+
+abbrev pub end_by : NodeParts → TaskState → Option EndShown → Option TaskEnd
+end_by n t None = None
+end_by n t (Some e) = Some (record { phase = record { 0 = n.phase }; core = me n; end = e; retired = t.retired })
+
+abbrev pub end_of : NodeParts → Option TaskState → Option TaskEnd
+end_of n None = None
+end_of n (Some t) = end_by n t (shown_by t.end n.waiting)

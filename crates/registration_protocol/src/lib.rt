@@ -3,8 +3,14 @@
 //! and signatures DeNovoND's (ASPLOS 2013); what is finer is this project's own.
 #![tactic(auto)]
 
+mod instr;
 mod node;
+mod own;
+mod receive;
 mod setting;
+mod signatures;
+#[cfg(test)]
+mod tests;
 
 pub use node::{Node, NodeWait, Received, Step};
 pub use setting::Context;

@@ -1,13 +1,16 @@
-ghost use Rattle.std.specs.Prelude.{◌≡◌, ◌<◌, true, Some, None, if◌then◌else◌};
-ghost use Rattle.registration_protocol.specs.Node.{NodeParts, need_now, entry_of, is_settled, goes_on, to_core, to_home};
+ghost use Rattle.std.specs.Prelude.{◌≡◌, ◌<◌, true, Some, None, IfOk, if◌then◌else◌};
+ghost use Rattle.registration_protocol.specs.Node.{NodeParts, Setting, opened, need_now, entry_of, is_settled, goes_on, to_core, to_home};
+ghost use Rattle.registration_protocol.specs.Fit.{IsContext, Fits};
 ghost use Rattle.registration_protocol.specs.Setting.{setting};
 ghost use Rattle.registration_protocol.specs.OwnEvents.{may_access, lets, may_instr, may_arrive, arrives, evicted};
 ghost use Rattle.registration_protocol.specs.Messages.{fills, read_row, data_row, ack_row, forward_row, gone_row};
 
-use crate::setting::{Context, declaration};
-use dn_base::{BankId, CoreId, Grant, LoadSeen, LockId, PhaseId, Sequence, WordId};
+use crate::setting::{Context, declaration, start};
+use crate::signatures::empty_signatures;
+use dn_base::{BankId, CoreId, Grant, LoadSeen, LockId, Memory, PhaseId, Sequence, WordId};
 use message_net::{Actor, Message, Outgoing};
 use rv_core::{End, Need, TaskState};
+use std::alloc::Global;
 use std::marker::Model;
 use word_cache::{Entry, WordCache};
 use write_signature::Signature;
@@ -42,14 +45,14 @@ pub struct Received {
 /// A core with its task, its cache, its wait, a signature for each lock, and its marks.
 #[derive(Drop)]
 pub struct Node {
-    core: CoreId,
-    phase: PhaseId,
-    task: Option<TaskState>,
-    cache: WordCache,
-    wait: NodeWait,
-    signatures: Sequence<Signature>,
-    arrived: bool,
-    halted: bool,
+    pub(crate) core: CoreId,
+    pub(crate) phase: PhaseId,
+    pub(crate) task: Option<TaskState>,
+    pub(crate) cache: WordCache,
+    pub(crate) wait: NodeWait,
+    pub(crate) signatures: Sequence<Signature>,
+    pub(crate) arrived: bool,
+    pub(crate) halted: bool,
 }
 
 impl Model for Node {
@@ -61,7 +64,7 @@ impl Model for Node {
 }
 
 /// What a message brings about that sends nothing and grants nothing.
-fn nothing() -> Received
+pub(crate) fn nothing() -> Received
     ensures { result ≡ record { sent = None; granted = None } }
 {
     Received {
@@ -84,7 +87,7 @@ fn send(core: CoreId, message: Message) -> Received
 }
 
 /// A message to the home of the word or lock of this number.
-fn send_home(context: &Context<'_>, number: u32, message: Message) -> Outgoing
+pub(crate) fn send_home(context: &Context<'_>, number: u32, message: Message) -> Outgoing
     requires { 0 < (setting context.now).shape.banks }
     ensures { Some result ≡ to_home (setting context.now) number message }
 {
@@ -95,6 +98,30 @@ fn send_home(context: &Context<'_>, number: u32, message: Message) -> Outgoing
 }
 
 impl Node {
+    /// The node of a core as a run begins: in phase 0 with its task, or halted where the program has no phases. The core is
+    /// below the cores of the context's shape.
+    ///
+    /// # Errors
+    /// `Memory` where there is no room.
+    pub fn new(alloc: Global, core: CoreId, context: &Context<'_>) -> Result<Node, Memory>
+        requires context { IsContext (setting context.now) }
+        requires core { core.0 < (setting context.now).shape.cores }
+        ensures node { IfOk result (λ n. n ≡ opened (setting context.now) core.0) }
+        ensures fits { IfOk result (Fits (setting context.now)) }
+    {
+        let program = context.program;
+        Ok(Node {
+            core,
+            phase: PhaseId(0),
+            task: start(program, PhaseId(0), core),
+            cache: WordCache::new(alloc, context.shape.sets, context.shape.ways)?,
+            wait: NodeWait::None,
+            signatures: empty_signatures(alloc, program.locks.len())?,
+            arrived: false,
+            halted: program.phases.len() == 0,
+        })
+    }
+
     /// The entry of a word in the node's cache; None exactly where it has none. Takes no memory.
     pub fn entry(&self, word: WordId) -> Option<Entry>
         ensures { result ≡ entry_of self.now word.0 }
@@ -103,14 +130,14 @@ impl Node {
     }
 
     /// Whether no entry is pending.
-    fn is_settled(&self) -> bool
+    pub(crate) fn is_settled(&self) -> bool
         ensures { result ≡ is_settled self.now }
     {
         self.cache.pending() == 0
     }
 
     /// Whether the node has a task that goes on.
-    fn goes_on(&self) -> bool
+    pub(crate) fn goes_on(&self) -> bool
         ensures { result ≡ goes_on self.now.task }
     {
         match &self.task {
@@ -128,7 +155,7 @@ impl Node {
     }
 
     /// What the next instruction of the node's task needs; None where the node has no task that goes on.
-    fn need(&self, context: &Context<'_>) -> Option<Need>
+    pub(crate) fn need(&self, context: &Context<'_>) -> Option<Need>
         ensures { result ≡ need_now (setting context.now) self.now }
     {
         let task = self.task.as_ref()?;
@@ -175,6 +202,7 @@ impl Node {
         requires { may_arrive self.old ≡ true }
         ensures node { self.new ≡ (arrives self.old).0 }
         ensures sent { Some result ≡ (arrives self.old).1 }
+        ensures fits { (C : Setting) → Fits C self.old → Fits C self.new }
     {
         let bad = match &self.task {
             Some(task) => matches!(task.end, Some(End::Fuel | End::Trap { .. })),
@@ -209,7 +237,7 @@ impl Node {
     }
 
     /// The value of a word comes.
-    fn data(&mut self, word: WordId, value: u32) -> Received
+    pub(crate) fn data(&mut self, word: WordId, value: u32) -> Received
         ensures node { self.new ≡ (data_row self.old word value self.old.waiting).0 }
         ensures received { result ≡ (data_row self.old word value self.old.waiting).1 }
     {
@@ -221,7 +249,7 @@ impl Node {
 
     /// A read is forwarded to the node: the value goes to the reader where the node has it for sure, and else the read goes
     /// back to the word's home.
-    fn read(&self, context: &Context<'_>, word: WordId, reader: CoreId) -> Received
+    pub(crate) fn read(&self, context: &Context<'_>, word: WordId, reader: CoreId) -> Received
         requires { 0 < (setting context.now).shape.banks }
         ensures { result ≡ (read_row (setting context.now) self.now word reader (entry_of self.now word.0)).1 }
     {
@@ -238,7 +266,7 @@ impl Node {
     }
 
     /// Evicts a word: a copy goes, and a registered word is given back to its home.
-    fn give_up(&mut self, context: &Context<'_>, word: WordId) -> Option<Outgoing>
+    pub(crate) fn give_up(&mut self, context: &Context<'_>, word: WordId) -> Option<Outgoing>
         requires { 0 < (setting context.now).shape.banks }
         ensures node { self.new ≡ (evicted (setting context.now) self.old word).0 }
         ensures sent { result ≡ (evicted (setting context.now) self.old word).1 }
@@ -263,7 +291,7 @@ impl Node {
     }
 
     /// The run is over.
-    fn halt(&mut self) -> Received
+    pub(crate) fn halt(&mut self) -> Received
         ensures node { self.new ≡ (if self.old.arrived then record self.old { halted = true } else self.old) }
         ensures received { result ≡ record { sent = None; granted = None } }
     {
@@ -274,7 +302,7 @@ impl Node {
     }
 
     /// The home of a word says that the core is its registrant.
-    fn acknowledged(&mut self, word: WordId) -> Received
+    pub(crate) fn acknowledged(&mut self, word: WordId) -> Received
         ensures node { self.new ≡ (ack_row self.old word (entry_of self.old word.0)).0 }
         ensures received { result ≡ (ack_row self.old word (entry_of self.old word.0)).1 }
     {
@@ -295,7 +323,7 @@ impl Node {
     }
 
     /// Another core is the registrant of a word now.
-    fn forwarded(&mut self, word: WordId, core: CoreId) -> Received
+    pub(crate) fn forwarded(&mut self, word: WordId, core: CoreId) -> Received
         ensures node { self.new ≡ (forward_row self.old word core (entry_of self.old word.0)).0 }
         ensures received { result ≡ (forward_row self.old word core (entry_of self.old word.0)).1 }
     {
@@ -306,7 +334,7 @@ impl Node {
     }
 
     /// The home of a word has had it back.
-    fn given_back(&mut self, word: WordId) -> Received
+    pub(crate) fn given_back(&mut self, word: WordId) -> Received
         ensures node { self.new ≡ (gone_row self.old word (entry_of self.old word.0)).0 }
         ensures received { result ≡ (gone_row self.old word (entry_of self.old word.0)).1 }
     {

@@ -1,11 +1,12 @@
-ghost use Rattle.std.specs.Prelude.{◌≡◌};
+ghost use Rattle.std.specs.Prelude.{◌≡◌, ◌≤◌, length};
 ghost use Rattle.std.specs.List.{find};
-ghost use Rattle.std.specs.Option.{option_copied};
+ghost use Rattle.std.specs.Option.{option_copied, option_map};
+ghost use Rattle.rv_core.specs.Task.{started};
 ghost use Rattle.registration_protocol.specs.Node.{declared, is_for};
-ghost use Rattle.registration_protocol.specs.Setting.{setting};
 
 use dn_base::{CoreId, PhaseId, Shape};
 use region_table::{PhasePlan, Program, TaskDecl};
+use rv_core::TaskState;
 
 /// What a node's calls are told: the program, the plans of its phases, the machine's size, and how many instructions a task
 /// may retire.
@@ -30,7 +31,9 @@ fn find_in(tasks: &[TaskDecl], core: CoreId) -> Option<&TaskDecl>
 
 /// The task that the program declares for the core in the phase, if it does.
 pub(crate) fn declaration(program: &Program, phase: PhaseId, core: CoreId) -> Option<&TaskDecl>
-    ensures { option_copied result ≡ declared program.now phase.0 core.0 }
+    ensures value { option_copied result ≡ declared program.now phase.0 core.0 }
+    ensures locks { length program.now.locks ≤ 32 }
+    ensures phases { length program.now.phases ≤ 64 }
 {
     match program.phases.get(phase.0 as usize) {
         Some(phase) => find_in(phase.tasks.as_slice(), core),
@@ -38,11 +41,14 @@ pub(crate) fn declaration(program: &Program, phase: PhaseId, core: CoreId) -> Op
     }
 }
 
-/// The fuel of a context.
-pub(crate) fn fuel_of(context: &Context<'_>) -> u32
-    ensures { result ≡ (setting context.now).fuel }
+/// The task of the core in the phase at its start, if it has one.
+pub(crate) fn start(program: &Program, phase: PhaseId, core: CoreId) -> Option<TaskState>
+    ensures { result ≡ option_map started (declared program.now phase.0 core.0) }
 {
-    context.fuel
+    match declaration(program, phase, core) {
+        Some(task) => Some(TaskState::new(task)),
+        None => None,
+    }
 }
 
 /// Shows that a value goes from thread to thread, and may be shared.

@@ -1,0 +1,431 @@
+-- A node fits its context, whatever it does.
+use Rattle.std.proofs.Common.{◌≡◌, ◌↔◌, ℕ, ◌+◌, ◌^◌, ◌<◌, ◌≤◌, Bool, true, false, cond, ◌&&◌, not, ◌==◌, nat_lt, List, [], ◌∷◌, length, slice_index_or, slice_set, Option, Some, None, IfSome, refl, sym, ap, ◌∙◌, subst, ⊎_elim, bit_and, bit_or, bit_xor, arith}
+use Rattle.std.proofs.Math.ListN.{replicate}
+use Rattle.std.proofs.lemmas.Bool.{false≢true, and_parts, cases_eq}
+use Rattle.std.proofs.lemmas.Bool.Decides.{nat_tests}
+use Rattle.std.proofs.lemmas.List.{length-replicate}
+use Rattle.std.proofs.Math.ListN.{length-set}
+use Rattle.std.proofs.lemmas.Nat.{and_or_apart, and_xor_apart, pow_apart}
+use Rattle.std.specs.Int.Bits.{and_zero_l}
+use Rattle.std.specs.Option.{is_some, option_map}
+use Rattle.dn_base.specs.declared.ids.WordId.{WordId}
+use Rattle.dn_base.specs.declared.ids.CoreId.{CoreId}
+use Rattle.dn_base.specs.declared.ids.LockId.{LockId}
+use Rattle.region_table.specs.Program.{ProgramParts}
+use Rattle.region_table.specs.declared.declared.TaskDecl.{TaskDecl}
+use Rattle.rv_core.specs.declared.task.TaskState.{TaskState}
+use Rattle.rv_core.specs.declared.task.End as cause
+use Rattle.rv_core.specs.declared.task.End.{End}
+use Rattle.rv_core.specs.declared.need.Need as need
+use Rattle.rv_core.specs.declared.need.Need.{Need}
+use Rattle.rv_core.specs.Access.{holds}
+use Rattle.rv_core.specs.Kinds.{IsLoad, IsStore, IsAdvance, EndsByFuel, Tells}
+use Rattle.rv_core.specs.Need.{need_of}
+use Rattle.rv_core.specs.Step.{advanced, loaded_of, merged_of}
+use Rattle.rv_core.specs.Task.{started, stopped}
+use Rattle.rv_core.proofs.Needs.{need-allowed, need-fuel, advance-tells, load-tells}
+use Rattle.write_signature.specs.declared.signature.Signature.{Signature}
+use Rattle.write_signature.specs.Signature.{empty}
+use Rattle.message_net.specs.declared.message.Message as message
+use Rattle.message_net.specs.declared.message.Message.{Message}
+use Rattle.word_cache.specs.declared.row.Entry.{Entry}
+use Rattle.word_cache.specs.declared.row.Entry.TheVariants.{Valid, Registered, Leaving}
+use Rattle.word_cache.specs.Cache.{Pair, has_room, put, touched}
+use Rattle.registration_protocol.specs.declared.node.NodeWait as wait
+use Rattle.registration_protocol.specs.declared.node.NodeWait.{NodeWait}
+use Rattle.registration_protocol.specs.declared.node.Received.{Received}
+use Rattle.registration_protocol.specs.Node.{NodeParts, Setting, declared, need_now, need_if, need_by, entry_of, is_ready}
+use Rattle.registration_protocol.specs.Fit.{IsContext, Fits, HoldsOwn, NeedsLock}
+use Rattle.registration_protocol.specs.OwnEvents.{noted, misses, loads, stores, registers, stored, instr_row, instr_by, instructed, may_instr, evicts, evicted, arrives}
+use Rattle.registration_protocol.specs.Messages.{fills, data_row, ack_row, forward_row, read_row, gone_row, granted_to, holds_now, grant_row, begins, go_row, node_gets, guarded_by, of_phase}
+use Rattle.registration_protocol.proofs.SignatureLemmas.{length-noted}
+
+-- ---- a node of which one part changes
+
+pub with_pairs : (C : Setting) (n : NodeParts) (ps : List Pair) → Fits C n → Fits C (record n { cache = record n.cache { pairs = ps } })
+with_pairs C n ps fit =
+    record {
+      core = fit.core;
+      phase = fit.phase;
+      task = fit.task;
+      retired = fit.retired;
+      held = fit.held;
+      signatures = fit.signatures;
+      sets = fit.sets;
+      ways = fit.ways;
+      waiting = fit.waiting;
+    }
+
+pub with_wait : (C : Setting) (n : NodeParts) (w : NodeWait) → NeedsLock (need_now C n) w → Fits C n → Fits C (record n { waiting = w })
+with_wait C n w needs fit =
+    record {
+      core = fit.core;
+      phase = fit.phase;
+      task = fit.task;
+      retired = fit.retired;
+      held = fit.held;
+      signatures = fit.signatures;
+      sets = fit.sets;
+      ways = fit.ways;
+      waiting = needs;
+    }
+
+pub with_arrived : (C : Setting) (n : NodeParts) (arrived : Bool) → Fits C n → Fits C (record n { arrived = arrived })
+with_arrived C n arrived fit =
+    record {
+      core = fit.core;
+      phase = fit.phase;
+      task = fit.task;
+      retired = fit.retired;
+      held = fit.held;
+      signatures = fit.signatures;
+      sets = fit.sets;
+      ways = fit.ways;
+      waiting = fit.waiting;
+    }
+
+pub with_halted : (C : Setting) (n : NodeParts) → Fits C n → Fits C (record n { halted = true })
+with_halted C n fit =
+    record {
+      core = fit.core;
+      phase = λ e. absurd (cc);
+      task = fit.task;
+      retired = fit.retired;
+      held = fit.held;
+      signatures = fit.signatures;
+      sets = fit.sets;
+      ways = fit.ways;
+      waiting = fit.waiting;
+    }
+
+-- what a task must be for its node to fit
+pub record IsFine (C : Setting) (t : TaskState) : Type 0 where
+  pub retired : t.retired ≤ C.fuel
+  pub held : HoldsOwn (length C.program.locks) t
+
+pub with_task : (C : Setting) (n : NodeParts) (t : TaskState) (w : NodeWait) (ps : List Pair) (ss : List Signature) → Fits C n → is_some n.task ≡ true → IsFine C t
+    → ((x : Option Need) → NeedsLock x w) → length ss ≡ length n.signatures
+    → Fits C (record n { task = Some t; waiting = w; cache = record n.cache { pairs = ps }; signatures = ss })
+with_task C n t w ps ss fit has fine free same =
+    record {
+      core = fit.core;
+      phase = fit.phase;
+      task = sym has ∙ fit.task;
+      retired = fine.retired;
+      held = fine.held;
+      signatures = same ∙ fit.signatures;
+      sets = fit.sets;
+      ways = fit.ways;
+      waiting = free (need_if C n.phase n.core (Some t));
+    }
+
+ready_needs : (w : NodeWait) (x : Option Need) → is_ready w ≡ true → NeedsLock x w
+ready_needs wait.TheVariants.None x e = tt
+ready_needs (wait.TheVariants.Reading word) x e = tt
+ready_needs (wait.TheVariants.Filled word) x e = tt
+ready_needs (wait.TheVariants.Locking lock) x e = absurd (cc)
+
+-- ---- what is held after an instruction
+
+held_same : (locks : ℕ) (t next : TaskState) → next.held ≡ t.held → HoldsOwn locks t → HoldsOwn locks next
+held_same locks t next same own = λ l h. own l (subst (λ (x : ℕ). holds x l ≡ true) same h)
+
+held_more : (locks lock : ℕ) (t next : TaskState) → lock < locks → next.held ≡ bit_or t.held (2 ^ lock) → HoldsOwn locks t → HoldsOwn locks next
+held_more locks lock t next within e own =
+    λ k h.
+    ⊎_elim (λ (same : k ≡ lock). subst (λ (x : ℕ). x < locks) (sym same) within)
+    (λ (apart : k ≡ lock → ⊥).
+    let now : holds (bit_or t.held (2 ^ lock)) k ≡ true = subst (λ (x : ℕ). holds x k ≡ true) e h in
+    own k (ap (nat_lt 0) (sym (and_or_apart (2 ^ k) t.held (2 ^ lock) (pow_apart lock k (λ s. apart (sym s))))) ∙ now))
+    (cases_eq k lock)
+
+held_less : (locks lock : ℕ) (t next : TaskState) → holds t.held lock ≡ true → next.held ≡ bit_xor t.held (2 ^ lock) → HoldsOwn locks t → HoldsOwn locks next
+held_less locks lock t next there e own =
+    λ k h.
+    ⊎_elim (λ (same : k ≡ lock). own k (subst (λ (x : ℕ). holds t.held x ≡ true) (sym same) there))
+    (λ (apart : k ≡ lock → ⊥).
+    let now : holds (bit_xor t.held (2 ^ lock)) k ≡ true = subst (λ (x : ℕ). holds x k ≡ true) e h in
+    own k (ap (nat_lt 0) (sym (and_xor_apart (2 ^ k) t.held (2 ^ lock) (pow_apart lock k (λ s. apart (sym s))))) ∙ now))
+    (cases_eq k lock)
+
+held_told : (P : ProgramParts) (d : TaskDecl) (t next : TaskState) (n : Need) → Tells P d t next n → IsAdvance n → HoldsOwn (length P.locks) t → HoldsOwn (length P.locks) next
+held_told P d t next need.TheVariants.Local tells k own = held_same _ t next tells own
+held_told P d t next (need.TheVariants.Load word) tells k own = absurd k
+held_told P d t next (need.TheVariants.Store word whole) tells k own = held_same _ t next tells.2 own
+held_told P d t next (need.TheVariants.Acquire lock) tells k own = held_more _ lock.0 t next tells.0 tells.2 own
+held_told P d t next (need.TheVariants.Release lock) tells k own = held_less _ lock.0 t next tells.1 tells.2 own
+held_told P d t next (need.TheVariants.End cause) tells k own = absurd k
+
+-- a task with a need but the end by Fuel has fuel left
+fuel_left : (P : ProgramParts) (d : TaskDecl) (fuel : ℕ) (t : TaskState) (n : Need) → need_of P d fuel t ≡ n → (EndsByFuel n → ⊥) → t.retired ≤ fuel → t.retired + 1 ≤ fuel
+fuel_left P d fuel t n is unspent within =
+    let apart : t.retired ≡ fuel → ⊥ = λ e. unspent (subst EndsByFuel is ((need-fuel P d fuel t).1 e)) in
+    grind (arith, apart)
+
+advanced-retires : (P : ProgramParts) (d : TaskDecl) (fuel : ℕ) (t : TaskState) → IsAdvance (need_of P d fuel t) → (advanced P t).retired ≡ t.retired + 1
+unfolding advanced
+advanced-retires P d fuel t k = (advance-tells P d fuel t k).retires
+
+pub advanced-fine : (C : Setting) (d : TaskDecl) (t : TaskState) (n : Need) → need_of C.program d C.fuel t ≡ n → IsAdvance n → (EndsByFuel n → ⊥) → IsFine C t → IsFine C (advanced C.program t)
+advanced-fine C d t n is k unspent fine =
+    let tells = subst (Tells C.program d t (advanced C.program t)) is (need-allowed C.program d C.fuel t) in
+    record {
+      retired =
+          let once = advanced-retires C.program d C.fuel t (subst IsAdvance (sym is) k) in
+          let left = fuel_left C.program d C.fuel t n is unspent fine.retired in
+          omega arith;
+      held = held_told C.program d t (advanced C.program t) n tells k fine.held;
+    }
+loaded-fine : (C : Setting) (d : TaskDecl) (t : TaskState) (value : ℕ) (word : WordId) → need_of C.program d C.fuel t ≡ need.TheVariants.Load word → IsFine C t → IsFine C (loaded_of C.program value t)
+unfolding loaded_of
+loaded-fine C d t value word is fine =
+    let told = load-tells C.program d C.fuel t value (subst IsLoad (sym is) tt) in
+    let left = fuel_left C.program d C.fuel t _ is (λ x. x) fine.retired in
+    let once = told.retires in
+    record {
+      retired = omega arith;
+      held = held_same _ t (loaded_of C.program value t) told.held fine.held;
+    }
+
+stopped-fine : (C : Setting) (d : TaskDecl) (t : TaskState) (by : End) → need_of C.program d C.fuel t ≡ need.TheVariants.End by → IsFine C t → IsFine C (stopped by t)
+stopped-fine C d t cause.TheVariants.Finished is fine =
+    record { retired = fuel_left C.program d C.fuel t _ is (λ x. x) fine.retired; held = fine.held }
+stopped-fine C d t cause.TheVariants.Fuel is fine = record { retired = fine.retired; held = fine.held }
+stopped-fine C d t (cause.TheVariants.Trap kind pc value) is fine = record { retired = fine.retired; held = fine.held }
+
+-- ---- an instruction
+
+-- what is known of a node whose task has a need
+pub record HasNeed (C : Setting) (n : NodeParts) (d : TaskDecl) (t : TaskState) (x : Need) : Type 0 where
+  pub task : n.task ≡ Some t
+  pub needs : need_of C.program d C.fuel t ≡ x
+  pub now : need_now C n ≡ Some x
+  pub fine : IsFine C t
+  pub ready : is_ready n.waiting ≡ true
+
+has_task : (C : Setting) (n : NodeParts) (d : TaskDecl) (t : TaskState) (x : Need) → HasNeed C n d t x → is_some n.task ≡ true
+has_task C n d t x has = ap is_some has.task
+
+load_fits : (C : Setting) (n : NodeParts) (d : TaskDecl) (t : TaskState) (word : WordId) (e : Option Entry) → Fits C n → HasNeed C n d t (need.TheVariants.Load word)
+    → Fits C (loads C n d t word e).0
+load_fits C n d t word None fit has = with_wait C n (wait.TheVariants.Reading word) tt fit
+load_fits C n d t word (Some (Valid value marked)) fit has =
+    with_task C n _ wait.TheVariants.None _ n.signatures fit (has_task C n d t _ has) (loaded-fine C d t value word has.needs has.fine) (λ x. tt) refl
+load_fits C n d t word (Some (Registered value pending)) fit has =
+    with_task C n _ wait.TheVariants.None _ n.signatures fit (has_task C n d t _ has) (loaded-fine C d t value word has.needs has.fine) (λ x. tt) refl
+load_fits C n d t word (Some (Leaving value)) fit has = fit
+
+stored_fits : (C : Setting) (n : NodeParts) (d : TaskDecl) (t : TaskState) (word : WordId) (whole : Bool) (e : Entry) → Fits C n → HasNeed C n d t (need.TheVariants.Store word whole)
+    → Fits C (stored C n d t word e)
+stored_fits C n d t word whole e fit has =
+    with_task C n _ wait.TheVariants.None _ (noted d t.held word.0 n.phase 0 n.signatures) fit (has_task C n d t _ has)
+    (advanced-fine C d t _ has.needs tt (λ x. x) has.fine) (λ x. tt) (length-noted d t.held word.0 n.phase 0 n.signatures)
+
+store_fits : (C : Setting) (n : NodeParts) (d : TaskDecl) (t : TaskState) (word : WordId) (whole all : Bool) (e : Option Entry) → Fits C n → HasNeed C n d t (need.TheVariants.Store word all)
+    → Fits C (stores C n d t word whole e).0
+store_fits C n d t word true all None fit has = stored_fits C n d t word all _ fit has
+store_fits C n d t word false all None fit has = with_wait C n (wait.TheVariants.Reading word) tt fit
+store_fits C n d t word whole all (Some (Valid value marked)) fit has = stored_fits C n d t word all _ fit has
+store_fits C n d t word whole all (Some (Registered value pending)) fit has = stored_fits C n d t word all _ fit has
+store_fits C n d t word whole all (Some (Leaving value)) fit has = fit
+
+row_fits : (C : Setting) (n : NodeParts) (d : TaskDecl) (t : TaskState) (x : Need) → Fits C n → HasNeed C n d t x → Fits C (instr_row C n d t x).0
+row_fits C n d t need.TheVariants.Local fit has =
+    with_task C n _ n.waiting n.cache.pairs n.signatures fit (has_task C n d t _ has) (advanced-fine C d t _ has.needs tt (λ x. x) has.fine) (λ x. ready_needs n.waiting x has.ready) refl
+row_fits C n d t (need.TheVariants.End by) fit has =
+    with_task C n _ n.waiting n.cache.pairs n.signatures fit (has_task C n d t _ has) (stopped-fine C d t by has.needs has.fine) (λ x. ready_needs n.waiting x has.ready) refl
+row_fits C n d t (need.TheVariants.Load word) fit has = load_fits C n d t word (entry_of n word.0) fit has
+row_fits C n d t (need.TheVariants.Store word whole) fit has = store_fits C n d t word whole whole (entry_of n word.0) fit has
+row_fits C n d t (need.TheVariants.Acquire lock) fit has = with_wait C n (wait.TheVariants.Locking lock) has.now fit
+row_fits C n d t (need.TheVariants.Release lock) fit has =
+    with_task C n _ n.waiting n.cache.pairs n.signatures fit (has_task C n d t _ has) (advanced-fine C d t _ has.needs tt (λ x. x) has.fine) (λ x. ready_needs n.waiting x has.ready) refl
+
+-- the need of a task that goes on
+going_needs : (e : Option End) (x y : Need) → cond (is_some e) None (Some x) ≡ Some y → x ≡ y
+going_needs None x y same = cc
+going_needs (Some by) x y same = absurd (cc)
+
+pub now-need : (C : Setting) (n : NodeParts) (d : TaskDecl) (t : TaskState) (x : Need) → declared C.program n.phase n.core ≡ Some d → n.task ≡ Some t → need_now C n ≡ Some x
+    → need_of C.program d C.fuel t ≡ x
+now-need C n d t x there is now =
+    let with_task_known : cond (is_some t.end) None (need_by C (declared C.program n.phase n.core) t) ≡ Some x =
+        subst (λ (o : Option TaskState). need_if C n.phase n.core o ≡ Some x) is now in
+    going_needs t.end _ x (subst (λ (o : Option TaskDecl). cond (is_some t.end) None (need_by C o t) ≡ Some x) there with_task_known)
+
+pub task-fine : (C : Setting) (n : NodeParts) (t : TaskState) → Fits C n → n.task ≡ Some t → IsFine C t
+task-fine C n t fit is =
+    record {
+      retired = subst (λ (o : Option TaskState). IfSome o (λ t. t.retired ≤ C.fuel)) is fit.retired;
+      held = subst (λ (o : Option TaskState). IfSome o (HoldsOwn (length C.program.locks))) is fit.held;
+    }
+
+instr_parts : (C : Setting) (n : NodeParts) (o : Option TaskDecl) (p : Option TaskState) (x : Option Need) → Fits C n → is_ready n.waiting ≡ true
+    → declared C.program n.phase n.core ≡ o → n.task ≡ p → need_now C n ≡ x → Fits C (instr_by C n o p x).0
+instr_parts C n None p x fit ready there is now = fit
+instr_parts C n (Some d) None x fit ready there is now = fit
+instr_parts C n (Some d) (Some t) None fit ready there is now = fit
+instr_parts C n (Some d) (Some t) (Some x) fit ready there is now =
+    row_fits C n d t x fit (record { task = is; needs = now-need C n d t x there is now; now = now; fine = task-fine C n t fit is; ready = ready })
+
+pub instr-fits : (C : Setting) (n : NodeParts) → Fits C n → may_instr C n ≡ true → Fits C (instructed C n).0
+instr-fits C n fit may =
+    let first = (and_parts _ _ may).0 in
+    let ready = (and_parts _ _ first).1 in
+    instr_parts C n (declared C.program n.phase n.core) n.task (need_now C n) fit ready refl refl refl
+
+-- ---- an eviction and an arrival
+
+evicts_fit : (C : Setting) (n : NodeParts) (word : WordId) (e : Option Entry) → Fits C n → Fits C (evicts C n word e).0
+evicts_fit C n word None fit = fit
+evicts_fit C n word (Some (Valid value marked)) fit = with_pairs C n _ fit
+evicts_fit C n word (Some (Registered value true)) fit = fit
+evicts_fit C n word (Some (Registered value false)) fit = with_pairs C n _ fit
+evicts_fit C n word (Some (Leaving value)) fit = fit
+
+pub evict-fits : (C : Setting) (n : NodeParts) (word : WordId) → Fits C n → Fits C (evicted C n word).0
+evict-fits C n word fit = evicts_fit C n word (entry_of n word.0) fit
+
+pub arrive-fits : (C : Setting) (n : NodeParts) → Fits C n → Fits C (arrives n).0
+arrive-fits C n fit = with_arrived C n true fit
+
+-- ---- messages
+
+-- a choice between two nodes that fit
+either_fits : (C : Setting) (b : Bool) (x y : NodeParts × Received) → Fits C x.0 → Fits C y.0 → Fits C (cond b x y).0
+either_fits C true x y p q = p
+either_fits C false x y p q = q
+
+-- the first is chosen for a reason
+chosen_fits : (C : Setting) (b : Bool) (x y : NodeParts × Received) → (b ≡ true → Fits C x.0) → Fits C y.0 → Fits C (cond b x y).0
+chosen_fits C true x y p q = p refl
+chosen_fits C false x y p q = q
+
+fills_fit : (C : Setting) (n : NodeParts) (word : WordId) (value : ℕ) (e : Option Entry) → Fits C n → Fits C (fills n word value e).0
+fills_fit C n word value None fit =
+    either_fits C (has_room n.cache word.0) _ _
+    (with_wait C (record n { cache = record n.cache { pairs = put word (Valid value false) n.cache.pairs } }) (wait.TheVariants.Filled word) tt (with_pairs C n _ fit)) fit
+fills_fit C n word value (Some e) fit = fit
+
+data_fits : (C : Setting) (n : NodeParts) (word : WordId) (value : ℕ) (w : NodeWait) → Fits C n → Fits C (data_row n word value w).0
+data_fits C n word value wait.TheVariants.None fit = fit
+data_fits C n word value (wait.TheVariants.Reading wanted) fit = either_fits C (wanted.0 == word.0) _ _ (fills_fit C n word value (entry_of n word.0) fit) fit
+data_fits C n word value (wait.TheVariants.Filled wanted) fit = fit
+data_fits C n word value (wait.TheVariants.Locking lock) fit = fit
+
+ack_fits : (C : Setting) (n : NodeParts) (word : WordId) (e : Option Entry) → Fits C n → Fits C (ack_row n word e).0
+ack_fits C n word None fit = fit
+ack_fits C n word (Some (Valid value marked)) fit = fit
+ack_fits C n word (Some (Registered value true)) fit = with_pairs C n _ fit
+ack_fits C n word (Some (Registered value false)) fit = fit
+ack_fits C n word (Some (Leaving value)) fit = fit
+
+forward_fits : (C : Setting) (n : NodeParts) (word : WordId) (core : CoreId) (e : Option Entry) → Fits C n → Fits C (forward_row n word core e).0
+forward_fits C n word core None fit = fit
+forward_fits C n word core (Some (Valid value marked)) fit = fit
+forward_fits C n word core (Some (Registered value true)) fit = fit
+forward_fits C n word core (Some (Registered value false)) fit = with_pairs C n _ fit
+forward_fits C n word core (Some (Leaving value)) fit = fit
+
+read_fits : (C : Setting) (n : NodeParts) (word : WordId) (reader : CoreId) (e : Option Entry) → Fits C n → Fits C (read_row C n word reader e).0
+read_fits C n word reader None fit = fit
+read_fits C n word reader (Some (Valid value marked)) fit = fit
+read_fits C n word reader (Some (Registered value pending)) fit = fit
+read_fits C n word reader (Some (Leaving value)) fit = fit
+
+gone_fits : (C : Setting) (n : NodeParts) (word : WordId) (e : Option Entry) → Fits C n → Fits C (gone_row n word e).0
+gone_fits C n word None fit = fit
+gone_fits C n word (Some (Valid value marked)) fit = fit
+gone_fits C n word (Some (Registered value pending)) fit = fit
+gone_fits C n word (Some (Leaving value)) fit = with_pairs C n _ fit
+
+-- a node whose next instruction acquires a lock has its task's declaration, and the lock is the program's
+pub record HasAcquire (C : Setting) (n : NodeParts) (t : TaskState) (lock : LockId) : Type 0 where
+  pub decl : TaskDecl
+  pub there : declared C.program n.phase n.core ≡ Some decl
+  pub going : t.end ≡ None
+  pub needs : need_of C.program decl C.fuel t ≡ need.TheVariants.Acquire lock
+  pub within : lock.0 < length C.program.locks
+
+acquire_by : (C : Setting) (n : NodeParts) (t : TaskState) (lock : LockId) (e : Option End) (o : Option TaskDecl) → t.end ≡ e → declared C.program n.phase n.core ≡ o
+    → cond (is_some e) None (need_by C o t) ≡ Some (need.TheVariants.Acquire lock) → HasAcquire C n t lock
+acquire_by C n t lock (Some by) o going there now = absurd (cc)
+acquire_by C n t lock None None going there now = absurd (cc)
+acquire_by C n t lock None (Some d) going there now =
+    let needs : need_of C.program d C.fuel t ≡ need.TheVariants.Acquire lock = going_needs None _ _ now in
+    let tells = subst (Tells C.program d t (advanced C.program t)) needs (need-allowed C.program d C.fuel t) in
+    record { decl = d; there = there; going = going; needs = needs; within = tells.0 }
+
+pub acquire-has : (C : Setting) (n : NodeParts) (t : TaskState) (lock : LockId) → n.task ≡ Some t → need_now C n ≡ Some (need.TheVariants.Acquire lock) → HasAcquire C n t lock
+acquire-has C n t lock is now =
+    acquire_by C n t lock t.end (declared C.program n.phase n.core) refl refl (subst (λ (o : Option TaskState). need_if C n.phase n.core o ≡ Some (need.TheVariants.Acquire lock)) is now)
+
+granted_fits : (C : Setting) (n : NodeParts) (lock : LockId) (signature : Signature) (o : Option TaskState) → Fits C n → n.task ≡ o → need_now C n ≡ Some (need.TheVariants.Acquire lock)
+    → Fits C (granted_to C n lock signature o).0
+granted_fits C n lock signature None fit is now = fit
+granted_fits C n lock signature (Some t) fit is now =
+    let has = acquire-has C n t lock is now in
+    with_task C n _ wait.TheVariants.None _ _ fit (ap is_some is) (advanced-fine C has.decl t _ has.needs tt (λ x. x) (task-fine C n t fit is)) (λ x. tt) (length-set n.signatures lock.0 _)
+
+same_lock : (a b : LockId) → (a.0 == b.0) ≡ true → a ≡ b
+same_lock a b e =
+    let same : a.0 ≡ b.0 = grind (arith, nat_tests) in
+    let F : ℕ → LockId = λ x. record { 0 = x } in
+    ap F same
+
+grant_fits : (C : Setting) (n : NodeParts) (lock : LockId) (signature : Signature) (w : NodeWait) → Fits C n → n.waiting ≡ w → Fits C (grant_row C n lock signature w).0
+grant_fits C n lock signature wait.TheVariants.None fit is = fit
+grant_fits C n lock signature (wait.TheVariants.Reading word) fit is = fit
+grant_fits C n lock signature (wait.TheVariants.Filled word) fit is = fit
+grant_fits C n lock signature (wait.TheVariants.Locking wanted) fit is =
+    let waits : NeedsLock (need_now C n) (wait.TheVariants.Locking wanted) = subst (NeedsLock (need_now C n)) is fit.waiting in
+    chosen_fits C (wanted.0 == lock.0) _ _
+    (λ test. granted_fits C n lock signature n.task fit refl (waits ∙ ap (λ (l : LockId). Some (need.TheVariants.Acquire l)) (same_lock wanted lock test))) fit
+
+started_retired : (fuel : ℕ) (o : Option TaskDecl) → IfSome (option_map started o) (λ t. t.retired ≤ fuel)
+started_retired fuel None = tt
+started_retired fuel (Some d) = omega arith
+
+started_held : (locks : ℕ) (o : Option TaskDecl) → IfSome (option_map started o) (HoldsOwn locks)
+started_held locks None = tt
+started_held locks (Some d) =
+    λ l h. let none : holds 0 l ≡ false = ap (nat_lt 0) (and_zero_l (2 ^ l)) in absurd (cc)
+
+started_some : (o : Option TaskDecl) → is_some (option_map started o) ≡ is_some o
+started_some None = refl
+started_some (Some d) = refl
+
+begins_fit : (C : Setting) (n : NodeParts) (phase : ℕ) → Fits C n → phase < length C.program.phases → Fits C (begins C n phase)
+begins_fit C n phase fit within =
+    record {
+      core = fit.core;
+      phase = λ e. within;
+      task = started_some (declared C.program phase n.core);
+      retired = started_retired C.fuel (declared C.program phase n.core);
+      held = started_held (length C.program.locks) (declared C.program phase n.core);
+      signatures = length-replicate (length C.program.locks) (empty phase);
+      sets = fit.sets;
+      ways = fit.ways;
+      waiting = tt;
+    }
+
+go_fits : (C : Setting) (n : NodeParts) (phase : ℕ) → Fits C n → Fits C (go_row C n phase).0
+go_fits C n phase fit =
+    chosen_fits C _ _ _
+    (λ test. let last = (and_parts (n.arrived && not n.halted && (phase == n.phase + 1)) (nat_lt phase (length C.program.phases)) test).1 in
+    begins_fit C n phase fit (grind (arith, nat_tests))) fit
+
+pub gets-fits : (C : Setting) (n : NodeParts) (m : Message) → Fits C n → Fits C (node_gets C n m).0
+gets-fits C n (message.TheVariants.DataReply word value) fit = data_fits C n word value n.waiting fit
+gets-fits C n (message.TheVariants.RegAck word) fit = ack_fits C n word (entry_of n word.0) fit
+gets-fits C n (message.TheVariants.RegFwd word core) fit = forward_fits C n word core (entry_of n word.0) fit
+gets-fits C n (message.TheVariants.ReadFwd word reader) fit = read_fits C n word reader (entry_of n word.0) fit
+gets-fits C n (message.TheVariants.WbAck word) fit = gone_fits C n word (entry_of n word.0) fit
+gets-fits C n (message.TheVariants.Grant lock signature) fit = grant_fits C n lock signature n.waiting fit refl
+gets-fits C n (message.TheVariants.Go phase) fit = go_fits C n phase.0 fit
+gets-fits C n message.TheVariants.Halt fit = either_fits C n.arrived _ _ (with_halted C n fit) fit
+gets-fits C n (message.TheVariants.ReadReq word reader) fit = fit
+gets-fits C n (message.TheVariants.RegReq word core) fit = fit
+gets-fits C n (message.TheVariants.WriteBack word value core) fit = fit
+gets-fits C n (message.TheVariants.Acquire lock core) fit = fit
+gets-fits C n (message.TheVariants.Release lock core signature) fit = fit
+gets-fits C n (message.TheVariants.Arrived core bad) fit = fit

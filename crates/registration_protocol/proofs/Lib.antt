@@ -1,0 +1,3 @@
+pub mod CacheLemmas
+pub mod FitLemmas
+pub mod SignatureLemmas

@@ -1,0 +1,153 @@
+ghost use Rattle.std.specs.Prelude.{◌≡◌, ◌%◌, ◌&&◌, ◌==◌, true, Some};
+ghost use Rattle.registration_protocol.specs.Fit.{IsContext, Fits};
+ghost use Rattle.registration_protocol.specs.Node.{need_now, entry_of};
+ghost use Rattle.registration_protocol.specs.OwnEvents.{crowded, wanted_by, may_go, makes_room, may_evict, evicted, victim_for, eviction, arrival, own_event, shown_by, end_of};
+ghost use Rattle.registration_protocol.specs.Setting.{setting};
+
+use crate::node::{Node, NodeWait};
+use crate::setting::Context;
+use dn_base::WordId;
+use message_net::{Event, Outgoing};
+use rv_core::{End, EndShown, Need, TaskEnd};
+use word_cache::Entry;
+
+/// How a task stands that ended so, or that goes on at a node with this wait; None where it goes on and waits for no lock.
+fn shown(end: Option<End>, wait: NodeWait) -> Option<EndShown>
+    ensures { result ≡ shown_by end wait }
+{
+    match end {
+        Some(End::Finished) => Some(EndShown::Finished),
+        Some(End::Fuel) => Some(EndShown::Fuel),
+        Some(End::Trap { kind, pc, value }) => Some(EndShown::Trap { kind, pc, value }),
+        None => match wait {
+            NodeWait::Locking(lock) => Some(EndShown::Waits { lock }),
+            _ => None,
+        },
+    }
+}
+
+impl Node {
+    /// The word, where it has no entry and its set has no room.
+    fn crowded(&self, word: WordId) -> Option<WordId>
+        ensures { result ≡ crowded self.now word }
+    {
+        if self.cache.get(word).is_some() || self.cache.room(word) {
+            None
+        } else {
+            Some(word)
+        }
+    }
+
+    /// The word for which the next instruction lacks a place, if there is one.
+    fn wanted(&self, context: &Context<'_>) -> Option<WordId>
+        ensures { result ≡ wanted_by self.now (need_now (setting context.now) self.now) }
+    {
+        match self.need(context) {
+            Some(Need::Load { word }) => self.crowded(word),
+            Some(Need::Store { word, .. }) => self.crowded(word),
+            _ => None,
+        }
+    }
+
+    /// Whether the word's entry may be evicted.
+    fn may_go(&self, word: WordId) -> bool
+        ensures { result ≡ may_go (entry_of self.now word.0) }
+    {
+        match self.cache.get(word) {
+            Some(Entry::Valid { .. }) => true,
+            Some(Entry::Registered { pending, .. }) => !pending,
+            _ => false,
+        }
+    }
+
+    /// Whether the node may evict the word: its next instruction lacks a place for a word of the same set, it waits for
+    /// nothing, and the word is Valid, or Registered and not pending. Takes no memory.
+    pub fn may_evict(&self, context: &Context<'_>, word: WordId) -> bool
+        requires context { IsContext (setting context.now) }
+        requires fits { Fits (setting context.now) self.now }
+        ensures { result ≡ may_evict (setting context.now) self.now word.0 }
+    {
+        let sets = context.shape.sets;
+        let idle = !(self.halted || self.arrived) && self.wait == NodeWait::None;
+        match self.wanted(context) {
+            Some(wanted) => idle && word.0 % sets == wanted.0 % sets && self.may_go(word),
+            None => false,
+        }
+    }
+
+    /// Evicts a word, which may be evicted: a copy goes, and a registered word goes back to its home. Takes no memory.
+    pub fn evict(&mut self, context: &Context<'_>, word: WordId) -> Option<Outgoing>
+        requires context { IsContext (setting context.now) }
+        requires fits { Fits (setting context.now) self.old }
+        requires may { may_evict (setting context.now) self.old word.0 ≡ true }
+        ensures node { self.new ≡ (evicted (setting context.now) self.old word).0 }
+        ensures sent { result ≡ (evicted (setting context.now) self.old word).1 }
+        ensures fits { Fits (setting context.now) self.new }
+    {
+        self.give_up(context, word)
+    }
+
+    /// The cache's victim for the word that the next instruction lacks a place for.
+    fn victim(&self, context: &Context<'_>) -> Option<WordId>
+        ensures { result ≡ victim_for self.now (wanted_by self.now (need_now (setting context.now) self.now)) }
+    {
+        match self.wanted(context) {
+            Some(wanted) => self.cache.victim(wanted),
+            None => None,
+        }
+    }
+
+    /// The eviction that the node makes next.
+    fn eviction(&self, context: &Context<'_>) -> Option<Event>
+        requires context { IsContext (setting context.now) }
+        requires fits { Fits (setting context.now) self.now }
+        ensures { result ≡ eviction (setting context.now) self.now }
+    {
+        match self.victim(context) {
+            Some(victim) if self.may_evict(context, victim) => Some(Event::Evict(self.core, victim)),
+            _ => None,
+        }
+    }
+
+    /// The node's arrival, where it may arrive.
+    fn arrival(&self) -> Option<Event>
+        ensures { result ≡ arrival self.now }
+    {
+        if self.may_arrive() {
+            Some(Event::Arrive(self.core))
+        } else {
+            None
+        }
+    }
+
+    /// What the node does next by itself: its instruction where that may go on, else the eviction of the cache's victim for
+    /// the word that lacks a place, else its arrival at the barrier. Takes no memory.
+    pub fn own(&self, context: &Context<'_>) -> Option<Event>
+        requires context { IsContext (setting context.now) }
+        requires fits { Fits (setting context.now) self.now }
+        ensures event { result ≡ own_event (setting context.now) self.now }
+    {
+        if self.may_instr(context) {
+            return Some(Event::Instr(self.core));
+        }
+        match self.eviction(context) {
+            Some(event) => Some(event),
+            None => self.arrival(),
+        }
+    }
+
+    /// How the node's task stands, and how many instructions it has retired; None exactly where the node has no task, or its
+    /// task goes on and waits for no lock. Takes no memory.
+    pub fn task_end(&self) -> Option<TaskEnd>
+        ensures { result ≡ end_of self.now self.now.task }
+    {
+        let task = self.task?;
+        let end = shown(task.end, self.wait)?;
+        Some(TaskEnd {
+            phase: self.phase,
+            core: self.core,
+            end,
+            retired: task.retired,
+        })
+    }
+}

@@ -1,0 +1,164 @@
+ghost use Rattle.std.specs.Prelude.{◌≡◌, ◌<◌, ◌+◌, length, slice_get, Some, None};
+ghost use Rattle.std.specs.Prelude.{[], slice_set, slice_index_or};
+ghost use Rattle.region_table.specs.Plan.{ArePlans};
+ghost use Rattle.rv_core.specs.declared.need.Need.TheVariants.{Acquire as NeedsAcquire};
+ghost use Rattle.word_cache.specs.Cache.{dropped_signed, dropped_written};
+ghost use Rattle.registration_protocol.specs.Fit.{IsContext, Fits};
+ghost use Rattle.registration_protocol.specs.Node.{need_now};
+ghost use Rattle.registration_protocol.specs.Messages.{guarded_by, written_in, of_phase, granted_to, grant_row, begins, go_row, node_gets};
+ghost use Rattle.registration_protocol.specs.Setting.{setting};
+
+use crate::node::{Node, NodeWait, Received, nothing};
+use crate::setting::{Context, declaration, start};
+use crate::signatures::empty_all;
+use dn_base::{Grant, LockId, PhaseId};
+use message_net::Message;
+use region_table::PhasePlan;
+use write_signature::Signature;
+
+/// The signature, or the empty one of the phase where it is of another.
+fn in_phase(signature: Signature, phase: PhaseId) -> Signature
+    ensures { result ≡ of_phase signature phase.0 }
+{
+    if signature.phase() == phase {
+        signature
+    } else {
+        Signature::empty(phase)
+    }
+}
+
+impl Node {
+    /// Drops the copies of the words that the lock guards in the phase of this plan and that the signature may hold.
+    fn drop_guarded(&mut self, plan: &PhasePlan, lock: LockId, signature: &Signature)
+        ensures { self.new ≡ record self.old { cache = record self.old.cache { pairs = dropped_signed signature.now self.old.phase (slice_index_or plan.now.guarded lock.0 []) self.old.cache.pairs } } }
+    {
+        match plan.guarded.get(lock.0 as usize) {
+            Some(words) => self.cache.drop_signed(signature, self.phase, words),
+            None => {}
+        }
+    }
+
+    /// Drops the copies of the lock's words that the signature may hold.
+    fn drop_signed(&mut self, context: &Context<'_>, lock: LockId, signature: &Signature)
+        ensures { self.new ≡ record self.old { cache = record self.old.cache { pairs = dropped_signed signature.now self.old.phase (guarded_by (slice_get (setting context.now).plans self.old.phase) lock.0) self.old.cache.pairs } } }
+    {
+        match context.plans.get(self.phase.0 as usize) {
+            Some(plan) => self.drop_guarded(plan, lock, signature),
+            None => {}
+        }
+    }
+
+    /// The lock that the node waits for is granted to its task.
+    fn hold(&mut self, context: &Context<'_>, lock: LockId, signature: Signature) -> Received
+        requires fits { Fits (setting context.now) self.old }
+        requires lock { need_now (setting context.now) self.old ≡ Some (NeedsAcquire lock) }
+        ensures node { self.new ≡ (granted_to (setting context.now) self.old lock signature self.old.task).0 }
+        ensures received { result ≡ (granted_to (setting context.now) self.old lock signature self.old.task).1 }
+    {
+        let Some(mut task) = self.task else {
+            return nothing();
+        };
+        let Some(declared) = declaration(context.program, self.phase, self.core) else {
+            return nothing();
+        };
+        task.advance(context.program, declared, context.fuel);
+        self.signatures.set(lock.0 as usize, in_phase(signature, self.phase));
+        self.drop_signed(context, lock, &signature);
+        self.task = Some(task);
+        self.wait = NodeWait::None;
+        Received {
+            sent: None,
+            granted: Some(Grant {
+                phase: self.phase,
+                core: self.core,
+                lock,
+            }),
+        }
+    }
+
+    /// A lock is granted.
+    fn granted(&mut self, context: &Context<'_>, lock: LockId, signature: Signature) -> Received
+        requires fits { Fits (setting context.now) self.old }
+        ensures node { self.new ≡ (grant_row (setting context.now) self.old lock signature self.old.waiting).0 }
+        ensures received { result ≡ (grant_row (setting context.now) self.old lock signature self.old.waiting).1 }
+    {
+        match self.wait {
+            NodeWait::Locking(wanted) if wanted.0 == lock.0 => self.hold(context, lock, signature),
+            _ => nothing(),
+        }
+    }
+
+    /// Drops what the node's phase leaves stale, and takes the marks off.
+    fn drop_written(&mut self, context: &Context<'_>)
+        requires { self.old.phase < length (setting context.now).plans }
+        ensures { self.new ≡ record self.old { cache = record self.old.cache { pairs = dropped_written (written_in (slice_get (setting context.now).plans self.old.phase)) self.old.cache.pairs } } }
+    {
+        if let Some(plan) = context.plans.get(self.phase.0 as usize) {
+            self.cache.drop_written(&plan.written);
+        }
+    }
+
+    /// The phase begins.
+    fn begin(&mut self, context: &Context<'_>, phase: PhaseId)
+        requires phase { self.old.phase < length (setting context.now).plans }
+        requires locks { length self.old.signatures ≡ length (setting context.now).program.locks }
+        ensures { self.new ≡ begins (setting context.now) self.old phase.0 }
+    {
+        self.drop_written(context);
+        empty_all(&mut self.signatures, phase);
+        self.task = start(context.program, phase, self.core);
+        self.phase = phase;
+        self.wait = NodeWait::None;
+        self.arrived = false;
+    }
+
+    /// The keeper says that the phase begins.
+    fn go(&mut self, context: &Context<'_>, phase: PhaseId) -> Received
+        requires context { IsContext (setting context.now) }
+        requires fits { Fits (setting context.now) self.old }
+        ensures node { self.new ≡ (go_row (setting context.now) self.old phase.0).0 }
+        ensures received { result ≡ (go_row (setting context.now) self.old phase.0).1 }
+    {
+        let program = context.program;
+        let is_next = self.phase.0.checked_add(1) == Some(phase.0);
+        let is_there = (phase.0 as usize) < program.phases.len();
+        if self.arrived && !self.halted && is_next && is_there {
+            self.begin(context, phase);
+        }
+        nothing()
+    }
+
+    /// What a message makes the node do, by its kind.
+    fn handle(&mut self, context: &Context<'_>, message: Message) -> Received
+        requires context { IsContext (setting context.now) }
+        requires fits { Fits (setting context.now) self.old }
+        ensures node { self.new ≡ (node_gets (setting context.now) self.old message).0 }
+        ensures received { result ≡ (node_gets (setting context.now) self.old message).1 }
+    {
+        match message {
+            Message::DataReply { word, value } => self.data(word, value),
+            Message::RegAck { word } => self.acknowledged(word),
+            Message::RegFwd { word, core } => self.forwarded(word, core),
+            Message::ReadFwd { word, reader } => self.read(context, word, reader),
+            Message::WbAck { word } => self.given_back(word),
+            Message::Grant { lock, signature } => self.granted(context, lock, signature),
+            Message::Go { phase } => self.go(context, phase),
+            Message::Halt => self.halt(),
+            _ => nothing(),
+        }
+    }
+
+    /// What a message makes the node do: the values of words, the answers of words' homes, reads that other cores are to be
+    /// answered, grants of locks, and the keeper's Go and Halt.
+    ///
+    /// A message that comes where none of these says anything changes nothing and sends nothing. Takes no memory.
+    pub fn receive(&mut self, context: &Context<'_>, message: Message) -> Received
+        requires context { IsContext (setting context.now) }
+        requires fits { Fits (setting context.now) self.old }
+        ensures node { self.new ≡ (node_gets (setting context.now) self.old message).0 }
+        ensures received { result ≡ (node_gets (setting context.now) self.old message).1 }
+        ensures fits { Fits (setting context.now) self.new }
+    {
+        self.handle(context, message)
+    }
+}
