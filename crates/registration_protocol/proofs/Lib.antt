@@ -1,3 +1,4 @@
 pub mod CacheLemmas
 pub mod FitLemmas
+pub mod OwnLemmas
 pub mod SignatureLemmas

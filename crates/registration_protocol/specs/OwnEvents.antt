@@ -1,5 +1,5 @@
 -- A node's own events: when each may come, and what it does.
-use Rattle.std.specs.Prelude.{ℕ, ◌+◌, ◌%◌, Bool, true, false, ◌&&◌, ◌||◌, ◌==◌, not, List, [], ◌∷◌, slice_index_or, Option, Some, None, if◌then◌else◌}
+use Rattle.std.specs.Prelude.{◌≡◌, ℕ, ◌+◌, ◌%◌, Bool, true, false, ◌&&◌, ◌||◌, ◌==◌, not, List, [], ◌∷◌, slice_index_or, Option, Some, None, if◌then◌else◌}
 use Rattle.std.specs.Option.{is_some}
 use Rattle.dn_base.specs.declared.ids.CoreId.{CoreId}
 use Rattle.dn_base.specs.declared.ids.WordId.{WordId}
@@ -25,7 +25,7 @@ use Rattle.message_net.specs.declared.event.Event as event
 use Rattle.message_net.specs.declared.event.Event.{Event}
 use Rattle.word_cache.specs.declared.row.Entry.{Entry}
 use Rattle.word_cache.specs.declared.row.Entry.TheVariants.{Valid, Registered, Leaving}
-use Rattle.word_cache.specs.Cache.{Cache, has_room, put, changed, touched, without, is_evictable, victim_of}
+use Rattle.word_cache.specs.Cache.{Cache, has_room, put, changed, touched, without, may_go, victim_of}
 use Rattle.registration_protocol.specs.declared.node.NodeWait as wait
 use Rattle.registration_protocol.specs.declared.node.NodeWait.{NodeWait}
 use Rattle.registration_protocol.specs.declared.node.Step.{Step}
@@ -62,10 +62,6 @@ wanted_by n _ = None
 
 -- whether a word may be evicted to make room for the wanted one: it is of that word's set, and Valid, or Registered and not
 -- pending
-abbrev pub may_go : Option Entry → Bool
-may_go None = false
-may_go (Some e) = is_evictable e
-
 abbrev pub makes_room : NodeParts → ℕ → Option WordId → Bool
 makes_room n w None = false
 makes_room n w (Some wanted) = (w % n.cache.sets == wanted.0 % n.cache.sets) && may_go (entry_of n w)
@@ -203,6 +199,12 @@ first_of (Some a) e = Some a
 -- arrival
 abbrev pub own_event : Setting → NodeParts → Option Event
 own_event C n = if may_instr C n then Some (event.TheVariants.Instr (me n)) else first_of (eviction C n) (arrival n)
+
+-- a node with nothing to do by itself
+pub record IsStill (C : Setting) (n : NodeParts) : Type 0 where
+  pub instr : may_instr C n ≡ false
+  pub evict : (w : ℕ) → may_evict C n w ≡ false
+  pub arrive : may_arrive n ≡ false
 
 -- how a task stands: how it ended, or which lock it waits for; None where it goes on and waits for none
 abbrev pub shown_by : Option End → NodeWait → Option EndShown

@@ -1,8 +1,9 @@
-ghost use Rattle.std.specs.Prelude.{◌≡◌, ◌%◌, ◌&&◌, ◌==◌, true, Some};
+ghost use Rattle.std.specs.Prelude.{◌≡◌, ◌↔◌, ℕ, true, false, None, IfSome};
 ghost use Rattle.registration_protocol.specs.Fit.{IsContext, Fits};
 ghost use Rattle.registration_protocol.specs.Node.{need_now, entry_of};
-ghost use Rattle.registration_protocol.specs.OwnEvents.{crowded, wanted_by, may_go, makes_room, may_evict, evicted, victim_for, eviction, arrival, own_event, shown_by, end_of};
+ghost use Rattle.registration_protocol.specs.OwnEvents.{crowded, wanted_by, makes_room, may_evict, may_arrive, evicted, victim_for, eviction, arrival, own_event, IsStill, shown_by, end_of};
 ghost use Rattle.registration_protocol.specs.Setting.{setting};
+ghost use Rattle.word_cache.specs.Cache.{may_go};
 
 use crate::node::{Node, NodeWait};
 use crate::setting::Context;
@@ -89,7 +90,8 @@ impl Node {
 
     /// The cache's victim for the word that the next instruction lacks a place for.
     fn victim(&self, context: &Context<'_>) -> Option<WordId>
-        ensures { result ≡ victim_for self.now (wanted_by self.now (need_now (setting context.now) self.now)) }
+        ensures value { result ≡ victim_for self.now (wanted_by self.now (need_now (setting context.now) self.now)) }
+        ensures evictable { IfSome result (λ w. may_go (entry_of self.now w.0) ≡ true) }
     {
         match self.wanted(context) {
             Some(wanted) => self.cache.victim(wanted),
@@ -101,17 +103,21 @@ impl Node {
     fn eviction(&self, context: &Context<'_>) -> Option<Event>
         requires context { IsContext (setting context.now) }
         requires fits { Fits (setting context.now) self.now }
-        ensures { result ≡ eviction (setting context.now) self.now }
+        ensures value { result ≡ eviction (setting context.now) self.now }
+        ensures none { (result ≡ None) ↔ ((w : ℕ) → may_evict (setting context.now) self.now w ≡ false) }
     {
-        match self.victim(context) {
-            Some(victim) if self.may_evict(context, victim) => Some(Event::Evict(self.core, victim)),
-            _ => None,
+        let victim = self.victim(context)?;
+        if self.may_evict(context, victim) {
+            Some(Event::Evict(self.core, victim))
+        } else {
+            None
         }
     }
 
     /// The node's arrival, where it may arrive.
     fn arrival(&self) -> Option<Event>
-        ensures { result ≡ arrival self.now }
+        ensures value { result ≡ arrival self.now }
+        ensures none { (result ≡ None) ↔ (may_arrive self.now ≡ false) }
     {
         if self.may_arrive() {
             Some(Event::Arrive(self.core))
@@ -126,6 +132,9 @@ impl Node {
         requires context { IsContext (setting context.now) }
         requires fits { Fits (setting context.now) self.now }
         ensures event { result ≡ own_event (setting context.now) self.now }
+
+        // None exactly where none of its events may come
+        ensures none { (result ≡ None) ↔ IsStill (setting context.now) self.now }
     {
         if self.may_instr(context) {
             return Some(Event::Instr(self.core));

@@ -10,6 +10,7 @@ use rv_core::TaskState;
 
 /// What a node's calls are told: the program, the plans of its phases, the machine's size, and how many instructions a task
 /// may retire.
+#[derive(Clone, Copy)]
 pub struct Context<'a> {
     pub program: &'a Program,
     pub plans: &'a [PhasePlan],

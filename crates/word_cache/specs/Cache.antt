@@ -75,6 +75,11 @@ is_evictable (Valid value marked) = true
 is_evictable (Registered value pending) = not pending
 is_evictable (Leaving value) = false
 
+-- whether a word has an entry that may be evicted
+abbrev pub may_go : Option Entry → Bool
+may_go None = false
+may_go (Some e) = is_evictable e
+
 -- whether a pair may be evicted to make room for a word
 abbrev pub gives_way : ℕ → ℕ → Pair → Bool
 gives_way sets w p = shares_set sets w p && is_evictable p.1

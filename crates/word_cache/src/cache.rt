@@ -1,8 +1,8 @@
-ghost use Rattle.std.specs.Prelude.{◌≡◌, ◌≢◌, ◌*◌, ◌<◌, ◌≤◌, ◌||◌, true, None, [], IfOk};
+ghost use Rattle.std.specs.Prelude.{◌≡◌, ◌≢◌, ◌*◌, ◌<◌, ◌≤◌, ◌||◌, true, None, [], IfOk, IfSome};
 ghost use Rattle.std.specs.Option.{is_some};
 ghost use Rattle.std.specs.Prelude.{length};
 ghost use Rattle.std.specs.List.{filter};
-ghost use Rattle.word_cache.specs.Cache.{Cache, in_set, lookup, put, changed, without, touched, has_room, victim_of, pending_count, dropped_written, dropped_signed};
+ghost use Rattle.word_cache.specs.Cache.{Cache, in_set, lookup, put, changed, without, touched, has_room, victim_of, may_go, pending_count, dropped_written, dropped_signed};
 ghost use Rattle.word_cache.specs.Row.{IsCacheRow, AreApart, pairs_by_use};
 
 use crate::edits::{change_entry, take_out, use_again, write_last};
@@ -90,7 +90,8 @@ impl WordCache {
     /// The word that was used least recently among those of the word's set that are Valid, or Registered and not pending;
     /// None exactly where there is none. Takes no memory.
     pub fn victim(&self, word: WordId) -> Option<WordId>
-        ensures { result ≡ victim_of self.now word.0 }
+        ensures value { result ≡ victim_of self.now word.0 }
+        ensures evictable { IfSome result (λ w. may_go (lookup w.0 self.now.pairs) ≡ true) }
     {
         victim_in(self.places.as_slice(), self.sets, self.ways, word)
     }

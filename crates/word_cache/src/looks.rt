@@ -1,8 +1,8 @@
-ghost use Rattle.std.specs.Prelude.{◌≡◌, ◌<◌, ◌≤◌, length, nat_lt, slice_index_or, count_by};
+ghost use Rattle.std.specs.Prelude.{◌≡◌, ◌<◌, ◌≤◌, true, IfSome, length, nat_lt, slice_index_or, count_by};
 ghost use Rattle.std.specs.List.{find, filter};
 ghost use Rattle.std.specs.Option.{option_map};
 ghost use Rattle.word_cache.specs.declared.row.Place.{Place};
-ghost use Rattle.word_cache.specs.Cache.{Pair, in_set, lookup, set_count, gives_way};
+ghost use Rattle.word_cache.specs.Cache.{Pair, in_set, lookup, set_count, gives_way, may_go};
 ghost use Rattle.word_cache.specs.Row.{IsRow, AreApart, pairs_by_use, place_is_pending};
 
 use crate::row::{Entry, Place, entry_at, free_place, place_of, victim_place};
@@ -44,7 +44,8 @@ fn word_at(row: &[Place], place: usize) -> Option<WordId>
 /// The word that was used least recently among those of the word's set that may be evicted.
 pub(crate) fn victim_in(row: &[Place], sets: u32, ways: u32, word: WordId) -> Option<WordId>
     requires { IsRow sets ways row.now }
-    ensures { result ≡ option_map (λ (p : Pair). p.0) (find (gives_way sets word.0) (pairs_by_use row.now)) }
+    ensures value { result ≡ option_map (λ (p : Pair). p.0) (find (gives_way sets word.0) (pairs_by_use row.now)) }
+    ensures evictable { IfSome result (λ w. may_go (lookup w.0 (pairs_by_use row.now)) ≡ true) }
 {
     match victim_place(row, sets, ways, word) {
         Some(place) => word_at(row, place),
