@@ -176,6 +176,7 @@ advanced-fine C d t n is k unspent fine =
           omega arith;
       held = held_told C.program d t (advanced C.program t) n tells k fine.held;
     }
+
 loaded-fine : (C : Setting) (d : TaskDecl) (t : TaskState) (value : ℕ) (word : WordId) → need_of C.program d C.fuel t ≡ need.TheVariants.Load word → IsFine C t → IsFine C (loaded_of C.program value t)
 unfolding loaded_of
 loaded-fine C d t value word is fine =
@@ -249,7 +250,7 @@ pub now-need : (C : Setting) (n : NodeParts) (d : TaskDecl) (t : TaskState) (x :
     → need_of C.program d C.fuel t ≡ x
 now-need C n d t x there is now =
     let with_task_known : cond (is_some t.end) None (need_by C (declared C.program n.phase n.core) t) ≡ Some x =
-        subst (λ (o : Option TaskState). need_if C n.phase n.core o ≡ Some x) is now in
+    subst (λ (o : Option TaskState). need_if C n.phase n.core o ≡ Some x) is now in
     going_needs t.end _ x (subst (λ (o : Option TaskDecl). cond (is_some t.end) None (need_by C o t) ≡ Some x) there with_task_known)
 
 pub task-fine : (C : Setting) (n : NodeParts) (t : TaskState) → Fits C n → n.task ≡ Some t → IsFine C t

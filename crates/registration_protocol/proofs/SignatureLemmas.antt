@@ -28,8 +28,8 @@ pub noted_next : (d : TaskDecl) (held w phase i : ℕ) (ss : List Signature) (s 
 noted_next d held w phase i ss s within =
     let more = noted_suc d held w phase i i ss s within in
     let F : ℕ → Type 0 =
-        λ k. take k (slice_set ss i (noted_at d held w phase i (slice_index_or ss i s))) ++ noted d held w phase (i + 1) (drop k (slice_set ss i (noted_at d held w phase i (slice_index_or ss i s))))
-        ≡ take i ss ++ noted d held w phase i (drop i ss) in
+    λ k. take k (slice_set ss i (noted_at d held w phase i (slice_index_or ss i s))) ++ noted d held w phase (i + 1) (drop k (slice_set ss i (noted_at d held w phase i (slice_index_or ss i s))))
+    ≡ take i ss ++ noted d held w phase i (drop i ss) in
     let next : suc i ≡ i + 1 = omega arith in
     subst F next more
 

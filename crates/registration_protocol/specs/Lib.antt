@@ -2,4 +2,5 @@ pub mod Node
 pub mod Fit
 pub mod OwnEvents
 pub mod Messages
+pub mod Changes
 pub mod Setting

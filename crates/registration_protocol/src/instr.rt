@@ -147,13 +147,7 @@ impl Node {
         ensures { self.new ≡ stored (setting context.now) self.old declared.now task word (AsRegistered (merged_of (setting context.now).program old task) pending) }
     {
         let value = task.merged(context.program, declared, context.fuel, old);
-        note(
-            &mut self.signatures,
-            declared,
-            task.held,
-            word,
-            self.phase,
-        );
+        note(&mut self.signatures, declared, task.held, word, self.phase);
         self.cache.set(word, Entry::Registered { value, pending });
         let mut task = task;
         task.advance(context.program, declared, context.fuel);
@@ -254,17 +248,15 @@ impl Node {
         self.task = Some(task);
         let core = self.core;
         let signature = self.signature(lock);
-        sending(
-            send_home(
-                context,
-                lock.0,
-                Message::Release {
-                    lock,
-                    core,
-                    signature,
-                },
-            ),
-        )
+        sending(send_home(
+            context,
+            lock.0,
+            Message::Release {
+                lock,
+                core,
+                signature,
+            },
+        ))
     }
 
     /// An instruction that needs nothing retires.

@@ -4,6 +4,7 @@
 #![tactic(auto)]
 
 mod instr;
+mod laws;
 mod node;
 mod own;
 mod receive;
@@ -12,5 +13,8 @@ mod signatures;
 #[cfg(test)]
 mod tests;
 
+pub use laws::{
+    a_node_keeps_its_place, a_store_writes_one_entry, a_value_is_a_copy, one_entry_changes,
+};
 pub use node::{Node, NodeWait, Received, Step};
 pub use setting::Context;

@@ -62,7 +62,8 @@ impl Node {
             return nothing();
         };
         task.advance(context.program, declared, context.fuel);
-        self.signatures.set(lock.0 as usize, in_phase(signature, self.phase));
+        self.signatures
+            .set(lock.0 as usize, in_phase(signature, self.phase));
         self.drop_signed(context, lock, &signature);
         self.task = Some(task);
         self.wait = NodeWait::None;

@@ -9,9 +9,7 @@ ghost use Rattle.registration_protocol.specs.Fit.{IsContext, Fits};
 ghost use Rattle.registration_protocol.specs.Setting.{setting};
 
 use crate::{Context, Node};
-use dn_base::{
-    BankId, CoreId, Grant, LockId, Memory, Name, PhaseId, Sequence, Shape, WordId,
-};
+use dn_base::{BankId, CoreId, Grant, LockId, Memory, Name, PhaseId, Sequence, Shape, WordId};
 use message_net::{Actor, Event, Message, Outgoing};
 use region_table::{Effects, Phase, PhasePlan, Program, Region, TaskDecl, WordSet, plans};
 use rv_core::{EndShown, TaskEnd};
@@ -196,24 +194,39 @@ fn both(alloc: Global, first: &Start, second: &Start) -> Result<Phase, Memory>
     Ok(Phase { tasks })
 }
 
-/// A program of two words that are 0 in one region, one lock and these phases.
-fn program(alloc: Global, code: &[u32], phases: Sequence<Phase>) -> Result<Program, Memory>
-    requires code { length code.now ≤ 64 }
-    requires well { All (IsPhase 2 1) phases }
-    requires few { length phases ≤ 3 }
-    requires tasks { length (tasks_of phases) ≤ 6 }
-    ensures phases { IfOk result (λ p. p.phases ≡ phases) }
+/// A region `m` of both words.
+fn regions(alloc: Global) -> Result<Sequence<Region>, Memory>
+    ensures { IfOk result (λ regions. regions ≡ record { name = 109 ∷ []; start = 0; len = 2 } ∷ []) }
 {
     let m = Name::new(alloc, b"m")?;
-    let k = Name::new(alloc, b"k")?;
     let mut regions = Sequence::new(alloc);
     regions.push(Region {
         name: m,
         start: 0,
         len: 2,
     })?;
+    Ok(regions)
+}
+
+/// A lock `k`.
+fn locks(alloc: Global) -> Result<Sequence<Name>, Memory>
+    ensures { IfOk result (λ locks. locks ≡ (107 ∷ []) ∷ []) }
+{
+    let k = Name::new(alloc, b"k")?;
     let mut locks = Sequence::new(alloc);
     locks.push(k)?;
+    Ok(locks)
+}
+
+/// A program of two words that are 0 in one region, one lock and these phases.
+fn program(alloc: Global, code: &[u32], phases: Sequence<Phase>) -> Result<Program, Memory>
+    requires code { length code.now ≤ 64 }
+    requires well { All (IsPhase 2 1) phases }
+    requires few { length phases ≤ 3 }
+    requires tasks { length (tasks_of phases) ≤ 6 }
+{
+    let regions = regions(alloc)?;
+    let locks = locks(alloc)?;
     let memory = Vec::from_slice(alloc, &[0; 2])?;
     let code = Vec::from_slice(alloc, code)?;
     Ok(Program {
@@ -350,7 +363,10 @@ fn a_copy_gives_way_to_the_next_word(rt: HostRuntime) -> Result<(), Fail> {
     steps(&mut node, &context, 3);
     let _ = node.receive(&context, VALUE);
     steps(&mut node, &context, 1);
-    assert_eq!(rt; node.own(&context), Some(Event::Evict(CoreId(0), WordId(0))));
+    assert_eq!(rt;
+        node.own(&context),
+        Some(Event::Evict(CoreId(0), WordId(0)))
+    );
     let read = Message::ReadReq {
         word: WordId(1),
         reader: CoreId(0),

@@ -11,6 +11,7 @@ loop-lock-preserved c =
     let count = c.len-lock-end.ensures in
     let kept = c.loop-lock.invariant.0 in
     let within : c.loop-lock.lock < length c.loop-lock.signatures = grind (arith, nat_tests) in
-    let one = c.note_at.ensures (empty 0) in
-    (ap length one ∙ length-set c.loop-lock.signatures c.loop-lock.lock _ ∙ kept,
-      rw one (noted_next c.args.task.now c.args.held c.args.word.0 c.args.phase.0 c.loop-lock.lock c.loop-lock.signatures (empty 0) within ∙ c.loop-lock.invariant.1))
+    let one = c.note_at.ensures (empty 0) in (
+      ap length one ∙ length-set c.loop-lock.signatures c.loop-lock.lock _ ∙ kept,
+      rw one (noted_next c.args.task.now c.args.held c.args.word.0 c.args.phase.0 c.loop-lock.lock c.loop-lock.signatures (empty 0) within ∙ c.loop-lock.invariant.1),
+    )

@@ -16,6 +16,6 @@ pub returns-else-may_evict-clause-none : goal.returns-else-may_evict-clause-none
 returns-else-may_evict-clause-none c =
     let some : victim_for c.args.self.now (wanted_by c.args.self.now (need_now (setting c.args.context.now) c.args.self.now)) ≡ Some c.in_ok-victim.victim = sym c.victim.ensures.value ∙ c.in_ok-victim.was in
     let may : may_go (entry_of c.args.self.now c.in_ok-victim.victim.0) ≡ true =
-        subst (λ (o : Option WordId). IfSome o (λ w. may_go (entry_of c.args.self.now w.0) ≡ true)) c.in_ok-victim.was c.victim.ensures.evictable in
+    subst (λ (o : Option WordId). IfSome o (λ w. may_go (entry_of c.args.self.now w.0) ≡ true)) c.in_ok-victim.was c.victim.ensures.evictable in
     let stays : may_evict (setting c.args.context.now) c.args.self.now c.in_ok-victim.victim.0 ≡ false = sym c.may_evict.ensures ∙ c.if-may_evict.false in
     ((λ e. victim-stays (setting c.args.context.now) c.args.self.now c.in_ok-victim.victim some may stays), (λ all. refl))

@@ -1,0 +1,90 @@
+-- Which entries change.
+use Rattle.std.proofs.Common.{◌≡◌, ℕ, ◌==◌, Bool, true, false, cond, List, Option, Some, None, refl, sym, ap, ◌∙◌, arith}
+use Rattle.std.proofs.lemmas.Bool.Decides.{nat_tests}
+use Rattle.std.specs.Option.{option_map}
+use Rattle.dn_base.specs.declared.ids.CoreId.{CoreId}
+use Rattle.dn_base.specs.declared.ids.WordId.{WordId}
+use Rattle.region_table.specs.declared.declared.TaskDecl.{TaskDecl}
+use Rattle.rv_core.specs.declared.task.TaskState.{TaskState}
+use Rattle.word_cache.specs.declared.row.Entry.{Entry}
+use Rattle.word_cache.specs.declared.row.Entry.TheVariants.{Valid, Registered, Leaving}
+use Rattle.word_cache.specs.Cache.{Pair, lookup, without, put, changed, has_room}
+use Rattle.word_cache.proofs.LookLemmas.{lookup-without, lookup-put, lookup-changed}
+use Rattle.registration_protocol.specs.declared.node.NodeWait as wait
+use Rattle.registration_protocol.specs.Node.{NodeParts, Setting, entry_of}
+use Rattle.registration_protocol.specs.OwnEvents.{stored, evicts}
+use Rattle.registration_protocol.specs.Messages.{ack_row, forward_row, gone_row, read_row, data_row, fills}
+use Rattle.registration_protocol.specs.Changes.{acknowledged, forwarded, given_back, given_up}
+
+-- what a word has that has an entry's change
+at_word : (f : Option Entry → Option Entry) (w v : ℕ) (ps : List Pair) (e r : Option Entry) → lookup w ps ≡ e → f e ≡ r → cond (w == v) r (lookup v ps) ≡ cond (w == v) (f (lookup v ps)) (lookup v ps)
+at_word f w v ps e r is gives = by_test (w == v) refl
+  where
+    by_test : (b : Bool) → (w == v) ≡ b → cond b r (lookup v ps) ≡ cond b (f (lookup v ps)) (lookup v ps)
+    by_test true test =
+        let same : w ≡ v = grind (arith, nat_tests) in
+        sym gives ∙ ap f (sym is ∙ ap (λ (x : ℕ). lookup x ps) same)
+    by_test false test = refl
+
+same_entry : (w v : ℕ) (ps : List Pair) (e : Option Entry) → lookup w ps ≡ e → lookup v ps ≡ cond (w == v) e (lookup v ps)
+same_entry w v ps e is = by_test (w == v) refl
+  where
+    by_test : (b : Bool) → (w == v) ≡ b → lookup v ps ≡ cond b e (lookup v ps)
+    by_test true test =
+        let same : w ≡ v = grind (arith, nat_tests) in
+        ap (λ (x : ℕ). lookup x ps) (sym same) ∙ is
+    by_test false test = refl
+
+steady : (f : Option Entry → Option Entry) (w v : ℕ) (ps : List Pair) (e : Option Entry) → lookup w ps ≡ e → f e ≡ e → lookup v ps ≡ cond (w == v) (f (lookup v ps)) (lookup v ps)
+steady f w v ps e is stays = same_entry w v ps e is ∙ at_word f w v ps e e is stays
+
+taken_out : (f : Option Entry → Option Entry) (w v : ℕ) (ps : List Pair) (e : Option Entry) → lookup w ps ≡ e → f e ≡ None → lookup v (without w ps) ≡ cond (w == v) (f (lookup v ps)) (lookup v ps)
+taken_out f w v ps e is goes = lookup-without w v ps ∙ at_word f w v ps e None is goes
+
+rewritten : (f : Option Entry → Option Entry) (w v : ℕ) (ps : List Pair) (a b : Entry) → lookup w ps ≡ Some a → f (Some a) ≡ Some b → lookup v (changed w b ps) ≡ cond (w == v) (f (lookup v ps)) (lookup v ps)
+rewritten f w v ps a b is becomes =
+    lookup-changed w v b ps ∙ ap (λ (o : Option Entry). cond (w == v) (option_map (λ (_ : Entry). b) o) (lookup v ps)) is ∙ at_word f w v ps (Some a) (Some b) is becomes
+
+pub ack-entry : (n : NodeParts) (word : WordId) (v : ℕ) (e : Option Entry) → entry_of n word.0 ≡ e → entry_of (ack_row n word e).0 v ≡ cond (word.0 == v) (acknowledged (entry_of n v)) (entry_of n v)
+ack-entry n word v None is = steady acknowledged word.0 v n.cache.pairs None is refl
+ack-entry n word v (Some (Valid value marked)) is = steady acknowledged word.0 v n.cache.pairs (Some (Valid value marked)) is refl
+ack-entry n word v (Some (Registered value true)) is = rewritten acknowledged word.0 v n.cache.pairs (Registered value true) (Registered value false) is refl
+ack-entry n word v (Some (Registered value false)) is = steady acknowledged word.0 v n.cache.pairs (Some (Registered value false)) is refl
+ack-entry n word v (Some (Leaving value)) is = steady acknowledged word.0 v n.cache.pairs (Some (Leaving value)) is refl
+
+pub forward-entry : (n : NodeParts) (word : WordId) (core : CoreId) (v : ℕ) (e : Option Entry) → entry_of n word.0 ≡ e
+    → entry_of (forward_row n word core e).0 v ≡ cond (word.0 == v) (forwarded (entry_of n v)) (entry_of n v)
+forward-entry n word core v None is = steady forwarded word.0 v n.cache.pairs None is refl
+forward-entry n word core v (Some (Valid value marked)) is = steady forwarded word.0 v n.cache.pairs (Some (Valid value marked)) is refl
+forward-entry n word core v (Some (Registered value true)) is = steady forwarded word.0 v n.cache.pairs (Some (Registered value true)) is refl
+forward-entry n word core v (Some (Registered value false)) is = taken_out forwarded word.0 v n.cache.pairs (Some (Registered value false)) is refl
+forward-entry n word core v (Some (Leaving value)) is = steady forwarded word.0 v n.cache.pairs (Some (Leaving value)) is refl
+
+pub back-entry : (n : NodeParts) (word : WordId) (v : ℕ) (e : Option Entry) → entry_of n word.0 ≡ e → entry_of (gone_row n word e).0 v ≡ cond (word.0 == v) (given_back (entry_of n v)) (entry_of n v)
+back-entry n word v None is = steady given_back word.0 v n.cache.pairs None is refl
+back-entry n word v (Some (Valid value marked)) is = steady given_back word.0 v n.cache.pairs (Some (Valid value marked)) is refl
+back-entry n word v (Some (Registered value pending)) is = steady given_back word.0 v n.cache.pairs (Some (Registered value pending)) is refl
+back-entry n word v (Some (Leaving value)) is = taken_out given_back word.0 v n.cache.pairs (Some (Leaving value)) is refl
+
+pub evict-entry : (C : Setting) (n : NodeParts) (word : WordId) (v : ℕ) (e : Option Entry) → entry_of n word.0 ≡ e → entry_of (evicts C n word e).0 v ≡ cond (word.0 == v) (given_up (entry_of n v)) (entry_of n v)
+evict-entry C n word v None is = steady given_up word.0 v n.cache.pairs None is refl
+evict-entry C n word v (Some (Valid value marked)) is = taken_out given_up word.0 v n.cache.pairs (Some (Valid value marked)) is refl
+evict-entry C n word v (Some (Registered value true)) is = steady given_up word.0 v n.cache.pairs (Some (Registered value true)) is refl
+evict-entry C n word v (Some (Registered value false)) is = rewritten given_up word.0 v n.cache.pairs (Registered value false) (Leaving value) is refl
+evict-entry C n word v (Some (Leaving value)) is = steady given_up word.0 v n.cache.pairs (Some (Leaving value)) is refl
+
+pub read-same : (C : Setting) (n : NodeParts) (word : WordId) (reader : CoreId) (e : Option Entry) → (read_row C n word reader e).0 ≡ n
+read-same C n word reader None = refl
+read-same C n word reader (Some (Valid value marked)) = refl
+read-same C n word reader (Some (Registered value pending)) = refl
+read-same C n word reader (Some (Leaving value)) = refl
+
+pub data-entry : (n : NodeParts) (word : WordId) (value v : ℕ) → n.waiting ≡ wait.TheVariants.Reading word → entry_of n word.0 ≡ None → has_room n.cache word.0 ≡ true
+    → entry_of (data_row n word value n.waiting).0 v ≡ cond (word.0 == v) (Some (Valid value false)) (entry_of n v)
+data-entry n word value v waits none room =
+    let same : (word.0 == word.0) ≡ true = grind (arith, nat_tests) in
+    rw (waits, same, none, room) (lookup-put word (Valid value false) v n.cache.pairs)
+
+pub store-entry : (C : Setting) (n : NodeParts) (d : TaskDecl) (t : TaskState) (word : WordId) (e : Entry) (v : ℕ)
+    → entry_of (stored C n d t word e) v ≡ cond (word.0 == v) (Some e) (entry_of n v)
+store-entry C n d t word e v = lookup-put word e v n.cache.pairs

@@ -1,0 +1,131 @@
+-- What an event leaves of a node.
+use Rattle.std.proofs.Common.{◌≡◌, ℕ, ◌==◌, Bool, true, false, cond, Option, Some, None, refl}
+use Rattle.dn_base.specs.declared.ids.CoreId.{CoreId}
+use Rattle.dn_base.specs.declared.ids.LockId.{LockId}
+use Rattle.dn_base.specs.declared.ids.WordId.{WordId}
+use Rattle.region_table.specs.declared.declared.TaskDecl.{TaskDecl}
+use Rattle.rv_core.specs.declared.task.TaskState.{TaskState}
+use Rattle.rv_core.specs.declared.need.Need as need
+use Rattle.rv_core.specs.declared.need.Need.{Need}
+use Rattle.write_signature.specs.declared.signature.Signature.{Signature}
+use Rattle.message_net.specs.declared.message.Message as message
+use Rattle.message_net.specs.declared.message.Message.{Message}
+use Rattle.word_cache.specs.declared.row.Entry.{Entry}
+use Rattle.word_cache.specs.declared.row.Entry.TheVariants.{Valid, Registered, Leaving}
+use Rattle.word_cache.specs.Cache.{has_room}
+use Rattle.registration_protocol.specs.declared.node.NodeWait as wait
+use Rattle.registration_protocol.specs.declared.node.NodeWait.{NodeWait}
+use Rattle.registration_protocol.specs.declared.node.Received.{Received}
+use Rattle.registration_protocol.specs.Node.{NodeParts, Setting, declared, need_now, entry_of}
+use Rattle.registration_protocol.specs.OwnEvents.{loads, stores, instr_row, instr_by, instructed, evicts, evicted}
+use Rattle.registration_protocol.specs.Messages.{fills, data_row, ack_row, forward_row, read_row, gone_row, granted_to, grant_row, node_gets}
+use Rattle.registration_protocol.specs.Changes.{is_from_keeper, KeepsPlace}
+
+same : (n : NodeParts) → KeepsPlace n n
+same n = record { core = refl; phase = refl; arrived = refl; halted = refl }
+
+load_place : (C : Setting) (n : NodeParts) (d : TaskDecl) (t : TaskState) (word : WordId) (e : Option Entry) → KeepsPlace n (loads C n d t word e).0
+load_place C n d t word None = record { core = refl; phase = refl; arrived = refl; halted = refl }
+load_place C n d t word (Some (Valid value marked)) = record { core = refl; phase = refl; arrived = refl; halted = refl }
+load_place C n d t word (Some (Registered value pending)) = record { core = refl; phase = refl; arrived = refl; halted = refl }
+load_place C n d t word (Some (Leaving value)) = same n
+
+store_place : (C : Setting) (n : NodeParts) (d : TaskDecl) (t : TaskState) (word : WordId) (whole : Bool) (e : Option Entry) → KeepsPlace n (stores C n d t word whole e).0
+store_place C n d t word true None = record { core = refl; phase = refl; arrived = refl; halted = refl }
+store_place C n d t word false None = record { core = refl; phase = refl; arrived = refl; halted = refl }
+store_place C n d t word whole (Some (Valid value marked)) = record { core = refl; phase = refl; arrived = refl; halted = refl }
+store_place C n d t word whole (Some (Registered value pending)) = record { core = refl; phase = refl; arrived = refl; halted = refl }
+store_place C n d t word whole (Some (Leaving value)) = same n
+
+row_place : (C : Setting) (n : NodeParts) (d : TaskDecl) (t : TaskState) (x : Need) → KeepsPlace n (instr_row C n d t x).0
+row_place C n d t need.TheVariants.Local = record { core = refl; phase = refl; arrived = refl; halted = refl }
+row_place C n d t (need.TheVariants.End by) = record { core = refl; phase = refl; arrived = refl; halted = refl }
+row_place C n d t (need.TheVariants.Load word) = load_place C n d t word (entry_of n word.0)
+row_place C n d t (need.TheVariants.Store word whole) = store_place C n d t word whole (entry_of n word.0)
+row_place C n d t (need.TheVariants.Acquire lock) = record { core = refl; phase = refl; arrived = refl; halted = refl }
+row_place C n d t (need.TheVariants.Release lock) = record { core = refl; phase = refl; arrived = refl; halted = refl }
+
+instr_place : (C : Setting) (n : NodeParts) (o : Option TaskDecl) (p : Option TaskState) (x : Option Need) → KeepsPlace n (instr_by C n o p x).0
+instr_place C n None p x = same n
+instr_place C n (Some d) None x = same n
+instr_place C n (Some d) (Some t) None = same n
+instr_place C n (Some d) (Some t) (Some x) = row_place C n d t x
+
+pub instr-place : (C : Setting) (n : NodeParts) → KeepsPlace n (instructed C n).0
+instr-place C n = instr_place C n (declared C.program n.phase n.core) n.task (need_now C n)
+
+evict_place : (C : Setting) (n : NodeParts) (word : WordId) (e : Option Entry) → KeepsPlace n (evicts C n word e).0
+evict_place C n word None = same n
+evict_place C n word (Some (Valid value marked)) = record { core = refl; phase = refl; arrived = refl; halted = refl }
+evict_place C n word (Some (Registered value true)) = same n
+evict_place C n word (Some (Registered value false)) = record { core = refl; phase = refl; arrived = refl; halted = refl }
+evict_place C n word (Some (Leaving value)) = same n
+
+pub evict-place : (C : Setting) (n : NodeParts) (word : WordId) → KeepsPlace n (evicted C n word).0
+evict-place C n word = evict_place C n word (entry_of n word.0)
+
+either_place : (n : NodeParts) (b : Bool) (x y : NodeParts × Received) → KeepsPlace n x.0 → KeepsPlace n y.0 → KeepsPlace n (cond b x y).0
+either_place n true x y p q = p
+either_place n false x y p q = q
+
+fill_place : (n : NodeParts) (word : WordId) (value : ℕ) (e : Option Entry) → KeepsPlace n (fills n word value e).0
+fill_place n word value None = either_place n (has_room n.cache word.0) _ _ (record { core = refl; phase = refl; arrived = refl; halted = refl }) (same n)
+fill_place n word value (Some e) = same n
+
+data_place : (n : NodeParts) (word : WordId) (value : ℕ) (w : NodeWait) → KeepsPlace n (data_row n word value w).0
+data_place n word value wait.TheVariants.None = same n
+data_place n word value (wait.TheVariants.Reading wanted) = either_place n (wanted.0 == word.0) _ _ (fill_place n word value (entry_of n word.0)) (same n)
+data_place n word value (wait.TheVariants.Filled wanted) = same n
+data_place n word value (wait.TheVariants.Locking lock) = same n
+
+ack_place : (n : NodeParts) (word : WordId) (e : Option Entry) → KeepsPlace n (ack_row n word e).0
+ack_place n word None = same n
+ack_place n word (Some (Valid value marked)) = same n
+ack_place n word (Some (Registered value true)) = record { core = refl; phase = refl; arrived = refl; halted = refl }
+ack_place n word (Some (Registered value false)) = same n
+ack_place n word (Some (Leaving value)) = same n
+
+forward_place : (n : NodeParts) (word : WordId) (core : CoreId) (e : Option Entry) → KeepsPlace n (forward_row n word core e).0
+forward_place n word core None = same n
+forward_place n word core (Some (Valid value marked)) = same n
+forward_place n word core (Some (Registered value true)) = same n
+forward_place n word core (Some (Registered value false)) = record { core = refl; phase = refl; arrived = refl; halted = refl }
+forward_place n word core (Some (Leaving value)) = same n
+
+read_place : (C : Setting) (n : NodeParts) (word : WordId) (reader : CoreId) (e : Option Entry) → KeepsPlace n (read_row C n word reader e).0
+read_place C n word reader None = same n
+read_place C n word reader (Some (Valid value marked)) = same n
+read_place C n word reader (Some (Registered value pending)) = same n
+read_place C n word reader (Some (Leaving value)) = same n
+
+gone_place : (n : NodeParts) (word : WordId) (e : Option Entry) → KeepsPlace n (gone_row n word e).0
+gone_place n word None = same n
+gone_place n word (Some (Valid value marked)) = same n
+gone_place n word (Some (Registered value pending)) = same n
+gone_place n word (Some (Leaving value)) = record { core = refl; phase = refl; arrived = refl; halted = refl }
+
+granted_place : (C : Setting) (n : NodeParts) (lock : LockId) (signature : Signature) (o : Option TaskState) → KeepsPlace n (granted_to C n lock signature o).0
+granted_place C n lock signature None = same n
+granted_place C n lock signature (Some t) = record { core = refl; phase = refl; arrived = refl; halted = refl }
+
+grant_place : (C : Setting) (n : NodeParts) (lock : LockId) (signature : Signature) (w : NodeWait) → KeepsPlace n (grant_row C n lock signature w).0
+grant_place C n lock signature wait.TheVariants.None = same n
+grant_place C n lock signature (wait.TheVariants.Reading word) = same n
+grant_place C n lock signature (wait.TheVariants.Filled word) = same n
+grant_place C n lock signature (wait.TheVariants.Locking wanted) = either_place n (wanted.0 == lock.0) _ _ (granted_place C n lock signature n.task) (same n)
+
+pub gets-place : (C : Setting) (n : NodeParts) (m : Message) → is_from_keeper m ≡ false → KeepsPlace n (node_gets C n m).0
+gets-place C n (message.TheVariants.DataReply word value) other = data_place n word value n.waiting
+gets-place C n (message.TheVariants.RegAck word) other = ack_place n word (entry_of n word.0)
+gets-place C n (message.TheVariants.RegFwd word core) other = forward_place n word core (entry_of n word.0)
+gets-place C n (message.TheVariants.ReadFwd word reader) other = read_place C n word reader (entry_of n word.0)
+gets-place C n (message.TheVariants.WbAck word) other = gone_place n word (entry_of n word.0)
+gets-place C n (message.TheVariants.Grant lock signature) other = grant_place C n lock signature n.waiting
+gets-place C n (message.TheVariants.Go phase) other = absurd (cc)
+gets-place C n message.TheVariants.Halt other = absurd (cc)
+gets-place C n (message.TheVariants.ReadReq word reader) other = same n
+gets-place C n (message.TheVariants.RegReq word core) other = same n
+gets-place C n (message.TheVariants.WriteBack word value core) other = same n
+gets-place C n (message.TheVariants.Acquire lock core) other = same n
+gets-place C n (message.TheVariants.Release lock core signature) other = same n
+gets-place C n (message.TheVariants.Arrived core bad) other = same n
