@@ -1,5 +1,5 @@
 -- What is left of a cache's pairs.
-use Rattle.std.proofs.Common.{◌≡◌, ℕ, Bool, true, false, List, [], ◌∷◌, cond, refl, arith}
+use Rattle.std.proofs.Common.{◌≡◌, ℕ, Bool, true, List, [], ◌∷◌, refl, arith}
 use Rattle.std.specs.List.{filter}
 use Rattle.write_signature.specs.declared.signature.Signature.{Signature}
 use Rattle.word_cache.specs.declared.row.Entry.{Entry}

@@ -8,12 +8,12 @@ use Rattle.region_table.specs.declared.declared.TaskDecl.{TaskDecl}
 use Rattle.rv_core.specs.declared.task.TaskState.{TaskState}
 use Rattle.word_cache.specs.declared.row.Entry.{Entry}
 use Rattle.word_cache.specs.declared.row.Entry.TheVariants.{Valid, Registered, Leaving}
-use Rattle.word_cache.specs.Cache.{Pair, lookup, without, put, changed, has_room}
+use Rattle.word_cache.specs.Cache.{Pair, lookup, without, changed, has_room}
 use Rattle.word_cache.proofs.LookLemmas.{lookup-without, lookup-put, lookup-changed}
 use Rattle.registration_protocol.specs.declared.node.NodeWait as wait
 use Rattle.registration_protocol.specs.Node.{NodeParts, Setting, entry_of}
 use Rattle.registration_protocol.specs.OwnEvents.{stored, evicts}
-use Rattle.registration_protocol.specs.Messages.{ack_row, forward_row, gone_row, read_row, data_row, fills}
+use Rattle.registration_protocol.specs.Messages.{ack_row, forward_row, gone_row, read_row, data_row}
 use Rattle.registration_protocol.specs.Changes.{acknowledged, forwarded, given_back, given_up}
 
 -- what a word has that has an entry's change

@@ -1,7 +1,6 @@
 -- A node fits its context, whatever it does.
-use Rattle.std.proofs.Common.{◌≡◌, ◌↔◌, ℕ, ◌+◌, ◌^◌, ◌<◌, ◌≤◌, Bool, true, false, cond, ◌&&◌, not, ◌==◌, nat_lt, List, [], ◌∷◌, length, slice_index_or, slice_set, Option, Some, None, IfSome, refl, sym, ap, ◌∙◌, subst, ⊎_elim, bit_and, bit_or, bit_xor, arith}
-use Rattle.std.proofs.Math.ListN.{replicate}
-use Rattle.std.proofs.lemmas.Bool.{false≢true, and_parts, cases_eq}
+use Rattle.std.proofs.Common.{◌≡◌, ℕ, ◌+◌, ◌^◌, ◌<◌, ◌≤◌, Bool, true, false, cond, ◌&&◌, not, ◌==◌, nat_lt, List, length, Option, Some, None, IfSome, refl, sym, ap, ◌∙◌, subst, ⊎_elim, bit_or, bit_xor, arith}
+use Rattle.std.proofs.lemmas.Bool.{and_parts, cases_eq}
 use Rattle.std.proofs.lemmas.Bool.Decides.{nat_tests}
 use Rattle.std.proofs.lemmas.List.{length-replicate}
 use Rattle.std.proofs.Math.ListN.{length-set}
@@ -19,9 +18,9 @@ use Rattle.rv_core.specs.declared.task.End.{End}
 use Rattle.rv_core.specs.declared.need.Need as need
 use Rattle.rv_core.specs.declared.need.Need.{Need}
 use Rattle.rv_core.specs.Access.{holds}
-use Rattle.rv_core.specs.Kinds.{IsLoad, IsStore, IsAdvance, EndsByFuel, Tells}
+use Rattle.rv_core.specs.Kinds.{IsLoad, IsAdvance, EndsByFuel, Tells}
 use Rattle.rv_core.specs.Need.{need_of}
-use Rattle.rv_core.specs.Step.{advanced, loaded_of, merged_of}
+use Rattle.rv_core.specs.Step.{advanced, loaded_of}
 use Rattle.rv_core.specs.Task.{started, stopped}
 use Rattle.rv_core.proofs.Needs.{need-allowed, need-fuel, advance-tells, load-tells}
 use Rattle.write_signature.specs.declared.signature.Signature.{Signature}
@@ -30,14 +29,14 @@ use Rattle.message_net.specs.declared.message.Message as message
 use Rattle.message_net.specs.declared.message.Message.{Message}
 use Rattle.word_cache.specs.declared.row.Entry.{Entry}
 use Rattle.word_cache.specs.declared.row.Entry.TheVariants.{Valid, Registered, Leaving}
-use Rattle.word_cache.specs.Cache.{Pair, has_room, put, touched}
+use Rattle.word_cache.specs.Cache.{Pair, has_room, put}
 use Rattle.registration_protocol.specs.declared.node.NodeWait as wait
 use Rattle.registration_protocol.specs.declared.node.NodeWait.{NodeWait}
 use Rattle.registration_protocol.specs.declared.node.Received.{Received}
 use Rattle.registration_protocol.specs.Node.{NodeParts, Setting, declared, need_now, need_if, need_by, entry_of, is_ready}
-use Rattle.registration_protocol.specs.Fit.{IsContext, Fits, HoldsOwn, NeedsLock}
-use Rattle.registration_protocol.specs.OwnEvents.{noted, misses, loads, stores, registers, stored, instr_row, instr_by, instructed, may_instr, evicts, evicted, arrives}
-use Rattle.registration_protocol.specs.Messages.{fills, data_row, ack_row, forward_row, read_row, gone_row, granted_to, holds_now, grant_row, begins, go_row, node_gets, guarded_by, of_phase}
+use Rattle.registration_protocol.specs.Fit.{Fits, HoldsOwn, NeedsLock}
+use Rattle.registration_protocol.specs.OwnEvents.{noted, loads, stores, stored, instr_row, instr_by, instructed, may_instr, evicts, evicted, arrives}
+use Rattle.registration_protocol.specs.Messages.{fills, data_row, ack_row, forward_row, read_row, gone_row, granted_to, grant_row, begins, go_row, node_gets}
 use Rattle.registration_protocol.proofs.SignatureLemmas.{length-noted}
 
 -- ---- a node of which one part changes

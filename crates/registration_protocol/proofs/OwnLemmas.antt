@@ -1,12 +1,11 @@
 -- When a node has a word to evict.
-use Rattle.std.proofs.Common.{◌≡◌, ℕ, ◌%◌, ◌==◌, Bool, true, false, ◌&&◌, List, [], ◌∷◌, Option, Some, None, cond, refl, sym, ap, ◌∙◌, subst, arith}
+use Rattle.std.proofs.Common.{◌≡◌, ℕ, ◌%◌, ◌==◌, Bool, true, false, ◌&&◌, List, [], ◌∷◌, Option, Some, None, cond, refl, ap, ◌∙◌, subst, arith}
 use Rattle.std.proofs.lemmas.Bool.{and_parts, and_from}
 use Rattle.std.proofs.lemmas.Bool.Decides.{nat_tests}
 use Rattle.std.specs.List.{find}
 use Rattle.std.specs.Option.{option_map}
 use Rattle.dn_base.specs.declared.ids.WordId.{WordId}
-use Rattle.rv_core.specs.declared.need.Need.{Need}
-use Rattle.word_cache.specs.Cache.{Pair, is_of, lookup, may_go, is_evictable, shares_set, gives_way, victim_of}
+use Rattle.word_cache.specs.Cache.{Pair, lookup, may_go, is_evictable, shares_set, gives_way}
 use Rattle.registration_protocol.specs.Node.{NodeParts, Setting, need_now, entry_of, is_active, waits_for_nothing}
 use Rattle.registration_protocol.specs.OwnEvents.{wanted_by, makes_room, may_evict, victim_for}
 

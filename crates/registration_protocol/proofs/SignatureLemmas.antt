@@ -1,5 +1,5 @@
 -- The signatures of a node, one after the other.
-use Rattle.std.proofs.Common.{◌≡◌, ℕ, zero, suc, ◌+◌, ◌<◌, ◌≤◌, List, [], ◌∷◌, ◌++◌, length, drop, take, slice_get, slice_set, slice_index_or, Option, Some, None, refl, sym, subst, ap, add-one, arith}
+use Rattle.std.proofs.Common.{◌≡◌, ℕ, zero, suc, ◌+◌, ◌<◌, ◌≤◌, List, [], ◌∷◌, ◌++◌, length, drop, take, slice_get, slice_set, slice_index_or, None, refl, subst, ap, add-one, arith}
 use Rattle.std.proofs.Math.ListN.{replicate}
 use Rattle.region_table.specs.declared.declared.TaskDecl.{TaskDecl}
 use Rattle.write_signature.specs.declared.signature.Signature.{Signature}

@@ -1,5 +1,5 @@
 -- When a context is one of a machine, and when a node fits it.
-use Rattle.std.specs.Prelude.{◌≡◌, ℕ, ◌<◌, ◌≤◌, Bool, true, false, length, Option, Some, None, IfSome}
+use Rattle.std.specs.Prelude.{◌≡◌, ℕ, ◌<◌, ◌≤◌, true, false, length, Option, Some, IfSome}
 use Rattle.std.specs.Option.{is_some}
 use Rattle.region_table.specs.Program.{cores_of}
 use Rattle.region_table.specs.Plan.{ArePlans}

@@ -284,6 +284,23 @@ fn steps(node: &mut Node, context: &Context<'_>, count: u32)
     }
 }
 
+/// Whether after each row's events and message the node has the row's entry of word 0.
+fn follows(node: &mut Node, context: &Context<'_>, rows: &[(u32, Message, Option<Entry>)]) -> bool
+    requires context { IsContext (setting context.now) }
+    requires fits { Fits (setting context.now) node.old }
+    ensures { Fits (setting context.now) node.new }
+{
+    for row in rows {
+        let (events, message, entry) = *row;
+        steps(node, context, events);
+        let _ = node.receive(context, message);
+        if node.entry(WordId(0)) != entry {
+            return false;
+        }
+    }
+    true
+}
+
 /// What the node sends first by itself, if that is within 20 events.
 fn until_sent(node: &mut Node, context: &Context<'_>) -> Option<Outgoing>
     requires context { IsContext (setting context.now) }
@@ -316,11 +333,7 @@ fn a_mark_outlives_one_phase(rt: HostRuntime) -> Result<(), Fail> {
     let plans = plans(alloc, &program)?;
     let context = context_of(&program, plans.as_slice(), 2);
     let mut node = Node::new(alloc, CoreId(0), &context)?;
-    for (events, message, entry) in MARKS {
-        steps(&mut node, &context, events);
-        let _ = node.receive(&context, message);
-        assert_eq!(rt; node.entry(WordId(0)), entry);
-    }
+    assert!(rt; follows(&mut node, &context, &MARKS));
     let end = TaskEnd {
         phase: PhaseId(1),
         core: CoreId(0),
@@ -343,11 +356,7 @@ fn an_idle_core_drops_what_is_not_marked(rt: HostRuntime) -> Result<(), Fail> {
     let plans = plans(alloc, &program)?;
     let context = context_of(&program, plans.as_slice(), 2);
     let mut node = Node::new(alloc, CoreId(0), &context)?;
-    for (events, message, entry) in DROPS {
-        steps(&mut node, &context, events);
-        let _ = node.receive(&context, message);
-        assert_eq!(rt; node.entry(WordId(0)), entry);
-    }
+    assert!(rt; follows(&mut node, &context, &DROPS));
     Ok(())
 }
 
