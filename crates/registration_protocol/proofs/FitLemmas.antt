@@ -36,7 +36,7 @@ use Rattle.registration_protocol.specs.declared.node.Received.{Received}
 use Rattle.registration_protocol.specs.Node.{NodeParts, Setting, declared, need_now, need_if, need_by, entry_of, is_ready}
 use Rattle.registration_protocol.specs.Fit.{Fits, HoldsOwn, NeedsLock}
 use Rattle.registration_protocol.specs.OwnEvents.{noted, loads, stores, stored, instr_row, instr_by, instructed, may_instr, evicts, evicted, arrives}
-use Rattle.registration_protocol.specs.Messages.{fills, data_row, ack_row, forward_row, read_row, gone_row, granted_to, grant_row, begins, go_row, node_gets}
+use Rattle.registration_protocol.specs.Messages.{fills, data_row, ack_row, forward_row, read_row, gone_row, granted_to, grant_row, begins, go_row, message_row}
 use Rattle.registration_protocol.proofs.SignatureLemmas.{length-noted}
 
 -- ---- a node of which one part changes
@@ -414,18 +414,18 @@ go_fits C n phase fit =
     (λ test. let last = (and_parts (n.arrived && not n.halted && (phase == n.phase + 1)) (nat_lt phase (length C.program.phases)) test).1 in
     begins_fit C n phase fit (grind (arith, nat_tests))) fit
 
-pub gets-fits : (C : Setting) (n : NodeParts) (m : Message) → Fits C n → Fits C (node_gets C n m).0
-gets-fits C n (message.TheVariants.DataReply word value) fit = data_fits C n word value n.waiting fit
-gets-fits C n (message.TheVariants.RegAck word) fit = ack_fits C n word (entry_of n word.0) fit
-gets-fits C n (message.TheVariants.RegFwd word core) fit = forward_fits C n word core (entry_of n word.0) fit
-gets-fits C n (message.TheVariants.ReadFwd word reader) fit = read_fits C n word reader (entry_of n word.0) fit
-gets-fits C n (message.TheVariants.WbAck word) fit = gone_fits C n word (entry_of n word.0) fit
-gets-fits C n (message.TheVariants.Grant lock signature) fit = grant_fits C n lock signature n.waiting fit refl
-gets-fits C n (message.TheVariants.Go phase) fit = go_fits C n phase.0 fit
-gets-fits C n message.TheVariants.Halt fit = either_fits C n.arrived _ _ (with_halted C n fit) fit
-gets-fits C n (message.TheVariants.ReadReq word reader) fit = fit
-gets-fits C n (message.TheVariants.RegReq word core) fit = fit
-gets-fits C n (message.TheVariants.WriteBack word value core) fit = fit
-gets-fits C n (message.TheVariants.Acquire lock core) fit = fit
-gets-fits C n (message.TheVariants.Release lock core signature) fit = fit
-gets-fits C n (message.TheVariants.Arrived core bad) fit = fit
+pub row-fits : (C : Setting) (n : NodeParts) (m : Message) → Fits C n → Fits C (message_row C n m).0
+row-fits C n (message.TheVariants.DataReply word value) fit = data_fits C n word value n.waiting fit
+row-fits C n (message.TheVariants.RegAck word) fit = ack_fits C n word (entry_of n word.0) fit
+row-fits C n (message.TheVariants.RegFwd word core) fit = forward_fits C n word core (entry_of n word.0) fit
+row-fits C n (message.TheVariants.ReadFwd word reader) fit = read_fits C n word reader (entry_of n word.0) fit
+row-fits C n (message.TheVariants.WbAck word) fit = gone_fits C n word (entry_of n word.0) fit
+row-fits C n (message.TheVariants.Grant lock signature) fit = grant_fits C n lock signature n.waiting fit refl
+row-fits C n (message.TheVariants.Go phase) fit = go_fits C n phase.0 fit
+row-fits C n message.TheVariants.Halt fit = either_fits C n.arrived _ _ (with_halted C n fit) fit
+row-fits C n (message.TheVariants.ReadReq word reader) fit = fit
+row-fits C n (message.TheVariants.RegReq word core) fit = fit
+row-fits C n (message.TheVariants.WriteBack word value core) fit = fit
+row-fits C n (message.TheVariants.Acquire lock core) fit = fit
+row-fits C n (message.TheVariants.Release lock core signature) fit = fit
+row-fits C n (message.TheVariants.Arrived core bad) fit = fit

@@ -18,7 +18,7 @@ use Rattle.registration_protocol.specs.declared.node.NodeWait.{NodeWait}
 use Rattle.registration_protocol.specs.declared.node.Received.{Received}
 use Rattle.registration_protocol.specs.Node.{NodeParts, Setting, declared, need_now, entry_of}
 use Rattle.registration_protocol.specs.OwnEvents.{loads, stores, instr_row, instr_by, instructed, evicts, evicted}
-use Rattle.registration_protocol.specs.Messages.{fills, data_row, ack_row, forward_row, read_row, gone_row, granted_to, grant_row, node_gets}
+use Rattle.registration_protocol.specs.Messages.{names_own, node_gets, fills, data_row, ack_row, forward_row, read_row, gone_row, granted_to, grant_row, message_row}
 use Rattle.registration_protocol.specs.Changes.{is_from_keeper, KeepsPlace}
 
 same : (n : NodeParts) → KeepsPlace n n
@@ -114,18 +114,21 @@ grant_place C n lock signature (wait.TheVariants.Reading word) = same n
 grant_place C n lock signature (wait.TheVariants.Filled word) = same n
 grant_place C n lock signature (wait.TheVariants.Locking wanted) = either_place n (wanted.0 == lock.0) _ _ (granted_place C n lock signature n.task) (same n)
 
+row-place : (C : Setting) (n : NodeParts) (m : Message) → is_from_keeper m ≡ false → KeepsPlace n (message_row C n m).0
+row-place C n (message.TheVariants.DataReply word value) other = data_place n word value n.waiting
+row-place C n (message.TheVariants.RegAck word) other = ack_place n word (entry_of n word.0)
+row-place C n (message.TheVariants.RegFwd word core) other = forward_place n word core (entry_of n word.0)
+row-place C n (message.TheVariants.ReadFwd word reader) other = read_place C n word reader (entry_of n word.0)
+row-place C n (message.TheVariants.WbAck word) other = gone_place n word (entry_of n word.0)
+row-place C n (message.TheVariants.Grant lock signature) other = grant_place C n lock signature n.waiting
+row-place C n (message.TheVariants.Go phase) other = absurd (cc)
+row-place C n message.TheVariants.Halt other = absurd (cc)
+row-place C n (message.TheVariants.ReadReq word reader) other = same n
+row-place C n (message.TheVariants.RegReq word core) other = same n
+row-place C n (message.TheVariants.WriteBack word value core) other = same n
+row-place C n (message.TheVariants.Acquire lock core) other = same n
+row-place C n (message.TheVariants.Release lock core signature) other = same n
+row-place C n (message.TheVariants.Arrived core bad) other = same n
+
 pub gets-place : (C : Setting) (n : NodeParts) (m : Message) → is_from_keeper m ≡ false → KeepsPlace n (node_gets C n m).0
-gets-place C n (message.TheVariants.DataReply word value) other = data_place n word value n.waiting
-gets-place C n (message.TheVariants.RegAck word) other = ack_place n word (entry_of n word.0)
-gets-place C n (message.TheVariants.RegFwd word core) other = forward_place n word core (entry_of n word.0)
-gets-place C n (message.TheVariants.ReadFwd word reader) other = read_place C n word reader (entry_of n word.0)
-gets-place C n (message.TheVariants.WbAck word) other = gone_place n word (entry_of n word.0)
-gets-place C n (message.TheVariants.Grant lock signature) other = grant_place C n lock signature n.waiting
-gets-place C n (message.TheVariants.Go phase) other = absurd (cc)
-gets-place C n message.TheVariants.Halt other = absurd (cc)
-gets-place C n (message.TheVariants.ReadReq word reader) other = same n
-gets-place C n (message.TheVariants.RegReq word core) other = same n
-gets-place C n (message.TheVariants.WriteBack word value core) other = same n
-gets-place C n (message.TheVariants.Acquire lock core) other = same n
-gets-place C n (message.TheVariants.Release lock core signature) other = same n
-gets-place C n (message.TheVariants.Arrived core bad) other = same n
+gets-place C n m other = either_place n (names_own C m) _ _ (row-place C n m other) (same n)

@@ -1,5 +1,5 @@
 -- What a node does with each message.
-use Rattle.std.specs.Prelude.{ℕ, ◌+◌, true, false, ◌&&◌, ◌==◌, not, nat_lt, List, [], length, replicate, slice_set, slice_index_or, slice_get, Option, Some, None, if◌then◌else◌}
+use Rattle.std.specs.Prelude.{ℕ, ◌+◌, Bool, true, false, ◌&&◌, ◌==◌, not, nat_lt, List, [], length, replicate, slice_set, slice_index_or, slice_get, Option, Some, None, if◌then◌else◌}
 use Rattle.std.specs.Option.{option_map}
 use Rattle.dn_base.specs.declared.ids.CoreId.{CoreId}
 use Rattle.dn_base.specs.declared.ids.WordId.{WordId}
@@ -122,14 +122,28 @@ go_row C n phase =
     if n.arrived && not n.halted && (phase == n.phase + 1) && nat_lt phase (length C.program.phases) then becomes (begins C n phase)
     else unmoved n
 
--- what a node does with a message; one that no row names changes nothing and sends nothing
+-- the table of messages, row by row; one that no row names changes nothing and sends nothing
+abbrev pub message_row : Setting → NodeParts → Message → NodeParts × Received
+message_row C n (message.TheVariants.DataReply word value) = data_row n word value n.waiting
+message_row C n (message.TheVariants.RegAck word) = ack_row n word (entry_of n word.0)
+message_row C n (message.TheVariants.RegFwd word core) = forward_row n word core (entry_of n word.0)
+message_row C n (message.TheVariants.ReadFwd word reader) = read_row C n word reader (entry_of n word.0)
+message_row C n (message.TheVariants.WbAck word) = gone_row n word (entry_of n word.0)
+message_row C n (message.TheVariants.Grant lock signature) = grant_row C n lock signature n.waiting
+message_row C n (message.TheVariants.Go phase) = go_row C n phase.0
+message_row C n message.TheVariants.Halt = if n.arrived then becomes (record n { halted = true }) else unmoved n
+message_row C n _ = unmoved n
+
+-- whether the word, core or lock that a message names is one of this machine; Go's phase is tested in its row
+abbrev pub names_own : Setting → Message → Bool
+names_own C (message.TheVariants.DataReply word value) = nat_lt word.0 (length C.program.memory)
+names_own C (message.TheVariants.RegAck word) = nat_lt word.0 (length C.program.memory)
+names_own C (message.TheVariants.RegFwd word core) = nat_lt word.0 (length C.program.memory) && nat_lt core.0 C.shape.cores
+names_own C (message.TheVariants.ReadFwd word reader) = nat_lt word.0 (length C.program.memory) && nat_lt reader.0 C.shape.cores
+names_own C (message.TheVariants.WbAck word) = nat_lt word.0 (length C.program.memory)
+names_own C (message.TheVariants.Grant lock signature) = nat_lt lock.0 (length C.program.locks)
+names_own C _ = true
+
+-- what a node does with a message; one that names a word, core or lock of another machine changes nothing and sends nothing
 abbrev pub node_gets : Setting → NodeParts → Message → NodeParts × Received
-node_gets C n (message.TheVariants.DataReply word value) = data_row n word value n.waiting
-node_gets C n (message.TheVariants.RegAck word) = ack_row n word (entry_of n word.0)
-node_gets C n (message.TheVariants.RegFwd word core) = forward_row n word core (entry_of n word.0)
-node_gets C n (message.TheVariants.ReadFwd word reader) = read_row C n word reader (entry_of n word.0)
-node_gets C n (message.TheVariants.WbAck word) = gone_row n word (entry_of n word.0)
-node_gets C n (message.TheVariants.Grant lock signature) = grant_row C n lock signature n.waiting
-node_gets C n (message.TheVariants.Go phase) = go_row C n phase.0
-node_gets C n message.TheVariants.Halt = if n.arrived then becomes (record n { halted = true }) else unmoved n
-node_gets C n _ = unmoved n
+node_gets C n m = if names_own C m then message_row C n m else unmoved n

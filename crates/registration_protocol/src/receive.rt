@@ -5,7 +5,7 @@ ghost use Rattle.rv_core.specs.declared.need.Need.TheVariants.{Acquire as NeedsA
 ghost use Rattle.word_cache.specs.Cache.{dropped_signed, dropped_written};
 ghost use Rattle.registration_protocol.specs.Fit.{IsContext, Fits};
 ghost use Rattle.registration_protocol.specs.Node.{need_now};
-ghost use Rattle.registration_protocol.specs.Messages.{guarded_by, written_in, of_phase, granted_to, grant_row, begins, go_row, node_gets};
+ghost use Rattle.registration_protocol.specs.Messages.{guarded_by, written_in, of_phase, granted_to, grant_row, begins, go_row, names_own, message_row, node_gets};
 ghost use Rattle.registration_protocol.specs.Setting.{setting};
 
 use crate::node::{Node, NodeWait, Received, nothing};
@@ -24,6 +24,24 @@ fn in_phase(signature: Signature, phase: PhaseId) -> Signature
         signature
     } else {
         Signature::empty(phase)
+    }
+}
+
+/// Whether the word, core or lock that the message names is one of this machine.
+fn names_own(context: &Context<'_>, message: Message) -> bool
+    ensures { result ≡ names_own (setting context.now) message }
+{
+    let program = context.program;
+    let words = program.memory.len();
+    let cores = context.shape.cores;
+    match message {
+        Message::DataReply { word, .. } | Message::RegAck { word } | Message::WbAck { word } => {
+            (word.0 as usize) < words
+        }
+        Message::RegFwd { word, core } => (word.0 as usize) < words && core.0 < cores,
+        Message::ReadFwd { word, reader } => (word.0 as usize) < words && reader.0 < cores,
+        Message::Grant { lock, .. } => (lock.0 as usize) < program.locks.len(),
+        _ => true,
     }
 }
 
@@ -129,12 +147,12 @@ impl Node {
         nothing()
     }
 
-    /// What a message makes the node do, by its kind.
+    /// What a message of this machine makes the node do, by its kind.
     fn handle(&mut self, context: &Context<'_>, message: Message) -> Received
         requires context { IsContext (setting context.now) }
         requires fits { Fits (setting context.now) self.old }
-        ensures node { self.new ≡ (node_gets (setting context.now) self.old message).0 }
-        ensures received { result ≡ (node_gets (setting context.now) self.old message).1 }
+        ensures node { self.new ≡ (message_row (setting context.now) self.old message).0 }
+        ensures received { result ≡ (message_row (setting context.now) self.old message).1 }
     {
         match message {
             Message::DataReply { word, value } => self.data(word, value),
@@ -152,7 +170,8 @@ impl Node {
     /// What a message makes the node do: the values of words, the answers of words' homes, reads that other cores are to be
     /// answered, grants of locks, and the keeper's Go and Halt.
     ///
-    /// A message that comes where none of these says anything changes nothing and sends nothing. Takes no memory.
+    /// A message that comes where none of these says anything, or that names a word, core or lock of another machine, changes
+    /// nothing and sends nothing. Takes no memory.
     pub fn receive(&mut self, context: &Context<'_>, message: Message) -> Received
         requires context { IsContext (setting context.now) }
         requires fits { Fits (setting context.now) self.old }
@@ -160,6 +179,10 @@ impl Node {
         ensures received { result ≡ (node_gets (setting context.now) self.old message).1 }
         ensures fits { Fits (setting context.now) self.new }
     {
-        self.handle(context, message)
+        if names_own(context, message) {
+            self.handle(context, message)
+        } else {
+            nothing()
+        }
     }
 }

@@ -382,15 +382,19 @@ fn a_copy_gives_way_to_the_next_word(rt: HostRuntime) -> Result<(), Fail> {
     };
     assert_eq!(rt; until_sent(&mut node, &context), to_bank(read));
     assert_eq!(rt; node.entry(WordId(0)), None);
-    let forwarded = Message::ReadFwd {
-        word: WordId(0),
-        reader: CoreId(1),
-    };
-    let bounced = Message::ReadReq {
-        word: WordId(0),
-        reader: CoreId(1),
-    };
-    assert_eq!(rt; node.receive(&context, forwarded).sent, to_bank(bounced));
+    // a forwarded read of a word that is gone bounces to its home, but not one for a core that isn't there
+    let (word, reader) = (WordId(0), CoreId(0));
+    assert_eq!(rt;
+        node.receive(&context, Message::ReadFwd { word, reader })
+            .sent,
+        to_bank(Message::ReadReq { word, reader })
+    );
+    let reader = CoreId(1);
+    assert_eq!(rt;
+        node.receive(&context, Message::ReadFwd { word, reader })
+            .sent,
+        None
+    );
     Ok(())
 }
 
