@@ -3,9 +3,11 @@
 
 mod effects;
 mod instruction;
+mod laws;
 mod statement;
 mod writing;
 
+pub use laws::listed_code_is_assembled;
 pub use writing::listing;
 
 #[cfg(test)]

@@ -1,4 +1,4 @@
-use Rattle.std.proofs.Common.{◌≡◌, length, get_or, sym}
+use Rattle.std.proofs.Common.{length, get_or, sym}
 use Rattle.region_table.specs.Program.{IsPhase}
 use Rattle.rv_listing.proofs.writing.push_phases.Goals as goal
 
