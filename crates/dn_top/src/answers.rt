@@ -58,7 +58,6 @@ fn print(alloc: Global, mode: Mode, ending: &Ending, grants: &[Grant]) -> Result
 }
 
 /// The answer of a checked program's run on one flat memory.
-#[tactic(auto, using(crate::proofs::Causes::caused))]
 fn run(alloc: Global, options: &Options, checked: &Checked) -> Result<Output, Memory>
     requires least { 1 ≤ options.now.fuel }
     requires most { options.now.fuel ≤ 32768 }
