@@ -1,27 +1,25 @@
 -- The lines of code give the code.
 use Rattle.std.proofs.Common.{◌≡◌, ℕ, ◌+◌, ◌-◌, ◌^◌, ◌≤◌, min, Bool, false, cond, ltb, ◌||◌, List, [], ◌∷◌, ◌++◌, length, map, Option, Some, None, refl, sym, ap, ◌∙◌, append_assoc, append-nil, length-append, arith}
-use Rattle.std.specs.Prelude.{Ok, Err}
+use Rattle.std.specs.Prelude.{Ok}
 use Rattle.std.specs.List.{All}
 use Rattle.std.proofs.lemmas.Bool.{le-ltb}
 use Rattle.std.proofs.lemmas.List.Elements.{All-head, All-tail}
-use Rattle.region_table.specs.Program.{ProgramParts}
 use Rattle.rv_assembler.specs.declared.fault.SourceFault.{SourceFault}
 use Rattle.rv_assembler.specs.declared.fault.SourceFault as fault
 use Rattle.rv_assembler.specs.Vocabulary.{Code, Draft, Emission, Meaning, Statement, emission_one, statement_instruction}
 use Rattle.rv_assembler.specs.Number.{more}
 use Rattle.rv_assembler.specs.Meaning.{size_of}
 use Rattle.rv_assembler.specs.Emission.{emission, words_in}
-use Rattle.rv_assembler.specs.Draft.{no_draft, after}
+use Rattle.rv_assembler.specs.Draft.{after}
 use Rattle.rv_assembler.specs.Fault.{is_far, is_lost, early_fault, most_regions, over_limit}
 use Rattle.rv_assembler.specs.Program.{program_of}
-use Rattle.rv_assembler.specs.Source.{total, program_in, names_of, draft_of, source}
+use Rattle.rv_assembler.specs.Source.{total}
 use Rattle.rv_assembler.proofs.SourceLemmas.{total-more}
 use Rattle.rv_listing.specs.Instruction.{code_line}
 use Rattle.rv_listing.specs.Listing.{text_of}
 use Rattle.rv_listing.specs.Law.{AreCodeWords, IsWithinLimits}
-use Rattle.rv_listing.proofs.LexLemmas.{AllPlain}
 use Rattle.rv_listing.proofs.CodeLemmas.{code-gives, code-good}
-use Rattle.rv_listing.proofs.ReadLemmas.{SaidFrom, sayings, draft-said}
+use Rattle.rv_listing.proofs.ReadLemmas.{SaidFrom, sayings}
 
 -- the statements give these words, whatever the names are and wherever they stand
 abbrev pub GiveWords : List ℕ → List Code → List ℕ → Type 0
@@ -106,26 +104,9 @@ program-words d [] = ap (λ (c : List ℕ). record (program_of d) { code = c }) 
 program-words d (w ∷ ws) =
     program-words (add_word d w) ws ∙ ap (λ (c : List ℕ). record (program_of d) { code = c }) (append_assoc d.code (w ∷ []) ws)
 
-all-plain : (ws : List ℕ) → AreCodeWords ws → AllPlain (map code_line ws)
-all-plain [] h = tt
-all-plain (w ∷ ws) h = ((code-good w h.0).plain, all-plain ws h.1)
-
 short-lines : (ls : List (List ℕ)) → All (λ (l : List ℕ). length l ≤ 1024) ls → AreShort ls
 short-lines [] h = tt
 short-lines (l ∷ ls) h = (All-head (λ (l : List ℕ). length l ≤ 1024) l ls h, short-lines ls (All-tail (λ (l : List ℕ). length l ≤ 1024) l ls h))
 
-all-short : (ls : List (List ℕ)) → IsWithinLimits ls → AreShort ls
+pub all-short : (ls : List (List ℕ)) → IsWithinLimits ls → AreShort ls
 all-short ls h = short-lines ls h.line
-
--- the listing of code alone is assembled to that code
-pub code-again : (ws : List ℕ) → AreCodeWords ws → length ws ≤ 16384 → IsWithinLimits (map code_line ws)
-    → source (text_of (map code_line ws)) ≡ Ok (record { code = ws; memory = []; regions = []; locks = []; phases = [] })
-code-again ws all few h =
-    let lines = map code_line ws in
-    let text = text_of lines in
-    let small : ltb 1048576 (length text) ≡ false = le-ltb 1048576 (length text) h.bytes in
-    let s = code-said text [] 0 ws all (all-short lines h) refl refl in
-    ap (λ (b : Bool). cond b (Err fault.TheVariants.TooLarge) (program_in (draft_of text))) small
-    ∙ ap program_in (draft-said lines (instructions s.codes) (all-plain ws all) h.lines s.said)
-    ∙ ap program_in (total-code false text (names_of text) no_draft 1 s.codes ws s.gives (omega arith) refl refl)
-    ∙ ap (λ (p : ProgramParts). Ok p) (program-words no_draft ws)

@@ -179,10 +179,6 @@ abbrev pub AllPlain : List (List ℕ) → Type 0
 AllPlain [] = Unit {0}
 AllPlain (l ∷ ls) = ArePlain l × AllPlain ls
 
-pub AllPlain-append : (a b : List (List ℕ)) → AllPlain a → AllPlain b → AllPlain (a ++ b)
-AllPlain-append [] b h k = k
-AllPlain-append (x ∷ a) b h k = (h.0, AllPlain-append a b h.1 k)
-
 -- the lines of a listing are its lines
 pub cut-text : (lines : List (List ℕ)) → AllPlain lines → cut (text_of lines) ≡ lines
 cut-text [] h = refl

@@ -12,7 +12,8 @@ use Rattle.src_text.specs.Lexeme.{kind_of}
 use Rattle.src_text.specs.Number.{digit_of, value_after, value_of, has_prefix, magnitude_of, at_most, negated, number_of}
 use Rattle.src_text.specs.declared.token.TokenKind.TheVariants.{Name, Number}
 use Rattle.src_text.specs.Register.{register_of, registers}
-use Rattle.rv_listing.specs.Statement.{hex_digit, hex_at, hexadecimal, register}
+use Rattle.text_pieces.specs.Pieces.{hex_digit, hex_at, hexadecimal}
+use Rattle.rv_listing.specs.Statement.{register}
 use Rattle.rv_listing.proofs.LexLemmas.{AreWords, AreWords-append, IsWordToken, word_goes_on}
 
 -- decimal digits, with their value

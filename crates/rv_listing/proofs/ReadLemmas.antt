@@ -11,10 +11,7 @@ use Rattle.src_text.specs.declared.line.LineFault.TheVariants.{BadByte, BadNumbe
 use Rattle.src_text.specs.declared.token.Token.{Token}
 use Rattle.rv_assembler.specs.Vocabulary.{Reading, Statement, reading_good, statement_nothing}
 use Rattle.rv_assembler.specs.Reading.{read_line, reading_of, is_version_of, version_line}
-use Rattle.rv_assembler.specs.Draft.{no_draft}
-use Rattle.rv_assembler.specs.Source.{total, total_of, names_of, draft_of}
-use Rattle.rv_listing.specs.Listing.{text_of}
-use Rattle.rv_listing.proofs.LexLemmas.{AllPlain, code-plain, none-bad, cut-text}
+use Rattle.rv_listing.proofs.LexLemmas.{code-plain, none-bad}
 use Rattle.rv_listing.proofs.TokenLemmas.{IsGoodLine}
 use Rattle.rv_listing.proofs.KindLemmas.{IsSaid}
 
@@ -52,7 +49,7 @@ abbrev pub sayings : ℕ → List Statement → List Reading
 sayings number [] = []
 sayings number (s ∷ ss) = reading_good (record { line = number; label = None; statement = s }) ∷ sayings (number + 1) ss
 
-other-line : (version number : ℕ) → version < number → eqb number version ≡ false
+pub other-line : (version number : ℕ) → version < number → eqb number version ≡ false
 other-line version number l = grind (arith, nat_tests)
 
 pub said-readings : (text : List ℕ) (version number place : ℕ) (ls : List (List ℕ)) (ss : List Statement) → version < number → number + length ls ≤ 65537 → SaidFrom text place ls ss
@@ -76,13 +73,3 @@ no-version-line text (x ∷ ls) (s ∷ ss) h =
     ap (λ (y : Line). version_line text (y ∷ rest)) (line-read 1 0 x h.0 h.1 (omega arith))
     ∙ ap (λ (b : Bool). cond b (version_line text rest) (cond (is_version_of text (tokens_at 0 x)) 1 0)) h.2.some
     ∙ ap (λ (b : Bool). cond b 1 0) h.2.version
-
--- what the lines of a text of version 1 add up to
-pub draft-said : (lines : List (List ℕ)) (ss : List Statement) → AllPlain lines → length lines ≤ 65536 → SaidFrom (text_of lines) 0 lines ss
-    → draft_of (text_of lines) ≡ total false (text_of lines) (names_of (text_of lines)) no_draft (sayings 1 ss)
-draft-said lines ss plain few h =
-    let text = text_of lines in
-    let names = names_of text in
-    ap (λ (ls : List (List ℕ)). total_of (version_line text (numbered 1 0 ls)) text names no_draft (numbered 1 0 ls)) (cut-text lines plain)
-    ∙ ap (λ (v : ℕ). total_of v text names no_draft (numbered 1 0 lines)) (no-version-line text lines ss h)
-    ∙ ap (total false text names no_draft) (said-readings text 0 1 0 lines ss (omega arith) (omega arith) h)

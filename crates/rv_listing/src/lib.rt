@@ -3,11 +3,9 @@
 
 mod effects;
 mod instruction;
-mod laws;
 mod statement;
 mod writing;
 
-pub use laws::listed_code_is_assembled;
 pub use writing::listing;
 
 #[cfg(test)]
