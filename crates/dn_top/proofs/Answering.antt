@@ -1,7 +1,7 @@
 -- What follows of the text that was read, and of the answer to it that was written or not.
-use Rattle.std.proofs.Common.{◌≡◌, ◌≢◌, ◌⊎◌, inl, inr, ⊎_elim, ℕ, ◌+◌, ◌<◌, ◌≤◌, nat_lt, Bool, true, false, cond, List, [], ◌∷◌, ◌++◌, length, Option, Some, None, IfSome, Result, Ok, Err, refl, sym, ap, subst, ◌∙◌, arith, length-append, append-nil}
+use Rattle.std.proofs.Common.{◌≡◌, ◌≢◌, ◌⊎◌, inl, inr, ℕ, ◌<◌, ◌≤◌, nat_lt, Bool, true, false, List, [], ◌++◌, length, Option, Some, None, IfSome, Result, Ok, Err, refl, sym, ap, subst, ◌∙◌, arith, length-append, append-nil}
 use Rattle.std.proofs.lemmas.Bool.Decides.{nat_tests}
-use Rattle.std.specs.Io.KnownBytes.{Consumes, Appends, IsAtEnd, Keeps}
+use Rattle.std.specs.Io.KnownBytes.{Appends, Keeps}
 use Rattle.dn_base.specs.declared.status.Status.{Status}
 use Rattle.dn_base.specs.declared.status.Status as status
 use Rattle.dn_base.specs.declared.status.Outcome.{Outcome}
@@ -17,9 +17,9 @@ use Rattle.command_words.specs.declared.options.Mode.{Mode}
 use Rattle.command_words.specs.declared.options.Mode as mode
 use Rattle.command_words.specs.declared.options.Options.{Options}
 use Rattle.dn_top.specs.declared.answers.Output.{Output}
-use Rattle.dn_top.specs.Answers.{IsOutcome, WasDone, WasRun, WasChecked, WasListed, WasUnchecked, IsDone, IsRefusal, IsAnswer, done_by, refused_by, answered, refused}
-use Rattle.dn_top.specs.Outside.{IsRead, TookFront}
-use Rattle.dn_top.specs.Serving.{text_by, text_for, read_by, HasDone, HasRefused, HasFailed, IsFinished, IsGiven, IsStarved, IsReplied, IsServed, HasFailedToRead, IsGenerated, IsUnread, served_by, IsDoneBy}
+use Rattle.dn_top.specs.Answers.{IsOutcome, WasDone, IsDone, IsRefusal, IsAnswer, done_by, refused_by}
+use Rattle.dn_top.specs.Outside.{IsRead}
+use Rattle.dn_top.specs.Serving.{text_by, text_for, read_by, HasDone, HasRefused, HasFailed, IsFinished, IsReplied, IsServed, HasFailedToRead, IsGenerated, served_by, IsDoneBy}
 
 -- ---- what was read of a text
 

@@ -1,9 +1,11 @@
 -- What the program answers to options and a text.
-use Rattle.std.specs.Prelude.{◌≡◌, ◌≢◌, ◌⊎◌, ℕ, Bool, true, false, List, [], ◌∷◌, ◌++◌, codes, Option, Some, None, Result, Ok, Err}
+use Rattle.std.specs.Prelude.{◌≡◌, ◌≢◌, ◌⊎◌, ℕ, Bool, true, false, List, [], ◌∷◌, ◌++◌, codes, slice_get, Some, None, Result, Ok, Err}
+use Rattle.std.specs.List.{Any}
 use Rattle.dn_base.specs.declared.ids.Grant.{Grant}
 use Rattle.dn_base.specs.declared.status.Status.{Status}
 use Rattle.dn_base.specs.declared.status.Status as status
 use Rattle.dn_base.specs.declared.status.Outcome.{Outcome}
+use Rattle.dn_base.specs.declared.status.Outcome as outcome
 use Rattle.dn_base.specs.Status.{status_of}
 use Rattle.region_table.specs.Program.{ProgramParts}
 use Rattle.rv_assembler.specs.declared.fault.SourceFault.{SourceFault}
@@ -14,8 +16,12 @@ use Rattle.effect_checker.specs.Checked.{IsChecked}
 use Rattle.effect_checker.specs.Faults.{IsLeastFault}
 use Rattle.rv_core.specs.declared.ending.Ending.{Ending}
 use Rattle.flat_machine.specs.declared.ending.FlatEnd.{FlatEnd}
-use Rattle.flat_machine.specs.Grants.{IsLeast}
-use Rattle.flat_machine.specs.Ending.{flat_end}
+use Rattle.rv_core.specs.declared.ending.TaskEnd.{TaskEnd}
+use Rattle.flat_machine.specs.Step.{Started}
+use Rattle.flat_machine.specs.Phases.{Flat}
+use Rattle.flat_machine.specs.Grants.{IsLeast, so_far}
+use Rattle.flat_machine.specs.Ending.{flat_end, is_waiting}
+use Rattle.flat_machine.specs.Laws.{IsOutOfFuel, IsHeldUp}
 use Rattle.run_report.specs.declared.refusal.Refusal.{Refusal}
 use Rattle.run_report.specs.declared.refusal.Refusal as refusal
 use Rattle.run_report.specs.Answer.{answer_of}
@@ -49,12 +55,23 @@ abbrev pub printed : Mode → Ending → List Grant → List ℕ
 printed mode.TheVariants.Work ending grants = summary_of ending
 printed _ ending grants = answer_of ending ++ grants_of grants
 
+-- why a run ends as it does: where it ran out of fuel some task did, after just as many instructions as it may retire, and
+-- none trapped or waits; each task that hasn't ended wants a lock that another task of its phase holds; and where the run is
+-- stuck some task waits
+pub record IsCaused (program : ProgramParts) (fuel : ℕ) (grants : List Grant) (ending : Ending) : Type 0 where
+  pub spent : ending.outcome ≡ outcome.TheVariants.Fuel → IsOutOfFuel fuel ending.tasks
+  pub machine : Flat
+  pub reached : so_far program fuel grants ≡ Some machine
+  pub held_up : (i : ℕ) (r : Started) → slice_get machine.tasks i ≡ Some r → r.state.end ≡ None → IsHeldUp program fuel machine.tasks i r
+  pub stuck : ending.outcome ≡ outcome.TheVariants.Stuck → Any (λ (t : TaskEnd). is_waiting t.end ≡ true) ending.tasks
+
 -- the answer of a program's run on one flat memory by the least list of grants
 pub record IsRunOf (o : Options) (program : ProgramParts) (out : Output) : Type 0 where
   pub grants : List Grant
   pub least : IsLeast program o.fuel grants
   pub end : FlatEnd
   pub flat : flat_end program o.fuel grants ≡ Some end
+  pub cause : IsCaused program o.fuel grants end.ending
   pub answer : out ≡ answered (status_of end.ending.outcome) (printed o.mode end.ending grants)
 
 -- the program is checked, and was run

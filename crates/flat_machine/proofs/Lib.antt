@@ -7,3 +7,4 @@ pub mod Frames
 pub mod Separation
 pub mod RunLemmas
 pub mod Rest
+pub mod CauseLemmas

@@ -60,12 +60,12 @@ load-end t value (Some instr.TheVariants.Ebreak) = refl
 -- ---- one instruction uses up a part of the room
 
 -- the second state is the first one instruction later, and there was fuel for it
-record IsOneMore (fuel : ℕ) (t u : TaskState) : Type 0 where
-  retired : u.retired ≡ t.retired + 1
-  kept : u.end ≡ t.end
-  unspent : t.retired ≡ fuel → ⊥
+pub record IsOneMore (fuel : ℕ) (t u : TaskState) : Type 0 where
+  pub retired : u.retired ≡ t.retired + 1
+  pub kept : u.end ≡ t.end
+  pub unspent : t.retired ≡ fuel → ⊥
 
-advanced-more : (P : ProgramParts) (fuel : ℕ) (r : Started) (n : Need) → IsAdvance n → wish P fuel r ≡ Some n → IsOneMore fuel r.state (advanced P r.state)
+pub advanced-more : (P : ProgramParts) (fuel : ℕ) (r : Started) (n : Need) → IsAdvance n → wish P fuel r ≡ Some n → IsOneMore fuel r.state (advanced P r.state)
 unfolding advanced
 advanced-more P fuel r n k e =
     let kind = subst IsAdvance (sym (wish-need P fuel r n e)) k in
@@ -75,7 +75,7 @@ advanced-more P fuel r n k e =
       unspent = (fuelled P r.decl fuel r.state IsAdvance (λ x. x) kind).0;
     }
 
-loaded-more : (P : ProgramParts) (fuel : ℕ) (r : Started) (value : ℕ) (n : Need) → IsLoad n → wish P fuel r ≡ Some n → IsOneMore fuel r.state (loaded_of P value r.state)
+pub loaded-more : (P : ProgramParts) (fuel : ℕ) (r : Started) (value : ℕ) (n : Need) → IsLoad n → wish P fuel r ≡ Some n → IsOneMore fuel r.state (loaded_of P value r.state)
 unfolding loaded_of
 loaded-more P fuel r value n k e =
     let kind = subst IsLoad (sym (wish-need P fuel r n e)) k in
@@ -85,7 +85,7 @@ loaded-more P fuel r value n k e =
       unspent = (fuelled P r.decl fuel r.state IsLoad (λ x. x) kind).0;
     }
 
-wish-open : (P : ProgramParts) (fuel : ℕ) (r : Started) (n : Need) → wish P fuel r ≡ Some n → r.state.end ≡ None
+pub wish-open : (P : ProgramParts) (fuel : ℕ) (r : Started) (n : Need) → wish P fuel r ≡ Some n → r.state.end ≡ None
 wish-open P fuel r n e = by_end r.state.end refl e
   where
     by_end : (o : Option End) → r.state.end ≡ o → wish_unless P fuel r o ≡ Some n → r.state.end ≡ None
@@ -126,7 +126,7 @@ stopped-less fuel by t opened within =
     record { room = omega arith; within = λ e. absurd (stopped-some by t e) }
 
 -- a task is at rest, or goes on with less room
-step-less : (P : ProgramParts) (fuel : ℕ) (s : At) → IsWithin fuel s.task → IsAtRest (wish P fuel s.task) ⊎ IsLess fuel s.task.state (flat_step P fuel s).task.state
+pub step-less : (P : ProgramParts) (fuel : ℕ) (s : At) → IsWithin fuel s.task → IsAtRest (wish P fuel s.task) ⊎ IsLess fuel s.task.state (flat_step P fuel s).task.state
 step-less P fuel s within = by_wish (wish P fuel s.task) refl
   where
     by_wish : (o : Option Need) → wish P fuel s.task ≡ o → IsAtRest o ⊎ IsLess fuel s.task.state (step_by P s o).task.state
@@ -148,7 +148,7 @@ step-less P fuel s within = by_wish (wish P fuel s.task) refl
         let o = wish-open P fuel s.task (need.TheVariants.End by) e in
         inr (stopped-less fuel by s.task.state o (within o))
 
-rest-still : (P : ProgramParts) (fuel : ℕ) (s : At) → IsAtRest (wish P fuel s.task) → IsStill P fuel s
+pub rest-still : (P : ProgramParts) (fuel : ℕ) (s : At) → IsAtRest (wish P fuel s.task) → IsStill P fuel s
 rest-still P fuel s rest = by_wish (wish P fuel s.task) rest
   where
     by_wish : (o : Option Need) → IsAtRest o → step_by P s o ≡ s

@@ -1,16 +1,19 @@
 //! What segments and lists of grants come to, for whoever compares other machines with the flat one.
-ghost use Rattle.std.specs.Prelude.{◌≡◌, ◌≢◌, ℕ, List, [], ◌∷◌, ◌++◌, length, slice_index, Some, None, false};
-ghost use Rattle.std.specs.List.{IsAmong};
+ghost use Rattle.std.specs.Prelude.{◌≡◌, ◌≢◌, ℕ, List, [], ◌∷◌, ◌++◌, length, slice_get, slice_index, Some, None, true, false};
+ghost use Rattle.std.specs.List.{All, Any, IsAmong};
 ghost use Rattle.dn_base.specs.declared.ids.Grant.{Grant};
+ghost use Rattle.dn_base.specs.declared.status.Outcome.TheVariants.{Fuel, Stuck};
 ghost use Rattle.region_table.specs.Program.{ProgramParts};
 ghost use Rattle.region_table.specs.declared.declared.Phase.{Phase};
 ghost use Rattle.rv_core.specs.Access.{may_load, may_store};
+ghost use Rattle.rv_core.specs.declared.ending.TaskEnd.{TaskEnd};
 ghost use Rattle.effect_checker.specs.Checked.{IsChecked};
+ghost use Rattle.flat_machine.specs.declared.ending.FlatEnd.{FlatEnd};
 ghost use Rattle.flat_machine.specs.Step.{Started, At, wish, flat_step, segment, IsWithin};
-ghost use Rattle.flat_machine.specs.Phases.{opened};
-ghost use Rattle.flat_machine.specs.Grants.{so_far, granted_if, IsLeast};
-ghost use Rattle.flat_machine.specs.Ending.{end_of, flat_end};
-ghost use Rattle.flat_machine.specs.Laws.{at_memory, IsAtRest, AgreeOn, IsAlike, HoldApart, SameInEitherOrder};
+ghost use Rattle.flat_machine.specs.Phases.{Flat, has_finished, opened};
+ghost use Rattle.flat_machine.specs.Grants.{so_far, is_whole, granted_if, IsLeast};
+ghost use Rattle.flat_machine.specs.Ending.{is_waiting, end_of, flat_end};
+ghost use Rattle.flat_machine.specs.Laws.{at_memory, IsAtRest, AgreeOn, IsAlike, HoldApart, SameInEitherOrder, HasUsedUp, IsOutOfFuel, IsHeldUp};
 
 /// A segment changes no word but those that its task may store with the locks that it holds at the start. It only gives
 /// locks up.
@@ -60,4 +63,24 @@ pub fn the_least_list_has_a_run()
 pub fn without_locks_there_is_one_run()
     ensures run { (P : ProgramParts) (fuel : ℕ) → length P.locks ≡ 0 → flat_end P fuel [] ≡ Some (end_of P fuel (opened P fuel)) }
     ensures only { (P : ProgramParts) (fuel : ℕ) (g : Grant) (gs : List Grant) → length P.locks ≡ 0 → flat_end P fuel (g ∷ gs) ≡ None }
+{}
+
+/// In the ending of a run each task that is shown as out of fuel has retired just as many instructions as it may. A run whose
+/// outcome is that it is out of fuel has such a task, and none that trapped or waits.
+pub fn a_task_out_of_fuel_has_used_it_up()
+    ensures task { (P : ProgramParts) (fuel : ℕ) (gs : List Grant) (e : FlatEnd) → flat_end P fuel gs ≡ Some e → All (HasUsedUp fuel) e.ending.tasks }
+    ensures run { (P : ProgramParts) (fuel : ℕ) (gs : List Grant) (e : FlatEnd) → flat_end P fuel gs ≡ Some e → e.ending.outcome ≡ Fuel → IsOutOfFuel fuel e.ending.tasks }
+{}
+
+/// After a whole list of grants each task of the last phase that hasn't ended wants a lock that another task of the phase
+/// holds. The tasks of the phases before have all finished. A run that is stuck shows a task that waits, and in its last phase
+/// there is a task that hasn't ended.
+pub fn a_task_that_waits_wants_a_held_lock()
+    ensures waits { (P : ProgramParts) (fuel : ℕ) (gs : List Grant) (F : Flat) → so_far P fuel gs ≡ Some F → is_whole P fuel F ≡ true
+        → (i : ℕ) (r : Started) → slice_get F.tasks i ≡ Some r → r.state.end ≡ None → IsHeldUp P fuel F.tasks i r }
+    ensures past { (P : ProgramParts) (fuel : ℕ) (gs : List Grant) (F : Flat) → so_far P fuel gs ≡ Some F → All (λ (r : Started). has_finished r ≡ true) F.past }
+    ensures stuck { (P : ProgramParts) (fuel : ℕ) (gs : List Grant) (e : FlatEnd) → flat_end P fuel gs ≡ Some e → e.ending.outcome ≡ Stuck
+        → Any (λ (t : TaskEnd). is_waiting t.end ≡ true) e.ending.tasks }
+    ensures waiter { (P : ProgramParts) (fuel : ℕ) (gs : List Grant) (F : Flat) → so_far P fuel gs ≡ Some F → (end_of P fuel F).ending.outcome ≡ Stuck
+        → Any (λ (r : Started). r.state.end ≡ None) F.tasks }
 {}

@@ -15,6 +15,7 @@ mod tests;
 pub use ending::{FlatEnd, TaskLoads};
 pub use laws::{
     a_segment_comes_to_rest, a_segment_keeps_other_words, a_segment_reads_its_words,
+    a_task_out_of_fuel_has_used_it_up, a_task_that_waits_wants_a_held_lock,
     one_more_grant_is_one_step, segments_run_in_either_order, the_least_list_has_a_run,
     without_locks_there_is_one_run,
 };

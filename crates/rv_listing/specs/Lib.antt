@@ -1,3 +1,4 @@
 pub mod Statement
 pub mod Instruction
 pub mod Listing
+pub mod Law

@@ -1,7 +1,8 @@
 -- How a statement is written in a listing.
 use Rattle.std.specs.Prelude.{ℕ, ℤ, List, [], ◌∷◌, ◌++◌, codes}
 use Rattle.std.specs.Fmt.{decimal, signed_decimal}
-pub use Rattle.text_pieces.specs.Pieces.{hex_digit, hex_at, hexadecimal}
+pub use Rattle.text_pieces.specs.Pieces.{hex_digit, hex_at}
+unfoldable pub use Rattle.text_pieces.specs.Pieces.{hexadecimal}
 use Rattle.rv_listing.specs.declared.statement.Operand.{Operand}
 use Rattle.rv_listing.specs.declared.statement.Operand.TheVariants.{Name, Register, Number, Offset, Word, Address}
 

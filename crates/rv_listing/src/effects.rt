@@ -6,6 +6,7 @@ ghost use Rattle.src_text.specs.Laws.{ended};
 ghost use Rattle.region_table.specs.declared.declared.Region.{Region};
 ghost use Rattle.region_table.specs.Words.{IsCanonical};
 ghost use Rattle.region_table.specs.Program.{AreTiled};
+ghost use Rattle.rv_listing.specs.Law.{AreCanonical};
 ghost use Rattle.rv_listing.specs.Listing.{text_of, use_line, part_line, interval_lines, set_lines, guarded_lines, all_guarded_lines, effect_lines};
 
 use crate::statement::{Operand, push_line};
@@ -103,7 +104,8 @@ pub(crate) fn push_set<'a>(
     set: &WordSet,
 ) -> Result<(), Memory>
     requires { (size : ℕ) × (size ≤ 65536) × AreTiled 0 regions.now size }
-    ensures { OnOk result (out.new.items ≡ out.old.items ++ text_of (set_lines usage.entry.word.now (option_map (λ s. s.now) usage.entry.lock) regions.now set.now)) }
+    ensures lines { OnOk result (out.new.items ≡ out.old.items ++ text_of (set_lines usage.entry.word.now (option_map (λ s. s.now) usage.entry.lock) regions.now set.now)) }
+    ensures canonical { IfOk result (λ _. IsCanonical set.now) }
 {
     let mut from = 0;
     for interval in set.intervals() {
@@ -123,7 +125,9 @@ fn push_guarded<'a>(
     requires tiled { (size : ℕ) × (size ≤ 65536) × AreTiled 0 regions.now size }
     requires reads { number < length effects.now.guarded_reads }
     requires writes { number < length effects.now.guarded_writes }
-    ensures { OnOk result (out.new.items ≡ out.old.items ++ text_of (guarded_lines regions.now effects.now number lock.now)) }
+    ensures lines { OnOk result (out.new.items ≡ out.old.items ++ text_of (guarded_lines regions.now effects.now number lock.now)) }
+    ensures reads { IfOk result (λ _. IsCanonical (slice_index_or effects.now.guarded_reads number [])) }
+    ensures writes { IfOk result (λ _. IsCanonical (slice_index_or effects.now.guarded_writes number [])) }
 {
     let lock = Some(lock.bytes());
     let reads = Usage {
@@ -158,7 +162,9 @@ fn push_all_guarded<'a>(
     requires tiled { (size : ℕ) × (size ≤ 65536) × AreTiled 0 regions.now size }
     requires reads { length effects.now.guarded_reads ≡ length locks.now }
     requires writes { length effects.now.guarded_writes ≡ length locks.now }
-    ensures { OnOk result (out.new.items ≡ out.old.items ++ text_of (all_guarded_lines regions.now effects.now 0 locks.now)) }
+    ensures lines { OnOk result (out.new.items ≡ out.old.items ++ text_of (all_guarded_lines regions.now effects.now 0 locks.now)) }
+    ensures reads { IfOk result (λ _. All IsCanonical effects.now.guarded_reads) }
+    ensures writes { IfOk result (λ _. All IsCanonical effects.now.guarded_writes) }
 {
     for (number, lock) in locks.iter().enumerate() {
         push_guarded(out, regions, effects, number, lock)?;
@@ -176,7 +182,8 @@ pub(crate) fn push_effects<'a>(
     requires tiled { (size : ℕ) × (size ≤ 65536) × AreTiled 0 regions.now size }
     requires reads { length effects.now.guarded_reads ≡ length locks.now }
     requires writes { length effects.now.guarded_writes ≡ length locks.now }
-    ensures { OnOk result (out.new.items ≡ out.old.items ++ text_of (effect_lines regions.now locks.now effects.now)) }
+    ensures lines { OnOk result (out.new.items ≡ out.old.items ++ text_of (effect_lines regions.now locks.now effects.now)) }
+    ensures canonical { IfOk result (λ _. AreCanonical effects.now) }
 {
     let reads = Usage {
         word: b".reads",

@@ -4,6 +4,10 @@ use std::alloc::{AllocError, Global};
 use std::process::Abort;
 use std::test::Fail;
 
+mod realistic;
+
+use realistic::REALISTIC;
+
 /// That the program of a text has this listing.
 fn told(rt: &impl Abort, alloc: Global, text: &[u8], listed: &[u8]) -> Result<(), Fail> {
     let program = assemble(alloc, text)?;
@@ -82,4 +86,34 @@ fn told_first(rt: &impl Abort, alloc: Global, count: u32, line: &[u8]) -> Result
 fn only_more_than_256_regions_need_version_2(rt: HostRuntime) -> Result<(), Fail> {
     told_first(&rt, rt.alloc(), 256, b".region r0, 1\n")?;
     told_first(&rt, rt.alloc(), 257, b".version 2\n.region r0, 1\n")
+}
+
+/// That the program of a text is assembled again from its listing.
+fn assembled_again(rt: &impl Abort, alloc: Global, text: &[u8]) -> Result<(), Fail> {
+    let program = assemble(alloc, text)?;
+    let listed = listing(alloc, &program)?;
+    let again = assemble(alloc, listed.as_slice())?;
+    let shown = format!(in alloc; "{program:?}")?;
+    assert_eq!(rt; format!(in alloc; "{again:?}")?.as_str(), shown.as_str());
+    Ok(())
+}
+
+#[test]
+fn the_smallest_program_is_assembled_again(rt: HostRuntime) -> Result<(), Fail> {
+    assembled_again(
+        &rt,
+        rt.alloc(),
+        b".region m, 1\n.phase\n.task 0, go, 0\n.writes m\ngo: lui t0, 0x10000\n addi t1, x0, 5\n sw t1, 0(t0)\n addi a7, x0, 0\n ecall\n",
+    )
+}
+
+#[test]
+fn six_phases_are_assembled_again(rt: HostRuntime) -> Result<(), Fail> {
+    assembled_again(&rt, rt.alloc(), REALISTIC)
+}
+
+#[test]
+fn a_program_of_version_2_is_assembled_again(rt: HostRuntime) -> Result<(), Fail> {
+    let text = regions(rt.alloc(), 257)?;
+    assembled_again(&rt, rt.alloc(), text.as_bytes())
 }

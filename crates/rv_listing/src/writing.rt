@@ -1,9 +1,13 @@
 //! The listing of a program.
-ghost use Rattle.std.specs.Prelude.{◌≡◌, ℕ, ◌++◌, ◌+◌, ◌≤◌, length, map, flat_map, IfOk, OnOk};
+ghost use Rattle.std.specs.Prelude.{◌≡◌, ℕ, ◌++◌, ◌+◌, ◌^◌, ◌<◌, ◌≤◌, [], ◌∷◌, codes, length, map, flat_map, Ok, IfOk, OnOk};
+ghost use Rattle.std.specs.Fmt.{decimal};
 ghost use Rattle.std.specs.List.{All};
 ghost use Rattle.src_text.specs.Laws.{ended};
-ghost use Rattle.region_table.specs.Program.{AreTiled, IsTask, IsPhase};
+ghost use Rattle.region_table.specs.Program.{AreTiled, IsTask, IsPhase, IsProgram, tasks_of, names_of};
+ghost use Rattle.rv_assembler.specs.Source.{source};
+ghost use Rattle.rv_listing.specs.Statement.{hexadecimal, statement};
 ghost use Rattle.rv_listing.specs.Instruction.{code_line};
+ghost use Rattle.rv_listing.specs.Law.{AreCodeWords, AreDeclaredNames, HasWords, IsOfWords, IsWithinLimits};
 ghost use Rattle.rv_listing.specs.Listing.{text_of, version_lines, region_line, value_line, value_lines, region_values, lock_line, task_line, task_lines, phase_lines, listed_lines, listed};
 
 use crate::effects::push_effects;
@@ -83,7 +87,8 @@ fn push_region_values(out: &mut Vec<u8>, region: &[u8], values: &[u32]) -> Resul
 fn push_values(out: &mut Vec<u8>, regions: &[Region], memory: &[u32]) -> Result<(), Memory>
     requires tiled { AreTiled 0 regions.now (length memory.now) }
     requires memory { length memory.now ≤ 65536 }
-    ensures { OnOk result (out.new.items ≡ out.old.items ++ text_of (flat_map (region_values memory.now) regions.now)) }
+    ensures lines { OnOk result (out.new.items ≡ out.old.items ++ text_of (flat_map (region_values memory.now) regions.now)) }
+    ensures words { IfOk result (λ _. AreCodeWords memory.now) }
 {
     for region in regions {
         let start = region.start as usize;
@@ -109,19 +114,30 @@ fn push_locks(out: &mut Vec<u8>, locks: &[Name]) -> Result<(), Memory>
     Ok(())
 }
 
-#[tactic(auto, unfolding(crate::specs::Listing::task_line))]
-fn push_start(out: &mut Vec<u8>, task: &TaskDecl) -> Result<(), Memory>
-    ensures { OnOk result (out.new.items ≡ out.old.items ++ ended (task_line task.now)) }
+/// Adds the line of a task by its numbers, which have 32 bits.
+fn push_numbers(out: &mut Vec<u8>, core: u32, entry: u32, arg: u32) -> Result<(), Memory>
+    ensures line { OnOk result (out.new.items ≡ out.old.items ++ ended (statement (codes ".task") (decimal core ∷ hexadecimal entry ∷ hexadecimal arg ∷ []))) }
+    ensures entry { entry < 2 ^ 32 }
+    ensures arg { arg < 2 ^ 32 }
 {
     push_line(
         out,
         b".task",
         &[
-            Operand::Number(task.core.0),
-            Operand::Word(task.entry),
-            Operand::Word(task.arg),
+            Operand::Number(core),
+            Operand::Word(entry),
+            Operand::Word(arg),
         ],
     )
+}
+
+#[tactic(auto, unfolding(crate::specs::Listing::task_line))]
+fn push_start(out: &mut Vec<u8>, task: &TaskDecl) -> Result<(), Memory>
+    ensures line { OnOk result (out.new.items ≡ out.old.items ++ ended (task_line task.now)) }
+    ensures entry { task.now.entry < 2 ^ 32 }
+    ensures arg { task.now.arg < 2 ^ 32 }
+{
+    push_numbers(out, task.core.0, task.entry, task.arg)
 }
 
 /// Adds the lines of a task.
@@ -134,7 +150,8 @@ fn push_task<'a>(
     requires tiled { (size : ℕ) × (size ≤ 65536) × AreTiled 0 regions.now size }
     requires reads { length task.now.effects.guarded_reads ≡ length locks.now }
     requires writes { length task.now.effects.guarded_writes ≡ length locks.now }
-    ensures { OnOk result (out.new.items ≡ out.old.items ++ text_of (task_lines regions.now locks.now task.now)) }
+    ensures lines { OnOk result (out.new.items ≡ out.old.items ++ text_of (task_lines regions.now locks.now task.now)) }
+    ensures words { IfOk result (λ _. IsOfWords task.now) }
 {
     push_start(out, task)?;
     push_effects(out, regions, locks, &task.effects)
@@ -149,7 +166,8 @@ fn push_phase<'a>(
 ) -> Result<(), Memory>
     requires tiled { (size : ℕ) × (size ≤ 65536) × AreTiled 0 regions.now size }
     requires tasks { (words : ℕ) × All (IsTask words (length locks.now)) phase.now.tasks }
-    ensures { OnOk result (out.new.items ≡ out.old.items ++ text_of (phase_lines regions.now locks.now phase.now)) }
+    ensures lines { OnOk result (out.new.items ≡ out.old.items ++ text_of (phase_lines regions.now locks.now phase.now)) }
+    ensures words { IfOk result (λ _. All IsOfWords phase.now.tasks) }
 {
     push_line(out, b".phase", &[])?;
     for task in phase.tasks.as_slice() {
@@ -166,7 +184,8 @@ fn push_phases<'a>(
 ) -> Result<(), Memory>
     requires tiled { (size : ℕ) × (size ≤ 65536) × AreTiled 0 regions.now size }
     requires phases { (words : ℕ) × All (IsPhase words (length locks.now)) phases.now }
-    ensures { OnOk result (out.new.items ≡ out.old.items ++ text_of (flat_map (phase_lines regions.now locks.now) phases.now)) }
+    ensures lines { OnOk result (out.new.items ≡ out.old.items ++ text_of (flat_map (phase_lines regions.now locks.now) phases.now)) }
+    ensures words { IfOk result (λ _. All IsOfWords (tasks_of phases.now)) }
 {
     for phase in phases {
         push_phase(out, regions, locks, phase)?;
@@ -176,7 +195,8 @@ fn push_phases<'a>(
 
 /// Adds the lines of the code.
 fn push_words(out: &mut Vec<u8>, code: &[u32]) -> Result<(), Memory>
-    ensures { OnOk result (out.new.items ≡ out.old.items ++ text_of (map code_line code.now)) }
+    ensures lines { OnOk result (out.new.items ≡ out.old.items ++ text_of (map code_line code.now)) }
+    ensures words { IfOk result (λ _. AreCodeWords code.now) }
 {
     for word in code {
         push_code(out, *word)?;
@@ -184,18 +204,12 @@ fn push_words(out: &mut Vec<u8>, code: &[u32]) -> Result<(), Memory>
     Ok(())
 }
 
-/// The listing of a program, as a source text of one statement a line: the version line where the program has more
-/// than 256 regions, the regions, the words that aren't 0 at first, the locks, each phase with its tasks and the words
-/// that they use, and the code.
-///
-/// Intervals of words are cut at the borders of the regions. A code word is written as the instruction that is encoded
-/// to it, with offsets in bytes for the targets of branches and jumps, and else as a number.
-///
-/// # Errors
-/// `Memory` where there is no room for the text.
+/// The text of a program, which is well formed, whose numbers have 32 bits and whose sets of words are canonical.
 #[tactic(auto, unfolding(crate::specs::Listing::listed_lines))]
-pub fn listing(alloc: Global, program: &Program) -> Result<Vec<u8>, Memory>
+fn written(alloc: Global, program: &Program) -> Result<Vec<u8>, Memory>
     ensures text { IfOk result (λ text. text.items ≡ listed program.now) }
+    ensures well_formed { IfOk result (λ _. IsProgram program.now) }
+    ensures words { IfOk result (λ _. HasWords program.now) }
 {
     let regions = program.regions.as_slice();
     let locks = program.locks.as_slice();
@@ -207,4 +221,24 @@ pub fn listing(alloc: Global, program: &Program) -> Result<Vec<u8>, Memory>
     push_phases(&mut out, regions, locks, program.phases.as_slice())?;
     push_words(&mut out, program.code.as_slice())?;
     Ok(out)
+}
+
+/// The listing of a program, as a source text of one statement a line: the version line where the program has more
+/// than 256 regions, the regions, the words that aren't 0 at first, the locks, each phase with its tasks and the words
+/// that they use, and the code.
+///
+/// Intervals of words are cut at the borders of the regions. A code word is written as the instruction that is encoded
+/// to it, with offsets in bytes for the targets of branches and jumps, and else as a number.
+///
+/// Where a source text may declare the program's names and the listing is within the limits of a source text, the
+/// assembler makes the same program of it again.
+///
+/// # Errors
+/// `Memory` where there is no room for the text.
+pub fn listing(alloc: Global, program: &Program) -> Result<Vec<u8>, Memory>
+    ensures text { IfOk result (λ text. text.items ≡ listed program.now) }
+    ensures again { AreDeclaredNames (names_of program.now) → IsWithinLimits (listed_lines program.now) → IfOk result (λ text. source text.items ≡ Ok program.now) }
+{
+    let text = written(alloc, program)?;
+    Ok(text)
 }

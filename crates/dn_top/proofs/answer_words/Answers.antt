@@ -1,4 +1,4 @@
-use Rattle.std.proofs.Common.{◌≡◌, Some, None, IfSome, subst, sym, ◌∙◌}
+use Rattle.std.proofs.Common.{◌≡◌, Some, IfSome, subst, sym, ◌∙◌}
 use Rattle.command_words.specs.declared.options.Options.{Options}
 use Rattle.dn_top.specs.Serving.{text_for, HasFailed, IsDoneBy}
 use Rattle.dn_top.proofs.Answering.{done_clause, refused_clause, failed_clause, complete_clause}

@@ -1,4 +1,4 @@
-use Rattle.std.proofs.Common.{◌≡◌, ◌≤◌, ◌-◌, vec_len, length}
+use Rattle.std.proofs.Common.{◌≤◌, ◌-◌, vec_len, length}
 use Rattle.std.specs.Io.KnownBytes.{Consumes}
 use Rattle.dn_top.proofs.reading.read_text.Given as goal
 

@@ -1,4 +1,4 @@
-use Rattle.std.proofs.Common.{◌≡◌, ◌++◌, option_map, ap, arith}
+use Rattle.std.proofs.Common.{◌++◌, option_map, ap, arith}
 use Rattle.region_table.proofs.RegionLemmas.{region-fits}
 use Rattle.rv_listing.specs.Listing.{text_of}
 use Rattle.rv_listing.proofs.PartLemmas.{parts-passed, passed-more, passed-later, part-more, part-last}

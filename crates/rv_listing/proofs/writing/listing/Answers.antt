@@ -1,6 +1,8 @@
-use Rattle.std.proofs.Common.{length}
+use Rattle.std.proofs.Common.{ap, ◌∙◌}
+use Rattle.rv_assembler.specs.Source.{source}
+use Rattle.rv_listing.proofs.ListingLaw.{listing-again}
 use Rattle.rv_listing.proofs.writing.listing.Goals as goal
 
-pub push_phases-requires-clause-phases : goal.push_phases-requires-clause-phases
-push_phases-requires-clause-phases c =
-    rw (c.as_slice-2.ensures, c.as_slice-locks.ensures) (length c.program.inside.memory, c.program.invariant.each_phase)
+pub returns-clause-again : goal.returns-clause-again
+returns-clause-again c =
+    λ names limits. ap source c.in_ok-text.ensures.text ∙ listing-again c.args.program.now c.in_ok-text.ensures.well_formed c.in_ok-text.ensures.words names limits
