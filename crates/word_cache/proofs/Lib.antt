@@ -7,3 +7,4 @@ pub mod SweepLemmas
 pub mod EditLemmas
 pub mod PlacesLemmas
 pub mod LookLemmas
+pub mod ApartLemmas

@@ -1,5 +1,5 @@
 -- A cache of words as its calls are described: the pairs of a word and its entry, the least recently used first.
-use Rattle.std.specs.Prelude.{ℕ, ◌%◌, Bool, true, false, not, ◌&&◌, ◌||◌, ◌==◌, nat_lt, List, [], ◌∷◌, ◌++◌, map, Option, Some, None, if◌then◌else◌, count_by}
+use Rattle.std.specs.Prelude.{◌≡◌, ℕ, ◌%◌, Bool, true, false, not, ◌&&◌, ◌||◌, ◌==◌, nat_lt, List, [], ◌∷◌, ◌++◌, map, Option, Some, None, if◌then◌else◌, count_by}
 use Rattle.std.specs.List.{filter, find}
 use Rattle.std.specs.Option.{option_map}
 use Rattle.dn_base.specs.declared.ids.WordId.{WordId}
@@ -36,6 +36,11 @@ in_set sets set p = p.0.0 % sets == set
 abbrev pub lookup : ℕ → List Pair → Option Entry
 lookup w [] = None
 lookup w (p ∷ ps) = if is_of w p then Some p.1 else lookup w ps
+
+-- no two pairs are of one word: behind a pair none is of its word
+abbrev pub AreDifferent : List Pair → Type 0
+AreDifferent [] = Unit {0}
+AreDifferent (p ∷ ps) = (lookup p.0.0 ps ≡ None) × AreDifferent ps
 
 -- the pairs without the word's
 abbrev pub without : ℕ → List Pair → List Pair
