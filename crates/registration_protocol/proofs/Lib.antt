@@ -1,3 +1,4 @@
+pub mod Soon
 pub mod CacheLemmas
 pub mod EntryLemmas
 pub mod FitLemmas

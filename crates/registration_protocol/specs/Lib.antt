@@ -1,6 +1,9 @@
+pub mod Soon
 pub mod Node
 pub mod Fit
 pub mod OwnEvents
 pub mod Messages
 pub mod Changes
+pub mod Parts
+pub mod Names
 pub mod Setting

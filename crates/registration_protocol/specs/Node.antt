@@ -1,5 +1,5 @@
 -- A node, and what it and its surroundings say of its task.
-use Rattle.std.specs.Prelude.{ℕ, ◌%◌, Bool, true, false, ◌||◌, ◌==◌, not, List, [], length, replicate, slice_get, Option, Some, None, if◌then◌else◌}
+use Rattle.std.specs.Prelude.{ℕ, ◌%◌, Bool, true, false, ◌||◌, ◌==◌, not, List, [], length, replicate, slice_get, slice_index_or, Option, Some, None, if◌then◌else◌}
 use Rattle.std.specs.List.{find}
 use Rattle.std.specs.Option.{option_and_then, option_map, is_some}
 use Rattle.dn_base.specs.declared.ids.CoreId.{CoreId}
@@ -18,7 +18,8 @@ use Rattle.message_net.specs.declared.actor.Actor.TheVariants.{Core, Bank, Keepe
 use Rattle.message_net.specs.declared.message.Message.{Message}
 use Rattle.message_net.specs.declared.message.Outgoing.{Outgoing}
 use Rattle.word_cache.specs.declared.row.Entry.{Entry}
-use Rattle.word_cache.specs.Cache.{Cache, lookup, pending_count}
+use Rattle.word_cache.specs.Cache.{Cache, Pair, lookup, pending_count}
+use Rattle.registration_protocol.specs.Soon.{with_pairs}
 use Rattle.registration_protocol.specs.declared.node.NodeWait as wait
 use Rattle.registration_protocol.specs.declared.node.NodeWait.{NodeWait}
 
@@ -88,9 +89,17 @@ abbrev pub waits_for_nothing : NodeWait → Bool
 waits_for_nothing wait.TheVariants.None = true
 waits_for_nothing _ = false
 
+-- the node whose cache has these pairs
+abbrev pub keeping : NodeParts → List Pair → NodeParts
+keeping n ps = record n { cache = with_pairs n.cache ps }
+
+-- the signature that a node has for a lock
+abbrev pub signature_of : NodeParts → ℕ → Signature
+signature_of n lock = slice_index_or n.signatures lock (empty n.phase)
+
 -- mail to the home of a word and of a lock, to a core, and to the keeper
-abbrev pub to_home : Setting → ℕ → Message → Option Outgoing
-to_home C number m = Some (record { to = Bank (record { 0 = number % C.shape.banks }); message = m })
+abbrev pub to_home : ℕ → ℕ → Message → Option Outgoing
+to_home banks number m = Some (record { to = Bank (record { 0 = number % banks }); message = m })
 
 abbrev pub to_core : CoreId → Message → Option Outgoing
 to_core core m = Some (record { to = Core core; message = m })
