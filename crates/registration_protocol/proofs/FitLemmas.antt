@@ -26,22 +26,22 @@ use Rattle.rv_core.specs.Step.{advanced, loaded_of}
 use Rattle.rv_core.specs.Task.{started, stopped}
 use Rattle.rv_core.proofs.Needs.{need-allowed, need-fuel, advance-tells, load-tells}
 use Rattle.write_signature.specs.declared.signature.Signature.{Signature}
-use Rattle.write_signature.specs.Signature.{empty, in_phase}
+use Rattle.write_signature.specs.Signature.{tag, empty, in_phase}
 use Rattle.write_signature.proofs.SignatureLemmas.{tag-empty}
 use Rattle.message_net.specs.declared.message.Message as message
 use Rattle.message_net.specs.declared.message.Message.{Message}
 use Rattle.word_cache.specs.declared.row.Entry.{Entry}
 use Rattle.word_cache.specs.declared.row.Entry.TheVariants.{Valid, Registered, Leaving}
-use Rattle.word_cache.specs.Cache.{Pair, has_room, put}
-use Rattle.registration_protocol.specs.Soon.{IsCache, with_pairs}
-use Rattle.registration_protocol.proofs.Soon.{cache-put, cache-changed, cache-without, cache-touched, cache-written, cache-signed, tag-in_phase}
+use Rattle.word_cache.specs.Cache.{IsCache, with_pairs, Pair, has_room, put}
+use Rattle.word_cache.proofs.CacheLaws.{cache-empty, cache-put, cache-changed, cache-without, cache-touched, cache-dropped_written, cache-dropped_signed}
 use Rattle.registration_protocol.specs.declared.node.NodeWait as wait
 use Rattle.registration_protocol.specs.declared.node.NodeWait.{NodeWait}
 use Rattle.registration_protocol.specs.declared.node.Received.{Received}
-use Rattle.registration_protocol.specs.Node.{NodeParts, Setting, declared, need_now, need_if, need_by, entry_of, is_ready, keeping, opened}
+use Rattle.registration_protocol.specs.Node.{NodeParts, Setting, declared, need_now, need_if, entry_of, is_ready, keeping, opened}
 use Rattle.registration_protocol.specs.Fit.{Fits, HoldsOwn, NeedsLock, IsOfPhase}
 use Rattle.registration_protocol.specs.OwnEvents.{may_access, lets, noted, loads, stores, stored, instr_row, instr_by, instructed, may_instr, evicts, evicted, arrives}
 use Rattle.registration_protocol.specs.Messages.{fills, data_row, ack_row, forward_row, read_row, gone_row, granted_to, grant_row, begins, go_row, halt_row, node_gets}
+use Rattle.registration_protocol.proofs.InstrLemmas.{HasNext, has-next}
 use Rattle.registration_protocol.proofs.SignatureLemmas.{length-noted, noted-tags}
 
 -- ---- a node of which one part changes
@@ -275,17 +275,12 @@ row_fits C n d t (need.TheVariants.Store word whole) fit has = store_fits C n d 
 row_fits C n d t (need.TheVariants.Acquire lock) fit has = with_wait C n (wait.TheVariants.Locking lock) has.now fit
 row_fits C n d t (need.TheVariants.Release lock) fit has = task_fits C n _ fit (has_task C n d t _ has) (advanced-fine C d t _ has.needs tt (λ x. x) has.fine) has.ready
 
--- the need of a task that goes on
-going_needs : (e : Option End) (x y : Need) → cond (is_some e) None (Some x) ≡ Some y → x ≡ y
-going_needs None x y same = cc
-going_needs (Some by) x y same = absurd (cc)
-
 pub now-need : (C : Setting) (n : NodeParts) (d : TaskDecl) (t : TaskState) (x : Need) → declared C.program n.phase n.core ≡ Some d → n.task ≡ Some t → need_now C n ≡ Some x
     → need_of C.program d C.fuel t ≡ x
 now-need C n d t x there is now =
-    let with_task_known : cond (is_some t.end) None (need_by C (declared C.program n.phase n.core) t) ≡ Some x =
-    subst (λ (o : Option TaskState). need_if C n.phase n.core o ≡ Some x) is now in
-    going_needs t.end _ x (subst (λ (o : Option TaskDecl). cond (is_some t.end) None (need_by C o t) ≡ Some x) there with_task_known)
+    let next = has-next C n t x is now in
+    let same : next.decl ≡ d = cc in
+    subst (λ (y : TaskDecl). need_of C.program y C.fuel t ≡ x) same next.asks
 
 pub task-fine : (C : Setting) (n : NodeParts) (t : TaskState) → Fits C n → n.task ≡ Some t → IsFine C t
 task-fine C n t fit is =
@@ -325,6 +320,9 @@ pub arrive-fits : (C : Setting) (n : NodeParts) → Fits C n → Fits C (arrives
 arrive-fits C n fit = with_arrived C n true fit
 
 -- ---- messages
+
+tag-in_phase : (p : ℕ) (s : Signature) → tag (in_phase p s) ≡ p
+tag-in_phase p s = grind (arith, nat_tests, tag-empty p)
 
 -- a choice between two nodes that fit
 either_fits : (C : Setting) (b : Bool) (x y : NodeParts × Received) → Fits C x.0 → Fits C y.0 → Fits C (cond b x y).0
@@ -381,32 +379,22 @@ gone_fits C n word (Some (Leaving value)) fit = with_cache C n _ (cache-without 
 
 -- a node whose next instruction acquires a lock has its task's declaration, and the lock is the program's
 pub record HasAcquire (C : Setting) (n : NodeParts) (t : TaskState) (lock : LockId) : Type 0 where
-  pub decl : TaskDecl
-  pub there : declared C.program n.phase n.core ≡ Some decl
-  pub going : t.end ≡ None
-  pub needs : need_of C.program decl C.fuel t ≡ need.TheVariants.Acquire lock
+  pub next : HasNext C n t (need.TheVariants.Acquire lock)
   pub within : lock.0 < length C.program.locks
-
-acquire_by : (C : Setting) (n : NodeParts) (t : TaskState) (lock : LockId) (e : Option End) (o : Option TaskDecl) → t.end ≡ e → declared C.program n.phase n.core ≡ o
-    → cond (is_some e) None (need_by C o t) ≡ Some (need.TheVariants.Acquire lock) → HasAcquire C n t lock
-acquire_by C n t lock (Some by) o going there now = absurd (cc)
-acquire_by C n t lock None None going there now = absurd (cc)
-acquire_by C n t lock None (Some d) going there now =
-    let needs : need_of C.program d C.fuel t ≡ need.TheVariants.Acquire lock = going_needs None _ _ now in
-    let tells = subst (Tells C.program d t (advanced C.program t)) needs (need-allowed C.program d C.fuel t) in
-    record { decl = d; there = there; going = going; needs = needs; within = tells.0 }
 
 pub acquire-has : (C : Setting) (n : NodeParts) (t : TaskState) (lock : LockId) → n.task ≡ Some t → need_now C n ≡ Some (need.TheVariants.Acquire lock) → HasAcquire C n t lock
 acquire-has C n t lock is now =
-    acquire_by C n t lock t.end (declared C.program n.phase n.core) refl refl (subst (λ (o : Option TaskState). need_if C n.phase n.core o ≡ Some (need.TheVariants.Acquire lock)) is now)
+    let next = has-next C n t (need.TheVariants.Acquire lock) is now in
+    let tells = subst (Tells C.program next.decl t (advanced C.program t)) next.asks (need-allowed C.program next.decl C.fuel t) in
+    record { next = next; within = tells.0 }
 
 granted_fits : (C : Setting) (n : NodeParts) (lock : LockId) (signature : Signature) (o : Option TaskState) → Fits C n → n.task ≡ o → need_now C n ≡ Some (need.TheVariants.Acquire lock)
     → Fits C (granted_to C n lock signature o).0
 granted_fits C n lock signature None fit is now = fit
 granted_fits C n lock signature (Some t) fit is now =
     let has = acquire-has C n t lock is now in
-    with_task C n _ wait.TheVariants.None _ _ fit (ap is_some is) (advanced-fine C has.decl t _ has.needs tt (λ x. x) (task-fine C n t fit is)) (λ x. tt)
-    (cache-signed n.cache signature n.phase _ fit.cache)
+    with_task C n _ wait.TheVariants.None _ _ fit (ap is_some is) (advanced-fine C has.next.decl t _ has.next.asks tt (λ x. x) (task-fine C n t fit is)) (λ x. tt)
+    (cache-dropped_signed n.cache signature n.phase _ fit.cache)
     (record {
       count = length-set n.signatures lock.0 _;
       tags = All-set (IsOfPhase n.phase) n.signatures lock.0 (in_phase n.phase signature) (tag-in_phase n.phase signature) fit.tags;
@@ -450,7 +438,7 @@ begins_fit C n phase fit within =
       held = started_held (length C.program.locks) (declared C.program phase n.core);
       signatures = length-replicate (length C.program.locks) (empty phase);
       tags = All-replicate (IsOfPhase phase) (length C.program.locks) (empty phase) (tag-empty phase);
-      cache = cache-written n.cache _ fit.cache;
+      cache = cache-dropped_written n.cache _ fit.cache;
       sets = fit.sets;
       ways = fit.ways;
       waiting = tt;
@@ -494,7 +482,7 @@ opened-fits C core within =
       held = started_held (length C.program.locks) (declared C.program 0 core);
       signatures = length-replicate (length C.program.locks) (empty 0);
       tags = All-replicate (IsOfPhase 0) (length C.program.locks) (empty 0) (tag-empty 0);
-      cache = record { apart = tt; within = λ w. omega arith };
+      cache = cache-empty C.shape.sets C.shape.ways;
       sets = refl;
       ways = refl;
       waiting = tt;

@@ -1,7 +1,8 @@
-pub mod Soon
 pub mod CacheLemmas
 pub mod EntryLemmas
+pub mod InstrLemmas
 pub mod FitLemmas
+pub mod MessageLemmas
 pub mod OwnLemmas
 pub mod PlaceLemmas
 pub mod SignatureLemmas

@@ -57,6 +57,18 @@ is_from_keeper (message.TheVariants.Go phase) = true
 is_from_keeper message.TheVariants.Halt = true
 is_from_keeper _ = false
 
+-- whether the table has a row for a message's kind; a node leaves one of the others alone
+abbrev pub is_for_node : Message → Bool
+is_for_node (message.TheVariants.DataReply word value) = true
+is_for_node (message.TheVariants.RegAck word) = true
+is_for_node (message.TheVariants.RegFwd word core) = true
+is_for_node (message.TheVariants.ReadFwd word reader) = true
+is_for_node (message.TheVariants.WbAck word) = true
+is_for_node (message.TheVariants.Grant lock signature) = true
+is_for_node (message.TheVariants.Go phase) = true
+is_for_node message.TheVariants.Halt = true
+is_for_node _ = false
+
 -- a node that stays the same core's, in its phase, arrived and halted or not as before
 pub record KeepsPlace (n m : NodeParts) : Type 0 where
   pub core : m.core ≡ n.core

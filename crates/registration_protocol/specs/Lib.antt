@@ -1,4 +1,3 @@
-pub mod Soon
 pub mod Node
 pub mod Fit
 pub mod OwnEvents

@@ -1,5 +1,5 @@
 -- What a node does with each message.
-use Rattle.std.specs.Prelude.{ℕ, ◌+◌, Bool, true, false, ◌&&◌, ◌==◌, not, nat_lt, List, [], length, replicate, slice_set, slice_index_or, slice_get, Option, Some, None, if◌then◌else◌}
+use Rattle.std.specs.Prelude.{ℕ, ◌+◌, true, false, ◌&&◌, ◌==◌, not, nat_lt, List, [], length, replicate, slice_set, slice_index_or, slice_get, Option, Some, None, if◌then◌else◌}
 use Rattle.std.specs.Option.{option_map}
 use Rattle.dn_base.specs.declared.ids.CoreId.{CoreId}
 use Rattle.dn_base.specs.declared.ids.WordId.{WordId}
@@ -16,8 +16,7 @@ use Rattle.message_net.specs.declared.message.Message.{Message}
 use Rattle.message_net.specs.declared.message.Outgoing.{Outgoing}
 use Rattle.word_cache.specs.declared.row.Entry.{Entry}
 use Rattle.word_cache.specs.declared.row.Entry.TheVariants.{Valid, Registered, Leaving}
-use Rattle.word_cache.specs.Cache.{has_room, put, changed, without, dropped_written, dropped_signed}
-use Rattle.registration_protocol.specs.Soon.{with_pairs}
+use Rattle.word_cache.specs.Cache.{with_pairs, has_room, put, changed, without, dropped_written, dropped_signed}
 use Rattle.registration_protocol.specs.declared.node.NodeWait as wait
 use Rattle.registration_protocol.specs.declared.node.NodeWait.{NodeWait}
 use Rattle.registration_protocol.specs.declared.node.Received.{Received}

@@ -1,5 +1,5 @@
 -- What a message names, and where it goes.
-use Rattle.std.specs.Prelude.{ℕ, ◌<◌, length}
+use Rattle.std.specs.Prelude.{◌<◌, length}
 use Rattle.message_net.specs.declared.actor.Actor as actor
 use Rattle.message_net.specs.declared.actor.Actor.{Actor}
 use Rattle.message_net.specs.declared.message.Message as message

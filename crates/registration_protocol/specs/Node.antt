@@ -18,8 +18,7 @@ use Rattle.message_net.specs.declared.actor.Actor.TheVariants.{Core, Bank, Keepe
 use Rattle.message_net.specs.declared.message.Message.{Message}
 use Rattle.message_net.specs.declared.message.Outgoing.{Outgoing}
 use Rattle.word_cache.specs.declared.row.Entry.{Entry}
-use Rattle.word_cache.specs.Cache.{Cache, Pair, lookup, pending_count}
-use Rattle.registration_protocol.specs.Soon.{with_pairs}
+use Rattle.word_cache.specs.Cache.{Cache, with_pairs, Pair, lookup, pending_count}
 use Rattle.registration_protocol.specs.declared.node.NodeWait as wait
 use Rattle.registration_protocol.specs.declared.node.NodeWait.{NodeWait}
 

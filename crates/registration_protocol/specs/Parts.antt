@@ -1,5 +1,5 @@
 -- An instruction, part by part: what it changes of the task, the wait and the signatures, and what it sends and reads.
-use Rattle.std.specs.Prelude.{◌≡◌, ℕ, ◌+◌, ◌^◌, Bool, true, false, List, Option, Some, None, if◌then◌else◌, bit_xor}
+use Rattle.std.specs.Prelude.{◌≡◌, ℕ, ◌^◌, Bool, true, false, List, Option, Some, None, if◌then◌else◌, bit_xor}
 use Rattle.dn_base.specs.declared.ids.LoadSeen.{LoadSeen}
 use Rattle.dn_base.specs.declared.ids.WordId.{WordId}
 use Rattle.region_table.specs.declared.declared.TaskDecl.{TaskDecl}
