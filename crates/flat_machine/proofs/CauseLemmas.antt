@@ -78,7 +78,7 @@ step-spent P fuel s spent = by_wish (wish P fuel s.task) refl
     by_wish (Some (need.TheVariants.End by)) e =
         stopped-spent P s.task.decl fuel s.task.state by (wish-need P fuel s.task (need.TheVariants.End by) e)
 
-step-within : (P : ProgramParts) (fuel : ℕ) (s : At) → IsWithin fuel s.task → IsWithin fuel (flat_step P fuel s).task
+pub step-within : (P : ProgramParts) (fuel : ℕ) (s : At) → IsWithin fuel s.task → IsWithin fuel (flat_step P fuel s).task
 step-within P fuel s within = by_step (step-less P fuel s within)
   where
     by_step : IsAtRest (wish P fuel s.task) ⊎ IsLess fuel s.task.state (flat_step P fuel s).task.state → IsWithin fuel (flat_step P fuel s).task

@@ -48,7 +48,7 @@ grants-illegal P fuel i F gs d within none =
 
 -- ---- the next grant is legal
 
-same-grant : (g : Grant) → is_grant g (Some g) ≡ true
+pub same-grant : (g : Grant) → is_grant g (Some g) ≡ true
 same-grant g = grind (arith, nat_tests)
 
 first-place : (P : ProgramParts) (fuel : ℕ) (tasks rs : List Started) (g : Grant) → first_grant P fuel tasks rs ≡ Some g → position_or_len (can_take P fuel tasks g) rs < length rs

@@ -8,3 +8,7 @@ pub mod Separation
 pub mod RunLemmas
 pub mod Rest
 pub mod CauseLemmas
+pub mod SegmentLaws
+pub mod SettleLaws
+pub mod KeptLaws
+pub mod ReachedLaws
