@@ -12,3 +12,5 @@ pub mod SegmentLaws
 pub mod SettleLaws
 pub mod KeptLaws
 pub mod ReachedLaws
+pub mod StartLaws
+pub mod LeastLaws

@@ -15,7 +15,7 @@ ghost use Rattle.flat_machine.specs.Step.{Started, At, wish, flat_step, segment,
 ghost use Rattle.flat_machine.specs.Phases.{Flat, has_finished, settled, opened};
 ghost use Rattle.flat_machine.specs.Grants.{is_free, grant_of, go_on, with_task, so_far, is_whole, granted, granted_if, IsLeast};
 ghost use Rattle.flat_machine.specs.Ending.{is_waiting, end_of, flat_end};
-ghost use Rattle.flat_machine.specs.Laws.{at_memory, IsAtRest, AgreeOn, IsAlike, HoldsLess, IsLater, HoldApart, SameInEitherOrder, HasUsedUp, IsOutOfFuel, IsHeldUp, HasTasks, HasFront};
+ghost use Rattle.flat_machine.specs.Laws.{at_memory, IsAtRest, AgreeOn, IsAlike, HoldsLess, IsLater, HoldApart, SameInEitherOrder, HasUsedUp, IsOutOfFuel, IsHeldUp, HasTasks, HasFront, StartAlone};
 
 /// A segment changes no word but those that its task may store with the locks that it holds at the start. It only gives
 /// locks up.
@@ -89,8 +89,16 @@ pub fn a_front_of_a_list_has_a_value()
     ensures { (P : ProgramParts) (fuel : ℕ) (gs hs : List Grant) (F : Flat) → so_far P fuel (gs ++ hs) ≡ Some F → HasFront P fuel gs hs F }
 {}
 
-/// The least list has a run, and there is one such list.
+/// The first segments of a phase of a checked program each start from the memory with which the phase begins, as far as their
+/// tasks can tell: each task comes to what it comes to alone, and the words that it may store to what it leaves in them.
+pub fn first_segments_start_from_one_memory()
+    ensures { (P : ProgramParts) (fuel phase : ℕ) (p : Phase) (m : List ℕ) → IsProgram P → IsChecked P → IsAmong P.phases p → length m ≡ length P.memory
+        → StartAlone P fuel phase p.tasks m }
+{}
+
+/// Each program has a least list. It has a run, and there is one such list.
 pub fn the_least_list_has_a_run()
+    ensures list { (P : ProgramParts) (fuel : ℕ) → (gs : List Grant) × IsLeast P fuel gs }
     ensures run { (P : ProgramParts) (fuel : ℕ) (gs : List Grant) → IsLeast P fuel gs → flat_end P fuel gs ≢ None }
     ensures one { (P : ProgramParts) (fuel : ℕ) (gs hs : List Grant) → IsLeast P fuel gs → IsLeast P fuel hs → gs ≡ hs }
 {}
