@@ -1,2 +1,3 @@
 pub mod HighLocks
 pub mod Needs
+pub mod Looks

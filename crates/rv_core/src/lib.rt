@@ -14,7 +14,7 @@ mod step;
 mod task;
 
 pub use ending::{EndShown, Ending, TaskEnd};
-pub use need::Need;
+pub use need::{Need, Next};
 pub use task::{End, TaskState, TrapKind};
 
 #[cfg(test)]
