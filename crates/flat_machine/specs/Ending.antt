@@ -6,13 +6,13 @@ use Rattle.dn_base.specs.declared.status.Outcome.{Outcome}
 use Rattle.dn_base.specs.declared.status.Outcome as outcome
 use Rattle.region_table.specs.Program.{ProgramParts}
 use Rattle.rv_core.specs.declared.task.End.{End}
-use Rattle.rv_core.specs.declared.task.End as cause
 use Rattle.rv_core.specs.declared.need.Need.{Need}
 use Rattle.rv_core.specs.declared.need.Need as need
 use Rattle.rv_core.specs.declared.ending.EndShown.{EndShown}
 use Rattle.rv_core.specs.declared.ending.EndShown as shown
 use Rattle.rv_core.specs.declared.ending.TaskEnd.{TaskEnd}
 use Rattle.rv_core.specs.declared.ending.Ending.{Ending}
+use Rattle.rv_core.specs.Ending.{shown_end}
 use Rattle.rv_core.specs.Need.{need_of}
 use Rattle.flat_machine.specs.declared.ending.FlatEnd.{FlatEnd}
 use Rattle.flat_machine.specs.declared.ending.TaskLoads.{TaskLoads}
@@ -27,9 +27,7 @@ shown_by _ = shown.TheVariants.Fuel
 
 -- how a task stands
 abbrev pub shown_of : ProgramParts → ℕ → Started → Option End → EndShown
-shown_of P fuel r (Some cause.TheVariants.Finished) = shown.TheVariants.Finished
-shown_of P fuel r (Some cause.TheVariants.Fuel) = shown.TheVariants.Fuel
-shown_of P fuel r (Some (cause.TheVariants.Trap kind pc value)) = shown.TheVariants.Trap kind pc value
+shown_of P fuel r (Some by) = shown_end by
 shown_of P fuel r None = shown_by (need_of P r.decl fuel r.state)
 
 abbrev pub task_end : ProgramParts → ℕ → Started → TaskEnd
