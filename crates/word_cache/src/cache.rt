@@ -2,7 +2,7 @@ ghost use Rattle.std.specs.Prelude.{◌≡◌, ◌≢◌, ℕ, ◌*◌, ◌<◌,
 ghost use Rattle.std.specs.Option.{is_some};
 ghost use Rattle.std.specs.Prelude.{length};
 ghost use Rattle.std.specs.List.{filter};
-ghost use Rattle.word_cache.specs.Cache.{Cache, AreDifferent, set_count, in_set, lookup, put, changed, without, touched, has_room, victim_of, may_go, pending_count, dropped_written, dropped_signed};
+ghost use Rattle.word_cache.specs.Cache.{Cache, IsCache, in_set, lookup, put, changed, without, touched, has_room, victim_of, may_go, pending_count, dropped_written, dropped_signed};
 ghost use Rattle.word_cache.specs.Row.{IsCacheRow, AreApart, pairs_by_use};
 
 use crate::edits::{change_entry, take_out, use_again, write_last};
@@ -109,8 +109,7 @@ impl WordCache {
 
     /// What holds of every cache: a word has one pair at the most, and a set has no more pairs than ways. Does nothing.
     pub fn pairs_are_apart(&self)
-        ensures words { AreDifferent self.now.pairs }
-        ensures sets { (w : ℕ) → set_count self.now.sets w self.now.pairs ≤ self.now.ways }
+        ensures { IsCache self.now }
     {
         let _row = self.places.as_slice();
     }
