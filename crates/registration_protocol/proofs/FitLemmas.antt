@@ -24,10 +24,10 @@ use Rattle.rv_core.specs.Kinds.{IsLoad, IsAdvance, EndsByFuel, Tells}
 use Rattle.rv_core.specs.Need.{need_of}
 use Rattle.rv_core.specs.Step.{advanced, loaded_of}
 use Rattle.rv_core.specs.Task.{started, stopped}
-use Rattle.rv_core.proofs.Needs.{need-allowed, need-fuel, advance-tells, load-tells}
+use Rattle.rv_core.proofs.Needs.{need-allowed}
 use Rattle.write_signature.specs.declared.signature.Signature.{Signature}
 use Rattle.write_signature.specs.Signature.{tag, empty, in_phase}
-use Rattle.write_signature.proofs.SignatureLemmas.{tag-empty}
+use Rattle.write_signature.proofs.SignatureLemmas.{tag-empty, tag-in_phase}
 use Rattle.message_net.specs.declared.message.Message as message
 use Rattle.message_net.specs.declared.message.Message.{Message}
 use Rattle.word_cache.specs.declared.row.Entry.{Entry}
@@ -37,12 +37,14 @@ use Rattle.word_cache.proofs.CacheLaws.{cache-empty, cache-put, cache-changed, c
 use Rattle.registration_protocol.specs.declared.node.NodeWait as wait
 use Rattle.registration_protocol.specs.declared.node.NodeWait.{NodeWait}
 use Rattle.registration_protocol.specs.declared.node.Received.{Received}
-use Rattle.registration_protocol.specs.Node.{NodeParts, Setting, declared, need_now, need_if, entry_of, is_ready, keeping, opened}
+use Rattle.region_table.specs.Tasks.{declared}
+use Rattle.registration_protocol.specs.Node.{NodeParts, Setting, need_now, need_if, entry_of, is_ready, keeping, opened}
 use Rattle.registration_protocol.specs.Fit.{Fits, HoldsOwn, NeedsLock, IsOfPhase}
 use Rattle.registration_protocol.specs.OwnEvents.{may_access, lets, noted, loads, stores, stored, instr_row, instr_by, instructed, may_instr, evicts, evicted, arrives}
 use Rattle.registration_protocol.specs.Messages.{fills, data_row, ack_row, forward_row, read_row, gone_row, granted_to, grant_row, begins, go_row, halt_row, node_gets}
 use Rattle.registration_protocol.proofs.InstrLemmas.{HasNext, has-next}
 use Rattle.registration_protocol.proofs.SignatureLemmas.{length-noted, noted-tags}
+use Rattle.rv_core.proofs.Completions.{acquire-allowed, advanced-retired, loaded-retired, loaded-held, fuel-left}
 
 -- ---- a node of which one part changes
 
@@ -178,41 +180,30 @@ held_told P d t next (need.TheVariants.Acquire lock) tells k own = held_more _ l
 held_told P d t next (need.TheVariants.Release lock) tells k own = held_less _ lock.0 t next tells.1 tells.2 own
 held_told P d t next (need.TheVariants.End cause) tells k own = absurd k
 
--- a task with a need but the end by Fuel has fuel left
-fuel_left : (P : ProgramParts) (d : TaskDecl) (fuel : ℕ) (t : TaskState) (n : Need) → need_of P d fuel t ≡ n → (EndsByFuel n → ⊥) → t.retired ≤ fuel → t.retired + 1 ≤ fuel
-fuel_left P d fuel t n is unspent within =
-    let apart : t.retired ≡ fuel → ⊥ = λ e. unspent (subst EndsByFuel is ((need-fuel P d fuel t).1 e)) in
-    grind (arith, apart)
-
-advanced-retires : (P : ProgramParts) (d : TaskDecl) (fuel : ℕ) (t : TaskState) → IsAdvance (need_of P d fuel t) → (advanced P t).retired ≡ t.retired + 1
-unfolding advanced
-advanced-retires P d fuel t k = (advance-tells P d fuel t k).retires
-
-pub advanced-fine : (C : Setting) (d : TaskDecl) (t : TaskState) (n : Need) → need_of C.program d C.fuel t ≡ n → IsAdvance n → (EndsByFuel n → ⊥) → IsFine C t → IsFine C (advanced C.program t)
+advanced-fine : (C : Setting) (d : TaskDecl) (t : TaskState) (n : Need) → need_of C.program d C.fuel t ≡ n → IsAdvance n → (EndsByFuel n → ⊥) → IsFine C t → IsFine C (advanced C.program t)
 advanced-fine C d t n is k unspent fine =
     let tells = subst (Tells C.program d t (advanced C.program t)) is (need-allowed C.program d C.fuel t) in
     record {
       retired =
-          let once = advanced-retires C.program d C.fuel t (subst IsAdvance (sym is) k) in
-          let left = fuel_left C.program d C.fuel t n is unspent fine.retired in
+          let once = advanced-retired C.program d C.fuel t (subst IsAdvance (sym is) k) in
+          let left = fuel-left C.program d C.fuel t n is unspent fine.retired in
           omega arith;
       held = held_told C.program d t (advanced C.program t) n tells k fine.held;
     }
 
 loaded-fine : (C : Setting) (d : TaskDecl) (t : TaskState) (value : ℕ) (word : WordId) → need_of C.program d C.fuel t ≡ need.TheVariants.Load word → IsFine C t → IsFine C (loaded_of C.program value t)
-unfolding loaded_of
 loaded-fine C d t value word is fine =
-    let told = load-tells C.program d C.fuel t value (subst IsLoad (sym is) tt) in
-    let left = fuel_left C.program d C.fuel t _ is (λ x. x) fine.retired in
-    let once = told.retires in
+    let left = fuel-left C.program d C.fuel t _ is (λ x. x) fine.retired in
+    let load : IsLoad (need_of C.program d C.fuel t) = subst IsLoad (sym is) tt in
+    let once = loaded-retired C.program d C.fuel t value load in
     record {
       retired = omega arith;
-      held = held_same _ t (loaded_of C.program value t) told.held fine.held;
+      held = held_same _ t (loaded_of C.program value t) (loaded-held C.program d C.fuel t value load) fine.held;
     }
 
 stopped-fine : (C : Setting) (d : TaskDecl) (t : TaskState) (by : End) → need_of C.program d C.fuel t ≡ need.TheVariants.End by → IsFine C t → IsFine C (stopped by t)
 stopped-fine C d t cause.TheVariants.Finished is fine =
-    record { retired = fuel_left C.program d C.fuel t _ is (λ x. x) fine.retired; held = fine.held }
+    record { retired = fuel-left C.program d C.fuel t _ is (λ x. x) fine.retired; held = fine.held }
 stopped-fine C d t cause.TheVariants.Fuel is fine = record { retired = fine.retired; held = fine.held }
 stopped-fine C d t (cause.TheVariants.Trap kind pc value) is fine = record { retired = fine.retired; held = fine.held }
 
@@ -321,9 +312,6 @@ arrive-fits C n fit = with_arrived C n true fit
 
 -- ---- messages
 
-tag-in_phase : (p : ℕ) (s : Signature) → tag (in_phase p s) ≡ p
-tag-in_phase p s = grind (arith, nat_tests, tag-empty p)
-
 -- a choice between two nodes that fit
 either_fits : (C : Setting) (b : Bool) (x y : NodeParts × Received) → Fits C x.0 → Fits C y.0 → Fits C (cond b x y).0
 either_fits C true x y p q = p
@@ -385,8 +373,7 @@ pub record HasAcquire (C : Setting) (n : NodeParts) (t : TaskState) (lock : Lock
 pub acquire-has : (C : Setting) (n : NodeParts) (t : TaskState) (lock : LockId) → n.task ≡ Some t → need_now C n ≡ Some (need.TheVariants.Acquire lock) → HasAcquire C n t lock
 acquire-has C n t lock is now =
     let next = has-next C n t (need.TheVariants.Acquire lock) is now in
-    let tells = subst (Tells C.program next.decl t (advanced C.program t)) next.asks (need-allowed C.program next.decl C.fuel t) in
-    record { next = next; within = tells.0 }
+    record { next = next; within = (acquire-allowed C.program next.decl C.fuel t lock next.asks).0 }
 
 granted_fits : (C : Setting) (n : NodeParts) (lock : LockId) (signature : Signature) (o : Option TaskState) → Fits C n → n.task ≡ o → need_now C n ≡ Some (need.TheVariants.Acquire lock)
     → Fits C (granted_to C n lock signature o).0

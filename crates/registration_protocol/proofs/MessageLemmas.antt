@@ -18,7 +18,8 @@ use Rattle.word_cache.proofs.LookLemmas.{lookup-dropped_written, lookup-dropped_
 use Rattle.registration_protocol.specs.declared.node.NodeWait as wait
 use Rattle.registration_protocol.specs.declared.node.NodeWait.{NodeWait}
 use Rattle.registration_protocol.specs.declared.node.Received.{Received}
-use Rattle.registration_protocol.specs.Node.{NodeParts, Setting, entry_of, keeping, to_core}
+use Rattle.message_net.specs.Mail.{to_core}
+use Rattle.registration_protocol.specs.Node.{NodeParts, Setting, entry_of, keeping}
 use Rattle.registration_protocol.specs.Messages.{node_gets, becomes, fills, data_row, ack_row, forward_row, read_row, gone_row, guarded_by, written_in, holds_now, granted_to, grant_row, begins}
 use Rattle.registration_protocol.specs.Changes.{KeepsTask, is_for_node}
 use Rattle.registration_protocol.proofs.PlaceLemmas.{ack-keeps, forward-keeps, read-keeps, gone-keeps}

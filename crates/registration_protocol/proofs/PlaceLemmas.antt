@@ -16,7 +16,8 @@ use Rattle.word_cache.specs.Cache.{Pair, has_room}
 use Rattle.registration_protocol.specs.declared.node.NodeWait as wait
 use Rattle.registration_protocol.specs.declared.node.NodeWait.{NodeWait}
 use Rattle.registration_protocol.specs.declared.node.Received.{Received}
-use Rattle.registration_protocol.specs.Node.{NodeParts, Setting, declared, need_now, entry_of, keeping}
+use Rattle.region_table.specs.Tasks.{declared}
+use Rattle.registration_protocol.specs.Node.{NodeParts, Setting, need_now, entry_of, keeping}
 use Rattle.registration_protocol.specs.OwnEvents.{loads, stores, instr_row, instr_by, instructed, evicts, evicted}
 use Rattle.registration_protocol.specs.Messages.{node_gets, fills, data_row, ack_row, forward_row, read_row, gone_row, granted_to, grant_row}
 use Rattle.registration_protocol.specs.Changes.{is_from_keeper, KeepsPlace, KeepsTask}

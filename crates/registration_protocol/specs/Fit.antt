@@ -13,7 +13,8 @@ use Rattle.write_signature.specs.Signature.{tag}
 use Rattle.word_cache.specs.Cache.{IsCache}
 use Rattle.registration_protocol.specs.declared.node.NodeWait as wait
 use Rattle.registration_protocol.specs.declared.node.NodeWait.{NodeWait}
-use Rattle.registration_protocol.specs.Node.{NodeParts, Setting, declared, need_now}
+use Rattle.region_table.specs.Tasks.{declared}
+use Rattle.registration_protocol.specs.Node.{NodeParts, Setting, need_now}
 
 -- a context: the plans are those of the program's phases, the cores are those that the program needs, and the other sizes and
 -- the fuel are within their limits

@@ -20,7 +20,9 @@ use Rattle.word_cache.specs.Cache.{with_pairs, has_room, put, changed, without, 
 use Rattle.registration_protocol.specs.declared.node.NodeWait as wait
 use Rattle.registration_protocol.specs.declared.node.NodeWait.{NodeWait}
 use Rattle.registration_protocol.specs.declared.node.Received.{Received}
-use Rattle.registration_protocol.specs.Node.{NodeParts, Setting, declared, entry_of, keeping, to_home, to_core}
+use Rattle.region_table.specs.Tasks.{declared}
+use Rattle.message_net.specs.Mail.{to_home, to_core}
+use Rattle.registration_protocol.specs.Node.{NodeParts, Setting, entry_of, keeping}
 
 -- the node is this one then, and sends nothing
 abbrev pub becomes : NodeParts → NodeParts × Received

@@ -17,6 +17,7 @@ use Rattle.rv_core.specs.declared.ending.TaskEnd.{TaskEnd}
 use Rattle.rv_core.specs.Access.{holds as is_held}
 use Rattle.rv_core.specs.Step.{advanced, loaded_of, merged_of}
 use Rattle.rv_core.specs.Task.{stopped}
+use Rattle.rv_core.specs.Ending.{shown_end}
 use Rattle.write_signature.specs.declared.signature.Signature.{Signature}
 use Rattle.write_signature.specs.Signature.{inserted}
 use Rattle.message_net.specs.declared.message.Message.TheVariants.{ReadReq, RegReq, WriteBack, Acquire, Release, Arrived}
@@ -29,7 +30,9 @@ use Rattle.word_cache.specs.Cache.{has_room, put, changed, touched, without, may
 use Rattle.registration_protocol.specs.declared.node.NodeWait as wait
 use Rattle.registration_protocol.specs.declared.node.NodeWait.{NodeWait}
 use Rattle.registration_protocol.specs.declared.node.Step.{Step}
-use Rattle.registration_protocol.specs.Node.{NodeParts, Setting, declared, goes_on, need_now, entry_of, is_settled, is_active, is_ready, waits_for_nothing, keeping, signature_of, to_home, to_keeper}
+use Rattle.region_table.specs.Tasks.{declared}
+use Rattle.message_net.specs.Mail.{to_home, to_keeper}
+use Rattle.registration_protocol.specs.Node.{NodeParts, Setting, goes_on, need_now, entry_of, is_settled, is_active, is_ready, waits_for_nothing, keeping, signature_of}
 
 -- whether an access of a word may go on, by its entry: it stalls while the word is leaving, and where there is no entry it
 -- needs room
@@ -223,9 +226,7 @@ pub record IsStill (C : Setting) (n : NodeParts) : Type 0 where
 
 -- how a task stands: how it ended, or which lock it waits for; None where it goes on and waits for none
 abbrev pub shown_by : Option End → NodeWait → Option EndShown
-shown_by (Some cause.TheVariants.Finished) waiting = Some shown.TheVariants.Finished
-shown_by (Some cause.TheVariants.Fuel) waiting = Some shown.TheVariants.Fuel
-shown_by (Some (cause.TheVariants.Trap kind pc value)) waiting = Some (shown.TheVariants.Trap kind pc value)
+shown_by (Some by) waiting = Some (shown_end by)
 shown_by None (wait.TheVariants.Locking lock) = Some (shown.TheVariants.Waits lock)
 shown_by None _ = None
 

@@ -1,15 +1,14 @@
 -- An instruction, part by part: what it changes of the task, the wait and the signatures, and what it sends and reads.
-use Rattle.std.specs.Prelude.{◌≡◌, ℕ, ◌^◌, Bool, true, false, List, Option, Some, None, if◌then◌else◌, bit_xor}
+use Rattle.std.specs.Prelude.{◌≡◌, ℕ, ◌^◌, Bool, true, false, List, Option, Some, None, if◌then◌else◌, ◌+◌, ◌<◌, length, bit_or}
 use Rattle.dn_base.specs.declared.ids.LoadSeen.{LoadSeen}
 use Rattle.dn_base.specs.declared.ids.WordId.{WordId}
 use Rattle.region_table.specs.declared.declared.TaskDecl.{TaskDecl}
 use Rattle.rv_core.specs.declared.task.TaskState.{TaskState}
-use Rattle.rv_core.specs.declared.task.End as cause
 use Rattle.rv_core.specs.declared.need.Need as need
 use Rattle.rv_core.specs.declared.need.Need.{Need}
 use Rattle.rv_core.specs.Need.{need_of}
 use Rattle.rv_core.specs.Step.{advanced, loaded_of}
-use Rattle.rv_core.specs.Task.{stopped}
+use Rattle.rv_core.specs.Task.{stopped, retires_at}
 use Rattle.write_signature.specs.declared.signature.Signature.{Signature}
 use Rattle.message_net.specs.declared.message.Message.TheVariants.{ReadReq, RegReq, Acquire, Release}
 use Rattle.message_net.specs.declared.message.Outgoing.{Outgoing}
@@ -19,9 +18,15 @@ use Rattle.word_cache.specs.Cache.{may_go}
 use Rattle.registration_protocol.specs.declared.node.NodeWait as wait
 use Rattle.registration_protocol.specs.declared.node.NodeWait.{NodeWait}
 use Rattle.registration_protocol.specs.declared.node.Step.{Step}
-use Rattle.registration_protocol.specs.Node.{NodeParts, Setting, declared, need_now, entry_of, signature_of, is_settled, goes_on, is_ready, to_home}
+use Rattle.region_table.specs.Tasks.{declared}
+use Rattle.message_net.specs.Mail.{to_home}
+use Rattle.registration_protocol.specs.Node.{NodeParts, Setting, need_now, entry_of, signature_of, is_settled, goes_on, is_ready}
 use Rattle.registration_protocol.specs.OwnEvents.{lets, noted, me, wanted_by, makes_room}
 use Rattle.registration_protocol.specs.Changes.{KeepsPlace, entry_by}
+use Rattle.rv_core.specs.declared.task.End.{End}
+use Rattle.dn_base.specs.declared.ids.LockId.{LockId}
+use Rattle.rv_core.specs.Kinds.{held_after}
+use Rattle.rv_core.specs.Access.{holds}
 
 -- a node whose next instruction may go on: its task, the task's declaration, and what the instruction needs
 pub record MayInstruct (C : Setting) (n : NodeParts) : Type 0 where
@@ -75,23 +80,24 @@ completes whole (Some (Valid value marked)) = true
 completes whole (Some (Registered value pending)) = true
 completes whole (Some (Leaving value)) = false
 
--- whether an instruction retires: an acquire does at the grant
-abbrev pub retires_at : Need → Option Entry → Bool
-retires_at need.TheVariants.Local e = true
-retires_at (need.TheVariants.Load word) e = completes false e
-retires_at (need.TheVariants.Store word whole) e = completes whole e
-retires_at (need.TheVariants.Acquire lock) e = false
-retires_at (need.TheVariants.Release lock) e = true
-retires_at (need.TheVariants.End cause.TheVariants.Finished) e = true
-retires_at (need.TheVariants.End _) e = false
+-- how many instructions retire at an instruction: an acquire does at the grant
+abbrev pub retired_by : Need → Option Entry → ℕ
+retired_by need.TheVariants.Local e = 1
+retired_by (need.TheVariants.Load word) e = if completes false e then 1 else 0
+retired_by (need.TheVariants.Store word whole) e = if completes whole e then 1 else 0
+retired_by (need.TheVariants.Acquire lock) e = 0
+retired_by (need.TheVariants.Release lock) e = 1
+retired_by (need.TheVariants.End by) e = retires_at by
 
-abbrev pub count_if : Bool → ℕ
-count_if b = if b then 1 else 0
+-- the locks that are held after an instruction: one that is acquired is held at the grant
+abbrev pub held_by : ℕ → Need → ℕ
+held_by held (need.TheVariants.Acquire lock) = held
+held_by held x = held_after held x
 
--- the locks that are held after an instruction: an acquired one is at the grant
-abbrev pub held_by : Need → ℕ → ℕ
-held_by (need.TheVariants.Release lock) held = bit_xor held (2 ^ lock.0)
-held_by _ held = held
+-- how the task has ended after an instruction
+abbrev pub ended_by : Option End → Need → Option End
+ended_by old (need.TheVariants.End by) = Some by
+ended_by old _ = old
 
 -- the task after an instruction
 abbrev pub loads_to : Setting → TaskState → Option Entry → TaskState
@@ -173,3 +179,17 @@ pub record Instructs (C : Setting) (n : NodeParts) (d : TaskDecl) (t : TaskState
   pub signatures : m.signatures ≡ signatures_by n d t x e
   pub sent : s.sent ≡ sent_by C n x e
   pub seen : s.seen ≡ seen_by x e
+
+-- a task after an instruction: how many have retired, which locks it holds, and how it has ended
+pub record Retires (t : TaskState) (x : Need) (e : Option Entry) (u : TaskState) : Type 0 where
+  pub retired : u.retired ≡ t.retired + retired_by x e
+  pub held : u.held ≡ held_by t.held x
+  pub end : u.end ≡ ended_by t.end x
+
+-- the task of a node that a lock is granted to: it acquires the lock then
+pub record Acquires (C : Setting) (t : TaskState) (lock : LockId) (u : TaskState) : Type 0 where
+  pub within : lock.0 < length C.program.locks
+  pub free : holds t.held lock.0 ≡ false
+  pub retired : u.retired ≡ t.retired + 1
+  pub held : u.held ≡ bit_or t.held (2 ^ lock.0)
+  pub end : u.end ≡ t.end

@@ -10,7 +10,8 @@ ghost use Rattle.message_net.specs.declared.message.Message.TheVariants.{Acquire
 ghost use Rattle.word_cache.specs.declared.row.Entry.TheVariants.{Registered as AsRegistered};
 ghost use Rattle.word_cache.specs.Cache.{has_room};
 ghost use Rattle.registration_protocol.specs.Fit.{IsContext, Fits};
-ghost use Rattle.registration_protocol.specs.Node.{entry_of, signature_of, to_home};
+ghost use Rattle.message_net.specs.Mail.{to_home};
+ghost use Rattle.registration_protocol.specs.Node.{entry_of, signature_of};
 ghost use Rattle.registration_protocol.specs.declared.node.NodeWait.TheVariants.{Locking};
 ghost use Rattle.registration_protocol.specs.OwnEvents.{may_access, lets, may_instr, misses, me, retires, stored, registers, loads, stores, instr_row, instructed};
 ghost use Rattle.registration_protocol.specs.Setting.{setting};

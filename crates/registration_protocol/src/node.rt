@@ -1,5 +1,6 @@
 ghost use Rattle.std.specs.Prelude.{◌≡◌, ◌<◌, true, Some, None, IfOk, if◌then◌else◌};
-ghost use Rattle.registration_protocol.specs.Node.{NodeParts, Setting, opened, need_now, entry_of, is_settled, goes_on, to_core, to_home};
+ghost use Rattle.message_net.specs.Mail.{to_core, to_home};
+ghost use Rattle.registration_protocol.specs.Node.{NodeParts, Setting, opened, need_now, entry_of, is_settled, goes_on};
 ghost use Rattle.registration_protocol.specs.Fit.{IsContext, Fits};
 ghost use Rattle.registration_protocol.specs.Setting.{setting};
 ghost use Rattle.registration_protocol.specs.OwnEvents.{may_access, lets, may_instr, may_arrive, arrives, evicted};
