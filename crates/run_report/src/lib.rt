@@ -7,6 +7,7 @@
 mod answer;
 mod grants;
 mod refusal;
+mod run;
 #[cfg(test)]
 mod tests;
 mod totals;
@@ -14,4 +15,5 @@ mod totals;
 pub use answer::answer_text;
 pub use grants::grant_text;
 pub use refusal::{Refusal, refusal_line};
+pub use run::report;
 pub use totals::{checked_line, summary};

@@ -1,0 +1,24 @@
+//! What the definitions come to, for whoever reasons about logs.
+ghost use Rattle.std.specs.Prelude.{◌≡◌, ℕ, ◌+◌, ◌<◌, if◌then◌else◌, length, true, false};
+ghost use Rattle.message_net.specs.declared.event.EventKind.{EventKind};
+ghost use Rattle.grant_log.specs.declared.counts.Counts.{Counts};
+ghost use Rattle.grant_log.specs.declared.log.Stamped.{Stamped};
+ghost use Rattle.grant_log.specs.Order.{IsBefore};
+ghost use Rattle.grant_log.specs.Counts.{kind_place, same_kind, count_of, added};
+
+/// Each kind has a place of its own among the seventeen.
+pub fn kinds_have_places_of_their_own()
+    ensures within { (k : EventKind) → kind_place k < 17 }
+    ensures own { (j k : EventKind) → kind_place j ≡ kind_place k → j ≡ k }
+{}
+
+/// One more event raises the count of its kind by one, and no other.
+pub fn an_event_raises_its_kind_alone()
+    ensures { (j k : EventKind) (counts : Counts) → length counts.kinds ≡ 17
+        → count_of j (added k counts) ≡ count_of j counts + (if same_kind j k then 1 else 0) }
+{}
+
+/// An entry with a smaller stamp stands before one with a greater.
+pub fn stamps_come_first()
+    ensures { (a b : Stamped) → a.stamp < b.stamp → IsBefore a b }
+{}
