@@ -1,3 +1,4 @@
 pub mod CountLemmas
 pub mod OrderLemmas
 pub mod MergeLemmas
+pub mod SameLemmas

@@ -36,7 +36,7 @@ ties-equal Greater e = cc
 tie : (e x : Stamped) → ties e x ≡ true → (e.stamp ≡ x.stamp) × (e.actor ≡ x.actor)
 tie e x t = tied e x (ties-equal (entry_order e x) t)
 
-AllPairs-tail : {X : Type 0} (R : X → X → Type 0) (x : X) (xs : List X) → AllPairs R (x ∷ xs) → AllPairs R xs
+pub AllPairs-tail : {X : Type 0} (R : X → X → Type 0) (x : X) (xs : List X) → AllPairs R (x ∷ xs) → AllPairs R xs
 AllPairs-tail R x xs pairs i j d before within = pairs (suc i) (suc j) d (omega arith) (omega arith)
 
 -- where none passes, none is counted

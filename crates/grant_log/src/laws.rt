@@ -1,9 +1,10 @@
 //! What the definitions come to, for whoever reasons about logs.
-ghost use Rattle.std.specs.Prelude.{◌≡◌, ℕ, ◌+◌, ◌<◌, if◌then◌else◌, length, true, false};
+ghost use Rattle.std.specs.Prelude.{◌≡◌, ℕ, ◌+◌, ◌<◌, if◌then◌else◌, List, length};
 ghost use Rattle.message_net.specs.declared.event.EventKind.{EventKind};
 ghost use Rattle.grant_log.specs.declared.counts.Counts.{Counts};
 ghost use Rattle.grant_log.specs.declared.log.Stamped.{Stamped};
 ghost use Rattle.grant_log.specs.Order.{IsBefore};
+ghost use Rattle.grant_log.specs.Log.{IsMerge};
 ghost use Rattle.grant_log.specs.Counts.{kind_place, same_kind, count_of, added};
 
 /// Each kind has a place of its own among the seventeen.
@@ -21,4 +22,9 @@ pub fn an_event_raises_its_kind_alone()
 /// An entry with a smaller stamp stands before one with a greater.
 pub fn stamps_come_first()
     ensures { (a b : Stamped) → a.stamp < b.stamp → IsBefore a b }
+{}
+
+/// Logs have one merge.
+pub fn a_merge_is_the_only_one()
+    ensures { (logs : List (List Stamped)) (merged other : List Stamped) → IsMerge logs merged → IsMerge logs other → merged ≡ other }
 {}

@@ -31,7 +31,7 @@ event_word kind.TheVariants.Go = codes "go"
 event_word kind.TheVariants.Halt = codes "halt"
 
 -- the kinds of event, in the order in which their counts are printed
-abbrev pub all_kinds : List EventKind
+unfoldable pub all_kinds : List EventKind
 all_kinds =
     kind.TheVariants.Instr ∷ kind.TheVariants.Evict ∷ kind.TheVariants.Arrive ∷ kind.TheVariants.ReadReq
     ∷ kind.TheVariants.ReadFwd ∷ kind.TheVariants.DataReply ∷ kind.TheVariants.RegReq ∷ kind.TheVariants.RegFwd

@@ -10,6 +10,8 @@ mod refusal;
 mod run;
 #[cfg(test)]
 mod tests;
+#[cfg(test)]
+mod tests_report;
 mod totals;
 
 pub use answer::answer_text;

@@ -11,25 +11,30 @@ use std::alloc::Global;
 use text_pieces::{push, push_long};
 
 /// The kinds of event, in the order in which their counts are printed.
-const KINDS: [EventKind; 17] = [
-    EventKind::Instr,
-    EventKind::Evict,
-    EventKind::Arrive,
-    EventKind::ReadReq,
-    EventKind::ReadFwd,
-    EventKind::DataReply,
-    EventKind::RegReq,
-    EventKind::RegFwd,
-    EventKind::RegAck,
-    EventKind::WriteBack,
-    EventKind::WbAck,
-    EventKind::Acquire,
-    EventKind::Release,
-    EventKind::Grant,
-    EventKind::Arrived,
-    EventKind::Go,
-    EventKind::Halt,
-];
+#[tactic(auto, unfolding(crate::specs::Run::all_kinds))]
+fn kinds() -> [EventKind; 17]
+    ensures { result ≡ all_kinds }
+{
+    [
+        EventKind::Instr,
+        EventKind::Evict,
+        EventKind::Arrive,
+        EventKind::ReadReq,
+        EventKind::ReadFwd,
+        EventKind::DataReply,
+        EventKind::RegReq,
+        EventKind::RegFwd,
+        EventKind::RegAck,
+        EventKind::WriteBack,
+        EventKind::WbAck,
+        EventKind::Acquire,
+        EventKind::Release,
+        EventKind::Grant,
+        EventKind::Arrived,
+        EventKind::Go,
+        EventKind::Halt,
+    ]
+}
 
 fn event_name(kind: EventKind) -> &'static [u8]
     ensures { result.now ≡ event_word kind }
@@ -90,7 +95,7 @@ fn push_counts(out: &mut Vec<u8>, counts: &Counts) -> Result<(), Memory>
     ensures { OnOk result (out.new.items ≡ out.old.items ++ counts_text counts.now) }
 {
     push_event(out, b"events", events(&counts.kinds))?;
-    push_kinds(out, counts, &KINDS)
+    push_kinds(out, counts, &kinds())
 }
 
 /// The answer of a run, and then how it was made: a line for each grant of a lock, in their order, and lines with the
