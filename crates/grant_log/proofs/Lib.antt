@@ -2,3 +2,5 @@ pub mod CountLemmas
 pub mod OrderLemmas
 pub mod MergeLemmas
 pub mod SameLemmas
+pub mod ActorLemmas
+pub mod MadeLemmas

@@ -1,14 +1,13 @@
 -- What a sort makes of logs that are apart.
 use Rattle.std.proofs.Common.{◌≡◌, ◌≢◌, ℕ, zero, suc, ◌+◌, ◌<◌, ◌≤◌, Bool, true, false, cond, List, [], ◌∷◌, ◌++◌, length, get_or, map, take, refl, ap, sym, true≢false, ◌∙◌, arith}
-use Rattle.std.specs.Prelude.{count_by, sum_by, flat_map, All, AllPairs, IsPermutation}
-use Rattle.std.specs.Cmp.{IsTotalOrder}
+use Rattle.std.specs.Prelude.{count_by, flat_map, AllPairs, IsPermutation}
 use Rattle.std.specs.List.Sorted.{IsSorted}
-use Rattle.std.specs.Ordering.{is_eq, is_lt, ordering_reverse}
+use Rattle.std.specs.Ordering.{is_eq, is_lt}
 use Rattle.std.specs.declared.cmp.Ordering.{Ordering}
 use Rattle.std.specs.declared.cmp.Ordering.TheVariants.{Less, Equal, Greater}
 use Rattle.std.proofs.lemmas.Cmp.{tied_itself}
 use Rattle.std.proofs.lemmas.List.Elements.{All-tail}
-use Rattle.std.proofs.lemmas.List.Sorted.{ranks_by, sorted_far, sum_by-IsPermutation, length_permutation}
+use Rattle.std.proofs.lemmas.List.Sorted.{ranks_by, sorted_far, sum_by-IsPermutation}
 use Rattle.std.proofs.lemmas.List.Sums.{sum_by-append, sum_by_more_le, get_or-le-sum_by, sum_by-cons}
 use Rattle.std.proofs.lemmas.List.{get_or-take, length-take-le}
 use Rattle.message_net.specs.declared.actor.Actor.{Actor}
@@ -107,14 +106,15 @@ pub logs_have_one : (e : Stamped) (logs : List (List Stamped)) → AreLogs logs 
 logs_have_one e [] are = omega arith
 logs_have_one e (log ∷ logs) are =
     by_count (count_by (ties e) log) refl (logs_have_one e logs (record { each = All-tail IsLog log logs are.each; apart = AllPairs-tail AreApart log logs are.apart })) where
-  joined : count_by (ties e) (flat_map (λ log. log) (log ∷ logs)) ≡ count_by (ties e) log + count_by (ties e) (flat_map (λ log. log) logs)
-  joined = sum_by-append (λ x. cond (ties e x) 1 0) log (flat_map (λ log. log) logs)
-  by_count : (n : ℕ) → count_by (ties e) log ≡ n → count_by (ties e) (flat_map (λ log. log) logs) ≤ 1 → count_by (ties e) (flat_map (λ log. log) (log ∷ logs)) ≤ 1
-  by_count zero is rest = omega (arith, joined, is, rest)
-  by_count (suc n) is rest =
-      let most = log_has_one e log (are.each 0 log (omega arith)) in
-      let later = none_later (ties e) logs (λ k d within. no_more e log (get_or logs k d) (are.apart 0 (suc k) d (omega arith) (omega arith)) (omega (arith, is))) in
-      omega (arith, joined, most, later)
+      joined : count_by (ties e) (flat_map (λ log. log) (log ∷ logs)) ≡ count_by (ties e) log + count_by (ties e) (flat_map (λ log. log) logs)
+      joined = sum_by-append (λ x. cond (ties e x) 1 0) log (flat_map (λ log. log) logs)
+
+      by_count : (n : ℕ) → count_by (ties e) log ≡ n → count_by (ties e) (flat_map (λ log. log) logs) ≤ 1 → count_by (ties e) (flat_map (λ log. log) (log ∷ logs)) ≤ 1
+      by_count zero is rest = omega (arith, joined, is, rest)
+      by_count (suc n) is rest =
+          let most = log_has_one e log (are.each 0 log (omega arith)) in
+          let later = none_later (ties e) logs (λ k d within. no_more e log (get_or logs k d) (are.apart 0 (suc k) d (omega arith) (omega arith)) (omega (arith, is))) in
+          omega (arith, joined, most, later)
 
 -- of two entries that don't compare as equal, the one that isn't after the other is before it
 before : (a b : Stamped) → is_lt (entry_order b a) ≡ false → entry_order a b ≢ Equal → IsBefore a b
@@ -132,9 +132,9 @@ rises entries sorted apart i j d earlier within =
     let a = get_or entries i d in
     let b = get_or entries j d in
     before a b (sorted_far (λ x y. is_lt (entry_order x y)) (ranks_by entry_order_total (λ e. e)) entries sorted i j d (omega arith) within)
-        (λ equal. let own : ties a a ≡ true = rw (tied_itself entry_order_total a) refl in
-            let other : ties a b ≡ true = rw equal refl in
-            absurd (omega (arith, apart a, two (ties a) entries i j d earlier within own other)))
+    (λ equal. let own : ties a a ≡ true = rw (tied_itself entry_order_total a) refl in
+    let other : ties a b ≡ true = rw equal refl in
+    absurd (omega (arith, apart a, two (ties a) entries i j d earlier within own other)))
 
 -- what a sort makes of the entries of logs
 pub merges : (logs : List (List Stamped)) (merged : List Stamped) → AreLogs logs → IsPermutation (flat_map (λ log. log) logs) merged → IsSorted entry_order merged → IsMerge logs merged

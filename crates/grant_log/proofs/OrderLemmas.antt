@@ -1,11 +1,10 @@
 -- What the order of entries comes to.
-use Rattle.std.proofs.Common.{◌≡◌, ◌≢◌, ℕ, ◌+◌, ◌<◌, ◌≤◌, Bool, true, false, cond, List, [], ◌∷◌, ◌++◌, length, get_or, refl, ◌∙◌, arith}
-use Rattle.std.specs.Prelude.{count_by, flat_map, All, AllPairs, IsPermutation}
+use Rattle.std.proofs.Common.{◌≡◌, ℕ, ◌<◌, refl, arith}
 use Rattle.std.specs.Cmp.{IsTotalOrder}
-use Rattle.std.specs.Ordering.{nat_cmp, is_eq, is_lt, ordering_reverse, ordering_then, then_cmp, on}
+use Rattle.std.specs.Ordering.{nat_cmp, ordering_then}
 use Rattle.std.specs.declared.cmp.Ordering.{Ordering}
 use Rattle.std.specs.declared.cmp.Ordering.TheVariants.{Less, Equal, Greater}
-use Rattle.std.proofs.lemmas.Cmp.{nat_cmp_total, on_total, then_total, ranked}
+use Rattle.std.proofs.lemmas.Cmp.{nat_cmp_total, on_total, then_total}
 use Rattle.std.proofs.lemmas.Bool.Decides.{nat_tests}
 use Rattle.message_net.specs.declared.actor.Actor.{Actor}
 use Rattle.message_net.specs.declared.actor.Actor.TheVariants.{Core, Bank, Keeper}
@@ -16,7 +15,7 @@ use Rattle.grant_log.specs.Order.{group, number, actor_order, entry_order, IsBef
 pub entry_order_total : IsTotalOrder entry_order
 entry_order_total =
     then_total (on_total (λ (e : Stamped). e.stamp) nat_cmp_total)
-        (then_total (on_total (λ (e : Stamped). group e.actor) nat_cmp_total) (on_total (λ (e : Stamped). number e.actor) nat_cmp_total))
+    (then_total (on_total (λ (e : Stamped). group e.actor) nat_cmp_total) (on_total (λ (e : Stamped). number e.actor) nat_cmp_total))
 
 -- numbers that compare as equal are
 nat_equal : (a b : ℕ) → nat_cmp a b ≡ Equal → a ≡ b

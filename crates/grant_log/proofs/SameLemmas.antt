@@ -1,9 +1,7 @@
 -- Lists in strict order are known by what they contain.
-use Rattle.std.proofs.Common.{◌≡◌, ◌≢◌, ℕ, zero, suc, ◌<◌, Bool, true, false, List, [], ◌∷◌, ◌++◌, length, get_or, refl, sym, subst, ◌∙◌, arith}
-use Rattle.std.specs.Prelude.{flat_map, AllPairs, Contains, IsPermutation}
-use Rattle.std.specs.Ordering.{ordering_reverse}
-use Rattle.std.specs.declared.cmp.Ordering.{Ordering}
-use Rattle.std.specs.declared.cmp.Ordering.TheVariants.{Less, Equal, Greater}
+use Rattle.std.proofs.Common.{◌≡◌, ℕ, zero, suc, ◌<◌, List, [], ◌∷◌, length, get_or, refl, sym, subst, ◌∙◌, arith}
+use Rattle.std.specs.Prelude.{flat_map, AllPairs, Contains}
+use Rattle.std.specs.declared.cmp.Ordering.TheVariants.{Less, Greater}
 use Rattle.std.proofs.lemmas.List.Sorted.{Contains-permutation, IsPermutation-sym, IsPermutation-trans}
 use Rattle.grant_log.specs.declared.log.Stamped.{Stamped}
 use Rattle.grant_log.specs.Order.{entry_order, IsBefore}
@@ -16,8 +14,8 @@ one_way : (a b : Stamped) → IsBefore a b → IsBefore b a → ⊥
 one_way a b there back =
     let turned : entry_order a b ≡ Greater = entry_order_total.antisymm a b ∙ rw back refl in
     less≢greater (sym there ∙ turned) where
-  less≢greater : Less ≡ Greater → ⊥
-  less≢greater e = cc
+      less≢greater : Less ≡ Greater → ⊥
+      less≢greater e = cc
 
 -- the first entries of two lists in strict order that contain each other's first
 first : (x y : Stamped) (xs ys : List Stamped) → AllPairs IsBefore (x ∷ xs) → AllPairs IsBefore (y ∷ ys)
@@ -46,8 +44,8 @@ same_entries (x ∷ xs) (y ∷ ys) rise rises there back =
     let here = back y (0, omega arith, refl) in
     let heads : x ≡ y = first x y xs ys rise rises at.0 at.1 at.2 here.0 here.1 here.2 in
     let rest : xs ≡ ys = same_entries xs ys (AllPairs-tail IsBefore x xs rise) (AllPairs-tail IsBefore y ys rises)
-        (λ e found. behind x y e xs ys heads rise found.0 found.1 found.2 (there e (suc found.0, omega (arith, found.1), found.2)))
-        (λ e found. behind y x e ys xs (sym heads) rises found.0 found.1 found.2 (back e (suc found.0, omega (arith, found.1), found.2))) in
+    (λ e found. behind x y e xs ys heads rise found.0 found.1 found.2 (there e (suc found.0, omega (arith, found.1), found.2)))
+    (λ e found. behind y x e ys xs (sym heads) rises found.0 found.1 found.2 (back e (suc found.0, omega (arith, found.1), found.2))) in
     λ i. heads i ∷ rest i
 
 -- logs have one merge

@@ -1,6 +1,8 @@
 -- The logs of a run's actors, and the one list that they make.
-use Rattle.std.specs.Prelude.{ℕ, ◌≡◌, ◌≢◌, ◌<◌, List, flat_map, IsPermutation, All, AllPairs, filter_map}
+use Rattle.std.specs.Prelude.{Bool, ◌≡◌, ◌≢◌, ◌<◌, List, flat_map, IsPermutation, All, AllPairs, filter_map}
 use Rattle.dn_base.specs.declared.ids.Grant.{Grant}
+use Rattle.message_net.specs.declared.actor.Actor.{Actor}
+use Rattle.message_net.specs.Id.{same_actor}
 use Rattle.grant_log.specs.declared.log.Stamped.{Stamped}
 use Rattle.grant_log.specs.Order.{IsBefore}
 
@@ -21,6 +23,10 @@ pub record AreLogs (logs : List (List Stamped)) : Type 0 where
 pub record IsMerge (logs : List (List Stamped)) (merged : List Stamped) : Type 0 where
   pub same : IsPermutation (flat_map (λ log. log) logs) merged
   pub rising : AllPairs IsBefore merged
+
+-- whether an entry is of an actor
+abbrev pub of_actor : Actor → Stamped → Bool
+of_actor a e = same_actor a e.actor
 
 -- the grants of locks among the entries, in their order
 abbrev pub grants_in : List Stamped → List Grant

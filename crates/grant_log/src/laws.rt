@@ -1,10 +1,11 @@
 //! What the definitions come to, for whoever reasons about logs.
-ghost use Rattle.std.specs.Prelude.{◌≡◌, ℕ, ◌+◌, ◌<◌, if◌then◌else◌, List, length};
+ghost use Rattle.std.specs.Prelude.{◌≡◌, ℕ, ◌+◌, ◌<◌, if◌then◌else◌, List, length, filter, flat_map};
+ghost use Rattle.message_net.specs.declared.actor.Actor.{Actor};
 ghost use Rattle.message_net.specs.declared.event.EventKind.{EventKind};
 ghost use Rattle.grant_log.specs.declared.counts.Counts.{Counts};
 ghost use Rattle.grant_log.specs.declared.log.Stamped.{Stamped};
 ghost use Rattle.grant_log.specs.Order.{IsBefore};
-ghost use Rattle.grant_log.specs.Log.{IsMerge};
+ghost use Rattle.grant_log.specs.Log.{AreLogs, IsMerge, of_actor};
 ghost use Rattle.grant_log.specs.Counts.{kind_place, same_kind, count_of, added};
 
 /// Each kind has a place of its own among the seventeen.
@@ -27,4 +28,10 @@ pub fn stamps_come_first()
 /// Logs have one merge.
 pub fn a_merge_is_the_only_one()
     ensures { (logs : List (List Stamped)) (merged other : List Stamped) → IsMerge logs merged → IsMerge logs other → merged ≡ other }
+{}
+
+/// In the merge an actor's entries stand as they do in its log.
+pub fn a_merge_keeps_each_log()
+    ensures { (logs : List (List Stamped)) (merged : List Stamped) (a : Actor) → AreLogs logs → IsMerge logs merged
+        → filter (of_actor a) merged ≡ filter (of_actor a) (flat_map (λ log. log) logs) }
 {}

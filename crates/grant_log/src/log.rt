@@ -64,17 +64,17 @@ pub fn merge(alloc: Global, logs: Vec<Vec<Stamped>>) -> Result<Vec<Stamped>, Mem
 pub fn grants(alloc: Global, merged: &[Stamped]) -> Result<Vec<Grant>, Memory>
     ensures { IfOk result (λ grants. grants.items ≡ grants_in merged.now) }
 {
-    Ok(merged
-        .iter()
-        .filter_map(|entry| entry.granted)
-        .collect(alloc)?)
+    Ok(
+        merged
+            .iter()
+            .filter_map(|entry| entry.granted)
+            .collect(alloc)?,
+    )
 }
 
 fn crosses<T: Send + Sync>(_value: &T) {}
 
-/// Entries may be sent to another thread, and shared with it.
-pub(crate) fn entries_cross(entries: &[Stamped]) {
-    for entry in entries {
-        crosses(entry);
-    }
+/// An entry may be sent to another thread, and shared with it.
+pub(crate) fn entry_crosses(entry: &Stamped) {
+    crosses(entry);
 }

@@ -1,9 +1,14 @@
+ghost use Rattle.std.specs.Prelude.{◌≡◌};
+
 use crate::{Counts, Stamped, grants, merge};
 use dn_base::{BankId, CoreId, Grant, LockId, PhaseId};
 use message_net::{Actor, Event, EventKind};
 use std::test::Fail;
 
-const fn entry(stamp: u64, actor: Actor, granted: Option<Grant>) -> Stamped {
+fn entry(stamp: u64, actor: Actor, granted: Option<Grant>) -> Stamped
+    ensures stamp { result.stamp ≡ stamp }
+    ensures actor { result.actor ≡ actor }
+{
     Stamped {
         stamp,
         actor,
@@ -27,21 +32,18 @@ fn entries_stand_by_stamp_and_then_by_actor(rt: HostRuntime) -> Result<(), Fail>
     let logs = vec![in alloc;
         vec![in alloc; entry(2, bank, None)]?,
         vec![in alloc; entry(1, first, None), entry(4, first, None)]?,
-        vec![in alloc; entry(2, second, Some(grant)), entry(4, second, None)]?
+        vec![in alloc; entry(2, second, Some(grant)), entry(4, second, None)]?,
     ]?;
     let merged = merge(alloc, logs)?;
-    let order = [
-        (1, first),
-        (2, second),
-        (2, bank),
-        (4, first),
-        (4, second),
-    ];
+    let order = [(1, first), (2, second), (2, bank), (4, first), (4, second)];
     for (entry, (stamp, actor)) in merged.iter().zip(order) {
         assert!(rt; entry.stamp == stamp && entry.actor == actor);
     }
     assert_eq!(rt; merged.len(), 5);
-    assert_eq!(rt; grants(alloc, merged.as_slice())?.as_slice(), [grant].as_slice());
+    assert_eq!(rt;
+        grants(alloc, merged.as_slice())?.as_slice(),
+        [grant].as_slice()
+    );
     assert!(rt; grants(alloc, &merged[..1])?.is_empty());
     assert_eq!(rt; Counts::of(merged.as_slice()).kinds[0], 5);
     Ok(())

@@ -1,4 +1,3 @@
-use Rattle.std.proofs.Common.{rules, arith, ◌≡◌, ℕ, ◌<◌, length}
 use Rattle.grant_log.proofs.CountLemmas.{one_more}
 use Rattle.grant_log.proofs.counts.Counts.of.Goals as goal
 
