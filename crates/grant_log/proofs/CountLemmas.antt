@@ -10,7 +10,7 @@ use Rattle.grant_log.specs.declared.counts.Counts.{Counts}
 use Rattle.grant_log.specs.Counts.{kind_place, same_kind, count_of, added, AreCounts}
 
 -- each kind has a place among the seventeen
-place_within : (k : EventKind) → kind_place k < 17
+pub place_within : (k : EventKind) → kind_place k < 17
 place_within k = grind arith
 
 -- one more event of a kind raises that kind's count, and no other
@@ -36,7 +36,7 @@ AreCounts-added : (kinds : List EventKind) (k : EventKind) (counts : Counts) →
 AreCounts-added kinds k counts within told j =
     count_of-added j k counts within ∙ omega (arith, told j, count_by-push (same_kind j) kinds k)
 
-length-added : (k : EventKind) (counts : Counts) → length (added k counts).kinds ≡ length counts.kinds
+pub length-added : (k : EventKind) (counts : Counts) → length (added k counts).kinds ≡ length counts.kinds
 length-added k counts = length-set counts.kinds (kind_place k) (count_of k counts + 1)
 
 -- the kinds of one more entry

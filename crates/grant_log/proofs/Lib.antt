@@ -4,3 +4,4 @@ pub mod MergeLemmas
 pub mod SameLemmas
 pub mod ActorLemmas
 pub mod MadeLemmas
+pub mod TotalLemmas
