@@ -93,13 +93,7 @@ impl TaskState {
     }
 
     /// What the task's next instruction needs, as `next` says, by the program's code that was decoded before.
-    pub fn next_in(
-        &self,
-        program: &Program,
-        task: &TaskDecl,
-        fuel: u32,
-        code: &DecodedCode,
-    ) -> Next
+    pub fn next_in(&self, program: &Program, task: &TaskDecl, fuel: u32, code: &DecodedCode) -> Next
         requires open { self.now.end ≡ None }
         requires code { IsDecoded program.now code.now }
         ensures value { IsNextOf program.now task.now fuel self.now result }

@@ -139,7 +139,12 @@ fn call(program: &Program, state: &TaskState, number: u32, lock: u32) -> Need
 }
 
 /// What an instruction needs.
-pub(crate) fn instruction(program: &Program, task: &TaskDecl, state: &TaskState, instr: Instr) -> Need
+pub(crate) fn instruction(
+    program: &Program,
+    task: &TaskDecl,
+    state: &TaskState,
+    instr: Instr,
+) -> Need
     ensures { result ≡ instr_need program.now task.now state.now instr }
 {
     match instr {
