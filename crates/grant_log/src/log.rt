@@ -45,7 +45,8 @@ fn in_order(mut entries: Vec<Stamped>) -> Result<Vec<Stamped>, Memory>
 
 /// The entries of all logs, in the order of their stamps, and those with one stamp in the order of their actors.
 ///
-/// Each log has one actor's entries, with rising stamps, and no two logs are of one actor.
+/// A log is what a single actor noted, in the order of its stamps, each of which is later than the one before; every actor has one
+/// log at the most.
 ///
 /// # Errors
 /// `Memory` where there is no room for the list.
