@@ -1,5 +1,5 @@
 -- When a context is one of a machine, and when a node fits it.
-use Rattle.std.specs.Prelude.{◌≡◌, ℕ, ◌<◌, ◌≤◌, true, false, length, Option, Some, IfSome}
+use Rattle.std.specs.Prelude.{◌≡◌, ℕ, ◌<◌, ◌≤◌, true, false, length, Option, Some, IfSome, None}
 use Rattle.std.specs.List.{All}
 use Rattle.std.specs.Option.{is_some}
 use Rattle.region_table.specs.Program.{cores_of}
@@ -15,6 +15,9 @@ use Rattle.registration_protocol.specs.declared.node.NodeWait as wait
 use Rattle.registration_protocol.specs.declared.node.NodeWait.{NodeWait}
 use Rattle.region_table.specs.Tasks.{declared}
 use Rattle.registration_protocol.specs.Node.{NodeParts, Setting, need_now}
+use Rattle.rv_core.specs.declared.need.Next.{Next}
+use Rattle.rv_core.specs.Next.{IsNextOf}
+use Rattle.region_table.specs.declared.declared.TaskDecl.{TaskDecl}
 
 -- a context: the plans are those of the program's phases, the cores are those that the program needs, and the other sizes and
 -- the fuel are within their limits
@@ -59,3 +62,9 @@ pub record Fits (C : Setting) (n : NodeParts) : Type 0 where
   pub sets : n.cache.sets ≡ C.shape.sets
   pub ways : n.cache.ways ≡ C.shape.ways
   pub waiting : NeedsLock (need_now C n) n.waiting
+
+-- a look is at the next instruction of a task that goes on
+pub record IsLook (C : Setting) (d : TaskDecl) (next : Next) (t : TaskState) : Type 0 where
+  pub going : t.end ≡ None
+  pub fuel : t.retired ≤ C.fuel
+  pub is_next : IsNextOf C.program d C.fuel t next
