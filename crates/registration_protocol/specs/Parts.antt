@@ -1,5 +1,5 @@
 -- An instruction, part by part: what it changes of the task, the wait and the signatures, and what it sends and reads.
-use Rattle.std.specs.Prelude.{◌≡◌, ℕ, ◌^◌, Bool, true, false, List, Option, Some, None, if◌then◌else◌, ◌+◌, ◌<◌, length, bit_or}
+use Rattle.std.specs.Prelude.{◌≡◌, ℕ, ◌^◌, Bool, true, false, List, Option, Some, None, if◌then◌else◌, ◌+◌, ◌<◌, length, bit_or, ◌⊎◌}
 use Rattle.dn_base.specs.declared.ids.LoadSeen.{LoadSeen}
 use Rattle.dn_base.specs.declared.ids.WordId.{WordId}
 use Rattle.region_table.specs.declared.declared.TaskDecl.{TaskDecl}
@@ -14,7 +14,7 @@ use Rattle.message_net.specs.declared.message.Message.TheVariants.{ReadReq, RegR
 use Rattle.message_net.specs.declared.message.Outgoing.{Outgoing}
 use Rattle.word_cache.specs.declared.row.Entry.{Entry}
 use Rattle.word_cache.specs.declared.row.Entry.TheVariants.{Valid, Registered, Leaving}
-use Rattle.word_cache.specs.Cache.{may_go}
+use Rattle.word_cache.specs.Cache.{may_go, is_stuck}
 use Rattle.registration_protocol.specs.declared.node.NodeWait as wait
 use Rattle.registration_protocol.specs.declared.node.NodeWait.{NodeWait}
 use Rattle.registration_protocol.specs.declared.node.Step.{Step}
@@ -193,3 +193,13 @@ pub record Acquires (C : Setting) (t : TaskState) (lock : LockId) (u : TaskState
   pub retired : u.retired ≡ t.retired + 1
   pub held : u.held ≡ bit_or t.held (2 ^ lock.0)
   pub end : u.end ≡ t.end
+
+-- some word of a node has an entry that may not be evicted: it is pending or leaving
+abbrev pub IsStuckAt : NodeParts → Type 0
+IsStuckAt n = (v : ℕ) × (is_stuck (entry_of n v) ≡ true)
+
+-- a node waits for the value of a word, or for a lock, or an answer to some word's registration or write-back is to come
+abbrev pub IsWaiting : NodeParts → Type 0
+IsWaiting n =
+    ((word : WordId) × (n.waiting ≡ wait.TheVariants.Reading word))
+    ⊎ (((lock : LockId) × (n.waiting ≡ wait.TheVariants.Locking lock)) ⊎ IsStuckAt n)
