@@ -26,7 +26,7 @@ use Rattle.rv_core.specs.Step.{advanced, loaded_of}
 use Rattle.rv_core.specs.Task.{started, stopped}
 use Rattle.rv_core.proofs.Needs.{need-allowed}
 use Rattle.write_signature.specs.declared.signature.Signature.{Signature}
-use Rattle.write_signature.specs.Signature.{tag, empty, in_phase}
+use Rattle.write_signature.specs.Signature.{empty, in_phase}
 use Rattle.write_signature.proofs.SignatureLemmas.{tag-empty, tag-in_phase}
 use Rattle.message_net.specs.declared.message.Message as message
 use Rattle.message_net.specs.declared.message.Message.{Message}

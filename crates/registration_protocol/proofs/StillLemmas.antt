@@ -1,10 +1,9 @@
 -- What a node waits for that has nothing to do by itself.
-use Rattle.std.proofs.Common.{◌≡◌, ℕ, ◌<◌, ◌%◌, ◌==◌, Bool, true, false, not, ◌&&◌, ◌||◌, cond, Option, Some, None, ◌⊎◌, inl, inr, refl, sym, ap, ◌∙◌, subst, arith}
+use Rattle.std.proofs.Common.{◌≡◌, ℕ, ◌<◌, ◌%◌, ◌==◌, Bool, true, false, not, ◌&&◌, cond, Option, Some, None, inl, inr, refl, sym, ap, ◌∙◌, subst, arith}
 use Rattle.std.proofs.lemmas.Bool.{and_from}
 use Rattle.std.proofs.lemmas.Bool.Decides.{nat_tests}
 use Rattle.std.specs.Option.{is_some}
 use Rattle.dn_base.specs.declared.ids.WordId.{WordId}
-use Rattle.dn_base.specs.declared.ids.LockId.{LockId}
 use Rattle.region_table.specs.Tasks.{declared}
 use Rattle.region_table.specs.declared.declared.TaskDecl.{TaskDecl}
 use Rattle.rv_core.specs.declared.task.TaskState.{TaskState}
@@ -13,14 +12,14 @@ use Rattle.rv_core.specs.declared.need.Need as need
 use Rattle.rv_core.specs.declared.need.Need.{Need}
 use Rattle.word_cache.specs.declared.row.Entry.{Entry}
 use Rattle.word_cache.specs.declared.row.Entry.TheVariants.{Valid, Registered, Leaving}
-use Rattle.word_cache.specs.Cache.{IsCache, lookup, has_room, is_stuck, may_go, victim_of, pending_bit, pending_count}
+use Rattle.word_cache.specs.Cache.{IsCache, is_stuck, may_go, victim_of, pending_bit, pending_count}
 use Rattle.word_cache.proofs.WeightLemmas.{pending-some}
 use Rattle.word_cache.proofs.CacheLaws.{victim-goes, full-blocked}
 use Rattle.registration_protocol.specs.declared.node.NodeWait as wait
 use Rattle.registration_protocol.specs.declared.node.NodeWait.{NodeWait}
 use Rattle.registration_protocol.specs.Node.{NodeParts, Setting, need_now, need_if, need_by, entry_of, goes_on, is_settled, is_active, is_ready, waits_for_nothing}
 use Rattle.registration_protocol.specs.Fit.{Fits}
-use Rattle.registration_protocol.specs.OwnEvents.{may_access, lets, may_instr, may_evict, may_arrive, makes_room, wanted_by, crowded, IsStill}
+use Rattle.registration_protocol.specs.OwnEvents.{may_access, lets, makes_room, wanted_by, crowded, IsStill}
 use Rattle.registration_protocol.specs.Parts.{IsStuckAt, IsWaiting}
 
 -- an entry that is pending is stuck

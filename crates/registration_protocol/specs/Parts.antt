@@ -21,12 +21,14 @@ use Rattle.registration_protocol.specs.declared.node.Step.{Step}
 use Rattle.region_table.specs.Tasks.{declared}
 use Rattle.message_net.specs.Mail.{to_home}
 use Rattle.registration_protocol.specs.Node.{NodeParts, Setting, need_now, entry_of, signature_of, is_settled, goes_on, is_ready}
-use Rattle.registration_protocol.specs.OwnEvents.{lets, noted, me, wanted_by, makes_room}
+use Rattle.registration_protocol.specs.OwnEvents.{lets, noted, me, wanted_by, makes_room, may_instr, may_evict, may_arrive}
 use Rattle.registration_protocol.specs.Changes.{KeepsPlace, entry_by}
 use Rattle.rv_core.specs.declared.task.End.{End}
 use Rattle.dn_base.specs.declared.ids.LockId.{LockId}
 use Rattle.rv_core.specs.Kinds.{held_after}
 use Rattle.rv_core.specs.Access.{holds}
+use Rattle.message_net.specs.declared.event.Event as event
+use Rattle.message_net.specs.declared.event.Event.{Event}
 
 -- a node whose next instruction may go on: its task, the task's declaration, and what the instruction needs
 pub record MayInstruct (C : Setting) (n : NodeParts) : Type 0 where
@@ -203,3 +205,10 @@ abbrev pub IsWaiting : NodeParts → Type 0
 IsWaiting n =
     ((word : WordId) × (n.waiting ≡ wait.TheVariants.Reading word))
     ⊎ (((lock : LockId) × (n.waiting ≡ wait.TheVariants.Locking lock)) ⊎ IsStuckAt n)
+
+-- an event is one of a node's own, and may come
+abbrev pub MayCome : Setting → NodeParts → Event → Type 0
+MayCome C n (event.TheVariants.Instr core) = (core ≡ me n) × (may_instr C n ≡ true)
+MayCome C n (event.TheVariants.Evict core word) = (core ≡ me n) × (may_evict C n word.0 ≡ true)
+MayCome C n (event.TheVariants.Arrive core) = (core ≡ me n) × (may_arrive n ≡ true)
+MayCome C n (event.TheVariants.Handle id) = ⊥

@@ -21,11 +21,12 @@ ghost use Rattle.word_cache.specs.Cache.{IsCache, has_room, entry_after_phase, e
 ghost use Rattle.registration_protocol.specs.declared.node.NodeWait.TheVariants.{Reading, Filled, Locking};
 ghost use Rattle.registration_protocol.specs.Node.{NodeParts, Setting, need_now, entry_of, signature_of, opened};
 ghost use Rattle.registration_protocol.specs.Fit.{IsContext, Fits};
-ghost use Rattle.registration_protocol.specs.OwnEvents.{IsStill, lets, may_instr, may_evict, may_arrive, stored, noted_at, instr_row, instructed, written_by, written_now, evicted, arrives};
+ghost use Rattle.registration_protocol.specs.OwnEvents.{IsStill, lets, may_instr, may_evict, may_arrive, stored, noted_at, instr_row, instructed, written_by, written_now, evicted, arrives, own_event};
 ghost use Rattle.registration_protocol.specs.Messages.{node_gets, becomes, guarded_by, written_in, holds_now, begins};
 ghost use Rattle.registration_protocol.specs.Changes.{acknowledged, forwarded, given_back, given_up, is_from_keeper, KeepsPlace, KeepsTask};
-ghost use Rattle.registration_protocol.specs.Parts.{IsWaiting, MayInstruct, MayEvict, MayArrive, accessed, task_by, Instructs, Retires, Acquires};
+ghost use Rattle.registration_protocol.specs.Parts.{IsWaiting, MayInstruct, MayEvict, MayArrive, accessed, task_by, Instructs, Retires, Acquires, MayCome};
 ghost use Rattle.registration_protocol.specs.Names.{NamesOwn, IsFor};
+ghost use Rattle.message_net.specs.declared.event.Event.{Event};
 
 /// An acknowledgement, a forwarded registration and an eviction change the entry of their word alone, and a forwarded read
 /// changes nothing.
@@ -75,6 +76,11 @@ pub fn a_leave_tells_of_its_node()
     ensures instr { (C : Setting) (n : NodeParts) → may_instr C n ≡ true → MayInstruct C n }
     ensures evict { (C : Setting) (n : NodeParts) (w : ℕ) → may_evict C n w ≡ true → MayEvict C n w }
     ensures arrive { (n : NodeParts) → may_arrive n ≡ true → MayArrive n }
+{}
+
+/// What a node does next by itself may come.
+pub fn an_own_event_may_come()
+    ensures { (C : Setting) (n : NodeParts) (e : Event) → own_event C n ≡ Some e → MayCome C n e }
 {}
 
 /// An instruction is the row of its need; what it changes, sends and reads follows, part by part, from the need and from the

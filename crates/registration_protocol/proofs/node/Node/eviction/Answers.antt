@@ -1,6 +1,5 @@
 use Rattle.std.proofs.Common.{◌≡◌, true, false, None, Some, Option, IfSome, refl, sym, ap, subst, ◌∙◌}
 use Rattle.dn_base.specs.declared.ids.WordId.{WordId}
-use Rattle.rv_core.specs.declared.need.Need.{Need}
 use Rattle.word_cache.specs.Cache.{may_go}
 use Rattle.registration_protocol.specs.Node.{entry_of, need_now}
 use Rattle.registration_protocol.specs.OwnEvents.{may_evict, victim_for, wanted_by}
