@@ -5,11 +5,11 @@ use Rattle.std.proofs.lemmas.Bool.Decides.{nat_tests}
 use Rattle.std.specs.List.{find}
 use Rattle.std.specs.Option.{option_map}
 use Rattle.dn_base.specs.declared.ids.WordId.{WordId}
+use Rattle.message_net.specs.declared.event.Event as event
+use Rattle.message_net.specs.declared.event.Event.{Event}
 use Rattle.word_cache.specs.Cache.{Pair, lookup, may_go, is_evictable, shares_set, gives_way}
 use Rattle.registration_protocol.specs.Node.{NodeParts, Setting, need_now, entry_of, is_active, waits_for_nothing}
 use Rattle.registration_protocol.specs.OwnEvents.{wanted_by, makes_room, may_evict, victim_for, me, may_instr, may_arrive, first_of, eviction_of, eviction, arrival, own_event}
-use Rattle.message_net.specs.declared.event.Event as event
-use Rattle.message_net.specs.declared.event.Event.{Event}
 use Rattle.registration_protocol.specs.Parts.{MayCome}
 
 -- what is found passes the test

@@ -4,20 +4,20 @@ use Rattle.std.specs.List.{All}
 use Rattle.std.specs.Option.{is_some}
 use Rattle.region_table.specs.Program.{cores_of}
 use Rattle.region_table.specs.Plan.{ArePlans}
+use Rattle.region_table.specs.Tasks.{declared}
+use Rattle.region_table.specs.declared.declared.TaskDecl.{TaskDecl}
 use Rattle.rv_core.specs.declared.task.TaskState.{TaskState}
 use Rattle.rv_core.specs.declared.need.Need as need
 use Rattle.rv_core.specs.declared.need.Need.{Need}
 use Rattle.rv_core.specs.Access.{holds}
+use Rattle.rv_core.specs.declared.need.Next.{Next}
+use Rattle.rv_core.specs.Next.{IsNextOf}
 use Rattle.write_signature.specs.declared.signature.Signature.{Signature}
 use Rattle.write_signature.specs.Signature.{tag}
 use Rattle.word_cache.specs.Cache.{IsCache}
 use Rattle.registration_protocol.specs.declared.node.NodeWait as wait
 use Rattle.registration_protocol.specs.declared.node.NodeWait.{NodeWait}
-use Rattle.region_table.specs.Tasks.{declared}
 use Rattle.registration_protocol.specs.Node.{NodeParts, Setting, need_now}
-use Rattle.rv_core.specs.declared.need.Next.{Next}
-use Rattle.rv_core.specs.Next.{IsNextOf}
-use Rattle.region_table.specs.declared.declared.TaskDecl.{TaskDecl}
 
 -- a context: the plans are those of the program's phases, the cores are those that the program needs, and the other sizes and
 -- the fuel are within their limits

@@ -4,16 +4,16 @@ ghost use Rattle.region_table.specs.Plan.{uses_plainly};
 ghost use Rattle.rv_core.specs.Kinds.{IsLoad, IsStore, IsAdvance};
 ghost use Rattle.rv_core.specs.Step.{advanced, loaded_of, merged_of};
 ghost use Rattle.rv_core.specs.Task.{stopped};
+ghost use Rattle.rv_core.specs.declared.task.TaskState.{TaskState};
 ghost use Rattle.message_net.specs.declared.message.Message.TheVariants.{Acquire as AcquireOf, Release as ReleaseOf};
+ghost use Rattle.message_net.specs.Mail.{to_home};
 ghost use Rattle.word_cache.specs.declared.row.Entry.TheVariants.{Registered as AsRegistered};
 ghost use Rattle.word_cache.specs.Cache.{has_room};
 ghost use Rattle.registration_protocol.specs.Fit.{IsContext, Fits, IsLook};
-ghost use Rattle.message_net.specs.Mail.{to_home};
 ghost use Rattle.registration_protocol.specs.Node.{entry_of, signature_of};
 ghost use Rattle.registration_protocol.specs.declared.node.NodeWait.TheVariants.{None as WaitsForNothing, Locking};
 ghost use Rattle.registration_protocol.specs.OwnEvents.{may_access, lets, may_instr, misses, me, stored, registers, loads, stores, instr_row, instructed, noted};
 ghost use Rattle.registration_protocol.specs.Setting.{setting};
-ghost use Rattle.rv_core.specs.declared.task.TaskState.{TaskState};
 
 use crate::node::{Node, NodeWait, Step, send_home};
 use crate::setting::{Context, declaration};

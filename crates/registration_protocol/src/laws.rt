@@ -15,6 +15,7 @@ ghost use Rattle.write_signature.specs.declared.signature.Signature.{Signature};
 ghost use Rattle.write_signature.specs.Signature.{tag, empty, in_phase};
 ghost use Rattle.message_net.specs.declared.message.Message.{Message};
 ghost use Rattle.message_net.specs.declared.message.Message.TheVariants.{RegAck, RegFwd, ReadFwd, WbAck, DataReply, Grant, Go};
+ghost use Rattle.message_net.specs.declared.event.Event.{Event};
 ghost use Rattle.word_cache.specs.declared.row.Entry.{Entry};
 ghost use Rattle.word_cache.specs.declared.row.Entry.TheVariants.{Valid};
 ghost use Rattle.word_cache.specs.Cache.{IsCache, has_room, entry_after_phase, entry_after_grant};
@@ -24,9 +25,8 @@ ghost use Rattle.registration_protocol.specs.Fit.{IsContext, Fits};
 ghost use Rattle.registration_protocol.specs.OwnEvents.{IsStill, lets, may_instr, may_evict, may_arrive, stored, noted_at, instr_row, instructed, written_by, written_now, evicted, arrives, own_event};
 ghost use Rattle.registration_protocol.specs.Messages.{node_gets, becomes, guarded_by, written_in, holds_now, begins};
 ghost use Rattle.registration_protocol.specs.Changes.{acknowledged, forwarded, given_back, given_up, is_from_keeper, KeepsPlace, KeepsTask};
-ghost use Rattle.registration_protocol.specs.Parts.{IsWaiting, MayInstruct, MayEvict, MayArrive, accessed, task_by, Instructs, Retires, Acquires, MayCome};
+ghost use Rattle.registration_protocol.specs.Parts.{IsWaiting, MayInstruct, MayEvict, MayArrive, accessed, task_by, Instructs, Retires, Acquires, MayCome, retired_of, held_of};
 ghost use Rattle.registration_protocol.specs.Names.{NamesOwn, IsFor};
-ghost use Rattle.message_net.specs.declared.event.Event.{Event};
 
 /// An acknowledgement, a forwarded registration and an eviction change the entry of their word alone, and a forwarded read
 /// changes nothing.
@@ -105,13 +105,14 @@ pub fn a_grant_part_by_part()
         → Acquires C t lock (advanced C.program t) }
 {}
 
-/// The next phase begins: each entry is judged alone, and every signature is empty.
+/// The next phase begins: each entry is judged alone, every signature is empty, and the task has retired nothing and holds no lock.
 pub fn a_phase_begins_part_by_part()
     ensures row { (C : Setting) (n : NodeParts) (phase : PhaseId) → n.arrived ≡ true → n.halted ≡ false → phase.0 ≡ n.phase + 1 → phase.0 < length C.program.phases
         → node_gets C n (Go phase) ≡ becomes (begins C n phase.0) }
     ensures entries { (C : Setting) (n : NodeParts) (phase w : ℕ) → IsCache n.cache
         → entry_of (begins C n phase) w ≡ entry_after_phase (written_in (slice_get C.plans n.phase)) w (entry_of n w) }
     ensures signatures { (C : Setting) (n : NodeParts) (phase lock : ℕ) → signature_of (begins C n phase) lock ≡ empty phase }
+    ensures task { (C : Setting) (n : NodeParts) (phase : ℕ) → (retired_of (begins C n phase).task ≡ 0) × (held_of (begins C n phase).task ≡ 0) }
 {}
 
 /// A node's signatures are of its phase, and a store notes its word in that of each lock.

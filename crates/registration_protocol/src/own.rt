@@ -1,9 +1,9 @@
 ghost use Rattle.std.specs.Prelude.{◌≡◌, ◌↔◌, ℕ, true, false, None, IfSome, ◌&&◌};
+ghost use Rattle.word_cache.specs.Cache.{may_go};
 ghost use Rattle.registration_protocol.specs.Fit.{IsContext, Fits};
 ghost use Rattle.registration_protocol.specs.Node.{need_now, entry_of, is_active, waits_for_nothing};
 ghost use Rattle.registration_protocol.specs.OwnEvents.{crowded, wanted_by, makes_room, may_evict, may_arrive, evicted, victim_for, eviction, arrival, own_event, IsStill, shown_by, end_of};
 ghost use Rattle.registration_protocol.specs.Setting.{setting};
-ghost use Rattle.word_cache.specs.Cache.{may_go};
 
 use crate::node::{Node, NodeWait};
 use crate::setting::Context;

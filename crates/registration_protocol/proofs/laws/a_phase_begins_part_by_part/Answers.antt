@@ -1,4 +1,4 @@
-use Rattle.registration_protocol.proofs.MessageLemmas.{go-is, begin-entries}
+use Rattle.registration_protocol.proofs.MessageLemmas.{go-is, begin-entries, begin-task}
 use Rattle.registration_protocol.proofs.SignLemmas.{begin-signature}
 use Rattle.registration_protocol.proofs.laws.a_phase_begins_part_by_part.Goals as goal
 
@@ -10,3 +10,6 @@ returns-clause-entries c = begin-entries
 
 pub returns-clause-signatures : goal.returns-clause-signatures
 returns-clause-signatures c = begin-signature
+
+pub returns-clause-task : goal.returns-clause-task
+returns-clause-task c = begin-task
