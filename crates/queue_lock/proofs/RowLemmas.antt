@@ -1,14 +1,15 @@
 -- What acquires and releases come to for each core.
-use Rattle.std.proofs.Common.{◌≡◌, ◌≢◌, ℕ, ◌+◌, ◌<◌, ◌≤◌, ◌==◌, Bool, true, false, cond, nat_lt, nat_le, List, [], ◌∷◌, ◌++◌, length, drop, slice_get, Option, Some, None, refl, ap, arith, ◌∙◌, suc}
+use Rattle.std.proofs.Common.{◌≡◌, ℕ, ◌+◌, ◌<◌, ◌≤◌, ◌==◌, Bool, true, false, cond, nat_le, List, [], ◌∷◌, ◌++◌, length, Option, Some, None, refl, sym, ap, arith, ◌∙◌}
 use Rattle.std.specs.List.{All}
 use Rattle.std.proofs.lemmas.List.Elements.{All-push, All-head, All-tail}
+use Rattle.std.proofs.lemmas.Option.{some_pair_parts}
 use Rattle.std.proofs.lemmas.Bool.{eqb-true, eqb-false}
 use Rattle.std.proofs.lemmas.Bool.Decides.{nat_tests}
 use Rattle.dn_base.specs.declared.ids.CoreId.{CoreId}
 use Rattle.write_signature.specs.declared.signature.Signature.{Signature}
 use Rattle.write_signature.specs.Signature.{joined}
-use Rattle.queue_lock.specs.Lock.{Lock, IsLock, IsLockOf, free_lock, is_core, waits, places_of, queued, asked, acquired, handed_on, given_up, released, holder_count, grant_count, next_count}
-use Rattle.queue_lock.proofs.LockLemmas.{places_of-cons, places_of-push, places_of-none, waits-stands, room, IsLock-free, IsLock-acquired, IsLock-released}
+use Rattle.queue_lock.specs.Lock.{Lock, IsLockOf, free_lock, is_core, waits, places_of, queued, asked, acquired, handed_on, given_up, released, holder_count, grant_count, next_count}
+use Rattle.queue_lock.proofs.LockLemmas.{places_of-cons, places_of-push, waits-stands, room, IsLock-free, IsLock-acquired, IsLock-released}
 
 -- what passes a test weighs 1
 abbrev bit : Bool → ℕ
@@ -28,6 +29,10 @@ holder-is core (Some d) one =
     let same : d.0 ≡ core.0 = grind (arith, nat_tests) in
     grind (arith, nat_tests)
 
+pub holder-within : (core : ℕ) (o : Option CoreId) → holder_count core o ≤ 1
+holder-within core None = omega arith
+holder-within core (Some d) = grind (arith, nat_tests)
+
 pub holder-one : (c d : ℕ) (o : Option CoreId) → holder_count c o + holder_count d o ≤ 1 + bit (c == d)
 holder-one c d None = omega arith
 holder-one c d (Some x) = grind (arith, nat_tests)
@@ -41,6 +46,11 @@ acquired-held h core holder held absent room =
     let none = waits-none core.0 h.queue absent in
     let fits : nat_le h.capacity (length h.queue) ≡ false = grind (arith, nat_tests) in
     rw (held, none, fits) refl
+
+pub acquired-again : (h : Lock) (core holder : CoreId) → h.holder ≡ Some holder → 1 ≤ places_of core.0 h.queue → acquired h core ≡ (h, None)
+acquired-again h core holder held there =
+    let waiting : waits core.0 h.queue ≡ true = (waits-stands core.0 h.queue).1 there in
+    rw (held, waiting) refl
 
 pub kept-acquired : (h : Lock) (core : CoreId) → (acquired h core).0.kept ≡ h.kept
 kept-acquired h core = by_holder h.holder where
@@ -132,7 +142,9 @@ pub answer-released : (h : Lock) (core next : CoreId) (s t : Signature) → (rel
 answer-released h core next s t answer = by_count (holder_count core.0 h.holder == 1) refl where
   by_queue : (queue : List CoreId) → (handed_on (record h { kept = joined h.kept s }) queue).1 ≡ Some (next, t) → (t ≡ joined h.kept s) × ((handed_on (record h { kept = joined h.kept s }) queue).0.holder ≡ Some next)
   by_queue [] e = absurd (cc)
-  by_queue (x ∷ xs) e = (cc, cc)
+  by_queue (x ∷ xs) e =
+      let parts = some_pair_parts x next (joined h.kept s) t e in
+      (sym parts.1, ap (λ (c : CoreId). Some c) parts.0)
 
   by_count : (b : Bool) → (holder_count core.0 h.holder == 1) ≡ b → (holder_count core.0 h.holder ≡ 1) × (t ≡ joined h.kept s) × ((released h core s).0.holder ≡ Some next)
   by_count true e =
@@ -141,7 +153,7 @@ answer-released h core next s t answer = by_count (holder_count core.0 h.holder 
       let handed = by_queue h.queue (rw is at answer) in
       (own, handed.0, rw is handed.1)
   by_count false e =
-      let other : holder_count core.0 h.holder ≡ 0 = omega (arith, holder-one core.0 core.0 h.holder, eqb-false (holder_count core.0 h.holder) 1 e) in
+      let other : holder_count core.0 h.holder ≡ 0 = omega (arith, holder-within core.0 h.holder, eqb-false (holder_count core.0 h.holder) 1 e) in
       let never = rw (released-other h core s other) at answer in
       absurd (cc)
 
@@ -198,7 +210,7 @@ released-members cores h core s good = by_count (holder_count core.0 h.holder ==
   by_count true e =
       rw (released-own h core s (eqb-true (holder_count core.0 h.holder) 1 e)) (handed-members cores h good (joined h.kept s))
   by_count false e =
-      let other : holder_count core.0 h.holder ≡ 0 = omega (arith, holder-one core.0 core.0 h.holder, eqb-false (holder_count core.0 h.holder) 1 e) in
+      let other : holder_count core.0 h.holder ≡ 0 = omega (arith, holder-within core.0 h.holder, eqb-false (holder_count core.0 h.holder) 1 e) in
       rw (released-other h core s other) (record { holder = good.holder; queue = good.queue })
 
 pub IsLockOf-released : (cores : ℕ) (h : Lock) (core : CoreId) (s : Signature) → IsLockOf cores h → IsLockOf cores (released h core s).0
@@ -209,3 +221,22 @@ IsLockOf-released cores h core s good =
 pub room-of : (cores : ℕ) (h : Lock) (core : CoreId) → IsLockOf cores h → core.0 < cores → places_of core.0 h.queue ≡ 0 → length h.queue < h.capacity
 room-of cores h core good below absent =
     rw good.room (room h.queue cores core.0 good.queue good.lock.once below absent)
+
+-- no core that the machine lacks holds its locks or waits for them
+pub outsider-holder : (cores : ℕ) (h : Lock) (d : ℕ) → IsLockOf cores h → cores ≤ d → holder_count d h.holder ≡ 0
+outsider-holder cores h d good past = by_holder h.holder refl where
+  by_holder : (o : Option CoreId) → h.holder ≡ o → holder_count d o ≡ 0
+  by_holder None e = refl
+  by_holder (Some x) e =
+      let below : x.0 < cores = good.holder x e in
+      grind (arith, nat_tests)
+
+pub outsider-queue : (cores : ℕ) (h : Lock) (d : ℕ) → IsLockOf cores h → cores ≤ d → places_of d h.queue ≡ 0
+outsider-queue cores h d good past = by_queue h.queue good.queue where
+  by_queue : (queue : List CoreId) → All (λ (c : CoreId). c.0 < cores) queue → places_of d queue ≡ 0
+  by_queue [] all = refl
+  by_queue (x ∷ xs) all =
+      let below : x.0 < cores = All-head (λ (c : CoreId). c.0 < cores) x xs all in
+      let rest = by_queue xs (All-tail (λ (c : CoreId). c.0 < cores) x xs all) in
+      let differ : bit (x.0 == d) ≡ 0 = grind (arith, nat_tests) in
+      omega (arith, rest, differ, places_of-cons d x xs)

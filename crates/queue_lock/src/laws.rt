@@ -46,7 +46,7 @@ pub fn an_acquire_counts_its_core()
         → holder_count d (acquired h core).0.holder ≡ holder_count d h.holder + grant_count d core (acquired h core).1 }
     ensures queue { (h : Lock) (core : CoreId) (d : ℕ) → places_of core.0 h.queue ≡ 0 → length h.queue < h.capacity
         → places_of d (acquired h core).0.queue + grant_count d core (acquired h core).1
-            ≡ places_of d h.queue + (if is_core d core then 1 else 0) }
+        ≡ places_of d h.queue + (if is_core d core then 1 else 0) }
     ensures kept { (h : Lock) (core : CoreId) → (acquired h core).0.kept ≡ h.kept }
     ensures answer { (h : Lock) (core : CoreId) (signature : Signature) → (acquired h core).1 ≡ Some signature
         → (h.holder ≡ None) × (signature ≡ h.kept) }

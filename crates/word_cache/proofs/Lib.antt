@@ -11,3 +11,5 @@ pub mod ApartLemmas
 pub mod DifferLemmas
 pub mod WeightLemmas
 pub mod CacheLaws
+pub mod KeptLemmas
+pub mod GrantLemmas

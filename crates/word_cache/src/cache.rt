@@ -1,14 +1,15 @@
-ghost use Rattle.std.specs.Prelude.{◌≡◌, ◌≢◌, ℕ, ◌*◌, ◌<◌, ◌≤◌, ◌||◌, true, None, [], IfOk, IfSome};
+ghost use Rattle.std.specs.Prelude.{◌≡◌, ◌≢◌, ℕ, ◌+◌, ◌*◌, ◌<◌, ◌≤◌, ◌||◌, true, None, [], IfOk, IfSome};
 ghost use Rattle.std.specs.Option.{is_some};
 ghost use Rattle.std.specs.Prelude.{length};
 ghost use Rattle.std.specs.List.{filter};
 ghost use Rattle.word_cache.specs.Cache.{Cache, IsCache, in_set, lookup, put, changed, without, touched, has_room, victim_of, may_go, pending_count, dropped_written, dropped_signed};
 ghost use Rattle.word_cache.specs.Row.{IsCacheRow, AreApart, pairs_by_use};
 
-use crate::edits::{change_entry, take_out, use_again, write_last};
-use crate::looks::{count_pending, entry_of, has_free, set_of, victim_in};
+use crate::edits::{change_entry, recount, take_out, use_again, write_last};
+use crate::grant::drop_stale;
+use crate::looks::{entry_of, has_free, set_of, victim_in};
 use crate::row::{Entry, Place};
-use crate::sweep::{sweep_grant, sweep_phase};
+use crate::sweep::sweep_phase;
 use dn_base::{Memory, PhaseId, WordId};
 use region_table::WordSet;
 use std::alloc::Global;
@@ -24,31 +25,35 @@ pub struct WordCache {
     ways: u32,
     places: Vec<Place>,
     clock: u64,
+    pending: u32,
 }
 
 impl Model for WordCache {
     ghost use Rattle.word_cache.specs.Cache.{Cache};
-    ghost use Rattle.word_cache.specs.Row.{IsCacheRow, pairs_by_use};
+    ghost use Rattle.word_cache.specs.Row.{IsKept, pairs_by_use};
 
     ghost Value = { Cache };
 
     ghost view = { λ c. record { sets = c.sets; ways = c.ways; pairs = pairs_by_use c.places.items } };
 
-    ghost invariant = { λ c. IsCacheRow c.sets c.ways c.clock c.places.items };
+    ghost invariant = { λ c. IsKept c.sets c.ways c.clock c.pending c.places.items };
 }
 
-/// The places of an empty cache, each with a time of its own.
+/// The places of an empty cache, numbered from 1.
 fn empty_places(alloc: Global, sets: u32, ways: u32) -> Result<Vec<Place>, Memory>
     requires sets { 0 < sets }
     requires most_sets { sets ≤ 256 }
     requires ways { 0 < ways }
     requires most_ways { ways ≤ 16 }
-    ensures row { IfOk result (λ places. IsCacheRow sets ways (sets * ways) places.items) }
+    ensures row { IfOk result (λ places. IsCacheRow sets ways (sets * ways + 1) places.items) }
     ensures pairs { IfOk result (λ places. pairs_by_use places.items ≡ []) }
 {
     let mut places = Vec::new(alloc);
-    for used in 0..u64::from(sets * ways) {
-        places.push(Place { pair: None, used })?;
+    for before in 0..u64::from(sets * ways) {
+        places.push(Place {
+            pair: None,
+            used: before + 1,
+        })?;
     }
     Ok(places)
 }
@@ -69,7 +74,8 @@ impl WordCache {
             sets,
             ways,
             places: empty_places(alloc, sets, ways)?,
-            clock: u64::from(sets * ways),
+            clock: u64::from(sets * ways) + 1,
+            pending: 0,
         })
     }
 
@@ -114,11 +120,11 @@ impl WordCache {
         let _row = self.places.as_slice();
     }
 
-    /// How many entries are pending. Takes no memory.
+    /// How many entries are pending. It looks at no place, and takes no memory.
     pub fn pending(&self) -> u32
         ensures { result ≡ pending_count self.now.pairs }
     {
-        count_pending(self.places.as_slice())
+        self.pending
     }
 
     /// Gives the word this entry; its pair is the one used last then. The word has a pair, or its set has room. Takes no
@@ -127,7 +133,7 @@ impl WordCache {
         requires { (is_some (lookup word.0 self.old.pairs) || has_room self.old word.0) ≡ true }
         ensures { self.new ≡ record self.old { pairs = put word entry self.old.pairs } }
     {
-        write_last(
+        let had = write_last(
             &mut self.places,
             &mut self.clock,
             self.sets,
@@ -135,6 +141,7 @@ impl WordCache {
             word,
             entry,
         );
+        self.pending = recount(self.pending, had, Some(entry));
     }
 
     /// Gives the word's pair this entry; the pair keeps its place in the order of use. The word has a pair. Takes no memory.
@@ -142,7 +149,8 @@ impl WordCache {
         requires { lookup word.0 self.old.pairs ≢ None }
         ensures { self.new ≡ record self.old { pairs = changed word.0 entry self.old.pairs } }
     {
-        change_entry(&mut self.places, self.sets, self.ways, word, entry);
+        let had = change_entry(&mut self.places, self.sets, self.ways, word, entry);
+        self.pending = recount(self.pending, had, Some(entry));
     }
 
     /// Makes the word's pair the one used last. The word has a pair. Takes no memory.
@@ -163,7 +171,8 @@ impl WordCache {
     pub fn remove(&mut self, word: WordId)
         ensures { self.new ≡ record self.old { pairs = without word.0 self.old.pairs } }
     {
-        take_out(&mut self.places, self.sets, self.ways, word);
+        let had = take_out(&mut self.places, self.sets, self.ways, word);
+        self.pending = recount(self.pending, had, None);
     }
 
     /// Drops what a phase leaves stale: the Valid pairs that aren't marked and whose word is in the set. Every other Valid
@@ -175,21 +184,19 @@ impl WordCache {
     }
 
     /// Drops what may be stale at a grant: the Valid pairs whose word is in the set and may have been written in this phase
-    /// under the lock, as the signature says. All other pairs keep their order. Takes no memory.
+    /// under the lock, as the signature says. All other pairs keep their order. It looks up the set's words where they are
+    /// no more than the places, and else looks at every place. Takes no memory.
     pub fn drop_signed(&mut self, signature: &Signature, phase: PhaseId, words: &WordSet)
         ensures { self.new ≡ record self.old { pairs = dropped_signed signature.now phase.0 words.now self.old.pairs } }
     {
-        sweep_grant(&mut self.places, signature, phase, words);
-    }
-}
-
-#[cfg(test)]
-impl WordCache {
-    /// Sets the clock forward to this time; an earlier one changes nothing.
-    pub(crate) fn set_clock(&mut self, time: u64)
-        ensures { self.new ≡ self.old }
-    {
-        self.clock = self.clock.max(time);
+        drop_stale(
+            &mut self.places,
+            self.sets,
+            self.ways,
+            signature,
+            phase,
+            words,
+        );
     }
 }
 

@@ -1,5 +1,5 @@
 ghost use Rattle.std.specs.Prelude.{◌≡◌, ℕ, ◌+◌, ◌*◌, ◌<◌, ◌≤◌, length};
-ghost use Rattle.word_cache.specs.Row.{pairs_by_use, IsRow, AreBefore, IsCacheRow};
+ghost use Rattle.word_cache.specs.Row.{pairs_by_use, IsRow, AreFrom, AreBefore, IsCacheRow, last_time};
 
 use crate::row::{Place, least_from};
 
@@ -12,7 +12,9 @@ fn renumber(places: &mut Vec<Place>, sets: u32, ways: u32) -> u64
     requires { IsRow sets ways places.old.items }
     ensures row { IsRow sets ways places.new.items }
     ensures pairs { pairs_by_use places.new.items ≡ pairs_by_use places.old.items }
+    ensures first { AreFrom 1 places.new.items }
     ensures before { AreBefore result places.new.items }
+    ensures next { result ≡ sets * ways + 1 }
     ensures within { result ≤ 4097 }
 {
     let mut time = 1;
@@ -30,7 +32,9 @@ fn free_time(places: &mut Vec<Place>, clock: u64, sets: u32, ways: u32) -> u64
     ensures row { IsRow sets ways places.new.items }
     ensures pairs { pairs_by_use places.new.items ≡ pairs_by_use places.old.items }
     ensures before { AreBefore result places.new.items }
-    ensures within { result < 18446744073709551615 }
+    ensures within { result < last_time }
+    ensures kept { clock < last_time → (places.new.items ≡ places.old.items) × (result ≡ clock) }
+    ensures anew { clock ≡ last_time → result ≡ sets * ways + 1 }
 {
     if clock == LAST {
         renumber(places, sets, ways)
@@ -46,6 +50,7 @@ pub(crate) fn tick(places: &mut Vec<Place>, clock: &mut u64, sets: u32, ways: u3
     ensures pairs { pairs_by_use places.new.items ≡ pairs_by_use places.old.items }
     ensures before { AreBefore result places.new.items }
     ensures clock { clock.new ≡ result + 1 }
+    ensures kept { clock.old < last_time → (places.new.items ≡ places.old.items) × (result ≡ clock.old) }
 {
     let time = free_time(places, *clock, sets, ways);
     *clock = time + 1;
