@@ -1,13 +1,16 @@
+ghost use Rattle.std.specs.Prelude.{◌<◌};
+
 use crate::block::{copies, push_copies, push_line};
 use crate::numbers::{bytes, exit_code, number, numbers, positive};
 use crate::sections::is_silent;
 use crate::texts::Texts;
 use crate::trouble::{BadForm, Trouble};
+use dn_base::Sequence;
 use std::alloc::Global;
 use std::mem;
 
 /// What the program is given, and what it has to answer.
-#[derive(Debug, Drop)]
+#[derive(Drop)]
 pub struct Case {
     /// The command words.
     pub words: Vec<String>,
@@ -26,11 +29,13 @@ pub struct Case {
     /// The exit code.
     pub exit: u8,
     /// The parts of what is written, between which any lines may stand.
-    pub output: Vec<Vec<u8>>,
+    pub output: Vec<Sequence<u8>>,
+    ghost reads_some: { 0 < per_read },
+    ghost writes_some: { 0 < per_write },
 }
 
 /// What a case's lines add to.
-#[derive(Clone, Copy, Debug, PartialEq, Eq)]
+#[derive(Clone, Copy, PartialEq, Eq)]
 enum Open {
     Nothing,
     Text,
@@ -38,28 +43,31 @@ enum Open {
 }
 
 /// A case of which some lines were read.
-#[derive(Debug, Drop)]
+#[derive(Drop)]
 pub struct Draft {
-    words: Option<Vec<String>>,
-    text: Option<Vec<u8>>,
-    per_read: Option<u32>,
-    failing_reads: Option<Vec<u32>>,
-    room: Option<u32>,
-    per_write: Option<u32>,
-    failing_writes: Option<Vec<u32>>,
-    exit: Option<u8>,
-    output: Vec<Vec<u8>>,
+    case: Case,
+    /// The keywords that were given, each of which stands once.
+    given: Vec<String>,
     open: Open,
     /// The part of the text or output that is open.
     part: Vec<u8>,
     alloc: Global,
 }
 
-/// What wasn't given before.
-fn once<T: Drop>(before: &Option<T>, now: T) -> Result<Option<T>, Trouble> {
-    match before {
-        None => Ok(Some(now)),
-        Some(_) => Err(Trouble::Form(BadForm::Twice)),
+impl Case {
+    /// A case that gives nothing and wants nothing.
+    fn new(alloc: Global) -> Case {
+        Case {
+            words: Vec::new(alloc),
+            text: Vec::new(alloc),
+            per_read: 4_096,
+            failing_reads: Vec::new(alloc),
+            room: 4_194_304,
+            per_write: 4_096,
+            failing_writes: Vec::new(alloc),
+            exit: 0,
+            output: Vec::new(alloc),
+        }
     }
 }
 
@@ -67,15 +75,8 @@ impl Draft {
     /// A case of no lines.
     pub fn new(alloc: Global) -> Draft {
         Draft {
-            words: None,
-            text: None,
-            per_read: None,
-            failing_reads: None,
-            room: None,
-            per_write: None,
-            failing_writes: None,
-            exit: None,
-            output: Vec::new(alloc),
+            case: Case::new(alloc),
+            given: Vec::new(alloc),
             open: Open::Nothing,
             part: Vec::new(alloc),
             alloc,
@@ -97,9 +98,24 @@ impl Draft {
             "repeat" | "part" | "bytes" | "times" | "front" | "..." => self.add(keyword, rest),
             _ => {
                 self.close()?;
+                self.give(keyword)?;
                 self.set(texts, keyword, rest)
             }
         }
+    }
+
+    /// Notes a keyword, which wasn't given before.
+    fn give(&mut self, keyword: &str) -> Result<(), Trouble> {
+        if self.has(keyword) {
+            return Err(Trouble::Form(BadForm::Twice));
+        }
+        self.given.push(String::from_str(self.alloc, keyword)?)?;
+        Ok(())
+    }
+
+    /// Whether a keyword was given.
+    fn has(&self, keyword: &str) -> bool {
+        self.given.iter().any(|word| word.as_str() == keyword)
     }
 
     /// That a text or an output is open.
@@ -115,8 +131,8 @@ impl Draft {
         let part = mem::replace(&mut self.part, Vec::new(self.alloc));
         match self.open {
             Open::Nothing => {}
-            Open::Text => self.text = Some(part),
-            Open::Output => self.output.push(part)?,
+            Open::Text => self.case.text = part,
+            Open::Output => self.case.output.push(Sequence::from_vec(part))?,
         }
         self.open = Open::Nothing;
         Ok(())
@@ -164,50 +180,31 @@ impl Draft {
     /// Sets what stands once in a case.
     fn set(&mut self, texts: &Texts, keyword: &str, rest: &str) -> Result<(), Trouble> {
         match keyword {
-            "words" => self.words = once(&self.words, words(self.alloc, rest)?)?,
-            "exit" => self.exit = once(&self.exit, exit_code(rest)?)?,
-            "text" => return self.open_text(texts, rest),
-            "output" => return self.open_output(texts, rest),
-            _ => return self.set_device(keyword, rest),
+            "text" => {
+                self.open = Open::Text;
+                self.begin_with(texts, rest)
+            }
+            "output" => {
+                self.open = Open::Output;
+                self.begin_with(texts, rest)
+            }
+            _ => self.set_value(keyword, rest),
         }
-        Ok(())
     }
 
-    /// Sets what the source or the sink does.
-    fn set_device(&mut self, keyword: &str, rest: &str) -> Result<(), Trouble> {
+    /// Sets the words, the exit code, or what the source or the sink does.
+    fn set_value(&mut self, keyword: &str, rest: &str) -> Result<(), Trouble> {
         match keyword {
-            "reads" => self.per_read = once(&self.per_read, positive(rest)?)?,
-            "writes" => self.per_write = once(&self.per_write, positive(rest)?)?,
-            "room" => self.room = once(&self.room, number(rest)?)?,
-            "failing-reads" => {
-                let calls = numbers(self.alloc, rest)?;
-                self.failing_reads = once(&self.failing_reads, calls)?;
-            }
-            "failing-writes" => {
-                let calls = numbers(self.alloc, rest)?;
-                self.failing_writes = once(&self.failing_writes, calls)?;
-            }
+            "words" => self.case.words = words(self.alloc, rest)?,
+            "exit" => self.case.exit = exit_code(rest)?,
+            "reads" => self.case.per_read = positive(rest)?,
+            "writes" => self.case.per_write = positive(rest)?,
+            "room" => self.case.room = number(rest)?,
+            "failing-reads" => self.case.failing_reads = numbers(self.alloc, rest)?,
+            "failing-writes" => self.case.failing_writes = numbers(self.alloc, rest)?,
             _ => return Err(Trouble::Form(BadForm::NoKeyword)),
         }
         Ok(())
-    }
-
-    /// Begins the text.
-    fn open_text(&mut self, texts: &Texts, rest: &str) -> Result<(), Trouble> {
-        if self.text.is_some() {
-            return Err(Trouble::Form(BadForm::Twice));
-        }
-        self.open = Open::Text;
-        self.begin_with(texts, rest)
-    }
-
-    /// Begins the output.
-    fn open_output(&mut self, texts: &Texts, rest: &str) -> Result<(), Trouble> {
-        if !self.output.is_empty() {
-            return Err(Trouble::Form(BadForm::Twice));
-        }
-        self.open = Open::Output;
-        self.begin_with(texts, rest)
     }
 
     /// Begins with nothing, or with what a file or the text of an earlier case holds.
@@ -228,37 +225,13 @@ impl Draft {
     /// The case of the lines that were taken.
     pub fn finish(mut self) -> Result<Case, Trouble> {
         self.close()?;
-        let Draft {
-            words,
-            text,
-            per_read,
-            failing_reads,
-            room,
-            per_write,
-            failing_writes,
-            exit,
-            output,
-            open: _,
-            part: _,
-            alloc,
-        } = self;
-        let Some(exit) = exit else {
+        if !self.has("exit") {
             return Err(Trouble::Form(BadForm::NoExit));
-        };
-        if output.is_empty() {
+        }
+        if !self.has("output") {
             return Err(Trouble::Form(BadForm::NoOutput));
         }
-        Ok(Case {
-            words: words.unwrap_or(Vec::new(alloc)),
-            text: text.unwrap_or(Vec::new(alloc)),
-            per_read: per_read.unwrap_or(4_096),
-            failing_reads: failing_reads.unwrap_or(Vec::new(alloc)),
-            room: room.unwrap_or(4_194_304),
-            per_write: per_write.unwrap_or(4_096),
-            failing_writes: failing_writes.unwrap_or(Vec::new(alloc)),
-            exit,
-            output,
-        })
+        Ok(self.case)
     }
 }
 

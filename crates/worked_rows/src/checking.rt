@@ -10,7 +10,7 @@ use std::alloc::Global;
 use std::str;
 
 /// The line of a case at which it turned out that it can't be run, counted from 0, and why.
-#[derive(Clone, Copy, Debug)]
+#[derive(Clone, Copy)]
 struct Stop {
     place: usize,
     why: Trouble,
@@ -84,7 +84,7 @@ fn check_section(
 }
 
 /// Where a case stands: its file, the number of its first line, and its name.
-#[derive(Clone, Copy, Debug)]
+#[derive(Clone, Copy)]
 struct Place<'a> {
     file: &'a str,
     first: usize,

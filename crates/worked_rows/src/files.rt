@@ -15,11 +15,11 @@ pub fn files<R: Files + AllocGlobal + Clone + Drop>(
     }
     names.sort()?;
     let mut files = Vec::new(alloc);
-    while let Some(name) = names.pop() {
+    for name in names.iter() {
         let path = format!(in alloc; "{folder}/{name}")?;
         let bytes = fs::read(rt, path.as_str())?;
+        let name = name.clone()?;
         files.push(Named { name, bytes })?;
     }
-    files.reverse();
     Ok(files)
 }

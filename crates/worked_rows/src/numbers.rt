@@ -1,3 +1,5 @@
+ghost use Rattle.std.specs.Prelude.{◌<◌, IfOk};
+
 use crate::trouble::{BadForm, Trouble};
 use std::alloc::Global;
 
@@ -10,7 +12,9 @@ pub fn number(text: &str) -> Result<u32, Trouble> {
 }
 
 /// A number in decimal digits that isn't 0.
-pub fn positive(text: &str) -> Result<u32, Trouble> {
+pub fn positive(text: &str) -> Result<u32, Trouble>
+    ensures { IfOk result (λ number. 0 < number) }
+{
     match number(text)? {
         0 => Err(Trouble::Form(BadForm::NoNumber)),
         number => Ok(number),

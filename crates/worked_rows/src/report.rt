@@ -5,7 +5,7 @@ use crate::trouble::BadForm;
 use std::alloc::{AllocError, Global};
 
 /// How many cases agree, and what is said of those that don't.
-#[derive(Debug, Drop)]
+#[derive(Drop)]
 pub struct Report {
     pub agree: u64,
     pub differ: u64,
@@ -13,6 +13,9 @@ pub struct Report {
 }
 
 impl Report {
+    ghost use Rattle.std.specs.Prelude.{OnOk};
+    ghost use Rattle.worked_rows.specs.Verdict.{IsAsWanted, Agrees, Differs};
+
     /// The report on no case.
     pub fn new(alloc: Global) -> Report {
         Report {
@@ -29,7 +32,9 @@ impl Report {
         file: &str,
         line: usize,
         why: BadForm,
-    ) -> Result<(), AllocError> {
+    ) -> Result<(), AllocError>
+        ensures { OnOk result (Differs self.old self.new) }
+    {
         let why = why.message();
         let text = format!(in alloc; "{file}:{line}: {why}\n")?;
         self.lines.push_str(text.as_str())?;
@@ -44,7 +49,10 @@ impl Report {
         name: &str,
         case: &Case,
         got: &Got,
-    ) -> Result<(), AllocError> {
+    ) -> Result<(), AllocError>
+        ensures agrees { OnOk result (IsAsWanted case.now got.now → Agrees self.old self.new) }
+        ensures differs { OnOk result (¬ IsAsWanted case.now got.now → Differs self.old self.new) }
+    {
         let has_ended = case.exit == got.exit;
         let has_written = stand_in(case.output.as_slice(), got.bytes.as_slice());
         if has_ended && has_written {

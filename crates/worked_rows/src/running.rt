@@ -4,7 +4,7 @@ use dn_top::answer_words;
 use std::alloc::Global;
 
 /// What the program answered.
-#[derive(Debug, Drop)]
+#[derive(Drop)]
 pub struct Got {
     pub exit: u8,
     pub bytes: Vec<u8>,

@@ -1,7 +1,7 @@
 use std::alloc::{AllocError, Global};
 
 /// Lines that follow one another, and the number of the first.
-#[derive(Debug, Drop)]
+#[derive(Drop)]
 pub struct Section<'a> {
     pub first: usize,
     pub lines: Vec<&'a str>,

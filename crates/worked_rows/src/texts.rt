@@ -1,14 +1,14 @@
 use std::alloc::{AllocError, Global};
 
 /// Bytes with a name: a file, or the text of a case.
-#[derive(Debug, Drop)]
+#[derive(Drop)]
 pub struct Named {
     pub name: String,
     pub bytes: Vec<u8>,
 }
 
 /// The files, and the texts of the cases that were read.
-#[derive(Debug, Drop)]
+#[derive(Drop)]
 pub struct Texts {
     all: Vec<Named>,
 }

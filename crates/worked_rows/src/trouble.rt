@@ -2,7 +2,7 @@ use dn_base::Memory;
 use std::alloc::{AllocError, AllocFailed};
 
 /// How a line isn't of the form that it should be, or what a case lacks.
-#[derive(Clone, Copy, Debug, PartialEq, Eq)]
+#[derive(Clone, Copy)]
 pub enum BadForm {
     NoKeyword,
     Twice,
@@ -47,7 +47,7 @@ impl BadForm {
 }
 
 /// Why a case isn't run.
-#[derive(Clone, Copy, Debug, PartialEq, Eq)]
+#[derive(Clone, Copy)]
 pub enum Trouble {
     /// It is of bad form.
     Form(BadForm),
