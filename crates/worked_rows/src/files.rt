@@ -11,7 +11,9 @@ pub fn files<R: Files + AllocGlobal + Clone + Drop>(
     let mut names = Vec::new(alloc);
     for entry in fs::read_dir(rt, folder)? {
         let entry = entry?;
-        names.push(String::from_str(alloc, entry.file_name())?)?;
+        if entry.file_type()?.is_file() {
+            names.push(String::from_str(alloc, entry.file_name())?)?;
+        }
     }
     names.sort()?;
     let mut files = Vec::new(alloc);
