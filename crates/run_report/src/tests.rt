@@ -40,7 +40,10 @@ fn lines_are_written(rt: HostRuntime) -> Result<(), Fail> {
         core: CoreId(15),
         lock: LockId(31),
     };
-    assert_eq!(rt; grant_text(alloc, &[grant])?.as_slice(), b"grant 63 15 31\n".as_slice());
+    assert_eq!(rt;
+        grant_text(alloc, &[grant])?.as_slice(),
+        b"grant 63 15 31\n".as_slice()
+    );
     assert_eq!(rt;
         refusal_line(alloc, &Refusal::Usage)?.as_slice(),
         b"refused usage\n".as_slice()
