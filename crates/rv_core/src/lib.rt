@@ -6,14 +6,21 @@
 #![tactic(auto)]
 
 mod access;
+mod decoded;
 mod ending;
+mod laws;
 mod need;
 mod place;
 mod registers;
 mod step;
 mod task;
 
+pub use decoded::DecodedCode;
 pub use ending::{EndShown, Ending, TaskEnd};
+pub use laws::{
+    a_call_changes_one_lock, a_task_that_finishes_holds_no_lock,
+    a_whole_store_leaves_the_same_over_any_word,
+};
 pub use need::{Need, Next};
 pub use task::{End, TaskState, TrapKind};
 
