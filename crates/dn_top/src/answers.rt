@@ -1,5 +1,7 @@
 ghost use Rattle.std.specs.Prelude.{◌≡◌, ◌≢◌, ◌≤◌, Ok, IfOk, IfErr};
 ghost use Rattle.rv_assembler.specs.declared.fault.SourceFault.TheVariants.{Memory as NoMemory};
+ghost use Rattle.region_table.specs.Program.{names_of};
+ghost use Rattle.rv_assembler.specs.Names.{AreDeclaredNames};
 ghost use Rattle.rv_assembler.specs.Source.{source};
 ghost use Rattle.effect_checker.specs.Checked.{IsChecked};
 ghost use Rattle.run_report.specs.declared.refusal.Refusal.TheVariants.{Source as OfSource};
@@ -57,6 +59,7 @@ fn refusal(alloc: Global, why: &Refusal) -> Stop
 /// The program of a text.
 fn program_of(alloc: Global, text: &[u8]) -> Result<Program, Stop>
     ensures ok { IfOk result (λ program. source text.now ≡ Ok program) }
+    ensures names { IfOk result (λ program. AreDeclaredNames (names_of program)) }
     ensures stop { IfErr result (IsStop (IsNoProgram text.now)) }
 {
     match assemble(alloc, text) {
@@ -119,6 +122,7 @@ fn sum_up(alloc: Global, fuel: u32, checked: &Checked) -> Result<Output, Memory>
 
 /// Lists a program.
 fn list(alloc: Global, program: &Program) -> Result<Output, Memory>
+    requires { AreDeclaredNames (names_of program.now) }
     ensures { IfOk result (IsListing program.now) }
 {
     Ok(done(listing(alloc, program)?))
