@@ -1,4 +1,5 @@
 ghost use Rattle.std.specs.Prelude.{◌≡◌, ◌≢◌, ◌≤◌, Ok, IfOk, IfErr};
+ghost use Rattle.dn_base.specs.Status.{status_of};
 ghost use Rattle.rv_assembler.specs.declared.fault.SourceFault.TheVariants.{Memory as NoMemory};
 ghost use Rattle.region_table.specs.Program.{names_of};
 ghost use Rattle.rv_assembler.specs.Names.{AreDeclaredNames};
@@ -6,11 +7,12 @@ ghost use Rattle.rv_assembler.specs.Source.{source};
 ghost use Rattle.effect_checker.specs.Checked.{IsChecked};
 ghost use Rattle.run_report.specs.declared.refusal.Refusal.TheVariants.{Source as OfSource};
 ghost use Rattle.run_report.specs.Refusal.{refusal_of};
+ghost use Rattle.run_report.specs.Summary.{checked_of as counts_of};
 ghost use Rattle.command_words.specs.Command.{IsWithinLimits};
 ghost use Rattle.dn_top.specs.Answers.{IsAnswer, IsFlatRun, IsListing, IsNoProgram, IsStop, IsUnfit, answer_and_grants, answered, done_in, refused_in, summed_up};
 
 use command_words::{Mode, Options};
-use dn_base::{Memory, Sequence, Status};
+use dn_base::{Memory, Outcome, Sequence, Status};
 use effect_checker::{Checked, check};
 use flat_machine::least_run;
 use region_table::Program;
@@ -81,13 +83,13 @@ fn checked_of(alloc: Global, text: &[u8]) -> Result<Checked, Stop>
     }
 }
 
-/// The output that what was asked for was done.
-fn done(line: Vec<u8>) -> Output
-    ensures { result ≡ answered Status.Done line.items }
+/// The output that something ended so, with this text.
+fn ended(outcome: Outcome, text: Vec<u8>) -> Output
+    ensures { result ≡ answered (status_of outcome) text.items }
 {
     Output {
-        status: Status::Done,
-        bytes: Sequence::from_vec(line),
+        status: Status::from(outcome),
+        bytes: Sequence::from_vec(text),
     }
 }
 
@@ -100,10 +102,7 @@ fn run(alloc: Global, fuel: u32, checked: &Checked) -> Result<Output, Memory>
     let run = least_run(alloc, checked, fuel)?;
     let mut text = answer_text(alloc, &run.end.ending)?;
     text.extend_from_slice(grant_text(alloc, run.grants.as_slice())?.as_slice())?;
-    Ok(Output {
-        status: Status::from(run.end.ending.outcome),
-        bytes: Sequence::from_vec(text),
-    })
+    Ok(ended(run.end.ending.outcome, text))
 }
 
 /// Runs a program on one flat memory, and sums up.
@@ -114,10 +113,14 @@ fn sum_up(alloc: Global, fuel: u32, checked: &Checked) -> Result<Output, Memory>
 {
     let run = least_run(alloc, checked, fuel)?;
     let text = summary(alloc, &run.end.ending)?;
-    Ok(Output {
-        status: Status::from(run.end.ending.outcome),
-        bytes: Sequence::from_vec(text),
-    })
+    Ok(ended(run.end.ending.outcome, text))
+}
+
+/// Counts what a program has.
+fn count(alloc: Global, program: &Program) -> Result<Output, Memory>
+    ensures { IfOk result (λ out. out ≡ answered Status.Done (counts_of program.now)) }
+{
+    Ok(ended(Outcome::Done, checked_line(alloc, program)?))
 }
 
 /// Lists a program.
@@ -125,7 +128,7 @@ fn list(alloc: Global, program: &Program) -> Result<Output, Memory>
     requires { AreDeclaredNames (names_of program.now) }
     ensures { IfOk result (IsListing program.now) }
 {
-    Ok(done(listing(alloc, program)?))
+    Ok(ended(Outcome::Done, listing(alloc, program)?))
 }
 
 /// What each mode does with a text.
@@ -137,7 +140,7 @@ fn done_by(alloc: Global, options: &Options, text: &[u8]) -> Result<Output, Stop
     match options.mode {
         Mode::Run => Ok(run(alloc, options.fuel, &checked_of(alloc, text)?)?),
         Mode::Work => Ok(sum_up(alloc, options.fuel, &checked_of(alloc, text)?)?),
-        Mode::Check => Ok(done(checked_line(alloc, checked_of(alloc, text)?.program())?)),
+        Mode::Check => Ok(count(alloc, checked_of(alloc, text)?.program())?),
         Mode::List => Ok(list(alloc, &program_of(alloc, text)?)?),
         Mode::Flat => Ok(run(alloc, options.fuel, &checked_of(alloc, text)?)?),
     }
