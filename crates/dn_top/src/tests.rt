@@ -27,6 +27,6 @@ fn words_are_answered_on_one_thread(rt: HostRuntime) -> Result<(), Fail> {
     let mut sink = VecSink::new(alloc, 256, 4096, &[])?;
     let answer = answer_words(alloc, &words, &mut source, &mut sink);
     assert_eq!(rt; answer.status.code(), 0);
-    assert_eq!(rt; sink.bytes(), b"checked 1 1 1\n");
+    assert_eq!(rt; sink.bytes(), "checked 1 1 1\n".as_bytes());
     Ok(())
 }
