@@ -1,17 +1,15 @@
 -- What a call says by its answer.
-use Rattle.std.proofs.Common.{◌≡◌, ◌≢◌, ◌⊎◌, inl, inr, ℕ, ◌≤◌, Bool, true, false, List, Option, Some, None, IfSome, refl, sym, ap, subst, ◌∙◌}
+use Rattle.std.proofs.Common.{◌≡◌, ◌≢◌, ◌⊎◌, inl, inr, ℕ, true, false, List, Option, Some, None, IfSome, refl, sym, ap, subst, ◌∙◌}
 use Rattle.std.specs.Prelude.{option_and_then}
 use Rattle.dn_base.specs.declared.status.Status.{Status}
 use Rattle.dn_base.specs.declared.status.Status as status
-use Rattle.dn_base.specs.declared.status.Outcome as outcome
-use Rattle.dn_base.specs.Status.{status_of}
 use Rattle.command_words.specs.declared.options.Options.{Options}
 use Rattle.command_words.specs.Command.{options_of}
 use Rattle.dn_top.specs.declared.answers.Output.{Output}
 use Rattle.dn_top.specs.declared.serving.Answer.{Answer}
-use Rattle.dn_top.specs.Answers.{most_read, IsDone, IsRefusal, IsAnswer, IsOutcome, usage_line}
+use Rattle.dn_top.specs.Answers.{most_read, IsRefusal, IsAnswer, IsOutcome, usage_line}
 use Rattle.dn_top.specs.Outside.{Device, Devices, Failed, IsUntouched, Took, TookNothing, TookFront}
-use Rattle.dn_top.specs.Serving.{text_for, ForText, HasDone, HasRefused, HasFailed, HasStatus, has_stopped, most_asked, Serves, IsFinished, IsGiven, IsReplied, IsStarved, IsServed, IsUnread, IsDoneBy}
+use Rattle.dn_top.specs.Serving.{text_for, HasDone, HasRefused, HasFailed, HasStatus, has_stopped, Serves, IsFinished, IsReplied, IsStarved, IsUnread, IsDoneBy}
 use Rattle.dn_top.proofs.Statuses.{other, outcome-other, answer-other, answer-done, answer-refused}
 use Rattle.dn_top.proofs.Fronts.{AnswersAlike, taken-alike}
 
@@ -138,8 +136,8 @@ module _ (o : Options) (before after : Devices) (answer : Answer) where
       let w = stopped o before.sink after.sink served.text answer.status served.reply r in (
         w.failed,
         if-some (text_for o before.source) (λ t. Alike served.text t) (λ t. HasFailed o before after t)
-        (λ t a. record { out = w.out; answer = answer-alike served.text t w.out a w.answer; front = w.front })
-        (taken-alike o before.source after.source served.text served.taken),
+            (λ t a. record { out = w.out; answer = answer-alike served.text t w.out a w.answer; front = w.front })
+            (taken-alike o before.source after.source served.text served.taken),
       )
 
   read_fault-clause : IsDoneBy o before after answer.status → answer.status ≡ status.TheVariants.ReadFault → Failed before.source after.source × TookNothing before.sink after.sink

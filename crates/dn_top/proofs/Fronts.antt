@@ -1,16 +1,15 @@
 -- What is answered to as much of a text as is read is what is answered to the text.
-use Rattle.std.proofs.Common.{◌≡◌, ◌⊎◌, inl, inr, ℕ, ◌<◌, ◌≤◌, nat_lt, Bool, true, false, List, [], ◌++◌, length, Option, Some, None, IfSome, Ok, Err, refl, sym, ap, subst, ◌∙◌, arith, length-append, append-nil}
+use Rattle.std.proofs.Common.{◌≡◌, inl, inr, ℕ, ◌<◌, ◌≤◌, nat_lt, Bool, true, false, List, [], ◌++◌, length, Option, Some, None, IfSome, Ok, Err, refl, sym, ap, subst, ◌∙◌, arith, length-append, append-nil}
 use Rattle.std.proofs.lemmas.Bool.Decides.{nat_tests}
 use Rattle.std.specs.Io.KnownBytes.{Consumes, IsAtEnd}
 use Rattle.rv_assembler.specs.declared.fault.SourceFault as fault
 use Rattle.rv_assembler.specs.Source.{source}
 use Rattle.region_table.specs.Program.{ProgramParts}
-use Rattle.work_gen.specs.Work.{work_of}
 use Rattle.command_words.specs.declared.options.Mode.{Mode}
 use Rattle.command_words.specs.declared.options.Mode as mode
 use Rattle.command_words.specs.declared.options.Options.{Options}
 use Rattle.dn_top.specs.declared.answers.Output.{Output}
-use Rattle.dn_top.specs.Answers.{HasProgram, HasChecked, IsNoProgram, IsUnfit, done_in, refused_in, most_read, IsDone, IsRefusal}
+use Rattle.dn_top.specs.Answers.{HasProgram, HasChecked, IsNoProgram, IsUnfit, done_in, refused_in, most_read}
 use Rattle.dn_top.specs.Outside.{Device, IsRead}
 use Rattle.dn_top.specs.Serving.{text_by, text_for, read_by, taken_by, IsTaken}
 

@@ -1,5 +1,5 @@
 -- The statuses of answers.
-use Rattle.std.proofs.Common.{◌≡◌, ◌⊎◌, inl, inr, ℕ, Bool, true, false, List, refl, sym, ap, ◌∙◌}
+use Rattle.std.proofs.Common.{◌≡◌, inl, inr, ℕ, Bool, true, false, List, refl, sym, ap, ◌∙◌}
 use Rattle.dn_base.specs.declared.status.Status.{Status}
 use Rattle.dn_base.specs.declared.status.Status as status
 use Rattle.dn_base.specs.declared.status.Outcome.{Outcome}

@@ -72,11 +72,7 @@ pub(crate) fn take_text<S: Source>(
 }
 
 /// Reads the source to its end, or until the most bytes have come.
-fn read_text<S: Source>(
-    alloc: Global,
-    most: usize,
-    source: &mut S,
-) -> Result<Vec<u8>, ReadError>
+fn read_text<S: Source>(alloc: Global, most: usize, source: &mut S) -> Result<Vec<u8>, ReadError>
     ensures text { IfOk result (λ text. IsRead (device (S.told source.old) (S.faults source.old)) (device (S.told source.new) (S.faults source.new)) most text.items) }
     ensures failed { IfErr result (λ error. error ≡ ReadError.Failed
         → HasFailed (device (S.told source.old) (S.faults source.old)) (device (S.told source.new) (S.faults source.new))) }

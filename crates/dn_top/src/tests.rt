@@ -12,8 +12,7 @@ fn the_whole_program_runs_a_text(rt: HostRuntime) -> Result<(), Fail> {
     let mut source = TextSource::new(alloc, STORE_FIVE.as_bytes(), 4096, &[])?;
     let mut sink = VecSink::new(alloc, 256, 4096, &[])?;
     let answer = denovo_main(&rt, alloc, &[], &mut source, &mut sink, &OpenGate);
-    let output =
-        "outcome done\ntask 0 0 finished retired 5\nwords 1\nword 0x10000000 0x00000005\n";
+    let output = "outcome done\ntask 0 0 finished retired 5\nwords 1\nword 0x10000000 0x00000005\n";
     assert_eq!(rt; answer.status.code(), 0);
     assert_eq!(rt; sink.bytes(), output.as_bytes());
     Ok(())
