@@ -1,0 +1,1 @@
+//! What keeps it that a world leads to the flat machine's run.
