@@ -175,7 +175,7 @@ world-step P fuel W i r there h =
 -- ---- a grant
 
 -- a lock that is free is held by no task
-free-lacks : (tasks : List Started) (lock j : ℕ) (q : Started) → is_free tasks lock ≡ true → slice_get tasks j ≡ Some q → holds q.state.held lock ≡ true → ⊥
+pub free-lacks : (tasks : List Started) (lock j : ℕ) (q : Started) → is_free tasks lock ≡ true → slice_get tasks j ≡ Some q → holds q.state.held lock ≡ true → ⊥
 free-lacks tasks lock j q free at' has =
     let test : Started → Bool = λ r. holds r.state.held lock in
     let is : get_or tasks j q ≡ q = get_or_from_slice_get tasks j q q at' in

@@ -51,3 +51,14 @@ pub front-place : {X : Type 0} (xs ys : List X) (i : ℕ) (x : X) → slice_get 
 front-place [] ys i x there = absurd (none-some x there)
 front-place (z ∷ xs) ys zero x there = there
 front-place (z ∷ xs) ys (suc i) x there = front-place xs ys i x there
+
+-- what a list is mapped to, place by place
+pub map-place : {X Y : Type 0} (f : X → Y) (xs : List X) (i : ℕ) (y : Y) → slice_get (map f xs) i ≡ Some y → (x : X) × (slice_get xs i ≡ Some x) × (f x ≡ y)
+map-place f [] i y at' = absurd (none-some y at')
+map-place f (x ∷ xs) zero y at' = (x, refl, same_Some (f x) y at')
+map-place f (x ∷ xs) (suc i) y at' = map-place f xs i y at'
+
+pub place-map : {X Y : Type 0} (f : X → Y) (xs : List X) (i : ℕ) (x : X) → slice_get xs i ≡ Some x → slice_get (map f xs) i ≡ Some (f x)
+place-map f [] i x at' = absurd (none-some x at')
+place-map f (z ∷ xs) zero x at' = ap (λ y. Some (f y)) (same_Some z x at')
+place-map f (z ∷ xs) (suc i) x at' = place-map f xs i x at'

@@ -1,0 +1,8 @@
+use Rattle.flat_agreement.proofs.Agreeing.{run-later}
+use Rattle.flat_agreement.proofs.laws.the_loads_of_a_task_are_a_front_of_its_loads_in_the_run.Goals as goal
+
+pub returns-clause-value : goal.returns-clause-value
+returns-clause-value c = λ P fuel gs W h. h.run
+
+pub returns-clause-front : goal.returns-clause-front
+returns-clause-front c = run-later
