@@ -53,7 +53,7 @@ in-order (suc i) (suc j) apart =
     (λ (less : j < i). let found : (suc i < suc j) ⊎ (suc j < suc i) = inr (omega arith) in found) (in-order i j (λ e. apart (ap suc e)))
 
 -- two places of a rising list have different cores
-cores-apart : (ds : List TaskDecl) (i j : ℕ) (a b : TaskDecl) → AllPairs (λ (x y : TaskDecl). x.core.0 < y.core.0) ds → i ≢ j → slice_get ds i ≡ Some a → slice_get ds j ≡ Some b → a.core.0 ≢ b.core.0
+pub cores-apart : (ds : List TaskDecl) (i j : ℕ) (a b : TaskDecl) → AllPairs (λ (x y : TaskDecl). x.core.0 < y.core.0) ds → i ≢ j → slice_get ds i ≡ Some a → slice_get ds j ≡ Some b → a.core.0 ≢ b.core.0
 cores-apart ds i j a b rising apart first second =
     let is_a : get_or ds i a ≡ a = get_or_from_slice_get ds i a a first in
     let is_b : get_or ds j a ≡ b = get_or_from_slice_get ds j b a second in

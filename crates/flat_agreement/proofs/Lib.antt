@@ -5,3 +5,4 @@ pub mod Settled
 pub mod Granting
 pub mod Beginning
 pub mod Agreeing
+pub mod CoreByCore

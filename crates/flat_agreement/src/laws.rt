@@ -1,17 +1,21 @@
 //! What keeps it that a world leads to the flat machine's run by the grants so far, and what that run then tells of the world.
-ghost use Rattle.std.specs.Prelude.{◌≡◌, ℕ, List, [], ◌∷◌, ◌++◌, slice_get, slice_index, Some, None, true};
+ghost use Rattle.std.specs.Prelude.{◌≡◌, ◌≤◌, ◌+◌, ℕ, List, [], ◌∷◌, ◌++◌, length, map, slice_get, slice_index, Some, None, true, false};
+ghost use Rattle.std.specs.List.{IsAmong};
 ghost use Rattle.dn_base.specs.declared.ids.Grant.{Grant};
 ghost use Rattle.dn_base.specs.declared.ids.LockId.{LockId};
 ghost use Rattle.region_table.specs.Program.{ProgramParts, IsProgram};
+ghost use Rattle.region_table.specs.declared.declared.TaskDecl.{TaskDecl};
 ghost use Rattle.region_table.specs.declared.declared.Phase.{Phase};
+ghost use Rattle.rv_core.specs.declared.need.Need.{Need};
 ghost use Rattle.rv_core.specs.declared.need.Need.TheVariants.{Acquire};
 ghost use Rattle.effect_checker.specs.Checked.{IsChecked};
-ghost use Rattle.flat_machine.specs.Step.{Started, wish};
-ghost use Rattle.flat_machine.specs.Phases.{Flat, next_phase, settled, initial};
+ghost use Rattle.flat_machine.specs.Step.{Started, fresh, wish};
+ghost use Rattle.flat_machine.specs.Phases.{Flat, has_finished, next_phase, settled, initial};
 ghost use Rattle.flat_machine.specs.Grants.{is_free, grant_of, so_far};
 ghost use Rattle.flat_machine.specs.Ending.{end_of, flat_end};
 ghost use Rattle.flat_machine.specs.Laws.{AreLater};
-ghost use Rattle.flat_agreement.specs.Worlds.{loads, alone, LeadsTo, LeadsToRun, stepped, with_lock, with_phase, IsResting, AreStopped};
+ghost use Rattle.flat_agreement.specs.Worlds.{loads, alone, LeadsTo, LeadsToRun, stepped, acquired, with_lock, with_phase, IsResting, AreStopped};
+ghost use Rattle.flat_agreement.specs.Cores.{world_of, ChangesOne, done_by, IsFreeAmong, IsAgreed};
 
 /// Before the first phase the world is the program's memory, and it leads to the run by no grants.
 pub fn a_world_leads_to_the_run_at_first()
@@ -63,4 +67,38 @@ pub fn a_world_at_rest_is_the_state_of_the_run()
 pub fn a_world_that_stops_has_the_end_of_the_run()
     ensures { (P : ProgramParts) (fuel : ℕ) (gs : List Grant) (W : Flat) → LeadsToRun P fuel gs W → AreStopped P fuel W → next_phase P W ≡ None
         → flat_end P fuel gs ≡ Some (end_of P fuel W) }
+{}
+
+/// The first phase begins with each of its tasks at its start, on the program's memory.
+pub fn the_first_phase_is_agreed()
+    ensures { (P : ProgramParts) (fuel : ℕ) (p : Phase) → IsProgram P → IsChecked P → slice_get P.phases 0 ≡ Some p → IsAgreed P fuel [] 0 [] p (fresh 0) P.memory }
+{}
+
+/// A core whose task does what it needs keeps the run, where the tasks of the other cores stay as they are.
+pub fn what_a_core_does_keeps_the_run()
+    ensures { (P : ProgramParts) (fuel : ℕ) (gs : List Grant) (phase : ℕ) (past : List Started) (p : Phase) (d : TaskDecl) (need : Need) (old new : TaskDecl → Started) (m : List ℕ)
+        → IsProgram P → IsChecked P → IsAmong p.tasks d → wish P fuel (old d) ≡ Some need → ChangesOne d (done_by P old d m need).task old new
+        → IsAgreed P fuel gs phase past p old m → IsAgreed P fuel gs phase past p new (done_by P old d m need).memory }
+{}
+
+/// A core whose task acquires the lock that it wants, and that no task of the phase holds, makes the next grant of the run.
+pub fn what_a_core_acquires_is_the_next_grant()
+    ensures { (P : ProgramParts) (fuel : ℕ) (gs : List Grant) (phase : ℕ) (past : List Started) (p : Phase) (d : TaskDecl) (lock : LockId) (old new : TaskDecl → Started) (m : List ℕ)
+        → IsProgram P → IsChecked P → IsAmong p.tasks d → wish P fuel (old d) ≡ Some (Acquire lock) → IsFreeAmong p old lock.0 → ChangesOne d (acquired P (old d)) old new
+        → IsAgreed P fuel gs phase past p old m → IsAgreed P fuel (gs ++ grant_of (old d) lock ∷ []) phase past p new m }
+{}
+
+/// Where each task of a phase has finished, the phase after it begins with each of its tasks at its start, on the same memory.
+pub fn the_next_phase_is_agreed()
+    ensures { (P : ProgramParts) (fuel : ℕ) (gs : List Grant) (phase : ℕ) (past : List Started) (p q : Phase) (task : TaskDecl → Started) (m : List ℕ) → IsProgram P → IsChecked P
+        → ((d : TaskDecl) → IsAmong p.tasks d → has_finished (task d) ≡ true) → slice_get P.phases (phase + 1) ≡ Some q
+        → IsAgreed P fuel gs phase past p task m → IsAgreed P fuel gs (phase + 1) (past ++ map task p.tasks) q (fresh (phase + 1)) m }
+{}
+
+/// No phase begins after the last one, nor after one of which a task hasn't finished.
+pub fn no_phase_begins()
+    ensures last { (P : ProgramParts) (phase : ℕ) (past : List Started) (p : Phase) (task : TaskDecl → Started) (m : List ℕ) → length P.phases ≤ phase + 1
+        → next_phase P (world_of phase past p task m) ≡ None }
+    ensures unfinished { (P : ProgramParts) (phase : ℕ) (past : List Started) (p : Phase) (task : TaskDecl → Started) (m : List ℕ) (d : TaskDecl) → IsAmong p.tasks d → has_finished (task d) ≡ false
+        → next_phase P (world_of phase past p task m) ≡ None }
 {}
