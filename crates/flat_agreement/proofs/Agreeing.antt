@@ -1,26 +1,24 @@
 -- What the flat machine's run tells of a world that leads to it: its loads, its words, and its end.
-use Rattle.std.proofs.Common.{◌≡◌, ◌≢◌, ℕ, zero, suc, Bool, true, false, if◌then◌else◌, is_none, List, [], ◌∷◌, ◌++◌, slice_get, slice_index, Option, Some, None, refl, sym, ap, ◌∙◌, subst, ⊎_elim}
+use Rattle.std.proofs.Common.{◌≡◌, ℕ, zero, suc, Bool, true, false, if◌then◌else◌, is_none, List, [], ◌∷◌, ◌++◌, slice_get, slice_index, Option, Some, None, refl, sym, ap, ◌∙◌, subst, ⊎_elim}
 use Rattle.std.proofs.lemmas.Bool.{cases_eq}
-use Rattle.std.proofs.lemmas.Option.{none-some, same_Some}
+use Rattle.std.proofs.lemmas.Option.{same_Some}
 use Rattle.dn_base.specs.declared.ids.Grant.{Grant}
-use Rattle.region_table.specs.Program.{ProgramParts, IsProgram}
+use Rattle.region_table.specs.Program.{ProgramParts}
 use Rattle.rv_core.specs.declared.need.Need.{Need}
 use Rattle.rv_core.specs.declared.need.Need as need
-use Rattle.effect_checker.specs.Checked.{IsChecked}
-use Rattle.flat_machine.specs.Step.{Started, At, wish}
-use Rattle.flat_machine.specs.Phases.{Flat, all_tasks, next_phase, settled}
-use Rattle.flat_machine.specs.Grants.{grant_by, grant_of, is_free, first_or, first_grant, next_grant, is_whole, so_far}
+use Rattle.flat_machine.specs.Step.{Started, wish}
+use Rattle.flat_machine.specs.Phases.{Flat, next_phase, settled}
+use Rattle.flat_machine.specs.Grants.{grant_by, grant_of, first_or, first_grant, next_grant, is_whole, so_far}
 use Rattle.flat_machine.specs.Ending.{end_of, flat_end}
-use Rattle.flat_machine.specs.Laws.{at_memory, IsAtRest, IsLater, StandsLater, AreLater}
+use Rattle.flat_machine.specs.Laws.{at_memory, IsAtRest, StandsLater, AreLater}
 use Rattle.flat_machine.proofs.CauseLemmas.{whole-ends}
 use Rattle.flat_machine.proofs.Frames.{segment-frame}
 use Rattle.flat_machine.proofs.PhaseLemmas.{settled-still}
 use Rattle.flat_machine.proofs.ReachedLaws.{are-more, settled-later}
 use Rattle.flat_machine.proofs.Rights.{not-true, both-ways}
 use Rattle.flat_machine.proofs.SegmentLaws.{later-itself, segment-later}
-use Rattle.flat_agreement.specs.Worlds.{stores, loads, alone, IsWorld, LeadsTo, LeadsToRun, IsResting, IsStopped, AreStopped}
+use Rattle.flat_agreement.specs.Worlds.{stores, loads, alone, LeadsTo, LeadsToRun, IsResting, IsStopped, AreStopped}
 use Rattle.flat_agreement.proofs.Keeping.{AreSeparate}
-use Rattle.flat_agreement.proofs.Holding.{world-separate}
 use Rattle.flat_agreement.proofs.Settled.{rest-same}
 
 -- ---- loads

@@ -1,5 +1,5 @@
 -- The beginning of a phase keeps that the world leads to the flat machine's run; and so does the world before the first phase.
-use Rattle.std.proofs.Common.{◌≡◌, ◌≢◌, ℕ, ◌+◌, ◌<◌, Bool, true, false, if◌then◌else◌, List, [], ◌∷◌, ◌++◌, length, map, take, get_or, slice_get, slice_index, Option, Some, None, refl, sym, ap, ◌∙◌, subst, arith}
+use Rattle.std.proofs.Common.{◌≡◌, ℕ, ◌+◌, ◌<◌, Bool, true, false, if◌then◌else◌, List, [], ◌∷◌, ◌++◌, length, map, take, get_or, slice_get, slice_index, Option, Some, None, refl, sym, ap, ◌∙◌, subst, arith}
 use Rattle.std.specs.List.{All, IsAmong, list_all, flat_map}
 use Rattle.std.proofs.lemmas.Bool.{false≢true}
 use Rattle.std.proofs.lemmas.Grind.{flat_map-append}
@@ -12,10 +12,9 @@ use Rattle.region_table.specs.declared.declared.TaskDecl.{TaskDecl}
 use Rattle.region_table.specs.declared.declared.Phase.{Phase}
 use Rattle.rv_core.specs.Access.{holds, may_store}
 use Rattle.effect_checker.specs.Checked.{IsChecked}
-use Rattle.flat_machine.specs.Step.{Started, At, fresh, IsWithin}
+use Rattle.flat_machine.specs.Step.{Started, fresh, IsWithin}
 use Rattle.flat_machine.specs.Phases.{Flat, all_tasks, run_all, begin, has_finished, next_phase, settled, initial, opened}
-use Rattle.flat_machine.specs.Grants.{so_far}
-use Rattle.flat_machine.specs.Laws.{HoldApart, HasTasks, first_segment, StartAlone}
+use Rattle.flat_machine.specs.Laws.{HasTasks, first_segment, StartAlone}
 use Rattle.flat_machine.proofs.PhaseLemmas.{settled-more}
 use Rattle.flat_machine.proofs.StartLaws.{start-alone}
 use Rattle.flat_agreement.specs.Worlds.{IsWorld, stores, alone, LeadsTo, LeadsToRun, with_phase}

@@ -1,28 +1,30 @@
 -- The same core by core: what one core does keeps that the tasks of a phase lead to the flat machine's run.
-use Rattle.std.proofs.Common.{◌≡◌, ◌≢◌, ◌<◌, ◌≤◌, ℕ, suc, ◌+◌, Bool, true, false, ◌&&◌, not, if◌then◌else◌, List, [], ◌∷◌, ◌++◌, length, map, get_or, slice_get, slice_set, Option, Some, None, refl, sym, ap, ◌∙◌, subst, ⊎_elim, arith}
-use Rattle.std.specs.List.{All, AllPairs, IsAmong, list_any, list_all}
-use Rattle.std.proofs.lemmas.Bool.{cases_eq, true≢false, false_from_ne_true, true_from_ne_false}
+use Rattle.std.proofs.Common.{◌≡◌, ◌<◌, ◌≤◌, ℕ, suc, ◌+◌, Bool, true, false, ◌&&◌, not, if◌then◌else◌, List, [], ◌∷◌, ◌++◌, length, map, get_or, slice_get, slice_set, Option, Some, None, refl, sym, ap, ◌∙◌, subst, ⊎_elim, arith}
+use Rattle.std.specs.List.{AllPairs, IsAmong, list_any, list_all}
+use Rattle.std.proofs.lemmas.Bool.{cases_eq, true≢false, false_from_ne_true}
 use Rattle.std.proofs.lemmas.List.{length-map}
 use Rattle.std.proofs.lemmas.List.Folds.{list_any_none, list_any_at, list_all_at}
-use Rattle.std.proofs.lemmas.Option.{same_Some, slice_get_past, slice_get_within, slice_get-get_or, get_or_from_slice_get}
+use Rattle.std.proofs.lemmas.Option.{none-some, same_Some, slice_get_past, slice_get_within, slice_get-get_or, get_or_from_slice_get}
 use Rattle.dn_base.specs.declared.ids.Grant.{Grant}
 use Rattle.dn_base.specs.declared.ids.LockId.{LockId}
 use Rattle.region_table.specs.Program.{ProgramParts, IsPhase, IsProgram}
 use Rattle.region_table.specs.declared.declared.TaskDecl.{TaskDecl}
 use Rattle.region_table.specs.declared.declared.Phase.{Phase}
 use Rattle.rv_core.specs.declared.need.Need.{Need}
-use Rattle.rv_core.specs.declared.need.Need.TheVariants.{Acquire}
+use Rattle.rv_core.specs.declared.need.Need.TheVariants.{Local, Load, Store, Acquire, Release, End}
 use Rattle.rv_core.specs.Access.{holds}
 use Rattle.effect_checker.specs.Checked.{IsChecked}
 use Rattle.flat_machine.specs.Step.{Started, At, fresh, wish, step_by, flat_step}
 use Rattle.flat_machine.specs.Phases.{Flat, has_finished, next_phase, initial}
 use Rattle.flat_machine.specs.Grants.{is_free, grant_of, with_task}
+use Rattle.flat_machine.specs.Ending.{end_of, flat_end}
 use Rattle.flat_machine.specs.Laws.{at_memory}
 use Rattle.flat_agreement.specs.Worlds.{LeadsToRun, acquired, IsStopped}
-use Rattle.flat_agreement.specs.Cores.{world_of, ChangesOne, done_by, IsFreeAmong, IsAgreed}
+use Rattle.flat_agreement.specs.Cores.{world_of, ChangesOne, done_by, IsFreeAmong, IsStoppedAmong, IsAgreed}
 use Rattle.flat_agreement.proofs.Places.{set-there, set-other, set-length, same-places, map-place, place-map}
 use Rattle.flat_agreement.proofs.Holding.{cores-apart}
 use Rattle.flat_agreement.proofs.Granting.{run-step, run-grant}
+use Rattle.flat_agreement.proofs.Agreeing.{run-ends}
 use Rattle.flat_agreement.proofs.Beginning.{run-begin, run-opens}
 
 -- ---- one task changes
@@ -151,3 +153,30 @@ held-among p task lock e among has =
     let at' : slice_get (map task p.tasks) among.0 ≡ Some (task e) = place-map task p.tasks among.0 e (among-at p.tasks e among) in
     let is : get_or (map task p.tasks) among.0 (task e) ≡ task e = get_or_from_slice_get (map task p.tasks) among.0 (task e) (task e) at' in
     ap not (list_any_at test (map task p.tasks) among.0 (task e) (slice_get_within (map task p.tasks) among.0 (task e) at') (ap test is ∙ has))
+
+-- ---- the end
+
+stopped-among : (p : Phase) (task : TaskDecl → Started) (o : Option Need) → IsStoppedAmong p task o → IsStopped (map task p.tasks) o
+stopped-among p task None k = tt
+stopped-among p task (Some (Acquire lock)) k = held-among p task lock.0 k.by k.among k.holds
+stopped-among p task (Some Local) k = absurd k
+stopped-among p task (Some (Load word)) k = absurd k
+stopped-among p task (Some (Store word whole)) k = absurd k
+stopped-among p task (Some (Release lock)) k = absurd k
+stopped-among p task (Some (End by)) k = absurd k
+
+pub agreed-ends : (P : ProgramParts) (fuel : ℕ) (gs : List Grant) (phase : ℕ) (past : List Started) (p : Phase) (task : TaskDecl → Started) (m : List ℕ)
+    → ((d : TaskDecl) → IsAmong p.tasks d → IsStoppedAmong p task (wish P fuel (task d))) → next_phase P (world_of phase past p task m) ≡ None
+    → IsAgreed P fuel gs phase past p task m → flat_end P fuel gs ≡ Some (end_of P fuel (world_of phase past p task m))
+agreed-ends P fuel gs phase past p task m stop last h =
+    run-ends P fuel gs (world_of phase past p task m) h.leads
+    (λ i r at'.
+    let e = map-place task p.tasks i r at' in
+    let among : IsAmong p.tasks e.0 = (i, (slice_get_within p.tasks i e.0 e.1, sym (get_or_from_slice_get p.tasks i e.0 e.0 e.1))) in
+    subst (λ (x : Started). IsStopped (map task p.tasks) (wish P fuel x)) e.2 (stopped-among p task (wish P fuel (task e.0)) (stop e.0 among)))
+    last
+
+-- a program without phases
+pub none-ends : (P : ProgramParts) (fuel : ℕ) → length P.phases ≡ 0 → flat_end P fuel [] ≡ Some (end_of P fuel (initial P))
+none-ends P fuel none =
+    run-ends P fuel [] (initial P) (run-opens P fuel) (λ i r at'. absurd (none-some r at')) (slice_get_past P.phases 0 (omega arith))

@@ -1,37 +1,35 @@
 -- The tasks of a world: two of them keep out of each other's words; a step, a grant and the beginning of a phase keep what a
 -- world is.
-use Rattle.std.proofs.Common.{◌≡◌, ◌≢◌, ◌<◌, ◌≤◌, ◌+◌, ◌==◌, ◌||◌, ◌^◌, ℕ, zero, suc, Bool, true, false, not, List, [], ◌∷◌, ◌++◌, length, map, take, get_or, slice_get, slice_set, Option, Some, None, refl, sym, ap, ◌∙◌, subst, bit_or, ◌⊎◌, inl, inr, ⊎_elim, arith}
-use Rattle.std.specs.List.{All, AllPairs, IsAmong, list_any, list_all, flat_map}
-use Rattle.std.proofs.lemmas.Bool.{true≢false, false≢true, or_cases}
+use Rattle.std.proofs.Common.{◌≡◌, ◌≢◌, ◌<◌, ◌+◌, ◌==◌, ◌||◌, ◌^◌, ℕ, zero, suc, Bool, true, not, List, [], ◌∷◌, ◌++◌, length, map, get_or, slice_get, slice_set, Some, refl, sym, ap, ◌∙◌, subst, bit_or, ◌⊎◌, inl, inr, ⊎_elim, arith}
+use Rattle.std.specs.List.{AllPairs, IsAmong, list_any}
+use Rattle.std.proofs.lemmas.Bool.{false≢true, or_cases}
 use Rattle.std.proofs.lemmas.Bool.Decides.{nat_tests}
-use Rattle.std.proofs.lemmas.Grind.{flat_map-append}
-use Rattle.std.proofs.lemmas.List.{append-nil, map-append, take_more, get_or-map, length-map}
-use Rattle.std.proofs.lemmas.List.Elements.{All-append, All-map, All-set, All-weaker}
+use Rattle.std.proofs.lemmas.List.{map-append}
+use Rattle.std.proofs.lemmas.List.Elements.{All-set}
 use Rattle.std.proofs.lemmas.List.Folds.{list_any_at}
 use Rattle.std.proofs.lemmas.Option.{none-some, same_Some, slice_get_within, slice_get-get_or, get_or_from_slice_get}
 use Rattle.dn_base.specs.declared.ids.LockId.{LockId}
 use Rattle.dn_base.specs.declared.ids.PhaseId.{PhaseId}
-use Rattle.region_table.specs.Program.{ProgramParts, IsPhase, IsProgram, tasks_of}
+use Rattle.region_table.specs.Program.{ProgramParts, IsPhase, IsProgram}
 use Rattle.region_table.specs.declared.declared.TaskDecl.{TaskDecl}
 use Rattle.region_table.specs.declared.declared.Phase.{Phase}
 use Rattle.rv_core.specs.declared.need.Need.TheVariants.{Acquire}
 use Rattle.rv_core.specs.Access.{holds}
 use Rattle.rv_core.specs.Kinds.{IsAdvance}
 use Rattle.rv_core.proofs.HeldLemmas.{holds-acquired}
-use Rattle.rv_core.proofs.Completions.{advanced-held, advanced-retired, advanced-end, fuel-left}
+use Rattle.rv_core.proofs.Completions.{advanced-held, advanced-retired, fuel-left}
 use Rattle.effect_checker.specs.Checked.{IsChecked}
-use Rattle.flat_machine.specs.Step.{Started, At, fresh, wish, flat_step, IsWithin}
-use Rattle.flat_machine.specs.Phases.{Flat, all_tasks}
+use Rattle.flat_machine.specs.Step.{Started, At, wish, flat_step, IsWithin}
+use Rattle.flat_machine.specs.Phases.{Flat}
 use Rattle.flat_machine.specs.Grants.{is_free, with_task}
-use Rattle.flat_machine.specs.Laws.{at_memory, IsLater, HoldsLess, HoldApart, HasTasks}
+use Rattle.flat_machine.specs.Laws.{at_memory, IsLater, HoldApart, HasTasks}
 use Rattle.flat_machine.proofs.CauseLemmas.{step-within}
-use Rattle.flat_machine.proofs.Frames.{KeepsOut}
 use Rattle.flat_machine.proofs.Rest.{wish-open}
 use Rattle.flat_machine.proofs.Rights.{wish-need, step-after}
 use Rattle.flat_machine.proofs.SegmentLaws.{step-later, same-later}
-use Rattle.flat_machine.proofs.Separation.{AreApart, keeps-out}
-use Rattle.flat_agreement.specs.Worlds.{IsWorld, stepped, acquired, with_lock, with_phase}
-use Rattle.flat_agreement.proofs.Places.{by-place, set-length}
+use Rattle.flat_machine.proofs.Separation.{keeps-out}
+use Rattle.flat_agreement.specs.Worlds.{IsWorld, stepped, acquired, with_lock}
+use Rattle.flat_agreement.proofs.Places.{by-place}
 use Rattle.flat_agreement.proofs.Keeping.{AreSeparate, step-size}
 
 -- ---- two tasks of a world

@@ -1,16 +1,16 @@
 -- A step of a task, and a new task in the place of one at rest, keep that a world leads to a state of the flat machine.
 use Rattle.std.proofs.Common.{◌≡◌, ◌≢◌, ℕ, Bool, true, false, List, length, slice_get, slice_set, slice_index, Option, Some, None, refl, sym, ap, ◌∙◌, subst, ⊎_elim}
 use Rattle.std.proofs.lemmas.Bool.{cases_eq}
-use Rattle.std.proofs.lemmas.Option.{none-some, same_Some}
+use Rattle.std.proofs.lemmas.Option.{same_Some}
 use Rattle.region_table.specs.Program.{ProgramParts}
 use Rattle.region_table.specs.declared.declared.TaskDecl.{TaskDecl}
 use Rattle.rv_core.specs.declared.need.Need.{Need}
 use Rattle.rv_core.specs.declared.need.Need as need
-use Rattle.rv_core.specs.Access.{may_load, may_store}
+use Rattle.rv_core.specs.Access.{may_store}
 use Rattle.flat_machine.specs.Step.{Started, At, wish, step_by, flat_step, segment, IsWithin}
 use Rattle.flat_machine.specs.Phases.{Flat}
 use Rattle.flat_machine.specs.Grants.{with_task}
-use Rattle.flat_machine.specs.Laws.{at_memory, IsAtRest, IsAlike}
+use Rattle.flat_machine.specs.Laws.{at_memory, IsAtRest}
 use Rattle.flat_machine.proofs.Rest.{segment-step}
 use Rattle.flat_machine.proofs.Rights.{may_store-less, store-loads, not-true, both-ways, step-after}
 use Rattle.flat_machine.proofs.Frames.{Agree, KeepsOut, step-frame, segment-frame, segment-alike, segment-size, no-store, other-kept}

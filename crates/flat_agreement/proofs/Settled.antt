@@ -1,18 +1,17 @@
 -- A world whose tasks are all at rest is the state to which it leads.
-use Rattle.std.proofs.Common.{◌≡◌, ◌≢◌, ℕ, Bool, true, false, ◌<◌, List, length, get_or, slice_get, slice_index, Option, Some, None, refl, sym, ap, ◌∙◌, subst, arith}
-use Rattle.std.specs.List.{All, Any, list_any, list_all}
-use Rattle.std.proofs.lemmas.Bool.{true≢false, false≢true, false_from_ne_true}
+use Rattle.std.proofs.Common.{◌≡◌, ℕ, Bool, true, false, List, get_or, slice_get, slice_index, Option, Some, None, refl, sym, ap, ◌∙◌}
+use Rattle.std.specs.List.{list_any, list_all}
+use Rattle.std.proofs.lemmas.Bool.{true≢false, false_from_ne_true}
 use Rattle.std.proofs.lemmas.Grind.{same_number_lists}
 use Rattle.std.proofs.lemmas.List.Folds.{Any-from_list_any, list_any_at, list_all_at}
 use Rattle.std.proofs.lemmas.Option.{slice_get-get_or, slice_get_within, get_or_from_slice_get}
 use Rattle.region_table.specs.Program.{ProgramParts}
-use Rattle.rv_core.specs.declared.need.Need.{Need}
 use Rattle.rv_core.specs.declared.task.End.{End}
-use Rattle.flat_machine.specs.Step.{Started, At, wish, wish_unless}
+use Rattle.flat_machine.specs.Step.{Started, At, wish_unless}
 use Rattle.flat_machine.specs.Phases.{Flat, finished_by, has_finished}
 use Rattle.flat_machine.specs.Laws.{at_memory, IsAtRest}
 use Rattle.flat_machine.proofs.SegmentLaws.{segment-still}
-use Rattle.flat_agreement.specs.Worlds.{stores, alone, LeadsTo, IsResting}
+use Rattle.flat_agreement.specs.Worlds.{stores, LeadsTo, IsResting}
 use Rattle.flat_agreement.proofs.Places.{same-places}
 use Rattle.flat_agreement.proofs.Keeping.{NoneStores}
 

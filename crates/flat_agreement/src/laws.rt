@@ -15,7 +15,7 @@ ghost use Rattle.flat_machine.specs.Grants.{is_free, grant_of, so_far};
 ghost use Rattle.flat_machine.specs.Ending.{end_of, flat_end};
 ghost use Rattle.flat_machine.specs.Laws.{AreLater};
 ghost use Rattle.flat_agreement.specs.Worlds.{loads, alone, LeadsTo, LeadsToRun, stepped, acquired, with_lock, with_phase, IsResting, AreStopped};
-ghost use Rattle.flat_agreement.specs.Cores.{world_of, ChangesOne, done_by, IsFreeAmong, IsAgreed};
+ghost use Rattle.flat_agreement.specs.Cores.{world_of, ChangesOne, done_by, IsFreeAmong, IsStoppedAmong, IsAgreed};
 
 /// Before the first phase the world is the program's memory, and it leads to the run by no grants.
 pub fn a_world_leads_to_the_run_at_first()
@@ -101,4 +101,14 @@ pub fn no_phase_begins()
         → next_phase P (world_of phase past p task m) ≡ None }
     ensures unfinished { (P : ProgramParts) (phase : ℕ) (past : List Started) (p : Phase) (task : TaskDecl → Started) (m : List ℕ) (d : TaskDecl) → IsAmong p.tasks d → has_finished (task d) ≡ false
         → next_phase P (world_of phase past p task m) ≡ None }
+{}
+
+/// Where each task of a phase has ended or wants a lock that a task of the phase holds, and no phase begins, the grants are
+/// whole, and the end of the flat machine's run by them shows these tasks and this memory. A program without phases ends at
+/// once.
+pub fn a_phase_that_stops_has_the_end_of_the_run()
+    ensures stops { (P : ProgramParts) (fuel : ℕ) (gs : List Grant) (phase : ℕ) (past : List Started) (p : Phase) (task : TaskDecl → Started) (m : List ℕ)
+        → ((d : TaskDecl) → IsAmong p.tasks d → IsStoppedAmong p task (wish P fuel (task d))) → next_phase P (world_of phase past p task m) ≡ None
+        → IsAgreed P fuel gs phase past p task m → flat_end P fuel gs ≡ Some (end_of P fuel (world_of phase past p task m)) }
+    ensures none { (P : ProgramParts) (fuel : ℕ) → length P.phases ≡ 0 → flat_end P fuel [] ≡ Some (end_of P fuel (initial P)) }
 {}
