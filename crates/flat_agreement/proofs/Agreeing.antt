@@ -4,12 +4,14 @@ use Rattle.std.proofs.lemmas.Bool.{cases_eq}
 use Rattle.std.proofs.lemmas.Option.{same_Some}
 use Rattle.dn_base.specs.declared.ids.Grant.{Grant}
 use Rattle.region_table.specs.Program.{ProgramParts}
+use Rattle.region_table.specs.declared.declared.TaskDecl.{TaskDecl}
 use Rattle.rv_core.specs.declared.need.Need.{Need}
 use Rattle.rv_core.specs.declared.need.Need as need
+use Rattle.flat_machine.specs.declared.ending.TaskLoads.{TaskLoads}
 use Rattle.flat_machine.specs.Step.{Started, wish}
-use Rattle.flat_machine.specs.Phases.{Flat, next_phase, settled}
+use Rattle.flat_machine.specs.Phases.{Flat, all_tasks, next_phase, settled}
 use Rattle.flat_machine.specs.Grants.{grant_by, grant_of, first_or, first_grant, next_grant, is_whole, so_far}
-use Rattle.flat_machine.specs.Ending.{end_of, flat_end}
+use Rattle.flat_machine.specs.Ending.{task_loads, loads_of, end_of, flat_end}
 use Rattle.flat_machine.specs.Laws.{at_memory, IsAtRest, StandsLater, AreLater}
 use Rattle.flat_machine.proofs.CauseLemmas.{whole-ends}
 use Rattle.flat_machine.proofs.Frames.{segment-frame}
@@ -17,7 +19,8 @@ use Rattle.flat_machine.proofs.PhaseLemmas.{settled-still}
 use Rattle.flat_machine.proofs.ReachedLaws.{are-more, settled-later}
 use Rattle.flat_machine.proofs.Rights.{not-true, both-ways}
 use Rattle.flat_machine.proofs.SegmentLaws.{later-itself, segment-later}
-use Rattle.flat_agreement.specs.Worlds.{stores, loads, alone, LeadsTo, LeadsToRun, IsResting, IsStopped, AreStopped}
+use Rattle.flat_agreement.specs.Worlds.{AreFronts, stores, loads, alone, LeadsTo, LeadsToRun, IsResting, IsStopped, AreStopped}
+use Rattle.flat_agreement.proofs.Places.{map-place, place-map}
 use Rattle.flat_agreement.proofs.Keeping.{AreSeparate}
 use Rattle.flat_agreement.proofs.Settled.{rest-same}
 
@@ -42,6 +45,23 @@ pub run-later : (P : ProgramParts) (fuel : ℕ) (gs : List Grant) (W F : Flat) �
 run-later P fuel gs W F h reached =
     let is : settled P fuel h.flat ≡ F = same_Some (settled P fuel h.flat) F (sym h.run ∙ reached) in
     subst (AreLater W) is (are-more W h.flat (settled P fuel h.flat) (leads-later P fuel W h.flat h.leads) (settled-later P fuel h.flat))
+
+later-fronts : (W F : Flat) → AreLater W F → AreFronts (loads_of W) (loads_of F)
+later-fronts W F h i x at' =
+    let r = map-place task_loads (all_tasks W) i x at' in
+    let now = h i r.0 r.1 in
+    record {
+      task = task_loads now.task;
+      there = place-map task_loads (all_tasks F) i now.task now.there;
+      phase = now.later.phase ∙ ap (λ (y : TaskLoads). y.phase) r.2;
+      core = ap (λ (d : TaskDecl). d.core) now.later.decl ∙ ap (λ (y : TaskLoads). y.core) r.2;
+      more = now.later.more;
+      loads = now.later.loads ∙ ap (λ (y : TaskLoads). y.loads ++ now.later.more) r.2;
+    }
+
+-- the loads of each task so far are a front of its loads in the run
+pub run-fronts : (P : ProgramParts) (fuel : ℕ) (gs : List Grant) (W F : Flat) → LeadsToRun P fuel gs W → so_far P fuel gs ≡ Some F → AreFronts (loads_of W) (loads_of F)
+run-fronts P fuel gs W F h reached = later-fronts W F (run-later P fuel gs W F h reached)
 
 -- ---- words
 

@@ -59,6 +59,20 @@ changed-world P phase past p d s old new m is there among h =
     let with_tasks : List Started → Flat = λ ts. record { begun = phase + 1; past = past; tasks = ts; memory = s.memory } in
     ap with_tasks (sym (change-place p.tasks among.0 d s.task old new (phase-rising P phase p is there) (among-at p.tasks d among) h))
 
+same-tasks : (ds : List TaskDecl) (old new : TaskDecl → Started) → ((d : TaskDecl) → IsAmong ds d → new d ≡ old d) → map old ds ≡ map new ds
+same-tasks [] old new same = refl
+same-tasks (d ∷ ds) old new same =
+    let first : old d ≡ new d = sym (same d (0, (omega arith, refl))) in
+    let rest : map old ds ≡ map new ds = same-tasks ds old new (λ e among. same e (suc among.0, (omega arith, among.1.1))) in
+    ap (λ (r : Started). r ∷ map old ds) first ∙ ap (λ (rs : List Started). new d ∷ rs) rest
+
+-- no task of the phase changes
+pub agreed-same : (P : ProgramParts) (fuel : ℕ) (gs : List Grant) (phase : ℕ) (past : List Started) (p : Phase) (old new : TaskDecl → Started) (m : List ℕ)
+    → ((d : TaskDecl) → IsAmong p.tasks d → new d ≡ old d) → IsAgreed P fuel gs phase past p old m → IsAgreed P fuel gs phase past p new m
+agreed-same P fuel gs phase past p old new m same h =
+    let with_tasks : List Started → Flat = λ ts. record { begun = phase + 1; past = past; tasks = ts; memory = m } in
+    record { there = h.there; leads = subst (LeadsToRun P fuel gs) (ap with_tasks (same-tasks p.tasks old new same)) h.leads }
+
 -- a task does what it needs
 pub agreed-step : (P : ProgramParts) (fuel : ℕ) (gs : List Grant) (phase : ℕ) (past : List Started) (p : Phase) (d : TaskDecl) (need : Need) (old new : TaskDecl → Started) (m : List ℕ)
     → IsProgram P → IsChecked P → IsAmong p.tasks d → wish P fuel (old d) ≡ Some need → ChangesOne d (done_by P old d m need).task old new

@@ -1,12 +1,14 @@
 -- Worlds, and what it means that one leads to a state of the flat machine.
 use Rattle.std.specs.Prelude.{◌≡◌, ◌≢◌, ℕ, ◌+◌, Bool, true, false, List, ◌++◌, length, map, slice_get, slice_index, Option, Some, None}
 use Rattle.dn_base.specs.declared.ids.Grant.{Grant}
+use Rattle.dn_base.specs.declared.ids.LoadSeen.{LoadSeen}
 use Rattle.region_table.specs.Program.{ProgramParts}
 use Rattle.region_table.specs.declared.declared.Phase.{Phase}
 use Rattle.rv_core.specs.declared.need.Need.{Need}
 use Rattle.rv_core.specs.declared.need.Need.TheVariants.{Acquire}
 use Rattle.rv_core.specs.Access.{may_load, may_store}
 use Rattle.rv_core.specs.Step.{advanced}
+use Rattle.flat_machine.specs.declared.ending.TaskLoads.{TaskLoads}
 use Rattle.flat_machine.specs.Step.{Started, At, fresh, wish, in_state, flat_step, segment, IsWithin}
 use Rattle.flat_machine.specs.Phases.{Flat, settled}
 use Rattle.flat_machine.specs.Grants.{is_free, with_task, so_far}
@@ -84,3 +86,16 @@ IsStopped tasks _ = ⊥
 -- every task of the last phase has ended, or wants a lock that some task holds
 abbrev pub AreStopped : ProgramParts → ℕ → Flat → Type 0
 AreStopped P fuel W = (i : ℕ) (r : Started) → slice_get W.tasks i ≡ Some r → IsStopped W.tasks (wish P fuel r)
+
+-- at place i stands what the task of x has loaded in all: what x says, and maybe more
+pub record HasLoadedFirst (all : List TaskLoads) (i : ℕ) (x : TaskLoads) : Type 0 where
+  pub task : TaskLoads
+  pub there : slice_get all i ≡ Some task
+  pub phase : task.phase ≡ x.phase
+  pub core : task.core ≡ x.core
+  pub more : List LoadSeen
+  pub loads : task.loads ≡ x.loads ++ more
+
+-- the loads of each task are a front of those at its place in the second list
+abbrev pub AreFronts : List TaskLoads → List TaskLoads → Type 0
+AreFronts some all = (i : ℕ) (x : TaskLoads) → slice_get some i ≡ Some x → HasLoadedFirst all i x

@@ -12,9 +12,9 @@ ghost use Rattle.effect_checker.specs.Checked.{IsChecked};
 ghost use Rattle.flat_machine.specs.Step.{Started, fresh, wish};
 ghost use Rattle.flat_machine.specs.Phases.{Flat, has_finished, next_phase, settled, initial};
 ghost use Rattle.flat_machine.specs.Grants.{is_free, grant_of, so_far};
-ghost use Rattle.flat_machine.specs.Ending.{end_of, flat_end};
+ghost use Rattle.flat_machine.specs.Ending.{loads_of, end_of, flat_end};
 ghost use Rattle.flat_machine.specs.Laws.{AreLater};
-ghost use Rattle.flat_agreement.specs.Worlds.{loads, alone, LeadsTo, LeadsToRun, stepped, acquired, with_lock, with_phase, IsResting, AreStopped};
+ghost use Rattle.flat_agreement.specs.Worlds.{AreFronts, loads, alone, LeadsTo, LeadsToRun, stepped, acquired, with_lock, with_phase, IsResting, AreStopped};
 ghost use Rattle.flat_agreement.specs.Cores.{world_of, ChangesOne, done_by, IsFreeAmong, IsStoppedAmong, IsAgreed};
 
 /// Before the first phase the world is the program's memory, and it leads to the run by no grants.
@@ -42,11 +42,12 @@ pub fn the_beginning_of_a_phase_keeps_the_run()
         → LeadsToRun P fuel gs W → LeadsToRun P fuel gs (with_phase W p) }
 {}
 
-/// The grants so far have a run, in which each task that has started stands at its place: the same task of the same phase,
-/// whose loads so far are a front of those that it has done in the run.
+/// The grants so far have a run, in which each task that has started stands at its place: the same task of the same phase, and
+/// its loads so far are a front of those that it has done in the run.
 pub fn the_loads_of_a_task_are_a_front_of_its_loads_in_the_run()
     ensures value { (P : ProgramParts) (fuel : ℕ) (gs : List Grant) (W : Flat) → (lead : LeadsToRun P fuel gs W) → so_far P fuel gs ≡ Some (settled P fuel lead.flat) }
-    ensures front { (P : ProgramParts) (fuel : ℕ) (gs : List Grant) (W F : Flat) → LeadsToRun P fuel gs W → so_far P fuel gs ≡ Some F → AreLater W F }
+    ensures later { (P : ProgramParts) (fuel : ℕ) (gs : List Grant) (W F : Flat) → LeadsToRun P fuel gs W → so_far P fuel gs ≡ Some F → AreLater W F }
+    ensures fronts { (P : ProgramParts) (fuel : ℕ) (gs : List Grant) (W F : Flat) → LeadsToRun P fuel gs W → so_far P fuel gs ≡ Some F → AreFronts (loads_of W) (loads_of F) }
 {}
 
 /// A word that a task may load, with the locks that it holds, comes to the value that it has in the run by that task alone.
@@ -79,6 +80,12 @@ pub fn what_a_core_does_keeps_the_run()
     ensures { (P : ProgramParts) (fuel : ℕ) (gs : List Grant) (phase : ℕ) (past : List Started) (p : Phase) (d : TaskDecl) (need : Need) (old new : TaskDecl → Started) (m : List ℕ)
         → IsProgram P → IsChecked P → IsAmong p.tasks d → wish P fuel (old d) ≡ Some need → ChangesOne d (done_by P old d m need).task old new
         → IsAgreed P fuel gs phase past p old m → IsAgreed P fuel gs phase past p new (done_by P old d m need).memory }
+{}
+
+/// Where the tasks of a phase stand as they stood, the run is the same.
+pub fn what_changes_no_task_keeps_the_run()
+    ensures { (P : ProgramParts) (fuel : ℕ) (gs : List Grant) (phase : ℕ) (past : List Started) (p : Phase) (old new : TaskDecl → Started) (m : List ℕ)
+        → ((d : TaskDecl) → IsAmong p.tasks d → new d ≡ old d) → IsAgreed P fuel gs phase past p old m → IsAgreed P fuel gs phase past p new m }
 {}
 
 /// A core whose task acquires the lock that it wants, and that no task of the phase holds, makes the next grant of the run.

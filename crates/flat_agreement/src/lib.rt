@@ -15,4 +15,5 @@ pub use laws::{
     the_beginning_of_a_phase_keeps_the_run, the_first_phase_is_agreed,
     the_loads_of_a_task_are_a_front_of_its_loads_in_the_run, the_next_phase_is_agreed,
     what_a_core_acquires_is_the_next_grant, what_a_core_does_keeps_the_run,
+    what_changes_no_task_keeps_the_run,
 };
