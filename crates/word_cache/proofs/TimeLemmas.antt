@@ -152,7 +152,7 @@ all_from time (q ∷ qs) from =
     omega (arith, here, all_from time qs (λ i d below. from (suc i) d (omega (arith, below))), sum_by-cons (λ (p : Place). bit (is_from time p)) q qs)
 
 -- and none where none was used from a time on
-pub none_from : (time : ℕ) (row : List Place) → IsFirst (is_from time) row 0 (length row) None → count_by (is_from time) row ≡ 0
+pub none_from : (time : ℕ) (places : List Place) → IsFirst (is_from time) places 0 (length places) None → count_by (is_from time) places ≡ 0
 none_from time [] none = refl
 none_from time (q ∷ qs) none =
     let here : bit (is_from time q) ≡ 0 = rw (none 0 q (omega arith) (omega arith)) refl in
