@@ -1,0 +1,14 @@
+mod Bits
+mod Invariant
+mod StubLemmas
+mod Lists
+mod Steps
+mod BitLemmas
+mod ReadableWords
+mod ReadablePhases
+mod ReadableValues
+mod ReadableReads
+mod WordEvents
+mod WordCore
+mod WordHome
+mod WordGood
