@@ -78,7 +78,7 @@ step-spent P fuel s spent = by_wish (wish P fuel s.task) refl
     by_wish (Some (need.TheVariants.End by)) e =
         stopped-spent P s.task.decl fuel s.task.state by (wish-need P fuel s.task (need.TheVariants.End by) e)
 
-step-within : (P : ProgramParts) (fuel : ℕ) (s : At) → IsWithin fuel s.task → IsWithin fuel (flat_step P fuel s).task
+pub step-within : (P : ProgramParts) (fuel : ℕ) (s : At) → IsWithin fuel s.task → IsWithin fuel (flat_step P fuel s).task
 step-within P fuel s within = by_step (step-less P fuel s within)
   where
     by_step : IsAtRest (wish P fuel s.task) ⊎ IsLess fuel s.task.state (flat_step P fuel s).task.state → IsWithin fuel (flat_step P fuel s).task
@@ -145,14 +145,14 @@ settle-resting P fuel (p ∷ left) F h =
     by_test true e later = later e
     by_test false e later = h
 
-opened-resting : (P : ProgramParts) (fuel : ℕ) → IsResting P fuel (opened P fuel)
+pub opened-resting : (P : ProgramParts) (fuel : ℕ) → IsResting P fuel (opened P fuel)
 unfolding opened
 opened-resting P fuel =
     settle-resting P fuel (drop 0 P.phases) (initial P) (record { past = All-nil (λ (r : Started). has_finished r ≡ true); tasks = All-nil (HasSettled P fuel) })
 
 -- ---- a grant
 
-acquire-advances : (n : Need) → IsAcquire n → IsAdvance n
+pub acquire-advances : (n : Need) → IsAcquire n → IsAdvance n
 acquire-advances (need.TheVariants.Acquire lock) k = tt
 acquire-advances need.TheVariants.Local k = absurd k
 acquire-advances (need.TheVariants.Load word) k = absurd k
@@ -187,7 +187,7 @@ resumed-resting P fuel F i h waits = by_place (slice_get F.tasks i) refl
     by_place (Some r) e =
         with_task-resting P fuel F i r h e (subst (IsWaiting P fuel) (get_or_from_slice_get F.tasks i r r e) (waits r))
 
-granted-resting : (P : ProgramParts) (fuel : ℕ) (g : Grant) (F G : Flat) → IsResting P fuel F → granted P fuel g F ≡ Some G → IsResting P fuel G
+pub granted-resting : (P : ProgramParts) (fuel : ℕ) (g : Grant) (F G : Flat) → IsResting P fuel F → granted P fuel g F ≡ Some G → IsResting P fuel G
 unfolding granted
 granted-resting P fuel g F G h e = by_place (position (can_take P fuel F.tasks g) F.tasks) refl e
   where

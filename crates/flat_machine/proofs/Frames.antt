@@ -14,7 +14,7 @@ use Rattle.flat_machine.proofs.Rights.{step-after, stores-after, loads-after, to
 
 -- ---- words that a task may not store
 
-step-frame : (P : ProgramParts) (fuel : ℕ) (s : At) (w : ℕ) → may_store s.task.decl s.task.state.held w ≡ false → get_or (flat_step P fuel s).memory w 0 ≡ get_or s.memory w 0
+pub step-frame : (P : ProgramParts) (fuel : ℕ) (s : At) (w : ℕ) → may_store s.task.decl s.task.state.held w ≡ false → get_or (flat_step P fuel s).memory w 0 ≡ get_or s.memory w 0
 step-frame P fuel s w no_store = by_wish (wish P fuel s.task) refl
   where
     by_wish : (o : Option Need) → wish P fuel s.task ≡ o → get_or (step_by P s o).memory w 0 ≡ get_or s.memory w 0
@@ -122,7 +122,7 @@ agree-after P fuel a b m apart =
           (not-true (may_store a.decl a.state.held w) (λ e. both-ways (may_load b.decl b.state.held w) (apart.out w e) h));
     }
 
-no-store : (a b : Started) (w : ℕ) → KeepsOut a b → may_store a.decl a.state.held w ≡ true → may_store b.decl b.state.held w ≡ false
+pub no-store : (a b : Started) (w : ℕ) → KeepsOut a b → may_store a.decl a.state.held w ≡ true → may_store b.decl b.state.held w ≡ false
 no-store a b w apart e =
     not-true (may_store b.decl b.state.held w) (λ f. both-ways (may_load b.decl b.state.held w) (apart.out w e) (store-loads b.decl b.state.held w f))
 

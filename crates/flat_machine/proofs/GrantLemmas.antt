@@ -40,6 +40,13 @@ pub grants-none : (P : ProgramParts) (fuel : ℕ) (gs : List Grant) → grants_f
 grants-none P fuel [] = refl
 grants-none P fuel (g ∷ gs) = grants-none P fuel gs
 
+-- a grant of a list that is legal
+pub grants-legal : (P : ProgramParts) (fuel i : ℕ) (F G : Flat) (gs : List Grant) (d : Grant) → i < length gs → granted P fuel (get_or gs i d) F ≡ Some G
+    → grants_from P fuel (Some G) (drop (i + 1) gs) ≡ grants_from P fuel (Some F) (drop i gs)
+grants-legal P fuel i F G gs d within is =
+    let rest : Option Flat → Option Flat = λ o. grants_from P fuel o (drop (i + 1) gs) in
+    sym (at_drop_more (grants_from P fuel (Some F)) gs i d within ∙ ap rest is)
+
 -- a grant of a list that isn't legal
 pub grants-illegal : (P : ProgramParts) (fuel i : ℕ) (F : Flat) (gs : List Grant) (d : Grant) → i < length gs → granted P fuel (get_or gs i d) F ≡ None → grants_from P fuel (Some F) (drop i gs) ≡ None
 grants-illegal P fuel i F gs d within none =
@@ -48,7 +55,7 @@ grants-illegal P fuel i F gs d within none =
 
 -- ---- the next grant is legal
 
-same-grant : (g : Grant) → is_grant g (Some g) ≡ true
+pub same-grant : (g : Grant) → is_grant g (Some g) ≡ true
 same-grant g = grind (arith, nat_tests)
 
 first-place : (P : ProgramParts) (fuel : ℕ) (tasks rs : List Started) (g : Grant) → first_grant P fuel tasks rs ≡ Some g → position_or_len (can_take P fuel tasks g) rs < length rs

@@ -8,3 +8,9 @@ pub mod Separation
 pub mod RunLemmas
 pub mod Rest
 pub mod CauseLemmas
+pub mod SegmentLaws
+pub mod SettleLaws
+pub mod KeptLaws
+pub mod ReachedLaws
+pub mod StartLaws
+pub mod LeastLaws

@@ -101,7 +101,7 @@ open-room : (fuel retired : ℕ) (o : Option End) → o ≡ None → room_by fue
 open-room fuel retired None e = refl
 open-room fuel retired (Some by) e = absurd (none-some by (sym e))
 
-more-less : (fuel : ℕ) (t u : TaskState) → t.end ≡ None → t.retired ≤ fuel → IsOneMore fuel t u → IsLess fuel t u
+pub more-less : (fuel : ℕ) (t u : TaskState) → t.end ≡ None → t.retired ≤ fuel → IsOneMore fuel t u → IsLess fuel t u
 more-less fuel t u opened within h =
     let before = open-room fuel t.retired t.end opened in
     let after = open-room fuel u.retired u.end (h.kept ∙ opened) in

@@ -19,12 +19,9 @@ use Rattle.rv_core.specs.Step.{loaded_of}
 use Rattle.rv_core.specs.Task.{stopped}
 use Rattle.rv_core.proofs.Needs.{need-allowed, load-tells}
 use Rattle.flat_machine.specs.Step.{Started, At, wish, wish_unless, step_by, flat_step}
+use Rattle.flat_machine.specs.Laws.{HoldsLess}
 
 -- ---- held locks and words
-
--- the first locks are among the second
-pub record HoldsLess (held all : ℕ) : Type 0 where
-  pub among : (lock : ℕ) → holds held lock ≡ true → holds all lock ≡ true
 
 pub same-less : (held all : ℕ) → held ≡ all → HoldsLess held all
 same-less held all e = record { among = λ lock h. subst (λ (x : ℕ). holds x lock ≡ true) e h }

@@ -1,7 +1,8 @@
 -- What lists of grants come to.
-use Rattle.std.proofs.Common.{◌≡◌, ◌≢◌, ℕ, ◌<◌, true, false, cond, is_none, List, [], ◌∷◌, ◌++◌, length, get_or, position, Option, Some, None, refl, sym, ap, ◌∙◌, subst, arith}
+use Rattle.std.proofs.Common.{◌≡◌, ◌≢◌, ℕ, ◌+◌, ◌<◌, true, false, cond, is_none, List, [], ◌∷◌, ◌++◌, length, take, get_or, position, Option, Some, None, refl, sym, ap, ◌∙◌, subst, append_assoc, arith}
+use Rattle.std.proofs.lemmas.List.{take_more}
 use Rattle.std.proofs.lemmas.List.Quantifiers.{position-Some}
-use Rattle.std.proofs.lemmas.Option.{none-some, same_Some}
+use Rattle.std.proofs.lemmas.Option.{none-some, same_Some, slice_get-get_or}
 use Rattle.dn_base.specs.declared.ids.Grant.{Grant}
 use Rattle.region_table.specs.Program.{ProgramParts}
 use Rattle.rv_core.specs.declared.need.Need.{Need}
@@ -9,7 +10,7 @@ use Rattle.rv_core.specs.declared.need.Need as need
 use Rattle.flat_machine.specs.declared.ending.FlatEnd.{FlatEnd}
 use Rattle.flat_machine.specs.Step.{Started, wish}
 use Rattle.flat_machine.specs.Phases.{Flat, opened}
-use Rattle.flat_machine.specs.Grants.{grant_by, grant_for, is_grant, can_take, granted_at, granted, granted_if, grants_from, first_or, first_grant, next_grant, IsLeastFrom, IsLeast}
+use Rattle.flat_machine.specs.Grants.{grant_by, grant_for, is_grant, can_take, granted_at, granted, granted_if, grants_from, first_or, first_grant, next_grant, IsStoppedAt, IsLeastFrom, IsLeast}
 use Rattle.flat_machine.specs.Ending.{end_of, whole_only, flat_end}
 use Rattle.flat_machine.proofs.Rights.{told}
 use Rattle.flat_machine.proofs.GrantLemmas.{grants-none}
@@ -19,6 +20,26 @@ use Rattle.flat_machine.proofs.GrantLemmas.{grants-none}
 pub grants-push : (P : ProgramParts) (fuel : ℕ) (o : Option Flat) (gs : List Grant) (g : Grant) → grants_from P fuel o (gs ++ g ∷ []) ≡ granted_if P fuel (grants_from P fuel o gs) g
 grants-push P fuel o [] g = refl
 grants-push P fuel o (h ∷ hs) g = grants-push P fuel (granted_if P fuel o h) hs g
+
+-- the next grant of a list whose front is given
+pub grants-front : (P : ProgramParts) (fuel : ℕ) (o : Option Flat) (G : Flat) (gs : List Grant) (i : ℕ) (d : Grant) → i < length gs → grants_from P fuel o (take i gs) ≡ Some G
+    → grants_from P fuel o (take (i + 1) gs) ≡ granted P fuel (get_or gs i d) G
+grants-front P fuel o G gs i d within e =
+    ap (grants_from P fuel o) (take_more gs i d within) ∙ grants-push P fuel o (take i gs) (get_or gs i d) ∙ ap (λ (p : Option Flat). granted_if P fuel p (get_or gs i d)) e
+
+-- the front of a list up to its first grant that isn't legal
+pub stopped-at : (P : ProgramParts) (fuel : ℕ) (F G : Flat) (gs : List Grant) (i : ℕ) (d : Grant) → i < length gs → grants_from P fuel (Some F) (take i gs) ≡ Some G
+    → granted P fuel (get_or gs i d) G ≡ None → IsStoppedAt P fuel F gs G
+stopped-at P fuel F G gs i d within front illegal =
+    record { place = i; given = get_or gs i d; there = slice_get-get_or gs i d within; front = front; illegal = illegal }
+
+-- one more grant of the least list
+pub least-more : (P : ProgramParts) (fuel : ℕ) (o : Option Flat) (F G : Flat) (gs rest : List Grant) (g : Grant)
+    → ((more : List Grant) → IsLeastFrom P fuel (Some F) more → IsLeastFrom P fuel o (gs ++ more)) → next_grant P fuel F ≡ Some g → granted P fuel g F ≡ Some G
+    → IsLeastFrom P fuel (Some G) rest → IsLeastFrom P fuel o ((gs ++ g ∷ []) ++ rest)
+least-more P fuel o F G gs rest g so_far next is h =
+    let joined : (gs ++ g ∷ []) ++ rest ≡ gs ++ g ∷ rest = rw append_assoc in
+    subst (IsLeastFrom P fuel o) (sym joined) (so_far (g ∷ rest) (next, subst (λ (p : Option Flat). IsLeastFrom P fuel p rest) (sym is) h))
 
 -- ---- the least list
 

@@ -17,12 +17,12 @@ use Rattle.flat_machine.proofs.Rights.{not-true}
 use Rattle.flat_machine.proofs.Frames.{KeepsOut, second-task, swapped-memory, other-kept}
 
 -- a lock that is held, and whose set in a list that begins with that of lock `first` has the word
-record IsUnder (ss : List (List Interval)) (first held w : ℕ) : Type 0 where
-  place : ℕ
-  holds : holds held (first + place) ≡ true
-  has : has (get_or ss place []) w ≡ true
+pub record IsUnder (ss : List (List Interval)) (first held w : ℕ) : Type 0 where
+  pub place : ℕ
+  pub holds : holds held (first + place) ≡ true
+  pub has : has (get_or ss place []) w ≡ true
 
-under-some : (ss : List (List Interval)) (first held w : ℕ) → under ss first held w ≡ true → IsUnder ss first held w
+pub under-some : (ss : List (List Interval)) (first held w : ℕ) → under ss first held w ≡ true → IsUnder ss first held w
 under-some [] first held w e = absurd (false≢true e)
 under-some (s ∷ ss) first held w e =
     let later = under-some ss (first + 1) held w in

@@ -1,23 +1,23 @@
 -- How a run of the flat machine ends.
-use Rattle.std.specs.Prelude.{ℕ, Bool, true, false, if◌then◌else◌, List, ◌++◌, map, Option, Some, None}
+use Rattle.std.specs.Prelude.{ℕ, Bool, true, false, if◌then◌else◌, List, map, Option, Some, None}
 use Rattle.std.specs.List.{list_any}
 use Rattle.dn_base.specs.declared.ids.Grant.{Grant}
 use Rattle.dn_base.specs.declared.status.Outcome.{Outcome}
 use Rattle.dn_base.specs.declared.status.Outcome as outcome
 use Rattle.region_table.specs.Program.{ProgramParts}
 use Rattle.rv_core.specs.declared.task.End.{End}
-use Rattle.rv_core.specs.declared.task.End as cause
 use Rattle.rv_core.specs.declared.need.Need.{Need}
 use Rattle.rv_core.specs.declared.need.Need as need
 use Rattle.rv_core.specs.declared.ending.EndShown.{EndShown}
 use Rattle.rv_core.specs.declared.ending.EndShown as shown
 use Rattle.rv_core.specs.declared.ending.TaskEnd.{TaskEnd}
 use Rattle.rv_core.specs.declared.ending.Ending.{Ending}
+use Rattle.rv_core.specs.Ending.{shown_end}
 use Rattle.rv_core.specs.Need.{need_of}
 use Rattle.flat_machine.specs.declared.ending.FlatEnd.{FlatEnd}
 use Rattle.flat_machine.specs.declared.ending.TaskLoads.{TaskLoads}
 use Rattle.flat_machine.specs.Step.{Started}
-use Rattle.flat_machine.specs.Phases.{Flat}
+use Rattle.flat_machine.specs.Phases.{Flat, all_tasks}
 use Rattle.flat_machine.specs.Grants.{so_far, is_whole}
 
 -- a task that stands still and hasn't ended waits for the lock that it wants; other needs don't occur there
@@ -27,9 +27,7 @@ shown_by _ = shown.TheVariants.Fuel
 
 -- how a task stands
 abbrev pub shown_of : ProgramParts → ℕ → Started → Option End → EndShown
-shown_of P fuel r (Some cause.TheVariants.Finished) = shown.TheVariants.Finished
-shown_of P fuel r (Some cause.TheVariants.Fuel) = shown.TheVariants.Fuel
-shown_of P fuel r (Some (cause.TheVariants.Trap kind pc value)) = shown.TheVariants.Trap kind pc value
+shown_of P fuel r (Some by) = shown_end by
 shown_of P fuel r None = shown_by (need_of P r.decl fuel r.state)
 
 abbrev pub task_end : ProgramParts → ℕ → Started → TaskEnd
@@ -38,6 +36,13 @@ task_end P fuel r =
 
 abbrev pub task_loads : Started → TaskLoads
 task_loads r = record { phase = r.phase; core = r.decl.core; loads = r.loads }
+
+-- how all tasks that have started stand, and what they have loaded
+abbrev pub ends_of : ProgramParts → ℕ → Flat → List TaskEnd
+ends_of P fuel F = map (task_end P fuel) (all_tasks F)
+
+abbrev pub loads_of : Flat → List TaskLoads
+loads_of F = map task_loads (all_tasks F)
 
 abbrev pub is_waiting : EndShown → Bool
 is_waiting (shown.TheVariants.Waits lock) = true
@@ -65,8 +70,7 @@ ending_of ends memory = record { outcome = outcome_of ends; tasks = ends; memory
 
 -- the ending and the loads of all tasks that started, in the order of their phases and cores
 unfoldable pub end_of : ProgramParts → ℕ → Flat → FlatEnd
-end_of P fuel F =
-    record { ending = ending_of (map (task_end P fuel) (F.past ++ F.tasks)) F.memory; loads = map task_loads (F.past ++ F.tasks) }
+end_of P fuel F = record { ending = ending_of (ends_of P fuel F) F.memory; loads = loads_of F }
 
 abbrev pub whole_only : ProgramParts → ℕ → Option Flat → Option FlatEnd
 whole_only P fuel None = None

@@ -1,7 +1,8 @@
 -- Grants of locks to the tasks of the flat machine.
-use Rattle.std.specs.Prelude.{◌≡◌, ℕ, ◌==◌, Bool, false, ◌&&◌, not, if◌then◌else◌, List, [], ◌∷◌, slice_get, slice_set, Option, Some, None, is_none, position}
+use Rattle.std.specs.Prelude.{◌≡◌, ℕ, ◌==◌, Bool, false, ◌&&◌, not, if◌then◌else◌, List, [], ◌∷◌, slice_get, slice_set, take, Option, Some, None, is_none, position}
 use Rattle.std.specs.List.{list_any}
 use Rattle.dn_base.specs.declared.ids.Grant.{Grant}
+use Rattle.dn_base.specs.declared.ids.LockId.{LockId}
 use Rattle.region_table.specs.Program.{ProgramParts}
 use Rattle.rv_core.specs.declared.need.Need.{Need}
 use Rattle.rv_core.specs.declared.need.Need.TheVariants.{Acquire}
@@ -14,10 +15,14 @@ use Rattle.flat_machine.specs.Phases.{Flat, settled, opened}
 abbrev pub is_free : List Started → ℕ → Bool
 is_free tasks lock = not (list_any (λ (r : Started). holds r.state.held lock) tasks)
 
--- the grant that a task can take: in its phase, to its core, of the lock that it wants, where no task holds that
+-- the grant of a lock to a task: in its phase, to its core
+abbrev pub grant_of : Started → LockId → Grant
+grant_of r lock = record { phase = r.phase; core = r.decl.core; lock = lock }
+
+-- the grant that a task can take: of the lock that it wants, where no task holds that
 abbrev pub grant_by : List Started → Started → Option Need → Option Grant
 grant_by tasks r (Some (Acquire lock)) =
-    if is_free tasks lock.0 then Some (record { phase = r.phase; core = r.decl.core; lock = lock }) else None
+    if is_free tasks lock.0 then Some (grant_of r lock) else None
 grant_by tasks r _ = None
 
 abbrev pub grant_for : ProgramParts → ℕ → List Started → Started → Option Grant
@@ -65,6 +70,14 @@ grants_from P fuel o (g ∷ gs) = grants_from P fuel (granted_if P fuel o g) gs
 -- the machine after a list of grants; None where one of them isn't legal
 abbrev pub so_far : ProgramParts → ℕ → List Grant → Option Flat
 so_far P fuel gs = grants_from P fuel (Some (opened P fuel)) gs
+
+-- from F on the grants of the list were given up to the first that isn't legal, and G is the machine before that one
+pub record IsStoppedAt (P : ProgramParts) (fuel : ℕ) (F : Flat) (gs : List Grant) (G : Flat) : Type 0 where
+  pub place : ℕ
+  pub given : Grant
+  pub there : slice_get gs place ≡ Some given
+  pub front : grants_from P fuel (Some F) (take place gs) ≡ Some G
+  pub illegal : granted P fuel given G ≡ None
 
 -- the first grant that one of these tasks can take
 abbrev pub first_or : Option Grant → Option Grant → Option Grant

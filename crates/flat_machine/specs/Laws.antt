@@ -1,15 +1,21 @@
 -- What the laws of the flat machine speak of.
-use Rattle.std.specs.Prelude.{◌≡◌, ◌≢◌, ℕ, Bool, true, false, List, length, slice_get, slice_index, Option, Some, None}
-use Rattle.std.specs.List.{All, Any}
+use Rattle.std.specs.Prelude.{◌≡◌, ◌≢◌, ℕ, ◌+◌, ◌<◌, ◌≤◌, Bool, true, false, List, [], ◌++◌, length, map, take, slice_get, slice_index, Option, Some, None}
+use Rattle.std.specs.List.{All, Any, IsAmong}
+use Rattle.dn_base.specs.declared.ids.Grant.{Grant}
+use Rattle.dn_base.specs.declared.ids.LoadSeen.{LoadSeen}
 use Rattle.dn_base.specs.declared.ids.LockId.{LockId}
-use Rattle.region_table.specs.Program.{ProgramParts}
-use Rattle.rv_core.specs.Access.{holds}
+use Rattle.region_table.specs.Program.{ProgramParts, tasks_of}
+use Rattle.region_table.specs.declared.declared.TaskDecl.{TaskDecl}
+use Rattle.region_table.specs.declared.declared.Phase.{Phase}
+use Rattle.rv_core.specs.Access.{holds, may_store}
 use Rattle.rv_core.specs.Need.{need_of}
 use Rattle.rv_core.specs.declared.ending.EndShown as shown
 use Rattle.rv_core.specs.declared.ending.TaskEnd.{TaskEnd}
 use Rattle.rv_core.specs.declared.need.Need.{Need}
 use Rattle.rv_core.specs.declared.need.Need.TheVariants.{Acquire}
-use Rattle.flat_machine.specs.Step.{Started, At, segment}
+use Rattle.flat_machine.specs.Step.{Started, At, fresh, segment}
+use Rattle.flat_machine.specs.Phases.{Flat, all_tasks, run_all}
+use Rattle.flat_machine.specs.Grants.{grants_from, so_far}
 use Rattle.flat_machine.specs.Ending.{shown_of, is_waiting, is_trapped}
 
 abbrev pub at_memory : Started → List ℕ → At
@@ -31,6 +37,27 @@ pub record IsAlike (m n : List ℕ) (a b : At) : Type 0 where
   pub left : length a.memory ≡ length m
   pub right : length b.memory ≡ length n
   pub kept : (w : ℕ) → slice_index m w ≡ slice_index n w → slice_index a.memory w ≡ slice_index b.memory w
+
+-- the first locks are among the second
+pub record HoldsLess (held all : ℕ) : Type 0 where
+  pub among : (lock : ℕ) → holds held lock ≡ true → holds all lock ≡ true
+
+-- the second is the first task later: it has done the same loads, and maybe more
+pub record IsLater (r later : Started) : Type 0 where
+  pub phase : later.phase ≡ r.phase
+  pub decl : later.decl ≡ r.decl
+  pub more : List LoadSeen
+  pub loads : later.loads ≡ r.loads ++ more
+
+-- at this place there stands the task r, later
+pub record StandsLater (tasks : List Started) (i : ℕ) (r : Started) : Type 0 where
+  pub task : Started
+  pub there : slice_get tasks i ≡ Some task
+  pub later : IsLater r task
+
+-- each task that has started in F stands at its place in G, later
+abbrev pub AreLater : Flat → Flat → Type 0
+AreLater F G = (i : ℕ) (r : Started) → slice_get (all_tasks F) i ≡ Some r → StandsLater (all_tasks G) i r
 
 -- no lock is held by both
 abbrev pub HoldApart : ℕ → ℕ → Type 0
@@ -65,3 +92,33 @@ pub record IsHeldUp (P : ProgramParts) (fuel : ℕ) (tasks : List Started) (i : 
   pub holder : Started
   pub there : slice_get tasks place ≡ Some holder
   pub holding : holds holder.state.held lock.0 ≡ true
+
+-- the tasks that have started are those of the phases that have begun, in their order; those of the last of these phases are
+-- in it, and those before them in earlier ones
+pub record HasTasks (P : ProgramParts) (F : Flat) : Type 0 where
+  pub begun : F.begun ≤ length P.phases
+  pub all : map (λ (r : Started). r.decl) (all_tasks F) ≡ tasks_of (take F.begun P.phases)
+  pub none : F.begun ≡ 0 → F.tasks ≡ []
+  pub last : (k : ℕ) (p : Phase) → F.begun ≡ k + 1 → slice_get P.phases k ≡ Some p → map (λ (r : Started). r.decl) F.tasks ≡ p.tasks
+  pub here : All (λ (r : Started). r.phase.0 + 1 ≡ F.begun) F.tasks
+  pub before : All (λ (r : Started). r.phase.0 + 1 < F.begun) F.past
+
+-- the first front of a list of grants has a value, from which the rest leads to F
+pub record HasFront (P : ProgramParts) (fuel : ℕ) (gs hs : List Grant) (F : Flat) : Type 0 where
+  pub flat : Flat
+  pub front : so_far P fuel gs ≡ Some flat
+  pub rest : grants_from P fuel (Some flat) hs ≡ Some F
+  pub later : AreLater flat F
+
+-- the first segment of a task, on this memory
+abbrev pub first_segment : ProgramParts → ℕ → ℕ → List ℕ → TaskDecl → At
+first_segment P fuel phase m d = segment P fuel (at_memory (fresh phase d) m)
+
+-- the tasks of a phase come to what each comes to from the memory m alone; the words that a task may store without a lock are
+-- those that it leaves, and a word that none may store is as it was
+pub record StartAlone (P : ProgramParts) (fuel phase : ℕ) (tasks : List TaskDecl) (m : List ℕ) : Type 0 where
+  pub each : (run_all P fuel phase tasks m).tasks ≡ map (λ (d : TaskDecl). (first_segment P fuel phase m d).task) tasks
+  pub words : length (run_all P fuel phase tasks m).memory ≡ length m
+  pub stored : (d : TaskDecl) (w : ℕ) → IsAmong tasks d → may_store d 0 w ≡ true
+      → slice_index (run_all P fuel phase tasks m).memory w ≡ slice_index (first_segment P fuel phase m d).memory w
+  pub kept : (w : ℕ) → All (λ (d : TaskDecl). may_store d 0 w ≡ false) tasks → slice_index (run_all P fuel phase tasks m).memory w ≡ slice_index m w

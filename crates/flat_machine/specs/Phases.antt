@@ -16,6 +16,10 @@ pub record Flat : Type 0 where
   pub tasks : List Started
   pub memory : List ℕ
 
+-- all tasks that have started, in the order of their phases and cores
+abbrev pub all_tasks : Flat → List Started
+all_tasks F = F.past ++ F.tasks
+
 -- some tasks of a phase, and the memory that they leave
 pub record Ran : Type 0 where
   pub tasks : List Started

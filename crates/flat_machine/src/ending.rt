@@ -6,7 +6,7 @@ ghost use Rattle.flat_machine.specs.Ending.{shown_of, task_end, task_loads, outc
 use crate::running::Running;
 use dn_base::{CoreId, LoadSeen, Memory, Outcome, PhaseId, Sequence};
 use region_table::Program;
-use rv_core::{End, EndShown, Ending, Need, TaskEnd};
+use rv_core::{EndShown, Ending, Need, TaskEnd};
 use std::alloc::Global;
 
 /// The loads of a task: each with the data word and the value of the whole word, in the order in which they retired.
@@ -29,9 +29,7 @@ fn shown(program: &Program, fuel: u32, running: &Running<'_>) -> EndShown
     ensures { result ≡ shown_of program.now fuel running.now running.now.state.end }
 {
     match running.state.end {
-        Some(End::Finished) => EndShown::Finished,
-        Some(End::Fuel) => EndShown::Fuel,
-        Some(End::Trap { kind, pc, value }) => EndShown::Trap { kind, pc, value },
+        Some(by) => EndShown::from(by),
         None => match running.state.need(program, running.decl, fuel) {
             Need::Acquire { lock } => EndShown::Waits { lock },
             _ => EndShown::Fuel,
@@ -67,7 +65,7 @@ pub(crate) fn push_ends(
 }
 
 /// The loads of a task.
-fn loads_of(running: Running<'_>) -> TaskLoads
+fn loads_of_task(running: Running<'_>) -> TaskLoads
     ensures { result ≡ task_loads running.entry }
 {
     TaskLoads {
@@ -85,7 +83,7 @@ pub(crate) fn push_loads(
     ensures { IfOk result (λ done. loads.new ≡ loads.old ++ map task_loads tasks.entry.items) }
 {
     for running in tasks {
-        loads.push(loads_of(running))?;
+        loads.push(loads_of_task(running))?;
     }
     Ok(())
 }
@@ -93,7 +91,7 @@ pub(crate) fn push_loads(
 /// The outcome of a run in which the tasks that started stand so: stuck where one waits for a lock, else trapped where one
 /// trapped, else out of fuel where one ran out of it, else done.
 #[tactic(auto, unfolding(crate::specs::Ending::outcome_of))]
-pub(crate) fn outcome(ends: &[TaskEnd]) -> Outcome
+pub fn outcome(ends: &[TaskEnd]) -> Outcome
     ensures { result ≡ outcome_of ends.now }
 {
     if any_waits(ends) {

@@ -1,19 +1,21 @@
 //! What segments and lists of grants come to, for whoever compares other machines with the flat one.
-ghost use Rattle.std.specs.Prelude.{◌≡◌, ◌≢◌, ℕ, List, [], ◌∷◌, ◌++◌, length, slice_get, slice_index, Some, None, true, false};
-ghost use Rattle.std.specs.List.{All, Any, IsAmong};
+ghost use Rattle.std.specs.Prelude.{◌≡◌, ◌≢◌, ◌<◌, ℕ, List, [], ◌∷◌, ◌++◌, length, slice_get, slice_index, Some, None, true, false};
+ghost use Rattle.std.specs.List.{All, AllPairs, Any, IsAmong};
 ghost use Rattle.dn_base.specs.declared.ids.Grant.{Grant};
+ghost use Rattle.dn_base.specs.declared.ids.LockId.{LockId};
 ghost use Rattle.dn_base.specs.declared.status.Outcome.TheVariants.{Fuel, Stuck};
-ghost use Rattle.region_table.specs.Program.{ProgramParts};
+ghost use Rattle.region_table.specs.Program.{ProgramParts, IsProgram};
 ghost use Rattle.region_table.specs.declared.declared.Phase.{Phase};
 ghost use Rattle.rv_core.specs.Access.{may_load, may_store};
 ghost use Rattle.rv_core.specs.declared.ending.TaskEnd.{TaskEnd};
+ghost use Rattle.rv_core.specs.declared.need.Need.TheVariants.{Acquire};
 ghost use Rattle.effect_checker.specs.Checked.{IsChecked};
 ghost use Rattle.flat_machine.specs.declared.ending.FlatEnd.{FlatEnd};
 ghost use Rattle.flat_machine.specs.Step.{Started, At, wish, flat_step, segment, IsWithin};
-ghost use Rattle.flat_machine.specs.Phases.{Flat, has_finished, opened};
-ghost use Rattle.flat_machine.specs.Grants.{so_far, is_whole, granted_if, IsLeast};
+ghost use Rattle.flat_machine.specs.Phases.{Flat, has_finished, settled, opened};
+ghost use Rattle.flat_machine.specs.Grants.{is_free, grant_of, go_on, with_task, so_far, is_whole, granted, granted_if, IsLeast};
 ghost use Rattle.flat_machine.specs.Ending.{is_waiting, end_of, flat_end};
-ghost use Rattle.flat_machine.specs.Laws.{at_memory, IsAtRest, AgreeOn, IsAlike, HoldApart, SameInEitherOrder, HasUsedUp, IsOutOfFuel, IsHeldUp};
+ghost use Rattle.flat_machine.specs.Laws.{at_memory, IsAtRest, AgreeOn, IsAlike, HoldsLess, IsLater, HoldApart, SameInEitherOrder, HasUsedUp, IsOutOfFuel, IsHeldUp, HasTasks, HasFront, StartAlone};
 
 /// A segment changes no word but those that its task may store with the locks that it holds at the start. It only gives
 /// locks up.
@@ -48,13 +50,55 @@ pub fn segments_run_in_either_order()
         IsAlike stepped m (segment P fuel (at_memory b stepped)) (segment P fuel (at_memory b m)) }
 {}
 
+/// A segment keeps its task's phase and declaration, adds loads to those that the task has done, and only gives locks up. A
+/// task that has ended or wants a lock has no segment left.
+pub fn a_segment_adds_loads_and_gives_locks_up()
+    ensures later { (P : ProgramParts) (fuel : ℕ) (s : At) → IsLater s.task (segment P fuel s).task }
+    ensures held { (P : ProgramParts) (fuel : ℕ) (s : At) → HoldsLess (segment P fuel s).task.state.held s.task.state.held }
+    ensures still { (P : ProgramParts) (fuel : ℕ) (s : At) → IsAtRest (wish P fuel s.task) → segment P fuel s ≡ s }
+{}
+
+/// No phase can begin once those that may have begun, nor while a task of the last one hasn't ended.
+pub fn settling_again_changes_nothing()
+    ensures again { (P : ProgramParts) (fuel : ℕ) (F : Flat) → settled P fuel (settled P fuel F) ≡ settled P fuel F }
+    ensures waits { (P : ProgramParts) (fuel : ℕ) (F : Flat) (i : ℕ) (r : Started) → slice_get F.tasks i ≡ Some r → r.state.end ≡ None → settled P fuel F ≡ F }
+{}
+
 /// A list with one more grant at its end is the list, and then the grant.
 pub fn one_more_grant_is_one_step()
     ensures { (P : ProgramParts) (fuel : ℕ) (gs : List Grant) (g : Grant) → so_far P fuel (gs ++ g ∷ []) ≡ granted_if P fuel (so_far P fuel gs) g }
 {}
 
-/// The least list has a run, and there is one such list.
+/// The tasks that have started after a list of grants are those of the phases that have begun, in their order. Those of the last
+/// phase stand in rising order of their cores.
+pub fn the_tasks_of_a_run_are_its_phases()
+    ensures tasks { (P : ProgramParts) (fuel : ℕ) (gs : List Grant) (F : Flat) → so_far P fuel gs ≡ Some F → HasTasks P F }
+    ensures rising { (P : ProgramParts) (fuel : ℕ) (gs : List Grant) (F : Flat) → IsProgram P → so_far P fuel gs ≡ Some F → AllPairs (λ (a b : Started). a.decl.core.0 < b.decl.core.0) F.tasks }
+{}
+
+/// A grant of a free lock to a task that wants it is legal, and goes on with just that task.
+pub fn a_task_can_take_the_free_lock_that_it_wants()
+    ensures { (P : ProgramParts) (fuel : ℕ) (gs : List Grant) (F : Flat) (i : ℕ) (r : Started) (lock : LockId) → IsProgram P → so_far P fuel gs ≡ Some F
+        → slice_get F.tasks i ≡ Some r → wish P fuel r ≡ Some (Acquire lock) → is_free F.tasks lock.0 ≡ true
+        → granted P fuel (grant_of r lock) F ≡ Some (settled P fuel (with_task F i (go_on P fuel r F.memory))) }
+{}
+
+/// Each front of a list of grants that has a value has one too. Each task that has started then stands at its place later, and
+/// the loads that it has done then are a front of those that it has done later.
+pub fn a_front_of_a_list_has_a_value()
+    ensures { (P : ProgramParts) (fuel : ℕ) (gs hs : List Grant) (F : Flat) → so_far P fuel (gs ++ hs) ≡ Some F → HasFront P fuel gs hs F }
+{}
+
+/// The first segments of a phase of a checked program each start from the memory with which the phase begins, as far as their
+/// tasks can tell: each task comes to what it comes to alone, and the words that it may store to what it leaves in them.
+pub fn first_segments_start_from_one_memory()
+    ensures { (P : ProgramParts) (fuel phase : ℕ) (p : Phase) (m : List ℕ) → IsProgram P → IsChecked P → IsAmong P.phases p → length m ≡ length P.memory
+        → StartAlone P fuel phase p.tasks m }
+{}
+
+/// Each program has a least list. It has a run, and there is one such list.
 pub fn the_least_list_has_a_run()
+    ensures list { (P : ProgramParts) (fuel : ℕ) → (gs : List Grant) × IsLeast P fuel gs }
     ensures run { (P : ProgramParts) (fuel : ℕ) (gs : List Grant) → IsLeast P fuel gs → flat_end P fuel gs ≢ None }
     ensures one { (P : ProgramParts) (fuel : ℕ) (gs hs : List Grant) → IsLeast P fuel gs → IsLeast P fuel hs → gs ≡ hs }
 {}

@@ -3,7 +3,7 @@ ghost use Rattle.std.specs.List.{All, HoldsAt, list_any, list_all};
 ghost use Rattle.rv_core.specs.Access.{holds};
 ghost use Rattle.flat_machine.specs.Step.{At, Started, segment, in_state, room, IsWithin, IsWaiting};
 ghost use Rattle.flat_machine.specs.Phases.{Flat, Ran, run_all, begin, has_finished, next_phase, settled, opened, initial, work, IsSound};
-ghost use Rattle.flat_machine.specs.Grants.{is_free, grant_by, grant_for, is_grant, can_take, first_grant, next_grant, resumed, granted, grants_from};
+ghost use Rattle.flat_machine.specs.Grants.{is_free, grant_by, grant_for, is_grant, can_take, first_grant, next_grant, resumed, granted, grants_from, IsStoppedAt, IsLeastFrom};
 ghost use Rattle.flat_machine.specs.Ending.{end_of};
 
 use crate::ending::{FlatEnd, outcome, push_ends, push_loads};
@@ -272,6 +272,7 @@ impl<'a> Machine<'a> {
         requires sound { IsSound program.now fuel self.old }
         ensures legal { result ≡ Ok true → granted program.now fuel given self.old ≡ Some self.new }
         ensures illegal { result ≡ Ok false → granted program.now fuel given self.old ≡ None }
+        ensures kept { result ≡ Ok false → self.new ≡ self.old }
         ensures sound { IfOk result (λ legal. IsSound program.now fuel self.new) }
         ensures work { result ≡ Ok true → work program.now fuel self.new < work program.now fuel self.old }
     {
@@ -296,6 +297,7 @@ impl<'a> Machine<'a> {
         requires sound { IsSound program.now fuel self.old }
         ensures legal { result ≡ Ok true → grants_from program.now fuel (Some self.old) grants.now ≡ Some self.new }
         ensures illegal { result ≡ Ok false → grants_from program.now fuel (Some self.old) grants.now ≡ None }
+        ensures stops { result ≡ Ok false → IsStoppedAt program.now fuel self.old grants.now self.new }
         ensures sound { IfOk result (λ legal. IsSound program.now fuel self.new) }
     {
         for given in grants {
@@ -324,6 +326,29 @@ impl<'a> Machine<'a> {
     {
         let _legal = self.grant(alloc, program, fuel, next)?;
         Ok(())
+    }
+
+    /// Gives the next grant for as long as there is one. The answer is the list of these grants.
+    pub(crate) fn grant_least(
+        &mut self,
+        alloc: Global,
+        program: &'a Program,
+        fuel: u32,
+    ) -> Result<Vec<Grant>, Memory>
+        requires fuel { fuel ≤ 32768 }
+        requires locks { length program.now.locks ≤ 32 }
+        requires sound { IsSound program.now fuel self.old }
+        ensures least { IfOk result (λ grants. IsLeastFrom program.now fuel (Some self.old) grants.items) }
+        ensures leads { IfOk result (λ grants. grants_from program.now fuel (Some self.old) grants.items ≡ Some self.new) }
+        ensures whole { IfOk result (λ grants. next_grant program.now fuel self.new ≡ None) }
+        ensures sound { IfOk result (λ grants. IsSound program.now fuel self.new) }
+    {
+        let mut grants = Vec::new(alloc);
+        'grants: while let Some(next) = self.next_grant(program, fuel) {
+            self.grant_next(alloc, program, fuel, next)?;
+            grants.push(next)?;
+        }
+        Ok(grants)
     }
 
     /// The grant to the least core whose wanted lock is free; None where there is none.

@@ -75,6 +75,7 @@ impl Running<'_> {
             record { task = self.new; memory = memory.new.items } ≡ flat_step program.now fuel before) }
         ensures still { IfOk result (λ went. went ≡ false → let before : At = record { task = self.old; memory = memory.old.items } in
             IsStill program.now fuel before) }
+        ensures gone { IfOk result (λ went. went ≡ true → room fuel self.new < room fuel self.old) }
         ensures words { length memory.new.items ≡ length program.now.memory }
         ensures within { IsWithin fuel self.new }
         ensures room { room fuel self.new ≤ room fuel self.old }
@@ -82,18 +83,22 @@ impl Running<'_> {
         if self.state.end.is_some() {
             return Ok(false);
         }
-        match self.state.need(program, self.decl, fuel) {
-            Need::Local | Need::Release { .. } => self.state.advance(program, self.decl, fuel),
+        let next = self.state.next(program, self.decl, fuel);
+        match next.need {
+            Need::Local | Need::Release { .. } => {
+                self.state.complete(program, self.decl, fuel, &next);
+            }
             Need::Load { word } => {
                 let value = memory[word.0 as usize];
-                self.state.loaded(program, self.decl, fuel, value);
+                self.state
+                    .complete_load(program, self.decl, fuel, &next, value);
                 self.loads.push(LoadSeen { word, value })?;
             }
             Need::Store { word, .. } => {
                 let place = word.0 as usize;
-                let value = self.state.merged(program, self.decl, fuel, memory[place]);
-                memory[place] = value;
-                self.state.advance(program, self.decl, fuel);
+                let old = memory[place];
+                memory[place] = self.state.merged_by(program, self.decl, fuel, &next, old);
+                self.state.complete(program, self.decl, fuel, &next);
             }
             Need::Acquire { .. } => return Ok(false),
             Need::End { cause } => self.state.stop(cause),

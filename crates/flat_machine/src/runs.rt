@@ -1,4 +1,4 @@
-ghost use Rattle.std.specs.Prelude.{◌≡◌, ◌≤◌, ◌<◌, length, IfOk, IfSome};
+ghost use Rattle.std.specs.Prelude.{◌≡◌, ◌≤◌, ◌<◌, Some, length, IfOk, IfSome};
 ghost use Rattle.flat_machine.specs.Grants.{IsLeast};
 ghost use Rattle.flat_machine.specs.Ending.{flat_end};
 
@@ -60,10 +60,33 @@ pub fn least_grants(alloc: Global, checked: &Checked, fuel: u32) -> Result<Vec<G
 {
     let program = checked.program();
     let mut machine = Machine::open(alloc, program, fuel)?;
-    let mut grants = Vec::new(alloc);
-    'grants: while let Some(next) = machine.next_grant(program, fuel) {
-        machine.grant_next(alloc, program, fuel, next)?;
-        grants.push(next)?;
-    }
-    Ok(grants)
+    machine.grant_least(alloc, program, fuel)
+}
+
+/// A run by the least list: the list, and the end.
+#[derive(Debug, Drop)]
+pub struct LeastRun {
+    pub grants: Vec<Grant>,
+    pub end: FlatEnd,
+}
+
+/// The list that `least_grants` gives, and the end that `flat` gives by it; the program runs once.
+///
+/// Each task may retire `fuel` instructions, from 1 to 32,768.
+///
+/// # Errors
+/// `Memory` where there is no room for the memory, the tasks, their loads, the list or the end.
+#[tactic(auto, unfolding(crate::specs::Ending::flat_end))]
+pub fn least_run(alloc: Global, checked: &Checked, fuel: u32) -> Result<LeastRun, Memory>
+    requires some { 1 ≤ fuel }
+    requires most { fuel ≤ 32768 }
+    ensures least { IfOk result (λ run. IsLeast checked.now fuel run.grants.items) }
+    ensures end { IfOk result (λ run. flat_end checked.now fuel run.grants.items ≡ Some run.end) }
+    ensures within { IfOk result (λ run. (length run.end.ending.memory ≤ 65536) × (length run.end.ending.tasks ≤ 64)) }
+{
+    let program = checked.program();
+    let mut machine = Machine::open(alloc, program, fuel)?;
+    let grants = machine.grant_least(alloc, program, fuel)?;
+    let end = machine.finish(alloc, program, fuel)?;
+    Ok(LeastRun { grants, end })
 }

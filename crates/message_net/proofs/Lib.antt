@@ -1,1 +1,3 @@
 pub mod PoolLemmas
+pub mod MailLemmas
+pub mod Orders

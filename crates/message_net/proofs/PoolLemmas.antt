@@ -1,19 +1,19 @@
 -- What posts and takes come to.
-use Rattle.std.proofs.Common.{◌≡◌, ℕ, ◌+◌, ◌<◌, ◌≤◌, ◌↔◌, Bool, true, false, cond, nat_lt, List, [], ◌∷◌, length, get_or, take, slice_get, Option, Some, None, refl, ◌∙◌, arith, length-append, length-set}
+use Rattle.std.proofs.Common.{◌≡◌, ℕ, ◌+◌, ◌<◌, ◌≤◌, ◌↔◌, Bool, true, false, cond, nat_lt, List, [], ◌∷◌, length, get_or, take, slice_get, Option, Some, None, refl, ◌∙◌, arith, length-append, length-set, suc}
 use Rattle.std.specs.Prelude.{sum_by, count_by, position, IsNone}
 use Rattle.std.specs.List.{position_or_len}
 use Rattle.std.proofs.lemmas.List.{get_or-take, length-take-le, length-take}
 use Rattle.std.proofs.lemmas.List.Sums.{sum_by-swap_remove, sum_by_push, sum_by-cons, sum_by-take-drop, sum_by-drop_more, get_or-le-sum_by, position_or_len_is, passes_at_first}
 use Rattle.std.proofs.lemmas.List.Quantifiers.{position-Some}
 use Rattle.std.proofs.lemmas.Bool.{ltb-true, ltb-false}
-use Rattle.std.proofs.lemmas.Option.{slice_get_within, get_or_from_slice_get}
+use Rattle.std.proofs.lemmas.Option.{slice_get_within, get_or_from_slice_get, slice_get_cases}
 use Rattle.std.proofs.lemmas.Bool.Decides.{nat_tests}
 use Rattle.message_net.specs.declared.actor.MailId.{MailId}
 use Rattle.message_net.specs.declared.actor.Actor.{Actor}
 use Rattle.message_net.specs.declared.actor.Actor.TheVariants.{Core, Bank, Keeper}
 use Rattle.message_net.specs.declared.message.Mail.{Mail}
 use Rattle.message_net.specs.Id.{same_actor, same_id}
-use Rattle.message_net.specs.Pool.{of_id, count_of, AreDistinct, IsPool, posted, without, taken}
+use Rattle.message_net.specs.Pool.{of_id, count_of, AreDistinct, IsPool, IsFound, posted, without, taken, taken_at}
 
 -- ids that pass the test are equal
 same_actor-true : (a b : Actor) → same_actor a b ≡ true → a ≡ b
@@ -155,3 +155,129 @@ position-of_id mails place m distinct found =
 
 pub taken-of_id : (mails : List Mail) (place : ℕ) (m : Mail) → AreDistinct mails → slice_get mails place ≡ Some m → taken m.id mails ≡ (Some m, without place mails)
 taken-of_id mails place m distinct found = rw (position-of_id mails place m distinct found, found) refl
+
+-- where at least one mail passes a test, and where none does
+pub counted-place : (p : Mail → Bool) (mails : List Mail) → 1 ≤ count_by p mails → (place : ℕ) × (m : Mail) × (slice_get mails place ≡ Some m) × (p m ≡ true)
+counted-place p [] some = absurd (omega arith)
+counted-place p (m ∷ mails) some = by_test (p m) refl (counted-place p mails) where
+  by_test : (t : Bool) → p m ≡ t → (1 ≤ count_by p mails → (place : ℕ) × (x : Mail) × (slice_get mails place ≡ Some x) × (p x ≡ true)) → (place : ℕ) × (x : Mail) × (slice_get (m ∷ mails) place ≡ Some x) × (p x ≡ true)
+  by_test true e rest = (0, m, refl, e)
+  by_test false e rest =
+      let none : bit (p m) ≡ 0 = rw e refl in
+      let found = rest (omega (arith, some, none, sum_by-cons (λ x. cond (p x) 1 0) m mails)) in
+      (suc found.0, found.1, found.2, found.3)
+
+-- what a mail weighs is within the weight of all
+pub weight-within : (f : Mail → ℕ) (mails : List Mail) (place : ℕ) (m : Mail) → slice_get mails place ≡ Some m → f m ≤ sum_by f mails
+weight-within f mails place m found = omega (arith, sum_by-without f mails place m found)
+
+pub place-counted : (p : Mail → Bool) (mails : List Mail) (place : ℕ) (m : Mail) → slice_get mails place ≡ Some m → p m ≡ true → 1 ≤ count_by p mails
+place-counted p mails place m found pass =
+    let one : bit (p m) ≡ 1 = rw pass refl in
+    omega (arith, one, weight-within (λ x. cond (p x) 1 0) mails place m found)
+
+pub passes-somewhere : (p : Mail → Bool) (mails : List Mail) → (1 ≤ count_by p mails) ↔ ((place : ℕ) × (m : Mail) × (slice_get mails place ≡ Some m) × (p m ≡ true))
+passes-somewhere p mails =
+    (counted-place p mails, λ found. place-counted p mails found.0 found.1 found.2 found.3)
+
+-- a mail that is counted by its id is found by it
+pub found-counted : (id : MailId) (mails : List Mail) → 1 ≤ count_of id mails → (place : ℕ) × (m : Mail) × IsFound id mails place m
+found-counted id mails some = by_place (position (of_id id) mails) refl where
+  by_mail : (place : ℕ) (o : Option Mail) → position (of_id id) mails ≡ Some place → slice_get mails place ≡ o → (at : ℕ) × (m : Mail) × IsFound id mails at m
+  by_mail place None e f =
+      let cases = slice_get_cases mails place in
+      absurd (grind (arith, nat_tests))
+  by_mail place (Some m) e f =
+      let is : taken id mails ≡ (Some m, without place mails) = rw (e, f) refl in
+      (place, m, record { here = f; named = found_has_id id mails place m e f; takes = is })
+
+  by_place : (o : Option ℕ) → position (of_id id) mails ≡ o → (place : ℕ) × (m : Mail) × IsFound id mails place m
+  by_place None e =
+      absurd (omega (arith, some, (position-none (of_id id) mails).0 (rw e refl)))
+  by_place (Some place) e = by_mail place (slice_get mails place) e refl
+
+-- what is taken stood at a place
+pub taken-place : (id : MailId) (mails : List Mail) (m : Mail) → (taken id mails).0 ≡ Some m → (place : ℕ) × IsFound id mails place m
+taken-place id mails m took = by_place (position (of_id id) mails) refl where
+  by_place : (o : Option ℕ) → position (of_id id) mails ≡ o → (place : ℕ) × IsFound id mails place m
+  by_place None e = let never = rw e at took in absurd (cc)
+  by_place (Some place) e =
+      let here = rw e at took in
+      let is : taken id mails ≡ (Some m, without place mails) = rw (e, here) refl in
+      (place, record { here = here; named = found_has_id id mails place m e here; takes = is })
+
+pub taken-none : (id : MailId) (mails : List Mail) → count_of id mails ≡ 0 → taken id mails ≡ (None, mails)
+taken-none id mails none = by_place (position (of_id id) mails) refl where
+  by_place : (o : Option ℕ) → position (of_id id) mails ≡ o → taken id mails ≡ (None, mails)
+  by_place None e = rw e refl
+  by_place (Some place) e =
+      let never = (position-none (of_id id) mails).1 none in
+      absurd (cc)
+
+pub sum_by-taken : (f : Mail → ℕ) (id : MailId) (mails : List Mail) (m : Mail) → (taken id mails).0 ≡ Some m → sum_by f (taken id mails).1 + f m ≡ sum_by f mails
+sum_by-taken f id mails m took =
+    let found = taken-place id mails m took in
+    rw found.1.takes (sum_by-without f mails found.0 m found.1.here)
+
+-- counts of ids
+pub count_of-posted : (id : MailId) (mails : List Mail) (m : Mail) → count_of id (posted m mails) ≡ count_of id mails + bit (same_id m.id id)
+count_of-posted id mails m = sum_by_push (λ x. cond (of_id id x) 1 0) mails m
+
+pub count_of-taken : (id : MailId) (mails : List Mail) → AreDistinct mails → count_of id (taken id mails).1 ≡ 0
+count_of-taken id mails distinct = by_count (nat_lt 0 (count_of id mails)) refl where
+  by_count : (t : Bool) → nat_lt 0 (count_of id mails) ≡ t → count_of id (taken id mails).1 ≡ 0
+  by_count true e =
+      let found = found-counted id mails (ltb-true 0 (count_of id mails) e) in
+      let m = found.1 in
+      let same : bit (same_id m.id id) ≡ 1 = rw (found.2.named, same_id-refl id) refl in
+      rw found.2.takes (omega (arith, distinct id, same, sum_by-without (λ x. cond (of_id id x) 1 0) mails found.0 m found.2.here))
+  by_count false e =
+      let none : count_of id mails ≡ 0 = grind (arith, nat_tests) in
+      rw (taken-none id mails none) none
+
+pub count_of-taken_other : (id other : MailId) (mails : List Mail) → same_id id other ≡ false → count_of other (taken id mails).1 ≡ count_of other mails
+count_of-taken_other id other mails differ = by_count (nat_lt 0 (count_of id mails)) refl where
+  by_count : (t : Bool) → nat_lt 0 (count_of id mails) ≡ t → count_of other (taken id mails).1 ≡ count_of other mails
+  by_count true e =
+      let found = found-counted id mails (ltb-true 0 (count_of id mails) e) in
+      let m = found.1 in
+      let none : bit (same_id m.id other) ≡ 0 = rw (found.2.named, differ) refl in
+      rw found.2.takes (omega (arith, none, sum_by-without (λ x. cond (of_id other x) 1 0) mails found.0 m found.2.here))
+  by_count false e =
+      let none : count_of id mails ≡ 0 = grind (arith, nat_tests) in
+      rw (taken-none id mails none) refl
+
+pub AreDistinct-taken : (id : MailId) (mails : List Mail) → AreDistinct mails → AreDistinct (taken id mails).1
+AreDistinct-taken id mails distinct = by_place (position (of_id id) mails) where
+  by_place : (o : Option ℕ) → AreDistinct (taken_at mails o).1
+  by_place None = distinct
+  by_place (Some place) = AreDistinct-without mails place distinct
+
+-- where no mail passes a test, none that stands at a place does
+pub uncounted : (p : Mail → Bool) (mails : List Mail) (place : ℕ) (m : Mail) → count_by p mails ≡ 0 → slice_get mails place ≡ Some m → p m ≡ false
+uncounted p mails place m none here = by_test (p m) refl where
+  by_test : (t : Bool) → p m ≡ t → p m ≡ false
+  by_test true e = absurd (omega (arith, none, place-counted p mails place m here e))
+  by_test false e = e
+
+-- where the mails weigh something, one of them does
+pub weight-somewhere : (f : Mail → ℕ) (mails : List Mail) → 1 ≤ sum_by f mails → (place : ℕ) × (m : Mail) × (slice_get mails place ≡ Some m) × (1 ≤ f m)
+weight-somewhere f [] some = absurd (omega arith)
+weight-somewhere f (m ∷ mails) some = by_test (nat_lt 0 (f m)) refl (weight-somewhere f mails) where
+  by_test : (t : Bool) → nat_lt 0 (f m) ≡ t → (1 ≤ sum_by f mails → (place : ℕ) × (x : Mail) × (slice_get mails place ≡ Some x) × (1 ≤ f x)) → (place : ℕ) × (x : Mail) × (slice_get (m ∷ mails) place ≡ Some x) × (1 ≤ f x)
+  by_test true e rest = (0, m, refl, grind (arith, nat_tests))
+  by_test false e rest =
+      let none = ltb-false 0 (f m) e in
+      let found = rest (omega (arith, some, none, sum_by-cons f m mails)) in
+      (suc found.0, found.1, found.2, found.3)
+
+-- weights that agree on each mail add up to the same, and two weights add up side by side
+pub weight-same : (f g : Mail → ℕ) (mails : List Mail) → ((m : Mail) → f m ≡ g m) → sum_by f mails ≡ sum_by g mails
+weight-same f g [] same = refl
+weight-same f g (m ∷ mails) same =
+    omega (arith, same m, weight-same f g mails same, sum_by-cons f m mails, sum_by-cons g m mails)
+
+pub weight-both : (f g : Mail → ℕ) (mails : List Mail) → sum_by (λ m. f m + g m) mails ≡ sum_by f mails + sum_by g mails
+weight-both f g [] = refl
+weight-both f g (m ∷ mails) =
+    omega (arith, weight-both f g mails, sum_by-cons (λ x. f x + g x) m mails, sum_by-cons f m mails, sum_by-cons g m mails)

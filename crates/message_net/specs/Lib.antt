@@ -1,3 +1,4 @@
 pub mod Kind
 pub mod Id
 pub mod Pool
+pub mod Mail

@@ -1,5 +1,5 @@
 -- The mails in flight, as a list whose order is part of what the calls promise.
-use Rattle.std.specs.Prelude.{ℕ, ◌≤◌, Bool, List, [], ◌∷◌, ◌++◌, length, slice_get, Option, Some, None, count_by, position}
+use Rattle.std.specs.Prelude.{◌≡◌, ℕ, ◌≤◌, Bool, nat_lt, List, [], ◌∷◌, ◌++◌, length, slice_get, Option, Some, None, count_by, position}
 use Rattle.std.specs.List.{swap_remove}
 use Rattle.message_net.specs.declared.actor.MailId.{MailId}
 use Rattle.message_net.specs.declared.message.Mail.{Mail}
@@ -17,6 +17,10 @@ of_id id m = same_id m.id id
 -- how many mails have this id
 abbrev pub count_of : MailId → List Mail → ℕ
 count_of id mails = count_by (of_id id) mails
+
+-- whether some mail has this id
+abbrev pub has_id : MailId → List Mail → Bool
+has_id id mails = nat_lt 0 (count_of id mails)
 
 -- no two mails have one id
 abbrev pub AreDistinct : List Mail → Type 0
@@ -46,3 +50,9 @@ taken_at mails (Some place) = (slice_get mails place, without place mails)
 
 abbrev pub taken : MailId → List Mail → Option Mail × List Mail
 taken id mails = taken_at mails (position (of_id id) mails)
+
+-- where the mail with an id stands, and that a take by the id gives it and leaves the others
+pub record IsFound (id : MailId) (mails : List Mail) (place : ℕ) (m : Mail) : Type 0 where
+  pub here : slice_get mails place ≡ Some m
+  pub named : m.id ≡ id
+  pub takes : taken id mails ≡ (Some m, without place mails)

@@ -1,5 +1,6 @@
 ghost use Rattle.std.specs.Prelude.{◌≡◌};
 ghost use Rattle.message_net.specs.Id.{same_id};
+ghost use Rattle.message_net.specs.Mail.{place_of};
 
 use dn_base::{BankId, CoreId};
 
@@ -23,4 +24,18 @@ pub(crate) fn is_same(a: MailId, b: MailId) -> bool
     ensures { result ≡ same_id a b }
 {
     a == b
+}
+
+impl Actor {
+    /// The place of the actor among all of a machine with so many cores and banks: cores come first, then banks, then the
+    /// keeper.
+    pub fn place(&self, cores: u32, banks: u32) -> usize
+        ensures { result ≡ place_of cores banks self.now }
+    {
+        match self {
+            Actor::Core(core) => core.0 as usize,
+            Actor::Bank(bank) => cores as usize + bank.0 as usize,
+            Actor::Keeper => cores as usize + banks as usize,
+        }
+    }
 }

@@ -1,9 +1,12 @@
 //! What posts and takes come to, for whoever reasons about mails in flight.
-ghost use Rattle.std.specs.Prelude.{◌≡◌, ℕ, ◌+◌, ◌↔◌, List, length, slice_get, Some, true, sum_by};
+ghost use Rattle.std.specs.Prelude.{◌≡◌, ℕ, ◌+◌, ◌<◌, ◌≤◌, ◌↔◌, Bool, List, length, slice_get, Some, None, true, sum_by, count_by, IsPermutation};
+ghost use Rattle.message_net.specs.declared.actor.Actor.{Actor};
 ghost use Rattle.message_net.specs.declared.actor.MailId.{MailId};
 ghost use Rattle.message_net.specs.declared.message.Mail.{Mail};
+ghost use Rattle.message_net.specs.declared.message.Outgoing.{Outgoing};
 ghost use Rattle.message_net.specs.Id.{same_id};
-ghost use Rattle.message_net.specs.Pool.{count_of, AreDistinct, posted, without, taken};
+ghost use Rattle.message_net.specs.Pool.{count_of, AreDistinct, IsFound, posted, without, taken};
+ghost use Rattle.message_net.specs.Mail.{has_actor, place_of, mails_of, all_mails};
 
 /// Two ids pass the test exactly where they are equal.
 pub fn equal_ids_are_the_same()
@@ -22,6 +25,45 @@ pub fn a_take_frees_one_mail()
         → sum_by f (without place mails) + f m ≡ sum_by f mails }
     ensures length { (mails : List Mail) (place : ℕ) (m : Mail) → slice_get mails place ≡ Some m
         → length (without place mails) + 1 ≡ length mails }
+    ensures by_id { (f : Mail → ℕ) (id : MailId) (mails : List Mail) (m : Mail) → (taken id mails).0 ≡ Some m
+        → sum_by f (taken id mails).1 + f m ≡ sum_by f mails }
+{}
+
+/// At least one mail passes a test exactly where a mail that passes it stands at some place.
+pub fn a_counted_mail_stands_somewhere()
+    ensures { (p : Mail → Bool) (mails : List Mail)
+        → (1 ≤ count_by p mails) ↔ ((place : ℕ) × (m : Mail) × (slice_get mails place ≡ Some m) × (p m ≡ true)) }
+{}
+
+/// Where an id is counted its mail is found, and where it isn't nothing is taken.
+pub fn a_counted_id_is_found()
+    ensures some { (id : MailId) (mails : List Mail) → 1 ≤ count_of id mails → (place : ℕ) × (m : Mail) × IsFound id mails place m }
+    ensures none { (id : MailId) (mails : List Mail) → count_of id mails ≡ 0 → taken id mails ≡ (None, mails) }
+{}
+
+/// Each actor of a machine has a place of its own among the places of all.
+pub fn actors_have_places_of_their_own()
+    ensures within { (cores banks : ℕ) (a : Actor) → has_actor cores banks a ≡ true → place_of cores banks a < cores + banks + 1 }
+    ensures own { (cores banks : ℕ) (a b : Actor) → has_actor cores banks a ≡ true → has_actor cores banks b ≡ true
+        → place_of cores banks a ≡ place_of cores banks b → a ≡ b }
+{}
+
+/// The same mails in another order weigh the same, whatever the weights are, and the same is taken from them and left of
+/// them.
+pub fn the_order_of_mails_does_not_matter()
+    ensures weight { (f : Mail → ℕ) (xs ys : List Mail) → IsPermutation xs ys → sum_by f ys ≡ sum_by f xs }
+    ensures posted { (xs ys : List Mail) (m : Mail) → IsPermutation xs ys → IsPermutation (posted m xs) (posted m ys) }
+    ensures taken { (id : MailId) (xs ys : List Mail) → AreDistinct xs → IsPermutation xs ys → (taken id xs).0 ≡ (taken id ys).0 }
+    ensures rest { (id : MailId) (xs ys : List Mail) → AreDistinct xs → IsPermutation xs ys
+        → IsPermutation (taken id xs).1 (taken id ys).1 }
+{}
+
+/// Messages that are sent one after the other add their mails to those in flight.
+pub fn all_mails_are_added()
+    ensures weight { (f : Mail → ℕ) (from : Actor) (number : ℕ) (outs : List Outgoing) (mails : List Mail)
+        → sum_by f (all_mails from number outs mails) ≡ sum_by f mails + sum_by f (mails_of from number outs) }
+    ensures length { (from : Actor) (number : ℕ) (outs : List Outgoing) (mails : List Mail)
+        → length (all_mails from number outs mails) ≡ length mails + length outs }
 {}
 
 /// Ids stay distinct.

@@ -1,9 +1,10 @@
-ghost use Rattle.std.specs.Prelude.{◌≡◌};
+ghost use Rattle.std.specs.Prelude.{◌≡◌, ◌<◌, Some};
 ghost use Rattle.message_net.specs.Kind.{kind_of};
+ghost use Rattle.message_net.specs.Mail.{to_core, to_home, to_keeper, mail_of};
 
 use crate::actor::{Actor, MailId};
 use crate::event::EventKind;
-use dn_base::{CoreId, LockId, PhaseId, WordId};
+use dn_base::{BankId, CoreId, LockId, PhaseId, WordId};
 use write_signature::Signature;
 
 /// What one actor tells another.
@@ -112,6 +113,53 @@ impl Message {
             Message::Arrived { .. } => EventKind::Arrived,
             Message::Go { .. } => EventKind::Go,
             Message::Halt => EventKind::Halt,
+        }
+    }
+}
+
+impl Outgoing {
+    /// A message to a core.
+    pub fn to_core(core: CoreId, message: Message) -> Outgoing
+        ensures { Some result ≡ to_core core message }
+    {
+        Outgoing {
+            to: Actor::Core(core),
+            message,
+        }
+    }
+
+    /// A message to the home of the word or lock with this number, in a machine with so many banks.
+    pub fn to_home(banks: u32, number: u32, message: Message) -> Outgoing
+        requires { 0 < banks }
+        ensures { Some result ≡ to_home banks number message }
+    {
+        Outgoing {
+            to: Actor::Bank(BankId(number % banks)),
+            message,
+        }
+    }
+
+    /// A message to the keeper of the barrier.
+    pub fn to_keeper(message: Message) -> Outgoing
+        ensures { Some result ≡ to_keeper message }
+    {
+        Outgoing {
+            to: Actor::Keeper,
+            message,
+        }
+    }
+
+    /// The mail that the message becomes, with its sender and that sender's number for it.
+    pub fn mail(&self, from: Actor, number: u32) -> Mail
+        ensures { result ≡ mail_of from number self.now }
+    {
+        Mail {
+            id: MailId {
+                sender: from,
+                number,
+            },
+            to: self.to,
+            message: self.message,
         }
     }
 }

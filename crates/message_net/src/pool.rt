@@ -1,6 +1,6 @@
-ghost use Rattle.std.specs.Prelude.{◌≡◌, ◌+◌, ◌<◌, ◌≤◌, ◌↔◌, [], length, slice_get, position, Some, vec_len, OnOk, OnErr, IfSome, IsNone};
+ghost use Rattle.std.specs.Prelude.{◌≡◌, ◌+◌, ◌<◌, ◌≤◌, ◌↔◌, [], length, slice_get, position, Some, vec_len, OnOk, OnErr, IfSome, IfNone, IsNone};
 ghost use Rattle.std.specs.Vec.{vec_capacity};
-ghost use Rattle.message_net.specs.Pool.{of_id, count_of, AreDistinct, posted, without, taken};
+ghost use Rattle.message_net.specs.Pool.{of_id, count_of, has_id, AreDistinct, posted, without, taken};
 
 use crate::actor::{MailId, is_same};
 use crate::message::Mail;
@@ -100,31 +100,42 @@ impl Pool {
         requires room { length self.old.mails < 4294967295 }
         requires spare { 1 ≤ self.old.spare }
         ensures mails { self.new.mails ≡ posted mail self.old.mails }
-        ensures spare { self.old.spare ≤ self.new.spare + 1 }
+        ensures spare { self.new.spare + 1 ≡ self.old.spare }
     {
         self.row.push_reserved(mail);
     }
 
-    /// Takes the mail with this id out; the last mail moves into the free place. None where no mail has the id.
+    /// Takes the mail with this id out; the last mail moves into the free place, and the room of the mail is spare. None
+    /// where no mail has the id, and the pool is then as before. Takes no memory.
     pub fn take(&mut self, id: MailId) -> Option<Mail>
         ensures value { result ≡ (taken id self.old.mails).0 }
         ensures rest { self.new.mails ≡ (taken id self.old.mails).1 }
         ensures some { IfSome result (λ mail. mail.id ≡ id) }
         ensures none { IsNone result ↔ (count_of id self.old.mails ≡ 0) }
-        ensures spare { self.old.spare ≤ self.new.spare }
+        ensures spare { IfSome result (λ mail. self.new.spare ≡ self.old.spare + 1) }
+        ensures never_less { self.old.spare ≤ self.new.spare }
+        ensures same { IfNone result (self.new ≡ self.old) }
     {
         let place = place_of(self.row.as_slice(), id)?;
         Some(take_out(&mut self.row, place))
     }
 
-    /// Takes the mail at this place out; the last mail moves into the free place. It looks for nothing.
+    /// Takes the mail at this place out; the last mail moves into the free place, and the room of the mail is spare. It looks
+    /// for nothing, and takes no memory.
     pub fn take_at(&mut self, place: u32) -> Mail
         requires { place < length self.old.mails }
         ensures value { slice_get self.old.mails place ≡ Some result }
         ensures rest { self.new.mails ≡ without place self.old.mails }
-        ensures spare { self.old.spare ≤ self.new.spare }
+        ensures spare { self.new.spare ≡ self.old.spare + 1 }
     {
         take_out(&mut self.row, place as usize)
+    }
+
+    /// Whether there is a mail with this id.
+    pub fn has(&self, id: MailId) -> bool
+        ensures { result ≡ has_id id self.now.mails }
+    {
+        place_of(self.row.as_slice(), id).is_some()
     }
 
     /// How many mails there are.

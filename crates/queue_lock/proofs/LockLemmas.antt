@@ -8,7 +8,7 @@ use Rattle.std.proofs.lemmas.Bool.Decides.{nat_tests}
 use Rattle.dn_base.specs.declared.ids.CoreId.{CoreId}
 use Rattle.write_signature.specs.declared.signature.Signature.{Signature}
 use Rattle.circular_buffer.specs.Buffer.{Buffer, buffer}
-use Rattle.queue_lock.specs.Lock.{Lock, IsLock, free_lock, is_core, waits, places_of, queued, asked, acquired, handed_on, given_up, released, holder_count}
+use Rattle.queue_lock.specs.Lock.{Lock, IsLock, free_lock, is_core, waits, places_of, queued, asked, acquired, handed_on, given_up, released}
 use Rattle.write_signature.specs.Signature.{joined}
 
 -- what passes a test weighs 1
@@ -91,17 +91,6 @@ IsLock-released h core s good = by_holder h.holder where
 pub waits-stands : (core : ℕ) (queue : List CoreId) → (waits core queue ≡ true) ↔ (1 ≤ places_of core queue)
 waits-stands core [] = ((λ e. cc), (λ some. absurd (omega arith)))
 waits-stands core (d ∷ queue) = grind (arith, nat_tests, waits-stands core queue, places_of-cons core d queue)
-
-pub asker : (h : Lock) (core : CoreId) (d : ℕ) → waits core.0 h.queue ≡ false → length h.queue < h.capacity → places_of d (queued h core).queue ≡ places_of d h.queue + bit (core.0 == d)
-asker h core d absent room =
-    let fits : nat_le h.capacity (length h.queue) ≡ false = grind (arith, nat_tests) in
-    rw (absent, fits) (places_of-push d h.queue core)
-
-pub first : (h : Lock) (d : ℕ) → places_of d (handed_on h h.queue).0.queue + holder_count d (handed_on h h.queue).0.holder ≡ places_of d h.queue
-first h d = by_queue h.queue refl where
-  by_queue : (queue : List CoreId) → h.queue ≡ queue → places_of d (handed_on h queue).0.queue + holder_count d (handed_on h queue).0.holder ≡ places_of d queue
-  by_queue [] e = rw e refl
-  by_queue (x ∷ xs) e = omega (arith, places_of-cons d x xs)
 
 -- how many places the first cores have together
 total : ℕ → List CoreId → ℕ

@@ -1,6 +1,6 @@
 -- A lock at its home: who holds it, who waits for it, and which words were written under it.
-use Rattle.std.specs.Prelude.{◌≡◌, ℕ, ◌≤◌, Bool, ◌||◌, ◌==◌, nat_le, List, [], ◌∷◌, ◌++◌, length, Option, Some, None, if◌then◌else◌, count_by}
-use Rattle.std.specs.List.{list_any}
+use Rattle.std.specs.Prelude.{◌≡◌, ℕ, ◌<◌, ◌≤◌, Bool, ◌||◌, ◌==◌, nat_le, List, [], ◌∷◌, ◌++◌, length, Option, Some, None, if◌then◌else◌, count_by}
+use Rattle.std.specs.List.{list_any, All}
 use Rattle.dn_base.specs.declared.ids.CoreId.{CoreId}
 use Rattle.write_signature.specs.declared.signature.Signature.{Signature}
 use Rattle.write_signature.specs.Signature.{empty, joined}
@@ -35,6 +35,13 @@ pub record IsLock (h : Lock) : Type 0 where
   pub once : (core : ℕ) → places_of core h.queue ≤ 1
   pub within : length h.queue ≤ h.capacity
 
+-- what is true of every lock of a machine with so many cores: only they hold it and wait for it, and all of them may wait
+pub record IsLockOf (cores : ℕ) (h : Lock) : Type 0 where
+  pub lock : IsLock h
+  pub room : h.capacity ≡ cores
+  pub holder : (core : CoreId) → h.holder ≡ Some core → core.0 < cores
+  pub queue : All (λ (core : CoreId). core.0 < cores) h.queue
+
 -- a core asks for a lock that is held: it goes to the end of the queue, unless it waits already or the queue is full
 abbrev pub queued : Lock → CoreId → Lock
 queued h core =
@@ -67,3 +74,13 @@ released h core signature = given_up h core signature h.holder
 abbrev pub holder_count : ℕ → Option CoreId → ℕ
 holder_count core None = 0
 holder_count core (Some holder) = if is_core core holder then 1 else 0
+
+-- whether an acquire of `asker` is granted to this core, as a number
+abbrev pub grant_count : ℕ → CoreId → Option Signature → ℕ
+grant_count core asker None = 0
+grant_count core asker (Some signature) = if is_core core asker then 1 else 0
+
+-- whether a release is answered to this core, as a number
+abbrev pub next_count : ℕ → Option (CoreId × Signature) → ℕ
+next_count core None = 0
+next_count core (Some next) = if is_core core next.0 then 1 else 0

@@ -1,9 +1,10 @@
 //! What acquires and releases come to, for whoever reasons about a lock's holder and queue.
-ghost use Rattle.std.specs.Prelude.{◌≡◌, ◌↔◌, ℕ, ◌+◌, ◌<◌, ◌≤◌, false, true, if◌then◌else◌, List, length};
+ghost use Rattle.std.specs.Prelude.{◌≡◌, ◌↔◌, ℕ, ◌+◌, ◌<◌, ◌≤◌, ◌==◌, true, if◌then◌else◌, List, length, Some, None};
 ghost use Rattle.std.specs.List.{All};
 ghost use Rattle.dn_base.specs.declared.ids.CoreId.{CoreId};
 ghost use Rattle.write_signature.specs.declared.signature.Signature.{Signature};
-ghost use Rattle.queue_lock.specs.Lock.{Lock, IsLock, free_lock, is_core, waits, places_of, queued, handed_on, acquired, released, holder_count};
+ghost use Rattle.write_signature.specs.Signature.{joined};
+ghost use Rattle.queue_lock.specs.Lock.{Lock, IsLock, IsLockOf, free_lock, is_core, waits, places_of, acquired, released, holder_count, grant_count, next_count};
 
 /// A free lock has an empty queue, and no core stands in a queue twice, whatever is asked and given up.
 pub fn locks_stay_well_formed()
@@ -12,24 +13,60 @@ pub fn locks_stay_well_formed()
     ensures released { (h : Lock) (core : CoreId) (signature : Signature) → IsLock h → IsLock (released h core signature).0 }
 {}
 
+/// The locks of a machine stay so, whatever its cores ask and anyone gives up.
+pub fn locks_stay_the_machines()
+    ensures free { (cores : ℕ) → IsLockOf cores (free_lock cores) }
+    ensures acquired { (cores : ℕ) (h : Lock) (core : CoreId) → IsLockOf cores h → core.0 < cores → IsLockOf cores (acquired h core).0 }
+    ensures released { (cores : ℕ) (h : Lock) (core : CoreId) (signature : Signature) → IsLockOf cores h
+        → IsLockOf cores (released h core signature).0 }
+{}
+
 /// A core waits exactly where it stands in the queue.
 pub fn who_waits_stands_in_the_queue()
     ensures { (core : ℕ) (queue : List CoreId) → (waits core queue ≡ true) ↔ (1 ≤ places_of core queue) }
 {}
 
-/// A core that did not wait stands once more, and every other core as often as before.
-pub fn a_new_asker_stands_in_the_queue()
-    ensures { (h : Lock) (core : CoreId) (d : ℕ) → waits core.0 h.queue ≡ false → length h.queue < h.capacity
-        → places_of d (queued h core).queue ≡ places_of d h.queue + (if is_core d core then 1 else 0) }
-{}
-
-/// The first in the queue leaves it and holds the lock, and no other core's place is lost.
-pub fn the_first_in_the_queue_becomes_the_holder()
-    ensures { (h : Lock) (d : ℕ) → places_of d (handed_on h h.queue).0.queue + holder_count d (handed_on h h.queue).0.holder ≡ places_of d h.queue }
-{}
-
-/// A queue in which each of the cores stands at most once, and one of them not at all, has fewer than all of them.
+/// A queue in which each of the cores stands at most once, and one of them not at all, has fewer than all of them; so the
+/// queue of a machine's lock has room for a core that doesn't stand in it.
 pub fn a_queue_without_a_core_has_room()
-    ensures { (queue : List CoreId) (cores core : ℕ) → All (λ (d : CoreId). d.0 < cores) queue → ((d : ℕ) → places_of d queue ≤ 1)
+    ensures queue { (queue : List CoreId) (cores core : ℕ) → All (λ (d : CoreId). d.0 < cores) queue → ((d : ℕ) → places_of d queue ≤ 1)
         → core < cores → places_of core queue ≡ 0 → length queue < cores }
+    ensures lock { (cores : ℕ) (h : Lock) (core : CoreId) → IsLockOf cores h → core.0 < cores → places_of core.0 h.queue ≡ 0
+        → length h.queue < h.capacity }
+{}
+
+/// At most one core holds a lock.
+pub fn one_core_holds_a_lock()
+    ensures { (h : Lock) (c d : ℕ) → holder_count c h.holder + holder_count d h.holder ≤ 1 + (if c == d then 1 else 0) }
+{}
+
+/// An acquire grants a free lock, with the signature that is kept, or has its core wait; no other core's place changes.
+pub fn an_acquire_counts_its_core()
+    ensures holder { (h : Lock) (core : CoreId) (d : ℕ)
+        → holder_count d (acquired h core).0.holder ≡ holder_count d h.holder + grant_count d core (acquired h core).1 }
+    ensures queue { (h : Lock) (core : CoreId) (d : ℕ) → places_of core.0 h.queue ≡ 0 → length h.queue < h.capacity
+        → places_of d (acquired h core).0.queue + grant_count d core (acquired h core).1
+        ≡ places_of d h.queue + (if is_core d core then 1 else 0) }
+    ensures kept { (h : Lock) (core : CoreId) → (acquired h core).0.kept ≡ h.kept }
+    ensures answer { (h : Lock) (core : CoreId) (signature : Signature) → (acquired h core).1 ≡ Some signature
+        → (h.holder ≡ None) × (signature ≡ h.kept) }
+{}
+
+/// A release from the holder gives the lock to the first that waits, with both signatures joined; no other core's place
+/// changes.
+pub fn a_release_hands_the_lock_on()
+    ensures holder { (h : Lock) (core : CoreId) (signature : Signature) (d : ℕ) → holder_count core.0 h.holder ≡ 1
+        → holder_count d (released h core signature).0.holder ≡ next_count d (released h core signature).1 }
+    ensures queue { (h : Lock) (core : CoreId) (signature : Signature) (d : ℕ) → holder_count core.0 h.holder ≡ 1
+        → places_of d (released h core signature).0.queue + next_count d (released h core signature).1 ≡ places_of d h.queue }
+    ensures kept { (h : Lock) (core : CoreId) (signature : Signature) → holder_count core.0 h.holder ≡ 1
+        → (released h core signature).0.kept ≡ joined h.kept signature }
+    ensures answer { (h : Lock) (core next : CoreId) (signature told : Signature) → (released h core signature).1 ≡ Some (next, told)
+        → (holder_count core.0 h.holder ≡ 1) × (told ≡ joined h.kept signature) × ((released h core signature).0.holder ≡ Some next) }
+{}
+
+/// A release from anyone else changes nothing and is answered to no one.
+pub fn a_release_of_another_changes_nothing()
+    ensures { (h : Lock) (core : CoreId) (signature : Signature) → holder_count core.0 h.holder ≡ 0
+        → released h core signature ≡ (h, None) }
 {}

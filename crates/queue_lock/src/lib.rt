@@ -11,7 +11,8 @@ mod lock;
 mod tests;
 
 pub use laws::{
-    a_new_asker_stands_in_the_queue, a_queue_without_a_core_has_room, locks_stay_well_formed,
-    the_first_in_the_queue_becomes_the_holder, who_waits_stands_in_the_queue,
+    a_queue_without_a_core_has_room, a_release_hands_the_lock_on,
+    a_release_of_another_changes_nothing, an_acquire_counts_its_core, locks_stay_the_machines,
+    locks_stay_well_formed, one_core_holds_a_lock, who_waits_stands_in_the_queue,
 };
 pub use lock::LockHome;

@@ -5,3 +5,6 @@ pub mod CommonLemmas
 pub mod RegionLemmas
 pub mod ProgramLemmas
 pub mod PlanLemmas
+pub mod TaskLemmas
+pub mod WrittenLemmas
+pub mod NumberLemmas

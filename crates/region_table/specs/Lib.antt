@@ -3,3 +3,5 @@ pub mod Program
 pub mod Merging
 pub mod Plan
 pub mod Overlap
+pub mod Tasks
+pub mod Numbers

@@ -4,7 +4,9 @@
 
 mod declared;
 mod interval;
+mod laws;
 mod merging;
+mod numbers;
 mod plan;
 mod program;
 mod regions;
@@ -15,6 +17,10 @@ mod words;
 
 pub use declared::{Effects, Phase, Region, TaskDecl};
 pub use interval::Interval;
+pub use laws::{
+    a_core_has_one_task_in_a_phase, a_plan_has_the_words_of_its_tasks, a_program_has_words,
+    a_program_is_well_formed,
+};
 pub use plan::{PhasePlan, plans};
 pub use program::Program;
 pub use words::WordSet;

@@ -13,11 +13,12 @@ use Rattle.word_cache.proofs.LookLemmas.{lookup-without, lookup-put, lookup-chan
 use Rattle.registration_protocol.specs.declared.node.NodeWait as wait
 use Rattle.registration_protocol.specs.Node.{NodeParts, Setting, entry_of}
 use Rattle.registration_protocol.specs.OwnEvents.{stored, evicts}
-use Rattle.registration_protocol.specs.Messages.{ack_row, forward_row, gone_row, read_row, data_row}
+use Rattle.message_net.specs.declared.message.Message.TheVariants.{RegAck, RegFwd, ReadFwd, WbAck, DataReply}
+use Rattle.registration_protocol.specs.Messages.{node_gets, ack_row, forward_row, gone_row, read_row, data_row}
 use Rattle.registration_protocol.specs.Changes.{acknowledged, forwarded, given_back, given_up}
 
 -- what a word has that has an entry's change
-at_word : (f : Option Entry → Option Entry) (w v : ℕ) (ps : List Pair) (e r : Option Entry) → lookup w ps ≡ e → f e ≡ r → cond (w == v) r (lookup v ps) ≡ cond (w == v) (f (lookup v ps)) (lookup v ps)
+pub at_word : (f : Option Entry → Option Entry) (w v : ℕ) (ps : List Pair) (e r : Option Entry) → lookup w ps ≡ e → f e ≡ r → cond (w == v) r (lookup v ps) ≡ cond (w == v) (f (lookup v ps)) (lookup v ps)
 at_word f w v ps e r is gives = by_test (w == v) refl
   where
     by_test : (b : Bool) → (w == v) ≡ b → cond b r (lookup v ps) ≡ cond b (f (lookup v ps)) (lookup v ps)
@@ -35,7 +36,7 @@ same_entry w v ps e is = by_test (w == v) refl
         ap (λ (x : ℕ). lookup x ps) (sym same) ∙ is
     by_test false test = refl
 
-steady : (f : Option Entry → Option Entry) (w v : ℕ) (ps : List Pair) (e : Option Entry) → lookup w ps ≡ e → f e ≡ e → lookup v ps ≡ cond (w == v) (f (lookup v ps)) (lookup v ps)
+pub steady : (f : Option Entry → Option Entry) (w v : ℕ) (ps : List Pair) (e : Option Entry) → lookup w ps ≡ e → f e ≡ e → lookup v ps ≡ cond (w == v) (f (lookup v ps)) (lookup v ps)
 steady f w v ps e is stays = same_entry w v ps e is ∙ at_word f w v ps e e is stays
 
 taken_out : (f : Option Entry → Option Entry) (w v : ℕ) (ps : List Pair) (e : Option Entry) → lookup w ps ≡ e → f e ≡ None → lookup v (without w ps) ≡ cond (w == v) (f (lookup v ps)) (lookup v ps)
@@ -88,3 +89,27 @@ data-entry n word value v waits none room =
 pub store-entry : (C : Setting) (n : NodeParts) (d : TaskDecl) (t : TaskState) (word : WordId) (e : Entry) (v : ℕ)
     → entry_of (stored C n d t word e) v ≡ cond (word.0 == v) (Some e) (entry_of n v)
 store-entry C n d t word e v = lookup-put word e v n.cache.pairs
+
+-- ---- from the message
+
+pub gets-ack : (C : Setting) (n : NodeParts) (word : WordId) (v : ℕ) → entry_of (node_gets C n (RegAck word)).0 v ≡ cond (word.0 == v) (acknowledged (entry_of n v)) (entry_of n v)
+unfolding node_gets
+gets-ack C n word v = ack-entry n word v (entry_of n word.0) refl
+
+pub gets-forward : (C : Setting) (n : NodeParts) (word : WordId) (core : CoreId) (v : ℕ)
+    → entry_of (node_gets C n (RegFwd word core)).0 v ≡ cond (word.0 == v) (forwarded (entry_of n v)) (entry_of n v)
+unfolding node_gets
+gets-forward C n word core v = forward-entry n word core v (entry_of n word.0) refl
+
+pub gets-back : (C : Setting) (n : NodeParts) (word : WordId) (v : ℕ) → entry_of (node_gets C n (WbAck word)).0 v ≡ cond (word.0 == v) (given_back (entry_of n v)) (entry_of n v)
+unfolding node_gets
+gets-back C n word v = back-entry n word v (entry_of n word.0) refl
+
+pub gets-read : (C : Setting) (n : NodeParts) (word : WordId) (reader : CoreId) → (node_gets C n (ReadFwd word reader)).0 ≡ n
+unfolding node_gets
+gets-read C n word reader = read-same C n word reader (entry_of n word.0)
+
+pub gets-data : (C : Setting) (n : NodeParts) (word : WordId) (value v : ℕ) → n.waiting ≡ wait.TheVariants.Reading word → entry_of n word.0 ≡ None → has_room n.cache word.0 ≡ true
+    → entry_of (node_gets C n (DataReply word value)).0 v ≡ cond (word.0 == v) (Some (Valid value false)) (entry_of n v)
+unfolding node_gets
+gets-data C n word value v waits none room = data-entry n word value v waits none room

@@ -1,7 +1,11 @@
 pub mod CacheLemmas
 pub mod EntryLemmas
+pub mod InstrLemmas
 pub mod FitLemmas
+pub mod MessageLemmas
+pub mod NameLemmas
 pub mod OwnLemmas
 pub mod PlaceLemmas
 pub mod SignatureLemmas
+pub mod SignLemmas
 pub mod TestLemmas

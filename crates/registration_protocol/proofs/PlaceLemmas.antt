@@ -1,5 +1,5 @@
 -- What an event leaves of a node.
-use Rattle.std.proofs.Common.{◌≡◌, ℕ, ◌==◌, Bool, true, false, cond, Option, Some, None, refl}
+use Rattle.std.proofs.Common.{◌≡◌, ℕ, ◌==◌, Bool, true, false, cond, List, Option, Some, None, refl}
 use Rattle.dn_base.specs.declared.ids.CoreId.{CoreId}
 use Rattle.dn_base.specs.declared.ids.LockId.{LockId}
 use Rattle.dn_base.specs.declared.ids.WordId.{WordId}
@@ -12,17 +12,26 @@ use Rattle.message_net.specs.declared.message.Message as message
 use Rattle.message_net.specs.declared.message.Message.{Message}
 use Rattle.word_cache.specs.declared.row.Entry.{Entry}
 use Rattle.word_cache.specs.declared.row.Entry.TheVariants.{Valid, Registered, Leaving}
-use Rattle.word_cache.specs.Cache.{has_room}
+use Rattle.word_cache.specs.Cache.{Pair, has_room}
 use Rattle.registration_protocol.specs.declared.node.NodeWait as wait
 use Rattle.registration_protocol.specs.declared.node.NodeWait.{NodeWait}
 use Rattle.registration_protocol.specs.declared.node.Received.{Received}
-use Rattle.registration_protocol.specs.Node.{NodeParts, Setting, declared, need_now, entry_of}
+use Rattle.region_table.specs.Tasks.{declared}
+use Rattle.registration_protocol.specs.Node.{NodeParts, Setting, need_now, entry_of, keeping}
 use Rattle.registration_protocol.specs.OwnEvents.{loads, stores, instr_row, instr_by, instructed, evicts, evicted}
-use Rattle.registration_protocol.specs.Messages.{names_own, node_gets, fills, data_row, ack_row, forward_row, read_row, gone_row, granted_to, grant_row, message_row}
-use Rattle.registration_protocol.specs.Changes.{is_from_keeper, KeepsPlace}
+use Rattle.registration_protocol.specs.Messages.{node_gets, fills, data_row, ack_row, forward_row, read_row, gone_row, granted_to, grant_row}
+use Rattle.registration_protocol.specs.Changes.{is_from_keeper, KeepsPlace, KeepsTask}
 
 same : (n : NodeParts) → KeepsPlace n n
 same n = record { core = refl; phase = refl; arrived = refl; halted = refl }
+
+all_same : (n : NodeParts) → KeepsTask n n
+all_same n = record { place = same n; task = refl; waiting = refl; signatures = refl; sets = refl; ways = refl }
+
+pub pairs_alone : (n : NodeParts) (ps : List Pair) → KeepsTask n (keeping n ps)
+pairs_alone n ps = record { place = record { core = refl; phase = refl; arrived = refl; halted = refl }; task = refl; waiting = refl; signatures = refl; sets = refl; ways = refl }
+
+-- ---- own events
 
 load_place : (C : Setting) (n : NodeParts) (d : TaskDecl) (t : TaskState) (word : WordId) (e : Option Entry) → KeepsPlace n (loads C n d t word e).0
 load_place C n d t word None = record { core = refl; phase = refl; arrived = refl; halted = refl }
@@ -52,17 +61,48 @@ instr_place C n (Some d) (Some t) None = same n
 instr_place C n (Some d) (Some t) (Some x) = row_place C n d t x
 
 pub instr-place : (C : Setting) (n : NodeParts) → KeepsPlace n (instructed C n).0
+unfolding instructed
 instr-place C n = instr_place C n (declared C.program n.phase n.core) n.task (need_now C n)
 
-evict_place : (C : Setting) (n : NodeParts) (word : WordId) (e : Option Entry) → KeepsPlace n (evicts C n word e).0
-evict_place C n word None = same n
-evict_place C n word (Some (Valid value marked)) = record { core = refl; phase = refl; arrived = refl; halted = refl }
-evict_place C n word (Some (Registered value true)) = same n
-evict_place C n word (Some (Registered value false)) = record { core = refl; phase = refl; arrived = refl; halted = refl }
-evict_place C n word (Some (Leaving value)) = same n
+evict_keeps : (C : Setting) (n : NodeParts) (word : WordId) (e : Option Entry) → KeepsTask n (evicts C n word e).0
+evict_keeps C n word None = all_same n
+evict_keeps C n word (Some (Valid value marked)) = pairs_alone n _
+evict_keeps C n word (Some (Registered value true)) = all_same n
+evict_keeps C n word (Some (Registered value false)) = pairs_alone n _
+evict_keeps C n word (Some (Leaving value)) = all_same n
 
-pub evict-place : (C : Setting) (n : NodeParts) (word : WordId) → KeepsPlace n (evicted C n word).0
-evict-place C n word = evict_place C n word (entry_of n word.0)
+pub evict-keeps : (C : Setting) (n : NodeParts) (word : WordId) → KeepsTask n (evicted C n word).0
+evict-keeps C n word = evict_keeps C n word (entry_of n word.0)
+
+-- ---- messages that change entries alone
+
+pub ack-keeps : (n : NodeParts) (word : WordId) (e : Option Entry) → KeepsTask n (ack_row n word e).0
+ack-keeps n word None = all_same n
+ack-keeps n word (Some (Valid value marked)) = all_same n
+ack-keeps n word (Some (Registered value true)) = pairs_alone n _
+ack-keeps n word (Some (Registered value false)) = all_same n
+ack-keeps n word (Some (Leaving value)) = all_same n
+
+pub forward-keeps : (n : NodeParts) (word : WordId) (core : CoreId) (e : Option Entry) → KeepsTask n (forward_row n word core e).0
+forward-keeps n word core None = all_same n
+forward-keeps n word core (Some (Valid value marked)) = all_same n
+forward-keeps n word core (Some (Registered value true)) = all_same n
+forward-keeps n word core (Some (Registered value false)) = pairs_alone n _
+forward-keeps n word core (Some (Leaving value)) = all_same n
+
+pub read-keeps : (C : Setting) (n : NodeParts) (word : WordId) (reader : CoreId) (e : Option Entry) → KeepsTask n (read_row C n word reader e).0
+read-keeps C n word reader None = all_same n
+read-keeps C n word reader (Some (Valid value marked)) = all_same n
+read-keeps C n word reader (Some (Registered value pending)) = all_same n
+read-keeps C n word reader (Some (Leaving value)) = all_same n
+
+pub gone-keeps : (n : NodeParts) (word : WordId) (e : Option Entry) → KeepsTask n (gone_row n word e).0
+gone-keeps n word None = all_same n
+gone-keeps n word (Some (Valid value marked)) = all_same n
+gone-keeps n word (Some (Registered value pending)) = all_same n
+gone-keeps n word (Some (Leaving value)) = pairs_alone n _
+
+-- ---- the place of a node at a message that is not the keeper's
 
 either_place : (n : NodeParts) (b : Bool) (x y : NodeParts × Received) → KeepsPlace n x.0 → KeepsPlace n y.0 → KeepsPlace n (cond b x y).0
 either_place n true x y p q = p
@@ -78,32 +118,6 @@ data_place n word value (wait.TheVariants.Reading wanted) = either_place n (want
 data_place n word value (wait.TheVariants.Filled wanted) = same n
 data_place n word value (wait.TheVariants.Locking lock) = same n
 
-ack_place : (n : NodeParts) (word : WordId) (e : Option Entry) → KeepsPlace n (ack_row n word e).0
-ack_place n word None = same n
-ack_place n word (Some (Valid value marked)) = same n
-ack_place n word (Some (Registered value true)) = record { core = refl; phase = refl; arrived = refl; halted = refl }
-ack_place n word (Some (Registered value false)) = same n
-ack_place n word (Some (Leaving value)) = same n
-
-forward_place : (n : NodeParts) (word : WordId) (core : CoreId) (e : Option Entry) → KeepsPlace n (forward_row n word core e).0
-forward_place n word core None = same n
-forward_place n word core (Some (Valid value marked)) = same n
-forward_place n word core (Some (Registered value true)) = same n
-forward_place n word core (Some (Registered value false)) = record { core = refl; phase = refl; arrived = refl; halted = refl }
-forward_place n word core (Some (Leaving value)) = same n
-
-read_place : (C : Setting) (n : NodeParts) (word : WordId) (reader : CoreId) (e : Option Entry) → KeepsPlace n (read_row C n word reader e).0
-read_place C n word reader None = same n
-read_place C n word reader (Some (Valid value marked)) = same n
-read_place C n word reader (Some (Registered value pending)) = same n
-read_place C n word reader (Some (Leaving value)) = same n
-
-gone_place : (n : NodeParts) (word : WordId) (e : Option Entry) → KeepsPlace n (gone_row n word e).0
-gone_place n word None = same n
-gone_place n word (Some (Valid value marked)) = same n
-gone_place n word (Some (Registered value pending)) = same n
-gone_place n word (Some (Leaving value)) = record { core = refl; phase = refl; arrived = refl; halted = refl }
-
 granted_place : (C : Setting) (n : NodeParts) (lock : LockId) (signature : Signature) (o : Option TaskState) → KeepsPlace n (granted_to C n lock signature o).0
 granted_place C n lock signature None = same n
 granted_place C n lock signature (Some t) = record { core = refl; phase = refl; arrived = refl; halted = refl }
@@ -114,21 +128,19 @@ grant_place C n lock signature (wait.TheVariants.Reading word) = same n
 grant_place C n lock signature (wait.TheVariants.Filled word) = same n
 grant_place C n lock signature (wait.TheVariants.Locking wanted) = either_place n (wanted.0 == lock.0) _ _ (granted_place C n lock signature n.task) (same n)
 
-row-place : (C : Setting) (n : NodeParts) (m : Message) → is_from_keeper m ≡ false → KeepsPlace n (message_row C n m).0
-row-place C n (message.TheVariants.DataReply word value) other = data_place n word value n.waiting
-row-place C n (message.TheVariants.RegAck word) other = ack_place n word (entry_of n word.0)
-row-place C n (message.TheVariants.RegFwd word core) other = forward_place n word core (entry_of n word.0)
-row-place C n (message.TheVariants.ReadFwd word reader) other = read_place C n word reader (entry_of n word.0)
-row-place C n (message.TheVariants.WbAck word) other = gone_place n word (entry_of n word.0)
-row-place C n (message.TheVariants.Grant lock signature) other = grant_place C n lock signature n.waiting
-row-place C n (message.TheVariants.Go phase) other = absurd (cc)
-row-place C n message.TheVariants.Halt other = absurd (cc)
-row-place C n (message.TheVariants.ReadReq word reader) other = same n
-row-place C n (message.TheVariants.RegReq word core) other = same n
-row-place C n (message.TheVariants.WriteBack word value core) other = same n
-row-place C n (message.TheVariants.Acquire lock core) other = same n
-row-place C n (message.TheVariants.Release lock core signature) other = same n
-row-place C n (message.TheVariants.Arrived core bad) other = same n
-
 pub gets-place : (C : Setting) (n : NodeParts) (m : Message) → is_from_keeper m ≡ false → KeepsPlace n (node_gets C n m).0
-gets-place C n m other = either_place n (names_own C m) _ _ (row-place C n m other) (same n)
+unfolding node_gets
+gets-place C n (message.TheVariants.DataReply word value) other = data_place n word value n.waiting
+gets-place C n (message.TheVariants.RegAck word) other = (ack-keeps n word (entry_of n word.0)).place
+gets-place C n (message.TheVariants.RegFwd word core) other = (forward-keeps n word core (entry_of n word.0)).place
+gets-place C n (message.TheVariants.ReadFwd word reader) other = (read-keeps C n word reader (entry_of n word.0)).place
+gets-place C n (message.TheVariants.WbAck word) other = (gone-keeps n word (entry_of n word.0)).place
+gets-place C n (message.TheVariants.Grant lock signature) other = grant_place C n lock signature n.waiting
+gets-place C n (message.TheVariants.Go phase) other = absurd (cc)
+gets-place C n message.TheVariants.Halt other = absurd (cc)
+gets-place C n (message.TheVariants.ReadReq word reader) other = same n
+gets-place C n (message.TheVariants.RegReq word core) other = same n
+gets-place C n (message.TheVariants.WriteBack word value core) other = same n
+gets-place C n (message.TheVariants.Acquire lock core) other = same n
+gets-place C n (message.TheVariants.Release lock core signature) other = same n
+gets-place C n (message.TheVariants.Arrived core bad) other = same n

@@ -1,6 +1,14 @@
 -- The signatures of a node, one after the other.
-use Rattle.std.proofs.Common.{◌≡◌, ℕ, zero, suc, ◌+◌, ◌<◌, ◌≤◌, List, [], ◌∷◌, ◌++◌, length, drop, take, slice_get, slice_set, slice_index_or, None, refl, subst, ap, add-one, arith}
+use Rattle.std.proofs.Common.{◌≡◌, ℕ, zero, suc, ◌+◌, ◌<◌, ◌≤◌, Bool, true, false, ◌&&◌, cond, List, [], ◌∷◌, ◌++◌, length, drop, take, slice_get, slice_set, slice_index_or, Option, Some, None, refl, sym, ◌∙◌, subst, ap, add-one, arith}
 use Rattle.std.proofs.Math.ListN.{replicate}
+use Rattle.std.proofs.lemmas.List.Elements.{All-nil, All-cons, All-head, All-tail}
+use Rattle.std.specs.List.{All}
+use Rattle.std.specs.Option.{option_map}
+use Rattle.region_table.specs.Words.{has}
+use Rattle.rv_core.specs.Access.{holds as is_held}
+use Rattle.write_signature.specs.Signature.{tag, inserted}
+use Rattle.write_signature.proofs.SignatureLemmas.{tag-inserted}
+use Rattle.registration_protocol.specs.Fit.{IsOfPhase}
 use Rattle.region_table.specs.declared.declared.TaskDecl.{TaskDecl}
 use Rattle.write_signature.specs.declared.signature.Signature.{Signature}
 use Rattle.registration_protocol.specs.OwnEvents.{noted, noted_at}
@@ -37,6 +45,34 @@ noted_next d held w phase i ss s within =
 pub length-noted : (d : TaskDecl) (held w phase l : ℕ) (ss : List Signature) → length (noted d held w phase l ss) ≡ length ss
 length-noted d held w phase l [] = refl
 length-noted d held w phase l (s ∷ ss) = ap suc (length-noted d held w phase (l + 1) ss)
+
+-- a store's signatures are of the node's phase
+noted_tag : (d : TaskDecl) (held w phase l : ℕ) (s : Signature) → tag s ≡ phase → tag (noted_at d held w phase l s) ≡ phase
+noted_tag d held w phase l s is = by_test (is_held held l && has (slice_index_or d.effects.guarded_writes l []) w)
+  where
+    by_test : (b : Bool) → tag (cond b (inserted s w phase) s) ≡ phase
+    by_test true = tag-inserted s w phase
+    by_test false = is
+
+pub noted-tags : (d : TaskDecl) (held w phase l : ℕ) (ss : List Signature) → All (IsOfPhase phase) ss → All (IsOfPhase phase) (noted d held w phase l ss)
+noted-tags d held w phase l [] all = All-nil (IsOfPhase phase)
+noted-tags d held w phase l (s ∷ ss) all =
+    All-cons (IsOfPhase phase) _ _ (noted_tag d held w phase l s (All-head (IsOfPhase phase) s ss all)) (noted-tags d held w phase (l + 1) ss (All-tail (IsOfPhase phase) s ss all))
+
+-- the signature of a lock after a store
+noted_get : (d : TaskDecl) (held w phase l i : ℕ) (ss : List Signature) → slice_get (noted d held w phase l ss) i ≡ option_map (noted_at d held w phase (l + i)) (slice_get ss i)
+noted_get d held w phase l i [] = refl
+noted_get d held w phase l zero (s ∷ ss) =
+    let same : l + 0 ≡ l = omega arith in
+    ap (λ (k : ℕ). let o : Option Signature = Some (noted_at d held w phase k s) in o) (sym same)
+noted_get d held w phase l (suc i) (s ∷ ss) =
+    let same : l + 1 + i ≡ l + suc i = omega arith in
+    noted_get d held w phase (l + 1) i ss ∙ ap (λ (k : ℕ). option_map (noted_at d held w phase k) (slice_get ss i)) same
+
+pub noted-get : (d : TaskDecl) (held w phase i : ℕ) (ss : List Signature) → slice_get (noted d held w phase 0 ss) i ≡ option_map (noted_at d held w phase i) (slice_get ss i)
+noted-get d held w phase i ss =
+    let same : 0 + i ≡ i = omega arith in
+    noted_get d held w phase 0 i ss ∙ ap (λ (k : ℕ). option_map (noted_at d held w phase k) (slice_get ss i)) same
 
 -- past the end of a list there is the default
 pub none-or : {X : Type 0} (i : ℕ) (xs : List X) (x : X) → slice_get xs i ≡ None → slice_index_or xs i x ≡ x

@@ -1,10 +1,16 @@
--- What becomes of a word's entry where a message or an eviction names the word, and what stays of a node.
-use Rattle.std.specs.Prelude.{◌≡◌, Bool, true, false, Option, Some, None}
+-- What becomes of a word's entry at each event, and what stays of a node where entries change.
+use Rattle.std.specs.Prelude.{◌≡◌, ℕ, Bool, true, false, ◌||◌, ◌==◌, Option, Some, None, if◌then◌else◌}
+use Rattle.region_table.specs.declared.declared.TaskDecl.{TaskDecl}
+use Rattle.region_table.specs.Plan.{uses_plainly}
+use Rattle.rv_core.specs.declared.task.TaskState.{TaskState}
+use Rattle.rv_core.specs.declared.need.Need as need
+use Rattle.rv_core.specs.declared.need.Need.{Need}
+use Rattle.rv_core.specs.Step.{merged_of}
 use Rattle.message_net.specs.declared.message.Message as message
 use Rattle.message_net.specs.declared.message.Message.{Message}
 use Rattle.word_cache.specs.declared.row.Entry.{Entry}
 use Rattle.word_cache.specs.declared.row.Entry.TheVariants.{Valid, Registered, Leaving}
-use Rattle.registration_protocol.specs.Node.{NodeParts}
+use Rattle.registration_protocol.specs.Node.{NodeParts, Setting}
 
 -- at RegAck it is pending no more
 abbrev pub acknowledged : Option Entry → Option Entry
@@ -27,11 +33,41 @@ given_up (Some (Valid value marked)) = None
 given_up (Some (Registered value false)) = Some (Leaving value)
 given_up e = e
 
+-- a load marks the copy of a word that the task uses plainly
+abbrev pub looked_at : TaskDecl → ℕ → Option Entry → Option Entry
+looked_at d w (Some (Valid value marked)) = Some (Valid value (marked || uses_plainly d w))
+looked_at d w e = e
+
+-- a store that retires registers its word, or leaves it registered
+abbrev pub stored_in : Setting → TaskState → Bool → Option Entry → Option Entry
+stored_in C t whole None = if whole then Some (Registered (merged_of C.program 0 t) true) else None
+stored_in C t whole (Some (Valid value marked)) = Some (Registered (merged_of C.program value t) true)
+stored_in C t whole (Some (Registered value pending)) = Some (Registered (merged_of C.program value t) pending)
+stored_in C t whole (Some (Leaving value)) = Some (Leaving value)
+
+-- an instruction changes the entry of the word that it accesses, and no other
+abbrev pub entry_by : Setting → TaskDecl → TaskState → Need → ℕ → Option Entry → Option Entry
+entry_by C d t (need.TheVariants.Load word) w e = if word.0 == w then looked_at d word.0 e else e
+entry_by C d t (need.TheVariants.Store word whole) w e = if word.0 == w then stored_in C t whole e else e
+entry_by C d t _ w e = e
+
 -- whether a message is the keeper's
 abbrev pub is_from_keeper : Message → Bool
 is_from_keeper (message.TheVariants.Go phase) = true
 is_from_keeper message.TheVariants.Halt = true
 is_from_keeper _ = false
+
+-- whether the table has a row for a message's kind; a node leaves one of the others alone
+abbrev pub is_for_node : Message → Bool
+is_for_node (message.TheVariants.DataReply word value) = true
+is_for_node (message.TheVariants.RegAck word) = true
+is_for_node (message.TheVariants.RegFwd word core) = true
+is_for_node (message.TheVariants.ReadFwd word reader) = true
+is_for_node (message.TheVariants.WbAck word) = true
+is_for_node (message.TheVariants.Grant lock signature) = true
+is_for_node (message.TheVariants.Go phase) = true
+is_for_node message.TheVariants.Halt = true
+is_for_node _ = false
 
 -- a node that stays the same core's, in its phase, arrived and halted or not as before
 pub record KeepsPlace (n m : NodeParts) : Type 0 where
@@ -39,3 +75,12 @@ pub record KeepsPlace (n m : NodeParts) : Type 0 where
   pub phase : m.phase ≡ n.phase
   pub arrived : m.arrived ≡ n.arrived
   pub halted : m.halted ≡ n.halted
+
+-- a node of which at most entries differ
+pub record KeepsTask (n m : NodeParts) : Type 0 where
+  pub place : KeepsPlace n m
+  pub task : m.task ≡ n.task
+  pub waiting : m.waiting ≡ n.waiting
+  pub signatures : m.signatures ≡ n.signatures
+  pub sets : m.cache.sets ≡ n.cache.sets
+  pub ways : m.cache.ways ≡ n.cache.ways

@@ -1,5 +1,6 @@
 -- When a context is one of a machine, and when a node fits it.
 use Rattle.std.specs.Prelude.{◌≡◌, ℕ, ◌<◌, ◌≤◌, true, false, length, Option, Some, IfSome}
+use Rattle.std.specs.List.{All}
 use Rattle.std.specs.Option.{is_some}
 use Rattle.region_table.specs.Program.{cores_of}
 use Rattle.region_table.specs.Plan.{ArePlans}
@@ -7,9 +8,13 @@ use Rattle.rv_core.specs.declared.task.TaskState.{TaskState}
 use Rattle.rv_core.specs.declared.need.Need as need
 use Rattle.rv_core.specs.declared.need.Need.{Need}
 use Rattle.rv_core.specs.Access.{holds}
+use Rattle.write_signature.specs.declared.signature.Signature.{Signature}
+use Rattle.write_signature.specs.Signature.{tag}
+use Rattle.word_cache.specs.Cache.{IsCache}
 use Rattle.registration_protocol.specs.declared.node.NodeWait as wait
 use Rattle.registration_protocol.specs.declared.node.NodeWait.{NodeWait}
-use Rattle.registration_protocol.specs.Node.{NodeParts, Setting, declared, need_now}
+use Rattle.region_table.specs.Tasks.{declared}
+use Rattle.registration_protocol.specs.Node.{NodeParts, Setting, need_now}
 
 -- a context: the plans are those of the program's phases, the cores are those that the program needs, and the other sizes and
 -- the fuel are within their limits
@@ -34,6 +39,10 @@ abbrev pub NeedsLock : Option Need → NodeWait → Type 0
 NeedsLock needs (wait.TheVariants.Locking lock) = needs ≡ Some (need.TheVariants.Acquire lock)
 NeedsLock needs _ = Unit {0}
 
+-- a signature has the writes of this phase alone
+abbrev pub IsOfPhase : ℕ → Signature → Type 0
+IsOfPhase phase s = tag s ≡ phase
+
 -- a node of the machine
 pub record Fits (C : Setting) (n : NodeParts) : Type 0 where
   pub core : n.core < C.shape.cores
@@ -44,6 +53,9 @@ pub record Fits (C : Setting) (n : NodeParts) : Type 0 where
   pub retired : IfSome n.task (λ t. t.retired ≤ C.fuel)
   pub held : IfSome n.task (HoldsOwn (length C.program.locks))
   pub signatures : length n.signatures ≡ length C.program.locks
+  -- each signature has the writes of the node's phase alone
+  pub tags : All (IsOfPhase n.phase) n.signatures
+  pub cache : IsCache n.cache
   pub sets : n.cache.sets ≡ C.shape.sets
   pub ways : n.cache.ways ≡ C.shape.ways
   pub waiting : NeedsLock (need_now C n) n.waiting

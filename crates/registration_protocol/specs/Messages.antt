@@ -1,5 +1,5 @@
 -- What a node does with each message.
-use Rattle.std.specs.Prelude.{ℕ, ◌+◌, Bool, true, false, ◌&&◌, ◌==◌, not, nat_lt, List, [], length, replicate, slice_set, slice_index_or, slice_get, Option, Some, None, if◌then◌else◌}
+use Rattle.std.specs.Prelude.{ℕ, ◌+◌, true, false, ◌&&◌, ◌==◌, not, nat_lt, List, [], length, replicate, slice_set, slice_index_or, slice_get, Option, Some, None, if◌then◌else◌}
 use Rattle.std.specs.Option.{option_map}
 use Rattle.dn_base.specs.declared.ids.CoreId.{CoreId}
 use Rattle.dn_base.specs.declared.ids.WordId.{WordId}
@@ -10,50 +10,50 @@ use Rattle.rv_core.specs.declared.task.TaskState.{TaskState}
 use Rattle.rv_core.specs.Step.{advanced}
 use Rattle.rv_core.specs.Task.{started}
 use Rattle.write_signature.specs.declared.signature.Signature.{Signature}
-use Rattle.write_signature.specs.Signature.{tag, empty}
+use Rattle.write_signature.specs.Signature.{in_phase, empty}
 use Rattle.message_net.specs.declared.message.Message as message
 use Rattle.message_net.specs.declared.message.Message.{Message}
 use Rattle.message_net.specs.declared.message.Outgoing.{Outgoing}
 use Rattle.word_cache.specs.declared.row.Entry.{Entry}
 use Rattle.word_cache.specs.declared.row.Entry.TheVariants.{Valid, Registered, Leaving}
-use Rattle.word_cache.specs.Cache.{has_room, put, changed, without, dropped_written, dropped_signed}
+use Rattle.word_cache.specs.Cache.{with_pairs, has_room, put, changed, without, dropped_written, dropped_signed}
 use Rattle.registration_protocol.specs.declared.node.NodeWait as wait
 use Rattle.registration_protocol.specs.declared.node.NodeWait.{NodeWait}
 use Rattle.registration_protocol.specs.declared.node.Received.{Received}
-use Rattle.registration_protocol.specs.Node.{NodeParts, Setting, declared, entry_of, to_home, to_core}
+use Rattle.region_table.specs.Tasks.{declared}
+use Rattle.message_net.specs.Mail.{to_home, to_core}
+use Rattle.registration_protocol.specs.Node.{NodeParts, Setting, entry_of, keeping}
 
-abbrev pub unmoved : NodeParts → NodeParts × Received
-unmoved n = (n, record { sent = None; granted = None })
-
+-- the node is this one then, and sends nothing
 abbrev pub becomes : NodeParts → NodeParts × Received
 becomes n = (n, record { sent = None; granted = None })
 
 abbrev pub answers : NodeParts → Option Outgoing → NodeParts × Received
 answers n sent = (n, record { sent = sent; granted = None })
 
--- the cache with other pairs, by a change of one word's entry
+-- the node with another entry for a word that has one, and without a word
 abbrev pub with_entry : NodeParts → ℕ → Entry → NodeParts
-with_entry n w e = record n { cache = record n.cache { pairs = changed w e n.cache.pairs } }
+with_entry n w e = keeping n (changed w e n.cache.pairs)
 
 abbrev pub lacking : NodeParts → ℕ → NodeParts
-lacking n w = record n { cache = record n.cache { pairs = without w n.cache.pairs } }
+lacking n w = keeping n (without w n.cache.pairs)
 
 -- DataReply, by what the node waits for and the word's entry
 abbrev pub fills : NodeParts → WordId → ℕ → Option Entry → NodeParts × Received
 fills n word value None =
-    if has_room n.cache word.0 then becomes (record n { cache = record n.cache { pairs = put word (Valid value false) n.cache.pairs }; waiting = wait.TheVariants.Filled word })
-    else unmoved n
-fills n word value (Some e) = unmoved n
+    if has_room n.cache word.0 then becomes (record (keeping n (put word (Valid value false) n.cache.pairs)) { waiting = wait.TheVariants.Filled word })
+    else becomes n
+fills n word value (Some e) = becomes n
 
 abbrev pub data_row : NodeParts → WordId → ℕ → NodeWait → NodeParts × Received
 data_row n word value (wait.TheVariants.Reading wanted) =
-    if wanted.0 == word.0 then fills n word value (entry_of n word.0) else unmoved n
-data_row n word value _ = unmoved n
+    if wanted.0 == word.0 then fills n word value (entry_of n word.0) else becomes n
+data_row n word value _ = becomes n
 
 -- RegAck: the entry is pending no more
 abbrev pub ack_row : NodeParts → WordId → Option Entry → NodeParts × Received
 ack_row n word (Some (Registered value true)) = becomes (with_entry n word.0 (Registered value false))
-ack_row n word _ = unmoved n
+ack_row n word _ = becomes n
 
 -- RegFwd: a registered entry that isn't pending goes, and the new registrant is acknowledged in any case
 abbrev pub forward_row : NodeParts → WordId → CoreId → Option Entry → NodeParts × Received
@@ -64,12 +64,12 @@ forward_row n word core _ = answers n (to_core core (message.TheVariants.RegAck 
 abbrev pub read_row : Setting → NodeParts → WordId → CoreId → Option Entry → NodeParts × Received
 read_row C n word reader (Some (Registered value pending)) = answers n (to_core reader (message.TheVariants.DataReply word value))
 read_row C n word reader (Some (Leaving value)) = answers n (to_core reader (message.TheVariants.DataReply word value))
-read_row C n word reader _ = answers n (to_home C word.0 (message.TheVariants.ReadReq word reader))
+read_row C n word reader _ = answers n (to_home C.shape.banks word.0 (message.TheVariants.ReadReq word reader))
 
 -- WbAck: a leaving entry goes
 abbrev pub gone_row : NodeParts → WordId → Option Entry → NodeParts × Received
 gone_row n word (Some (Leaving value)) = becomes (lacking n word.0)
-gone_row n word _ = unmoved n
+gone_row n word _ = becomes n
 
 -- the words that a lock guards in a phase, and those that a phase may have written
 abbrev pub guarded_by : Option PhasePlan → ℕ → List Interval
@@ -80,30 +80,26 @@ abbrev pub written_in : Option PhasePlan → List Interval
 written_in None = []
 written_in (Some plan) = plan.written
 
--- a signature as a node of a phase keeps it
-abbrev pub of_phase : Signature → ℕ → Signature
-of_phase s phase = if tag s == phase then s else empty phase
-
 -- Grant, by what the node waits for: stale copies of the lock's words go, and the acquire retires
 abbrev pub holds_now : Setting → NodeParts → TaskState → LockId → Signature → NodeParts × Received
 holds_now C n t lock signature = (
   record n {
     task = Some (advanced C.program t);
     waiting = wait.TheVariants.None;
-    cache = record n.cache { pairs = dropped_signed signature n.phase (guarded_by (slice_get C.plans n.phase) lock.0) n.cache.pairs };
-    signatures = slice_set n.signatures lock.0 (of_phase signature n.phase);
+    cache = with_pairs n.cache (dropped_signed signature n.phase (guarded_by (slice_get C.plans n.phase) lock.0) n.cache.pairs);
+    signatures = slice_set n.signatures lock.0 (in_phase n.phase signature);
   },
   record { sent = None; granted = Some (record { phase = record { 0 = n.phase }; core = record { 0 = n.core }; lock = lock }) },
 )
 
 abbrev pub granted_to : Setting → NodeParts → LockId → Signature → Option TaskState → NodeParts × Received
-granted_to C n lock signature None = unmoved n
+granted_to C n lock signature None = becomes n
 granted_to C n lock signature (Some t) = holds_now C n t lock signature
 
 abbrev pub grant_row : Setting → NodeParts → LockId → Signature → NodeWait → NodeParts × Received
 grant_row C n lock signature (wait.TheVariants.Locking wanted) =
-    if wanted.0 == lock.0 then granted_to C n lock signature n.task else unmoved n
-grant_row C n lock signature _ = unmoved n
+    if wanted.0 == lock.0 then granted_to C n lock signature n.task else becomes n
+grant_row C n lock signature _ = becomes n
 
 -- Go: what the ended phase leaves stale goes, and the next phase begins
 abbrev pub begins : Setting → NodeParts → ℕ → NodeParts
@@ -112,7 +108,7 @@ begins C n phase =
       phase = phase;
       task = option_map started (declared C.program phase n.core);
       waiting = wait.TheVariants.None;
-      cache = record n.cache { pairs = dropped_written (written_in (slice_get C.plans n.phase)) n.cache.pairs };
+      cache = with_pairs n.cache (dropped_written (written_in (slice_get C.plans n.phase)) n.cache.pairs);
       signatures = replicate (length C.program.locks) (empty phase);
       arrived = false;
     }
@@ -120,30 +116,20 @@ begins C n phase =
 abbrev pub go_row : Setting → NodeParts → ℕ → NodeParts × Received
 go_row C n phase =
     if n.arrived && not n.halted && (phase == n.phase + 1) && nat_lt phase (length C.program.phases) then becomes (begins C n phase)
-    else unmoved n
+    else becomes n
 
--- the table of messages, row by row; one that no row names changes nothing and sends nothing
-abbrev pub message_row : Setting → NodeParts → Message → NodeParts × Received
-message_row C n (message.TheVariants.DataReply word value) = data_row n word value n.waiting
-message_row C n (message.TheVariants.RegAck word) = ack_row n word (entry_of n word.0)
-message_row C n (message.TheVariants.RegFwd word core) = forward_row n word core (entry_of n word.0)
-message_row C n (message.TheVariants.ReadFwd word reader) = read_row C n word reader (entry_of n word.0)
-message_row C n (message.TheVariants.WbAck word) = gone_row n word (entry_of n word.0)
-message_row C n (message.TheVariants.Grant lock signature) = grant_row C n lock signature n.waiting
-message_row C n (message.TheVariants.Go phase) = go_row C n phase.0
-message_row C n message.TheVariants.Halt = if n.arrived then becomes (record n { halted = true }) else unmoved n
-message_row C n _ = unmoved n
+-- Halt: the run is over for a node that has arrived
+abbrev pub halt_row : NodeParts → NodeParts × Received
+halt_row n = if n.arrived then becomes (record n { halted = true }) else becomes n
 
--- whether the word, core or lock that a message names is one of this machine; Go's phase is tested in its row
-abbrev pub names_own : Setting → Message → Bool
-names_own C (message.TheVariants.DataReply word value) = nat_lt word.0 (length C.program.memory)
-names_own C (message.TheVariants.RegAck word) = nat_lt word.0 (length C.program.memory)
-names_own C (message.TheVariants.RegFwd word core) = nat_lt word.0 (length C.program.memory) && nat_lt core.0 C.shape.cores
-names_own C (message.TheVariants.ReadFwd word reader) = nat_lt word.0 (length C.program.memory) && nat_lt reader.0 C.shape.cores
-names_own C (message.TheVariants.WbAck word) = nat_lt word.0 (length C.program.memory)
-names_own C (message.TheVariants.Grant lock signature) = nat_lt lock.0 (length C.program.locks)
-names_own C _ = true
-
--- what a node does with a message; one that names a word, core or lock of another machine changes nothing and sends nothing
-abbrev pub node_gets : Setting → NodeParts → Message → NodeParts × Received
-node_gets C n m = if names_own C m then message_row C n m else unmoved n
+-- what a node does with a message: the table, row by row; one that no row names changes nothing and sends nothing
+unfoldable pub node_gets : Setting → NodeParts → Message → NodeParts × Received
+node_gets C n (message.TheVariants.DataReply word value) = data_row n word value n.waiting
+node_gets C n (message.TheVariants.RegAck word) = ack_row n word (entry_of n word.0)
+node_gets C n (message.TheVariants.RegFwd word core) = forward_row n word core (entry_of n word.0)
+node_gets C n (message.TheVariants.ReadFwd word reader) = read_row C n word reader (entry_of n word.0)
+node_gets C n (message.TheVariants.WbAck word) = gone_row n word (entry_of n word.0)
+node_gets C n (message.TheVariants.Grant lock signature) = grant_row C n lock signature n.waiting
+node_gets C n (message.TheVariants.Go phase) = go_row C n phase.0
+node_gets C n message.TheVariants.Halt = halt_row n
+node_gets C n _ = becomes n

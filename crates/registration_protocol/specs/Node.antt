@@ -1,24 +1,19 @@
 -- A node, and what it and its surroundings say of its task.
-use Rattle.std.specs.Prelude.{ℕ, ◌%◌, Bool, true, false, ◌||◌, ◌==◌, not, List, [], length, replicate, slice_get, Option, Some, None, if◌then◌else◌}
-use Rattle.std.specs.List.{find}
-use Rattle.std.specs.Option.{option_and_then, option_map, is_some}
-use Rattle.dn_base.specs.declared.ids.CoreId.{CoreId}
+use Rattle.std.specs.Prelude.{ℕ, Bool, true, false, ◌||◌, ◌==◌, not, List, [], length, replicate, slice_index_or, Option, Some, None, if◌then◌else◌}
+use Rattle.std.specs.Option.{option_map, is_some}
 use Rattle.dn_base.specs.declared.ids.Shape.{Shape}
 use Rattle.region_table.specs.declared.declared.TaskDecl.{TaskDecl}
-use Rattle.region_table.specs.declared.declared.Phase.{Phase}
 use Rattle.region_table.specs.declared.plan.PhasePlan.{PhasePlan}
 use Rattle.region_table.specs.Program.{ProgramParts}
+use Rattle.region_table.specs.Tasks.{declared}
 use Rattle.rv_core.specs.declared.task.TaskState.{TaskState}
 use Rattle.rv_core.specs.declared.need.Need.{Need}
 use Rattle.rv_core.specs.Need.{need_of}
 use Rattle.rv_core.specs.Task.{started}
 use Rattle.write_signature.specs.declared.signature.Signature.{Signature}
 use Rattle.write_signature.specs.Signature.{empty}
-use Rattle.message_net.specs.declared.actor.Actor.TheVariants.{Core, Bank, Keeper}
-use Rattle.message_net.specs.declared.message.Message.{Message}
-use Rattle.message_net.specs.declared.message.Outgoing.{Outgoing}
 use Rattle.word_cache.specs.declared.row.Entry.{Entry}
-use Rattle.word_cache.specs.Cache.{Cache, lookup, pending_count}
+use Rattle.word_cache.specs.Cache.{Cache, with_pairs, Pair, lookup, pending_count}
 use Rattle.registration_protocol.specs.declared.node.NodeWait as wait
 use Rattle.registration_protocol.specs.declared.node.NodeWait.{NodeWait}
 
@@ -41,13 +36,6 @@ pub record Setting : Type 0 where
   pub plans : List PhasePlan
   pub shape : Shape
   pub fuel : ℕ
-
--- the task that the program declares for a core in a phase, if it does
-abbrev pub is_for : ℕ → TaskDecl → Bool
-is_for core d = d.core.0 == core
-
-abbrev pub declared : ProgramParts → ℕ → ℕ → Option TaskDecl
-declared P phase core = option_and_then (λ (p : Phase). find (is_for core) p.tasks) (slice_get P.phases phase)
 
 -- whether a task goes on
 abbrev pub goes_on : Option TaskState → Bool
@@ -88,15 +76,13 @@ abbrev pub waits_for_nothing : NodeWait → Bool
 waits_for_nothing wait.TheVariants.None = true
 waits_for_nothing _ = false
 
--- mail to the home of a word and of a lock, to a core, and to the keeper
-abbrev pub to_home : Setting → ℕ → Message → Option Outgoing
-to_home C number m = Some (record { to = Bank (record { 0 = number % C.shape.banks }); message = m })
+-- the node whose cache has these pairs
+abbrev pub keeping : NodeParts → List Pair → NodeParts
+keeping n ps = record n { cache = with_pairs n.cache ps }
 
-abbrev pub to_core : CoreId → Message → Option Outgoing
-to_core core m = Some (record { to = Core core; message = m })
-
-abbrev pub to_keeper : Message → Option Outgoing
-to_keeper m = Some (record { to = Keeper; message = m })
+-- the signature that a node has for a lock
+abbrev pub signature_of : NodeParts → ℕ → Signature
+signature_of n lock = slice_index_or n.signatures lock (empty n.phase)
 
 -- a node as a run begins: in phase 0 with its task, or halted where there are no phases
 abbrev pub opened : Setting → ℕ → NodeParts

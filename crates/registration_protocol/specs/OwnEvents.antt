@@ -17,19 +17,22 @@ use Rattle.rv_core.specs.declared.ending.TaskEnd.{TaskEnd}
 use Rattle.rv_core.specs.Access.{holds as is_held}
 use Rattle.rv_core.specs.Step.{advanced, loaded_of, merged_of}
 use Rattle.rv_core.specs.Task.{stopped}
+use Rattle.rv_core.specs.Ending.{shown_end}
 use Rattle.write_signature.specs.declared.signature.Signature.{Signature}
-use Rattle.write_signature.specs.Signature.{empty, inserted}
+use Rattle.write_signature.specs.Signature.{inserted}
 use Rattle.message_net.specs.declared.message.Message.TheVariants.{ReadReq, RegReq, WriteBack, Acquire, Release, Arrived}
 use Rattle.message_net.specs.declared.message.Outgoing.{Outgoing}
 use Rattle.message_net.specs.declared.event.Event as event
 use Rattle.message_net.specs.declared.event.Event.{Event}
 use Rattle.word_cache.specs.declared.row.Entry.{Entry}
 use Rattle.word_cache.specs.declared.row.Entry.TheVariants.{Valid, Registered, Leaving}
-use Rattle.word_cache.specs.Cache.{Cache, has_room, put, changed, touched, without, may_go, victim_of}
+use Rattle.word_cache.specs.Cache.{has_room, put, changed, touched, without, may_go, victim_of}
 use Rattle.registration_protocol.specs.declared.node.NodeWait as wait
 use Rattle.registration_protocol.specs.declared.node.NodeWait.{NodeWait}
 use Rattle.registration_protocol.specs.declared.node.Step.{Step}
-use Rattle.registration_protocol.specs.Node.{NodeParts, Setting, declared, goes_on, need_now, entry_of, is_settled, is_active, is_ready, waits_for_nothing, to_home, to_keeper}
+use Rattle.region_table.specs.Tasks.{declared}
+use Rattle.message_net.specs.Mail.{to_home, to_keeper}
+use Rattle.registration_protocol.specs.Node.{NodeParts, Setting, goes_on, need_now, entry_of, is_settled, is_active, is_ready, waits_for_nothing, keeping, signature_of}
 
 -- whether an access of a word may go on, by its entry: it stalls while the word is leaving, and where there is no entry it
 -- needs room
@@ -72,9 +75,9 @@ may_evict C n w = is_active n && waits_for_nothing n.waiting && makes_room n w (
 abbrev pub may_arrive : NodeParts → Bool
 may_arrive n = is_active n && not (goes_on n.task) && is_settled n
 
--- the cache with other pairs
-abbrev pub with_put : NodeParts → WordId → Entry → Cache
-with_put n word e = record n.cache { pairs = put word e n.cache.pairs }
+-- the node with this entry for a word, which is the one used last then
+abbrev pub with_put : NodeParts → WordId → Entry → NodeParts
+with_put n word e = keeping n (put word e n.cache.pairs)
 
 -- the instruction has retired
 abbrev pub retires : NodeParts → TaskState → NodeParts
@@ -94,15 +97,15 @@ me n = record { 0 = n.core }
 
 -- a word is asked for
 abbrev pub misses : Setting → NodeParts → WordId → NodeParts × Step
-misses C n word = sends (record n { waiting = wait.TheVariants.Reading word }) (to_home C word.0 (ReadReq word (me n)))
+misses C n word = sends (record n { waiting = wait.TheVariants.Reading word }) (to_home C.shape.banks word.0 (ReadReq word (me n)))
 
 -- Load w, by the entry of w
 abbrev pub loads : Setting → NodeParts → TaskDecl → TaskState → WordId → Option Entry → NodeParts × Step
 loads C n d t word None = misses C n word
 loads C n d t word (Some (Valid value marked)) =
-    sees (record (retires n (loaded_of C.program value t)) { cache = with_put n word (Valid value (marked || uses_plainly d word.0)) }) word value
+    sees (retires (with_put n word (Valid value (marked || uses_plainly d word.0))) (loaded_of C.program value t)) word value
 loads C n d t word (Some (Registered value pending)) =
-    sees (record (retires n (loaded_of C.program value t)) { cache = record n.cache { pairs = touched word n.cache.pairs } }) word value
+    sees (retires (keeping n (touched word n.cache.pairs)) (loaded_of C.program value t)) word value
 loads C n d t word (Some (Leaving value)) = silent n
 
 -- the signature of a lock after a store to a word: it has the word then where the task holds the lock and the lock guards the
@@ -119,11 +122,11 @@ noted d held w phase lock (s ∷ ss) = noted_at d held w phase lock s ∷ noted 
 -- a store retires, and its word has this entry
 abbrev pub stored : Setting → NodeParts → TaskDecl → TaskState → WordId → Entry → NodeParts
 stored C n d t word e =
-    record (retires n (advanced C.program t)) { cache = with_put n word e; signatures = noted d t.held word.0 n.phase 0 n.signatures }
+    record (retires (with_put n word e) (advanced C.program t)) { signatures = noted d t.held word.0 n.phase 0 n.signatures }
 
 -- a store registers its word
 abbrev pub registers : Setting → NodeParts → TaskDecl → TaskState → WordId → ℕ → NodeParts × Step
-registers C n d t word value = sends (stored C n d t word (Registered value true)) (to_home C word.0 (RegReq word (me n)))
+registers C n d t word value = sends (stored C n d t word (Registered value true)) (to_home C.shape.banks word.0 (RegReq word (me n)))
 
 -- Store w, by the entry of w
 abbrev pub stores : Setting → NodeParts → TaskDecl → TaskState → WordId → Bool → Option Entry → NodeParts × Step
@@ -140,23 +143,38 @@ instr_row C n d t (need.TheVariants.End cause) = silent (record n { task = Some 
 instr_row C n d t (need.TheVariants.Load word) = loads C n d t word (entry_of n word.0)
 instr_row C n d t (need.TheVariants.Store word whole) = stores C n d t word whole (entry_of n word.0)
 instr_row C n d t (need.TheVariants.Acquire lock) =
-    sends (record n { waiting = wait.TheVariants.Locking lock }) (to_home C lock.0 (Acquire lock (me n)))
+    sends (record n { waiting = wait.TheVariants.Locking lock }) (to_home C.shape.banks lock.0 (Acquire lock (me n)))
 instr_row C n d t (need.TheVariants.Release lock) =
-    sends (record n { task = Some (advanced C.program t) }) (to_home C lock.0 (Release lock (me n) (slice_index_or n.signatures lock.0 (empty n.phase))))
+    sends (record n { task = Some (advanced C.program t) }) (to_home C.shape.banks lock.0 (Release lock (me n) (signature_of n lock.0)))
 
 -- an instruction of a task that goes on
 abbrev pub instr_by : Setting → NodeParts → Option TaskDecl → Option TaskState → Option Need → NodeParts × Step
 instr_by C n (Some d) (Some t) (Some need) = instr_row C n d t need
 instr_by C n _ _ _ = silent n
 
-abbrev pub instructed : Setting → NodeParts → NodeParts × Step
+unfoldable pub instructed : Setting → NodeParts → NodeParts × Step
 instructed C n = instr_by C n (declared C.program n.phase n.core) n.task (need_now C n)
+
+-- the word that a store to a word writes where it retires, and the value that it has then, by the word's entry
+abbrev pub written_by : Setting → TaskState → WordId → Bool → Option Entry → Option (WordId × ℕ)
+written_by C t word whole None = if whole then Some (word, merged_of C.program 0 t) else None
+written_by C t word whole (Some (Valid value marked)) = Some (word, merged_of C.program value t)
+written_by C t word whole (Some (Registered value pending)) = Some (word, merged_of C.program value t)
+written_by C t word whole (Some (Leaving value)) = None
+
+abbrev pub written_if : Setting → NodeParts → Option TaskState → Option Need → Option (WordId × ℕ)
+written_if C n (Some t) (Some (need.TheVariants.Store word whole)) = written_by C t word whole (entry_of n word.0)
+written_if C n _ _ = None
+
+-- the word that the next instruction writes, and the value that it has then; None where that isn't a store that retires
+unfoldable pub written_now : Setting → NodeParts → Option (WordId × ℕ)
+written_now C n = written_if C n n.task (need_now C n)
 
 -- an eviction, by the entry of the word
 abbrev pub evicts : Setting → NodeParts → WordId → Option Entry → NodeParts × Option Outgoing
-evicts C n word (Some (Valid value marked)) = (record n { cache = record n.cache { pairs = without word.0 n.cache.pairs } }, None)
+evicts C n word (Some (Valid value marked)) = (keeping n (without word.0 n.cache.pairs), None)
 evicts C n word (Some (Registered value false)) =
-    (record n { cache = record n.cache { pairs = changed word.0 (Leaving value) n.cache.pairs } }, to_home C word.0 (WriteBack word value (me n)))
+    (keeping n (changed word.0 (Leaving value) n.cache.pairs), to_home C.shape.banks word.0 (WriteBack word value (me n)))
 evicts C n word _ = (n, None)
 
 abbrev pub evicted : Setting → NodeParts → WordId → NodeParts × Option Outgoing
@@ -208,9 +226,7 @@ pub record IsStill (C : Setting) (n : NodeParts) : Type 0 where
 
 -- how a task stands: how it ended, or which lock it waits for; None where it goes on and waits for none
 abbrev pub shown_by : Option End → NodeWait → Option EndShown
-shown_by (Some cause.TheVariants.Finished) waiting = Some shown.TheVariants.Finished
-shown_by (Some cause.TheVariants.Fuel) waiting = Some shown.TheVariants.Fuel
-shown_by (Some (cause.TheVariants.Trap kind pc value)) waiting = Some (shown.TheVariants.Trap kind pc value)
+shown_by (Some by) waiting = Some (shown_end by)
 shown_by None (wait.TheVariants.Locking lock) = Some (shown.TheVariants.Waits lock)
 shown_by None _ = None
 

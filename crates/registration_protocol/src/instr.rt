@@ -10,7 +10,8 @@ ghost use Rattle.message_net.specs.declared.message.Message.TheVariants.{Acquire
 ghost use Rattle.word_cache.specs.declared.row.Entry.TheVariants.{Registered as AsRegistered};
 ghost use Rattle.word_cache.specs.Cache.{has_room};
 ghost use Rattle.registration_protocol.specs.Fit.{IsContext, Fits};
-ghost use Rattle.registration_protocol.specs.Node.{entry_of, to_home};
+ghost use Rattle.message_net.specs.Mail.{to_home};
+ghost use Rattle.registration_protocol.specs.Node.{entry_of, signature_of};
 ghost use Rattle.registration_protocol.specs.declared.node.NodeWait.TheVariants.{Locking};
 ghost use Rattle.registration_protocol.specs.OwnEvents.{may_access, lets, may_instr, misses, me, retires, stored, registers, loads, stores, instr_row, instructed};
 ghost use Rattle.registration_protocol.specs.Setting.{setting};
@@ -211,7 +212,7 @@ impl Node {
     fn acquire(&mut self, context: &Context<'_>, lock: LockId) -> Step
         requires { 0 < (setting context.now).shape.banks }
         ensures node { self.new ≡ record self.old { waiting = Locking lock } }
-        ensures step { result ≡ record { sent = to_home (setting context.now) lock.0 (AcquireOf lock (me self.old)); seen = None } }
+        ensures step { result ≡ record { sent = to_home (setting context.now).shape.banks lock.0 (AcquireOf lock (me self.old)); seen = None } }
     {
         self.wait = NodeWait::Locking(lock);
         let core = self.core;
@@ -220,7 +221,7 @@ impl Node {
 
     /// The signature that the node keeps for a lock.
     fn signature(&self, lock: LockId) -> Signature
-        ensures { result ≡ slice_index_or self.now.signatures lock.0 (empty self.now.phase) }
+        ensures { result ≡ signature_of self.now lock.0 }
     {
         match self.signatures.get(lock.0 as usize) {
             Some(signature) => *signature,
@@ -241,7 +242,7 @@ impl Node {
         requires fuel { task.retired ≤ (setting context.now).fuel }
         requires kind { IsAdvance (need_of (setting context.now).program declared.now (setting context.now).fuel task) }
         ensures node { self.new ≡ record self.old { task = Some (advanced (setting context.now).program task) } }
-        ensures step { result ≡ record { sent = to_home (setting context.now) lock.0 (ReleaseOf lock (me self.old) (slice_index_or self.old.signatures lock.0 (empty self.old.phase))); seen = None } }
+        ensures step { result ≡ record { sent = to_home (setting context.now).shape.banks lock.0 (ReleaseOf lock (me self.old) (signature_of self.old lock.0)); seen = None } }
     {
         let mut task = task;
         task.advance(context.program, declared, context.fuel);
@@ -315,6 +316,7 @@ impl Node {
     }
 
     /// The node's next instruction, by its need.
+    #[tactic(auto, unfolding(crate::specs::OwnEvents::instructed))]
     fn next(&mut self, context: &Context<'_>) -> Step
         requires context { IsContext (setting context.now) }
         requires fits { Fits (setting context.now) self.old }

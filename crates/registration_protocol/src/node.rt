@@ -1,9 +1,10 @@
 ghost use Rattle.std.specs.Prelude.{◌≡◌, ◌<◌, true, Some, None, IfOk, if◌then◌else◌};
-ghost use Rattle.registration_protocol.specs.Node.{NodeParts, Setting, opened, need_now, entry_of, is_settled, goes_on, to_core, to_home};
+ghost use Rattle.message_net.specs.Mail.{to_core, to_home};
+ghost use Rattle.registration_protocol.specs.Node.{NodeParts, Setting, opened, need_now, entry_of, is_settled, goes_on};
 ghost use Rattle.registration_protocol.specs.Fit.{IsContext, Fits};
 ghost use Rattle.registration_protocol.specs.Setting.{setting};
 ghost use Rattle.registration_protocol.specs.OwnEvents.{may_access, lets, may_instr, may_arrive, arrives, evicted};
-ghost use Rattle.registration_protocol.specs.Messages.{fills, read_row, data_row, ack_row, forward_row, gone_row};
+ghost use Rattle.registration_protocol.specs.Messages.{fills, read_row, data_row, ack_row, forward_row, gone_row, halt_row};
 
 use crate::setting::{Context, declaration, start};
 use crate::signatures::empty_signatures;
@@ -89,7 +90,7 @@ fn send(core: CoreId, message: Message) -> Received
 /// A message to the home of the word or lock of this number.
 pub(crate) fn send_home(context: &Context<'_>, number: u32, message: Message) -> Outgoing
     requires { 0 < (setting context.now).shape.banks }
-    ensures { Some result ≡ to_home (setting context.now) number message }
+    ensures { Some result ≡ to_home (setting context.now).shape.banks number message }
 {
     Outgoing {
         to: Actor::Bank(BankId(number % context.shape.banks)),
@@ -292,8 +293,8 @@ impl Node {
 
     /// The run is over.
     pub(crate) fn halt(&mut self) -> Received
-        ensures node { self.new ≡ (if self.old.arrived then record self.old { halted = true } else self.old) }
-        ensures received { result ≡ record { sent = None; granted = None } }
+        ensures node { self.new ≡ (halt_row self.old).0 }
+        ensures received { result ≡ (halt_row self.old).1 }
     {
         if self.arrived {
             self.halted = true;

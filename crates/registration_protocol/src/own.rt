@@ -17,9 +17,7 @@ fn shown(end: Option<End>, wait: NodeWait) -> Option<EndShown>
     ensures { result ≡ shown_by end wait }
 {
     match end {
-        Some(End::Finished) => Some(EndShown::Finished),
-        Some(End::Fuel) => Some(EndShown::Fuel),
-        Some(End::Trap { kind, pc, value }) => Some(EndShown::Trap { kind, pc, value }),
+        Some(end) => Some(EndShown::from(end)),
         None => match wait {
             NodeWait::Locking(lock) => Some(EndShown::Waits { lock }),
             _ => None,

@@ -2,10 +2,11 @@ ghost use Rattle.std.specs.Prelude.{◌≡◌, ◌<◌, ◌+◌, length, slice_g
 ghost use Rattle.std.specs.Prelude.{[], slice_set, slice_index_or};
 ghost use Rattle.region_table.specs.Plan.{ArePlans};
 ghost use Rattle.rv_core.specs.declared.need.Need.TheVariants.{Acquire as NeedsAcquire};
+ghost use Rattle.write_signature.specs.Signature.{in_phase};
 ghost use Rattle.word_cache.specs.Cache.{dropped_signed, dropped_written};
 ghost use Rattle.registration_protocol.specs.Fit.{IsContext, Fits};
-ghost use Rattle.registration_protocol.specs.Node.{need_now};
-ghost use Rattle.registration_protocol.specs.Messages.{guarded_by, written_in, of_phase, granted_to, grant_row, begins, go_row, names_own, message_row, node_gets};
+ghost use Rattle.registration_protocol.specs.Node.{keeping, need_now};
+ghost use Rattle.registration_protocol.specs.Messages.{guarded_by, written_in, granted_to, grant_row, begins, go_row, node_gets};
 ghost use Rattle.registration_protocol.specs.Setting.{setting};
 
 use crate::node::{Node, NodeWait, Received, nothing};
@@ -17,8 +18,8 @@ use region_table::PhasePlan;
 use write_signature::Signature;
 
 /// The signature, or the empty one of the phase where it is of another.
-fn in_phase(signature: Signature, phase: PhaseId) -> Signature
-    ensures { result ≡ of_phase signature phase.0 }
+fn own_phase(signature: Signature, phase: PhaseId) -> Signature
+    ensures { result ≡ in_phase phase.0 signature }
 {
     if signature.phase() == phase {
         signature
@@ -27,28 +28,10 @@ fn in_phase(signature: Signature, phase: PhaseId) -> Signature
     }
 }
 
-/// Whether the word, core or lock that the message names is one of this machine.
-fn names_own(context: &Context<'_>, message: Message) -> bool
-    ensures { result ≡ names_own (setting context.now) message }
-{
-    let program = context.program;
-    let words = program.memory.len();
-    let cores = context.shape.cores;
-    match message {
-        Message::DataReply { word, .. } | Message::RegAck { word } | Message::WbAck { word } => {
-            (word.0 as usize) < words
-        }
-        Message::RegFwd { word, core } => (word.0 as usize) < words && core.0 < cores,
-        Message::ReadFwd { word, reader } => (word.0 as usize) < words && reader.0 < cores,
-        Message::Grant { lock, .. } => (lock.0 as usize) < program.locks.len(),
-        _ => true,
-    }
-}
-
 impl Node {
     /// Drops the copies of the words that the lock guards in the phase of this plan and that the signature may hold.
     fn drop_guarded(&mut self, plan: &PhasePlan, lock: LockId, signature: &Signature)
-        ensures { self.new ≡ record self.old { cache = record self.old.cache { pairs = dropped_signed signature.now self.old.phase (slice_index_or plan.now.guarded lock.0 []) self.old.cache.pairs } } }
+        ensures { self.new ≡ keeping self.old (dropped_signed signature.now self.old.phase (slice_index_or plan.now.guarded lock.0 []) self.old.cache.pairs) }
     {
         match plan.guarded.get(lock.0 as usize) {
             Some(words) => self.cache.drop_signed(signature, self.phase, words),
@@ -58,7 +41,7 @@ impl Node {
 
     /// Drops the copies of the lock's words that the signature may hold.
     fn drop_signed(&mut self, context: &Context<'_>, lock: LockId, signature: &Signature)
-        ensures { self.new ≡ record self.old { cache = record self.old.cache { pairs = dropped_signed signature.now self.old.phase (guarded_by (slice_get (setting context.now).plans self.old.phase) lock.0) self.old.cache.pairs } } }
+        ensures { self.new ≡ keeping self.old (dropped_signed signature.now self.old.phase (guarded_by (slice_get (setting context.now).plans self.old.phase) lock.0) self.old.cache.pairs) }
     {
         match context.plans.get(self.phase.0 as usize) {
             Some(plan) => self.drop_guarded(plan, lock, signature),
@@ -81,7 +64,7 @@ impl Node {
         };
         task.advance(context.program, declared, context.fuel);
         self.signatures
-            .set(lock.0 as usize, in_phase(signature, self.phase));
+            .set(lock.0 as usize, own_phase(signature, self.phase));
         self.drop_signed(context, lock, &signature);
         self.task = Some(task);
         self.wait = NodeWait::None;
@@ -110,7 +93,7 @@ impl Node {
     /// Drops what the node's phase leaves stale, and takes the marks off.
     fn drop_written(&mut self, context: &Context<'_>)
         requires { self.old.phase < length (setting context.now).plans }
-        ensures { self.new ≡ record self.old { cache = record self.old.cache { pairs = dropped_written (written_in (slice_get (setting context.now).plans self.old.phase)) self.old.cache.pairs } } }
+        ensures { self.new ≡ keeping self.old (dropped_written (written_in (slice_get (setting context.now).plans self.old.phase)) self.old.cache.pairs) }
     {
         if let Some(plan) = context.plans.get(self.phase.0 as usize) {
             self.cache.drop_written(&plan.written);
@@ -147,12 +130,13 @@ impl Node {
         nothing()
     }
 
-    /// What a message of this machine makes the node do, by its kind.
+    /// What a message makes the node do, by its kind.
+    #[tactic(auto, unfolding(crate::specs::Messages::node_gets))]
     fn handle(&mut self, context: &Context<'_>, message: Message) -> Received
         requires context { IsContext (setting context.now) }
         requires fits { Fits (setting context.now) self.old }
-        ensures node { self.new ≡ (message_row (setting context.now) self.old message).0 }
-        ensures received { result ≡ (message_row (setting context.now) self.old message).1 }
+        ensures node { self.new ≡ (node_gets (setting context.now) self.old message).0 }
+        ensures received { result ≡ (node_gets (setting context.now) self.old message).1 }
     {
         match message {
             Message::DataReply { word, value } => self.data(word, value),
@@ -170,8 +154,7 @@ impl Node {
     /// What a message makes the node do: the values of words, the answers of words' homes, reads that other cores are to be
     /// answered, grants of locks, and the keeper's Go and Halt.
     ///
-    /// A message that comes where none of these says anything, or that names a word, core or lock of another machine, changes
-    /// nothing and sends nothing. Takes no memory.
+    /// A message that comes where none of these says anything changes nothing and sends nothing. Takes no memory.
     pub fn receive(&mut self, context: &Context<'_>, message: Message) -> Received
         requires context { IsContext (setting context.now) }
         requires fits { Fits (setting context.now) self.old }
@@ -179,10 +162,6 @@ impl Node {
         ensures received { result ≡ (node_gets (setting context.now) self.old message).1 }
         ensures fits { Fits (setting context.now) self.new }
     {
-        if names_own(context, message) {
-            self.handle(context, message)
-        } else {
-            nothing()
-        }
+        self.handle(context, message)
     }
 }

@@ -2,7 +2,7 @@ ghost use Rattle.std.specs.Prelude.{◌≡◌, ◌≤◌, length};
 ghost use Rattle.std.specs.List.{find};
 ghost use Rattle.std.specs.Option.{option_copied, option_map};
 ghost use Rattle.rv_core.specs.Task.{started};
-ghost use Rattle.registration_protocol.specs.Node.{declared, is_for};
+ghost use Rattle.region_table.specs.Tasks.{declared, is_for};
 
 use dn_base::{CoreId, PhaseId, Shape};
 use region_table::{PhasePlan, Program, TaskDecl};

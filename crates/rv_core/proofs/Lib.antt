@@ -1,2 +1,5 @@
 pub mod HighLocks
 pub mod Needs
+pub mod Looks
+pub mod HeldLemmas
+pub mod Completions

@@ -20,16 +20,16 @@ use Rattle.rv_core.specs.Step.{read_instr, instr_at, after, after_instr, after_l
 use Rattle.rv_core.specs.Kinds.{IsLoad, IsStore, IsAdvance, EndsByFuel, IsAligned, Tells, Allowed}
 
 -- a fact that holds of neither choice doesn't hold of the one that a test takes
-neither : (K : Need → Type 0) (b : Bool) (x y : Need) → (K x → ⊥) → (K y → ⊥) → K (cond b x y) → ⊥
+pub neither : (K : Need → Type 0) (b : Bool) (x y : Need) → (K x → ⊥) → (K y → ⊥) → K (cond b x y) → ⊥
 neither K true x y p q k = p k
 neither K false x y p q k = q k
 
 -- the test of a choice whose second part is ruled out
-first_taken : (K : Need → Type 0) (b : Bool) (x y : Need) → (K y → ⊥) → K (cond b x y) → (b ≡ true) × K x
+pub first_taken : (K : Need → Type 0) (b : Bool) (x y : Need) → (K y → ⊥) → K (cond b x y) → (b ≡ true) × K x
 first_taken K true x y q k = (refl, k)
 first_taken K false x y q k = absurd (q k)
 
-second_taken : (K : Need → Type 0) (b : Bool) (x y : Need) → (K x → ⊥) → K (cond b x y) → (b ≡ false) × K y
+pub second_taken : (K : Need → Type 0) (b : Bool) (x y : Need) → (K x → ⊥) → K (cond b x y) → (b ≡ false) × K y
 second_taken K true x y q k = absurd (q k)
 second_taken K false x y q k = (refl, k)
 
@@ -47,20 +47,20 @@ IsAlignedIn t None = Unit {0}
 IsAlignedIn t (Some i) = IsAligned t i
 
 -- neither a jump, a store nor a call of the environment is of a kind that has no such need
-no_jump : (K : Need → Type 0) (t : TaskState) (target : ℕ) → (K Local → ⊥) → ((c : _) → K (End c) → ⊥) → K (jump_need t target) → ⊥
+pub no_jump : (K : Need → Type 0) (t : TaskState) (target : ℕ) → (K Local → ⊥) → ((c : _) → K (End c) → ⊥) → K (jump_need t target) → ⊥
 no_jump K t target local end = neither K (target % 4 == 0) _ _ local (end _)
 
-no_load : (K : Need → Type 0) (d : TaskDecl) (t : TaskState) (address : ℕ) (w : Option ℕ) → ((x : _) → K (Load x) → ⊥) → ((c : _) → K (End c) → ⊥)
+pub no_load : (K : Need → Type 0) (d : TaskDecl) (t : TaskState) (address : ℕ) (w : Option ℕ) → ((x : _) → K (Load x) → ⊥) → ((c : _) → K (End c) → ⊥)
     → K (load_need d t address w) → ⊥
 no_load K d t address None load end = end _
 no_load K d t address (Some w) load end = neither K (may_load d t.held w) _ _ (load _) (end _)
 
-no_store : (K : Need → Type 0) (d : TaskDecl) (t : TaskState) (whole : Bool) (address : ℕ) (w : Option ℕ) → ((x : _) (y : _) → K (Store x y) → ⊥) → ((c : _) → K (End c) → ⊥)
+pub no_store : (K : Need → Type 0) (d : TaskDecl) (t : TaskState) (whole : Bool) (address : ℕ) (w : Option ℕ) → ((x : _) (y : _) → K (Store x y) → ⊥) → ((c : _) → K (End c) → ⊥)
     → K (store_need d t whole address w) → ⊥
 no_store K d t whole address None store end = end _
 no_store K d t whole address (Some w) store end = neither K (may_store d t.held w) _ _ (store _ _) (end _)
 
-no_call : (K : Need → Type 0) (P : ProgramParts) (t : TaskState) (number lock : ℕ) → ((x : _) → K (Acquire x) → ⊥) → ((x : _) → K (Release x) → ⊥) → ((c : _) → K (End c) → ⊥)
+pub no_call : (K : Need → Type 0) (P : ProgramParts) (t : TaskState) (number lock : ℕ) → ((x : _) → K (Acquire x) → ⊥) → ((x : _) → K (Release x) → ⊥) → ((c : _) → K (End c) → ⊥)
     → K (call_need P t number lock) → ⊥
 no_call K P t number lock acquire release end =
     neither K (nat_lt 2 number) _ _ (end _)

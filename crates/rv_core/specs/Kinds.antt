@@ -46,6 +46,12 @@ Tells P d t next (Release lock) =
     (lock.0 < length P.locks) × (holds t.held lock.0 ≡ true) × (next.held ≡ bit_xor t.held (2 ^ lock.0))
 Tells P d t next (End cause) = Unit {0}
 
+-- the locks that are held once the instruction of a need has retired
+abbrev pub held_after : ℕ → Need → ℕ
+held_after held (Acquire lock) = bit_or held (2 ^ lock.0)
+held_after held (Release lock) = bit_xor held (2 ^ lock.0)
+held_after held _ = held
+
 abbrev pub Allowed : ProgramParts → TaskDecl → TaskState → Need → Type 0
 Allowed P d t n = Tells P d t (advanced P t) n
 

@@ -5,3 +5,5 @@ pub mod Registers
 pub mod Need
 pub mod Step
 pub mod Kinds
+pub mod Next
+pub mod Ending

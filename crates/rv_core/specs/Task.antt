@@ -1,5 +1,5 @@
 -- A task's state: how it starts, and how it ends.
-use Rattle.std.specs.Prelude.{◌+◌, replicate, slice_set, Some, None}
+use Rattle.std.specs.Prelude.{ℕ, ◌+◌, replicate, slice_set, Some, None}
 use Rattle.region_table.specs.declared.declared.TaskDecl.{TaskDecl}
 use Rattle.rv_core.specs.declared.task.TaskState.{TaskState}
 use Rattle.rv_core.specs.declared.task.End.{End}
@@ -9,6 +9,11 @@ use Rattle.rv_core.specs.declared.task.End.TheVariants.{Finished, Fuel, Trap}
 abbrev pub started : TaskDecl → TaskState
 started task =
     record { regs = slice_set (replicate 32 0) 10 task.arg; pc = task.entry; held = 0; retired = 0; end = None }
+
+-- how many instructions retire as a task ends: the ECALL that finishes it does
+abbrev pub retires_at : End → ℕ
+retires_at Finished = 1
+retires_at _ = 0
 
 -- the state once the task has ended; the instruction that finishes a task retires
 abbrev pub stopped : End → TaskState → TaskState

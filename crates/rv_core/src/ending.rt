@@ -1,4 +1,7 @@
-use crate::task::TrapKind;
+ghost use Rattle.std.specs.Prelude.{◌≡◌};
+ghost use Rattle.rv_core.specs.Ending.{shown_end};
+
+use crate::task::{End, TrapKind};
 use dn_base::{CoreId, LockId, Outcome, PhaseId, Sequence};
 
 /// How a started task stands at the end of a run.
@@ -12,6 +15,18 @@ pub enum EndShown {
     Trap { kind: TrapKind, pc: u32, value: u32 },
     /// It waits for this lock.
     Waits { lock: LockId },
+}
+
+impl From<End> for EndShown {
+    ghost from_gives = { λ end shown. shown ≡ shown_end end };
+
+    fn from(end: End) -> EndShown {
+        match end {
+            End::Finished => EndShown::Finished,
+            End::Fuel => EndShown::Fuel,
+            End::Trap { kind, pc, value } => EndShown::Trap { kind, pc, value },
+        }
+    }
 }
 
 /// How the task of a core in a phase stands at the end of a run, and how many instructions it has retired.

@@ -7,6 +7,7 @@
 
 mod access;
 mod ending;
+mod laws;
 mod need;
 mod place;
 mod registers;
@@ -14,7 +15,11 @@ mod step;
 mod task;
 
 pub use ending::{EndShown, Ending, TaskEnd};
-pub use need::Need;
+pub use laws::{
+    a_call_changes_one_lock, a_task_that_finishes_holds_no_lock,
+    a_whole_store_leaves_the_same_over_any_word,
+};
+pub use need::{Need, Next};
 pub use task::{End, TaskState, TrapKind};
 
 #[cfg(test)]

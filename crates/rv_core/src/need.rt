@@ -1,7 +1,8 @@
 ghost use Rattle.std.specs.Prelude.{◌≡◌, ◌↔◌, ℕ, ◌+◌, ◌%◌, ◌^◌, ◌<◌, ◌≤◌, Bool, Option, None, option_map, length};
 ghost use Rattle.region_table.specs.Program.{AreEffects};
-ghost use Rattle.rv_core.specs.Need.{need_of, traps, when_aligned, address_of, jump_target, register_target, jump_need, load_need, store_need, call_need, instr_need};
+ghost use Rattle.rv_core.specs.Need.{need_of, traps, when_aligned, address_of, jump_target, register_target, jump_need, load_need, store_need, call_need, instr_need, word_need};
 ghost use Rattle.rv_core.specs.Kinds.{Allowed, EndsByFuel};
+ghost use Rattle.rv_core.specs.Next.{IsNextOf};
 ghost use Rattle.rv_core.specs.Place.{data_at, is_whole};
 
 use crate::access::{is_held, is_readable, is_writable, least_lock};
@@ -27,6 +28,15 @@ pub enum Need {
     Release { lock: LockId },
     /// The task ends with this cause.
     End { cause: End },
+}
+
+/// What a task's next instruction needs, and the instruction, which `TaskState::complete`, `complete_load` and `merged_by`
+/// need not look for again.
+#[derive(Clone, Copy, Debug, PartialEq, Eq)]
+pub struct Next {
+    pub need: Need,
+    /// None where the task ends before it comes to an instruction: for want of fuel, or as there is none.
+    pub instr: Option<Instr>,
 }
 
 /// The number of register a7, which holds the number of an ECALL.
@@ -164,22 +174,44 @@ fn instruction(program: &Program, task: &TaskDecl, state: &TaskState, instr: Ins
     }
 }
 
+/// What a word needs that is this instruction, if it is one.
+fn word_needs(
+    program: &Program,
+    task: &TaskDecl,
+    state: &TaskState,
+    word: u32,
+    instr: &Option<Instr>,
+) -> Need
+    ensures { result ≡ word_need program.now task.now state.now word instr.now }
+{
+    match instr {
+        Some(instr) => instruction(program, task, state, *instr),
+        None => trap(state, TrapKind::Illegal, word),
+    }
+}
+
+/// A look at an instruction that isn't there, as the task ends.
+fn ends(need: Need) -> Next
+    ensures { result ≡ record { need = need; instr = None } }
+{
+    Next { need, instr: None }
+}
+
 impl TaskState {
-    /// The need, case by case.
+    /// The look, case by case.
     #[tactic(auto, unfolding(crate::specs::Need::need_of))]
-    fn look(&self, program: &Program, task: &TaskDecl, fuel: u32) -> Need
-        ensures { result ≡ need_of program.now task.now fuel self.now }
+    fn look(&self, program: &Program, task: &TaskDecl, fuel: u32) -> Next
+        ensures { IsNextOf program.now task.now fuel self.now result }
     {
         if self.retired == fuel {
-            return Need::End { cause: End::Fuel };
+            return ends(Need::End { cause: End::Fuel });
         }
         let Some(word) = code_word(program.code.as_slice(), self.pc) else {
-            return trap(self, TrapKind::Fetch, self.pc);
+            return ends(trap(self, TrapKind::Fetch, self.pc));
         };
-        match decode(word) {
-            Some(instr) => instruction(program, task, self, instr),
-            None => trap(self, TrapKind::Illegal, word),
-        }
+        let instr = decode(word);
+        let need = word_needs(program, task, self, word, &instr);
+        Next { need, instr }
     }
 
     /// What the task's next instruction needs. The first of these cases that fits decides: the fuel is used up, the
@@ -196,6 +228,19 @@ impl TaskState {
 
         // the word or lock of the need is one that the task may use so
         ensures allowed { Allowed program.now task.now self.now result }
+    {
+        self.look(program, task, fuel).need
+    }
+
+    /// What the task's next instruction needs, as `need` says, and the instruction.
+    ///
+    /// Whoever got what it needs completes it by `complete`, or a load by `complete_load`, with no second look. The task
+    /// goes on.
+    pub fn next(&self, program: &Program, task: &TaskDecl, fuel: u32) -> Next
+        requires { self.now.end ≡ None }
+        ensures value { IsNextOf program.now task.now fuel self.now result }
+        ensures fuel { EndsByFuel result.need ↔ (self.now.retired ≡ fuel) }
+        ensures allowed { Allowed program.now task.now self.now result.need }
     {
         self.look(program, task, fuel)
     }

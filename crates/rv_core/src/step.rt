@@ -5,8 +5,9 @@ ghost use Rattle.rv_core.specs.Registers.{value_in};
 ghost use Rattle.rv_core.specs.Need.{need_of, jump_target};
 ghost use Rattle.rv_core.specs.Step.{instr_at, next_pc, retires, goes_to, after_call, after_instr, after_load, after_store, advanced, loaded_of, merged_of};
 ghost use Rattle.rv_core.specs.Kinds.{IsLoad, IsStore, IsAdvance, IsAligned, KeepsOthers};
+ghost use Rattle.rv_core.specs.Next.{IsNextOf};
 
-use crate::need::{A7, address, register_jump, target};
+use crate::need::{A7, Next, address, register_jump, target};
 use crate::place::{code_word, part, replace};
 use crate::registers::{read, write};
 use crate::task::{A0, TaskState};
@@ -26,7 +27,7 @@ fn instruction(program: &Program, state: &TaskState) -> Option<Instr>
 
 impl TaskState {
     /// The address of the instruction behind this one.
-    fn next(&self) -> u32
+    fn behind(&self) -> u32
         ensures { result ≡ next_pc self.now }
     {
         self.pc.wrapping_add(4)
@@ -62,7 +63,7 @@ impl TaskState {
         } else {
             self.held ^= 1 << lock;
         }
-        let next = self.next();
+        let next = self.behind();
         self.go(next);
     }
 
@@ -74,7 +75,7 @@ impl TaskState {
         if taken(cond, read(&self.regs, a), read(&self.regs, b)) {
             target(self, offset)
         } else {
-            self.next()
+            self.behind()
         }
     }
 
@@ -84,7 +85,7 @@ impl TaskState {
         requires lock { instr ≡ Ecall → slice_index self.old.regs 10 < 32 }
         ensures { self.new ≡ after_instr self.old instr }
     {
-        let next = self.next();
+        let next = self.behind();
         match instr {
             Instr::Lui { rd, imm } => self.retire(rd, imm.wrapping_mul(4096), next),
             Instr::Auipc { rd, imm } => {
@@ -132,7 +133,7 @@ impl TaskState {
         } = instr
         {
             let lane = address(self, base, offset) % 4;
-            let next = self.next();
+            let next = self.behind();
             self.retire(rd, part(width, value, lane), next);
         }
     }
@@ -213,6 +214,85 @@ impl TaskState {
         ensures { result ≡ merged_of program.now old self.now }
     {
         match instruction(program, self) {
+            Some(instr) => self.store_by(instr, old),
+            None => old,
+        }
+    }
+
+    /// Completes the instruction that this look found, as `advance` does, without looking again.
+    ///
+    /// The task goes on, the look is the one that `next` gives now, and its need is one of those that `advance` completes.
+    #[tactic(auto, unfolding(crate::specs::Step::advanced))]
+    pub fn complete(&mut self, program: &Program, task: &TaskDecl, fuel: u32, next: &Next)
+        requires open { self.old.end ≡ None }
+        requires retired { self.old.retired ≤ fuel }
+        requires next { IsNextOf program.now task.now fuel self.old next.now }
+        requires kind { IsAdvance next.now.need }
+        ensures value { self.new ≡ advanced program.now self.old }
+        ensures retired { self.new.retired ≡ self.old.retired + 1 }
+        ensures within { self.new.retired ≤ fuel }
+        ensures others { KeepsOthers (instr_at program.now self.old) self.old self.new }
+        ensures zero { slice_index self.new.regs 0 ≡ slice_index self.old.regs 0 }
+        ensures open { self.new.end ≡ None }
+    {
+        // a program has at most 32 locks
+        let _locks = &program.locks;
+        match next.instr {
+            Some(instr) => self.advance_by(instr),
+            None => {}
+        }
+    }
+
+    /// Completes the load that this look found, whose word has this value, as `loaded` does, without looking again.
+    ///
+    /// The task goes on, the look is the one that `next` gives now, and its need is a load.
+    #[tactic(auto, unfolding(crate::specs::Step::loaded_of))]
+    pub fn complete_load(
+        &mut self,
+        program: &Program,
+        task: &TaskDecl,
+        fuel: u32,
+        next: &Next,
+        value: u32,
+    )
+        requires open { self.old.end ≡ None }
+        requires retired { self.old.retired ≤ fuel }
+        requires next { IsNextOf program.now task.now fuel self.old next.now }
+        requires kind { IsLoad next.now.need }
+        ensures value { self.new ≡ loaded_of program.now value self.old }
+        ensures retired { self.new.retired ≡ self.old.retired + 1 }
+        ensures within { self.new.retired ≤ fuel }
+        ensures others { KeepsOthers (instr_at program.now self.old) self.old self.new }
+        ensures zero { slice_index self.new.regs 0 ≡ slice_index self.old.regs 0 }
+        ensures open { self.new.end ≡ None }
+        ensures locks { self.new.held ≡ self.old.held }
+    {
+        match next.instr {
+            Some(instr) => self.load_by(instr, value),
+            None => {}
+        }
+    }
+
+    /// The word after the store that this look found, where the word's value was `old`, as `merged` says, without looking
+    /// again.
+    ///
+    /// The task goes on, the look is the one that `next` gives now, and its need is a store.
+    #[tactic(auto, unfolding(crate::specs::Step::merged_of))]
+    pub fn merged_by(
+        &self,
+        program: &Program,
+        task: &TaskDecl,
+        fuel: u32,
+        next: &Next,
+        old: u32,
+    ) -> u32
+        requires open { self.now.end ≡ None }
+        requires retired { self.now.retired ≤ fuel }
+        requires next { IsNextOf program.now task.now fuel self.now next.now }
+        requires kind { IsStore next.now.need }
+        ensures { result ≡ merged_of program.now old self.now }
+    {
+        match next.instr {
             Some(instr) => self.store_by(instr, old),
             None => old,
         }

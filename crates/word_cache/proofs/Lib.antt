@@ -8,3 +8,7 @@ pub mod EditLemmas
 pub mod PlacesLemmas
 pub mod LookLemmas
 pub mod ApartLemmas
+pub mod DifferLemmas
+pub mod WeightLemmas
+pub mod CacheLaws
+pub mod KeptLemmas

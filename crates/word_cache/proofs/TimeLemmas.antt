@@ -2,7 +2,7 @@
 use Rattle.std.proofs.Common.{◌≡◌, ◌≢◌, ℕ, ◌+◌, ◌<◌, ◌≤◌, Bool, true, false, cond, nat_lt, nat_le, List, [], ◌∷◌, length, get_or, set, Option, Some, None, refl, arith, ap, ◌∙◌, sym, zero, suc}
 use Rattle.std.specs.Prelude.{count_by}
 use Rattle.std.specs.List.{find}
-use Rattle.std.proofs.lemmas.List.Sums.{sum_by-cons, sum_by-le-sum_by}
+use Rattle.std.proofs.lemmas.List.Sums.{sum_by-cons}
 use Rattle.std.proofs.lemmas.Bool.Decides.{nat_tests}
 use Rattle.word_cache.specs.declared.row.Place.{Place}
 use Rattle.word_cache.specs.Cache.{Pair}
@@ -85,6 +85,13 @@ pub find_no : (p : Pair → Bool) (row : List Place) → ((j : ℕ) (e : Place) 
 find_no p row none =
     find-none p (by_use row) (Each-by_use (λ (q : Place). passes p q.pair ≡ false) row (Each-get (λ (q : Place). passes p q.pair ≡ false) row none))
 
+-- beside the place with the least time from `time` on none was used at that time
+pub elsewhere_used : (sets ways k time : ℕ) (d : Place) (row : List Place) → IsRow sets ways row → k < length row → time ≤ (get_or row k d).used → ((j : ℕ) (e : Place) → j < length row → time ≤ (get_or row j e).used → (get_or row k d).used ≤ (get_or row j e).used) → (j : ℕ) (e : Place) → j < length row → j ≢ k → (get_or row j e).used ≢ time
+elsewhere_used sets ways k time d row good within from first j e below other equal =
+    let least = first j e below (omega (arith, equal)) in
+    let apart = good.times j k e d below within other in
+    apart (omega (arith, least, from, equal))
+
 -- the place with the least time from `time` on may get that time
 pub new_time : (sets ways k time : ℕ) (d y : Place) (row : List Place) → IsRow sets ways row → k < length row → y.pair ≡ (get_or row k d).pair → y.used ≡ time → time ≤ (get_or row k d).used → ((j : ℕ) (e : Place) → j < length row → time ≤ (get_or row j e).used → (get_or row k d).used ≤ (get_or row j e).used) → (pairs_by_use (set row k y) ≡ pairs_by_use row) × IsRow sets ways (set row k y)
 new_time sets ways k time d y row good within same at from first = (
@@ -94,11 +101,7 @@ new_time sets ways k time d y row good within same at from first = (
   IsRow-set sets ways k y row good within differs (λ j e below other. rw same (good.words j k e d below within other)) (rw same (good.placed k d within)),
 ) where
   differs : (j : ℕ) (e : Place) → j < length row → j ≢ k → (get_or row j e).used ≢ y.used
-  differs j e below other equal =
-      let from_there : time ≤ (get_or row j e).used = omega (arith, equal, at) in
-      let least = first j e below from_there in
-      let apart = good.times j k e d below within other in
-      apart (omega (arith, least, from, equal, at))
+  differs j e below other equal = elsewhere_used sets ways k time d row good within from first j e below other (equal ∙ at)
 
   alike : (j : ℕ) (e : Place) → j < length row → j ≢ k → nat_lt y.used (get_or row j e).used ≡ nat_lt (get_or row k d).used (get_or row j e).used
   alike j e below other = by_test (nat_le time (get_or row j e).used) refl where
@@ -114,19 +117,42 @@ new_time sets ways k time d y row good within same at from first = (
 abbrev bit : Bool → ℕ
 bit b = cond b 1 0
 
-from_next : (time : ℕ) (q : Place) → bit (is_from (time + 1) q) ≤ bit (is_from time q)
-from_next time q = by_test (is_from (time + 1) q) (is_from time q) refl refl where
-  by_test : (t u : Bool) → is_from (time + 1) q ≡ t → is_from time q ≡ u → bit t ≤ bit u
-  by_test false u e f = omega arith
-  by_test true true e f = omega arith
+from_next : (time : ℕ) (q : Place) → q.used ≢ time → bit (is_from (time + 1) q) ≡ bit (is_from time q)
+from_next time q other = by_test (is_from (time + 1) q) (is_from time q) refl refl where
+  by_test : (t u : Bool) → is_from (time + 1) q ≡ t → is_from time q ≡ u → bit t ≡ bit u
+  by_test true true e f = refl
+  by_test false false e f = refl
+  by_test false true e f = absurd (grind (arith, nat_tests))
   by_test true false e f = absurd (grind (arith, nat_tests))
 
--- once a place that is from a time on has just that time, fewer are from the next time on
-pub fewer_from : (k time : ℕ) (d y : Place) (row : List Place) → k < length row → y.used ≡ time → time ≤ (get_or row k d).used → count_by (is_from (time + 1)) (set row k y) + 1 ≤ count_by (is_from time) row
-fewer_from k time d y [] within at from = absurd (omega arith)
-fewer_from zero time d y (q ∷ qs) within at from =
+-- where no place was used at a time, as many are from the next time on
+same_from : (time : ℕ) (row : List Place) → ((j : ℕ) (e : Place) → j < length row → (get_or row j e).used ≢ time) → count_by (is_from (time + 1)) row ≡ count_by (is_from time) row
+same_from time [] other = refl
+same_from time (q ∷ qs) other =
+    let weighs = from_next time q (other 0 q (omega arith)) in
+    omega (arith, weighs, same_from time qs (λ j e below. other (suc j) e (omega (arith, below))), sum_by-cons (λ (p : Place). bit (is_from (time + 1) p)) q qs, sum_by-cons (λ (p : Place). bit (is_from time p)) q qs)
+
+-- once the one place that may stand at a time stands there, one fewer is from the next time on
+pub one_fewer : (k time : ℕ) (d y : Place) (row : List Place) → k < length row → y.used ≡ time → time ≤ (get_or row k d).used → ((j : ℕ) (e : Place) → j < length row → j ≢ k → (get_or row j e).used ≢ time) → count_by (is_from (time + 1)) (set row k y) + 1 ≡ count_by (is_from time) row
+one_fewer k time d y [] within at from other = absurd (omega arith)
+one_fewer zero time d y (q ∷ qs) within at from other =
     let gone : bit (is_from (time + 1) y) ≡ 0 = grind (arith, nat_tests) in
     let here : bit (is_from time q) ≡ 1 = grind (arith, nat_tests) in
-    omega (arith, gone, here, sum_by-cons (λ (p : Place). bit (is_from (time + 1) p)) y qs, sum_by-cons (λ (p : Place). bit (is_from time p)) q qs, sum_by-le-sum_by (λ (p : Place). bit (is_from (time + 1) p)) (λ (p : Place). bit (is_from time p)) qs (from_next time))
-fewer_from (suc k) time d y (q ∷ qs) within at from =
-    omega (arith, from_next time q, fewer_from k time d y qs (omega (arith, within)) at from, sum_by-cons (λ (p : Place). bit (is_from (time + 1) p)) q (set qs k y), sum_by-cons (λ (p : Place). bit (is_from time p)) q qs)
+    omega (arith, gone, here, same_from time qs (λ j e below. other (suc j) e (omega (arith, below)) (omega arith)), sum_by-cons (λ (p : Place). bit (is_from (time + 1) p)) y qs, sum_by-cons (λ (p : Place). bit (is_from time p)) q qs)
+one_fewer (suc k) time d y (q ∷ qs) within at from other =
+    let weighs = from_next time q (other 0 q (omega arith) (omega arith)) in
+    omega (arith, weighs, one_fewer k time d y qs (omega (arith, within)) at from (λ j e below apart. other (suc j) e (omega (arith, below)) (omega (arith, apart))), sum_by-cons (λ (p : Place). bit (is_from (time + 1) p)) q (set qs k y), sum_by-cons (λ (p : Place). bit (is_from time p)) q qs)
+
+-- all places are from the first time on
+pub all_from : (row : List Place) → count_by (is_from 0) row ≡ length row
+all_from [] = refl
+all_from (q ∷ qs) =
+    let here : bit (is_from 0 q) ≡ 1 = grind (arith, nat_tests) in
+    omega (arith, here, all_from qs, sum_by-cons (λ (p : Place). bit (is_from 0 p)) q qs)
+
+-- and none where none was used from a time on
+pub none_from : (time : ℕ) (row : List Place) → IsFirst (is_from time) row 0 (length row) None → count_by (is_from time) row ≡ 0
+none_from time [] none = refl
+none_from time (q ∷ qs) none =
+    let here : bit (is_from time q) ≡ 0 = rw (none 0 q (omega arith) (omega arith)) refl in
+    omega (arith, here, none_from time qs (λ j e low below. none (suc j) e (omega arith) (omega (arith, below))), sum_by-cons (λ (p : Place). bit (is_from time p)) q qs)

@@ -1,5 +1,5 @@
 -- A cache of words as its calls are described: the pairs of a word and its entry, the least recently used first.
-use Rattle.std.specs.Prelude.{◌≡◌, ℕ, ◌%◌, Bool, true, false, not, ◌&&◌, ◌||◌, ◌==◌, nat_lt, List, [], ◌∷◌, ◌++◌, map, Option, Some, None, if◌then◌else◌, count_by}
+use Rattle.std.specs.Prelude.{◌≡◌, ℕ, ◌%◌, ◌≤◌, Bool, true, false, not, ◌&&◌, ◌||◌, ◌==◌, nat_lt, List, [], ◌∷◌, ◌++◌, map, Option, Some, None, if◌then◌else◌, count_by}
 use Rattle.std.specs.List.{filter, find}
 use Rattle.std.specs.Option.{option_map}
 use Rattle.dn_base.specs.declared.ids.WordId.{WordId}
@@ -19,6 +19,10 @@ pub record Cache : Type 0 where
   pub sets : ℕ
   pub ways : ℕ
   pub pairs : List Pair
+
+-- a cache with other pairs
+abbrev pub with_pairs : Cache → List Pair → Cache
+with_pairs c ps = record c { pairs = ps }
 
 -- whether a pair is the word's
 abbrev pub is_of : ℕ → Pair → Bool
@@ -70,6 +74,11 @@ set_count sets w ps = count_by (shares_set sets w) ps
 abbrev pub has_room : Cache → ℕ → Bool
 has_room c w = nat_lt (set_count c.sets w c.pairs) c.ways
 
+-- what holds of every cache: no two pairs are of one word, and no set has more pairs than it may have
+pub record IsCache (c : Cache) : Type 0 where
+  pub apart : AreDifferent c.pairs
+  pub within : (w : ℕ) → set_count c.sets w c.pairs ≤ c.ways
+
 -- whether an entry is pending, and whether it may be evicted: Valid, or Registered and not pending
 abbrev pub is_pending : Entry → Bool
 is_pending (Registered value pending) = pending
@@ -85,6 +94,11 @@ abbrev pub may_go : Option Entry → Bool
 may_go None = false
 may_go (Some e) = is_evictable e
 
+-- whether a word has an entry that may not be evicted: it is pending or leaving
+abbrev pub is_stuck : Option Entry → Bool
+is_stuck None = false
+is_stuck (Some e) = not (is_evictable e)
+
 -- whether a pair may be evicted to make room for a word
 abbrev pub gives_way : ℕ → ℕ → Pair → Bool
 gives_way sets w p = shares_set sets w p && is_evictable p.1
@@ -96,6 +110,11 @@ victim_of c w = option_map (λ (p : Pair). p.0) (find (gives_way c.sets w) c.pai
 -- how many entries are pending
 abbrev pub pending_count : List Pair → ℕ
 pending_count ps = count_by (λ (p : Pair). is_pending p.1) ps
+
+-- how many of them a word's entry is
+abbrev pub pending_bit : Option Entry → ℕ
+pending_bit None = 0
+pending_bit (Some e) = if is_pending e then 1 else 0
 
 -- what a core keeps at a phase's end of the words that the phase may have written: every entry but a Valid one that is
 -- not marked
@@ -125,3 +144,13 @@ is_fresh signature phase words p = not (is_valid p.1 && has words p.0.0 && holds
 
 abbrev pub dropped_signed : Signature → ℕ → List Interval → List Pair → List Pair
 dropped_signed signature phase words ps = filter (is_fresh signature phase words) ps
+
+-- what is left of a word's entry at a phase's end, and at a grant
+abbrev pub entry_after_phase : List Interval → ℕ → Option Entry → Option Entry
+entry_after_phase words w None = None
+entry_after_phase words w (Some e) = if is_kept e || not (has words w) then Some (unmarked e) else None
+
+abbrev pub entry_after_grant : Signature → ℕ → List Interval → ℕ → Option Entry → Option Entry
+entry_after_grant signature phase words w None = None
+entry_after_grant signature phase words w (Some e) =
+    if is_valid e && has words w && holds signature w phase then None else Some e

@@ -2,11 +2,11 @@ ghost use Rattle.std.specs.Prelude.{◌≡◌, ◌≢◌, ℕ, ◌*◌, ◌<◌,
 ghost use Rattle.std.specs.Option.{is_some};
 ghost use Rattle.std.specs.Prelude.{length};
 ghost use Rattle.std.specs.List.{filter};
-ghost use Rattle.word_cache.specs.Cache.{Cache, AreDifferent, set_count, in_set, lookup, put, changed, without, touched, has_room, victim_of, may_go, pending_count, dropped_written, dropped_signed};
+ghost use Rattle.word_cache.specs.Cache.{Cache, IsCache, in_set, lookup, put, changed, without, touched, has_room, victim_of, may_go, pending_count, dropped_written, dropped_signed};
 ghost use Rattle.word_cache.specs.Row.{IsCacheRow, AreApart, pairs_by_use};
 
-use crate::edits::{change_entry, take_out, use_again, write_last};
-use crate::looks::{count_pending, entry_of, has_free, set_of, victim_in};
+use crate::edits::{change_entry, recount, take_out, use_again, write_last};
+use crate::looks::{entry_of, has_free, set_of, victim_in};
 use crate::row::{Entry, Place};
 use crate::sweep::{sweep_grant, sweep_phase};
 use dn_base::{Memory, PhaseId, WordId};
@@ -24,17 +24,18 @@ pub struct WordCache {
     ways: u32,
     places: Vec<Place>,
     clock: u64,
+    pending: u32,
 }
 
 impl Model for WordCache {
     ghost use Rattle.word_cache.specs.Cache.{Cache};
-    ghost use Rattle.word_cache.specs.Row.{IsCacheRow, pairs_by_use};
+    ghost use Rattle.word_cache.specs.Row.{IsKept, pairs_by_use};
 
     ghost Value = { Cache };
 
     ghost view = { λ c. record { sets = c.sets; ways = c.ways; pairs = pairs_by_use c.places.items } };
 
-    ghost invariant = { λ c. IsCacheRow c.sets c.ways c.clock c.places.items };
+    ghost invariant = { λ c. IsKept c.sets c.ways c.clock c.pending c.places.items };
 }
 
 /// The places of an empty cache, each with a time of its own.
@@ -70,6 +71,7 @@ impl WordCache {
             ways,
             places: empty_places(alloc, sets, ways)?,
             clock: u64::from(sets * ways),
+            pending: 0,
         })
     }
 
@@ -109,17 +111,16 @@ impl WordCache {
 
     /// What holds of every cache: a word has one pair at the most, and a set has no more pairs than ways. Does nothing.
     pub fn pairs_are_apart(&self)
-        ensures words { AreDifferent self.now.pairs }
-        ensures sets { (w : ℕ) → set_count self.now.sets w self.now.pairs ≤ self.now.ways }
+        ensures { IsCache self.now }
     {
         let _row = self.places.as_slice();
     }
 
-    /// How many entries are pending. Takes no memory.
+    /// How many entries are pending. It looks at no place, and takes no memory.
     pub fn pending(&self) -> u32
         ensures { result ≡ pending_count self.now.pairs }
     {
-        count_pending(self.places.as_slice())
+        self.pending
     }
 
     /// Gives the word this entry; its pair is the one used last then. The word has a pair, or its set has room. Takes no
@@ -128,7 +129,7 @@ impl WordCache {
         requires { (is_some (lookup word.0 self.old.pairs) || has_room self.old word.0) ≡ true }
         ensures { self.new ≡ record self.old { pairs = put word entry self.old.pairs } }
     {
-        write_last(
+        let had = write_last(
             &mut self.places,
             &mut self.clock,
             self.sets,
@@ -136,6 +137,7 @@ impl WordCache {
             word,
             entry,
         );
+        self.pending = recount(self.pending, had, Some(entry));
     }
 
     /// Gives the word's pair this entry; the pair keeps its place in the order of use. The word has a pair. Takes no memory.
@@ -143,7 +145,8 @@ impl WordCache {
         requires { lookup word.0 self.old.pairs ≢ None }
         ensures { self.new ≡ record self.old { pairs = changed word.0 entry self.old.pairs } }
     {
-        change_entry(&mut self.places, self.sets, self.ways, word, entry);
+        let had = change_entry(&mut self.places, self.sets, self.ways, word, entry);
+        self.pending = recount(self.pending, had, Some(entry));
     }
 
     /// Makes the word's pair the one used last. The word has a pair. Takes no memory.
@@ -164,7 +167,8 @@ impl WordCache {
     pub fn remove(&mut self, word: WordId)
         ensures { self.new ≡ record self.old { pairs = without word.0 self.old.pairs } }
     {
-        take_out(&mut self.places, self.sets, self.ways, word);
+        let had = take_out(&mut self.places, self.sets, self.ways, word);
+        self.pending = recount(self.pending, had, None);
     }
 
     /// Drops what a phase leaves stale: the Valid pairs that aren't marked and whose word is in the set. Every other Valid
@@ -181,16 +185,6 @@ impl WordCache {
         ensures { self.new ≡ record self.old { pairs = dropped_signed signature.now phase.0 words.now self.old.pairs } }
     {
         sweep_grant(&mut self.places, signature, phase, words);
-    }
-}
-
-#[cfg(test)]
-impl WordCache {
-    /// Sets the clock forward to this time; an earlier one changes nothing.
-    pub(crate) fn set_clock(&mut self, time: u64)
-        ensures { self.new ≡ self.old }
-    {
-        self.clock = self.clock.max(time);
     }
 }
 

@@ -1,13 +1,32 @@
-ghost use Rattle.std.specs.Prelude.{◌≡◌, ◌≢◌, ◌||◌, ℕ, true, None, nat_lt};
+ghost use Rattle.std.specs.Prelude.{◌≡◌, ◌≢◌, ◌≤◌, ◌+◌, ◌||◌, ℕ, true, None, nat_lt};
 ghost use Rattle.std.specs.Option.{is_some};
-ghost use Rattle.word_cache.specs.Cache.{lookup, set_count, put, touched, changed, without};
+ghost use Rattle.word_cache.specs.Cache.{lookup, set_count, put, touched, changed, without, pending_bit};
 ghost use Rattle.word_cache.specs.Row.{IsRow, IsCacheRow, pairs_by_use};
 
-use crate::row::{Entry, Place, choose, place_of};
+use crate::row::{Entry, Place, choose, entry_at, place_of};
 use crate::times::tick;
 use dn_base::WordId;
 
-/// Gives the word this entry, and makes its pair the one used last.
+/// 1 for a pending entry, and 0 for another and for none.
+fn pending_bit(entry: Option<Entry>) -> u32
+    ensures { result ≡ pending_bit entry }
+{
+    match entry {
+        Some(entry) if entry.is_pending() => 1,
+        _ => 0,
+    }
+}
+
+/// How many entries are pending once one takes the other's place.
+pub(crate) fn recount(count: u32, old: Option<Entry>, new: Option<Entry>) -> u32
+    requires old { pending_bit old ≤ count }
+    requires count { count ≤ 4096 }
+    ensures { result + pending_bit old ≡ count + pending_bit new }
+{
+    count + pending_bit(new) - pending_bit(old)
+}
+
+/// Gives the word this entry, makes its pair the one used last, and hands back the entry that it had.
 pub(crate) fn write_last(
     places: &mut Vec<Place>,
     clock: &mut u64,
@@ -15,40 +34,45 @@ pub(crate) fn write_last(
     ways: u32,
     word: WordId,
     entry: Entry,
-)
+) -> Option<Entry>
     requires row { IsCacheRow sets ways clock.old places.old.items }
     requires room { (is_some (lookup word.0 (pairs_by_use places.old.items)) || nat_lt (set_count sets word.0 (pairs_by_use places.old.items)) ways) ≡ true }
     ensures row { IsCacheRow sets ways clock.new places.new.items }
     ensures pairs { pairs_by_use places.new.items ≡ put word entry (pairs_by_use places.old.items) }
+    ensures had { result ≡ lookup word.0 (pairs_by_use places.old.items) }
 {
     let used = tick(places, clock, sets, ways);
     let place = choose(places.as_slice(), sets, ways, word);
+    let had = entry_at(places.as_slice(), place);
     places[place] = Place {
         pair: Some((word, entry)),
         used,
     };
+    had
 }
 
-/// Gives the word's pair this entry.
+/// Gives the word's pair this entry, and hands back the one that it had.
 pub(crate) fn change_entry(
     places: &mut Vec<Place>,
     sets: u32,
     ways: u32,
     word: WordId,
     entry: Entry,
-)
+) -> Option<Entry>
     requires row { IsRow sets ways places.old.items }
     requires there { lookup word.0 (pairs_by_use places.old.items) ≢ None }
     ensures row { (clock : ℕ) → IsCacheRow sets ways clock places.old.items → IsCacheRow sets ways clock places.new.items }
     ensures pairs { pairs_by_use places.new.items ≡ changed word.0 entry (pairs_by_use places.old.items) }
+    ensures had { result ≡ lookup word.0 (pairs_by_use places.old.items) }
 {
-    if let Some(place) = place_of(places.as_slice(), sets, ways, word) {
-        let Place { pair: _, used } = places[place];
-        places[place] = Place {
-            pair: Some((word, entry)),
-            used,
-        };
-    }
+    let place = place_of(places.as_slice(), sets, ways, word)?;
+    let had = entry_at(places.as_slice(), place);
+    let Place { pair: _, used } = places[place];
+    places[place] = Place {
+        pair: Some((word, entry)),
+        used,
+    };
+    had
 }
 
 /// Makes the word's pair the one used last.
@@ -71,14 +95,16 @@ pub(crate) fn use_again(
     }
 }
 
-/// Takes the word's pair out, if it has one.
-pub(crate) fn take_out(places: &mut Vec<Place>, sets: u32, ways: u32, word: WordId)
+/// Takes the word's pair out, if it has one, and hands back the entry that it had.
+pub(crate) fn take_out(places: &mut Vec<Place>, sets: u32, ways: u32, word: WordId) -> Option<Entry>
     requires row { IsRow sets ways places.old.items }
     ensures row { (clock : ℕ) → IsCacheRow sets ways clock places.old.items → IsCacheRow sets ways clock places.new.items }
     ensures pairs { pairs_by_use places.new.items ≡ without word.0 (pairs_by_use places.old.items) }
+    ensures had { result ≡ lookup word.0 (pairs_by_use places.old.items) }
 {
-    if let Some(place) = place_of(places.as_slice(), sets, ways, word) {
-        let Place { pair: _, used } = places[place];
-        places[place] = Place { pair: None, used };
-    }
+    let place = place_of(places.as_slice(), sets, ways, word)?;
+    let had = entry_at(places.as_slice(), place);
+    let Place { pair: _, used } = places[place];
+    places[place] = Place { pair: None, used };
+    had
 }

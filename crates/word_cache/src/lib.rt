@@ -16,5 +16,8 @@ mod tests;
 mod times;
 
 pub use cache::WordCache;
-pub use laws::an_entry_changes_alone;
+pub use laws::{
+    a_cache_stays_a_cache, a_full_set_waits, an_entry_changes_alone, each_entry_is_judged_alone,
+    pending_entries_are_counted,
+};
 pub use row::{Entry, Place};

@@ -1,9 +1,9 @@
-ghost use Rattle.std.specs.Prelude.{◌≡◌, ◌<◌, ◌≤◌, true, IfSome, length, nat_lt, slice_index_or, count_by};
+ghost use Rattle.std.specs.Prelude.{◌≡◌, ◌<◌, ◌≤◌, true, IfSome, length, nat_lt, slice_index_or};
 ghost use Rattle.std.specs.List.{find, filter};
 ghost use Rattle.std.specs.Option.{option_map};
 ghost use Rattle.word_cache.specs.declared.row.Place.{Place};
 ghost use Rattle.word_cache.specs.Cache.{Pair, in_set, lookup, set_count, gives_way, may_go};
-ghost use Rattle.word_cache.specs.Row.{IsRow, AreApart, pairs_by_use, place_is_pending};
+ghost use Rattle.word_cache.specs.Row.{IsRow, AreApart, pairs_by_use};
 
 use crate::row::{Entry, Place, entry_at, free_place, place_of, victim_place};
 use dn_base::WordId;
@@ -51,24 +51,6 @@ pub(crate) fn victim_in(row: &[Place], sets: u32, ways: u32, word: WordId) -> Op
         Some(place) => word_at(row, place),
         None => None,
     }
-}
-
-/// Whether the place has a pair whose entry is pending.
-fn is_pending(place: &Place) -> bool
-    ensures { result ≡ place_is_pending place.now }
-{
-    match place.pair {
-        Some((_, entry)) => entry.is_pending(),
-        None => false,
-    }
-}
-
-/// How many entries are pending.
-pub(crate) fn count_pending(row: &[Place]) -> u32
-    requires { length row.now ≤ 4096 }
-    ensures { result ≡ count_by place_is_pending row.now }
-{
-    row.iter().filter(|place| is_pending(place)).count() as u32
 }
 
 /// The places of a set.

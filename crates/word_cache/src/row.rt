@@ -5,7 +5,7 @@ ghost use Rattle.word_cache.specs.Row.{IsRow, has_word};
 ghost use Rattle.std.specs.Prelude.{◌||◌, nat_lt};
 ghost use Rattle.std.specs.Option.{is_some, option_map};
 ghost use Rattle.word_cache.specs.Cache.{Pair, lookup, set_count};
-ghost use Rattle.word_cache.specs.Row.{pairs_by_use, MayHold, IsFirst, earlier, place_gives_way, is_from};
+ghost use Rattle.word_cache.specs.Row.{pairs_by_use, MayHold, IsFirst, earlier, place_gives_way, place_may_go, is_from};
 
 use dn_base::WordId;
 
@@ -141,13 +141,12 @@ fn earlier_of(row: &[Place], best: Option<usize>, index: usize) -> usize
     }
 }
 
-/// Whether the place has a pair of the word's set that may be evicted.
-fn gives_way(place: &Place, sets: u32, word: WordId) -> bool
-    requires { 0 < sets }
-    ensures { result ≡ place_gives_way sets word.0 place.now }
+/// Whether the place has a pair that may be evicted.
+fn may_go(place: &Place) -> bool
+    ensures { result ≡ place_may_go place.now }
 {
     match place.pair {
-        Some((other, entry)) => other.0 % sets == word.0 % sets && entry.is_evictable(),
+        Some((_, entry)) => entry.is_evictable(),
         None => false,
     }
 }
@@ -160,7 +159,7 @@ pub(crate) fn victim_place(row: &[Place], sets: u32, ways: u32, word: WordId) ->
     let start = start_of(sets, ways, word);
     let mut best: Option<usize> = None;
     for index in start..start + ways as usize {
-        if gives_way(&row[index], sets, word) {
+        if may_go(&row[index]) {
             best = Some(earlier_of(row, best, index));
         }
     }

@@ -30,75 +30,32 @@ const PENDING: Entry = Entry::Registered {
 
 #[test]
 fn the_least_recently_used_gives_way(rt: HostRuntime) -> Result<(), Fail> {
-    let mut cache = WordCache::new(rt.alloc(), 1, 2)?;
+    let mut cache = WordCache::new(rt.alloc(), 2, 2)?;
     cache.set(WordId(5), COPY);
-    cache.set(WordId(7), OWN);
-    assert_eq!(rt; cache.victim(WordId(9)), Some(WordId(5)));
+    cache.set(WordId(7), PENDING);
+    assert!(rt; !cache.room(WordId(9)));
+    assert_eq!(rt; cache.pending(), 1);
+    cache.change(WordId(7), OWN);
     cache.touch(WordId(5));
     assert_eq!(rt; cache.victim(WordId(9)), Some(WordId(7)));
-    cache.change(WordId(7), PENDING);
-    assert_eq!(rt; cache.victim(WordId(9)), Some(WordId(5)));
-    assert!(rt; !cache.room(WordId(9)));
+    cache.remove(WordId(7));
+    assert_eq!(rt; cache.get(WordId(7)), None);
+    assert_eq!(rt; cache.places(1).len(), 2);
     Ok(())
 }
 
 #[test]
-fn each_set_has_its_places(rt: HostRuntime) -> Result<(), Fail> {
-    let mut cache = WordCache::new(rt.alloc(), 2, 2)?;
-    cache.set(WordId(4), COPY);
-    cache.set(WordId(5), COPY);
-    cache.set(WordId(6), COPY);
-    cache.touch(WordId(4));
-    assert_eq!(rt; cache.victim(WordId(8)), Some(WordId(6)));
-    assert_eq!(rt; cache.victim(WordId(7)), Some(WordId(5)));
-    let places = cache.places(0);
-    assert_eq!(rt; places.len(), 2);
-    assert_eq!(rt; places[0].pair, Some((WordId(4), COPY)));
-    assert_eq!(rt; places[1].pair, Some((WordId(6), COPY)));
-    assert!(rt; places[1].used < places[0].used);
-    Ok(())
-}
-
-#[test]
-fn a_phase_leaves_marked_and_registered_words(rt: HostRuntime) -> Result<(), Fail> {
-    let mut cache = WordCache::new(rt.alloc(), 1, 4)?;
-    cache.set(WordId(0), COPY);
-    cache.set(WordId(1), MARKED);
-    cache.set(WordId(2), OWN);
-    cache.drop_written(&WordSet::range(rt.alloc(), 0, 4)?);
-    assert_eq!(rt; cache.get(WordId(0)), None);
-    assert_eq!(rt; cache.get(WordId(1)), Some(COPY));
-    assert_eq!(rt; cache.get(WordId(2)), Some(OWN));
-    Ok(())
-}
-
-#[test]
-fn a_grant_drops_signed_words(rt: HostRuntime) -> Result<(), Fail> {
+fn stale_copies_go(rt: HostRuntime) -> Result<(), Fail> {
+    let words = WordSet::range(rt.alloc(), 0, 4)?;
     let mut signature = Signature::empty(PhaseId(3));
     signature.insert(WordId(1), PhaseId(3));
     let mut cache = WordCache::new(rt.alloc(), 1, 4)?;
+    cache.set(WordId(0), COPY);
     cache.set(WordId(1), MARKED);
-    cache.set(WordId(2), COPY);
-    cache.drop_signed(&signature, PhaseId(3), &WordSet::range(rt.alloc(), 0, 4)?);
+    cache.drop_written(&words);
+    assert_eq!(rt; cache.get(WordId(0)), None);
+    assert_eq!(rt; cache.get(WordId(1)), Some(COPY));
+    cache.drop_signed(&signature, PhaseId(3), &words);
     assert_eq!(rt; cache.get(WordId(1)), None);
-    assert_eq!(rt; cache.get(WordId(2)), Some(COPY));
-    Ok(())
-}
-
-#[test]
-fn the_clock_is_numbered_again_at_its_end(rt: HostRuntime) -> Result<(), Fail> {
-    let mut cache = WordCache::new(rt.alloc(), 1, 3)?;
-    cache.set(WordId(5), COPY);
-    cache.set(WordId(7), OWN);
-    cache.set_clock(u64::MAX - 1);
-    cache.touch(WordId(5));
-    cache.set(WordId(6), COPY);
-    assert_eq!(rt; cache.victim(WordId(9)), Some(WordId(7)));
-    cache.remove(WordId(7));
-    assert_eq!(rt; cache.victim(WordId(9)), Some(WordId(5)));
-    for place in cache.places(0) {
-        assert!(rt; place.used <= 4);
-    }
-    assert_eq!(rt; cache.pending(), 0);
     Ok(())
 }

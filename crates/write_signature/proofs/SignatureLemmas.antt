@@ -1,5 +1,6 @@
 -- The laws of insertion and join.
-use Rattle.std.proofs.Common.{◌≡◌, ◌≢◌, ℕ, ◌-◌, ◌<◌, max, true, false, ◌||◌, ◌==◌, refl, arith}
+use Rattle.std.proofs.Common.{◌≡◌, ◌≢◌, ℕ, ◌-◌, ◌<◌, ◌≤◌, max, Bool, true, false, ◌||◌, ◌==◌, refl, arith}
+use Rattle.std.proofs.lemmas.Bool.{eqb-true, eqb-false}
 use Rattle.std.proofs.lemmas.Bool.Decides.{nat_tests}
 use Rattle.write_signature.specs.declared.signature.Signature.{Signature}
 use Rattle.write_signature.specs.Signature.{h1, h2, tag, has_bit, with_bit, in_phase, empty, holds, inserted, joined}
@@ -12,7 +13,7 @@ pub tag-empty : (p : ℕ) → tag (empty p) ≡ p
 unfolding empty
 tag-empty p = refl
 
-tag-in_phase : (p : ℕ) (s : Signature) → tag (in_phase p s) ≡ p
+pub tag-in_phase : (p : ℕ) (s : Signature) → tag (in_phase p s) ≡ p
 tag-in_phase p s = grind (arith, nat_tests, tag-empty p)
 
 pub tag-inserted : (s : Signature) (w p : ℕ) → tag (inserted s w p) ≡ p
@@ -64,14 +65,52 @@ pub has_bit-joined : (a b : Signature) (i : ℕ) → tag a ≡ tag b → has_bit
 unfolding joined
 has_bit-joined a b i same = grind (arith, nat_tests, or_has a.low b.low i, or_has a.high b.high (i - 128))
 
-pub joined_covers_first : (a b : Signature) (w p : ℕ) → tag b ≡ p → holds a w p ≡ true → holds (joined a b) w p ≡ true
+-- what is held in a phase was written in it
+pub tag-held : (s : Signature) (w p : ℕ) → holds s w p ≡ true → tag s ≡ p
 unfolding holds
-joined_covers_first a b w p of_phase held =
+tag-held s w p held = grind (arith, nat_tests)
+
+pub in_phase-same : (p : ℕ) (s : Signature) → tag s ≡ p → in_phase p s ≡ s
+in_phase-same p s same = grind (arith, nat_tests)
+
+pub in_phase-other : (p : ℕ) (s : Signature) → tag s ≢ p → in_phase p s ≡ empty p
+in_phase-other p s other = grind (arith, nat_tests)
+
+pub holds-in_phase : (p : ℕ) (s : Signature) (w : ℕ) → holds (in_phase p s) w p ≡ holds s w p
+holds-in_phase p s w =
+    by_test (tag s == p) refl where
+      by_test : (t : Bool) → (tag s == p) ≡ t → holds (in_phase p s) w p ≡ holds s w p
+      by_test true e = rw e refl
+      by_test false e =
+          let other : tag s ≢ p = eqb-false (tag s) p e in
+          rw (e, holds-empty w p p, holds-other_phase s w p other) refl
+
+pub tag-joined_below : (a b : Signature) (p : ℕ) → tag a ≤ p → tag b ≤ p → tag (joined a b) ≤ p
+tag-joined_below a b p first second = grind (arith, nat_tests, tag-joined a b)
+
+same_covers : (a b : Signature) (w p : ℕ) → tag a ≡ p → tag b ≡ p → (holds a w p || holds b w p) ≡ true → holds (joined a b) w p ≡ true
+unfolding holds
+same_covers a b w p of_first of_second held =
     let same : tag a ≡ tag b = grind (arith, nat_tests) in
     rw (tag-joined a b, has_bit-joined a b (h1 w) same, has_bit-joined a b (h2 w) same) (grind (arith, nat_tests))
 
-pub joined_covers_second : (a b : Signature) (w p : ℕ) → tag a ≡ p → holds b w p ≡ true → holds (joined a b) w p ≡ true
-unfolding holds
-joined_covers_second a b w p of_phase held =
-    let same : tag a ≡ tag b = grind (arith, nat_tests) in
-    rw (tag-joined a b, has_bit-joined a b (h1 w) same, has_bit-joined a b (h2 w) same) (grind (arith, nat_tests))
+-- a join with a signature of that phase or an earlier one holds what was held
+pub joined_covers_first : (a b : Signature) (w p : ℕ) → tag b ≤ p → holds a w p ≡ true → holds (joined a b) w p ≡ true
+joined_covers_first a b w p earlier held =
+    let of_first = tag-held a w p held in
+    by_test (tag b == p) refl of_first where
+      by_test : (t : Bool) → (tag b == p) ≡ t → tag a ≡ p → holds (joined a b) w p ≡ true
+      by_test true e of_first = same_covers a b w p of_first (eqb-true (tag b) p e) (rw held refl)
+      by_test false e of_first =
+          let before : tag b < tag a = grind (arith, nat_tests) in
+          rw (joined-later a b before) held
+
+pub joined_covers_second : (a b : Signature) (w p : ℕ) → tag a ≤ p → holds b w p ≡ true → holds (joined a b) w p ≡ true
+joined_covers_second a b w p earlier held =
+    let of_second = tag-held b w p held in
+    by_test (tag a == p) refl of_second where
+      by_test : (t : Bool) → (tag a == p) ≡ t → tag b ≡ p → holds (joined a b) w p ≡ true
+      by_test true e of_second = same_covers a b w p (eqb-true (tag a) p e) of_second (grind (arith, nat_tests))
+      by_test false e of_second =
+          let before : tag a < tag b = grind (arith, nat_tests) in
+          rw (joined-earlier a b before) held

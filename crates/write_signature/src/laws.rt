@@ -1,12 +1,13 @@
 //! What the definitions of insertion and join come to, for whoever reasons about signatures.
 ghost use Rattle.std.specs.Prelude.{◌≡◌, ◌≢◌, ℕ, ◌<◌, ◌≤◌, ◌||◌, max, false, IsTrue};
 ghost use Rattle.write_signature.specs.declared.signature.Signature.{Signature};
-ghost use Rattle.write_signature.specs.Signature.{tag, has_bit, empty, holds, inserted, joined};
+ghost use Rattle.write_signature.specs.Signature.{tag, has_bit, in_phase, empty, holds, inserted, joined};
 
 /// Nothing is held by an empty signature, nor in another phase than a signature's own.
 pub fn nothing_is_held_at_first()
     ensures empty { (w p q : ℕ) → holds (empty p) w q ≡ false }
     ensures other_phase { (s : Signature) (w p : ℕ) → tag s ≢ p → holds s w p ≡ false }
+    ensures own_phase { (s : Signature) (w p : ℕ) → IsTrue (holds s w p) → tag s ≡ p }
 {}
 
 /// A word that was inserted in a phase is held in it, and so is all that was held in it before.
@@ -20,10 +21,17 @@ pub fn insert_empties()
     ensures { (s : Signature) (w p : ℕ) → tag s ≢ p → inserted s w p ≡ inserted (empty p) w p }
 {}
 
-/// A join of two signatures of a phase holds in it what either of them holds in it.
+/// A signature that is taken over into a phase is of that phase, and holds in it what it held in it before.
+pub fn a_phase_takes_over_its_own_writes()
+    ensures tag { (p : ℕ) (s : Signature) → tag (in_phase p s) ≡ p }
+    ensures held { (p : ℕ) (s : Signature) (w : ℕ) → holds (in_phase p s) w p ≡ holds s w p }
+{}
+
+/// A join of signatures of a phase or of earlier ones is of none that is later, and holds in it what either holds in it.
 pub fn join_covers()
-    ensures first { (a b : Signature) (w p : ℕ) → tag b ≡ p → IsTrue (holds a w p) → IsTrue (holds (joined a b) w p) }
-    ensures second { (a b : Signature) (w p : ℕ) → tag a ≡ p → IsTrue (holds b w p) → IsTrue (holds (joined a b) w p) }
+    ensures tag { (a b : Signature) (p : ℕ) → tag a ≤ p → tag b ≤ p → tag (joined a b) ≤ p }
+    ensures first { (a b : Signature) (w p : ℕ) → tag b ≤ p → IsTrue (holds a w p) → IsTrue (holds (joined a b) w p) }
+    ensures second { (a b : Signature) (w p : ℕ) → tag a ≤ p → IsTrue (holds b w p) → IsTrue (holds (joined a b) w p) }
 {}
 
 /// A join of two signatures of a phase has the bits of either.

@@ -12,7 +12,8 @@ mod signature;
 mod tests;
 
 pub use laws::{
-    insert_covers, insert_empties, join_covers, join_has_the_bits_of_either,
-    join_is_of_the_later_phase, nothing_is_held_at_first, tags_are_kept,
+    a_phase_takes_over_its_own_writes, insert_covers, insert_empties, join_covers,
+    join_has_the_bits_of_either, join_is_of_the_later_phase, nothing_is_held_at_first,
+    tags_are_kept,
 };
 pub use signature::Signature;

@@ -82,8 +82,8 @@ impl Signature {
         }
     }
 
-    /// The signature, or the empty one where it has another phase's writes.
-    fn of_phase(self, phase: PhaseId) -> Signature
+    /// The signature as this phase begins to write to it: the empty one, where it has another phase's writes.
+    pub fn in_phase(self, phase: PhaseId) -> Signature
         ensures { result ≡ in_phase phase.0 self }
     {
         if self.phase == phase {
@@ -99,7 +99,7 @@ impl Signature {
         ensures { self.new ≡ inserted self.old word.0 phase.0 }
     {
         *self = self
-            .of_phase(phase)
+            .in_phase(phase)
             .with(first_bit(word))
             .with(second_bit(word));
     }

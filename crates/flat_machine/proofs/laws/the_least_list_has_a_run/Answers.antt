@@ -1,7 +1,11 @@
 use Rattle.std.proofs.Common.{Some}
 use Rattle.flat_machine.specs.Phases.{opened}
+use Rattle.flat_machine.proofs.LeastLaws.{least-exists}
 use Rattle.flat_machine.proofs.RunLemmas.{least-has_run, least-one}
 use Rattle.flat_machine.proofs.laws.the_least_list_has_a_run.Goals as goal
+
+pub returns-clause-list : goal.returns-clause-list
+returns-clause-list c = least-exists
 
 pub returns-clause-run : goal.returns-clause-run
 returns-clause-run c = least-has_run

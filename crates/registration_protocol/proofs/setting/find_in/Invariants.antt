@@ -1,6 +1,6 @@
 use Rattle.std.proofs.Common.{◌≡◌, drop}
 use Rattle.std.specs.List.{find}
-use Rattle.registration_protocol.specs.Node.{is_for}
+use Rattle.region_table.specs.Tasks.{is_for}
 use Rattle.registration_protocol.proofs.setting.find_in.Given as goal
 
 abbrev pub invariant-loop-task : goal.invariant-loop-task

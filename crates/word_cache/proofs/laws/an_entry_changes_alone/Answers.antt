@@ -1,4 +1,4 @@
-use Rattle.word_cache.proofs.LookLemmas.{lookup-put, lookup-without, lookup-changed}
+use Rattle.word_cache.proofs.LookLemmas.{lookup-put, lookup-without, lookup-changed, lookup-touched}
 use Rattle.word_cache.proofs.laws.an_entry_changes_alone.Goals as goal
 
 pub returns-clause-put : goal.returns-clause-put
@@ -9,3 +9,6 @@ returns-clause-without c = lookup-without
 
 pub returns-clause-changed : goal.returns-clause-changed
 returns-clause-changed c = lookup-changed
+
+pub returns-clause-touched : goal.returns-clause-touched
+returns-clause-touched c = lookup-touched

@@ -2,21 +2,33 @@ use Rattle.std.proofs.Common.{◌≡◌, ◌≤◌, ℕ, true, get_or, refl, ap,
 use Rattle.std.proofs.lemmas.Bool.Decides.{nat_tests}
 use Rattle.word_cache.specs.declared.row.Place.{Place}
 use Rattle.word_cache.specs.Row.{is_from}
-use Rattle.word_cache.proofs.TimeLemmas.{new_time, fewer_from}
+use Rattle.word_cache.proofs.TimeLemmas.{new_time, one_fewer, elsewhere_used, all_from, none_from}
 use Rattle.word_cache.proofs.times.renumber.Goals as goal
+
+pub loop-place-init : goal.loop-place-init
+loop-place-init c =
+    record { row = c.requires; pairs = refl; count = omega (arith, all_from c.args.places.now.items, c.requires.whole) }
 
 pub loop-place-smaller : goal.loop-place-smaller
 loop-place-smaller c =
     let first = rw c.as_slice.ensures.value at c.in-Some.ensures in
     let from : c.loop-place.time ≤ (get_or c.loop-place.places.items c.in-Some.place c.index.result.now).used = grind (arith, nat_tests, first.2 c.index.result.now) in
-    let fewer = fewer_from c.in-Some.place c.loop-place.time c.index.result.now (record { pair = c.index.result.now.pair; used = c.loop-place.time }) c.loop-place.places.items first.1 refl from in
+    let later : (j : ℕ) (e : Place) → c.loop-place.time ≤ (get_or c.loop-place.places.items j e).used → is_from c.loop-place.time (get_or c.loop-place.places.items j e) ≡ true = λ j e h. grind (arith, nat_tests) in
+    let other = elsewhere_used c.args.sets c.args.ways c.in-Some.place c.loop-place.time c.index.result.now c.loop-place.places.items c.loop-place.invariant.row first.1 from (λ j e below h. first.3 j e c.index.result.now (omega arith) below (later j e h)) in
+    let fewer = one_fewer c.in-Some.place c.loop-place.time c.index.result.now (record { pair = c.index.result.now.pair; used = c.loop-place.time }) c.loop-place.places.items first.1 refl from other in
     omega (arith, fewer)
 
 pub loop-place-preserved : goal.loop-place-preserved
 loop-place-preserved c =
     let first = rw c.as_slice.ensures.value at c.in-Some.ensures in
     let from : c.loop-place.time ≤ (get_or c.loop-place.places.items c.in-Some.place c.index.result.now).used = grind (arith, nat_tests, first.2 c.index.result.now) in
-    let fewer = fewer_from c.in-Some.place c.loop-place.time c.index.result.now (record { pair = c.index.result.now.pair; used = c.loop-place.time }) c.loop-place.places.items first.1 refl from in
     let later : (j : ℕ) (e : Place) → c.loop-place.time ≤ (get_or c.loop-place.places.items j e).used → is_from c.loop-place.time (get_or c.loop-place.places.items j e) ≡ true = λ j e h. grind (arith, nat_tests) in
+    let other = elsewhere_used c.args.sets c.args.ways c.in-Some.place c.loop-place.time c.index.result.now c.loop-place.places.items c.loop-place.invariant.row first.1 from (λ j e below h. first.3 j e c.index.result.now (omega arith) below (later j e h)) in
+    let fewer = one_fewer c.in-Some.place c.loop-place.time c.index.result.now (record { pair = c.index.result.now.pair; used = c.loop-place.time }) c.loop-place.places.items first.1 refl from other in
     let moved = new_time c.args.sets c.args.ways c.in-Some.place c.loop-place.time c.index.result.now (record { pair = c.index.result.now.pair; used = c.loop-place.time }) c.loop-place.places.items c.loop-place.invariant.row first.1 (ap (λ (p : Place). p.pair) c.index.ensures) refl from (λ j e below h. first.3 j e c.index.result.now (omega arith) below (later j e h)) in
     record { row = moved.1; pairs = moved.0 ∙ c.loop-place.invariant.pairs; count = omega (arith, fewer, c.loop-place.invariant.count) }
+
+pub returns-clause-next : goal.returns-clause-next
+returns-clause-next c =
+    let none = rw c.as_slice.ensures.value at (rw c.in_default.is at c.least_from.ensures) in
+    omega (arith, c.loop-place.invariant.count, none_from c.loop-place.time c.loop-place.places.items none)

@@ -1,0 +1,51 @@
+ghost use Rattle.std.specs.List.{All};
+ghost use Rattle.region_table.specs.Words.{IsCanonical};
+ghost use Rattle.region_table.specs.Program.{tasks_of};
+ghost use Rattle.region_table.specs.Numbers.{AreCodeWords, IsOfWords};
+
+use crate::declared::{Phase, TaskDecl};
+use crate::words::WordSet;
+
+/// These words have 32 bits.
+pub(crate) fn words_fit(words: &[u32])
+    ensures { AreCodeWords words.now }
+{}
+
+/// These sets are canonical.
+fn sets_fit(sets: &[WordSet])
+    ensures { All IsCanonical sets.now }
+{
+    for set in sets {
+        let _intervals = set.intervals();
+    }
+}
+
+/// The numbers of a task have 32 bits, and its sets are canonical.
+fn task_fits(task: &TaskDecl)
+    ensures { IsOfWords task.now }
+{
+    let _entry = task.entry;
+    let _arg = task.arg;
+    let _reads = task.effects.reads.intervals();
+    let _writes = task.effects.writes.intervals();
+    sets_fit(task.effects.guarded_reads.as_slice());
+    sets_fit(task.effects.guarded_writes.as_slice());
+}
+
+/// The same of each of these tasks.
+fn tasks_fit(tasks: &[TaskDecl])
+    ensures { All IsOfWords tasks.now }
+{
+    for task in tasks {
+        task_fits(task);
+    }
+}
+
+/// The same of each task of these phases.
+pub(crate) fn phases_fit(phases: &[Phase])
+    ensures { All IsOfWords (tasks_of phases.now) }
+{
+    for phase in phases {
+        tasks_fit(phase.tasks.as_slice());
+    }
+}
