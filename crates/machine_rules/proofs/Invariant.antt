@@ -9,7 +9,7 @@ use Rattle.region_table.specs.declared.declared.TaskDecl.{TaskDecl}
 use Rattle.region_table.specs.Words.{has}
 use Rattle.region_table.specs.Plan.{uses_plainly}
 use Rattle.region_table.specs.Program.{IsProgram}
-use Rattle.registration_protocol.specs.Node.{declared}
+use Rattle.region_table.specs.Tasks.{declared}
 use Rattle.rv_core.specs.declared.task.End.TheVariants.{Finished}
 use Rattle.rv_core.specs.declared.task.TaskState.{TaskState}
 use Rattle.rv_core.specs.Access.{holds as is_held}
@@ -208,6 +208,7 @@ pub record PhasesGood (S : State) : Type 0 where
   pub phase : (c : ℕ) (n : NodeParts) → slice_get S.nodes c ≡ Some n → n.halted ≡ false → n.phase + flight S (goes c) ≡ S.keeper.phase
   pub astray : flight S (is_astray S.keeper.phase) ≡ 0
   pub arrived : (c : ℕ) (n : NodeParts) → slice_get S.nodes c ≡ Some n → n.arrived ≡ true → HasArrived n
+  pub asleep : (c : ℕ) (n : NodeParts) → slice_get S.nodes c ≡ Some n → n.halted ≡ true → HasArrived n
   pub truly : flight S (is_lie S.nodes) ≡ 0
   pub bad : S.keeper.bad ≡ true → (c : ℕ) × (counts_bad S c ≡ true)
   pub good : S.keeper.bad ≡ false → (c : ℕ) → counts_bad S c ≡ false

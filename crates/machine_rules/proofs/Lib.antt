@@ -1,6 +1,5 @@
 mod Bits
 mod Invariant
-mod StubLemmas
 mod Lists
 mod Steps
 mod BitLemmas
@@ -12,3 +11,8 @@ mod WordEvents
 mod WordCore
 mod WordHome
 mod WordGood
+mod Leaves
+mod WordQuiet
+mod WordLeaves
+mod DispatchOwn
+mod DispatchCore

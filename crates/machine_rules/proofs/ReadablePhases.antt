@@ -9,7 +9,7 @@ use Rattle.machine_rules.specs.State.{State}
 use Rattle.machine_rules.specs.Flight.{bit, flight, counted, arrives, goes, halts}
 use Rattle.machine_rules.specs.Coherent.{ArePhases, IsInPhase, IsInFlight, is_alive}
 use Rattle.machine_rules.proofs.Invariant.{PhasesGood, is_lie, same_truth, bad_in}
-use Rattle.machine_rules.proofs.StubLemmas.{weight-within}
+use Rattle.message_net.proofs.PoolLemmas.{weight-within}
 
 alive-arrived : (n : NodeParts) → 1 ≤ bit (is_alive (Some n)) → n.arrived ≡ true
 alive-arrived n some = by_flag n.arrived refl some where

@@ -20,7 +20,7 @@ use Rattle.machine_rules.proofs.Bits.{pending_bit, owner_bit, known_bit, reading
 use Rattle.machine_rules.proofs.BitLemmas.{pending-bit, owner-bit}
 use Rattle.machine_rules.proofs.Invariant.{WordsGood, ReadsGood, ValuesGood}
 use Rattle.machine_rules.proofs.ReadableValues.{value-is}
-use Rattle.machine_rules.proofs.StubLemmas.{weight-within}
+use Rattle.message_net.proofs.PoolLemmas.{weight-within}
 
 -- who waits for a word is counted as its reader
 pub reading-bit : (S : State) (c : ℕ) (word : WordId) → waits_for S c (wait.TheVariants.Reading word) → reading_in word.0 (slice_get S.nodes c) ≡ 1

@@ -23,7 +23,9 @@ use Rattle.machine_rules.specs.Flight.{Test, bit, counted, flight, weighs}
 use Rattle.machine_rules.specs.Next.{next, enabled, number_of, core_does, bank_does, keeper_handles, gets, handles, sends, posts}
 use Rattle.machine_rules.proofs.Bits.{passes}
 use Rattle.machine_rules.proofs.Lists.{get-set-there}
-use Rattle.machine_rules.proofs.StubLemmas.{IsFound, found-counted, sum_by-taken, sum_by-mails_with, weight_sent, sum_by-all_mails, sum_by-mails_of}
+use Rattle.message_net.specs.Pool.{IsFound}
+use Rattle.message_net.proofs.PoolLemmas.{found-counted, sum_by-taken}
+use Rattle.message_net.proofs.MailLemmas.{sum_by-mails_with, weight_sent, sum_by-all_mails, sum_by-mails_of}
 
 -- a mail as it was sent
 abbrev pub as_sent : Mail → Outgoing

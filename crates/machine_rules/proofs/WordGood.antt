@@ -15,7 +15,8 @@ use Rattle.rv_core.specs.declared.task.TaskState.{TaskState}
 use Rattle.rv_core.specs.Access.{may_store}
 use Rattle.word_cache.specs.declared.row.Entry.{Entry}
 use Rattle.word_cache.specs.declared.row.Entry.TheVariants.{Valid, Registered, Leaving}
-use Rattle.registration_protocol.specs.Node.{NodeParts, declared}
+use Rattle.registration_protocol.specs.Node.{NodeParts}
+use Rattle.region_table.specs.Tasks.{declared}
 use Rattle.machine_rules.specs.State.{State, entry_in, entry_at, home_at}
 use Rattle.machine_rules.specs.Flight.{Test, bit, counted, flight, gives_back, gives_back_value}
 use Rattle.machine_rules.specs.Coherent.{MayStore}

@@ -9,7 +9,7 @@ use Rattle.word_cache.specs.declared.row.Entry.TheVariants.{Valid, Registered, L
 use Rattle.registry_bank.specs.declared.bank.BankWord.{BankWord}
 use Rattle.registry_bank.specs.declared.bank.BankWord.TheVariants.{Home, Reg}
 use Rattle.registration_protocol.specs.Node.{NodeParts, Setting, entry_of}
-use Rattle.machine_rules.specs.Stubs.{written_now}
+use Rattle.registration_protocol.specs.OwnEvents.{written_now}
 use Rattle.machine_rules.specs.State.{State, entry_at, home_at}
 
 -- the value of a pending entry

@@ -15,7 +15,7 @@ use Rattle.message_net.specs.declared.message.Message.{Message}
 use Rattle.message_net.specs.declared.message.Outgoing.{Outgoing}
 use Rattle.message_net.specs.Kind.{kind_of}
 use Rattle.message_net.specs.Pool.{count_of, taken}
-use Rattle.machine_rules.specs.Stubs.{place_of, mails_with, all_mails}
+use Rattle.message_net.specs.Mail.{place_of, mails_with, all_mails}
 use Rattle.registry_bank.specs.Bank.{BankParts, bank_gets}
 use Rattle.phase_barrier.specs.declared.keeper.Verdict.{Verdict}
 use Rattle.phase_barrier.specs.Barrier.{Barrier}

@@ -19,22 +19,6 @@ use Rattle.region_table.specs.declared.declared.TaskDecl.{TaskDecl}
 use Rattle.region_table.specs.declared.declared.Phase.{Phase}
 use Rattle.registration_protocol.specs.Node.{NodeParts, Setting}
 
-abbrev pub place_of : ℕ → ℕ → Actor → ℕ
-place_of cores banks (Core core) = core.0
-place_of cores banks (Bank bank) = cores + bank.0
-place_of cores banks Keeper = cores + banks
-
-abbrev pub mail_of : Actor → ℕ → Outgoing → Mail
-mail_of from number out = record { id = record { sender = from; number = number }; to = out.to; message = out.message }
-
-abbrev pub mails_with : Actor → ℕ → Option Outgoing → List Mail → List Mail
-mails_with from number None mails = mails
-mails_with from number (Some out) mails = mails ++ mail_of from number out ∷ []
-
-abbrev pub all_mails : Actor → ℕ → List Outgoing → List Mail → List Mail
-all_mails from number [] mails = mails
-all_mails from number (out ∷ outs) mails = all_mails from (number + 1) outs (mails ++ mail_of from number out ∷ [])
-
 abbrev pub opened_bank : ℕ → ℕ → ℕ → List ℕ → ℕ → BankParts
 opened_bank bank banks cores memory locks = record { bank = bank; banks = banks; cores = cores; words = []; locks = [] }
 
@@ -45,5 +29,3 @@ keeper_gets k _ = (k, Wait)
 abbrev pub letters : ℕ → Verdict → List Outgoing
 letters cores v = []
 
-abbrev pub written_now : Setting → NodeParts → Option (WordId × ℕ)
-written_now C n = None
