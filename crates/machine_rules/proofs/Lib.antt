@@ -13,6 +13,10 @@ mod WordHome
 mod WordGood
 mod Leaves
 mod WordQuiet
-mod WordLeaves
+mod WordSteps
 mod DispatchOwn
 mod DispatchCore
+mod WordRights
+mod WordMade
+mod WordMoves
+mod WordBacks

@@ -41,10 +41,10 @@ pub record EntryStep (S T : State) (core : ℕ) (n m : NodeParts) (w : ℕ) (old
   pub came : (v : ℕ) → (w == v) ≡ false → IsAside v left
   pub went : (v : ℕ) → (w == v) ≡ false → IsAside v sent
 
-entry-here : (S : State) (core : ℕ) (n : NodeParts) (v : ℕ) → slice_get S.nodes core ≡ Some n → entry_at S core v ≡ entry_of n v
+pub entry-here : (S : State) (core : ℕ) (n : NodeParts) (v : ℕ) → slice_get S.nodes core ≡ Some n → entry_at S core v ≡ entry_of n v
 entry-here S core n v found = ap (entry_in v) found
 
-at-core : (S T : State) (core : ℕ) (n m : NodeParts) (w : ℕ) (old new : Option Entry) (left sent : Option Outgoing) → EntryStep S T core n m w old new left sent → AtCore S T w core old new left sent
+pub at-core : (S T : State) (core : ℕ) (n m : NodeParts) (w : ℕ) (old new : Option Entry) (left sent : Option Outgoing) → EntryStep S T core n m w old new left sent → AtCore S T w core old new left sent
 at-core S T core n m w old new left sent h =
     record {
       was = entry-here S core n w h.step.found ∙ h.was;
@@ -54,7 +54,7 @@ at-core S T core n m w old new left sent h =
       flows = flows S T left sent h.step.flown w;
     }
 
-word-event : (S T : State) (core : ℕ) (n m : NodeParts) (w : ℕ) (old new : Option Entry) (left sent : Option Outgoing) → EntryStep S T core n m w old new left sent
+pub word-event : (S T : State) (core : ℕ) (n m : NodeParts) (w : ℕ) (old new : Option Entry) (left sent : Option Outgoing) → EntryStep S T core n m w old new left sent
     → WordEvent S T w core (λ _. new) (home_at S w) left sent
 word-event S T core n m w old new left sent h =
     record {
