@@ -20,3 +20,5 @@ mod WordRights
 mod WordMade
 mod WordMoves
 mod WordBacks
+mod Exclusive
+mod WordLeaves

@@ -54,7 +54,7 @@ use Rattle.machine_rules.proofs.WordQuiet.{owned_part, of_word, aside, aside-non
 -- ---- steps of a core that leave what isn't a copy
 
 -- a task's step: no entry changes, and no mail comes
-task-step : (S T : State) (core : ℕ) (n m : NodeParts) (sent : Option Outgoing) → NodeStep S T core n m None sent → WordsGood S → m.cache ≡ n.cache → m.phase ≡ n.phase
+pub task-step : (S T : State) (core : ℕ) (n m : NodeParts) (sent : Option Outgoing) → NodeStep S T core n m None sent → WordsGood S → m.cache ≡ n.cache → m.phase ≡ n.phase
     → KeepsRights n m → ((v : ℕ) → IsAside v sent) → WordsGood T
 task-step S T core n m sent step g cache phase keeps went =
     quiet-node S T core n m None sent step g (λ v. rw (cache) refl) aside-none went
@@ -74,7 +74,7 @@ loaded-good S T core n m d t u x acts step same phase task held g =
     (λ c w one. right-kept S T core.0 n m None None step phase (keeps-held n m t u acts.task task held) c w (g.right c w one))
 
 -- a copy takes a word's place that has none but a copy
-put-part : (n m : NodeParts) (w : ℕ) (e : Entry) → ((v : ℕ) → entry_of m v ≡ cond (w == v) (Some e) (entry_of n v)) → owned_part (Some e) ≡ None → owned_part (entry_of n w) ≡ None
+pub put-part : (n m : NodeParts) (w : ℕ) (e : Entry) → ((v : ℕ) → entry_of m v ≡ cond (w == v) (Some e) (entry_of n v)) → owned_part (Some e) ≡ None → owned_part (entry_of n w) ≡ None
     → (v : ℕ) → owned_part (entry_of m v) ≡ owned_part (entry_of n v)
 put-part n m w e now copy none v = by_test (w == v) refl where
   by_test : (x : Bool) → (w == v) ≡ x → owned_part (entry_of m v) ≡ owned_part (entry_of n v)
@@ -82,14 +82,14 @@ put-part n m w e now copy none v = by_test (w == v) refl where
   by_test false f = ap owned_part (rw (f) at (now v))
 
 -- a copy goes
-lacking-part : (n : NodeParts) (w : ℕ) → owned_part (entry_of n w) ≡ None → (v : ℕ) → owned_part (entry_of (lacking n w) v) ≡ owned_part (entry_of n v)
+pub lacking-part : (n : NodeParts) (w : ℕ) → owned_part (entry_of n w) ≡ None → (v : ℕ) → owned_part (entry_of (lacking n w) v) ≡ owned_part (entry_of n v)
 lacking-part n w none v = by_test (w == v) refl where
   by_test : (x : Bool) → (w == v) ≡ x → owned_part (entry_of (lacking n w) v) ≡ owned_part (entry_of n v)
   by_test true f = ap owned_part (rw (f) at (lookup-without w v n.cache.pairs)) ∙ sym (subst (λ (x : ℕ). owned_part (entry_of n x) ≡ None) (eqb-true w v f) none)
   by_test false f = ap owned_part (rw (f) at (lookup-without w v n.cache.pairs))
 
 -- a phase's end and a grant take copies alone
-phase-part : (words : List Interval) (w : ℕ) (e : Option Entry) → owned_part (entry_after_phase words w e) ≡ owned_part e
+pub phase-part : (words : List Interval) (w : ℕ) (e : Option Entry) → owned_part (entry_after_phase words w e) ≡ owned_part e
 phase-part words w None = refl
 phase-part words w (Some (Valid value true)) = refl
 phase-part words w (Some (Valid value false)) = by_test (has words w) where
@@ -99,7 +99,7 @@ phase-part words w (Some (Valid value false)) = by_test (has words w) where
 phase-part words w (Some (Registered value pending)) = refl
 phase-part words w (Some (Leaving value)) = refl
 
-grant-part : (s : Signature) (phase : ℕ) (words : List Interval) (w : ℕ) (e : Option Entry) → owned_part (entry_after_grant s phase words w e) ≡ owned_part e
+pub grant-part : (s : Signature) (phase : ℕ) (words : List Interval) (w : ℕ) (e : Option Entry) → owned_part (entry_after_grant s phase words w e) ≡ owned_part e
 grant-part s phase words w None = refl
 grant-part s phase words w (Some (Valid value marked)) = by_test (has words w && holds s w phase) where
   by_test : (x : Bool) → owned_part (cond x None (Some (Valid value marked))) ≡ None
