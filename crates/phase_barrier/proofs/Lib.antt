@@ -1,2 +1,4 @@
 pub mod Flags
 pub mod ArrivalLemmas
+pub mod CountLemmas
+pub mod LetterLemmas

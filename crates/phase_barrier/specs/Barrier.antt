@@ -1,6 +1,8 @@
 -- The barrier between phases: who has arrived, and what its keeper answers.
-use Rattle.std.specs.Prelude.{ℕ, ◌+◌, Bool, true, false, ◌||◌, nat_le, List, length, replicate, slice_get, slice_set, Option, Some, None, if◌then◌else◌}
+use Rattle.std.specs.Prelude.{ℕ, ◌+◌, Bool, true, false, ◌||◌, ◌&&◌, not, nat_le, List, length, replicate, slice_get, slice_set, Option, Some, None, if◌then◌else◌, count_by}
 use Rattle.std.specs.List.{list_all}
+use Rattle.message_net.specs.declared.message.Message.{Message}
+use Rattle.message_net.specs.declared.message.Message.TheVariants.{Arrived}
 use Rattle.phase_barrier.specs.declared.keeper.Verdict.{Verdict}
 use Rattle.phase_barrier.specs.declared.keeper.Verdict.TheVariants.{Wait, Go, Halt}
 
@@ -46,6 +48,26 @@ arrival k core bad None = (k, Wait)
 arrival k core bad (Some true) = (k, Wait)
 arrival k core bad (Some false) = decided (counted core bad k)
 
--- what the keeper does with an arrival, and what it answers
-abbrev pub keeper_gets : Barrier → ℕ → Bool → Barrier × Verdict
-keeper_gets k core bad = arrival k core bad (slice_get k.arrived core)
+abbrev pub arrives : Barrier → ℕ → Bool → Barrier × Verdict
+arrives k core bad = arrival k core bad (slice_get k.arrived core)
+
+-- what the keeper does with a message, and its verdict: a message of any other kind than an arrival changes nothing
+unfoldable pub keeper_gets : Barrier → Message → Barrier × Verdict
+keeper_gets k (Arrived core bad) = arrives k core.0 bad
+keeper_gets k _ = (k, Wait)
+
+-- whether a core has arrived in the current phase
+abbrev pub is_marked : Option Bool → Bool
+is_marked None = false
+is_marked (Some mark) = mark
+
+abbrev pub has_arrived : ℕ → Barrier → Bool
+has_arrived core k = is_marked (slice_get k.arrived core)
+
+-- whether a core waits at the barrier: it has arrived, and another has not
+abbrev pub waits_in : ℕ → Barrier → Bool
+waits_in core k = has_arrived core k && not (all_arrived k)
+
+-- how many cores have arrived in the current phase
+abbrev pub arrived_count : Barrier → ℕ
+arrived_count k = count_by (λ (a : Bool). a) k.arrived

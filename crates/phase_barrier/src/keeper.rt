@@ -1,7 +1,9 @@
 ghost use Rattle.std.specs.Prelude.{◌≡◌, ◌+◌, ◌<◌, ◌≤◌, ◌||◌, Some, None, false, length, slice_get, IsTrue};
-ghost use Rattle.phase_barrier.specs.Barrier.{opened, all_arrived, is_over, advanced, released, decided, counted, keeper_gets};
+ghost use Rattle.phase_barrier.specs.Barrier.{opened, all_arrived, is_over, advanced, released, decided, counted, arrives, keeper_gets};
+ghost use Rattle.phase_barrier.specs.Letters.{letter_of};
 
 use dn_base::{CoreId, PhaseId};
+use message_net::Message;
 use std::marker::Model;
 
 /// What the keeper answers to an arrival.
@@ -13,6 +15,19 @@ pub enum Verdict {
     Go { phase: PhaseId },
     /// All have arrived, and the run is over.
     Halt,
+}
+
+impl Verdict {
+    /// The message that tells each core of the verdict; None at Wait.
+    pub fn letter(&self) -> Option<Message>
+        ensures { result ≡ letter_of self.now }
+    {
+        match self {
+            Verdict::Wait => None,
+            Verdict::Go { phase } => Some(Message::Go { phase: *phase }),
+            Verdict::Halt => Some(Message::Halt),
+        }
+    }
 }
 
 /// The most cores that a machine has.
@@ -103,8 +118,8 @@ impl Keeper {
     /// and else Go: the next phase is current then, and nobody has arrived. A core that has arrived already, one that isn't
     /// there, and every call after Halt get Wait and change nothing. Takes no memory.
     pub fn arrived(&mut self, core: CoreId, bad: bool) -> Verdict
-        ensures keeper { self.new ≡ (keeper_gets self.old core.0 bad).0 }
-        ensures verdict { result ≡ (keeper_gets self.old core.0 bad).1 }
+        ensures keeper { self.new ≡ (arrives self.old core.0 bad).0 }
+        ensures verdict { result ≡ (arrives self.old core.0 bad).1 }
     {
         match self.flags().get(core.0 as usize) {
             Some(false) => {}
@@ -115,6 +130,19 @@ impl Keeper {
             self.release()
         } else {
             Verdict::Wait
+        }
+    }
+
+    /// The keeper's answer to a message: to an arrival as above, and to any other kind Wait, which changes nothing. Takes no
+    /// memory.
+    #[tactic(auto, unfolding(crate::specs::Barrier::keeper_gets))]
+    pub fn handle(&mut self, message: Message) -> Verdict
+        ensures keeper { self.new ≡ (keeper_gets self.old message).0 }
+        ensures verdict { result ≡ (keeper_gets self.old message).1 }
+    {
+        match message {
+            Message::Arrived { core, bad } => self.arrived(core, bad),
+            _ => Verdict::Wait,
         }
     }
 }

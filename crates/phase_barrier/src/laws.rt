@@ -1,25 +1,65 @@
-//! What the definition of an arrival comes to, for whoever reasons about the barrier.
-ghost use Rattle.std.specs.Prelude.{◌≡◌, ◌≢◌, ℕ, ◌+◌, ◌<◌, ◌==◌, ◌&&◌, Bool, true, false, nat_lt, if◌then◌else◌, length, slice_get, Some};
+//! What the definitions of an arrival and of the letters come to, for whoever reasons about the barrier.
+ghost use Rattle.std.specs.Prelude.{◌≡◌, ◌≢◌, ℕ, ◌+◌, ◌<◌, ◌≤◌, ◌==◌, ◌&&◌, ◌||◌, Bool, true, false, nat_lt, if◌then◌else◌, length, slice_get, Some, count_by};
+ghost use Rattle.message_net.specs.declared.message.Message.{Message};
+ghost use Rattle.message_net.specs.declared.event.EventKind.TheVariants.{Arrived};
+ghost use Rattle.message_net.specs.Kind.{kind_of};
+ghost use Rattle.phase_barrier.specs.declared.keeper.Verdict.{Verdict};
 ghost use Rattle.phase_barrier.specs.declared.keeper.Verdict.TheVariants.{Wait, Go, Halt};
-ghost use Rattle.phase_barrier.specs.Barrier.{Barrier, all_arrived, counted, advanced, released, is_over, keeper_gets};
+ghost use Rattle.phase_barrier.specs.Barrier.{Barrier, all_arrived, counted, advanced, released, is_over, arrives, keeper_gets, waits_in, arrived_count};
+ghost use Rattle.phase_barrier.specs.Letters.{letter_count, go_count, letters, goes_to};
 
 /// Counting a core marks that core alone.
 pub fn a_count_marks_one_core()
     ensures flags { (k : Barrier) (core d : ℕ) (bad : Bool)
         → slice_get (counted core bad k).arrived d ≡ (if (core == d) && nat_lt d (length k.arrived) then Some true else slice_get k.arrived d) }
     ensures cores { (k : Barrier) (core : ℕ) (bad : Bool) → length (counted core bad k).arrived ≡ length k.arrived }
+    ensures count { (k : Barrier) (core : ℕ) (bad : Bool) → slice_get k.arrived core ≡ Some false
+        → arrived_count (counted core bad k) ≡ arrived_count k + 1 }
+{}
+
+/// An arrival of a core that is counted already, or that isn't there, changes nothing.
+pub fn a_core_is_counted_once()
+    ensures { (k : Barrier) (core : ℕ) (bad : Bool) → slice_get k.arrived core ≢ Some false → arrives k core bad ≡ (k, Wait) }
+{}
+
+/// Each core waits from its arrival on, until it is told with all others.
+pub fn a_core_waits_until_all_are_told()
+    ensures { (k : Barrier) (core d : ℕ) (bad : Bool) → slice_get k.arrived core ≡ Some false → d < length k.arrived
+        → (if waits_in d (arrives k core bad).0 then 1 else 0) + letter_count (arrives k core bad).1
+        ≡ (if waits_in d k then 1 else 0) + (if core == d then 1 else 0) }
+{}
+
+/// A new core's arrival goes on by a phase at Go alone, and notes whether it was bad.
+pub fn an_arrival_goes_on_at_go_alone()
+    ensures phase { (k : Barrier) (core : ℕ) (bad : Bool) → slice_get k.arrived core ≡ Some false
+        → (arrives k core bad).0.phase ≡ k.phase + go_count (arrives k core bad).1 }
+    ensures bad { (k : Barrier) (core : ℕ) (bad : Bool) → slice_get k.arrived core ≡ Some false
+        → (arrives k core bad).0.bad ≡ (k.bad || bad) }
+{}
+
+/// No message changes how many phases and cores there are, and one that is no arrival changes nothing.
+pub fn only_arrivals_count()
+    ensures other { (k : Barrier) (m : Message) → kind_of m ≢ Arrived → keeper_gets k m ≡ (k, Wait) }
+    ensures phases { (k : Barrier) (m : Message) → (keeper_gets k m).0.phases ≡ k.phases }
+    ensures cores { (k : Barrier) (m : Message) → length (keeper_gets k m).0.arrived ≡ length k.arrived }
+{}
+
+/// A verdict has one letter for each core of the machine and none for another, and at Wait there are none at all.
+pub fn each_core_is_told_once()
+    ensures own { (cores d : ℕ) (verdict : Verdict) → d < cores → count_by (goes_to d) (letters cores verdict) ≡ letter_count verdict }
+    ensures other { (cores d : ℕ) (verdict : Verdict) → cores ≤ d → count_by (goes_to d) (letters cores verdict) ≡ 0 }
 {}
 
 /// A new core waits while another has not arrived.
 pub fn a_new_core_waits_for_the_others()
     ensures { (k : Barrier) (core d : ℕ) (bad : Bool) → slice_get k.arrived core ≡ Some false → d ≢ core
-        → slice_get k.arrived d ≡ Some false → keeper_gets k core bad ≡ (counted core bad k, Wait) }
+        → slice_get k.arrived d ≡ Some false → arrives k core bad ≡ (counted core bad k, Wait) }
 {}
 
 /// The last core that was missing brings Go or Halt.
 pub fn the_last_core_releases_all()
     ensures { (k : Barrier) (core : ℕ) (bad : Bool) → slice_get k.arrived core ≡ Some false
-        → ((d : ℕ) → d ≢ core → slice_get k.arrived d ≢ Some false) → keeper_gets k core bad ≡ released (counted core bad k) }
+        → ((d : ℕ) → d ≢ core → slice_get k.arrived d ≢ Some false) → arrives k core bad ≡ released (counted core bad k) }
 {}
 
 /// After Go the phase is one of the program's, and nobody has arrived in it.
@@ -31,5 +71,5 @@ pub fn nobody_has_arrived_after_go()
 
 /// Once every core has arrived, as after Halt, an arrival changes nothing and gets Wait.
 pub fn a_full_barrier_stays()
-    ensures { (k : Barrier) (core : ℕ) (bad : Bool) → all_arrived k ≡ true → keeper_gets k core bad ≡ (k, Wait) }
+    ensures { (k : Barrier) (core : ℕ) (bad : Bool) → all_arrived k ≡ true → arrives k core bad ≡ (k, Wait) }
 {}

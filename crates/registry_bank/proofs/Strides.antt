@@ -1,8 +1,6 @@
 -- What is kept of every so many numbers: those with one rest.
-use Rattle.std.proofs.Common.{◌≡◌, ℕ, ◌+◌, ◌*◌, ◌/◌, ◌%◌, ◌<◌, ◌≤◌, Bool, true, false, nat_lt, List, [], ◌∷◌, ◌++◌, length, slice_get, Option, Some, None, refl, arith, length-append, sym, ap, ◌∙◌, suc, zero}
+use Rattle.std.proofs.Common.{◌≡◌, ℕ, ◌+◌, ◌*◌, ◌<◌, Bool, true, false, nat_lt, List, [], ◌∷◌, ◌++◌, length, slice_get, Option, Some, refl, arith, length-append, sym, ◌∙◌, suc, zero}
 use Rattle.std.proofs.lemmas.Bool.{ltb-true, ltb-false}
-use Rattle.std.proofs.lemmas.Option.{slice_get_past}
-use Rattle.std.proofs.Math.Nat.{mul-le-mul_left}
 
 -- the list has what `f` gives at every `step`-th number from `first` on
 abbrev pub AreStrided : {X : Type 0} → (ℕ → Option X) → ℕ → ℕ → List X → Type 0
@@ -27,19 +25,6 @@ strided-push f first step xs x so_far here k within = by_test (nat_lt k (length 
       let past = ltb-false k (length xs) e in
       let last : k ≡ length xs = omega (arith, within, past, length-append xs (x ∷ [])) in
       rw last (get-push_last xs x ∙ sym here)
-
-pub strided-whole : {X : Type 0} (f : ℕ → Option X) (first step limit : ℕ) (xs : List X) → AreStrided f first step xs → first < step → limit ≤ first + step * length xs → ((n : ℕ) → limit ≤ n → f n ≡ None) → (w : ℕ) → w % step ≡ first → slice_get xs (w / step) ≡ f w
-strided-whole f first step limit xs so_far some whole past w rest = by_test (nat_lt (w / step) (length xs)) refl where
-  number : first + step * (w / step) ≡ w
-  number = omega (arith, rest, some)
-
-  by_test : (t : Bool) → nat_lt (w / step) (length xs) ≡ t → slice_get xs (w / step) ≡ f w
-  by_test true e = so_far (w / step) (ltb-true (w / step) (length xs) e) ∙ ap f number
-  by_test false e =
-      let beyond = ltb-false (w / step) (length xs) e in
-      let more = mul-le-mul_left step beyond in
-      let far : limit ≤ w = omega (arith, whole, number, more) in
-      slice_get_past xs (w / step) beyond ∙ sym (past w far)
 
 pub strided-next : {X : Type 0} (first step next : ℕ) (xs : List X) (x : X) → next ≡ first + step * length xs → next + step ≡ first + step * length (xs ++ x ∷ [])
 strided-next first step next xs x at = rw (length-append xs (x ∷ [])) (omega arith)

@@ -1,14 +1,14 @@
 -- A bank of the shared memory: what it holds, and what it does with each message.
-use Rattle.std.specs.Prelude.{◌≡◌, ℕ, ◌/◌, ◌%◌, Bool, ◌&&◌, ◌==◌, nat_lt, List, length, slice_get, slice_set, Option, Some, None, if◌then◌else◌}
+use Rattle.std.specs.Prelude.{◌≡◌, ℕ, ◌+◌, ◌/◌, ◌%◌, ◌<◌, Bool, ◌&&◌, ◌==◌, nat_lt, List, [], ◌∷◌, length, map, replicate, slice_get, slice_set, Option, Some, None, if◌then◌else◌}
 use Rattle.dn_base.specs.declared.ids.CoreId.{CoreId}
 use Rattle.dn_base.specs.declared.ids.WordId.{WordId}
 use Rattle.dn_base.specs.declared.ids.LockId.{LockId}
 use Rattle.write_signature.specs.declared.signature.Signature.{Signature}
-use Rattle.message_net.specs.declared.actor.Actor.TheVariants.{Core}
 use Rattle.message_net.specs.declared.message.Message.{Message}
 use Rattle.message_net.specs.declared.message.Message.TheVariants.{ReadReq, ReadFwd, DataReply, RegReq, RegFwd, RegAck, WriteBack, WbAck, Acquire, Release, Grant}
 use Rattle.message_net.specs.declared.message.Outgoing.{Outgoing}
-use Rattle.queue_lock.specs.Lock.{Lock, free_lock, acquired, released}
+use Rattle.message_net.specs.Mail.{to_core}
+use Rattle.queue_lock.specs.Lock.{Lock, IsLockOf, free_lock, acquired, released}
 use Rattle.registry_bank.specs.declared.bank.BankWord.{BankWord}
 use Rattle.registry_bank.specs.declared.bank.BankWord.TheVariants.{Home, Reg}
 
@@ -49,7 +49,23 @@ abbrev pub first_word : Option ℕ → Option BankWord
 first_word None = None
 first_word (Some value) = Some (Home value)
 
--- a bank as a run begins: each of its words holds its value in the first memory, and each of its locks is free
+-- what stands in a list at the places that are the bank's, in their order, where the list's first place is `place`
+unfoldable pub own_of : {X : Type 0} → ℕ → ℕ → ℕ → List X → List X
+own_of bank banks place [] = []
+own_of bank banks place (x ∷ xs) =
+    if place % banks == bank then x ∷ own_of bank banks (place + 1) xs else own_of bank banks (place + 1) xs
+
+-- a bank as a run begins: its words at home, with their values in the first memory, and its locks, which are free
+abbrev pub opened_bank : ℕ → ℕ → ℕ → List ℕ → ℕ → BankParts
+opened_bank bank banks cores memory locks = record {
+  bank = bank;
+  banks = banks;
+  cores = cores;
+  words = map (λ (value : ℕ). Home value) (own_of bank banks 0 memory);
+  locks = own_of bank banks 0 (replicate locks (free_lock cores));
+}
+
+-- the same by numbers: each of the bank's words holds its value in the first memory, and each of its locks is free
 pub record IsNewBank (bank banks cores : ℕ) (memory : List ℕ) (locks : ℕ) (b : BankParts) : Type 0 where
   pub number : b.bank ≡ bank
   pub bank_count : b.banks ≡ banks
@@ -57,9 +73,12 @@ pub record IsNewBank (bank banks cores : ℕ) (memory : List ℕ) (locks : ℕ) 
   pub each_word : (w : ℕ) → bank_word b w ≡ (if w % banks == bank then first_word (slice_get memory w) else None)
   pub each_lock : (l : ℕ) → bank_lock b l ≡ (if (l % banks == bank) && nat_lt l locks then Some (free_lock cores) else None)
 
--- a message to a core
-abbrev pub to_core : CoreId → Message → Option Outgoing
-to_core core message = Some (record { to = Core core; message = message })
+-- what is true of every bank of a machine: its number is below the banks, its registrants are cores of the machine, and
+-- its locks are the machine's
+pub record IsBank (b : BankParts) : Type 0 where
+  pub number : b.bank < b.banks
+  pub registrants : (w : ℕ) (core : CoreId) → bank_word b w ≡ Some (Reg core) → core.0 < b.cores
+  pub locks : (l : ℕ) (h : Lock) → bank_lock b l ≡ Some h → IsLockOf b.cores h
 
 -- whether a core is this one
 abbrev pub is_core : CoreId → CoreId → Bool
@@ -110,7 +129,7 @@ abbrev pub from_core : BankParts → CoreId → BankParts × Option Outgoing →
 from_core b core row = if nat_lt core.0 b.cores then row else (b, None)
 
 -- what the bank does with a message, and what it sends; a message of any other kind changes nothing and sends nothing
-abbrev pub bank_gets : BankParts → Message → BankParts × Option Outgoing
+unfoldable pub bank_gets : BankParts → Message → BankParts × Option Outgoing
 bank_gets b (ReadReq word reader) = from_core b reader (reads b word reader (bank_word b word.0))
 bank_gets b (RegReq word core) = from_core b core (registers b word core (bank_word b word.0))
 bank_gets b (WriteBack word value core) = from_core b core (takes_back b word value core (bank_word b word.0))
@@ -118,3 +137,22 @@ bank_gets b (Acquire lock core) = from_core b core (acquires b lock core (bank_l
 bank_gets b (Release lock core signature) =
     from_core b core (releases b lock core signature (bank_lock b lock.0))
 bank_gets b _ = (b, None)
+
+-- what a word has once a core is its registrant, and once a core has given it back, by what it had before
+abbrev pub after_register : CoreId → Option BankWord → Option BankWord
+after_register core None = None
+after_register core (Some content) = Some (Reg core)
+
+abbrev pub after_write_back : CoreId → ℕ → Option BankWord → Option BankWord
+after_write_back core value None = None
+after_write_back core value (Some (Home old)) = Some (Home old)
+after_write_back core value (Some (Reg registrant)) = if is_core registrant core then Some (Home value) else Some (Reg registrant)
+
+-- the state of a lock once a core has asked for it, and once a core has given it up
+abbrev pub after_acquire : CoreId → Option Lock → Option Lock
+after_acquire core None = None
+after_acquire core (Some state) = Some (acquired state core).0
+
+abbrev pub after_release : CoreId → Signature → Option Lock → Option Lock
+after_release core signature None = None
+after_release core signature (Some state) = Some (released state core signature).0

@@ -1,9 +1,11 @@
-ghost use Rattle.std.specs.Prelude.{◌≡◌, ℕ, ◌+◌, ◌*◌, ◌/◌, ◌%◌, ◌<◌, ◌≤◌, ◌&&◌, ◌==◌, nat_lt, Some, None, IfOk, length, slice_get, slice_set, if◌then◌else◌};
+ghost use Rattle.std.specs.Prelude.{◌≡◌, ℕ, map, replicate, ◌+◌, ◌*◌, ◌/◌, ◌%◌, ◌<◌, ◌≤◌, ◌&&◌, ◌==◌, nat_lt, Some, None, IfOk, length, slice_get, slice_set, if◌then◌else◌};
 ghost use Rattle.queue_lock.specs.Lock.{Lock, free_lock, acquired, released};
-ghost use Rattle.registry_bank.specs.Bank.{BankParts, IsNewBank, is_here, bank_word, bank_lock, lock_place, first_word, with_word, with_lock, reads, registers, takes_back, acquires, releases, grants, hands_on, to_core, from_core, bank_gets};
+ghost use Rattle.message_net.specs.Mail.{to_core};
+ghost use Rattle.registry_bank.specs.declared.bank.BankWord.TheVariants.{Home};
+ghost use Rattle.registry_bank.specs.Bank.{BankParts, opened_bank, own_of, is_here, bank_word, bank_lock, lock_place, with_word, with_lock, reads, registers, takes_back, acquires, releases, grants, hands_on, from_core, bank_gets};
 
 use dn_base::{BankId, CoreId, LockId, Memory, WordId};
-use message_net::{Actor, Message, Outgoing};
+use message_net::{Message, Outgoing};
 use queue_lock::LockHome;
 use std::alloc::Global;
 use std::marker::Model;
@@ -45,10 +47,7 @@ impl Model for Bank {
 fn send(core: CoreId, message: Message) -> Option<Outgoing>
     ensures { result ≡ to_core core message }
 {
-    Some(Outgoing {
-        to: Actor::Core(core),
-        message,
-    })
+    Some(Outgoing::to_core(core, message))
 }
 
 /// The words of a bank, in their order, as a run begins.
@@ -56,7 +55,7 @@ fn own_words(alloc: Global, bank: u32, banks: u32, memory: &[u32]) -> Result<Vec
     requires bank { bank < banks }
     requires banks { banks ≤ 16 }
     requires memory { length memory.now ≤ 65536 }
-    ensures { IfOk result (λ words. (w : ℕ) → w % banks ≡ bank → slice_get words.items (w / banks) ≡ first_word (slice_get memory.now w)) }
+    ensures { IfOk result (λ words. words.items ≡ map (λ (value : ℕ). Home value) (own_of bank banks 0 memory.now)) }
 {
     let mut words = Vec::new(alloc);
     let mut next = bank as usize;
@@ -80,7 +79,7 @@ fn own_locks(
     requires some { 1 ≤ cores }
     requires cores { cores ≤ 16 }
     requires locks { locks ≤ 32 }
-    ensures { IfOk result (λ homes. (l : ℕ) → l % banks ≡ bank → slice_get homes.items (l / banks) ≡ (if nat_lt l locks then Some (free_lock cores) else None)) }
+    ensures { IfOk result (λ homes. homes.items ≡ own_of bank banks 0 (replicate locks (free_lock cores))) }
 {
     let mut homes = Vec::new(alloc);
     let mut next = bank;
@@ -140,7 +139,7 @@ impl Bank {
         requires cores { cores ≤ 16 }
         requires memory { length memory.now ≤ 65536 }
         requires locks { locks ≤ 32 }
-        ensures { IfOk result (IsNewBank bank.0 banks cores memory.now locks) }
+        ensures { IfOk result (λ b. b ≡ opened_bank bank.0 banks cores memory.now locks) }
     {
         Ok(Bank {
             bank,
@@ -246,6 +245,7 @@ impl Bank {
     ///
     /// Where the word, the lock or the core is none of this bank or machine, and on all other kinds of message, nothing
     /// happens. Takes no memory.
+    #[tactic(auto, unfolding(crate::specs::Bank::bank_gets))]
     pub fn handle(&mut self, message: Message) -> Option<Outgoing>
         ensures bank { self.new ≡ (bank_gets self.old message).0 }
         ensures sent { result ≡ (bank_gets self.old message).1 }

@@ -12,3 +12,4 @@ pub mod DifferLemmas
 pub mod WeightLemmas
 pub mod CacheLaws
 pub mod KeptLemmas
+pub mod GrantLemmas

@@ -6,9 +6,10 @@ ghost use Rattle.word_cache.specs.Cache.{Cache, IsCache, in_set, lookup, put, ch
 ghost use Rattle.word_cache.specs.Row.{IsCacheRow, AreApart, pairs_by_use};
 
 use crate::edits::{change_entry, recount, take_out, use_again, write_last};
+use crate::grant::drop_stale;
 use crate::looks::{entry_of, has_free, set_of, victim_in};
 use crate::row::{Entry, Place};
-use crate::sweep::{sweep_grant, sweep_phase};
+use crate::sweep::sweep_phase;
 use dn_base::{Memory, PhaseId, WordId};
 use region_table::WordSet;
 use std::alloc::Global;
@@ -180,11 +181,19 @@ impl WordCache {
     }
 
     /// Drops what may be stale at a grant: the Valid pairs whose word is in the set and may have been written in this phase
-    /// under the lock, as the signature says. All other pairs keep their order. Takes no memory.
+    /// under the lock, as the signature says. All other pairs keep their order. It looks up the set's words where they are
+    /// no more than the places, and else looks at every place. Takes no memory.
     pub fn drop_signed(&mut self, signature: &Signature, phase: PhaseId, words: &WordSet)
         ensures { self.new ≡ record self.old { pairs = dropped_signed signature.now phase.0 words.now self.old.pairs } }
     {
-        sweep_grant(&mut self.places, signature, phase, words);
+        drop_stale(
+            &mut self.places,
+            self.sets,
+            self.ways,
+            signature,
+            phase,
+            words,
+        );
     }
 }
 

@@ -7,6 +7,7 @@
 
 mod cache;
 mod edits;
+mod grant;
 mod laws;
 mod looks;
 mod row;

@@ -1,0 +1,46 @@
+-- What the keeper tells the cores.
+use Rattle.std.specs.Prelude.{ℕ, ◌+◌, Bool, zero, suc, List, [], ◌∷◌, Option, Some, None}
+use Rattle.message_net.specs.declared.actor.Actor.TheVariants.{Core}
+use Rattle.message_net.specs.declared.message.Message as message
+use Rattle.message_net.specs.declared.message.Message.{Message}
+use Rattle.message_net.specs.declared.message.Outgoing.{Outgoing}
+use Rattle.message_net.specs.Id.{same_actor}
+use Rattle.phase_barrier.specs.declared.keeper.Verdict.{Verdict}
+use Rattle.phase_barrier.specs.declared.keeper.Verdict.TheVariants.{Wait, Go, Halt}
+
+-- the message that carries a verdict, if it is one that cores are told
+abbrev pub letter_of : Verdict → Option Message
+letter_of Wait = None
+letter_of (Go phase) = Some (message.TheVariants.Go phase)
+letter_of Halt = Some message.TheVariants.Halt
+
+-- how many letters a verdict has for each core
+abbrev pub letter_count : Verdict → ℕ
+letter_count Wait = 0
+letter_count _ = 1
+
+-- how many phases a verdict goes on by
+abbrev pub go_count : Verdict → ℕ
+go_count (Go phase) = 1
+go_count _ = 0
+
+-- a message to a core, by its number
+abbrev pub to_number : ℕ → Message → Outgoing
+to_number core m = record { to = Core (record { 0 = core }); message = m }
+
+-- a message to each of `n` cores in their order, core `first` the first of them
+abbrev pub to_each : ℕ → ℕ → Message → List Outgoing
+to_each first zero m = []
+to_each first (suc n) m = to_number first m ∷ to_each (first + 1) n m
+
+-- what the cores of a machine are told at a verdict: its message goes to each of them, and nothing at Wait
+abbrev pub told : ℕ → Option Message → List Outgoing
+told cores None = []
+told cores (Some m) = to_each 0 cores m
+
+abbrev pub letters : ℕ → Verdict → List Outgoing
+letters cores verdict = told cores (letter_of verdict)
+
+-- whether a letter goes to a core
+abbrev pub goes_to : ℕ → Outgoing → Bool
+goes_to core out = same_actor out.to (Core (record { 0 = core }))

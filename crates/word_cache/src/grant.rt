@@ -1,0 +1,129 @@
+ghost use Rattle.std.specs.Prelude.{◌≡◌, ℕ, ◌+◌, ◌≤◌, ◌&&◌, nat_le, [], ◌∷◌, All};
+ghost use Rattle.write_signature.specs.Signature.{holds};
+ghost use Rattle.region_table.specs.declared.interval.Interval.{Interval};
+ghost use Rattle.word_cache.specs.Cache.{lookup, dropped_signed};
+ghost use Rattle.word_cache.specs.Row.{IsRow, IsCacheRow, pairs_by_use, is_copy, size_of};
+
+use crate::edits::take_out;
+use crate::looks::entry_of;
+use crate::row::{Entry, Place};
+use crate::sweep::sweep_grant;
+use dn_base::{PhaseId, WordId};
+use region_table::{Interval, WordSet};
+use write_signature::Signature;
+
+/// Whether the entry is a copy.
+fn is_copy(entry: Option<Entry>) -> bool
+    ensures { result ≡ is_copy entry }
+{
+    match entry {
+        Some(Entry::Valid { .. }) => true,
+        _ => false,
+    }
+}
+
+/// Whether the word has a copy that may be stale at a grant.
+fn is_stale(
+    row: &[Place],
+    sets: u32,
+    ways: u32,
+    signature: &Signature,
+    phase: PhaseId,
+    word: WordId,
+) -> bool
+    requires { IsRow sets ways row.now }
+    ensures { result ≡ (holds signature.now word.0 phase.0 && is_copy (lookup word.0 (pairs_by_use row.now))) }
+{
+    signature.may_hold(word, phase) && is_copy(entry_of(row, sets, ways, word))
+}
+
+/// Drops the word's copy, if there is one that may be stale at a grant.
+fn drop_word(
+    places: &mut Vec<Place>,
+    sets: u32,
+    ways: u32,
+    signature: &Signature,
+    phase: PhaseId,
+    word: WordId,
+)
+    requires row { IsRow sets ways places.old.items }
+    ensures row { (clock : ℕ) → IsCacheRow sets ways clock places.old.items → IsCacheRow sets ways clock places.new.items }
+    ensures pairs { pairs_by_use places.new.items ≡ dropped_signed signature.now phase.0 (record { lo = word.0; hi = word.0 + 1 } ∷ []) (pairs_by_use places.old.items) }
+{
+    if is_stale(places.as_slice(), sets, ways, signature, phase, word) {
+        take_out(places, sets, ways, word);
+    }
+}
+
+/// Drops what may be stale at a grant of the words of an interval, word by word.
+fn drop_interval(
+    places: &mut Vec<Place>,
+    sets: u32,
+    ways: u32,
+    signature: &Signature,
+    phase: PhaseId,
+    interval: Interval,
+)
+    requires row { IsRow sets ways places.old.items }
+    requires order { interval.lo ≤ interval.hi }
+    ensures row { (clock : ℕ) → IsCacheRow sets ways clock places.old.items → IsCacheRow sets ways clock places.new.items }
+    ensures pairs { pairs_by_use places.new.items ≡ dropped_signed signature.now phase.0 (interval ∷ []) (pairs_by_use places.old.items) }
+{
+    for number in interval.lo..interval.hi {
+        drop_word(places, sets, ways, signature, phase, WordId(number));
+    }
+}
+
+/// Drops what may be stale at a grant of the words of intervals, word by word.
+fn drop_each(
+    places: &mut Vec<Place>,
+    sets: u32,
+    ways: u32,
+    signature: &Signature,
+    phase: PhaseId,
+    intervals: &[Interval],
+)
+    requires row { IsRow sets ways places.old.items }
+    requires order { All (λ (i : Interval). i.lo ≤ i.hi) intervals.now }
+    ensures row { (clock : ℕ) → IsCacheRow sets ways clock places.old.items → IsCacheRow sets ways clock places.new.items }
+    ensures pairs { pairs_by_use places.new.items ≡ dropped_signed signature.now phase.0 intervals.now (pairs_by_use places.old.items) }
+{
+    for interval in intervals {
+        drop_interval(places, sets, ways, signature, phase, *interval);
+    }
+}
+
+/// Whether intervals have so many words at the most.
+fn are_within(intervals: &[Interval], most: usize) -> bool
+    ensures { result ≡ nat_le (size_of intervals.now) most }
+{
+    let mut left = most;
+    for interval in intervals {
+        let size = interval.hi.saturating_sub(interval.lo) as usize;
+        if left < size {
+            return false;
+        }
+        left -= size;
+    }
+    true
+}
+
+/// Drops what may be stale at a grant: word by word where the words are no more than the places, else place by place.
+pub(crate) fn drop_stale(
+    places: &mut Vec<Place>,
+    sets: u32,
+    ways: u32,
+    signature: &Signature,
+    phase: PhaseId,
+    words: &WordSet,
+)
+    requires row { IsRow sets ways places.old.items }
+    ensures row { (clock : ℕ) → IsCacheRow sets ways clock places.old.items → IsCacheRow sets ways clock places.new.items }
+    ensures pairs { pairs_by_use places.new.items ≡ dropped_signed signature.now phase.0 words.now (pairs_by_use places.old.items) }
+{
+    if are_within(words.intervals(), places.len()) {
+        drop_each(places, sets, ways, signature, phase, words.intervals());
+    } else {
+        sweep_grant(places, signature, phase, words);
+    }
+}
