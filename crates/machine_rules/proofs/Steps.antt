@@ -13,8 +13,8 @@ use Rattle.message_net.specs.declared.message.Message.{Message}
 use Rattle.message_net.specs.declared.message.Outgoing.{Outgoing}
 use Rattle.message_net.specs.Pool.{count_of, taken}
 use Rattle.registry_bank.specs.Bank.{BankParts, bank_gets}
-use Rattle.phase_barrier.specs.Barrier.{Barrier}
-use Rattle.machine_rules.specs.Stubs.{keeper_gets, letters}
+use Rattle.phase_barrier.specs.Barrier.{Barrier, keeper_gets}
+use Rattle.phase_barrier.specs.Letters.{letters}
 use Rattle.registration_protocol.specs.Node.{NodeParts}
 use Rattle.registration_protocol.specs.OwnEvents.{instructed, evicted, arrives}
 use Rattle.registration_protocol.specs.Messages.{node_gets}

@@ -1,4 +1,3 @@
-pub mod Stubs
 pub mod State
 pub mod Flight
 pub mod Next

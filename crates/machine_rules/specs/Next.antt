@@ -18,8 +18,8 @@ use Rattle.message_net.specs.Pool.{count_of, taken}
 use Rattle.message_net.specs.Mail.{place_of, mails_with, all_mails}
 use Rattle.registry_bank.specs.Bank.{BankParts, bank_gets}
 use Rattle.phase_barrier.specs.declared.keeper.Verdict.{Verdict}
-use Rattle.phase_barrier.specs.Barrier.{Barrier}
-use Rattle.machine_rules.specs.Stubs.{keeper_gets, letters}
+use Rattle.phase_barrier.specs.Barrier.{Barrier, keeper_gets}
+use Rattle.phase_barrier.specs.Letters.{letters}
 use Rattle.registration_protocol.specs.Node.{NodeParts, Setting}
 use Rattle.registration_protocol.specs.OwnEvents.{may_instr, may_evict, may_arrive, instructed, evicted, arrives}
 use Rattle.registration_protocol.specs.Messages.{node_gets}

@@ -6,7 +6,7 @@ use Rattle.region_table.specs.Program.{IsProgram}
 use Rattle.effect_checker.specs.Checked.{IsChecked}
 use Rattle.message_net.specs.declared.message.Mail.{Mail}
 use Rattle.message_net.specs.Pool.{AreDistinct}
-use Rattle.registry_bank.specs.Bank.{BankParts}
+use Rattle.registry_bank.specs.Bank.{BankParts, IsBank}
 use Rattle.phase_barrier.specs.Barrier.{all_arrived}
 use Rattle.registration_protocol.specs.Node.{NodeParts}
 use Rattle.registration_protocol.specs.Fit.{IsContext, Fits}
@@ -20,7 +20,7 @@ pub record IsNodeAt (S : State) (place : ℕ) (n : NodeParts) : Type 0 where
   pub core : n.core ≡ place
 
 pub record IsBankAt (S : State) (place : ℕ) (b : BankParts) : Type 0 where
-  -- pub well : IsBank b
+  pub well : IsBank b
   pub bank : b.bank ≡ place
   pub banks : b.banks ≡ S.setting.shape.banks
   pub cores : b.cores ≡ S.setting.shape.cores

@@ -5,8 +5,7 @@ use Rattle.message_net.specs.declared.message.Mail.{Mail}
 use Rattle.word_cache.specs.declared.row.Entry.{Entry}
 use Rattle.queue_lock.specs.Lock.{Lock}
 use Rattle.registry_bank.specs.declared.bank.BankWord.{BankWord}
-use Rattle.registry_bank.specs.Bank.{BankParts, bank_word, bank_lock}
-use Rattle.machine_rules.specs.Stubs.{opened_bank}
+use Rattle.registry_bank.specs.Bank.{BankParts, bank_word, bank_lock, opened_bank}
 use Rattle.phase_barrier.specs.Barrier.{Barrier}
 use Rattle.phase_barrier.specs.Barrier.{opened as opened_barrier}
 use Rattle.registration_protocol.specs.Node.{NodeParts, Setting, entry_of, opened as opened_node}
