@@ -22,3 +22,4 @@ mod WordMoves
 mod WordBacks
 mod Exclusive
 mod WordLeaves
+mod AddressLeaves
