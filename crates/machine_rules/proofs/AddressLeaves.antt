@@ -56,7 +56,7 @@ home-right : (banks w : ℕ) → bit (not (is_bank (w % banks) (Bank (record { 0
 home-right banks w = rw (same-number (w % banks)) refl
 
 -- a core that something is counted of is there
-there-by : (S : State) (c : ℕ) (f : Option NodeParts → ℕ) → f None ≡ 0 → 1 ≤ f (slice_get S.nodes c) → c < length S.nodes
+pub there-by : (S : State) (c : ℕ) (f : Option NodeParts → ℕ) → f None ≡ 0 → 1 ≤ f (slice_get S.nodes c) → c < length S.nodes
 there-by S c f none some = by_case (slice_get_cases S.nodes c).1 where
   by_case : ((x : NodeParts) × (c < length S.nodes) × (slice_get S.nodes c ≡ Some x) × (get_or S.nodes c x ≡ x)) ⊎ ((length S.nodes ≤ c) × (slice_get S.nodes c ≡ None)) → c < length S.nodes
   by_case (inl (x, within, is, same)) = within

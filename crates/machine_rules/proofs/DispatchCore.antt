@@ -115,10 +115,10 @@ locking-waits (wait.TheVariants.Reading word) l some = absurd (omega (arith, som
 locking-waits (wait.TheVariants.Filled word) l some = absurd (omega (arith, some))
 locking-waits (wait.TheVariants.Locking lock) l some = (lock, refl, eqb-true lock.0 l (bit-true (lock.0 == l) some))
 
-reading-word : (waiting : NodeWait) (word : WordId) → 1 ≤ bit (is_reading word.0 waiting) → waiting ≡ wait.TheVariants.Reading word
+pub reading-word : (waiting : NodeWait) (word : WordId) → 1 ≤ bit (is_reading word.0 waiting) → waiting ≡ wait.TheVariants.Reading word
 reading-word waiting word some = let at = reading-waits waiting word.0 some in at.1 ∙ ap (λ (x : ℕ). wait.TheVariants.Reading (record { 0 = x })) at.2
 
-locking-lock : (waiting : NodeWait) (lock : LockId) → 1 ≤ bit (is_locking lock.0 waiting) → waiting ≡ wait.TheVariants.Locking lock
+pub locking-lock : (waiting : NodeWait) (lock : LockId) → 1 ≤ bit (is_locking lock.0 waiting) → waiting ≡ wait.TheVariants.Locking lock
 locking-lock waiting lock some = let at = locking-waits waiting lock.0 some in at.1 ∙ ap (λ (x : ℕ). wait.TheVariants.Locking (record { 0 = x })) at.2
 
 -- ---- the kinds of message, one by one

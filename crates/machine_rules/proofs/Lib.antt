@@ -23,3 +23,5 @@ mod WordBacks
 mod Exclusive
 mod WordLeaves
 mod AddressLeaves
+mod Dispatch
+mod DispatchBank
