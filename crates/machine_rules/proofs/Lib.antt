@@ -24,4 +24,6 @@ mod Exclusive
 mod WordLeaves
 mod AddressLeaves
 mod Dispatch
+mod LockRows
+mod LockHomes
 mod DispatchBank
