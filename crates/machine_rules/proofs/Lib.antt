@@ -18,6 +18,13 @@ mod PhaseWhole
 mod PhaseKeeper
 mod PhaseLeaves
 mod WordQuiet
-mod WordLeaves
+mod WordSteps
 mod DispatchOwn
 mod DispatchCore
+mod WordRights
+mod WordMade
+mod WordMoves
+mod WordBacks
+mod Exclusive
+mod WordLeaves
+mod AddressLeaves

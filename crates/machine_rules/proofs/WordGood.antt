@@ -35,7 +35,7 @@ IsSingle S = (w c d : ℕ) → pending_bit (entry_at S c w) + pending_bit (entry
 pub single-calm : (S T : State) → IsSingle S → ((d v : ℕ) → pending_bit (entry_at T d v) ≤ pending_bit (entry_at S d v)) → IsSingle T
 single-calm S T single calm w c d = omega (arith, single w c d, calm c w, calm d w)
 
-pending-one : (e : Option Entry) → pending_bit e ≤ 1
+pub pending-one : (e : Option Entry) → pending_bit e ≤ 1
 pending-one None = omega arith
 pending-one (Some (Valid value marked)) = omega arith
 pending-one (Some (Registered value true)) = omega arith
@@ -65,7 +65,7 @@ single-registered S T w core single alone calm v c d = by_word (w == v) refl (co
 abbrev pub AreValued : State → Type 0
 AreValued S = (w c value : ℕ) → entry_at S c w ≡ Some (Leaving value) → flight S (gives_back_value w c value) ≡ flight S (gives_back w c)
 
-value-le : (w c value : ℕ) (m : Mail) → counted (gives_back_value w c value) m ≤ counted (gives_back w c) m
+pub value-le : (w c value : ℕ) (m : Mail) → counted (gives_back_value w c value) m ≤ counted (gives_back w c) m
 value-le w c value m = by_message m.message where
   by_message : (message : Message) → bit (gives_back_value w c value m.to message) ≤ bit (gives_back w c m.to message)
   by_message (WriteBack word v core) = by_tests (word.0 == w) (core.0 == c) (v == value) where
@@ -134,3 +134,17 @@ right-kept S T core n m left sent step phase keeps d w may = by_test (core == d)
         declares = rw (step.setting, phase) (subst (λ (x : NodeParts). declared S.setting.program x.phase d ≡ Some may.decl) (sym node) may.declares);
         right = kept.2 may.decl w may.right;
       }
+
+-- a write-back that comes or goes counts for no value that it doesn't count for without
+pub passes-le : (w c value : ℕ) (out : Option Outgoing) → passes (gives_back_value w c value) out ≤ passes (gives_back w c) out
+passes-le w c value None = omega arith
+passes-le w c value (Some out) = value-le w c value (record { id = record { sender = out.to; number = 0 }; to = out.to; message = out.message })
+
+-- a write-back comes, and entries stay
+pub valued-taken : (S T : State) (left sent : Option Outgoing) → AreValued S → Flown S T left sent → ((d v : ℕ) → entry_at T d v ≡ entry_at S d v)
+    → ((d v : ℕ) → passes (gives_back v d) sent ≡ 0) → ((d v value : ℕ) → passes (gives_back_value v d value) sent ≡ 0) → AreValued T
+valued-taken S T left sent valued flown same none none_valued w c value is =
+    omega (
+      arith, valued w c value (sym (same c w) ∙ is), flown (gives_back w c), flown (gives_back_value w c value), none c w, none_valued c w value, passes-le w c value left,
+      valued-within T w c value,
+    )
