@@ -215,6 +215,7 @@ pub record PhasesGood (S : State) : Type 0 where
   -- once the keeper's set is whole the run is over, and nobody arrives or goes on any more
   pub over : all_arrived S.keeper ≡ true → (c : ℕ) → flight S (arrives c) + flight S (goes c) ≡ 0
   pub halting : (c : ℕ) → 1 ≤ flight S (halts c) → all_arrived S.keeper ≡ true
+  pub whole : all_arrived S.keeper ≡ true → (c : ℕ) (n : NodeParts) → slice_get S.nodes c ≡ Some n → n.arrived ≡ true
   pub finished : (c : ℕ) (n : NodeParts) (t : TaskState) → slice_get S.nodes c ≡ Some n → n.task ≡ Some t → t.end ≡ Some Finished → t.held ≡ 0
   pub unlocked : (c : ℕ) (n : NodeParts) → slice_get S.nodes c ≡ Some n → 1 ≤ flight S (goes c) → held_by n.task ≡ 0
   pub within : S.keeper.phase < length S.setting.program.phases ⊎ (length S.setting.program.phases ≡ 0)

@@ -12,6 +12,11 @@ mod WordCore
 mod WordHome
 mod WordGood
 mod Leaves
+mod PhaseRows
+mod PhaseNodes
+mod PhaseWhole
+mod PhaseKeeper
+mod PhaseLeaves
 mod WordQuiet
 mod WordSteps
 mod DispatchOwn
