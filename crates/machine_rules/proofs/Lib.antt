@@ -12,6 +12,7 @@ mod WordCore
 mod WordHome
 mod WordGood
 mod Leaves
+mod Exclusive
 mod WordQuiet
 mod WordLeaves
 mod DispatchOwn
