@@ -13,6 +13,12 @@ mod WordHome
 mod WordGood
 mod Leaves
 mod Exclusive
+mod NodeEntries
+mod ReadMails
+mod ReadEvents
+mod ReadSteps
+mod ReadHome
+mod ReadLeaves
 mod WordQuiet
 mod WordLeaves
 mod DispatchOwn
