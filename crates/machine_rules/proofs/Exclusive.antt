@@ -189,7 +189,7 @@ reading-works S M c n word inv found waits =
 
 -- ---- while a core stores a word no other core has it pending, and none reads it
 
-store-right : (S : State) (core : CoreId) (n : NodeParts) (d : TaskDecl) (t : TaskState) (word : WordId) (whole : Bool) → IsActing S core n d t (need.TheVariants.Store word whole)
+pub store-right : (S : State) (core : CoreId) (n : NodeParts) (d : TaskDecl) (t : TaskState) (word : WordId) (whole : Bool) → IsActing S core n d t (need.TheVariants.Store word whole)
     → (word.0 < length S.setting.program.memory) × (may_store d t.held word.0 ≡ true)
 store-right S core n d t word whole h = store-allowed S.setting.program d S.setting.fuel t word whole h.wants
 

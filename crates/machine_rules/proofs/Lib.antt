@@ -19,6 +19,10 @@ mod ReadEvents
 mod ReadSteps
 mod ReadHome
 mod ReadLeaves
+mod ValueEvents
+mod ValueSteps
+mod ValueStores
+mod ValueLeaves
 mod WordQuiet
 mod WordLeaves
 mod DispatchOwn
