@@ -189,14 +189,14 @@ reading-works S M c n word inv found waits =
 
 -- ---- while a core stores a word no other core has it pending, and none reads it
 
-store-right : (S : State) (core : CoreId) (n : NodeParts) (d : TaskDecl) (t : TaskState) (word : WordId) (whole : Bool) → IsActing S core n d t (need.TheVariants.Store word whole)
+pub store-right : (S : State) (core : CoreId) (n : NodeParts) (d : TaskDecl) (t : TaskState) (word : WordId) (whole : Bool) → IsActing S core n d t (need.TheVariants.Store word whole)
     → (word.0 < length S.setting.program.memory) × (may_store d t.held word.0 ≡ true)
 store-right S core n d t word whole h = store-allowed S.setting.program d S.setting.fuel t word whole h.wants
 
 differ : (c d : ℕ) → (c == d) ≡ false → c ≢ d
 differ c d e = λ same. grind (arith, nat_tests, e, same)
 
-pending-one : (e : Option Entry) → pending_bit e ≤ 1
+pub pending-one : (e : Option Entry) → pending_bit e ≤ 1
 pending-one None = omega arith
 pending-one (Some (Valid value marked)) = omega arith
 pending-one (Some (Registered value true)) = omega arith
@@ -230,3 +230,17 @@ store-none-reading S M core n d t word whole inv h other apart = by_node (slice_
           (acting-works S core n d t (need.TheVariants.Store word whole) h) r.works
           (subst (λ (x : ℕ). may_store d t.held x ≡ true) (sym same) (store-right S core n d t word whole h).1) r.right)
     by_wait _ is = refl
+
+-- the same while it begins to read a word, for a load or a store of a part
+pub load-none-pending : (S : State) (M : ℕ → ℕ) (core : CoreId) (n : NodeParts) (d : TaskDecl) (t : TaskState) (word : WordId) (needs : Need) → Invariant S M
+    → (needs ≡ need.TheVariants.Load word) ⊎ (needs ≡ need.TheVariants.Store word false) → IsActing S core n d t needs → (other : ℕ) → (core.0 == other) ≡ false → pending_bit (entry_at S other word.0) ≡ 0
+load-none-pending S M core n d t word needs inv kind h other apart = by_bit (pending_bit (entry_at S other word.0)) refl (pending-one (entry_at S other word.0)) where
+  right : (needs ≡ need.TheVariants.Load word) ⊎ (needs ≡ need.TheVariants.Store word false) → may_load d t.held word.0 ≡ true
+  right (inl load) = (load-allowed S.setting.program d S.setting.fuel t word (h.wants ∙ load)).1
+  right (inr store) = store-loads d t.held word.0 (store-allowed S.setting.program d S.setting.fuel t word false (h.wants ∙ store)).1
+  by_bit : (x : ℕ) → pending_bit (entry_at S other word.0) ≡ x → pending_bit (entry_at S other word.0) ≤ 1 → pending_bit (entry_at S other word.0) ≡ 0
+  by_bit zero is within = is
+  by_bit (suc x) is within =
+      let p = pending-works S M other word.0 inv (omega (arith, is, within)) in
+      absurd (exclusive S M other core.0 p.node n p.decl d p.task t word.0 inv (λ same. differ core.0 other apart (sym same)) p.works
+      (acting-works S core n d t needs h) p.right (right kind))

@@ -18,7 +18,8 @@ use Rattle.machine_rules.specs.Flight.{bit, flight, counted, misinforms, seeks, 
 use Rattle.machine_rules.specs.Coherent.{AreReads, IsReading, IsPending, IsInFlight, waits_for, owned_value, IsAtOrHome}
 use Rattle.machine_rules.proofs.Bits.{pending_bit, owner_bit, known_bit, reading_in, is_reading}
 use Rattle.machine_rules.proofs.BitLemmas.{pending-bit, owner-bit}
-use Rattle.machine_rules.proofs.Invariant.{WordsGood, ReadsGood, ValuesGood}
+use Rattle.machine_rules.proofs.Invariant.{Invariant, WordsGood, ReadsGood, ValuesGood}
+use Rattle.machine_rules.proofs.ReadMails.{forward-reading, read-known}
 use Rattle.machine_rules.proofs.ReadableValues.{value-is}
 use Rattle.message_net.proofs.PoolLemmas.{weight-within}
 
@@ -41,26 +42,26 @@ answered S M words g m word value (place, there) is =
     by_test false e none = absurd (omega (arith, none))
 
 -- a read that was passed on to a core meets the word's registrant there, or the word at its home
-at_or_home : (S : State) → WordsGood S → ReadsGood S → (d w : ℕ) → 1 ≤ flight S (forwards_at w d) → IsAtOrHome S d w
-at_or_home S words g d w some = by_home (home_at S w) refl where
+at_or_home : (S : State) (M : ℕ → ℕ) → Invariant S M → (d w : ℕ) → 1 ≤ flight S (forwards_at w d) → IsAtOrHome S d w
+at_or_home S M inv d w some = by_home (home_at S w) refl where
   known : 1 ≤ known_bit (home_at S w)
-  known = ?
+  known = let reader = forward-reading S w d inv.reads some in read-known S M w reader.0 inv reader.1
   by_home : (h : Option BankWord) → home_at S w ≡ h → IsAtOrHome S d w
   by_home None is = absurd (omega (arith, known, ap known_bit is))
   by_home (Some (Home value)) is = inr (value, is)
   by_home (Some (Reg core)) is =
       let owner : owner_bit core.0 (home_at S w) ≡ 1 = owner-bit core.0 (home_at S w) is in
-      let same : d ≡ core.0 = grind (arith, nat_tests, g.pair w d core.0 some, owner) in
+      let same : d ≡ core.0 = grind (arith, nat_tests, inv.reads.pair w d core.0 some, owner) in
       inl (is ∙ ap (λ (x : ℕ). Some (Reg (record { 0 = x }))) (sym same))
 
-pub reads : (S : State) (M : ℕ → ℕ) → WordsGood S → ReadsGood S → ValuesGood S M → AreReads S
-reads S M words g values =
+pub reads : (S : State) (M : ℕ → ℕ) → Invariant S M → AreReads S
+reads S M inv =
     record {
-      reading = is_reading-of S g;
-      quiet = λ c d word waits here. absurd (omega (arith, g.quiet word.0 c d, reading-bit S c word waits, pending-bit (entry_at S d word.0) here.0 here.1));
-      one_mail = λ c word waits. omega (arith, g.row word.0 c, reading-bit S c word waits);
-      answered = answered S M words values;
-      forwarded = at_or_home S words g;
-      owned = λ d w value some is. values.forwarded d w value some is ∙ sym (value-is S M words values w);
-      filled = g.filled;
+      reading = is_reading-of S inv.reads;
+      quiet = λ c d word waits here. absurd (omega (arith, inv.reads.quiet word.0 c d, reading-bit S c word waits, pending-bit (entry_at S d word.0) here.0 here.1));
+      one_mail = λ c word waits. omega (arith, inv.reads.row word.0 c, reading-bit S c word waits);
+      answered = answered S M inv.words inv.values;
+      forwarded = at_or_home S M inv;
+      owned = λ d w value some is. inv.values.forwarded d w value some is ∙ sym (value-is S M inv.words inv.values w);
+      filled = inv.reads.filled;
     }
