@@ -45,3 +45,6 @@ mod Dispatch
 mod ReadableLocks
 mod BehindLeaves
 mod ReadableMails
+mod Found
+mod ReadableCopies
+mod Readable
