@@ -48,3 +48,4 @@ mod ReadableMails
 mod Found
 mod ReadableCopies
 mod Readable
+mod LoadsRead
