@@ -38,6 +38,8 @@ mod ValueStores
 mod ValueLeaves
 mod LockRows
 mod LockHomes
+mod LockSigns
+mod LockLeaves
 mod DispatchOwn
 mod DispatchCore
 mod DispatchBank
