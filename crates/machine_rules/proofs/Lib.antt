@@ -42,3 +42,6 @@ mod DispatchOwn
 mod DispatchCore
 mod DispatchBank
 mod Dispatch
+mod MachineMails
+mod MachineKept
+mod SoundEvents
