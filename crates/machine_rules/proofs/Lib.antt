@@ -45,3 +45,6 @@ mod Dispatch
 mod MachineMails
 mod MachineKept
 mod SoundEvents
+mod OpenedFacts
+mod OpenedSound
+mod OpenedInvariant
