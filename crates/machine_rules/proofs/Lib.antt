@@ -51,3 +51,11 @@ mod Found
 mod ReadableCopies
 mod Readable
 mod LoadsRead
+mod MachineMails
+mod MachineKept
+mod SoundEvents
+mod OpenedFacts
+mod OpenedSound
+mod OpenedInvariant
+mod Kept
+mod RunsKept

@@ -1,0 +1,106 @@
+-- Every run of the machine keeps all that is kept, and the memory to which its stores are applied.
+use Rattle.std.proofs.Common.{◌≡◌, ℕ, zero, suc, ◌+◌, ◌<◌, ◌==◌, Bool, true, false, cond, List, [], ◌∷◌, length, get_or, set, slice_get, slice_set, slice_index, Option, Some, None, refl, sym, ap, subst, ◌∙◌, arith}
+use Rattle.std.proofs.lemmas.Bool.{eqb-true, eqb-false}
+use Rattle.std.proofs.lemmas.Bool.Decides.{nat_tests}
+use Rattle.std.proofs.lemmas.List.{get_or-set_same, get_or-set_other, length-set}
+use Rattle.dn_base.specs.declared.ids.CoreId.{CoreId}
+use Rattle.dn_base.specs.declared.ids.WordId.{WordId}
+use Rattle.rv_core.specs.declared.task.TaskState.{TaskState}
+use Rattle.rv_core.specs.declared.need.Need as need
+use Rattle.rv_core.specs.declared.need.Need.{Need}
+use Rattle.rv_core.proofs.Completions.{store-allowed}
+use Rattle.message_net.specs.declared.actor.Actor.{Actor}
+use Rattle.message_net.specs.declared.actor.Actor.TheVariants.{Core, Bank, Keeper}
+use Rattle.message_net.specs.declared.event.Event.{Event}
+use Rattle.message_net.specs.declared.event.Event.TheVariants.{Instr, Evict, Arrive, Handle}
+use Rattle.message_net.specs.declared.message.Mail.{Mail}
+use Rattle.message_net.specs.Pool.{taken}
+use Rattle.registry_bank.specs.Bank.{BankParts}
+use Rattle.registration_protocol.specs.Node.{NodeParts, Setting, entry_of, need_now}
+use Rattle.registration_protocol.specs.OwnEvents.{written_now, written_if}
+use Rattle.registration_protocol.proofs.InstrLemmas.{HasNext, has-next, written-entry}
+use Rattle.machine_rules.specs.State.{State}
+use Rattle.machine_rules.specs.Next.{next, enabled, does_instr, does_evict, does_arrive, core_gets, bank_handles, gets, delivers, handles}
+use Rattle.machine_rules.specs.Memory.{store_of, store_in, with_store}
+use Rattle.machine_rules.specs.Runs.{after, IsRun, memory_after}
+use Rattle.machine_rules.specs.Sound.{IsSound}
+use Rattle.machine_rules.proofs.Invariant.{Invariant}
+use Rattle.machine_rules.proofs.Leaves.{stored_to}
+use Rattle.machine_rules.proofs.SoundEvents.{sound-next}
+use Rattle.machine_rules.proofs.Kept.{KeepsCopies, kept}
+
+-- ---- no event changes the program, its plans, the shape or the fuel
+
+pub same-setting : (S : State) (e : Event) → (next S e).setting ≡ S.setting
+unfolding next
+same-setting S (Instr core) = by_node (slice_get S.nodes core.0) where
+  by_node : (o : Option NodeParts) → (does_instr S core o).setting ≡ S.setting
+  by_node None = refl
+  by_node (Some n) = refl
+same-setting S (Evict core word) = by_node (slice_get S.nodes core.0) where
+  by_node : (o : Option NodeParts) → (does_evict S core word o).setting ≡ S.setting
+  by_node None = refl
+  by_node (Some n) = refl
+same-setting S (Arrive core) = by_node (slice_get S.nodes core.0) where
+  by_node : (o : Option NodeParts) → (does_arrive S core o).setting ≡ S.setting
+  by_node None = refl
+  by_node (Some n) = refl
+same-setting S (Handle id) = by_mail (taken id S.mails).0 where
+  R : State
+  R = record S { mails = (taken id S.mails).1 }
+  by_mail : (o : Option Mail) → (delivers R o).setting ≡ S.setting
+  by_mail None = refl
+  by_mail (Some m) = by_actor m.to where
+    by_node : (core : CoreId) (o : Option NodeParts) → (core_gets R core m.message o).setting ≡ S.setting
+    by_node core None = refl
+    by_node core (Some n) = refl
+    by_bank : (from : Actor) (bank : ℕ) (o : Option BankParts) → (bank_handles R from bank m.message o).setting ≡ S.setting
+    by_bank from bank None = refl
+    by_bank from bank (Some b) = refl
+    by_actor : (a : Actor) → (gets R a m.message).setting ≡ S.setting
+    by_actor (Core core) = by_node core (slice_get S.nodes core.0)
+    by_actor (Bank bank) = by_bank (Bank bank) bank.0 (slice_get S.banks bank.0)
+    by_actor Keeper = refl
+
+-- ---- a store is to a word of the memory
+
+node-stores : (C : Setting) (n : NodeParts) (word : WordId) (value : ℕ) → written_now C n ≡ Some (word, value) → word.0 < length C.program.memory
+unfolding written_now
+node-stores C n word value is = by_need n.task (need_now C n) refl refl is where
+  by_need : (o : Option TaskState) (p : Option Need) → n.task ≡ o → need_now C n ≡ p → written_if C n o p ≡ Some (word, value) → word.0 < length C.program.memory
+  by_need None p has now writes = absurd (cc)
+  by_need (Some t) None has now writes = absurd (cc)
+  by_need (Some t) (Some need.TheVariants.Local) has now writes = absurd (cc)
+  by_need (Some t) (Some (need.TheVariants.End by)) has now writes = absurd (cc)
+  by_need (Some t) (Some (need.TheVariants.Load w)) has now writes = absurd (cc)
+  by_need (Some t) (Some (need.TheVariants.Acquire l)) has now writes = absurd (cc)
+  by_need (Some t) (Some (need.TheVariants.Release l)) has now writes = absurd (cc)
+  by_need (Some t) (Some (need.TheVariants.Store w whole)) has now writes =
+      let entry = written-entry C t w word whole (entry_of n w.0) value writes in
+      let next_is = has-next C n t (need.TheVariants.Store w whole) has now in
+      let may = store-allowed C.program next_is.decl C.fuel t w whole next_is.asks in
+      subst (λ (x : WordId). x.0 < length C.program.memory) (sym entry.1) may.0
+
+pub stores-within : (S : State) (e : Event) (word : WordId) (value : ℕ) → store_in S e ≡ Some (word, value) → word.0 < length S.setting.program.memory
+unfolding store_in
+stores-within S (Instr core) word value is = by_node (slice_get S.nodes core.0) is where
+  by_node : (o : Option NodeParts) → store_of S.setting o ≡ Some (word, value) → word.0 < length S.setting.program.memory
+  by_node None is = absurd (cc)
+  by_node (Some n) is = node-stores S.setting n word value is
+stores-within S (Evict core w) word value is = absurd (cc)
+stores-within S (Arrive core) word value is = absurd (cc)
+stores-within S (Handle id) word value is = absurd (cc)
+
+-- ---- the memory of a run, as a list and as a function
+
+pub stored-length : (store : Option (WordId × ℕ)) (memory : List ℕ) → length (with_store store memory) ≡ length memory
+stored-length None memory = refl
+stored-length (Some (word, value)) memory = length-set memory word.0 value
+
+stored-list : (store : Option (WordId × ℕ)) (memory : List ℕ) (M : ℕ → ℕ) → ((word : WordId) (value : ℕ) → store ≡ Some (word, value) → word.0 < length memory) → ((w : ℕ) → slice_index memory w ≡ M w)
+    → (w : ℕ) → slice_index (with_store store memory) w ≡ stored_to store M w
+stored-list None memory M within same w = same w
+stored-list (Some (word, value)) memory M within same w = by_word (word.0 == w) refl where
+  by_word : (x : Bool) → (word.0 == w) ≡ x → slice_index (slice_set memory word.0 value) w ≡ cond x value (M w)
+  by_word true e = subst (λ (x : ℕ). slice_index (slice_set memory word.0 value) x ≡ value) (eqb-true word.0 w e) (get_or-set_same memory word.0 value 0 (within word value refl))
+  by_word false e = get_or-set_other memory word.0 w value 0 (λ f. eqb-false word.0 w e (sym f)) ∙ same w
