@@ -99,7 +99,7 @@ awake-by S M c n inv found busy = (by_halted n.halted refl, by_arrived n.arrived
   by_arrived false is = is
   by_arrived true is = absurd (busy (inv.phases.arrived c n found is))
 
-pending-pair : (e : Option Entry) → pending_bit e ≡ pending_pair e
+pub pending-pair : (e : Option Entry) → pending_bit e ≡ pending_pair e
 pending-pair None = refl
 pending-pair (Some (Valid value marked)) = refl
 pending-pair (Some (Registered value true)) = refl

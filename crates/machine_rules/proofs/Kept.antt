@@ -15,6 +15,7 @@ use Rattle.machine_rules.proofs.PhaseLeaves.{phases-leaves}
 use Rattle.machine_rules.proofs.ReadLeaves.{reads-leaves}
 use Rattle.machine_rules.proofs.ValueLeaves.{values-leaves}
 use Rattle.machine_rules.proofs.BehindLeaves.{AreBehind, behind-leaves}
+use Rattle.machine_rules.proofs.EndedLeaves.{HaveEnded, ended-leaves}
 
 -- every event keeps what is known of copies
 abbrev pub KeepsCopies : Type 0
@@ -32,4 +33,5 @@ kept copies S M e inv may machine =
       values = ways S M e (ValuesGood (next S e)) inv may (values-leaves S M e inv);
       copies = ways S M e (CopiesGood (next S e)) inv may (copies S M e inv);
       behind = ways S M e (λ M'. AreBehind (next S e)) inv may (behind-leaves S M e inv);
+      ended = ways S M e (λ M'. HaveEnded (next S e)) inv may (ended-leaves S M e inv);
     }

@@ -57,5 +57,8 @@ mod SoundEvents
 mod OpenedFacts
 mod OpenedSound
 mod OpenedInvariant
+mod EndedLeaves
 mod Kept
 mod RunsKept
+mod RunsCoherent
+mod RestNodes

@@ -20,6 +20,7 @@ use Rattle.queue_lock.specs.Lock.{Lock, free_lock}
 use Rattle.registry_bank.specs.declared.bank.BankWord.{BankWord}
 use Rattle.registry_bank.specs.declared.bank.BankWord.TheVariants.{Home, Reg}
 use Rattle.registry_bank.specs.Bank.{first_word}
+use Rattle.std.proofs.lemmas.Bool.{eqb-true}
 use Rattle.phase_barrier.specs.Barrier.{all_arrived, opened as opened_barrier}
 use Rattle.phase_barrier.proofs.ArrivalLemmas.{unmarked}
 use Rattle.phase_barrier.proofs.CountLemmas.{missing-one}
@@ -235,4 +236,7 @@ opened-invariant C context program checked =
       values = values-open C context;
       copies = copies-open C;
       behind = λ c n found. omega (arith, ap (λ (x : NodeParts). x.phase) (opened-node C c n found).is);
+      ended = λ c n found halted. inr (
+        ap (λ (x : Setting). length x.program.phases) (opened-setting C) ∙ eqb-true (length C.program.phases) 0 (sym (ap (λ (x : NodeParts). x.halted) (opened-node C c n found).is) ∙ halted)
+      );
     }

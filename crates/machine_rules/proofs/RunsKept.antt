@@ -104,3 +104,37 @@ stored-list (Some (word, value)) memory M within same w = by_word (word.0 == w) 
   by_word : (x : Bool) → (word.0 == w) ≡ x → slice_index (slice_set memory word.0 value) w ≡ cond x value (M w)
   by_word true e = subst (λ (x : ℕ). slice_index (slice_set memory word.0 value) x ≡ value) (eqb-true word.0 w e) (get_or-set_same memory word.0 value 0 (within word value refl))
   by_word false e = get_or-set_other memory word.0 w value 0 (λ f. eqb-false word.0 w e (sym f)) ∙ same w
+
+-- a memory to which each store of a run is applied as it retires
+abbrev pub memory_over : (ℕ → ℕ) → State → List Event → ℕ → ℕ
+memory_over M S [] = M
+memory_over M S (e ∷ es) = memory_over (stored_to (store_in S e) M) (next S e) es
+
+pub memory-is : (S : State) (memory : List ℕ) (M : ℕ → ℕ) (events : List Event) → length memory ≡ length S.setting.program.memory → ((w : ℕ) → slice_index memory w ≡ M w)
+    → (w : ℕ) → slice_index (memory_after memory S events) w ≡ memory_over M S events w
+memory-is S memory M [] long same = same
+memory-is S memory M (e ∷ es) long same =
+    memory-is (next S e) (with_store (store_in S e) memory) (stored_to (store_in S e) M) es
+    (stored-length (store_in S e) memory ∙ (long ∙ ap (λ (C : Setting). length C.program.memory) (sym (same-setting S e))))
+    (stored-list (store_in S e) memory M (λ word value is. subst (λ (x : ℕ). word.0 < x) (sym long) (stores-within S e word value is)) same)
+
+pub memory-length : (S : State) (memory : List ℕ) (events : List Event) → length (memory_after memory S events) ≡ length memory
+memory-length S memory [] = refl
+memory-length S memory (e ∷ es) = memory-length (next S e) (with_store (store_in S e) memory) es ∙ stored-length (store_in S e) memory
+
+pub run-setting : (S : State) (events : List Event) → (after S events).setting ≡ S.setting
+run-setting S [] = refl
+run-setting S (e ∷ es) = run-setting (next S e) es ∙ same-setting S e
+
+-- ---- a run from a sound state that keeps the invariant
+
+pub run-kept : KeepsCopies → (S : State) (M : ℕ → ℕ) (made : ℕ) (events : List Event) → IsSound S made → Invariant S M → IsRun S events
+    → IsSound (after S events) (made + length events) × Invariant (after S events) (memory_over M S events)
+run-kept copies S M made [] sound inv run = (subst (IsSound S) (none made) sound, inv) where
+  none : (k : ℕ) → k ≡ k + 0
+  none k = omega arith
+run-kept copies S M made (e ∷ es) sound inv run =
+    let later = sound-next S made e sound run.0 in
+    let rest = run-kept copies (next S e) (stored_to (store_in S e) M) (made + 1) es later (kept copies S M e inv run.0 later.machine) run.1 in
+    let one : made + 1 + length es ≡ made + length (e ∷ es) = omega arith in
+    (subst (IsSound (after (next S e) es)) one rest.0, rest.1)
