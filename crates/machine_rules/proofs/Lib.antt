@@ -62,3 +62,4 @@ mod Kept
 mod RunsKept
 mod RunsCoherent
 mod RestNodes
+mod RestStates
