@@ -38,6 +38,9 @@ mod ValueStores
 mod ValueLeaves
 mod LockRows
 mod LockHomes
+mod CopyFrames
+mod CopyNodes
+mod CopyGrants
 mod DispatchOwn
 mod DispatchCore
 mod DispatchBank
