@@ -51,14 +51,14 @@ use Rattle.machine_rules.proofs.CopyNodes.{KeepsSigned, node-now, phase-own, cop
 
 -- ---- while a grant of a lock is in flight nobody holds it, and no release of it is in flight
 
-holder-most : (o : Option Lock) (c : ℕ) → holder_in c o ≤ 1
+pub holder-most : (o : Option Lock) (c : ℕ) → holder_in c o ≤ 1
 holder-most None c = omega arith
 holder-most (Some h) c = by_holder h.holder where
   by_holder : (o : Option CoreId) → holder_count c o ≤ 1
   by_holder None = omega arith
   by_holder (Some x) = grind (arith, nat_tests)
 
-holder-other : (o : Option Lock) (c d : ℕ) → (c == d) ≡ false → holder_in c o + holder_in d o ≤ 1
+pub holder-other : (o : Option Lock) (c d : ℕ) → (c == d) ≡ false → holder_in c o + holder_in d o ≤ 1
 holder-other None c d e = omega arith
 holder-other (Some h) c d e = by_holder h.holder where
   by_holder : (o : Option CoreId) → holder_count c o + holder_count d o ≤ 1
@@ -93,7 +93,7 @@ none-carrying S l w p none = by_count (flight S (is_carrying l w p)) refl where
       let release = carrying-releases l w p some.1.to some.1.message some.3 in
       absurd (omega (arith, release.1, none release.0, weight-within (counted (releases l release.0)) S.mails some.0 some.1 some.2))
 
-none-carried : (l w p : ℕ) (n : NodeParts) → bit (is_held (held_by n.task) l) ≡ 0 → carried_by l w p n ≡ 0
+pub none-carried : (l w p : ℕ) (n : NodeParts) → bit (is_held (held_by n.task) l) ≡ 0 → carried_by l w p n ≡ 0
 none-carried l w p n none = by_test (is_held (held_by n.task) l) none (signed_in w p (slice_get n.signatures l)) where
   by_test : (x : Bool) → bit x ≡ 0 → (y : Bool) → bit (x && y) ≡ 0
   by_test true one y = absurd (omega (arith, one))

@@ -41,6 +41,7 @@ mod LockHomes
 mod CopyFrames
 mod CopyNodes
 mod CopyGrants
+mod CopyPhases
 mod DispatchOwn
 mod DispatchCore
 mod DispatchBank
