@@ -42,6 +42,7 @@ mod CopyFrames
 mod CopyNodes
 mod CopyGrants
 mod CopyPhases
+mod CopyStores
 mod DispatchOwn
 mod DispatchCore
 mod DispatchBank
