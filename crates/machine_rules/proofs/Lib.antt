@@ -43,6 +43,7 @@ mod CopyNodes
 mod CopyGrants
 mod CopyPhases
 mod CopyStores
+mod CopyEvents
 mod DispatchOwn
 mod DispatchCore
 mod DispatchBank
