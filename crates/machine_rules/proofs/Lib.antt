@@ -44,6 +44,7 @@ mod CopyGrants
 mod CopyPhases
 mod CopyStores
 mod CopyEvents
+mod CopyLeaves
 mod DispatchOwn
 mod DispatchCore
 mod DispatchBank
