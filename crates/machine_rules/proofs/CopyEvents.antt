@@ -1,5 +1,5 @@
 -- What is known of copies after a load, an answer and a release, and after what homes and the keeper do.
-use Rattle.std.proofs.Common.{◌≡◌, ◌≢◌, ◌⊎◌, inl, inr, ℕ, zero, suc, ◌+◌, ◌≤◌, ◌<◌, ◌==◌, ◌&&◌, ◌||◌, not, nat_lt, Bool, true, false, cond, List, [], ◌∷◌, length, slice_get, slice_index_or, Option, Some, None, refl, sym, ap, subst, ◌∙◌, arith}
+use Rattle.std.proofs.Common.{◌≡◌, ◌⊎◌, inl, inr, ℕ, ◌+◌, ◌≤◌, ◌==◌, ◌&&◌, ◌||◌, not, nat_lt, Bool, true, false, cond, slice_get, Option, Some, None, refl, sym, ap, subst, ◌∙◌, arith}
 use Rattle.std.proofs.lemmas.Bool.{eqb-true}
 use Rattle.std.proofs.lemmas.Bool.Decides.{nat_tests}
 use Rattle.std.proofs.lemmas.Option.{get_or_from_slice_get}
@@ -19,13 +19,11 @@ use Rattle.rv_core.proofs.HeldLemmas.{holds-released}
 use Rattle.write_signature.specs.declared.signature.Signature.{Signature}
 use Rattle.write_signature.specs.Signature.{tag, holds, joined}
 use Rattle.write_signature.proofs.SignatureLemmas.{joined_covers_first, joined_covers_second}
-use Rattle.message_net.specs.declared.actor.Actor.TheVariants.{Core, Bank, Keeper}
 use Rattle.message_net.specs.declared.message.Message.{Message}
 use Rattle.message_net.specs.declared.message.Message.TheVariants.{DataReply, Release, Arrived}
 use Rattle.message_net.specs.declared.message.Outgoing.{Outgoing}
 use Rattle.message_net.specs.Mail.{to_home}
-use Rattle.word_cache.specs.declared.row.Entry.{Entry}
-use Rattle.word_cache.specs.declared.row.Entry.TheVariants.{Valid, Registered, Leaving}
+use Rattle.word_cache.specs.declared.row.Entry.TheVariants.{Valid}
 use Rattle.word_cache.specs.Cache.{put}
 use Rattle.word_cache.proofs.LookLemmas.{lookup-put}
 use Rattle.queue_lock.specs.Lock.{Lock}
@@ -34,9 +32,9 @@ use Rattle.phase_barrier.specs.Barrier.{Barrier}
 use Rattle.registration_protocol.specs.declared.node.NodeWait as wait
 use Rattle.registration_protocol.specs.Node.{NodeParts, entry_of, keeping, signature_of}
 use Rattle.registration_protocol.specs.OwnEvents.{retires, with_put}
-use Rattle.machine_rules.specs.State.{State, entry_at, lock_at}
-use Rattle.machine_rules.specs.Flight.{bit, flight, misinforms}
-use Rattle.machine_rules.specs.Coherent.{UsesPlainly, held_by, holds_lock, has_lock}
+use Rattle.machine_rules.specs.State.{State, lock_at}
+use Rattle.machine_rules.specs.Flight.{bit, misinforms}
+use Rattle.machine_rules.specs.Coherent.{UsesPlainly, held_by}
 use Rattle.machine_rules.proofs.Bits.{passes, signed_in}
 use Rattle.machine_rules.proofs.Invariant.{Invariant, LocksGood, CopiesGood, MayBeOld, carriers, carried_by, is_carrying, is_late, kept_bit}
 use Rattle.machine_rules.proofs.Steps.{NodeStep}
@@ -44,7 +42,7 @@ use Rattle.machine_rules.proofs.Leaves.{IsActing, WordStep, LockStep, BarrierSte
 use Rattle.machine_rules.proofs.WordCore.{same-number}
 use Rattle.machine_rules.proofs.Exclusive.{in-phase, acting-works}
 use Rattle.machine_rules.proofs.CopyFrames.{uses-kept, copies-still}
-use Rattle.machine_rules.proofs.CopyNodes.{KeepsSigned, IsSteady, IsUnsigned, HasNoNew, old-same, node-now, leaves-steady, signed-steady, copies-node, copies-steady, fresh-own, fresh-other, own-entry, steady-same}
+use Rattle.machine_rules.proofs.CopyNodes.{IsSteady, IsUnsigned, old-same, node-now, leaves-steady, signed-steady, copies-node, copies-steady, fresh-own, fresh-other, own-entry, steady-same}
 
 -- ---- a load of a copy
 
@@ -72,22 +70,29 @@ copies-loaded S T M core n d t word value marked inv acts is step =
   where
     now : Bool
     now = marked || uses_plainly d word.0
+
     m : NodeParts
     m = retires (with_put n word (Valid value now)) (loaded_of S.setting.program value t)
+
     phase : n.phase ≡ S.keeper.phase
     phase = in-phase S M core.0 n d t inv (acting-works S core n d t (need.TheVariants.Load word) acts)
+
     held : held_by m.task ≡ held_by n.task
     held = loaded-held S.setting.program d S.setting.fuel t value (subst IsLoad (sym acts.wants) tt) ∙ sym (ap held_by acts.task)
+
     steady : IsSteady S n m None None
     steady = steady-same S n m None None refl held refl (λ l w p. refl)
+
     entries : (v : ℕ) → entry_of m v ≡ cond (word.0 == v) (Some (Valid value now)) (entry_of n v)
     entries v = lookup-put word (Valid value now) v n.cache.pairs
+
     of_mark : (x : Bool) → marked ≡ x → (x || uses_plainly d word.0) ≡ true → UsesPlainly T core.0 word.0
     of_mark true e made =
         uses-kept S T core.0 word.0 step.setting (leaves-steady S T core.0 n m None None step steady).node
         (inv.copies.marked core.0 word.0 value (own-entry S core.0 n word.0 step.found ∙ is ∙ ap (λ (b : Bool). Some (Valid value b)) e))
     of_mark false e made =
         record { node = m; found = node-now S T core.0 n m None None step; decl = d; declares = rw (step.setting) acts.declares; plain = made }
+
     by_marked : (w x : ℕ) → entry_of m w ≡ Some (Valid x true) → (y : Bool) → (word.0 == w) ≡ y → UsesPlainly T core.0 w
     by_marked w x has true f =
         let same = valid-mark value x now true (sym (rw (f) at (entries w)) ∙ has) in
@@ -95,9 +100,11 @@ copies-loaded S T M core n d t word value marked inv acts is step =
     by_marked w x has false f =
         uses-kept S T core.0 w step.setting (leaves-steady S T core.0 n m None None step steady).node
         (inv.copies.marked core.0 w x (own-entry S core.0 n w step.found ∙ sym (rw (f) at (entries w)) ∙ has))
+
     by_reason : (mark : Bool) → (value ≡ M word.0) ⊎ MayBeOld T core.0 word.0 marked → (value ≡ M word.0) ⊎ MayBeOld T core.0 word.0 mark
     by_reason mark (inl same) = inl same
     by_reason mark (inr old) = inr (any-mark T core.0 word.0 m marked mark (node-now S T core.0 n m None None step) (rw (step.keeper) phase) old)
+
     by_fresh : (w x : ℕ) (mark : Bool) → entry_of m w ≡ Some (Valid x mark) → (y : Bool) → (word.0 == w) ≡ y → (x ≡ M w) ⊎ MayBeOld T core.0 w mark
     by_fresh w x mark has true f =
         let same = valid-mark value x now mark (sym (rw (f) at (entries w)) ∙ has) in
@@ -119,22 +126,28 @@ copies-answered S T M core n word value inv step =
   where
     m : NodeParts
     m = record (keeping n (put word (Valid value false) n.cache.pairs)) { waiting = wait.TheVariants.Filled word }
+
     left : Option Outgoing
     left = at_core core (DataReply word value)
+
     steady : IsSteady S n m left None
     steady = steady-same S n m left None refl refl refl (λ l w p. refl)
+
     entries : (v : ℕ) → entry_of m v ≡ cond (word.0 == v) (Some (Valid value false)) (entry_of n v)
     entries v = lookup-put word (Valid value false) v n.cache.pairs
+
     truth : value ≡ M word.0
     truth = by_test (value == M word.0) refl where
       by_test : (x : Bool) → (value == M word.0) ≡ x → value ≡ M word.0
       by_test true e = eqb-true value (M word.0) e
       by_test false e = let came = rw (e) at (step.flown (misinforms M)) in absurd (omega (arith, came, inv.values.replied))
+
     by_marked : (w x : ℕ) → entry_of m w ≡ Some (Valid x true) → (y : Bool) → (word.0 == w) ≡ y → UsesPlainly T core.0 w
     by_marked w x has true f = let same = valid-mark value x false true (sym (rw (f) at (entries w)) ∙ has) in let wrong = same.1 in absurd (cc)
     by_marked w x has false f =
         uses-kept S T core.0 w step.setting (leaves-steady S T core.0 n m left None step steady).node
         (inv.copies.marked core.0 w x (own-entry S core.0 n w step.found ∙ sym (rw (f) at (entries w)) ∙ has))
+
     by_fresh : (w x : ℕ) (mark : Bool) → entry_of m w ≡ Some (Valid x mark) → (y : Bool) → (word.0 == w) ≡ y → (x ≡ M w) ⊎ MayBeOld T core.0 w mark
     by_fresh w x mark has true f =
         let same = valid-mark value x false mark (sym (rw (f) at (entries w)) ∙ has) in
@@ -152,23 +165,30 @@ copies-released S T M core n d t lock banks g acts step =
   where
     m : NodeParts
     m = record n { task = Some (advanced S.setting.program t) }
+
     sent : Option Outgoing
     sent = to_home banks lock.0 (Release lock core (signature_of n lock.0))
+
     p : ℕ
     p = S.keeper.phase
+
     had : is_held t.held lock.0 ≡ true
     had = (release-allowed S.setting.program d S.setting.fuel t lock acts.wants).1
+
     was : (l : ℕ) → is_held (held_by n.task) l ≡ is_held t.held l
     was l = ap (λ (o : Option TaskState). is_held (held_by o) l) acts.task
+
     held : (l : ℕ) → is_held (held_by m.task) l ≡ (not (l == lock.0) && is_held (held_by n.task) l)
     held l =
         ap (λ (x : ℕ). is_held x l) (advanced-held S.setting.program d S.setting.fuel t (need.TheVariants.Release lock) acts.wants tt)
         ∙ holds-released t.held lock.0 l had ∙ sym (ap (λ (b : Bool). not (l == lock.0) && b) (was l))
+
     unheld : (l : ℕ) → is_held (held_by n.task) l ≡ false → is_held (held_by m.task) l ≡ false
     unheld l none = held l ∙ ap (λ (b : Bool). not (l == lock.0) && b) none ∙ by_test (not (l == lock.0)) where
       by_test : (x : Bool) → (x && false) ≡ false
       by_test true = refl
       by_test false = refl
+
     signed : (l w : ℕ) → bit (signed_in w p (slice_get n.signatures l)) ≤ bit (holds (signature_of n l) w p)
     signed l w = by_get (slice_get n.signatures l) refl where
       by_get : (o : Option Signature) → slice_get n.signatures l ≡ o → bit (signed_in w p o) ≤ bit (holds (signature_of n l) w p)
@@ -176,6 +196,7 @@ copies-released S T M core n d t lock banks g acts step =
       by_get (Some s) is =
           let same : signature_of n l ≡ s = get_or_from_slice_get n.signatures l s _ is in
           rw (same) (omega arith)
+
     carries : (l w : ℕ) → carried_by l w p n ≤ carried_by l w p m + passes (is_carrying l w p) sent
     carries l w = by_lock (lock.0 == l) refl where
       by_lock : (x : Bool) → (lock.0 == l) ≡ x → carried_by l w p n ≤ carried_by l w p m + passes (is_carrying l w p) sent
@@ -189,6 +210,7 @@ copies-released S T M core n d t lock banks g acts step =
           let turned : (l == lock.0) ≡ false = grind (arith, nat_tests, e) in
           let stays : carried_by l w p m ≡ carried_by l w p n = ap (λ (b : Bool). bit (b && signed_in w p (slice_get n.signatures l))) (rw (turned) at (held l)) in
           omega (arith, stays)
+
     steady : IsSteady S n m None sent
     steady = record { phase = refl; unheld = unheld; carries = carries; came = λ l w. refl }
 
@@ -238,6 +260,7 @@ copies-joined S T M lock core s bank h k sent g locks step was is none =
   where
     p : ℕ
     p = S.keeper.phase
+
     late : tag s ≤ p
     late = by_test (nat_lt p (tag s)) refl where
       by_test : (x : Bool) → nat_lt p (tag s) ≡ x → tag s ≤ p
@@ -252,5 +275,6 @@ copies-posted S T M k core bad sent g step phase none =
   where
     keeper : T.keeper.phase ≡ S.keeper.phase
     keeper = ap (λ (x : Barrier). x.phase) step.keeper ∙ phase
+
     signed : (l w : ℕ) → 1 ≤ carriers S l w → 1 ≤ carriers T l w
     signed l w some = rw (keeper, step.nodes, step.setting, step.banks) (omega (arith, some, step.flown (is_carrying l w S.keeper.phase), none l w S.keeper.phase))

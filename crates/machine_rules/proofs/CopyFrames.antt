@@ -1,23 +1,14 @@
 -- The reasons for which a copy may be old, and what an event leaves of them.
-use Rattle.std.proofs.Common.{◌≡◌, ◌≢◌, ◌⊎◌, inl, inr, ℕ, zero, suc, ◌+◌, ◌%◌, ◌≤◌, ◌==◌, ◌&&◌, ◌||◌, not, Bool, true, false, cond, List, [], ◌∷◌, slice_get, slice_index_or, sum_by, Option, Some, None, refl, sym, ap, subst, ◌∙◌, arith}
-use Rattle.std.proofs.lemmas.Bool.{eqb-true}
+use Rattle.std.proofs.Common.{◌≡◌, ◌⊎◌, inl, inr, ℕ, zero, suc, ◌+◌, ◌≤◌, ◌==◌, Bool, true, false, cond, List, [], ◌∷◌, slice_get, sum_by, Option, Some, None, refl, sym, ap, ◌∙◌, arith}
 use Rattle.std.proofs.lemmas.Bool.Decides.{nat_tests}
 use Rattle.std.proofs.lemmas.List.Sums.{sum_by-cons}
-use Rattle.region_table.specs.Words.{has}
-use Rattle.region_table.specs.Tasks.{declared}
 use Rattle.message_net.specs.declared.message.Outgoing.{Outgoing}
-use Rattle.word_cache.specs.declared.row.Entry.{Entry}
-use Rattle.word_cache.specs.declared.row.Entry.TheVariants.{Valid}
-use Rattle.rv_core.specs.Access.{holds as is_held}
-use Rattle.registration_protocol.specs.Node.{NodeParts, Setting, entry_of}
-use Rattle.registration_protocol.specs.Messages.{written_in}
-use Rattle.machine_rules.specs.State.{State, entry_in, entry_at, lock_at}
-use Rattle.machine_rules.specs.Flight.{flight}
-use Rattle.machine_rules.specs.Coherent.{UsesPlainly, IsBehind, HasWriter, held_by, holds_lock, has_lock}
+use Rattle.registration_protocol.specs.Node.{NodeParts}
+use Rattle.machine_rules.specs.State.{State, entry_in, entry_at}
+use Rattle.machine_rules.specs.Coherent.{UsesPlainly, IsBehind, HasWriter, holds_lock, has_lock}
 use Rattle.machine_rules.proofs.Bits.{passes}
-use Rattle.machine_rules.proofs.Invariant.{CopiesGood, MayHaveWritten, MayBeOld, carriers, carried_by, is_carrying, kept_bit}
+use Rattle.machine_rules.proofs.Invariant.{CopiesGood, MayHaveWritten, MayBeOld, carriers, carried_by, is_carrying}
 use Rattle.machine_rules.proofs.Steps.{NodeStep}
-use Rattle.machine_rules.proofs.WordEvents.{entry-node}
 
 -- ---- sums over the nodes
 
@@ -47,6 +38,7 @@ sum-changed f (x ∷ xs) (y ∷ ys) zero n m found now =
   where
     some-same : (a b : NodeParts) → Some a ≡ Some b → a ≡ b
     some-same a b e = cc
+
     rest : (d : ℕ) → slice_get ys d ≡ slice_get xs d
     rest d = let apart : (0 == suc d) ≡ false = grind (arith, nat_tests) in rw (apart) at (now (suc d))
 sum-changed f (x ∷ xs) (y ∷ ys) (suc i) n m found now =
@@ -56,6 +48,7 @@ sum-changed f (x ∷ xs) (y ∷ ys) (suc i) n m found now =
   where
     some-same : (a b : NodeParts) → Some a ≡ Some b → a ≡ b
     some-same a b e = cc
+
     rest : (d : ℕ) → slice_get ys d ≡ cond (i == d) (Some m) (slice_get xs d)
     rest d = let same : (suc i == suc d) ≡ (i == d) = grind (arith, nat_tests) in rw (same) at (now (suc d))
 
@@ -142,10 +135,13 @@ copies-still S T M g setting nodes keeper signed =
   where
     entries : (c w : ℕ) → entry_at T c w ≡ entry_at S c w
     entries c w = ap (λ (ns : List NodeParts). entry_in w (slice_get ns c)) nodes
+
     node : (c : ℕ) (n : NodeParts) → slice_get S.nodes c ≡ Some n → (m : NodeParts) × (slice_get T.nodes c ≡ Some m) × (m.phase ≡ n.phase)
     node c n found = (n, ap (λ (ns : List NodeParts). slice_get ns c) nodes ∙ found, refl)
+
     leaves : (c : ℕ) → LeavesCore S T c
     leaves c = record { setting = setting; keeper = keeper; node = node c; unheld = λ l none. ap (λ (ns : List NodeParts). holds_lock l (slice_get ns c)) nodes ∙ none }
+
     by_reason : (c w value : ℕ) (marked : Bool) → (value ≡ M w) ⊎ MayBeOld S c w marked → (value ≡ M w) ⊎ MayBeOld T c w marked
     by_reason c w value marked (inl same) = inl same
     by_reason c w value marked (inr old) = inr (reason-kept S T c w marked (leaves c) (λ l. signed l w) old)

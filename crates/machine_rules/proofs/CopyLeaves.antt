@@ -1,34 +1,29 @@
 -- Every event keeps what is known of copies.
-use Rattle.std.proofs.Common.{◌≡◌, ◌≢◌, ◌⊎◌, inl, inr, ℕ, zero, suc, ◌+◌, ◌%◌, ◌≤◌, ◌==◌, ◌&&◌, ◌||◌, not, Bool, true, false, cond, List, slice_get, Option, Some, None, refl, sym, ap, subst, ◌∙◌, arith}
-use Rattle.dn_base.specs.declared.ids.WordId.{WordId}
-use Rattle.dn_base.specs.declared.ids.CoreId.{CoreId}
-use Rattle.region_table.specs.declared.declared.TaskDecl.{TaskDecl}
-use Rattle.rv_core.specs.declared.task.TaskState.{TaskState}
+use Rattle.std.proofs.Common.{ℕ, true, false, Some, None, refl, sym, ap, subst, ◌∙◌, arith}
 use Rattle.rv_core.specs.declared.need.Need as need
 use Rattle.rv_core.specs.declared.need.Need.{Need}
-use Rattle.rv_core.specs.Kinds.{IsLoad, IsAdvance, held_after}
+use Rattle.rv_core.specs.Kinds.{IsLoad}
 use Rattle.rv_core.specs.Step.{advanced, loaded_of}
 use Rattle.rv_core.specs.Task.{stopped}
 use Rattle.rv_core.proofs.Completions.{advanced-held, loaded-held, stopped-held}
 use Rattle.write_signature.specs.Signature.{joined}
 use Rattle.message_net.specs.declared.event.Event.{Event}
-use Rattle.message_net.specs.declared.message.Message.TheVariants.{ReadReq, ReadFwd, DataReply, RegReq, RegFwd, RegAck, WriteBack, WbAck, Acquire, Release, Grant, Arrived, Go, Halt}
+use Rattle.message_net.specs.declared.message.Message.TheVariants.{ReadReq, ReadFwd, DataReply, RegReq, RegFwd, RegAck, WriteBack, WbAck, Acquire, Grant, Arrived, Halt}
 use Rattle.message_net.specs.Mail.{to_core, to_home, to_keeper}
-use Rattle.word_cache.specs.declared.row.Entry.{Entry}
-use Rattle.word_cache.specs.declared.row.Entry.TheVariants.{Valid, Registered, Leaving}
+use Rattle.word_cache.specs.declared.row.Entry.TheVariants.{Registered, Leaving}
 use Rattle.word_cache.specs.Cache.{touched}
 use Rattle.word_cache.proofs.LookLemmas.{lookup-without, lookup-touched}
 use Rattle.queue_lock.specs.Lock.{Lock}
-use Rattle.phase_barrier.specs.Barrier.{Barrier, counted}
+use Rattle.phase_barrier.specs.Barrier.{counted}
 use Rattle.registration_protocol.specs.declared.node.NodeWait as wait
-use Rattle.registration_protocol.specs.Node.{NodeParts, entry_of, keeping}
+use Rattle.registration_protocol.specs.Node.{NodeParts, keeping}
 use Rattle.registration_protocol.specs.OwnEvents.{retires, is_bad}
 use Rattle.registration_protocol.specs.Messages.{with_entry, lacking}
 use Rattle.machine_rules.specs.State.{State}
 use Rattle.machine_rules.specs.Next.{next}
 use Rattle.machine_rules.specs.Coherent.{held_by}
 use Rattle.machine_rules.proofs.Invariant.{Invariant, CopiesGood, is_carrying}
-use Rattle.machine_rules.proofs.Leaves.{Leaves, at_core, at_bank, at_keeper}
+use Rattle.machine_rules.proofs.Leaves.{Leaves, at_core, at_bank}
 use Rattle.machine_rules.proofs.NodeEntries.{changed-now}
 use Rattle.machine_rules.proofs.PhaseWhole.{nothing-posted, none-posted}
 use Rattle.machine_rules.proofs.CopyNodes.{old-same, old-at, copies-same}

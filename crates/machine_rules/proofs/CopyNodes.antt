@@ -1,17 +1,14 @@
 -- What is known of copies after a core's event that leaves its phase and carries its signatures on.
-use Rattle.std.proofs.Common.{◌≡◌, ◌≢◌, ◌⊎◌, inl, inr, ℕ, zero, suc, ◌+◌, ◌≤◌, ◌==◌, ◌&&◌, ◌||◌, not, Bool, true, false, cond, List, [], ◌∷◌, slice_get, slice_index_or, Option, Some, None, refl, sym, ap, subst, ◌∙◌, arith}
+use Rattle.std.proofs.Common.{◌≡◌, ◌⊎◌, inl, inr, ℕ, ◌+◌, ◌≤◌, ◌==◌, Bool, true, false, cond, slice_get, Option, Some, refl, sym, ap, subst, ◌∙◌, arith}
 use Rattle.std.proofs.lemmas.Bool.{eqb-true}
-use Rattle.std.proofs.lemmas.Bool.Decides.{nat_tests}
 use Rattle.message_net.specs.declared.message.Outgoing.{Outgoing}
 use Rattle.word_cache.specs.declared.row.Entry.{Entry}
 use Rattle.word_cache.specs.declared.row.Entry.TheVariants.{Valid}
-use Rattle.write_signature.specs.declared.signature.Signature.{Signature}
 use Rattle.rv_core.specs.Access.{holds as is_held}
 use Rattle.registration_protocol.specs.Node.{NodeParts, entry_of}
-use Rattle.machine_rules.specs.State.{State, entry_in, entry_at}
-use Rattle.machine_rules.specs.Flight.{bit, flight}
-use Rattle.machine_rules.specs.Coherent.{UsesPlainly, held_by, holds_lock, has_lock}
-use Rattle.machine_rules.proofs.Bits.{passes, valid_bit, signed_in}
+use Rattle.machine_rules.specs.State.{State, entry_at}
+use Rattle.machine_rules.specs.Coherent.{UsesPlainly, held_by, holds_lock}
+use Rattle.machine_rules.proofs.Bits.{passes, valid_bit}
 use Rattle.machine_rules.proofs.Invariant.{CopiesGood, MayBeOld, carriers, carried_by, is_carrying}
 use Rattle.machine_rules.proofs.Steps.{NodeStep}
 use Rattle.machine_rules.proofs.WordEvents.{entry-node}
@@ -79,6 +76,7 @@ copies-node S T M M' core n m left sent g step own_marked own_fresh others =
         subst (λ (x : ℕ). UsesPlainly T x w) (eqb-true core c e) (own_marked w value (sym (rw (e) at (entry-node S T core n m left sent step c w)) ∙ is))
     by_marked c w value is false e =
         uses-kept S T c w step.setting (leaves-other S T core n m left sent step c e).node (g.marked c w value (sym (rw (e) at (entry-node S T core n m left sent step c w)) ∙ is))
+
     by_fresh : (c w value : ℕ) (marked : Bool) → entry_at T c w ≡ Some (Valid value marked) → (x : Bool) → (core == c) ≡ x → (value ≡ M' w) ⊎ MayBeOld T c w marked
     by_fresh c w value marked is true e =
         subst (λ (x : ℕ). (value ≡ M' w) ⊎ MayBeOld T x w marked) (eqb-true core c e) (own_fresh w value marked (sym (rw (e) at (entry-node S T core n m left sent step c w)) ∙ is))

@@ -1,22 +1,19 @@
 -- What is known of copies as a phase ends, and as a core begins the next one.
-use Rattle.std.proofs.Common.{◌≡◌, ◌≢◌, ◌⊎◌, inl, inr, ℕ, zero, suc, ◌+◌, ◌≤◌, ◌<◌, ◌==◌, ◌&&◌, ◌||◌, not, nat_lt, Bool, true, false, cond, List, [], ◌∷◌, length, slice_get, slice_index_or, Option, Some, None, refl, sym, ap, subst, ◌∙◌, arith}
+use Rattle.std.proofs.Common.{◌≡◌, ◌⊎◌, inl, inr, ℕ, ◌+◌, ◌≤◌, ◌&&◌, ◌||◌, not, Bool, true, false, cond, List, [], slice_get, slice_index_or, Option, Some, None, refl, sym, ap, subst, ◌∙◌, arith}
 use Rattle.std.specs.List.{IsAmong}
 use Rattle.std.specs.Option.{option_map}
-use Rattle.std.proofs.lemmas.Bool.{eqb-true, or_left, or_right}
-use Rattle.std.proofs.lemmas.Bool.Decides.{nat_tests}
+use Rattle.std.proofs.lemmas.Bool.{or_left, or_right}
 use Rattle.dn_base.specs.declared.ids.CoreId.{CoreId}
 use Rattle.dn_base.specs.declared.ids.PhaseId.{PhaseId}
 use Rattle.region_table.specs.declared.interval.Interval.{Interval}
 use Rattle.region_table.specs.declared.declared.TaskDecl.{TaskDecl}
 use Rattle.region_table.specs.declared.declared.Phase.{Phase}
 use Rattle.region_table.specs.Words.{has}
-use Rattle.region_table.specs.Plan.{task_writes, task_guards, uses_plainly}
+use Rattle.region_table.specs.Plan.{task_writes, uses_plainly}
 use Rattle.region_table.specs.Tasks.{declared, IsDeclaration}
 use Rattle.region_table.proofs.TaskLemmas.{declared-tells}
 use Rattle.region_table.proofs.WrittenLemmas.{plan-at, declared-written, guarded-writes}
-use Rattle.effect_checker.specs.Checked.{IsCheckedPhase}
 use Rattle.effect_checker.proofs.SeparationLemmas.{phase-checked, plain_words_apart, guarded_words_apart}
-use Rattle.rv_core.specs.declared.task.TaskState.{TaskState}
 use Rattle.rv_core.specs.Access.{holds as is_held}
 use Rattle.rv_core.specs.Task.{started}
 use Rattle.rv_core.proofs.HeldLemmas.{holds-none}
@@ -26,15 +23,14 @@ use Rattle.message_net.specs.declared.message.Outgoing.{Outgoing}
 use Rattle.word_cache.specs.declared.row.Entry.{Entry}
 use Rattle.word_cache.specs.declared.row.Entry.TheVariants.{Valid, Registered, Leaving}
 use Rattle.word_cache.specs.Cache.{entry_after_phase}
-use Rattle.phase_barrier.specs.Barrier.{Barrier, counted as counts_in, advanced, all_arrived, is_over}
+use Rattle.phase_barrier.specs.Barrier.{Barrier, counted as counts_in, advanced, all_arrived}
 use Rattle.registration_protocol.specs.Node.{NodeParts, entry_of}
 use Rattle.registration_protocol.specs.Messages.{begins, written_in}
 use Rattle.registration_protocol.proofs.MessageLemmas.{begin-entries}
 use Rattle.machine_rules.specs.State.{State, entry_in, entry_at}
 use Rattle.machine_rules.specs.Flight.{bit, flight, arrives, goes}
-use Rattle.machine_rules.specs.Coherent.{UsesPlainly, IsBehind, HasWriter, held_by, holds_lock, has_lock, is_alive}
-use Rattle.machine_rules.proofs.BitLemmas.{bit-true}
-use Rattle.machine_rules.proofs.Invariant.{Invariant, CopiesGood, MayHaveWritten, MayBeOld, carriers, carried_by}
+use Rattle.machine_rules.specs.Coherent.{IsBehind, HasWriter, held_by, holds_lock, has_lock, is_alive}
+use Rattle.machine_rules.proofs.Invariant.{Invariant, CopiesGood, MayHaveWritten, MayBeOld, carried_by}
 use Rattle.machine_rules.proofs.Steps.{NodeStep}
 use Rattle.machine_rules.proofs.Leaves.{BarrierStep, at_core, at_keeper}
 use Rattle.machine_rules.proofs.WordCore.{same-number}
@@ -85,19 +81,26 @@ copies-together S T M core bad inv new whole step =
   where
     go : Message
     go = Go (record { 0 = S.keeper.phase + 1 })
+
     k : Barrier
     k = advanced (counts_in core.0 bad S.keeper)
+
     all : IsWhole S core.0
     all = is-whole S core.0 bad inv.machine inv.phases (arriving S core.0 bad inv.machine new)
         (in-flight S T k core bad (Some go) step (none-posted (arrives core.0) go (λ d. refl) S.setting.shape.cores)) whole
+
     phase_is : T.keeper.phase ≡ S.keeper.phase + 1
     phase_is = ap (λ (x : Barrier). x.phase) step.keeper
+
     entries : (c w : ℕ) → entry_at T c w ≡ entry_at S c w
     entries c w = ap (λ (ns : List NodeParts). entry_in w (slice_get ns c)) step.nodes
+
     nodes_at : (c : ℕ) → slice_get T.nodes c ≡ slice_get S.nodes c
     nodes_at c = ap (λ (ns : List NodeParts). slice_get ns c) step.nodes
+
     kept : (c : ℕ) (n : NodeParts) → slice_get S.nodes c ≡ Some n → (m : NodeParts) × (slice_get T.nodes c ≡ Some m) × (m.phase ≡ n.phase)
     kept c n found = (n, nodes_at c ∙ found, refl)
+
     -- each core is in the keeper's phase
     together : (c : ℕ) (n : NodeParts) → slice_get S.nodes c ≡ Some n → n.phase ≡ S.keeper.phase
     together c n found = omega (arith, inv.phases.phase c n found (by_halted n.halted refl), all.going c) where
@@ -110,6 +113,7 @@ copies-together S T M core bad inv new whole step =
           by_arrived : (x : Bool) → bit (x && false) ≡ 0
           by_arrived true = refl
           by_arrived false = refl
+
     -- the plain uses of a core's task
     unmarked : (c w value : ℕ) (marked : Bool) → entry_at S c w ≡ Some (Valid value marked)
         → ((u : TaskDecl) → declared S.setting.program S.keeper.phase c ≡ Some u → uses_plainly u w ≡ true → ⊥) → marked ≡ false
@@ -118,6 +122,7 @@ copies-together S T M core bad inv new whole step =
         let uses = inv.copies.marked c w value is in
         let declares : declared S.setting.program S.keeper.phase c ≡ Some uses.decl = subst (λ (x : ℕ). declared S.setting.program x c ≡ Some uses.decl) (together c uses.node uses.found) uses.declares in
         absurd (never uses.decl declares uses.plain)
+
     behind : (c w value : ℕ) (marked : Bool) (n : NodeParts) → slice_get S.nodes c ≡ Some n → has (written_in (slice_get S.setting.plans S.keeper.phase)) w ≡ true → marked ≡ false → IsBehind T c w marked
     behind c w value marked n found written none =
         record {
@@ -127,6 +132,7 @@ copies-together S T M core bad inv new whole step =
           written = rw (step.setting, together c n found) written;
           unmarked = none;
         }
+
     by_reason : (c w value : ℕ) (marked : Bool) (n : NodeParts) → entry_at S c w ≡ Some (Valid value marked) → slice_get S.nodes c ≡ Some n → (value ≡ M w) ⊎ MayBeOld S c w marked
         → (value ≡ M w) ⊎ MayBeOld T c w marked
     by_reason c w value marked n is found (inl same) = inl same
@@ -138,6 +144,7 @@ copies-together S T M core bad inv new whole step =
     by_reason c w value marked n is found (inr (inr (inr may))) =
         inr (inl (behind c w value marked n found (in-plan S M may.core w may.decl inv may.declares (guarded-writes may.decl may.lock w may.writes))
         (unmarked c w value marked is (λ u declares uses. guarded-apart S M c w u inv may declares uses))))
+
     by_node : (c w value : ℕ) (marked : Bool) → entry_at S c w ≡ Some (Valid value marked) → (o : Option NodeParts) → slice_get S.nodes c ≡ o → (value ≡ M w) ⊎ MayBeOld T c w marked
     by_node c w value marked is None found = let none : entry_at S c w ≡ None = ap (entry_in w) found in absurd (cc)
     by_node c w value marked is (Some n) found = by_reason c w value marked n is found (inv.copies.fresh c w value marked is)
@@ -157,12 +164,14 @@ after-phase words w (Some (Valid x old)) value marked is = by_test old (has word
   by_test true h is_old is_in is = record { old = true; was = rw (is_old) (by_value is); stays = refl; unmarked = by_mark is } where
     by_value : Some (Valid x false) ≡ Some (Valid value marked) → Some (Valid x true) ≡ Some (Valid value true)
     by_value e = let same : x ≡ value = cc in ap (λ (v : ℕ). Some (Valid v true)) same
+
     by_mark : Some (Valid x false) ≡ Some (Valid value marked) → marked ≡ false
     by_mark e = cc
   by_test false true is_old is_in is = absurd (cc)
   by_test false false is_old is_in is = record { old = false; was = rw (is_old) (by_value is); stays = rw (is_in) refl; unmarked = by_mark is } where
     by_value : Some (Valid x false) ≡ Some (Valid value marked) → Some (Valid x false) ≡ Some (Valid value false)
     by_value e = let same : x ≡ value = cc in ap (λ (v : ℕ). Some (Valid v false)) same
+
     by_mark : Some (Valid x false) ≡ Some (Valid value marked) → marked ≡ false
     by_mark e = cc
 after-phase words w (Some (Registered x y)) value marked is = absurd (cc)
@@ -181,28 +190,38 @@ copies-begun S T M core n phase inv step =
   where
     m : NodeParts
     m = begins S.setting n phase.0
+
     left : Option Outgoing
     left = at_core core (Go phase)
+
     words : List Interval
     words = written_in (slice_get S.setting.plans n.phase)
+
     after : (w value : ℕ) (marked : Bool) → entry_of m w ≡ Some (Valid value marked) → WasCopy words w value marked (entry_of n w)
     after w value marked is = after-phase words w (entry_of n w) value marked (sym (begin-entries S.setting n phase.0 w ((inv.machine.node core.0 n step.found).fits).cache) ∙ is)
+
     going : 1 ≤ flight S (goes core.0)
     going = let came = rw (same-number core.0) at (step.flown (goes core.0)) in omega (arith, came)
+
     free : held_by n.task ≡ 0
     free = inv.phases.unlocked core.0 n step.found going
+
     carries : (l w : ℕ) → carried_by l w S.keeper.phase n ≤ carried_by l w S.keeper.phase m + 0
     carries l w =
         let none : is_held (held_by n.task) l ≡ false = ap (λ (x : ℕ). is_held x l) free ∙ holds-none l in
         omega (arith, none-carried l w S.keeper.phase n (ap bit none))
+
     signed : KeepsSigned S T
     signed = signed-by S T core.0 n m left None step carries (λ l w. refl)
+
     unheld : (l : ℕ) → has_lock T core.0 l ≡ false
     unheld l =
         ap (λ (o : Option NodeParts). holds_lock l o) (node-now S T core.0 n m left None step)
         ∙ ap (λ (x : ℕ). is_held x l) (starts-free (declared S.setting.program phase.0 n.core)) ∙ holds-none l
+
     one : (a b : NodeParts) → Some a ≡ Some b → a ≡ b
     one a b e = cc
+
     by_reason : (w value : ℕ) (marked : Bool) (a : WasCopy words w value marked (entry_of n w)) → (value ≡ M w) ⊎ MayBeOld S core.0 w a.old → (value ≡ M w) ⊎ MayBeOld T core.0 w marked
     by_reason w value marked a (inl same) = inl same
     by_reason w value marked a (inr (inl behind)) =
@@ -214,5 +233,6 @@ copies-begun S T M core n phase inv step =
     by_reason w value marked a (inr (inr (inl writer))) = inr (inr (inl (writer-kept S T core.0 w step.setting (rw (step.keeper) refl) writer)))
     by_reason w value marked a (inr (inr (inr may))) =
         inr (inr (inr (guarded-kept S T core.0 w step.setting (rw (step.keeper) refl) may (unheld may.lock) (signed may.lock w may.signed))))
+
     own_fresh : (w value : ℕ) (marked : Bool) → WasCopy words w value marked (entry_of n w) → (value ≡ M w) ⊎ MayBeOld T core.0 w marked
     own_fresh w value marked a = by_reason w value marked a (inv.copies.fresh core.0 w value a.old (own-entry S core.0 n w step.found ∙ a.was))
