@@ -44,3 +44,9 @@ mod DispatchOwn
 mod DispatchCore
 mod DispatchBank
 mod Dispatch
+mod MachineMails
+mod MachineKept
+mod SoundEvents
+mod OpenedFacts
+mod OpenedSound
+mod OpenedInvariant
