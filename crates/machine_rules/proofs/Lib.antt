@@ -50,3 +50,10 @@ mod SoundEvents
 mod OpenedFacts
 mod OpenedSound
 mod OpenedInvariant
+mod ReadableLocks
+mod BehindLeaves
+mod ReadableMails
+mod Found
+mod ReadableCopies
+mod Readable
+mod LoadsRead

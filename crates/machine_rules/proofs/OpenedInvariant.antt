@@ -20,7 +20,7 @@ use Rattle.queue_lock.specs.Lock.{Lock, free_lock}
 use Rattle.registry_bank.specs.declared.bank.BankWord.{BankWord}
 use Rattle.registry_bank.specs.declared.bank.BankWord.TheVariants.{Home, Reg}
 use Rattle.registry_bank.specs.Bank.{first_word}
-use Rattle.phase_barrier.specs.Barrier.{all_arrived, opened as opened_barrier}
+use Rattle.phase_barrier.specs.Barrier.{Barrier, all_arrived, opened as opened_barrier}
 use Rattle.phase_barrier.proofs.ArrivalLemmas.{unmarked}
 use Rattle.phase_barrier.proofs.CountLemmas.{missing-one}
 use Rattle.registration_protocol.specs.Node.{NodeParts, Setting, goes_on, opened as opened_node}
@@ -221,6 +221,12 @@ copies-open C =
       fresh = λ c w value marked is. let none = opened-entry C c w in absurd (cc);
     }
 
+-- no node is ahead of the keeper
+behind-open : (C : Setting) (c : ℕ) (n : NodeParts) → slice_get (opened C).nodes c ≡ Some n → n.phase ≤ (opened C).keeper.phase
+behind-open C c n found =
+    let new = opened-node C c n found in
+    omega (arith, ap (λ (x : NodeParts). x.phase) new.is, ap (λ (k : Barrier). k.phase) (opened-keeper C))
+
 -- ---- all of it
 
 pub opened-invariant : (C : Setting) → IsContext C → IsProgram C.program → IsChecked C.program → Invariant (opened C) (λ w. slice_index C.program.memory w)
@@ -234,4 +240,5 @@ opened-invariant C context program checked =
       reads = reads-open C;
       values = values-open C context;
       copies = copies-open C;
+      behind = behind-open C;
     }
