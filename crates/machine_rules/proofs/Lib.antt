@@ -40,6 +40,13 @@ mod LockRows
 mod LockHomes
 mod LockSigns
 mod LockLeaves
+mod CopyFrames
+mod CopyNodes
+mod CopyGrants
+mod CopyPhases
+mod CopyStores
+mod CopyEvents
+mod CopyLeaves
 mod DispatchOwn
 mod DispatchCore
 mod DispatchBank
