@@ -313,3 +313,5 @@ pub record Invariant (S : State) (M : ℕ → ℕ) : Type 0 where
   pub reads : ReadsGood S
   pub values : ValuesGood S M
   pub copies : CopiesGood S M
+  -- no node is ahead of the keeper, halted or not
+  pub behind : (c : ℕ) (n : NodeParts) → slice_get S.nodes c ≡ Some n → n.phase ≤ S.keeper.phase

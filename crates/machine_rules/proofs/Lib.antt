@@ -38,6 +38,8 @@ mod ValueStores
 mod ValueLeaves
 mod LockRows
 mod LockHomes
+mod LockSigns
+mod LockLeaves
 mod CopyFrames
 mod CopyNodes
 mod CopyGrants
@@ -49,3 +51,16 @@ mod DispatchOwn
 mod DispatchCore
 mod DispatchBank
 mod Dispatch
+mod MachineMails
+mod MachineKept
+mod SoundEvents
+mod OpenedFacts
+mod OpenedSound
+mod OpenedInvariant
+mod ReadableLocks
+mod BehindLeaves
+mod ReadableMails
+mod Found
+mod ReadableCopies
+mod Readable
+mod LoadsRead
