@@ -193,7 +193,7 @@ pub store-right : (S : State) (core : CoreId) (n : NodeParts) (d : TaskDecl) (t 
     → (word.0 < length S.setting.program.memory) × (may_store d t.held word.0 ≡ true)
 store-right S core n d t word whole h = store-allowed S.setting.program d S.setting.fuel t word whole h.wants
 
-differ : (c d : ℕ) → (c == d) ≡ false → c ≢ d
+pub differ : (c d : ℕ) → (c == d) ≡ false → c ≢ d
 differ c d e = λ same. grind (arith, nat_tests, e, same)
 
 pub pending-one : (e : Option Entry) → pending_bit e ≤ 1

@@ -1,12 +1,12 @@
 -- Every event that may come keeps all that is kept.
-use Rattle.std.proofs.Common.{◌≡◌, ℕ, true, Option, Some, None}
+use Rattle.std.proofs.Common.{◌≡◌, ℕ, true}
 use Rattle.message_net.specs.declared.event.Event.{Event}
 use Rattle.machine_rules.specs.State.{State}
 use Rattle.machine_rules.specs.Sound.{IsMachine}
 use Rattle.machine_rules.specs.Next.{next, enabled}
 use Rattle.machine_rules.specs.Memory.{store_in}
 use Rattle.machine_rules.proofs.Invariant.{Invariant, WordsGood, LocksGood, PhasesGood, ReadsGood, ValuesGood, CopiesGood}
-use Rattle.machine_rules.proofs.Leaves.{Leaves, stored_to}
+use Rattle.machine_rules.proofs.Leaves.{stored_to}
 use Rattle.machine_rules.proofs.Dispatch.{ways}
 use Rattle.machine_rules.proofs.WordLeaves.{words-leaves}
 use Rattle.machine_rules.proofs.AddressLeaves.{IsAddressed, address-leaves}
@@ -14,15 +14,12 @@ use Rattle.machine_rules.proofs.LockLeaves.{locks-leaves}
 use Rattle.machine_rules.proofs.PhaseLeaves.{phases-leaves}
 use Rattle.machine_rules.proofs.ReadLeaves.{reads-leaves}
 use Rattle.machine_rules.proofs.ValueLeaves.{values-leaves}
+use Rattle.machine_rules.proofs.CopyLeaves.{copies-leaves}
 use Rattle.machine_rules.proofs.BehindLeaves.{AreBehind, behind-leaves}
 use Rattle.machine_rules.proofs.EndedLeaves.{HaveEnded, ended-leaves}
 
--- every event keeps what is known of copies
-abbrev pub KeepsCopies : Type 0
-KeepsCopies = (S : State) (M : ℕ → ℕ) (e : Event) → Invariant S M → Leaves S M e (λ M'. CopiesGood (next S e) M')
-
-pub kept : KeepsCopies → (S : State) (M : ℕ → ℕ) (e : Event) → Invariant S M → enabled S e ≡ true → IsMachine (next S e) → Invariant (next S e) (stored_to (store_in S e) M)
-kept copies S M e inv may machine =
+pub kept : (S : State) (M : ℕ → ℕ) (e : Event) → Invariant S M → enabled S e ≡ true → IsMachine (next S e) → Invariant (next S e) (stored_to (store_in S e) M)
+kept S M e inv may machine =
     record {
       machine = machine;
       addressed = ways S M e (λ M'. IsAddressed (next S e)) inv may (address-leaves S M e inv);
@@ -31,7 +28,7 @@ kept copies S M e inv may machine =
       phases = ways S M e (λ M'. PhasesGood (next S e)) inv may (phases-leaves S M e inv);
       reads = ways S M e (λ M'. ReadsGood (next S e)) inv may (reads-leaves S M e inv);
       values = ways S M e (ValuesGood (next S e)) inv may (values-leaves S M e inv);
-      copies = ways S M e (CopiesGood (next S e)) inv may (copies S M e inv);
+      copies = ways S M e (CopiesGood (next S e)) inv may (copies-leaves S M e inv);
       behind = ways S M e (λ M'. AreBehind (next S e)) inv may (behind-leaves S M e inv);
       ended = ways S M e (λ M'. HaveEnded (next S e)) inv may (ended-leaves S M e inv);
     }

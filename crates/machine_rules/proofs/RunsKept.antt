@@ -27,7 +27,7 @@ use Rattle.machine_rules.specs.Sound.{IsSound}
 use Rattle.machine_rules.proofs.Invariant.{Invariant}
 use Rattle.machine_rules.proofs.Leaves.{stored_to}
 use Rattle.machine_rules.proofs.SoundEvents.{sound-next}
-use Rattle.machine_rules.proofs.Kept.{KeepsCopies, kept}
+use Rattle.machine_rules.proofs.Kept.{kept}
 
 -- ---- no event changes the program, its plans, the shape or the fuel
 
@@ -128,13 +128,13 @@ run-setting S (e ∷ es) = run-setting (next S e) es ∙ same-setting S e
 
 -- ---- a run from a sound state that keeps the invariant
 
-pub run-kept : KeepsCopies → (S : State) (M : ℕ → ℕ) (made : ℕ) (events : List Event) → IsSound S made → Invariant S M → IsRun S events
+pub run-kept : (S : State) (M : ℕ → ℕ) (made : ℕ) (events : List Event) → IsSound S made → Invariant S M → IsRun S events
     → IsSound (after S events) (made + length events) × Invariant (after S events) (memory_over M S events)
-run-kept copies S M made [] sound inv run = (subst (IsSound S) (none made) sound, inv) where
+run-kept S M made [] sound inv run = (subst (IsSound S) (none made) sound, inv) where
   none : (k : ℕ) → k ≡ k + 0
   none k = omega arith
-run-kept copies S M made (e ∷ es) sound inv run =
+run-kept S M made (e ∷ es) sound inv run =
     let later = sound-next S made e sound run.0 in
-    let rest = run-kept copies (next S e) (stored_to (store_in S e) M) (made + 1) es later (kept copies S M e inv run.0 later.machine) run.1 in
+    let rest = run-kept (next S e) (stored_to (store_in S e) M) (made + 1) es later (kept S M e inv run.0 later.machine) run.1 in
     let one : made + 1 + length es ≡ made + length (e ∷ es) = omega arith in
     (subst (IsSound (after (next S e) es)) one rest.0, rest.1)

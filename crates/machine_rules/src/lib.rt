@@ -2,6 +2,8 @@
 //! off a run, and when a state is coherent.
 #![tactic(auto)]
 
+mod laws;
 mod stepped;
 
+pub use laws::{a_state_stays_sound, the_opened_machine_is_sound};
 pub use stepped::Stepped;
