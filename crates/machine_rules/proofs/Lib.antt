@@ -48,3 +48,5 @@ mod SoundEvents
 mod OpenedFacts
 mod OpenedSound
 mod OpenedInvariant
+mod Spending
+mod SpendSteps
