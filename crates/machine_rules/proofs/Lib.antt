@@ -50,3 +50,5 @@ mod OpenedSound
 mod OpenedInvariant
 mod Spending
 mod SpendSteps
+mod SpendNodes
+mod SpendLeaves
