@@ -52,3 +52,4 @@ mod Spending
 mod SpendSteps
 mod SpendNodes
 mod SpendLeaves
+mod SpendBound
