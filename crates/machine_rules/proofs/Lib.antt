@@ -70,3 +70,8 @@ mod RunsKept
 mod RunsCoherent
 mod RestNodes
 mod RestStates
+mod Spending
+mod SpendSteps
+mod SpendNodes
+mod SpendLeaves
+mod SpendBound
