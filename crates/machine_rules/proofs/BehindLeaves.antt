@@ -1,5 +1,5 @@
 -- Every event leaves each node in the keeper's phase or an earlier one, halted or not.
-use Rattle.std.proofs.Common.{◌≡◌, ℕ, ◌+◌, ◌≤◌, ◌==◌, Bool, true, false, List, slice_get, Option, Some, None, refl, sym, ap, ◌∙◌, arith}
+use Rattle.std.proofs.Common.{◌≡◌, ℕ, ◌≤◌, ◌==◌, Bool, true, false, List, slice_get, Option, Some, refl, sym, ap, ◌∙◌, arith}
 use Rattle.message_net.specs.declared.event.Event.{Event}
 use Rattle.message_net.specs.declared.message.Message.{Message}
 use Rattle.message_net.specs.declared.message.Outgoing.{Outgoing}
@@ -20,6 +20,7 @@ behind-node : (S T : State) (core : ℕ) (n m : NodeParts) (left sent : Option O
 behind-node S T core n m left sent step were now c k found = by_core (core == c) refl where
   phases : T.keeper.phase ≡ S.keeper.phase
   phases = ap (λ (x : Barrier). x.phase) step.keeper
+
   by_core : (x : Bool) → (core == c) ≡ x → k.phase ≤ T.keeper.phase
   by_core true e =
       let is : Some m ≡ Some k = sym (rw (e) at (step.nodes c)) ∙ found in

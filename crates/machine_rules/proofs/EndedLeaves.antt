@@ -1,5 +1,5 @@
 -- Every event leaves nodes halted only where the keeper's set is whole, or where there are no phases.
-use Rattle.std.proofs.Common.{◌≡◌, ◌⊎◌, inl, inr, ℕ, ◌+◌, ◌≤◌, ◌==◌, Bool, true, false, List, length, slice_get, Option, Some, None, refl, sym, ap, subst, ◌∙◌, arith}
+use Rattle.std.proofs.Common.{◌≡◌, ◌⊎◌, inl, inr, ℕ, ◌==◌, Bool, true, false, List, length, slice_get, Option, Some, None, refl, sym, ap, ◌∙◌, arith}
 use Rattle.message_net.specs.declared.event.Event.{Event}
 use Rattle.message_net.specs.declared.message.Message.{Message}
 use Rattle.message_net.specs.declared.message.Message.TheVariants.{Halt}
@@ -11,7 +11,7 @@ use Rattle.phase_barrier.specs.Barrier.{Barrier, all_arrived}
 use Rattle.phase_barrier.proofs.CountLemmas.{missing-one}
 use Rattle.registration_protocol.specs.Node.{NodeParts, Setting}
 use Rattle.machine_rules.specs.State.{State}
-use Rattle.machine_rules.specs.Flight.{flight, halts}
+use Rattle.machine_rules.specs.Flight.{halts}
 use Rattle.machine_rules.specs.Next.{next}
 use Rattle.machine_rules.proofs.Invariant.{Invariant}
 use Rattle.machine_rules.proofs.Steps.{NodeStep}

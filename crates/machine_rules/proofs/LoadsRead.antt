@@ -1,6 +1,6 @@
 -- Each load reads the memory to which the stores were applied.
 use Rattle.std.specs.List.{IsAmong}
-use Rattle.std.proofs.Common.{◌≡◌, ◌≢◌, ◌⊎◌, inl, inr, ℕ, zero, suc, ◌+◌, ◌≤◌, ◌==◌, ◌^◌, ◌&&◌, ◌||◌, Bool, true, false, List, [], ◌∷◌, get_or, slice_get, slice_index_or, bit_or, Option, Some, None, refl, sym, ap, subst, ◌∙◌, arith}
+use Rattle.std.proofs.Common.{◌≡◌, ◌≢◌, ◌⊎◌, inl, inr, ℕ, zero, suc, ◌+◌, ◌==◌, ◌^◌, ◌&&◌, Bool, true, false, List, [], ◌∷◌, get_or, bit_or, Some, None, refl, sym, ap, subst, ◌∙◌, arith}
 use Rattle.std.proofs.lemmas.Bool.{eqb-true, or_left, or_right, and_from}
 use Rattle.std.proofs.lemmas.Bool.Decides.{nat_tests}
 use Rattle.dn_base.specs.declared.ids.CoreId.{CoreId}
@@ -22,20 +22,18 @@ use Rattle.flat_machine.specs.Step.{Started}
 use Rattle.flat_machine.proofs.Separation.{AreApart, keeps-out}
 use Rattle.flat_machine.proofs.Rights.{both-ways}
 use Rattle.message_net.specs.declared.event.Event.{Event}
-use Rattle.word_cache.specs.declared.row.Entry.{Entry}
-use Rattle.word_cache.specs.declared.row.Entry.TheVariants.{Valid, Registered, Leaving}
+use Rattle.word_cache.specs.declared.row.Entry.TheVariants.{Valid, Registered}
 use Rattle.registration_protocol.specs.Node.{NodeParts, entry_of}
 use Rattle.machine_rules.specs.State.{State, entry_in, entry_at, home_at}
-use Rattle.machine_rules.specs.Flight.{bit, flight, goes}
 use Rattle.machine_rules.specs.Next.{enabled, seen_in}
-use Rattle.machine_rules.specs.Memory.{store_in, word_value}
-use Rattle.registry_bank.specs.declared.bank.BankWord.TheVariants.{Home, Reg}
-use Rattle.machine_rules.specs.Coherent.{owned_value, IsBehind, HasWriter, has_lock, holds_lock, held_by, is_alive}
-use Rattle.machine_rules.proofs.Bits.{pending_bit, settled_bit, owner_bit}
+use Rattle.machine_rules.specs.Memory.{word_value}
+use Rattle.registry_bank.specs.declared.bank.BankWord.TheVariants.{Reg}
+use Rattle.machine_rules.specs.Coherent.{owned_value, IsBehind, HasWriter}
+use Rattle.machine_rules.proofs.Bits.{pending_bit, settled_bit}
 use Rattle.machine_rules.proofs.BitLemmas.{owner-is}
 use Rattle.machine_rules.proofs.Invariant.{Invariant, AllSettled, MayBeOld, MayHaveWritten}
-use Rattle.machine_rules.proofs.Leaves.{Leaves, Tells, IsActing}
-use Rattle.machine_rules.proofs.Exclusive.{IsAtWork, acting-works, in-phase, load-none-pending}
+use Rattle.machine_rules.proofs.Leaves.{Leaves, IsActing}
+use Rattle.machine_rules.proofs.Exclusive.{acting-works, in-phase, load-none-pending}
 use Rattle.machine_rules.proofs.ValueEvents.{settled-owner}
 use Rattle.machine_rules.proofs.ReadableValues.{value-is}
 use Rattle.machine_rules.proofs.Dispatch.{ways}
@@ -95,14 +93,17 @@ not-guarded : (S : State) (M : ℕ → ℕ) (core : CoreId) (n : NodeParts) (d :
 not-guarded S M core n d t word inv h by =
     kept-out S M core n d t word by.core by.decl (bit_or 0 (2 ^ by.lock)) inv h by.other by.declares unheld
     (or_right (has by.decl.effects.writes word.0) (under by.decl.effects.guarded_writes 0 (bit_or 0 (2 ^ by.lock)) word.0)
-     (under-from by.decl.effects.guarded_writes 0 (bit_or 0 (2 ^ by.lock)) word.0 by.lock (subst (λ (x : ℕ). is_held (bit_or 0 (2 ^ by.lock)) x ≡ true) (zero-first by.lock) (own-lock by.lock)) by.writes))
+    (under-from by.decl.effects.guarded_writes 0 (bit_or 0 (2 ^ by.lock)) word.0 by.lock (subst (λ (x : ℕ). is_held (bit_or 0 (2 ^ by.lock)) x ≡ true) (zero-first by.lock) (own-lock by.lock)) by.writes))
   where
     zero-first : (x : ℕ) → x ≡ 0 + x
     zero-first x = omega arith
+
     own-lock : (lock : ℕ) → is_held (bit_or 0 (2 ^ lock)) lock ≡ true
     own-lock lock = rw (holds-acquired 0 lock lock) (grind (arith, nat_tests))
+
     not-held : is_held t.held by.lock ≡ false
     not-held = rw (h.found, h.task) at by.unheld
+
     unheld : (lock : ℕ) → is_held (bit_or 0 (2 ^ by.lock)) lock ≡ true → is_held t.held lock ≡ true → ⊥
     unheld lock one two = by_lock (lock == by.lock) refl where
       by_lock : (x : Bool) → (lock == by.lock) ≡ x → ⊥
@@ -128,11 +129,13 @@ own-loaded S M core n d t word value true inv h is = inv.values.pending core.0 w
 own-loaded S M core n d t word value false inv h is = inv.values.owner word.0 value core all home (ap owned_value here) where
   here : entry_at S core.0 word.0 ≡ Some (Registered value false)
   here = ap (entry_in word.0) h.found ∙ is
+
   all : AllSettled S word.0
   all c = by_core (core.0 == c) refl where
     by_core : (x : Bool) → (core.0 == c) ≡ x → pending_bit (entry_at S c word.0) ≡ 0
     by_core true e = subst (λ (x : ℕ). pending_bit (entry_at S x word.0) ≡ 0) (eqb-true core.0 c e) (ap pending_bit here)
     by_core false e = load-none-pending S M core n d t word (need.TheVariants.Load word) inv (inl refl) h c e
+
   home : home_at S word.0 ≡ Some (Reg core)
   home = owner-is core.0 (home_at S word.0) (omega (arith, settled-owner S word.0 core.0 inv.words all, ap settled_bit here))
 

@@ -1,5 +1,5 @@
 -- What is kept says that the copies are coherent.
-use Rattle.std.proofs.Common.{◌≡◌, ◌≢◌, ◌⊎◌, inl, inr, ℕ, zero, suc, ◌+◌, ◌≤◌, ◌==◌, if◌then◌else◌, not, ◌&&◌, Bool, true, false, List, [], ◌∷◌, slice_get, sum_by, Option, Some, None, refl, sym, ap, subst, ◌∙◌, arith}
+use Rattle.std.proofs.Common.{◌≡◌, ◌⊎◌, inl, inr, ℕ, zero, suc, ◌+◌, ◌≤◌, ◌==◌, if◌then◌else◌, Bool, true, false, List, [], ◌∷◌, slice_get, sum_by, Option, Some, None, refl, sym, ap, subst, ◌∙◌, arith}
 use Rattle.std.proofs.lemmas.Bool.{eqb-true}
 use Rattle.std.proofs.lemmas.Bool.Decides.{nat_tests}
 use Rattle.std.proofs.lemmas.List.Sums.{sum_by-cons}
@@ -9,22 +9,19 @@ use Rattle.rv_core.specs.Access.{holds as is_held}
 use Rattle.write_signature.specs.declared.signature.Signature.{Signature}
 use Rattle.write_signature.specs.Signature.{tag, holds, joined}
 use Rattle.write_signature.proofs.SignatureLemmas.{joined_covers_first, joined_covers_second}
-use Rattle.message_net.specs.declared.actor.Actor.{Actor}
 use Rattle.message_net.specs.declared.message.Mail.{Mail}
 use Rattle.message_net.specs.declared.message.Message.{Message}
 use Rattle.message_net.specs.declared.message.Message.TheVariants.{ReadReq, ReadFwd, DataReply, RegReq, RegFwd, RegAck, WriteBack, WbAck, Acquire, Release, Grant, Arrived, Go, Halt}
-use Rattle.word_cache.specs.declared.row.Entry.TheVariants.{Valid}
 use Rattle.queue_lock.specs.Lock.{Lock, holder_count}
 use Rattle.registration_protocol.specs.Node.{NodeParts}
-use Rattle.machine_rules.specs.State.{State, entry_at, lock_at}
-use Rattle.machine_rules.specs.Flight.{Test, bit, flight, counted, releases}
-use Rattle.machine_rules.specs.Memory.{word_value}
-use Rattle.machine_rules.specs.Coherent.{AreCopies, IsFresh, IsBehind, HasWriter, HasGuardedWriter, IsInFlight, has_lock, holds_lock, held_by, holder_in, signature_at, release_in, first_release, with_carried, with_holder, lock_signature}
+use Rattle.machine_rules.specs.State.{State, lock_at}
+use Rattle.machine_rules.specs.Flight.{bit, flight, counted, releases}
+use Rattle.machine_rules.specs.Coherent.{AreCopies, IsFresh, IsBehind, HasWriter, HasGuardedWriter, has_lock, holds_lock, held_by, holder_in, signature_at, release_in, first_release, with_carried, with_holder, lock_signature}
 use Rattle.machine_rules.proofs.Bits.{signed_in}
 use Rattle.machine_rules.proofs.BitLemmas.{bit-true}
 use Rattle.machine_rules.proofs.Invariant.{Invariant, MayBeOld, MayHaveWritten, carriers, kept_bit, carried_by, is_carrying}
 use Rattle.machine_rules.proofs.WordCore.{same-number}
-use Rattle.machine_rules.proofs.Found.{IsWeighing, found-weighing, item-within, sums-within, all-there}
+use Rattle.machine_rules.proofs.Found.{found-weighing, item-within, sums-within, all-there}
 use Rattle.machine_rules.proofs.ReadableLocks.{locks}
 use Rattle.machine_rules.proofs.ReadableValues.{value-is}
 
@@ -108,8 +105,10 @@ first-there l [] s is = absurd (cc)
 first-there l (m ∷ ms) s is = by_first (release_in l m.message) refl (first-there l ms s) where
   Found : List Mail → Type 0
   Found xs = (place : ℕ) × (x : Mail) × (lock : LockId) × (core : CoreId) × (slice_get xs place ≡ Some x) × (x.message ≡ Release lock core s)
+
   later : Found ms → Found (m ∷ ms)
   later (place, x, lock, core, there, says) = (suc place, x, lock, core, there, says)
+
   by_first : (o : Option Signature) → release_in l m.message ≡ o → (first_release l ms ≡ Some s → Found ms) → Found (m ∷ ms)
   by_first None e again = later (again (rw (e) at is))
   by_first (Some t) e again =
@@ -145,8 +144,10 @@ signed-first l w p d [] own single some = absurd (omega (arith, some))
 signed-first l w p d (m ∷ ms) own single some = by_first (release_in l m.message) refl (signed-first l w p d ms (λ place. own (suc place))) where
   all : sum_by (counted (releases l d)) (m ∷ ms) ≡ counted (releases l d) m + sum_by (counted (releases l d)) ms
   all = sum_by-cons (counted (releases l d)) m ms
+
   carried : sum_by (counted (is_carrying l w p)) (m ∷ ms) ≡ counted (is_carrying l w p) m + sum_by (counted (is_carrying l w p)) ms
   carried = sum_by-cons (counted (is_carrying l w p)) m ms
+
   by_first : (o : Option Signature) → release_in l m.message ≡ o → (sum_by (counted (releases l d)) ms ≤ 1 → 1 ≤ sum_by (counted (is_carrying l w p)) ms → signed_in w p (first_release l ms) ≡ true)
       → signed_in w p (first_release l (m ∷ ms)) ≡ true
   by_first None e again = rw (e) (again (omega (arith, single, all)) (omega (arith, some, carried, nothing)))
@@ -240,6 +241,7 @@ held-signed : (S : State) (M : ℕ → ℕ) (l w : ℕ) (h : Lock) (d : CoreId) 
 held-signed S M l w h d n inv there owner found has some = by_sum (sum_by (carried_by l w S.keeper.phase) S.nodes) refl (flight S (is_carrying l w S.keeper.phase)) refl where
   single : holder_in d.0 (lock_at S l) ≤ 1
   single = omega (arith, ap (holder_in d.0) there, ap (holder_count d.0) owner, bit-most (d.0 == d.0))
+
   by_sum : (x : ℕ) → sum_by (carried_by l w S.keeper.phase) S.nodes ≡ x → (y : ℕ) → flight S (is_carrying l w S.keeper.phase) ≡ y → 1 ≤ bit (holds h.kept w S.keeper.phase) + bit (signed_in w S.keeper.phase (slice_get n.signatures l))
   by_sum zero e zero f = omega (arith, some, e, f, ap (kept_bit w S.keeper.phase) there)
   by_sum zero e (suc y) f =
@@ -260,8 +262,10 @@ given-signed : (S : State) (M : ℕ → ℕ) (l w : ℕ) (h : Lock) (d : CoreId)
 given-signed S M l w h d inv there owner without some = by_sum (sum_by (carried_by l w S.keeper.phase) S.nodes) refl (flight S (is_carrying l w S.keeper.phase)) refl where
   single : holder_in d.0 (lock_at S l) ≤ 1
   single = omega (arith, ap (holder_in d.0) there, ap (holder_count d.0) owner, bit-most (d.0 == d.0))
+
   own : AreOf l d.0 S.mails
   own place m lock core s at says same = sym (holder-of core.0 (lock_at S l) (giving S M l inv place m lock core s at says same).1 h there d owner)
+
   by_sum : (x : ℕ) → sum_by (carried_by l w S.keeper.phase) S.nodes ≡ x → (y : ℕ) → flight S (is_carrying l w S.keeper.phase) ≡ y → 1 ≤ bit (holds h.kept w S.keeper.phase) + bit (signed_in w S.keeper.phase (first_release l S.mails))
   by_sum zero e zero f = omega (arith, some, e, f, ap (kept_bit w S.keeper.phase) there)
   by_sum zero e (suc y) f =

@@ -1,5 +1,5 @@
 -- What is kept says that the locks are coherent.
-use Rattle.std.proofs.Common.{◌≡◌, ◌≢◌, ◌⊎◌, inl, inr, ℕ, zero, suc, ◌+◌, ◌≤◌, ◌%◌, ◌==◌, not, nat_lt, ◌&&◌, Bool, true, false, List, [], slice_get, sum_by, Option, Some, None, refl, sym, ap, ◌∙◌, arith}
+use Rattle.std.proofs.Common.{◌≡◌, ℕ, ◌≤◌, ◌%◌, ◌==◌, not, Bool, true, false, slice_get, Option, Some, None, refl, sym, ap, ◌∙◌, arith}
 use Rattle.std.proofs.lemmas.Bool.{eqb-true}
 use Rattle.std.proofs.lemmas.Bool.Decides.{nat_tests}
 use Rattle.dn_base.specs.declared.ids.CoreId.{CoreId}
@@ -10,11 +10,10 @@ use Rattle.message_net.specs.declared.message.Mail.{Mail}
 use Rattle.message_net.specs.declared.message.Message.TheVariants.{Release, Grant}
 use Rattle.message_net.proofs.PoolLemmas.{weight-within}
 use Rattle.queue_lock.specs.Lock.{Lock, IsLockOf}
-use Rattle.registry_bank.specs.Bank.{BankParts, bank_lock}
-use Rattle.registration_protocol.specs.Node.{NodeParts}
+use Rattle.registry_bank.specs.Bank.{BankParts}
 use Rattle.machine_rules.specs.State.{State, lock_in, lock_at}
 use Rattle.machine_rules.specs.Sound.{IsMachine}
-use Rattle.machine_rules.specs.Flight.{bit, flight, counted}
+use Rattle.machine_rules.specs.Flight.{bit, counted}
 use Rattle.machine_rules.specs.Coherent.{AreLocks, IsInFlight}
 use Rattle.machine_rules.proofs.Bits.{same_signature}
 use Rattle.machine_rules.proofs.Invariant.{Invariant, LocksGood, is_unlike, is_late}
@@ -27,7 +26,7 @@ same-is a b none = by_low (a.low == b.low) refl (a.high == b.high) refl (a.phase
   by_low true e true f true g =
       ap (λ (x : ℕ). record { low = x; high = a.high; phase = a.phase }) (eqb-true a.low b.low e)
       ∙ (ap (λ (x : ℕ). record { low = b.low; high = x; phase = a.phase }) (eqb-true a.high b.high f)
-         ∙ ap (λ (x : ℕ). record { low = b.low; high = b.high; phase = record { 0 = x } }) (eqb-true a.phase.0 b.phase.0 g))
+      ∙ ap (λ (x : ℕ). record { low = b.low; high = b.high; phase = record { 0 = x } }) (eqb-true a.phase.0 b.phase.0 g))
   by_low false e y f z g = let one = rw (e) at none in absurd (omega (arith, one))
   by_low true e false f z g = let one = rw (e, f) at none in absurd (omega (arith, one))
   by_low true e true f false g = let one = rw (e, f, g) at none in absurd (omega (arith, one))

@@ -1,5 +1,5 @@
 -- What is kept says that each mail in flight is awaited.
-use Rattle.std.proofs.Common.{◌≡◌, ◌≢◌, ◌⊎◌, inl, inr, ℕ, zero, suc, ◌+◌, ◌≤◌, ◌%◌, ◌==◌, not, nat_lt, ◌&&◌, Bool, true, false, List, [], slice_get, sum_by, Option, Some, None, refl, sym, ap, subst, ◌∙◌, arith}
+use Rattle.std.proofs.Common.{◌≡◌, ℕ, ◌+◌, ◌≤◌, ◌%◌, ◌==◌, not, Bool, true, false, slice_get, Option, Some, None, refl, sym, ap, ◌∙◌, arith}
 use Rattle.std.proofs.lemmas.Bool.{eqb-true}
 use Rattle.std.proofs.lemmas.Bool.Decides.{nat_tests}
 use Rattle.dn_base.specs.declared.ids.CoreId.{CoreId}
@@ -17,17 +17,16 @@ use Rattle.message_net.proofs.PoolLemmas.{weight-within, sum_by-without}
 use Rattle.std.proofs.lemmas.List.Sums.{sum_by-le-sum_by}
 use Rattle.queue_lock.specs.Lock.{Lock, holder_count}
 use Rattle.machine_rules.proofs.WordGood.{value-le}
-use Rattle.word_cache.specs.declared.row.Entry.{Entry}
-use Rattle.word_cache.specs.declared.row.Entry.TheVariants.{Valid, Registered, Leaving}
+use Rattle.word_cache.specs.declared.row.Entry.TheVariants.{Leaving}
 use Rattle.registration_protocol.specs.declared.node.NodeWait as wait
 use Rattle.registration_protocol.specs.declared.node.NodeWait.{NodeWait}
 use Rattle.registration_protocol.specs.Node.{NodeParts}
-use Rattle.machine_rules.specs.State.{State, entry_at, home_at, lock_at}
+use Rattle.machine_rules.specs.State.{State, entry_at, lock_at}
 use Rattle.machine_rules.specs.Flight.{Test, bit, flight, counted, asks, passes_on, confirms, gives_back, gives_back_value, frees, seeks, forwards, replies, acquires, releases, grants, arrives, goes, halts}
-use Rattle.machine_rules.specs.Coherent.{AreExpected, IsExpected, IsInFlight, IsPending, IsLeaving, waits_for, holder_in, is_alive, locks_in}
-use Rattle.machine_rules.proofs.Bits.{pending_bit, leaving_bit, reading_in}
+use Rattle.machine_rules.specs.Coherent.{AreExpected, IsExpected, IsLeaving, waits_for, holder_in, is_alive, locks_in}
+use Rattle.machine_rules.proofs.Bits.{reading_in}
 use Rattle.machine_rules.proofs.BitLemmas.{pending-is, leaving-is, bit-true}
-use Rattle.machine_rules.proofs.Invariant.{Invariant, is_lost, is_right, is_bank, is_core, is_keeper, is_astray}
+use Rattle.machine_rules.proofs.Invariant.{Invariant, is_lost, is_right, is_astray}
 use Rattle.machine_rules.proofs.WordCore.{same-number}
 use Rattle.machine_rules.proofs.DispatchCore.{reading-word, locking-lock}
 
@@ -42,7 +41,9 @@ counts S place m there =
     record {
       one = λ p. weight-within (counted p) S.mails place m there;
       apart = λ p q le. omega (
-        arith, sum_by-without (counted p) S.mails place m there, sum_by-without (counted q) S.mails place m there,
+        arith,
+        sum_by-without (counted p) S.mails place m there,
+        sum_by-without (counted q) S.mails place m there,
         sum_by-le-sum_by (counted p) (counted q) (without place S.mails) le,
       );
     }
@@ -77,6 +78,7 @@ given : (S : State) (M : ℕ → ℕ) (bank : BankId) (word : WordId) (core : Co
 given S M bank word core value v inv mail is = by_value (value == v) refl where
   more : flight S (gives_back_value word.0 core.0 v) + 1 ≤ flight S (gives_back word.0 core.0) + bit (value == v)
   more = rw (same-number word.0, same-number core.0) at (mail.apart (gives_back_value word.0 core.0 v) (gives_back word.0 core.0) (value-le word.0 core.0 v))
+
   by_value : (x : Bool) → (value == v) ≡ x → IsLeaving S core.0 word.0 value
   by_value true e = is ∙ ap (λ (x : ℕ). Some (Leaving x)) (sym (eqb-true value v e))
   by_value false e = absurd (omega (arith, more, ap bit e, inv.words.valued word.0 core.0 v is))

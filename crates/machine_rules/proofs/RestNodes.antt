@@ -1,9 +1,7 @@
 -- Where no event may come no mail is in flight, and a node whose task goes on waits for a lock.
-use Rattle.std.proofs.Common.{◌≡◌, ◌≢◌, ◌⊎◌, inl, inr, ℕ, zero, suc, ◌+◌, ◌%◌, ◌<◌, ◌≤◌, ◌==◌, ◌&&◌, ◌||◌, not, nat_lt, Bool, true, false, List, [], ◌∷◌, length, slice_get, sum_by, Option, Some, None, refl, sym, ap, subst, ◌∙◌, arith}
+use Rattle.std.proofs.Common.{◌≡◌, inl, inr, ℕ, ◌%◌, ◌<◌, ◌≤◌, ◌==◌, not, Bool, true, false, List, [], ◌∷◌, slice_get, sum_by, Option, Some, None, refl, sym, ap, subst, ◌∙◌, arith}
 use Rattle.std.specs.Option.{is_some}
-use Rattle.std.proofs.lemmas.Bool.{eqb-true}
 use Rattle.std.proofs.lemmas.Bool.Decides.{nat_tests}
-use Rattle.dn_base.specs.declared.ids.CoreId.{CoreId}
 use Rattle.dn_base.specs.declared.ids.WordId.{WordId}
 use Rattle.dn_base.specs.declared.ids.LockId.{LockId}
 use Rattle.region_table.specs.declared.declared.TaskDecl.{TaskDecl}
@@ -13,27 +11,25 @@ use Rattle.rv_core.specs.declared.task.TaskState.{TaskState}
 use Rattle.rv_core.specs.declared.need.Need as need
 use Rattle.rv_core.specs.declared.need.Need.{Need}
 use Rattle.rv_core.specs.Need.{need_of}
-use Rattle.message_net.specs.declared.event.Event.{Event}
-use Rattle.message_net.specs.declared.event.Event.TheVariants.{Instr, Evict, Arrive, Handle}
+use Rattle.message_net.specs.declared.event.Event.TheVariants.{Handle}
 use Rattle.message_net.specs.declared.message.Mail.{Mail}
 use Rattle.message_net.specs.Pool.{count_of, of_id}
 use Rattle.word_cache.specs.declared.row.Entry.{Entry}
 use Rattle.word_cache.specs.declared.row.Entry.TheVariants.{Valid, Registered, Leaving}
-use Rattle.word_cache.specs.Cache.{Cache, has_room, victim_of, may_go, is_stuck, pending_count, lookup}
+use Rattle.word_cache.specs.Cache.{has_room, victim_of, is_stuck}
 use Rattle.word_cache.proofs.CacheLaws.{IsBlocked, full-blocked, victim-goes}
 use Rattle.word_cache.proofs.WeightLemmas.{pending-none}
 use Rattle.registration_protocol.specs.declared.node.NodeWait as wait
 use Rattle.registration_protocol.specs.declared.node.NodeWait.{NodeWait}
-use Rattle.registration_protocol.specs.Node.{NodeParts, Setting, entry_of, need_now, need_by, need_if, goes_on, is_settled, is_active, is_ready}
+use Rattle.registration_protocol.specs.Node.{NodeParts, Setting, entry_of, need_now, goes_on, is_settled, is_active, is_ready}
 use Rattle.registration_protocol.specs.Fit.{Fits}
-use Rattle.registration_protocol.specs.OwnEvents.{may_instr, may_evict, may_arrive, may_access, lets, crowded, makes_room, wanted_by}
-use Rattle.machine_rules.specs.State.{State, entry_in, entry_at}
-use Rattle.machine_rules.specs.Flight.{Test, bit, flight, counted, asks, passes_on, confirms, gives_back, frees, seeks, forwards, replies}
+use Rattle.registration_protocol.specs.OwnEvents.{may_instr, may_evict, may_arrive, may_access, lets, crowded, wanted_by}
+use Rattle.machine_rules.specs.State.{State, entry_in}
+use Rattle.machine_rules.specs.Flight.{Test, flight, counted, asks, passes_on, confirms, gives_back, frees, seeks, forwards, replies}
 use Rattle.machine_rules.specs.Next.{enabled}
 use Rattle.machine_rules.specs.Runs.{IsOver}
-use Rattle.machine_rules.specs.Coherent.{waits_for, NeedsValue}
-use Rattle.machine_rules.proofs.Bits.{pending_bit, settled_bit, leaving_bit, reading_in}
-use Rattle.machine_rules.proofs.BitLemmas.{pending-bit, leaving-bit}
+use Rattle.machine_rules.specs.Coherent.{NeedsValue}
+use Rattle.machine_rules.proofs.Bits.{pending_bit, leaving_bit, reading_in}
 use Rattle.machine_rules.proofs.Invariant.{Invariant}
 use Rattle.machine_rules.proofs.WordCore.{same-number}
 use Rattle.machine_rules.proofs.Exclusive.{pending-pair}
@@ -100,9 +96,11 @@ has-need C n goes same = by_task n.task refl goes same where
   by_decl : (t : TaskState) → n.task ≡ Some t → t.end ≡ None → (o : Option TaskDecl) → declared C.program n.phase n.core ≡ o → true ≡ is_some o → (x : Need) × (need_now C n ≡ Some x)
   by_decl t is open' None e one = absurd (cc)
   by_decl t is open' (Some d) e one = (need_of C.program d C.fuel t, rw (is, open', e) refl)
+
   by_end : (t : TaskState) → n.task ≡ Some t → (o : Option Ended) → t.end ≡ o → not (is_some o) ≡ true → true ≡ is_some (declared C.program n.phase n.core) → (x : Need) × (need_now C n ≡ Some x)
   by_end t is (Some by) e going one = absurd (cc)
   by_end t is None e going one = by_decl t is e (declared C.program n.phase n.core) refl one
+
   by_task : (o : Option TaskState) → n.task ≡ o → goes_on o ≡ true → is_some o ≡ is_some (declared C.program n.phase n.core) → (x : Need) × (need_now C n ≡ Some x)
   by_task None is going one = absurd (cc)
   by_task (Some t) is going one = by_end t is t.end refl going one
@@ -141,10 +139,13 @@ full-goes : (S : State) (M : ℕ → ℕ) (c : ℕ) (n : NodeParts) (x : Need) (
 full-goes S M c n x word h uses waits none full = by_victim (victim_of n.cache word.0) refl where
   fits : Fits S.setting n
   fits = (h.inv.machine.node c n h.found).fits
+
   some_ways : 0 < n.cache.ways
   some_ways = omega (arith, h.inv.machine.context.some_ways, fits.ways)
+
   wants : wanted_by n (need_now S.setting n) ≡ Some word
   wants = ap (wanted_by n) uses.now ∙ (uses.wanted ∙ rw (none, full) refl)
+
   by_victim : (o : Option WordId) → victim_of n.cache word.0 ≡ o → ⊥
   by_victim None is = no-block S M c n word h (full-blocked n.cache word.0 fits.cache some_ways full is)
   by_victim (Some v) is =
@@ -165,9 +166,11 @@ word-goes S M c n x word h uses ready never = by_entry (entry_of n word.0) refl 
       absurd (cc)
   by_wait (wait.TheVariants.Reading v) is now none full = absurd (cc)
   by_wait (wait.TheVariants.Locking lock) is now none full = absurd (cc)
+
   by_room : (x : Bool) → has_room n.cache word.0 ≡ x → entry_of n word.0 ≡ None → ⊥
   by_room true room none = never (uses.access ∙ (rw (none) room))
   by_room false full none = by_wait n.waiting refl ready none full
+
   by_entry : (o : Option Entry) → entry_of n word.0 ≡ o → ⊥
   by_entry None is = by_room (has_room n.cache word.0) refl is
   by_entry (Some (Valid value marked)) is = never (uses.access ∙ ap (may_access n word.0) is)
@@ -179,11 +182,13 @@ pub waits-lock : (S : State) (M : ℕ → ℕ) (c : ℕ) (n : NodeParts) → IsI
 waits-lock S M c n h = by_wait n.waiting refl where
   needs : (x : Need) × (need_now S.setting n ≡ Some x)
   needs = has-need S.setting n (still-goes S M c n h) ((h.inv.machine.node c n h.found).fits).task
+
   never : (x : Need) → need_now S.setting n ≡ Some x → is_ready n.waiting ≡ true → lets n (Some x) ≡ true → ⊥
   never x now ready allows =
       let may : may_instr S.setting n ≡ true = rw (active S M c n h, ready, now, allows) refl in
       let never = h.instr in
       absurd (cc)
+
   by_need : (x : Need) → need_now S.setting n ≡ Some x → is_ready n.waiting ≡ true → ⊥
   by_need need.TheVariants.Local now ready = never need.TheVariants.Local now ready refl
   by_need (need.TheVariants.End by) now ready = never (need.TheVariants.End by) now ready refl
@@ -192,6 +197,7 @@ waits-lock S M c n h = by_wait n.waiting refl where
   by_need (need.TheVariants.Load word) now ready = word-goes S M c n (need.TheVariants.Load word) word h (load-uses S n word now) ready (never (need.TheVariants.Load word) now ready)
   by_need (need.TheVariants.Store word whole) now ready =
       word-goes S M c n (need.TheVariants.Store word whole) word h (store-uses S n word whole now) ready (never (need.TheVariants.Store word whole) now ready)
+
   by_wait : (waiting : NodeWait) → n.waiting ≡ waiting → (lock : LockId) × (n.waiting ≡ wait.TheVariants.Locking lock)
   by_wait (wait.TheVariants.Locking lock) is = (lock, is)
   by_wait wait.TheVariants.None is = absurd (by_need needs.0 needs.1 (ap is_ready is))

@@ -1,5 +1,5 @@
 -- Where no event may come, every node is halted, or each task that hasn't ended waits for a lock that another holds.
-use Rattle.std.proofs.Common.{◌≡◌, ◌≢◌, ◌⊎◌, inl, inr, ℕ, zero, suc, ◌+◌, ◌<◌, ◌≤◌, ◌==◌, ◌&&◌, not, Bool, true, false, List, [], ◌∷◌, length, slice_get, slice_index_or, Option, Some, None, refl, sym, ap, subst, ◌∙◌, arith}
+use Rattle.std.proofs.Common.{◌≡◌, ◌≢◌, ◌⊎◌, inl, inr, ℕ, zero, suc, ◌<◌, Bool, true, false, List, [], ◌∷◌, length, slice_get, slice_index_or, Option, Some, None, refl, sym, ap, subst, ◌∙◌, arith}
 use Rattle.std.specs.List.{list_all}
 use Rattle.std.proofs.lemmas.Bool.Decides.{nat_tests}
 use Rattle.std.proofs.lemmas.Option.{slice_get_within, get_or_from_slice_get}
@@ -7,22 +7,21 @@ use Rattle.dn_base.specs.declared.ids.CoreId.{CoreId}
 use Rattle.dn_base.specs.declared.ids.LockId.{LockId}
 use Rattle.rv_core.specs.declared.task.TaskState.{TaskState}
 use Rattle.rv_core.specs.declared.need.Need as need
-use Rattle.rv_core.specs.Access.{holds as is_held}
 use Rattle.rv_core.proofs.Completions.{acquire-allowed}
 use Rattle.rv_core.proofs.HeldLemmas.{holds-none}
-use Rattle.message_net.specs.declared.event.Event.TheVariants.{Instr, Evict, Arrive, Handle}
+use Rattle.message_net.specs.declared.event.Event.TheVariants.{Instr, Evict, Arrive}
 use Rattle.queue_lock.specs.Lock.{Lock, places_of, holder_count}
-use Rattle.phase_barrier.specs.Barrier.{Barrier, all_arrived}
+use Rattle.phase_barrier.specs.Barrier.{all_arrived}
 use Rattle.registration_protocol.specs.declared.node.NodeWait as wait
-use Rattle.registration_protocol.specs.Node.{NodeParts, need_now, goes_on}
+use Rattle.registration_protocol.specs.Node.{NodeParts, need_now}
 use Rattle.registration_protocol.specs.OwnEvents.{may_instr, may_evict, may_arrive}
 use Rattle.registration_protocol.proofs.InstrLemmas.{has-next}
 use Rattle.machine_rules.specs.State.{State, lock_at}
-use Rattle.machine_rules.specs.Flight.{bit, flight, acquires, releases, grants, arrives, goes, halts}
+use Rattle.machine_rules.specs.Flight.{bit, acquires, releases, grants, arrives, goes, halts}
 use Rattle.machine_rules.specs.Next.{enabled, when_there}
 use Rattle.machine_rules.specs.Runs.{IsOver}
 use Rattle.machine_rules.specs.Coherent.{has_lock, locks_in, queued_in, holder_in, is_alive, waits_in}
-use Rattle.machine_rules.specs.Rest.{AllHalted, HasOpenTask, IsLockedOut, IsStuck, IsAtRest}
+use Rattle.machine_rules.specs.Rest.{HasOpenTask, IsLockedOut, IsAtRest}
 use Rattle.machine_rules.proofs.BitLemmas.{bit-true}
 use Rattle.machine_rules.proofs.Invariant.{Invariant}
 use Rattle.machine_rules.proofs.WordCore.{same-number}
@@ -69,6 +68,7 @@ not-own : (S : State) (M : ℕ → ℕ) (c : ℕ) (n : NodeParts) (lock : LockId
 not-own S M c n lock h waits = by_task n.task refl where
   needs : need_now S.setting n ≡ Some (need.TheVariants.Acquire lock)
   needs = rw (waits) at ((h.inv.machine.node c n h.found).fits).waiting
+
   by_task : (o : Option TaskState) → n.task ≡ o → has_lock S c lock.0 ≡ false
   by_task None is = rw (h.found, is) (grind (arith, nat_tests, holds-none lock.0))
   by_task (Some t) is =
@@ -80,8 +80,10 @@ locked-by : (S : State) (M : ℕ → ℕ) (c : ℕ) (n : NodeParts) (lock : Lock
 locked-by S M c n lock h waits = by_lock (lock_at S lock.0) refl where
   waiting : bit (locks_in lock.0 (slice_get S.nodes c)) ≡ 1
   waiting = rw (h.found, waits, same-number lock.0) refl
+
   queued : queued_in c (lock_at S lock.0) ≡ 1
   queued = omega (arith, waiting, h.inv.locks.row lock.0 c, h.quiet (acquires lock.0 c), h.quiet (grants lock.0 c))
+
   by_holder : (k : Lock) → lock_at S lock.0 ≡ Some k → (o : Option CoreId) → k.holder ≡ o → IsLockedOut S c
   by_holder k there None free =
       let empty = ((lock-well S h.inv.machine lock.0 k there).lock).free free in
@@ -89,7 +91,7 @@ locked-by S M c n lock h waits = by_lock (lock_at S lock.0) refl where
   by_holder k there (Some d) owner =
       let one : holder_count d.0 (Some d) ≡ 1 = rw (same-number d.0) refl in
       let has : has_lock S d.0 lock.0 ≡ true = bit-true (has_lock S d.0 lock.0)
-          (omega (arith, one, h.inv.locks.row lock.0 d.0, h.quiet (grants lock.0 d.0), h.quiet (releases lock.0 d.0), ap (holder_in d.0) there, ap (holder_count d.0) owner)) in
+      (omega (arith, one, h.inv.locks.row lock.0 d.0, h.quiet (grants lock.0 d.0), h.quiet (releases lock.0 d.0), ap (holder_in d.0) there, ap (holder_count d.0) owner)) in
       record { lock = lock; waits = (n, h.found, waits); holder = d.0; other = apart d.0 has; has = has }
     where
       apart : (d : ℕ) → has_lock S d lock.0 ≡ true → d ≢ c
@@ -97,6 +99,7 @@ locked-by S M c n lock h waits = by_lock (lock_at S lock.0) refl where
         where
           not-both : has_lock S c lock.0 ≡ true → has_lock S c lock.0 ≡ false → ⊥
           not-both one two = absurd (cc)
+
   by_lock : (o : Option Lock) → lock_at S lock.0 ≡ o → IsLockedOut S c
   by_lock None is = absurd (omega (arith, queued, ap (queued_in c) is))
   by_lock (Some k) is = by_holder k is k.holder refl
@@ -119,9 +122,11 @@ some-awake (n ∷ ns) = by_mark n.halted refl (some-awake ns) where
   all : n.halted ≡ true → ((c : ℕ) (m : NodeParts) → slice_get ns c ≡ Some m → m.halted ≡ true) → (c : ℕ) (m : NodeParts) → slice_get (n ∷ ns) c ≡ Some m → m.halted ≡ true
   all first rest zero m found = let same : n ≡ m = cc in sym (ap (λ (x : NodeParts). x.halted) same) ∙ first
   all first rest (suc c) m found = rest c m found
+
   by_rest : n.halted ≡ true → ((c : ℕ) (m : NodeParts) → slice_get ns c ≡ Some m → m.halted ≡ true) ⊎ IsAwake ns → ((c : ℕ) (m : NodeParts) → slice_get (n ∷ ns) c ≡ Some m → m.halted ≡ true) ⊎ IsAwake (n ∷ ns)
   by_rest first (inl rest) = inl (all first rest)
   by_rest first (inr a) = inr (record { place = suc a.place; node = a.node; found = a.found; awake = a.awake })
+
   by_mark : (x : Bool) → n.halted ≡ x → ((c : ℕ) (m : NodeParts) → slice_get ns c ≡ Some m → m.halted ≡ true) ⊎ IsAwake ns → ((c : ℕ) (m : NodeParts) → slice_get (n ∷ ns) c ≡ Some m → m.halted ≡ true) ⊎ IsAwake (n ∷ ns)
   by_mark true e rest = by_rest e rest
   by_mark false e rest = inr (record { place = zero; node = n; found = refl; awake = e })
@@ -139,8 +144,10 @@ missing-open S M c d n m inv over found awake missed unmarked there = by_marks m
   not-out : (all_arrived S.keeper ≡ true) ⊎ (length S.setting.program.phases ≡ 0) → ⊥
   not-out (inl all) = absurd (cc)
   not-out (inr none) = omega (arith, none, ((inv.machine.node c n found).fits).phase awake)
+
   quiet : IsQuiet S
   quiet = over-quiet S over
+
   by_marks : (x : Bool) → m.halted ≡ x → (y : Bool) → m.arrived ≡ y → HasOpenTask S d
   by_marks true e y f = absurd (not-out (inv.ended d m there e))
   by_marks false e true f =
@@ -155,18 +162,21 @@ some-open : (S : State) (M : ℕ → ℕ) (c : ℕ) (n : NodeParts) → Invarian
 some-open S M c n inv over found awake = by_mark n.arrived refl where
   quiet : IsQuiet S
   quiet = over-quiet S over
+
   by_missing : all_arrived S.keeper ≡ false → (d : ℕ) × HasOpenTask S d
   by_missing missed =
       let at = missing S.keeper.arrived missed in
       let inside : at.0 < length S.nodes = omega (arith, slice_get_within S.keeper.arrived at.0 false at.1, inv.machine.nodes, inv.machine.cores) in
       let there = node-there S at.0 inside in
       (at.0, missing-open S M c at.0 n there.0 inv over found awake missed at.1 there.1)
+
   by_all : n.arrived ≡ true → (x : Bool) → all_arrived S.keeper ≡ x → (d : ℕ) × HasOpenTask S d
   by_all is false missed = by_missing missed
   by_all is true all =
       let alive : bit (is_alive (slice_get S.nodes c)) ≡ 1 = rw (found, is, awake) refl in
       let waits : waits_in S c ≡ 0 = rw (all) refl in
       absurd (omega (arith, alive, waits, inv.phases.row c, quiet (arrives c), quiet (goes c), quiet (halts c)))
+
   by_mark : (x : Bool) → n.arrived ≡ x → (d : ℕ) × HasOpenTask S d
   by_mark false absent = (c, open-task S M c n (idle S M c n inv over found awake absent))
   by_mark true is = by_all is (all_arrived S.keeper) refl

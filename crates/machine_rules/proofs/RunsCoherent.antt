@@ -1,7 +1,6 @@
 -- Every run of the opened machine of a checked program leads to coherent states, which show the memory to which the run's
 -- stores were applied; and each load reads that memory.
-use Rattle.std.proofs.Common.{◌≡◌, ℕ, ◌+◌, ◌<◌, true, List, [], ◌∷◌, length, map, get_or, slice_index, Option, Some, None, refl, sym, ap, subst, ◌∙◌, arith}
-use Rattle.std.specs.List.{range_with_len}
+use Rattle.std.proofs.Common.{◌≡◌, ℕ, ◌+◌, ◌<◌, true, List, length, get_or, slice_index, Some, refl, sym, ap, subst, ◌∙◌, arith}
 use Rattle.std.proofs.lemmas.List.{ext_get_or}
 use Rattle.std.proofs.lemmas.List.FromFn.{get_or-map-range_with_len, length-map-range_with_len}
 use Rattle.dn_base.specs.declared.ids.LoadSeen.{LoadSeen}
@@ -10,8 +9,8 @@ use Rattle.effect_checker.specs.Checked.{IsChecked}
 use Rattle.message_net.specs.declared.event.Event.{Event}
 use Rattle.registration_protocol.specs.Node.{Setting}
 use Rattle.registration_protocol.specs.Fit.{IsContext}
-use Rattle.machine_rules.specs.State.{State, opened}
-use Rattle.machine_rules.specs.Next.{next, enabled, seen_in}
+use Rattle.machine_rules.specs.State.{opened}
+use Rattle.machine_rules.specs.Next.{enabled, seen_in}
 use Rattle.machine_rules.specs.Memory.{word_value, memory_of}
 use Rattle.machine_rules.specs.Runs.{after, IsRun, IsCompleteRun, memory_after}
 use Rattle.machine_rules.specs.Rest.{IsAtRest}
@@ -69,10 +68,13 @@ pub run-shows : (C : Setting) (events : List Event) → IsReady C → IsRun (ope
 run-shows C events ready run = ext_get_or 0 (memory_of (after (opened C) events)) (memory_after C.program.memory (opened C) events) (shown ∙ sym long) each where
   words : length (after (opened C) events).setting.program.memory ≡ length C.program.memory
   words = ap (λ (x : Setting). length x.program.memory) (run-setting (opened C) events ∙ opened-setting C)
+
   shown : length (memory_of (after (opened C) events)) ≡ length C.program.memory
   shown = length-map-range_with_len (word_value (after (opened C) events)) 0 (length (after (opened C) events).setting.program.memory) ∙ words
+
   long : length (memory_after C.program.memory (opened C) events) ≡ length C.program.memory
   long = memory-length (opened C) C.program.memory events
+
   each : (i : ℕ) → i < length (memory_of (after (opened C) events)) → get_or (memory_of (after (opened C) events)) i 0 ≡ get_or (memory_after C.program.memory (opened C) events) i 0
   each i within =
       get_or-map-range_with_len (word_value (after (opened C) events)) 0 (length (after (opened C) events).setting.program.memory) i i 0 (omega (arith, within, shown, words)) (omega arith)

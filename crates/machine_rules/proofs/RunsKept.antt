@@ -1,7 +1,6 @@
 -- Every run of the machine keeps all that is kept, and the memory to which its stores are applied.
-use Rattle.std.proofs.Common.{◌≡◌, ℕ, zero, suc, ◌+◌, ◌<◌, ◌==◌, Bool, true, false, cond, List, [], ◌∷◌, length, get_or, set, slice_get, slice_set, slice_index, Option, Some, None, refl, sym, ap, subst, ◌∙◌, arith}
+use Rattle.std.proofs.Common.{◌≡◌, ℕ, ◌+◌, ◌<◌, ◌==◌, Bool, true, false, cond, List, [], ◌∷◌, length, slice_get, slice_set, slice_index, Option, Some, None, refl, sym, ap, subst, ◌∙◌, arith}
 use Rattle.std.proofs.lemmas.Bool.{eqb-true, eqb-false}
-use Rattle.std.proofs.lemmas.Bool.Decides.{nat_tests}
 use Rattle.std.proofs.lemmas.List.{get_or-set_same, get_or-set_other, length-set}
 use Rattle.dn_base.specs.declared.ids.CoreId.{CoreId}
 use Rattle.dn_base.specs.declared.ids.WordId.{WordId}
@@ -18,9 +17,9 @@ use Rattle.message_net.specs.Pool.{taken}
 use Rattle.registry_bank.specs.Bank.{BankParts}
 use Rattle.registration_protocol.specs.Node.{NodeParts, Setting, entry_of, need_now}
 use Rattle.registration_protocol.specs.OwnEvents.{written_now, written_if}
-use Rattle.registration_protocol.proofs.InstrLemmas.{HasNext, has-next, written-entry}
+use Rattle.registration_protocol.proofs.InstrLemmas.{has-next, written-entry}
 use Rattle.machine_rules.specs.State.{State}
-use Rattle.machine_rules.specs.Next.{next, enabled, does_instr, does_evict, does_arrive, core_gets, bank_handles, gets, delivers, handles}
+use Rattle.machine_rules.specs.Next.{next, does_instr, does_evict, does_arrive, core_gets, bank_handles, gets, delivers}
 use Rattle.machine_rules.specs.Memory.{store_of, store_in, with_store}
 use Rattle.machine_rules.specs.Runs.{after, IsRun, memory_after}
 use Rattle.machine_rules.specs.Sound.{IsSound}
@@ -48,15 +47,18 @@ same-setting S (Arrive core) = by_node (slice_get S.nodes core.0) where
 same-setting S (Handle id) = by_mail (taken id S.mails).0 where
   R : State
   R = record S { mails = (taken id S.mails).1 }
+
   by_mail : (o : Option Mail) → (delivers R o).setting ≡ S.setting
   by_mail None = refl
   by_mail (Some m) = by_actor m.to where
     by_node : (core : CoreId) (o : Option NodeParts) → (core_gets R core m.message o).setting ≡ S.setting
     by_node core None = refl
     by_node core (Some n) = refl
+
     by_bank : (from : Actor) (bank : ℕ) (o : Option BankParts) → (bank_handles R from bank m.message o).setting ≡ S.setting
     by_bank from bank None = refl
     by_bank from bank (Some b) = refl
+
     by_actor : (a : Actor) → (gets R a m.message).setting ≡ S.setting
     by_actor (Core core) = by_node core (slice_get S.nodes core.0)
     by_actor (Bank bank) = by_bank (Bank bank) bank.0 (slice_get S.banks bank.0)

@@ -1,5 +1,5 @@
 -- What a state is in which no event may come any more.
-use Rattle.std.specs.Prelude.{◌≡◌, ◌≢◌, ◌⊎◌, ℕ, true, false, slice_get, Option, Some}
+use Rattle.std.specs.Prelude.{◌≡◌, ◌≢◌, ◌⊎◌, ℕ, true, slice_get, Some}
 use Rattle.dn_base.specs.declared.ids.LockId.{LockId}
 use Rattle.registration_protocol.specs.declared.node.NodeWait as wait
 use Rattle.registration_protocol.specs.Node.{NodeParts, goes_on}
