@@ -1,28 +1,26 @@
 -- How many events there can be: none are paid as a run begins, each one is paid as it comes, and what pays is bounded.
-use Rattle.std.proofs.Common.{◌≡◌, ◌≢◌, ◌⊎◌, inl, inr, ℕ, zero, suc, ◌+◌, ◌*◌, ◌≤◌, ◌==◌, Bool, true, false, cond, nat_lt, List, [], ◌∷◌, length, slice_get, sum_by, Option, Some, None, refl, sym, ap, subst, ◌∙◌, arith}
+use Rattle.std.proofs.Common.{◌≡◌, inl, inr, ℕ, zero, suc, ◌+◌, ◌*◌, ◌≤◌, Bool, true, false, cond, nat_lt, List, [], ◌∷◌, length, slice_get, sum_by, Option, Some, None, refl, ap, subst, ◌∙◌, arith}
 use Rattle.std.proofs.Math.Nat.{mul-le-mul_left}
 use Rattle.std.specs.Option.{is_some}
 use Rattle.std.proofs.lemmas.List.Sums.{sum_by-cons}
 use Rattle.dn_base.specs.declared.ids.WordId.{WordId}
 use Rattle.rv_core.specs.declared.task.TaskState.{TaskState}
-use Rattle.rv_core.specs.declared.need.Need.{Need}
 use Rattle.message_net.specs.declared.event.Event.{Event}
-use Rattle.queue_lock.specs.Lock.{Lock, free_lock}
+use Rattle.queue_lock.specs.Lock.{free_lock}
 use Rattle.phase_barrier.specs.Barrier.{all_arrived}
 use Rattle.registration_protocol.specs.declared.node.NodeWait as wait
 use Rattle.registration_protocol.specs.declared.node.NodeWait.{NodeWait}
 use Rattle.registration_protocol.specs.Node.{NodeParts, Setting, need_if, need_now}
 use Rattle.registration_protocol.specs.Fit.{IsContext, NeedsLock}
 use Rattle.machine_rules.specs.State.{State, opened, lock_at}
-use Rattle.machine_rules.specs.Flight.{bit, flight}
+use Rattle.machine_rules.specs.Flight.{bit}
 use Rattle.machine_rules.specs.Next.{next, enabled}
-use Rattle.machine_rules.specs.Memory.{store_in}
 use Rattle.machine_rules.specs.Sound.{rounds}
 use Rattle.machine_rules.specs.Coherent.{NeedsValue}
 use Rattle.machine_rules.proofs.Invariant.{Invariant}
 use Rattle.machine_rules.proofs.Dispatch.{ways}
 use Rattle.machine_rules.proofs.OpenedFacts.{opened-flight, opened-node, opened-lock}
-use Rattle.machine_rules.proofs.Spending.{is_any, is_handed, is_register, is_reply, is_seek, is_pass, seeks_owned, debt, credit, earned, lent, queue_in, total, queue_cost, Spent, Spends}
+use Rattle.machine_rules.proofs.Spending.{is_any, is_handed, is_register, is_reply, is_seek, is_pass, seeks_owned, debt, credit, earned, lent, queue_in, total, Spent, Spends}
 use Rattle.machine_rules.proofs.SpendNodes.{lent-most}
 use Rattle.machine_rules.proofs.SpendLeaves.{spend-leaves}
 
@@ -48,9 +46,18 @@ no-queue C l context = ap queue_in (opened-lock C l context) ∙ by_test (nat_lt
 pub opened-spent : (C : Setting) → IsContext C → Spent (opened C) 0 0
 opened-spent C context =
     record {
-      paid = omega (arith, opened-flight C is_any, opened-flight C is_handed, opened-flight C is_register, opened-flight C is_reply, opened-flight C is_seek, opened-flight C is_pass,
-                    opened-flight C (seeks_owned (opened C)), sum-none debt (opened C).nodes (no-debt C),
-                    total-none (λ (l : ℕ). queue_in (lock_at (opened C) l)) (length (opened C).setting.program.locks) (λ l. no-queue C l context));
+      paid = omega (
+        arith,
+        opened-flight C is_any,
+        opened-flight C is_handed,
+        opened-flight C is_register,
+        opened-flight C is_reply,
+        opened-flight C is_seek,
+        opened-flight C is_pass,
+        opened-flight C (seeks_owned (opened C)),
+        sum-none debt (opened C).nodes (no-debt C),
+        total-none (λ (l : ℕ). queue_in (lock_at (opened C) l)) (length (opened C).setting.program.locks) (λ l. no-queue C l context),
+      );
     }
 
 -- ---- one event more
@@ -73,9 +80,11 @@ idle-lent : (S : State) (M : ℕ → ℕ) (c : ℕ) (n : NodeParts) → Invarian
 idle-lent S M c n inv found idle = by_wait n.waiting refl where
   nothing : need_now S.setting n ≡ None
   nothing = ap (need_if S.setting n.phase n.core) idle
+
   no-value : (word : WordId) → NeedsValue S n word → ⊥
   no-value word (inl is) = cc
   no-value word (inr is) = cc
+
   by_wait : (waiting : NodeWait) → n.waiting ≡ waiting → lent waiting ≡ 0
   by_wait wait.TheVariants.None is = refl
   by_wait (wait.TheVariants.Reading word) is = absurd (no-value word (inv.reads.reading c n word found is).2)
