@@ -31,7 +31,7 @@ use Rattle.machine_rules.proofs.Leaves.{Leaves, WordStep, LockStep, BarrierStep,
 use Rattle.machine_rules.proofs.WordEvents.{Flown}
 use Rattle.machine_rules.proofs.WordCore.{same-number}
 
-abbrev IsAddressed : State → Type 0
+abbrev pub IsAddressed : State → Type 0
 IsAddressed S = flight S (is_lost S.setting.shape.cores S.setting.shape.banks) ≡ 0
 
 -- what is sent, if anything, goes right

@@ -99,7 +99,7 @@ awake-by S M c n inv found busy = (by_halted n.halted refl, by_arrived n.arrived
   by_arrived false is = is
   by_arrived true is = absurd (busy (inv.phases.arrived c n found is))
 
-pending-pair : (e : Option Entry) → pending_bit e ≡ pending_pair e
+pub pending-pair : (e : Option Entry) → pending_bit e ≡ pending_pair e
 pending-pair None = refl
 pending-pair (Some (Valid value marked)) = refl
 pending-pair (Some (Registered value true)) = refl
@@ -193,7 +193,7 @@ pub store-right : (S : State) (core : CoreId) (n : NodeParts) (d : TaskDecl) (t 
     → (word.0 < length S.setting.program.memory) × (may_store d t.held word.0 ≡ true)
 store-right S core n d t word whole h = store-allowed S.setting.program d S.setting.fuel t word whole h.wants
 
-differ : (c d : ℕ) → (c == d) ≡ false → c ≢ d
+pub differ : (c d : ℕ) → (c == d) ≡ false → c ≢ d
 differ c d e = λ same. grind (arith, nat_tests, e, same)
 
 pub pending-one : (e : Option Entry) → pending_bit e ≤ 1

@@ -313,3 +313,7 @@ pub record Invariant (S : State) (M : ℕ → ℕ) : Type 0 where
   pub reads : ReadsGood S
   pub values : ValuesGood S M
   pub copies : CopiesGood S M
+  -- no node is ahead of the keeper, halted or not
+  pub behind : (c : ℕ) (n : NodeParts) → slice_get S.nodes c ≡ Some n → n.phase ≤ S.keeper.phase
+  -- a node is halted only once the keeper's set is whole, or where there are no phases
+  pub ended : (c : ℕ) (n : NodeParts) → slice_get S.nodes c ≡ Some n → n.halted ≡ true → (all_arrived S.keeper ≡ true) ⊎ (length S.setting.program.phases ≡ 0)

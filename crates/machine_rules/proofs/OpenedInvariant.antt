@@ -1,5 +1,6 @@
 -- The machine as a run begins keeps the invariant.
 use Rattle.std.proofs.Common.{◌≡◌, ◌≢◌, ◌⊎◌, inl, inr, ℕ, zero, suc, ◌+◌, ◌<◌, ◌≤◌, ◌==◌, ◌&&◌, not, Bool, true, false, cond, nat_lt, List, [], ◌∷◌, length, get_or, replicate, slice_get, slice_index, slice_index_or, Option, Some, None, refl, sym, ap, subst, ◌∙◌, arith}
+use Rattle.std.proofs.lemmas.Bool.{eqb-true}
 use Rattle.std.specs.Prelude.{option_map}
 use Rattle.std.specs.Option.{option_and_then}
 use Rattle.std.specs.List.{find}
@@ -20,7 +21,7 @@ use Rattle.queue_lock.specs.Lock.{Lock, free_lock}
 use Rattle.registry_bank.specs.declared.bank.BankWord.{BankWord}
 use Rattle.registry_bank.specs.declared.bank.BankWord.TheVariants.{Home, Reg}
 use Rattle.registry_bank.specs.Bank.{first_word}
-use Rattle.phase_barrier.specs.Barrier.{all_arrived, opened as opened_barrier}
+use Rattle.phase_barrier.specs.Barrier.{Barrier, all_arrived, opened as opened_barrier}
 use Rattle.phase_barrier.proofs.ArrivalLemmas.{unmarked}
 use Rattle.phase_barrier.proofs.CountLemmas.{missing-one}
 use Rattle.registration_protocol.specs.Node.{NodeParts, Setting, goes_on, opened as opened_node}
@@ -221,6 +222,12 @@ copies-open C =
       fresh = λ c w value marked is. let none = opened-entry C c w in absurd (cc);
     }
 
+-- no node is ahead of the keeper
+behind-open : (C : Setting) (c : ℕ) (n : NodeParts) → slice_get (opened C).nodes c ≡ Some n → n.phase ≤ (opened C).keeper.phase
+behind-open C c n found =
+    let new = opened-node C c n found in
+    omega (arith, ap (λ (x : NodeParts). x.phase) new.is, ap (λ (k : Barrier). k.phase) (opened-keeper C))
+
 -- ---- all of it
 
 pub opened-invariant : (C : Setting) → IsContext C → IsProgram C.program → IsChecked C.program → Invariant (opened C) (λ w. slice_index C.program.memory w)
@@ -234,4 +241,8 @@ opened-invariant C context program checked =
       reads = reads-open C;
       values = values-open C context;
       copies = copies-open C;
+      behind = behind-open C;
+      ended = λ c n found halted. inr (
+        ap (λ (x : Setting). length x.program.phases) (opened-setting C) ∙ eqb-true (length C.program.phases) 0 (sym (ap (λ (x : NodeParts). x.halted) (opened-node C c n found).is) ∙ halted)
+      );
     }

@@ -19,51 +19,10 @@ use Rattle.machine_rules.specs.Flight.{Test, bit, counted, flight}
 use Rattle.machine_rules.specs.Sound.{IsMachine, rounds}
 use Rattle.machine_rules.proofs.Bits.{passes}
 use Rattle.machine_rules.proofs.Steps.{NodeStep}
+use Rattle.machine_rules.proofs.CopyFrames.{sum-changed}
 use Rattle.machine_rules.proofs.Leaves.{WordStep, LockStep, BarrierStep, to_all}
 use Rattle.machine_rules.proofs.WordCore.{same-number}
 use Rattle.machine_rules.proofs.Spending.{is_any, is_handed, is_register, is_reply, is_seek, is_pass, is_owned, seeks_owned, mail_cost, cost_of, debt, credit, queue_in, total, queue_cost, Spent}
-
--- ---- sums over the nodes
-
-sum-same : (f : NodeParts → ℕ) (xs ys : List NodeParts) → ((d : ℕ) → slice_get ys d ≡ slice_get xs d) → sum_by f ys ≡ sum_by f xs
-sum-same f [] [] same = refl
-sum-same f [] (y ∷ ys) same = let wrong = same 0 in absurd (cc)
-sum-same f (x ∷ xs) [] same = let wrong = same 0 in absurd (cc)
-sum-same f (x ∷ xs) (y ∷ ys) same =
-    let head : y ≡ x = some-same y x (same 0) in
-    omega (arith, ap f head, sum-same f xs ys (λ d. same (suc d)), sum_by-cons f x xs, sum_by-cons f y ys)
-  where
-    some-same : (a b : NodeParts) → Some a ≡ Some b → a ≡ b
-    some-same a b e = cc
-
--- one of them becomes another
-sum-changed : (f : NodeParts → ℕ) (xs ys : List NodeParts) (i : ℕ) (n m : NodeParts) → slice_get xs i ≡ Some n
-    → ((d : ℕ) → slice_get ys d ≡ cond (i == d) (Some m) (slice_get xs d)) → sum_by f ys + f n ≡ sum_by f xs + f m
-sum-changed f [] ys i n m found now = absurd (cc)
-sum-changed f (x ∷ xs) [] i n m found now = absurd (by_test (i == 0) (now 0)) where
-  by_test : (t : Bool) → None ≡ cond t (Some m) (Some x) → ⊥
-  by_test true e = cc
-  by_test false e = cc
-sum-changed f (x ∷ xs) (y ∷ ys) zero n m found now =
-    let head : y ≡ m = some-same y m (now 0) in
-    let old : x ≡ n = some-same x n found in
-    omega (arith, ap f head, ap f old, sum-same f xs ys (λ d. rest d), sum_by-cons f x xs, sum_by-cons f y ys)
-  where
-    some-same : (a b : NodeParts) → Some a ≡ Some b → a ≡ b
-    some-same a b e = cc
-
-    rest : (d : ℕ) → slice_get ys d ≡ slice_get xs d
-    rest d = let apart : (0 == suc d) ≡ false = grind (arith, nat_tests) in rw (apart) at (now (suc d))
-sum-changed f (x ∷ xs) (y ∷ ys) (suc i) n m found now =
-    let apart : (suc i == 0) ≡ false = grind (arith, nat_tests) in
-    let head : y ≡ x = some-same y x (rw (apart) at (now 0)) in
-    omega (arith, ap f head, sum-changed f xs ys i n m found (λ d. rest d), sum_by-cons f x xs, sum_by-cons f y ys)
-  where
-    some-same : (a b : NodeParts) → Some a ≡ Some b → a ≡ b
-    some-same a b e = cc
-
-    rest : (d : ℕ) → slice_get ys d ≡ cond (i == d) (Some m) (slice_get xs d)
-    rest d = let same : (suc i == suc d) ≡ (i == d) = grind (arith, nat_tests) in rw (same) at (now (suc d))
 
 -- ---- sums over the locks
 

@@ -144,10 +144,11 @@ pub record AreLocks (S : State) : Type 0 where
   -- a grant carries the kept signature
   pub granted : (m : Mail) (lock : LockId) (s : Signature) → IsInFlight S m → m.message ≡ Grant lock s
       → (h : Lock) → lock_at S lock.0 ≡ Some h → s ≡ h.kept
-  -- no signature is of a later phase, and those of a node are of its phase
+  -- no signature is of a later phase, and those of a node are of its phase, which is no later one
   pub kept : (l : ℕ) (h : Lock) → lock_at S l ≡ Some h → tag h.kept ≤ S.keeper.phase
   pub sent : (m : Mail) (lock : LockId) (core : CoreId) (s : Signature) → IsInFlight S m → m.message ≡ Release lock core s → tag s ≤ S.keeper.phase
   pub own : (c : ℕ) (n : NodeParts) → slice_get S.nodes c ≡ Some n → All (λ (s : Signature). tag s ≡ n.phase) n.signatures
+  pub behind : (c : ℕ) (n : NodeParts) → slice_get S.nodes c ≡ Some n → n.phase ≤ S.keeper.phase
 
 -- 3. Registrants.
 pub record AreRegistrants (S : State) : Type 0 where

@@ -5,3 +5,4 @@ pub mod Runs
 pub mod Memory
 pub mod Coherent
 pub mod Sound
+pub mod Rest
