@@ -1,19 +1,13 @@
 -- A state stays one of the machine where one part of it changes.
-use Rattle.std.proofs.Common.{◌≡◌, ◌≢◌, ◌⊎◌, inl, inr, ℕ, zero, suc, ◌+◌, ◌*◌, ◌/◌, ◌%◌, ◌<◌, ◌≤◌, ◌==◌, ◌&&◌, Bool, true, false, cond, nat_lt, List, [], ◌∷◌, length, get_or, set, slice_get, slice_set, slice_index, Option, Some, None, refl, sym, ap, subst, ◌∙◌, arith, length-set}
+use Rattle.std.proofs.Common.{◌≡◌, ℕ, zero, suc, ◌+◌, ◌/◌, ◌%◌, ◌<◌, ◌==◌, Bool, true, false, cond, List, [], ◌∷◌, length, slice_get, slice_set, Option, Some, None, refl, sym, ap, subst, ◌∙◌, arith, length-set}
 use Rattle.std.specs.Option.{is_some}
 use Rattle.std.proofs.lemmas.Bool.{eqb-true}
-use Rattle.std.proofs.lemmas.Bool.Decides.{nat_tests}
-use Rattle.std.proofs.lemmas.Option.{slice_get_cases}
 use Rattle.message_net.specs.declared.actor.Actor.{Actor}
-use Rattle.message_net.specs.declared.actor.Actor.TheVariants.{Core, Bank, Keeper}
 use Rattle.message_net.specs.declared.actor.MailId.{MailId}
 use Rattle.message_net.specs.declared.message.Outgoing.{Outgoing}
-use Rattle.message_net.specs.Pool.{taken}
 use Rattle.message_net.specs.Mail.{has_actor, all_mails}
 use Rattle.message_net.proofs.PoolLemmas.{AreDistinct-taken}
 use Rattle.message_net.proofs.MailLemmas.{place_of-within}
-use Rattle.queue_lock.specs.Lock.{Lock}
-use Rattle.registry_bank.specs.declared.bank.BankWord.{BankWord}
 use Rattle.registry_bank.specs.Bank.{BankParts, IsBank, bank_word, bank_lock}
 use Rattle.registry_bank.proofs.KeptLemmas.{KeepsPlace}
 use Rattle.phase_barrier.specs.Barrier.{Barrier}
@@ -184,9 +178,10 @@ machine-bank S bank b c found well kept good =
         let here : c ≡ x = cc in
         let old = good.bank bank b found in
         let at : IsBankAt (with_bank S bank c) d c =
-          record { well = well; bank = kept.bank ∙ old.bank ∙ eqb-true bank d same; banks = kept.banks ∙ old.banks; cores = kept.cores ∙ old.cores } in
+        record { well = well; bank = kept.bank ∙ old.bank ∙ eqb-true bank d same; banks = kept.banks ∙ old.banks; cores = kept.cores ∙ old.cores } in
         subst (IsBankAt (with_bank S bank c) d) here at
     by_bank d x false other is = bank-there S (with_bank S bank c) d x refl (good.bank d x is)
+
     by_word : (w : ℕ) (t : Bool) → (bank == w % S.setting.shape.banks) ≡ t
         → is_some (word_in w (slice_get (slice_set S.banks bank c) (w % S.setting.shape.banks))) ≡ is_some (word_in w (slice_get S.banks (w % S.setting.shape.banks)))
     by_word w true same =
@@ -198,6 +193,7 @@ machine-bank S bank b c found well kept good =
     by_word w false other =
         let now = get-set-there S.banks bank (w % S.setting.shape.banks) b c found in
         ap (λ (o : Option BankParts). is_some (word_in w o)) (now ∙ ap (λ (t : Bool). cond t (Some c) (slice_get S.banks (w % S.setting.shape.banks))) other)
+
     by_lock : (l : ℕ) (t : Bool) → (bank == l % S.setting.shape.banks) ≡ t
         → is_some (lock_in l (slice_get (slice_set S.banks bank c) (l % S.setting.shape.banks))) ≡ is_some (lock_in l (slice_get S.banks (l % S.setting.shape.banks)))
     by_lock l true same =

@@ -1,14 +1,13 @@
 -- What actors send leaves the ids of mails distinct, and each number used.
-use Rattle.std.proofs.Common.{◌≡◌, ◌≢◌, ◌⊎◌, inl, inr, ℕ, zero, suc, ◌+◌, ◌<◌, ◌≤◌, ◌==◌, ◌&&◌, Bool, true, false, cond, nat_lt, nat_le, List, [], ◌∷◌, ◌++◌, length, get_or, set, slice_get, slice_set, slice_index, sum_by, Option, Some, None, refl, sym, ap, subst, ◌∙◌, arith, length-set, length-append}
+use Rattle.std.proofs.Common.{◌≡◌, ◌⊎◌, inl, inr, ℕ, zero, suc, ◌+◌, ◌<◌, ◌≤◌, ◌==◌, Bool, true, false, cond, nat_lt, nat_le, List, [], ◌∷◌, ◌++◌, length, slice_get, slice_set, slice_index, Option, Some, None, refl, sym, ap, subst, ◌∙◌, arith}
 use Rattle.std.specs.Prelude.{count_by}
 use Rattle.std.proofs.lemmas.Bool.Decides.{nat_tests}
 use Rattle.message_net.specs.declared.actor.Actor.{Actor}
 use Rattle.message_net.specs.declared.actor.MailId.{MailId}
 use Rattle.message_net.specs.declared.message.Mail.{Mail}
 use Rattle.message_net.specs.declared.message.Outgoing.{Outgoing}
-use Rattle.message_net.specs.Id.{same_actor, same_id}
-use Rattle.message_net.specs.Pool.{of_id, count_of, AreDistinct, posted, without, IsFound, taken, taken_at}
-use Rattle.message_net.specs.Mail.{mail_of, mails_with, mails_of, all_mails}
+use Rattle.message_net.specs.Pool.{of_id, count_of, AreDistinct, posted, IsFound, taken}
+use Rattle.message_net.specs.Mail.{mail_of, mails_of, all_mails}
 use Rattle.message_net.proofs.PoolLemmas.{same_id-true, counted-place, uncounted, sum_by-taken, taken-none, found-counted, AreDistinct-posted, count_of-posted}
 use Rattle.message_net.proofs.MailLemmas.{all_mails-append}
 
@@ -58,6 +57,7 @@ pub unused : (place : Actor → ℕ) (numbers : List ℕ) (mails : List Mail) (f
 unused place numbers mails from number good past = by_count (nat_lt 0 (count_of id mails)) refl where
   id : MailId
   id = record { sender = from; number = number }
+
   by_count : (t : Bool) → nat_lt 0 (count_of id mails) ≡ t → count_of id mails ≡ 0
   by_count false e = grind (arith, nat_tests, e)
   by_count true e = by_place (counted-place (of_id id) mails (grind (arith, nat_tests, e))) where
@@ -87,6 +87,7 @@ numbered-sent place numbers mails from outs within good i m is =
   where
     old : ℕ
     old = slice_index numbers (place from)
+
     by_part : (slice_get mails i ≡ Some m) ⊎ ((j : ℕ) × (slice_get (mails_of from old outs) j ≡ Some m)) → m.id.number < slice_index (slice_set numbers (place from) (old + length outs)) (place m.id.sender)
     by_part (inl here) = omega (arith, good i m here, raised numbers (place from) (place m.id.sender) (old + length outs) (omega arith))
     by_part (inr (j, here)) =
@@ -101,6 +102,7 @@ untaken id mails is = by_count (nat_lt 0 (count_of id mails)) refl where
   by_found (place, m, found) =
       let never = rw (found.takes) at is in
       absurd (cc)
+
   by_count : (t : Bool) → nat_lt 0 (count_of id mails) ≡ t → (taken id mails).1 ≡ mails
   by_count true e = by_found (found-counted id mails (grind (arith, nat_tests, e)))
   by_count false e = ap (λ (x : Option Mail × List Mail). x.1) (taken-none id mails (grind (arith, nat_tests, e)))
@@ -110,6 +112,7 @@ pub numbered-taken : (place : Actor → ℕ) (numbers : List ℕ) (mails : List 
 numbered-taken place numbers mails id good = by_taken (taken id mails).0 refl where
   late : Mail → Bool
   late m = nat_le (slice_index numbers (place m.id.sender)) m.id.number
+
   none : count_by late mails ≡ 0
   none = by_count (nat_lt 0 (count_by late mails)) refl where
     by_count : (t : Bool) → nat_lt 0 (count_by late mails) ≡ t → count_by late mails ≡ 0
@@ -117,6 +120,7 @@ numbered-taken place numbers mails id good = by_taken (taken id mails).0 refl wh
     by_count true e = by_place (counted-place late mails (grind (arith, nat_tests, e))) where
       by_place : (i : ℕ) × (m : Mail) × (slice_get mails i ≡ Some m) × (late m ≡ true) → count_by late mails ≡ 0
       by_place (i, m, is, past) = absurd (grind (arith, nat_tests, good i m is, past))
+
   by_taken : (o : Option Mail) → (taken id mails).0 ≡ o → AreNumbered place numbers (taken id mails).1
   by_taken None is = subst (AreNumbered place numbers) (sym (untaken id mails is)) good
   by_taken (Some m) is =

@@ -1,18 +1,16 @@
 -- What the machine is as a run begins, part by part.
-use Rattle.std.proofs.Common.{◌≡◌, ℕ, zero, suc, ◌+◌, ◌%◌, ◌<◌, ◌≤◌, ◌==◌, Bool, true, false, cond, nat_lt, List, [], ◌∷◌, length, map, replicate, slice_get, Option, Some, None, refl, sym, ap, subst, ◌∙◌, arith}
+use Rattle.std.proofs.Common.{◌≡◌, ℕ, zero, suc, ◌+◌, ◌%◌, ◌<◌, ◌==◌, Bool, true, false, cond, nat_lt, length, map, slice_get, Some, None, refl, sym, ap, ◌∙◌, arith}
 use Rattle.std.specs.Prelude.{option_map}
 use Rattle.std.specs.List.{range_with_len}
 use Rattle.std.proofs.lemmas.Bool.Decides.{nat_tests}
 use Rattle.std.proofs.lemmas.Option.{slice_get-map}
-use Rattle.word_cache.specs.declared.row.Entry.{Entry}
-use Rattle.queue_lock.specs.Lock.{Lock, free_lock}
-use Rattle.registry_bank.specs.declared.bank.BankWord.{BankWord}
-use Rattle.registry_bank.specs.Bank.{BankParts, opened_bank, first_word, IsNewBank}
+use Rattle.queue_lock.specs.Lock.{free_lock}
+use Rattle.registry_bank.specs.Bank.{opened_bank, first_word, IsNewBank}
 use Rattle.registry_bank.proofs.Opened.{opened-is-new}
 use Rattle.phase_barrier.specs.Barrier.{opened as opened_barrier}
 use Rattle.registration_protocol.specs.Node.{NodeParts, Setting, opened as opened_node}
 use Rattle.registration_protocol.specs.Fit.{IsContext}
-use Rattle.machine_rules.specs.State.{State, opened, opened_banks, entry_in, entry_at, word_in, home_at, lock_in, lock_at}
+use Rattle.machine_rules.specs.State.{opened, entry_in, entry_at, word_in, home_at, lock_in, lock_at}
 use Rattle.machine_rules.specs.Flight.{Test, flight}
 
 -- what stands in a list that is made from numbers

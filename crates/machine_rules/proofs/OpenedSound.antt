@@ -1,24 +1,20 @@
 -- The machine as a run begins is sound.
-use Rattle.std.proofs.Common.{◌≡◌, ℕ, zero, suc, ◌+◌, ◌*◌, ◌<◌, ◌≤◌, Bool, true, false, cond, nat_lt, List, [], ◌∷◌, length, replicate, slice_get, slice_index, Option, Some, None, refl, sym, ap, subst, ◌∙◌, arith}
+use Rattle.std.proofs.Common.{◌≡◌, ℕ, zero, suc, ◌+◌, Bool, true, false, cond, nat_lt, List, [], ◌∷◌, length, replicate, slice_get, slice_index, Some, None, refl, sym, ap, subst, ◌∙◌, arith}
 use Rattle.std.specs.Option.{is_some}
 use Rattle.std.proofs.lemmas.Bool.Decides.{nat_tests}
 use Rattle.std.proofs.lemmas.List.{length-replicate}
 use Rattle.std.proofs.lemmas.List.FromFn.{length-map-range_with_len}
-use Rattle.std.specs.List.{All, IsAmong}
 use Rattle.effect_checker.specs.Checked.{IsChecked}
 use Rattle.region_table.specs.Program.{IsProgram}
-use Rattle.message_net.specs.declared.message.Mail.{Mail}
-use Rattle.message_net.specs.Pool.{AreDistinct}
-use Rattle.queue_lock.specs.Lock.{Lock, free_lock}
+use Rattle.queue_lock.specs.Lock.{free_lock}
 use Rattle.registry_bank.specs.Bank.{BankParts, opened_bank, first_word}
 use Rattle.registry_bank.proofs.Opened.{IsBank-opened}
 use Rattle.registration_protocol.specs.Node.{NodeParts, Setting, opened as opened_node}
 use Rattle.registration_protocol.specs.Fit.{IsContext, Fits}
 use Rattle.registration_protocol.proofs.FitLemmas.{opened-fits}
-use Rattle.machine_rules.specs.State.{State, opened, home_at, lock_at}
-use Rattle.machine_rules.specs.Next.{place_in}
-use Rattle.machine_rules.specs.Sound.{IsMachine, IsSound, IsNodeAt, IsBankAt, rounds}
-use Rattle.machine_rules.proofs.OpenedFacts.{IsNewNode, opened-setting, opened-node, opened-banks, opened-home, opened-lock}
+use Rattle.machine_rules.specs.State.{opened, home_at, lock_at}
+use Rattle.machine_rules.specs.Sound.{IsMachine, IsSound, IsNodeAt, IsBankAt}
+use Rattle.machine_rules.proofs.OpenedFacts.{opened-setting, opened-node, opened-banks, opened-home, opened-lock}
 
 home-there : (C : Setting) (w : ℕ) → IsContext C → is_some (home_at (opened C) w) ≡ nat_lt w (length C.program.memory)
 home-there C w context = ap is_some (opened-home C w context) ∙ by_list C.program.memory w where
@@ -43,6 +39,7 @@ bank-at : (C : Setting) (bank : ℕ) (b : BankParts) → slice_get (opened C).ba
 bank-at C bank b found = by_test (nat_lt bank C.shape.banks) refl (sym (opened-banks C bank) ∙ found) where
   new : BankParts
   new = opened_bank bank C.shape.banks C.shape.cores C.program.memory (length C.program.locks)
+
   by_test : (t : Bool) → nat_lt bank C.shape.banks ≡ t → cond t (Some new) None ≡ Some b → IsBankAt (opened C) bank b
   by_test true e is =
       let same : new ≡ b = cc in

@@ -1,11 +1,10 @@
 -- A sound state stays sound at every event, whatever the mails say.
-use Rattle.std.proofs.Common.{◌≡◌, ◌≢◌, ◌⊎◌, inl, inr, ℕ, zero, suc, ◌+◌, ◌*◌, ◌<◌, ◌≤◌, ◌==◌, ◌&&◌, not, Bool, true, false, cond, nat_lt, List, [], ◌∷◌, length, set, slice_get, slice_set, slice_index, Option, Some, None, refl, sym, ap, subst, ◌∙◌, arith}
+use Rattle.std.proofs.Common.{◌≡◌, ◌⊎◌, inl, inr, ℕ, ◌+◌, ◌*◌, ◌≤◌, ◌==◌, ◌&&◌, not, Bool, true, false, cond, nat_lt, List, [], ◌∷◌, length, slice_get, Option, Some, None, refl, sym, subst, arith}
 use Rattle.std.specs.Prelude.{position}
 use Rattle.std.proofs.Math.Nat.{mul-le-mul_left}
 use Rattle.std.proofs.lemmas.Bool.Decides.{nat_tests}
 use Rattle.std.proofs.lemmas.Option.{slice_get_within}
 use Rattle.dn_base.specs.declared.ids.CoreId.{CoreId}
-use Rattle.dn_base.specs.declared.ids.WordId.{WordId}
 use Rattle.dn_base.specs.declared.ids.BankId.{BankId}
 use Rattle.message_net.specs.declared.actor.Actor.{Actor}
 use Rattle.message_net.specs.declared.actor.Actor.TheVariants.{Core, Bank, Keeper}
@@ -23,7 +22,7 @@ use Rattle.message_net.proofs.MailLemmas.{length-all_mails}
 use Rattle.registry_bank.specs.Bank.{BankParts, IsBank, bank_gets}
 use Rattle.registry_bank.proofs.KeptLemmas.{KeepsPlace, place-kept, stays}
 use Rattle.phase_barrier.specs.declared.keeper.Verdict.{Verdict}
-use Rattle.phase_barrier.specs.Barrier.{Barrier, all_arrived, counted, advanced, arrives as keeper_arrives, keeper_gets}
+use Rattle.phase_barrier.specs.Barrier.{Barrier, all_arrived, counted, arrives as keeper_arrives, keeper_gets}
 use Rattle.phase_barrier.specs.Letters.{letters, letter_count}
 use Rattle.phase_barrier.proofs.ArrivalLemmas.{begins as begins-within}
 use Rattle.phase_barrier.proofs.CountLemmas.{Waited, Ended, Begun, outcome, missing-one, phases-kept, cores-kept}
@@ -36,8 +35,8 @@ use Rattle.registration_protocol.proofs.PlaceLemmas.{instr-place, evict-keeps, a
 use Rattle.registration_protocol.proofs.FitLemmas.{instr-fits, evict-fits, arrive-fits, gets-fits}
 use Rattle.machine_rules.specs.State.{State}
 use Rattle.machine_rules.specs.Flight.{bit}
-use Rattle.machine_rules.specs.Next.{next, enabled, place_in, number_of, sends, posts, core_does, bank_does, when_there, does_instr, does_evict, does_arrive, core_gets, bank_handles, keeper_handles, gets, delivers, handles}
-use Rattle.machine_rules.specs.Sound.{IsMachine, IsSound, rounds}
+use Rattle.machine_rules.specs.Next.{next, enabled, place_in, number_of, sends, core_does, bank_does, when_there, does_instr, does_evict, does_arrive, core_gets, bank_handles, keeper_handles, gets, delivers, handles}
+use Rattle.machine_rules.specs.Sound.{IsSound, rounds}
 use Rattle.machine_rules.proofs.Steps.{without_mail}
 use Rattle.machine_rules.proofs.MachineMails.{raised-most}
 use Rattle.machine_rules.proofs.MachineKept.{posts_by, with_node, with_bank, with_keeper, machine-posts, machine-taken, machine-node, machine-keeper, machine-bank}
@@ -116,6 +115,7 @@ arrival-turns k core bad = by_mark (slice_get k.arrived core) refl where
   by_outcome more (inr (inr g)) =
       let next_one = begins-within (counted core bad k) g.over in
       subst (TurnsOn k) (sym g.is) (record { turned = rw (more) (omega arith); within = λ low. omega (arith, next_one) })
+
   by_mark : (o : Option Bool) → slice_get k.arrived core ≡ o → TurnsOn k (keeper_arrives k core bad)
   by_mark None e = rw e (record { turned = omega arith; within = λ low. low })
   by_mark (Some true) e = rw e (record { turned = omega arith; within = λ low. low })
@@ -139,14 +139,19 @@ sound-keeper S made m sound =
   where
     k : Barrier
     k = (keeper_gets S.keeper m).0
+
     count : ℕ
     count = letter_count (keeper_gets S.keeper m).1
+
     outs : List Outgoing
     outs = letters S.setting.shape.cores (keeper_gets S.keeper m).1
+
     long : length outs ≡ S.setting.shape.cores * count
     long = length-letters S.setting.shape.cores (keeper_gets S.keeper m).1
+
     more : S.setting.shape.cores * (rounds S + count) ≤ S.setting.shape.cores * turns k
     more = mul-le-mul_left S.setting.shape.cores ((turns-on S.keeper m).turned)
+
     low : k.phase ≤ length S.setting.program.phases
     low = rw (← sound.machine.phases) ((turns-on S.keeper m).within (rw (sound.machine.phases) sound.within))
 

@@ -1,28 +1,31 @@
 -- How many events there can be: none are paid as a run begins, each one is paid as it comes, and what pays is bounded.
-use Rattle.std.proofs.Common.{◌≡◌, ◌≢◌, ◌⊎◌, inl, inr, ℕ, zero, suc, ◌+◌, ◌*◌, ◌≤◌, ◌==◌, Bool, true, false, cond, nat_lt, List, [], ◌∷◌, length, slice_get, sum_by, Option, Some, None, refl, sym, ap, subst, ◌∙◌, arith}
+use Rattle.std.proofs.Common.{◌≡◌, inl, inr, ℕ, zero, suc, ◌+◌, ◌*◌, ◌≤◌, Bool, true, false, cond, nat_lt, List, [], ◌∷◌, length, slice_get, sum_by, Option, Some, None, refl, ap, subst, ◌∙◌, arith}
 use Rattle.std.proofs.Math.Nat.{mul-le-mul_left}
 use Rattle.std.specs.Option.{is_some}
 use Rattle.std.proofs.lemmas.List.Sums.{sum_by-cons}
 use Rattle.dn_base.specs.declared.ids.WordId.{WordId}
 use Rattle.rv_core.specs.declared.task.TaskState.{TaskState}
-use Rattle.rv_core.specs.declared.need.Need.{Need}
 use Rattle.message_net.specs.declared.event.Event.{Event}
-use Rattle.queue_lock.specs.Lock.{Lock, free_lock}
+use Rattle.queue_lock.specs.Lock.{free_lock}
 use Rattle.phase_barrier.specs.Barrier.{all_arrived}
 use Rattle.registration_protocol.specs.declared.node.NodeWait as wait
 use Rattle.registration_protocol.specs.declared.node.NodeWait.{NodeWait}
 use Rattle.registration_protocol.specs.Node.{NodeParts, Setting, need_if, need_now}
 use Rattle.registration_protocol.specs.Fit.{IsContext, NeedsLock}
 use Rattle.machine_rules.specs.State.{State, opened, lock_at}
-use Rattle.machine_rules.specs.Flight.{bit, flight}
+use Rattle.machine_rules.specs.Flight.{bit}
 use Rattle.machine_rules.specs.Next.{next, enabled}
+use Rattle.machine_rules.specs.Runs.{after, IsRun}
 use Rattle.machine_rules.specs.Memory.{store_in}
-use Rattle.machine_rules.specs.Sound.{rounds}
+use Rattle.machine_rules.specs.Sound.{IsSound, rounds}
 use Rattle.machine_rules.specs.Coherent.{NeedsValue}
 use Rattle.machine_rules.proofs.Invariant.{Invariant}
 use Rattle.machine_rules.proofs.Dispatch.{ways}
+use Rattle.machine_rules.proofs.Kept.{kept}
+use Rattle.machine_rules.proofs.Leaves.{stored_to}
+use Rattle.machine_rules.proofs.SoundEvents.{sound-next}
 use Rattle.machine_rules.proofs.OpenedFacts.{opened-flight, opened-node, opened-lock}
-use Rattle.machine_rules.proofs.Spending.{is_any, is_handed, is_register, is_reply, is_seek, is_pass, seeks_owned, debt, credit, earned, lent, queue_in, total, queue_cost, Spent, Spends}
+use Rattle.machine_rules.proofs.Spending.{is_any, is_handed, is_register, is_reply, is_seek, is_pass, seeks_owned, debt, credit, earned, lent, queue_in, total, HasEarned, Spent, Spends}
 use Rattle.machine_rules.proofs.SpendNodes.{lent-most}
 use Rattle.machine_rules.proofs.SpendLeaves.{spend-leaves}
 
@@ -48,9 +51,18 @@ no-queue C l context = ap queue_in (opened-lock C l context) ∙ by_test (nat_lt
 pub opened-spent : (C : Setting) → IsContext C → Spent (opened C) 0 0
 opened-spent C context =
     record {
-      paid = omega (arith, opened-flight C is_any, opened-flight C is_handed, opened-flight C is_register, opened-flight C is_reply, opened-flight C is_seek, opened-flight C is_pass,
-                    opened-flight C (seeks_owned (opened C)), sum-none debt (opened C).nodes (no-debt C),
-                    total-none (λ (l : ℕ). queue_in (lock_at (opened C) l)) (length (opened C).setting.program.locks) (λ l. no-queue C l context));
+      paid = omega (
+        arith,
+        opened-flight C is_any,
+        opened-flight C is_handed,
+        opened-flight C is_register,
+        opened-flight C is_reply,
+        opened-flight C is_seek,
+        opened-flight C is_pass,
+        opened-flight C (seeks_owned (opened C)),
+        sum-none debt (opened C).nodes (no-debt C),
+        total-none (λ (l : ℕ). queue_in (lock_at (opened C) l)) (length (opened C).setting.program.locks) (λ l. no-queue C l context),
+      );
     }
 
 -- ---- one event more
@@ -73,9 +85,11 @@ idle-lent : (S : State) (M : ℕ → ℕ) (c : ℕ) (n : NodeParts) → Invarian
 idle-lent S M c n inv found idle = by_wait n.waiting refl where
   nothing : need_now S.setting n ≡ None
   nothing = ap (need_if S.setting n.phase n.core) idle
+
   no-value : (word : WordId) → NeedsValue S n word → ⊥
   no-value word (inl is) = cc
   no-value word (inr is) = cc
+
   by_wait : (waiting : NodeWait) → n.waiting ≡ waiting → lent waiting ≡ 0
   by_wait wait.TheVariants.None is = refl
   by_wait (wait.TheVariants.Reading word) is = absurd (no-value word (inv.reads.reading c n word found is).2)
@@ -105,10 +119,36 @@ credits-most (n ∷ ns) q each =
     omega (arith, each 0 n refl, credits-most ns q (λ c m found. each (suc c) m found), sum_by-cons credit n ns, sum_by-cons worked_at n ns)
 
 -- events are within 12 for each instruction that has retired and for each task, and 3 for each core and phase that has begun
-pub spent-bound : (S : State) (M : ℕ → ℕ) (made past : ℕ) → Invariant S M → ((c : ℕ) (n : NodeParts) → slice_get S.nodes c ≡ Some n → n.phase ≤ S.keeper.phase) → Spent S made past
+pub spent-bound : (S : State) (M : ℕ → ℕ) (made past : ℕ) → Invariant S M → Spent S made past
     → made ≤ past + 12 * sum_by worked_at S.nodes + 3 * (S.setting.shape.cores * (S.keeper.phase + 1))
-spent-bound S M made past inv low spent =
+spent-bound S M made past inv spent =
     let turns : S.setting.shape.cores * rounds S ≤ S.setting.shape.cores * (S.keeper.phase + 1) = mul-le-mul_left S.setting.shape.cores (omega (arith, bit-most (all_arrived S.keeper))) in
-    let all = credits-most S.nodes (2 * (S.keeper.phase + 1)) (λ c n found. credit-most S M c n inv found (low c n found)) in
+    let all = credits-most S.nodes (2 * (S.keeper.phase + 1)) (λ c n found. credit-most S M c n inv found (inv.behind c n found)) in
     let cores = ap (λ (x : ℕ). x * (2 * (S.keeper.phase + 1))) inv.machine.nodes in
     omega (arith, spent.paid, turns, all, cores)
+
+-- ---- runs
+
+-- what the tasks have earned whose phases ended for their cores in the events of a list
+abbrev pub HaveEarned : State → List Event → ℕ → Type 0
+HaveEarned S [] past = past ≡ 0
+HaveEarned S (e ∷ es) past = (due : ℕ) × (rest : ℕ) × HasEarned S (next S e) due × HaveEarned (next S e) es rest × (past ≡ due + rest)
+
+pub record SpendsAlong (S : State) (made past : ℕ) (events : List Event) : Type 0 where
+  pub more : ℕ
+  pub earns : HaveEarned S events more
+  pub spent : Spent (after S events) (made + length events) (past + more)
+
+-- each event of a run is paid
+pub spent-run : (S : State) (M : ℕ → ℕ) (made count past : ℕ) (events : List Event) → IsSound S count → Invariant S M → IsRun S events → Spent S made past → SpendsAlong S made past events
+spent-run S M made count past [] sound inv run spent =
+    record { more = 0; earns = refl; spent = record { paid = omega (arith, spent.paid) } }
+spent-run S M made count past (e ∷ es) sound inv run spent =
+    let one = spent-next S M e made past inv run.0 spent in
+    let after_it = sound-next S count e sound run.0 in
+    let rest = spent-run (next S e) (stored_to (store_in S e) M) (made + 1) (count + 1) (past + one.due) es after_it (kept S M e inv run.0 after_it.machine) run.1 one.spent in
+    record {
+      more = one.due + rest.more;
+      earns = (one.due, rest.more, one.earns, rest.earns, refl);
+      spent = record { paid = omega (arith, rest.spent.paid) };
+    }

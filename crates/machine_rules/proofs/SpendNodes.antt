@@ -1,5 +1,5 @@
 -- What a node's event adds to its entries, to what is lent to it and to what its task has earned.
-use Rattle.std.proofs.Common.{◌≡◌, ◌≢◌, ◌⊎◌, inl, inr, ℕ, zero, suc, ◌+◌, ◌*◌, ◌≤◌, ◌==◌, not, Bool, true, false, cond, List, slice_get, Option, Some, None, refl, sym, ap, subst, ◌∙◌, arith}
+use Rattle.std.proofs.Common.{◌≡◌, ◌⊎◌, inl, inr, ℕ, ◌+◌, ◌≤◌, Bool, true, false, List, Option, Some, None, refl, sym, ap, ◌∙◌, arith}
 use Rattle.std.specs.Prelude.{count_by}
 use Rattle.std.specs.List.{filter}
 use Rattle.std.specs.Option.{option_map, is_some}
@@ -18,8 +18,8 @@ use Rattle.rv_core.specs.Task.{started, stopped}
 use Rattle.rv_core.proofs.Completions.{advanced-retired, loaded-retired, stopped-retired, advanced-end, loaded-end, stopped-end}
 use Rattle.word_cache.specs.declared.row.Entry.{Entry}
 use Rattle.word_cache.specs.declared.row.Entry.TheVariants.{Valid, Registered, Leaving}
-use Rattle.word_cache.specs.Cache.{Pair, AreDifferent, put, changed, touched, without, unmarked, stays, dropped_written}
-use Rattle.word_cache.proofs.WeightLemmas.{weight_at, count-put, count-changed, count-without, count-touched, count-fewer, count-map}
+use Rattle.word_cache.specs.Cache.{Pair, AreDifferent, put, changed, without, unmarked, stays, dropped_written}
+use Rattle.word_cache.proofs.WeightLemmas.{weight_at, count-put, count-changed, count-without, count-fewer, count-map}
 use Rattle.region_table.specs.declared.interval.Interval.{Interval}
 use Rattle.registration_protocol.specs.declared.node.NodeWait as wait
 use Rattle.registration_protocol.specs.declared.node.NodeWait.{NodeWait}
@@ -89,11 +89,14 @@ pub ready-lent : (S : State) (M : ℕ → ℕ) (core : CoreId) (n : NodeParts) (
 ready-lent S M core n d t needs inv acts never = by_wait n.waiting refl acts.ready where
   now : need_now S.setting n ≡ Some needs
   now = acting-need S core n d t needs acts ((inv.machine.node core.0 n acts.found).core)
+
   some-same : (x y : Need) → Some x ≡ Some y → x ≡ y
   some-same x y e = cc
+
   same-need : (word : WordId) → NeedsValue S n word → (needs ≡ need.TheVariants.Load word) ⊎ (needs ≡ need.TheVariants.Store word false)
   same-need word (inl is) = inl (some-same needs (need.TheVariants.Load word) (sym now ∙ is))
   same-need word (inr is) = inr (some-same needs (need.TheVariants.Store word false) (sym now ∙ is))
+
   by_wait : (waiting : NodeWait) → n.waiting ≡ waiting → is_ready waiting ≡ true → lent waiting ≡ 0
   by_wait wait.TheVariants.None is ready = refl
   by_wait (wait.TheVariants.Locking lock) is ready = absurd (cc)

@@ -1,8 +1,6 @@
 -- What an event of a node, of a bank and of the keeper adds to the events and to what pays for them.
-use Rattle.std.proofs.Common.{◌≡◌, ◌≢◌, ◌⊎◌, inl, inr, ℕ, zero, suc, ◌+◌, ◌*◌, ◌%◌, ◌<◌, ◌≤◌, ◌==◌, ◌&&◌, Bool, true, false, cond, nat_lt, List, [], ◌∷◌, length, slice_get, sum_by, Option, Some, None, refl, sym, ap, subst, ◌∙◌, arith}
+use Rattle.std.proofs.Common.{◌≡◌, ℕ, zero, suc, ◌+◌, ◌*◌, ◌<◌, ◌≤◌, ◌==◌, Bool, true, false, cond, List, [], ◌∷◌, length, slice_get, sum_by, Option, Some, None, refl, ap, ◌∙◌, arith}
 use Rattle.std.proofs.Math.Nat.{mul-le-mul_left}
-use Rattle.std.specs.Prelude.{count_by}
-use Rattle.std.specs.Option.{is_some}
 use Rattle.std.proofs.lemmas.Bool.{eqb-true}
 use Rattle.std.proofs.lemmas.Bool.Decides.{nat_tests}
 use Rattle.std.proofs.lemmas.List.Sums.{sum_by-cons, sum_by-le-sum_by}
@@ -21,49 +19,10 @@ use Rattle.machine_rules.specs.Flight.{Test, bit, counted, flight}
 use Rattle.machine_rules.specs.Sound.{IsMachine, rounds}
 use Rattle.machine_rules.proofs.Bits.{passes}
 use Rattle.machine_rules.proofs.Steps.{NodeStep}
+use Rattle.machine_rules.proofs.CopyFrames.{sum-changed}
 use Rattle.machine_rules.proofs.Leaves.{WordStep, LockStep, BarrierStep, to_all}
 use Rattle.machine_rules.proofs.WordCore.{same-number}
 use Rattle.machine_rules.proofs.Spending.{is_any, is_handed, is_register, is_reply, is_seek, is_pass, is_owned, seeks_owned, mail_cost, cost_of, debt, credit, queue_in, total, queue_cost, Spent}
-
--- ---- sums over the nodes
-
-sum-same : (f : NodeParts → ℕ) (xs ys : List NodeParts) → ((d : ℕ) → slice_get ys d ≡ slice_get xs d) → sum_by f ys ≡ sum_by f xs
-sum-same f [] [] same = refl
-sum-same f [] (y ∷ ys) same = let wrong = same 0 in absurd (cc)
-sum-same f (x ∷ xs) [] same = let wrong = same 0 in absurd (cc)
-sum-same f (x ∷ xs) (y ∷ ys) same =
-    let head : y ≡ x = some-same y x (same 0) in
-    omega (arith, ap f head, sum-same f xs ys (λ d. same (suc d)), sum_by-cons f x xs, sum_by-cons f y ys)
-  where
-    some-same : (a b : NodeParts) → Some a ≡ Some b → a ≡ b
-    some-same a b e = cc
-
--- one of them becomes another
-sum-changed : (f : NodeParts → ℕ) (xs ys : List NodeParts) (i : ℕ) (n m : NodeParts) → slice_get xs i ≡ Some n
-    → ((d : ℕ) → slice_get ys d ≡ cond (i == d) (Some m) (slice_get xs d)) → sum_by f ys + f n ≡ sum_by f xs + f m
-sum-changed f [] ys i n m found now = absurd (cc)
-sum-changed f (x ∷ xs) [] i n m found now = absurd (by_test (i == 0) (now 0)) where
-  by_test : (t : Bool) → None ≡ cond t (Some m) (Some x) → ⊥
-  by_test true e = cc
-  by_test false e = cc
-sum-changed f (x ∷ xs) (y ∷ ys) zero n m found now =
-    let head : y ≡ m = some-same y m (now 0) in
-    let old : x ≡ n = some-same x n found in
-    omega (arith, ap f head, ap f old, sum-same f xs ys (λ d. rest d), sum_by-cons f x xs, sum_by-cons f y ys)
-  where
-    some-same : (a b : NodeParts) → Some a ≡ Some b → a ≡ b
-    some-same a b e = cc
-    rest : (d : ℕ) → slice_get ys d ≡ slice_get xs d
-    rest d = let apart : (0 == suc d) ≡ false = grind (arith, nat_tests) in rw (apart) at (now (suc d))
-sum-changed f (x ∷ xs) (y ∷ ys) (suc i) n m found now =
-    let apart : (suc i == 0) ≡ false = grind (arith, nat_tests) in
-    let head : y ≡ x = some-same y x (rw (apart) at (now 0)) in
-    omega (arith, ap f head, sum-changed f xs ys i n m found (λ d. rest d), sum_by-cons f x xs, sum_by-cons f y ys)
-  where
-    some-same : (a b : NodeParts) → Some a ≡ Some b → a ≡ b
-    some-same a b e = cc
-    rest : (d : ℕ) → slice_get ys d ≡ cond (i == d) (Some m) (slice_get xs d)
-    rest d = let same : (suc i == suc d) ≡ (i == d) = grind (arith, nat_tests) in rw (same) at (now (suc d))
 
 -- ---- sums over the locks
 
@@ -145,6 +104,7 @@ owned-less S T w content homes less = sum_by-le-sum_by (counted (seeks_owned T))
     by_test false e =
         let now = rw (e) at (homes v) in
         omega (arith, ap (λ (o : Option BankWord). bit (is_owned o)) now)
+
   by_message : (to : Actor) (message : Message) → bit (seeks_owned T to message) ≤ bit (seeks_owned S to message)
   by_message to (ReadReq word reader) = here word.0
   by_message to (ReadFwd word reader) = omega arith
@@ -160,6 +120,7 @@ owned-less S T w content homes less = sum_by-le-sum_by (counted (seeks_owned T))
   by_message to (Arrived core bad) = omega arith
   by_message to (Go phase) = omega arith
   by_message to Halt = omega arith
+
   each : (m : Mail) → counted (seeks_owned T) m ≤ counted (seeks_owned S) m
   each m = by_message m.to m.message
 
@@ -186,8 +147,10 @@ lock-spent S T made past l h k left sent machine step was spent enough =
   where
     within : l < length S.setting.program.locks
     within = let there = machine.locks l in let some = rw (was) at there in grind (arith, nat_tests, some)
+
     others : (i : ℕ) → (l == i) ≡ false → queue_in (lock_at T i) ≡ queue_in (lock_at S i)
     others i apart = let now = rw (apart) at (step.locks i) in ap queue_in now
+
     by_message : (to : Actor) (message : Message) → bit (seeks_owned T to message) ≤ bit (seeks_owned S to message)
     by_message to (ReadReq word reader) = omega (arith, ap (λ (o : Option BankWord). bit (is_owned o)) (step.homes word.0))
     by_message to (ReadFwd word reader) = omega arith
@@ -203,6 +166,7 @@ lock-spent S T made past l h k left sent machine step was spent enough =
     by_message to (Arrived core bad) = omega arith
     by_message to (Go phase) = omega arith
     by_message to Halt = omega arith
+
     each : (m : Mail) → counted (seeks_owned T) m ≤ counted (seeks_owned S) m
     each m = by_message m.to m.message
 
@@ -239,9 +203,31 @@ quiet-spent S T made past k left step spent less enough =
           let queues = same-queues S T step.setting (λ l. rw (step.banks, step.setting) refl) in
           let turns : T.setting.shape.cores * rounds T ≡ S.setting.shape.cores * (k.phase + bit (all_arrived k)) = rw (step.setting, step.keeper) refl in
           let more = mul-le-mul_left S.setting.shape.cores less in
-          omega (arith, spent.paid, enough, homes, step.flown is_any, step.flown is_handed, step.flown is_register, step.flown is_reply, step.flown is_seek, step.flown is_pass, step.flown (seeks_owned S),
-                 to-none is_any cores, to-none is_handed cores, to-none is_register cores, to-none is_reply cores, to-none is_seek cores, to-none is_pass cores, to-none (seeks_owned S) cores,
-                 ap (sum_by debt) step.nodes, ap (sum_by credit) step.nodes, queues, turns, more);
+          omega (
+            arith,
+            spent.paid,
+            enough,
+            homes,
+            step.flown is_any,
+            step.flown is_handed,
+            step.flown is_register,
+            step.flown is_reply,
+            step.flown is_seek,
+            step.flown is_pass,
+            step.flown (seeks_owned S),
+            to-none is_any cores,
+            to-none is_handed cores,
+            to-none is_register cores,
+            to-none is_reply cores,
+            to-none is_seek cores,
+            to-none is_pass cores,
+            to-none (seeks_owned S) cores,
+            ap (sum_by debt) step.nodes,
+            ap (sum_by credit) step.nodes,
+            queues,
+            turns,
+            more,
+          );
     }
 
 pub letters-spent : (S T : State) (made past : ℕ) (k : Barrier) (left : Option Outgoing) (m : Message) → BarrierStep S T k left (Some m) → IsLetter S m → Spent S made past
@@ -254,8 +240,29 @@ letters-spent S T made past k left m step letter spent less enough =
           let queues = same-queues S T step.setting (λ l. rw (step.banks, step.setting) refl) in
           let turns : T.setting.shape.cores * rounds T ≡ S.setting.shape.cores * (k.phase + bit (all_arrived k)) = rw (step.setting, step.keeper) refl in
           let more = mul-le-mul_left S.setting.shape.cores less in
-          omega (arith, spent.paid, enough, homes, step.flown is_any, step.flown is_handed, step.flown is_register, step.flown is_reply, step.flown is_seek, step.flown is_pass, step.flown (seeks_owned S),
-                 to-each cores m, to-nobody is_handed cores m letter.handed, to-nobody is_register cores m letter.register, to-nobody is_reply cores m letter.reply,
-                 to-nobody is_seek cores m letter.seek, to-nobody is_pass cores m letter.pass, to-nobody (seeks_owned S) cores m letter.owned,
-                 ap (sum_by debt) step.nodes, ap (sum_by credit) step.nodes, queues, turns, more);
+          omega (
+            arith,
+            spent.paid,
+            enough,
+            homes,
+            step.flown is_any,
+            step.flown is_handed,
+            step.flown is_register,
+            step.flown is_reply,
+            step.flown is_seek,
+            step.flown is_pass,
+            step.flown (seeks_owned S),
+            to-each cores m,
+            to-nobody is_handed cores m letter.handed,
+            to-nobody is_register cores m letter.register,
+            to-nobody is_reply cores m letter.reply,
+            to-nobody is_seek cores m letter.seek,
+            to-nobody is_pass cores m letter.pass,
+            to-nobody (seeks_owned S) cores m letter.owned,
+            ap (sum_by debt) step.nodes,
+            ap (sum_by credit) step.nodes,
+            queues,
+            turns,
+            more,
+          );
     }
