@@ -4,18 +4,15 @@ use Rattle.std.proofs.Common.{◌≡◌, ℕ, ◌+◌, ◌<◌, true, List, leng
 use Rattle.std.proofs.lemmas.List.{ext_get_or}
 use Rattle.std.proofs.lemmas.List.FromFn.{get_or-map-range_with_len, length-map-range_with_len}
 use Rattle.dn_base.specs.declared.ids.LoadSeen.{LoadSeen}
-use Rattle.region_table.specs.Program.{IsProgram}
-use Rattle.effect_checker.specs.Checked.{IsChecked}
 use Rattle.message_net.specs.declared.event.Event.{Event}
 use Rattle.registration_protocol.specs.Node.{Setting}
-use Rattle.registration_protocol.specs.Fit.{IsContext}
 use Rattle.machine_rules.specs.State.{opened}
 use Rattle.machine_rules.specs.Next.{enabled, seen_in}
 use Rattle.machine_rules.specs.Memory.{word_value, memory_of}
 use Rattle.machine_rules.specs.Runs.{after, IsRun, IsCompleteRun, memory_after}
 use Rattle.machine_rules.specs.Rest.{IsAtRest}
 use Rattle.machine_rules.specs.Coherent.{Coherent}
-use Rattle.machine_rules.specs.Sound.{IsSound}
+use Rattle.machine_rules.specs.Sound.{IsSound, IsReady}
 use Rattle.machine_rules.proofs.Invariant.{Invariant}
 use Rattle.machine_rules.proofs.OpenedFacts.{opened-setting}
 use Rattle.machine_rules.proofs.OpenedSound.{opened-sound}
@@ -29,12 +26,6 @@ use Rattle.machine_rules.proofs.RunsKept.{memory_over, memory-is, memory-length,
 -- the first memory, as a function
 abbrev pub first_memory : Setting → ℕ → ℕ
 first_memory C w = slice_index C.program.memory w
-
--- a program that is checked, and plans, a shape and fuel of it
-pub record IsReady (C : Setting) : Type 0 where
-  pub context : IsContext C
-  pub program : IsProgram C.program
-  pub checked : IsChecked C.program
 
 pub run-all : (C : Setting) (events : List Event) → IsReady C → IsRun (opened C) events
     → IsSound (after (opened C) events) (length events) × Invariant (after (opened C) events) (memory_over (first_memory C) (opened C) events)

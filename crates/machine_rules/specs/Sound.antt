@@ -8,11 +8,17 @@ use Rattle.message_net.specs.declared.message.Mail.{Mail}
 use Rattle.message_net.specs.Pool.{AreDistinct}
 use Rattle.registry_bank.specs.Bank.{BankParts, IsBank}
 use Rattle.phase_barrier.specs.Barrier.{all_arrived}
-use Rattle.registration_protocol.specs.Node.{NodeParts}
+use Rattle.registration_protocol.specs.Node.{NodeParts, Setting}
 use Rattle.registration_protocol.specs.Fit.{IsContext, Fits}
 use Rattle.machine_rules.specs.State.{State, home_at, lock_at}
 use Rattle.machine_rules.specs.Next.{place_in}
 use Rattle.machine_rules.specs.Flight.{bit}
+
+-- a setting of a machine: a program that is checked, and plans, a shape and fuel of it
+pub record IsReady (C : Setting) : Type 0 where
+  pub context : IsContext C
+  pub program : IsProgram C.program
+  pub checked : IsChecked C.program
 
 -- a node of the machine at its place, and a bank at its place
 pub record IsNodeAt (S : State) (place : ℕ) (n : NodeParts) : Type 0 where
