@@ -7,7 +7,7 @@ use Rattle.flat_machine.specs.Phases.{Flat}
 use Rattle.flat_machine.specs.Grants.{so_far, is_whole}
 use Rattle.flat_machine.specs.Ending.{flat_end, whole_only, end_of}
 use Rattle.flat_machine.proofs.CauseLemmas.{run-out_of_fuel, run-held_up, run-stuck}
-use Rattle.dn_top.specs.Answers.{IsCaused}
+use Rattle.dn_top.specs.Laws.{IsCaused}
 
 -- a run with a value has reached a state after which no grant is left
 record HasReached (P : ProgramParts) (fuel : ℕ) (gs : List Grant) : Type 0 where

@@ -1,100 +1,142 @@
 -- What a call of the program reads and writes, and what its status says of that.
-use Rattle.std.specs.Prelude.{◌≡◌, ◌⊎◌, ℕ, List, [], Option, Some}
-use Rattle.std.specs.Io.KnownBytes.{Appends, Keeps}
+use Rattle.std.specs.Prelude.{◌≡◌, ◌⊎◌, ℕ, List, [], Option, Some, None, IfSome, option_and_then}
 use Rattle.dn_base.specs.declared.status.Status.{Status}
 use Rattle.dn_base.specs.declared.status.Status as status
-use Rattle.dn_base.specs.Faults.{Rose}
 use Rattle.work_gen.specs.Work.{work_of}
-use Rattle.command_words.specs.declared.options.Mode.{Mode}
-use Rattle.command_words.specs.declared.options.Mode as mode
 use Rattle.command_words.specs.declared.options.Options.{Options}
+use Rattle.command_words.specs.Command.{options_of}
 use Rattle.dn_top.specs.declared.answers.Output.{Output}
-use Rattle.dn_top.specs.Answers.{IsDone, IsRefusal, IsAnswer}
-use Rattle.dn_top.specs.Outside.{IsRead, TookFront}
+use Rattle.dn_top.specs.declared.serving.Answer.{Answer}
+use Rattle.dn_top.specs.Answers.{most_read, IsDone, IsRefusal, IsAnswer, IsOutcome, usage_line}
+use Rattle.dn_top.specs.Outside.{Device, Devices, Failed, IsUntouched, IsRead, Took, TookNothing, TookFront}
 
--- the text that options are about: the generated one of a size in the mode work, and else what the source tells
-abbrev pub text_by : Mode → ℕ → Option (List ℕ) → Option (List ℕ)
-text_by mode.TheVariants.Work size told = Some (work_of size)
-text_by _ size told = told
+-- ---- the text of a call
 
-abbrev pub text_for : Options → Option (List ℕ) → Option (List ℕ)
-text_for o told = text_by o.mode o.size told
+-- the text that options are about: the generated one of their size, or what the source tells
+abbrev pub text_by : Option ℕ → ℕ → Option (List ℕ) → Option (List ℕ)
+text_by None size told = Some (work_of size)
+text_by (Some most) size told = told
 
--- the source was left alone in the mode work, and else read to its end
-abbrev pub read_by : Mode → Option (List ℕ) → Option (List ℕ) → Type 0
-read_by mode.TheVariants.Work told left = Keeps told left
-read_by _ told left = left ≡ Some []
+abbrev pub text_for : Options → Device → Option (List ℕ)
+text_for o source = text_by (most_read o.mode) o.size source.bytes
 
--- what an outcome's status says of a text: what the options ask for was done with its program, the source was read as the
--- mode wants it, the sink gained exactly the answer, and the status is the answer's
-pub record HasDone (o : Options) (told left held holds : Option (List ℕ)) (text : List ℕ) (s : Status) : Type 0 where
+-- the source was left alone where the text is generated, and else read to its end
+abbrev pub read_by : Option ℕ → Device → Device → Type 0
+read_by None before after = IsUntouched before after
+read_by (Some most) before after = after.bytes ≡ Some []
+
+-- the words ask for options, and this holds of them and their text, where the source tells it
+pub record ForText (words : List (List ℕ)) (source : Device) (Holds : Options → List ℕ → Type 0) : Type 0 where
+  pub options : Options
+  pub asked : options_of words ≡ Some options
+  pub text : IfSome (text_for options source) (Holds options)
+
+-- ---- what a status says of a text
+
+-- of an outcome's status: what the options ask for was done with the text's program, the source was read as the mode wants
+-- it, the sink took exactly the answer, and the status is the answer's
+pub record HasDone (o : Options) (before after : Devices) (text : List ℕ) (answer : Answer) : Type 0 where
   pub out : Output
   pub done : IsDone o text out
-  pub read : read_by o.mode told left
-  pub gained : Appends held holds out.bytes
-  pub ends : s ≡ out.status
+  pub read : read_by (most_read o.mode) before.source after.source
+  pub took : Took before.sink after.sink out.bytes
+  pub ends : answer.status ≡ out.status
 
--- what a refusal says of a text: it has a fault or its program has, and the sink gained the line of the first one
-pub record HasRefused (o : Options) (held holds : Option (List ℕ)) (text : List ℕ) : Type 0 where
+-- of a refusal: the text has a fault or its program has, and the sink took the line of the first one
+pub record HasRefused (o : Options) (before after : Devices) (text : List ℕ) : Type 0 where
   pub out : Output
   pub refusal : IsRefusal o text out
-  pub gained : Appends held holds out.bytes
+  pub took : Took before.sink after.sink out.bytes
 
--- the sink took a front of the answer
-pub record HasFailed (o : Options) (held holds : Option (List ℕ)) (text : List ℕ) : Type 0 where
+-- of a sink that failed: it took a front of the answer
+pub record HasFailed (o : Options) (before after : Devices) (text : List ℕ) : Type 0 where
   pub out : Output
   pub answer : IsAnswer o text out
-  pub front : TookFront held holds out.bytes
+  pub front : TookFront before.sink after.sink out.bytes
+
+-- the text has an answer whose status this is
+pub record HasStatus (o : Options) (text : List ℕ) (s : Status) : Type 0 where
+  pub out : Output
+  pub answer : IsAnswer o text out
+  pub ends : s ≡ out.status
+
+-- a sink that failed took a front of the line that refuses the words, or of the answer to the text that they ask for
+abbrev pub has_stopped : Option Options → Devices → Devices → Type 0
+has_stopped None before after = TookFront before.sink after.sink usage_line
+has_stopped (Some o) before after = IfSome (text_for o before.source) (HasFailed o before after)
+
+-- how many bytes words have the program read at most: None where they are refused or their mode generates its text
+abbrev pub most_asked : List (List ℕ) → Option ℕ
+most_asked words = option_and_then (λ (o : Options). most_read o.mode) (options_of words)
+
+-- ---- a call
+
+-- what a call with these words says by its answer, where the devices were `before` and are `after`
+pub record Serves (words : List (List ℕ)) (before after : Devices) (answer : Answer) : Type 0 where
+  -- an outcome comes only where what the words ask for was done with the text, and all of the answer was written
+  pub done : IsOutcome answer.status → ForText words before.source (λ o text. HasDone o before after text answer)
+  -- Usage comes only where the words aren't the command's, and the line that says so was written
+  pub usage : answer.status ≡ status.TheVariants.Usage → (options_of words ≡ None) × Took before.sink after.sink usage_line
+  -- and it comes there, unless the sink failed or there was no memory
+  pub usage_comes : options_of words ≡ None → (answer.status ≡ status.TheVariants.Usage)
+      ⊎ ((answer.status ≡ status.TheVariants.Memory) ⊎ ((answer.status ≡ status.TheVariants.WriteFault) × Failed before.sink after.sink))
+  -- SourceRefused comes only where the mode refuses the text, and the line of its first fault was written
+  pub refused : answer.status ≡ status.TheVariants.SourceRefused → ForText words before.source (λ o text. HasRefused o before after text)
+  -- ReadFault comes only where the source failed; nothing was written
+  pub read_fault : answer.status ≡ status.TheVariants.ReadFault → Failed before.source after.source × TookNothing before.sink after.sink
+  -- WriteFault comes only where the sink failed; it took a front of what was to be written
+  pub write_fault : answer.status ≡ status.TheVariants.WriteFault → Failed before.sink after.sink × has_stopped (options_of words) before after
+  -- where there was no memory nothing was written
+  pub memory : answer.status ≡ status.TheVariants.Memory → TookNothing before.sink after.sink
+  -- the source is left alone where the words are refused, and in a mode that generates its text
+  pub unread : most_asked words ≡ None → IsUntouched before.source after.source
+  -- options and a text that the source tells have their answer's status, unless a device failed or there was no memory
+  pub complete : (o : Options) → options_of words ≡ Some o → (text : List ℕ) → text_for o before.source ≡ Some text
+      → ¬ Failed before.source after.source → ¬ Failed before.sink after.sink
+      → HasStatus o text answer.status ⊎ (answer.status ≡ status.TheVariants.Memory)
+
+-- ---- its parts
 
 -- the bytes were written and the status is the one that was wanted, or the sink failed and took a front of them
-abbrev pub IsFinished : Option (List ℕ) → Option (List ℕ) → ℕ → ℕ → List ℕ → Status → Status → Type 0
-IsFinished held holds before now bytes wanted s =
-    ((s ≡ wanted) × Appends held holds bytes)
-    ⊎ ((s ≡ status.TheVariants.WriteFault) × Rose before now × TookFront held holds bytes)
+abbrev pub IsFinished : Device → Device → List ℕ → Status → Status → Type 0
+IsFinished before after bytes wanted s =
+    ((s ≡ wanted) × Took before after bytes)
+    ⊎ ((s ≡ status.TheVariants.WriteFault) × Failed before after × TookFront before after bytes)
 
 -- the answer to a text was made, and written as far as the sink took it
-pub record IsGiven (o : Options) (held holds : Option (List ℕ)) (before now : ℕ) (text : List ℕ) (s : Status) : Type 0 where
+pub record IsGiven (o : Options) (before after : Device) (text : List ℕ) (s : Status) : Type 0 where
   pub out : Output
   pub answer : IsAnswer o text out
-  pub finished : IsFinished held holds before now out.bytes out.status s
+  pub finished : IsFinished before after out.bytes out.status s
 
 -- there was no memory, and nothing was written
-pub record IsStarved (held holds : Option (List ℕ)) (s : Status) : Type 0 where
+pub record IsStarved (before after : Device) (s : Status) : Type 0 where
   pub memory : s ≡ status.TheVariants.Memory
-  pub kept : Keeps held holds
+  pub nothing : TookNothing before after
 
-abbrev pub IsReplied : Options → Option (List ℕ) → Option (List ℕ) → ℕ → ℕ → List ℕ → Status → Type 0
-IsReplied o held holds before now text s = IsGiven o held holds before now text s ⊎ IsStarved held holds s
+abbrev pub IsReplied : Options → Device → Device → List ℕ → Status → Type 0
+IsReplied o before after text s = IsGiven o before after text s ⊎ IsStarved before after s
 
--- a text was read and replied to
-pub record IsServed (o : Options) (told left held holds : Option (List ℕ)) (before now : ℕ) (s : Status) : Type 0 where
+-- the text was generated, or it was read
+abbrev pub taken_by : Option ℕ → ℕ → Device → Device → List ℕ → Type 0
+taken_by None size before after text = (text ≡ work_of size) × IsUntouched before after
+taken_by (Some most) size before after text = IsRead before after most text
+
+abbrev pub IsTaken : Options → Device → Device → List ℕ → Type 0
+IsTaken o before after text = taken_by (most_read o.mode) o.size before after text
+
+-- the text was taken and replied to
+pub record IsServed (o : Options) (before after : Devices) (s : Status) : Type 0 where
   pub text : List ℕ
-  pub read : IsRead told left 1048577 text
-  pub reply : IsReplied o held holds before now text s
+  pub taken : IsTaken o before.source after.source text
+  pub reply : IsReplied o before.sink after.sink text s
 
 -- the source failed, and nothing was written
-pub record IsUnread (before now : ℕ) (held holds : Option (List ℕ)) (s : Status) : Type 0 where
+pub record IsUnread (before after : Devices) (s : Status) : Type 0 where
   pub fault : s ≡ status.TheVariants.ReadFault
-  pub rose : Rose before now
-  pub kept : Keeps held holds
+  pub failed : Failed before.source after.source
+  pub nothing : TookNothing before.sink after.sink
 
--- there is no text, as the source failed or there was no memory
-abbrev pub HasFailedToRead : ℕ → ℕ → Option (List ℕ) → Option (List ℕ) → Status → Type 0
-HasFailedToRead before now held holds s = IsUnread before now held holds s ⊎ IsStarved held holds s
-
--- the source was left alone, and the generated text replied to
-pub record IsGenerated (o : Options) (told left held holds : Option (List ℕ)) (before now : ℕ) (s : Status) : Type 0 where
-  pub left_alone : Keeps told left
-  pub reply : IsReplied o held holds before now (work_of o.size) s
-
--- a call that was given options ended: in the mode work the source was left alone and the generated text replied to, and
--- else a text was read and replied to, or there was none
-abbrev pub served_by : Mode → Options → (told left : Option (List ℕ)) → (source_before source_now : ℕ) → (held holds : Option (List ℕ)) → (before now : ℕ) → Status → Type 0
-served_by mode.TheVariants.Work o told left source_before source_now held holds before now s =
-    IsGenerated o told left held holds before now s
-served_by _ o told left source_before source_now held holds before now s =
-    IsServed o told left held holds before now s ⊎ HasFailedToRead source_before source_now held holds s
-
-abbrev pub IsDoneBy : Options → (told left : Option (List ℕ)) → (source_before source_now : ℕ) → (held holds : Option (List ℕ)) → (before now : ℕ) → Status → Type 0
-IsDoneBy o told left source_before source_now held holds before now s =
-    served_by o.mode o told left source_before source_now held holds before now s
+-- a call that was given options ended: their text was replied to, or there was none
+abbrev pub IsDoneBy : Options → Devices → Devices → Status → Type 0
+IsDoneBy o before after s = IsServed o before after s ⊎ (IsUnread before after s ⊎ IsStarved before.sink after.sink s)

@@ -1,17 +1,23 @@
-ghost use Rattle.std.specs.Prelude.{◌≡◌, ◌≢◌, ◌≤◌, length, IfOk};
+ghost use Rattle.std.specs.Prelude.{◌≡◌, ◌≢◌, ◌≤◌, Ok, IfOk, IfErr};
+ghost use Rattle.dn_base.specs.Status.{status_of};
 ghost use Rattle.rv_assembler.specs.declared.fault.SourceFault.TheVariants.{Memory as NoMemory};
+ghost use Rattle.region_table.specs.Program.{names_of};
+ghost use Rattle.rv_assembler.specs.Names.{AreDeclaredNames};
+ghost use Rattle.rv_assembler.specs.Source.{source};
+ghost use Rattle.effect_checker.specs.Checked.{IsChecked};
 ghost use Rattle.run_report.specs.declared.refusal.Refusal.TheVariants.{Source as OfSource};
-ghost use Rattle.command_words.specs.declared.options.Mode.TheVariants.{List as Lists};
-ghost use Rattle.dn_top.specs.Answers.{answered, refused, printed, IsRunOf, IsAnswerTo, IsAnswer};
+ghost use Rattle.run_report.specs.Refusal.{refusal_of};
+ghost use Rattle.run_report.specs.Summary.{checked_of as counts_of};
+ghost use Rattle.command_words.specs.Command.{IsWithinLimits};
+ghost use Rattle.dn_top.specs.Answers.{IsAnswer, IsFlatRun, IsListing, IsNoProgram, IsStop, IsUnfit, answer_and_grants, answered, done_in, refused_in, summed_up};
 
 use command_words::{Mode, Options};
-use dn_base::{Grant, Memory, Sequence, Status};
+use dn_base::{Memory, Outcome, Sequence, Status};
 use effect_checker::{Checked, check};
-use flat_machine::{flat, least_grants};
+use flat_machine::least_run;
 use region_table::Program;
 use run_report::{Refusal, answer_text, checked_line, grant_text, refusal_line, summary};
 use rv_assembler::{SourceFault, assemble};
-use rv_core::Ending;
 use rv_listing::listing;
 use std::alloc::Global;
 
@@ -22,82 +28,121 @@ pub struct Output {
     pub bytes: Sequence<u8>,
 }
 
-/// The answer that refuses a text.
-fn refusal(alloc: Global, why: &Refusal) -> Result<Output, Memory>
-    requires { why.now ≢ OfSource NoMemory }
-    ensures { IfOk result (λ output. output ≡ refused why.now) }
-{
-    Ok(Output {
-        status: Status::SourceRefused,
-        bytes: Sequence::from_vec(refusal_line(alloc, why)?),
-    })
+/// Why nothing is done with a text.
+#[derive(Debug, Drop)]
+enum Stop {
+    /// It is refused with this line.
+    Refused(Sequence<u8>),
+    /// There is no memory.
+    Memory,
 }
 
-/// The answer that what was asked for was done.
-fn done(line: Vec<u8>) -> Output
-    ensures { result ≡ answered Status.Done line.items }
+impl From<Memory> for Stop {
+    ghost use Rattle.dn_top.specs.declared.answers.Stop.TheVariants.{Memory as NoRoom};
+
+    ghost from_gives = { λ _ stop. stop ≡ NoRoom };
+
+    fn from(_memory: Memory) -> Stop {
+        Stop::Memory
+    }
+}
+
+/// The refusal of a text.
+fn refusal(alloc: Global, why: &Refusal) -> Stop
+    requires { why.now ≢ OfSource NoMemory }
+    ensures { IsStop (λ line. line ≡ refusal_of why.now) result }
+{
+    match refusal_line(alloc, why) {
+        Ok(line) => Stop::Refused(Sequence::from_vec(line)),
+        Err(_) => Stop::Memory,
+    }
+}
+
+/// The program of a text.
+fn program_of(alloc: Global, text: &[u8]) -> Result<Program, Stop>
+    ensures ok { IfOk result (λ program. source text.now ≡ Ok program) }
+    ensures names { IfOk result (λ program. AreDeclaredNames (names_of program)) }
+    ensures stop { IfErr result (IsStop (IsNoProgram text.now)) }
+{
+    match assemble(alloc, text) {
+        Ok(program) => Ok(program),
+        Err(SourceFault::Memory) => Err(Stop::Memory),
+        Err(fault) => Err(refusal(alloc, &Refusal::Source(fault))),
+    }
+}
+
+/// The program of a text, checked.
+fn checked_of(alloc: Global, text: &[u8]) -> Result<Checked, Stop>
+    ensures ok { IfOk result (λ program. source text.now ≡ Ok program) }
+    ensures checked { IfOk result IsChecked }
+    ensures stop { IfErr result (IsStop (IsUnfit text.now)) }
+{
+    match check(program_of(alloc, text)?) {
+        Ok(checked) => Ok(checked),
+        Err(fault) => Err(refusal(alloc, &Refusal::Check(fault))),
+    }
+}
+
+/// The output that something ended so, with this text.
+fn ended(outcome: Outcome, text: Vec<u8>) -> Output
+    ensures { result ≡ answered (status_of outcome) text.items }
 {
     Output {
-        status: Status::Done,
-        bytes: Sequence::from_vec(line),
-    }
-}
-
-/// The bytes that a run's end and grants are printed as.
-fn print(alloc: Global, mode: Mode, ending: &Ending, grants: &[Grant]) -> Result<Vec<u8>, Memory>
-    requires words { length ending.now.memory ≤ 65536 }
-    requires tasks { length ending.now.tasks ≤ 64 }
-    ensures { IfOk result (λ text. text.items ≡ printed mode ending.now grants.now) }
-{
-    if mode == Mode::Work {
-        return summary(alloc, ending);
-    }
-    let mut text = answer_text(alloc, ending)?;
-    text.extend_from_slice(grant_text(alloc, grants)?.as_slice())?;
-    Ok(text)
-}
-
-/// The answer of a checked program's run on one flat memory.
-fn run(alloc: Global, options: &Options, checked: &Checked) -> Result<Output, Memory>
-    requires least { 1 ≤ options.now.fuel }
-    requires most { options.now.fuel ≤ 32768 }
-    ensures { IfOk result (λ output. IsRunOf options.now checked.now output) }
-{
-    let grants = least_grants(alloc, checked, options.fuel)?;
-    // the least list is legal and whole
-    let end = flat(alloc, checked, options.fuel, grants.as_slice())?.unwrap();
-    let text = print(alloc, options.mode, &end.ending, grants.as_slice())?;
-    Ok(Output {
-        status: Status::from(end.ending.outcome),
+        status: Status::from(outcome),
         bytes: Sequence::from_vec(text),
-    })
-}
-
-/// The answer to a program that is checked before anything else.
-fn answer_checked(alloc: Global, options: &Options, program: Program) -> Result<Output, Memory>
-    requires mode { options.now.mode ≢ Lists }
-    requires least { 1 ≤ options.now.fuel }
-    requires most { options.now.fuel ≤ 32768 }
-    ensures { IfOk result (λ output. IsAnswerTo options.now program output) }
-{
-    match check(program) {
-        Ok(checked) => match options.mode {
-            Mode::Check => Ok(done(checked_line(alloc, checked.program())?)),
-            _ => run(alloc, options, &checked),
-        },
-        Err(fault) => refusal(alloc, &Refusal::Check(fault)),
     }
 }
 
-/// The answer to a program.
-fn answer_program(alloc: Global, options: &Options, program: Program) -> Result<Output, Memory>
-    requires least { 1 ≤ options.now.fuel }
-    requires most { options.now.fuel ≤ 32768 }
-    ensures { IfOk result (λ output. IsAnswerTo options.now program output) }
+/// Runs a program on one flat memory, and prints its answer and the grants.
+fn run(alloc: Global, fuel: u32, checked: &Checked) -> Result<Output, Memory>
+    requires least { 1 ≤ fuel }
+    requires most { fuel ≤ 32768 }
+    ensures { IfOk result (IsFlatRun checked.now fuel answer_and_grants) }
+{
+    let run = least_run(alloc, checked, fuel)?;
+    let mut text = answer_text(alloc, &run.end.ending)?;
+    text.extend_from_slice(grant_text(alloc, run.grants.as_slice())?.as_slice())?;
+    Ok(ended(run.end.ending.outcome, text))
+}
+
+/// Runs a program on one flat memory, and sums up.
+fn sum_up(alloc: Global, fuel: u32, checked: &Checked) -> Result<Output, Memory>
+    requires least { 1 ≤ fuel }
+    requires most { fuel ≤ 32768 }
+    ensures { IfOk result (IsFlatRun checked.now fuel summed_up) }
+{
+    let run = least_run(alloc, checked, fuel)?;
+    let text = summary(alloc, &run.end.ending)?;
+    Ok(ended(run.end.ending.outcome, text))
+}
+
+/// Counts what a program has.
+fn count(alloc: Global, program: &Program) -> Result<Output, Memory>
+    ensures { IfOk result (λ out. out ≡ answered Status.Done (counts_of program.now)) }
+{
+    Ok(ended(Outcome::Done, checked_line(alloc, program)?))
+}
+
+/// Lists a program.
+fn list(alloc: Global, program: &Program) -> Result<Output, Memory>
+    requires { AreDeclaredNames (names_of program.now) }
+    ensures { IfOk result (IsListing program.now) }
+{
+    Ok(ended(Outcome::Done, listing(alloc, program)?))
+}
+
+/// What each mode does with a text.
+fn done_by(alloc: Global, options: &Options, text: &[u8]) -> Result<Output, Stop>
+    requires { IsWithinLimits options.now }
+    ensures done { IfOk result (done_in options.now.mode options.now text.now) }
+    ensures stop { IfErr result (IsStop (refused_in options.now.mode text.now)) }
 {
     match options.mode {
-        Mode::List => Ok(done(listing(alloc, &program)?)),
-        _ => answer_checked(alloc, options, program),
+        Mode::Run => Ok(run(alloc, options.fuel, &checked_of(alloc, text)?)?),
+        Mode::Work => Ok(sum_up(alloc, options.fuel, &checked_of(alloc, text)?)?),
+        Mode::Check => Ok(count(alloc, checked_of(alloc, text)?.program())?),
+        Mode::List => Ok(list(alloc, &program_of(alloc, text)?)?),
+        Mode::Flat => Ok(run(alloc, options.fuel, &checked_of(alloc, text)?)?),
     }
 }
 
@@ -106,13 +151,15 @@ fn answer_program(alloc: Global, options: &Options, program: Program) -> Result<
 /// # Errors
 /// `Memory` where there is no room for the program, its run or the answer.
 pub(crate) fn output_of(alloc: Global, options: &Options, text: &[u8]) -> Result<Output, Memory>
-    requires least { 1 ≤ options.now.fuel }
-    requires most { options.now.fuel ≤ 32768 }
-    ensures { IfOk result (λ output. IsAnswer options.now text.now output) }
+    requires { IsWithinLimits options.now }
+    ensures { IfOk result (IsAnswer options.now text.now) }
 {
-    match assemble(alloc, text) {
-        Ok(program) => answer_program(alloc, options, program),
-        Err(SourceFault::Memory) => Err(Memory),
-        Err(fault) => refusal(alloc, &Refusal::Source(fault)),
+    match done_by(alloc, options, text) {
+        Ok(output) => Ok(output),
+        Err(Stop::Refused(line)) => Ok(Output {
+            status: Status::SourceRefused,
+            bytes: line,
+        }),
+        Err(Stop::Memory) => Err(Memory),
     }
 }

@@ -1,16 +1,9 @@
 //! The program denovo, all but its `main`: it takes command words and a text, and writes its answer or why it refuses.
 #![tactic(auto)]
 
-ghost use Rattle.std.specs.Prelude.{◌≡◌, ◌≢◌, ◌≤◌, ◌⊎◌, ℕ, List, [], Option, Some, None, IfSome, map, string_bytes};
-ghost use Rattle.std.specs.Io.KnownBytes.{Keeps, Appends};
-ghost use Rattle.dn_base.specs.Faults.{Rose};
-ghost use Rattle.command_words.specs.declared.options.Options.{Options as Asked};
-ghost use Rattle.command_words.specs.declared.options.Mode.TheVariants.{Work as Works};
-ghost use Rattle.command_words.specs.Command.{options_of, IsWithinLimits};
-ghost use Rattle.dn_top.specs.declared.answers.Output.{Output};
-ghost use Rattle.dn_top.specs.Answers.{IsOutcome, IsAnswer, usage_line};
-ghost use Rattle.dn_top.specs.Outside.{TookFront};
-ghost use Rattle.dn_top.specs.Serving.{HasDone, HasRefused, HasFailed, IsDoneBy, text_for};
+ghost use Rattle.std.specs.Prelude.{◌≡◌, map, string_bytes};
+ghost use Rattle.dn_top.specs.Outside.{devices};
+ghost use Rattle.dn_top.specs.Serving.{Serves};
 
 use dn_base::{Gate, Sink, Source, Status};
 use std::alloc::Global;
@@ -18,6 +11,7 @@ use std::sync::Wait;
 use std::thread::Threads;
 
 mod answers;
+mod laws;
 mod reading;
 mod serving;
 #[cfg(test)]
@@ -25,38 +19,9 @@ mod tests;
 mod writing;
 
 pub use command_words::{Mode, Options, WordsFault, read_words};
-use serving::{finish, reply, serve};
-use work_gen::work;
-
-/// What the program answers besides what it writes.
-#[derive(Clone, Copy, Debug, PartialEq, Eq)]
-pub struct Answer {
-    /// How it ended.
-    pub status: Status,
-}
-
-/// Does what options ask for.
-fn answer_options<S: Source, K: Sink>(
-    alloc: Global,
-    options: &Options,
-    source: &mut S,
-    sink: &mut K,
-) -> Answer
-    requires { IsWithinLimits options.now }
-    ensures counted { K.faults sink.old ≤ K.faults sink.new }
-    ensures served { IsDoneBy options.now (S.told source.old) (S.told source.new) (S.faults source.old) (S.faults source.new)
-        (K.told sink.old) (K.told sink.new) (K.faults sink.old) (K.faults sink.new) result.status }
-{
-    match options.mode {
-        Mode::Work => match work(alloc, options.size) {
-            Ok(text) => reply(alloc, options, text.as_slice(), sink),
-            Err(_) => Answer {
-                status: Status::Memory,
-            },
-        },
-        _ => serve(alloc, options, source, sink),
-    }
-}
+pub use laws::an_outcome_has_its_cause;
+pub use serving::Answer;
+use serving::{answer_options, refuse_words};
 
 /// Answers these command words and this source on one thread.
 ///
@@ -70,32 +35,13 @@ pub fn answer_words<S: Source, K: Sink>(
     source: &mut S,
     sink: &mut K,
 ) -> Answer
-    ensures done { IsOutcome result.status → (o : Asked) × (options_of (map string_bytes words.now) ≡ Some o)
-        × IfSome (text_for o (S.told source.old)) (λ text.
-        HasDone o (S.told source.old) (S.told source.new) (K.told sink.old) (K.told sink.new) text result.status) }
-    ensures usage { result.status ≡ Status.Usage → (options_of (map string_bytes words.now) ≡ None)
-        × Appends (K.told sink.old) (K.told sink.new) usage_line }
-    ensures usage_comes { options_of (map string_bytes words.now) ≡ None → (result.status ≡ Status.Usage)
-        ⊎ ((result.status ≡ Status.Memory) ⊎ ((result.status ≡ Status.WriteFault) × Rose (K.faults sink.old) (K.faults sink.new))) }
-    ensures refused { result.status ≡ Status.SourceRefused → (o : Asked) × (options_of (map string_bytes words.now) ≡ Some o)
-        × IfSome (text_for o (S.told source.old)) (λ text. HasRefused o (K.told sink.old) (K.told sink.new) text) }
-    ensures read_fault { result.status ≡ Status.ReadFault → Rose (S.faults source.old) (S.faults source.new)
-        × Keeps (K.told sink.old) (K.told sink.new) }
-    ensures write_fault { result.status ≡ Status.WriteFault → Rose (K.faults sink.old) (K.faults sink.new)
-        × (options_of (map string_bytes words.now) ≡ None → TookFront (K.told sink.old) (K.told sink.new) usage_line)
-        × ((o : Asked) → options_of (map string_bytes words.now) ≡ Some o → IfSome (text_for o (S.told source.old)) (λ text.
-        HasFailed o (K.told sink.old) (K.told sink.new) text)) }
-    ensures memory { result.status ≡ Status.Memory → Keeps (K.told sink.old) (K.told sink.new) }
-    ensures unread { (o : Asked) → options_of (map string_bytes words.now) ≡ Some o → o.mode ≡ Works
-        → Keeps (S.told source.old) (S.told source.new) }
-    ensures complete { (o : Asked) → options_of (map string_bytes words.now) ≡ Some o
-        → (text : List ℕ) → text_for o (S.told source.old) ≡ Some text
-        → ¬ Rose (S.faults source.old) (S.faults source.new) → ¬ Rose (K.faults sink.old) (K.faults sink.new)
-        → ((out : Output) × IsAnswer o text out × (result.status ≡ out.status)) ⊎ (result.status ≡ Status.Memory) }
+    ensures serves { Serves (map string_bytes words.now)
+        (devices (S.told source.old) (S.faults source.old) (K.told sink.old) (K.faults sink.old))
+        (devices (S.told source.new) (S.faults source.new) (K.told sink.new) (K.faults sink.new)) result }
 {
     match read_words(alloc, words) {
         Ok(options) => answer_options(alloc, &options, source, sink),
-        Err(WordsFault::Usage) => finish(sink, b"refused usage\n", Status::Usage),
+        Err(WordsFault::Usage) => refuse_words(sink),
         Err(WordsFault::Memory) => Answer {
             status: Status::Memory,
         },
@@ -113,28 +59,9 @@ pub fn denovo_main<R: Threads + Wait + Sync, S: Source, K: Sink, G: Gate + Sync>
     sink: &mut K,
     _gate: &G,
 ) -> Answer
-    ensures done { IsOutcome result.status → (o : Asked) × (options_of (map string_bytes words.now) ≡ Some o)
-        × IfSome (text_for o (S.told source.old)) (λ text.
-        HasDone o (S.told source.old) (S.told source.new) (K.told sink.old) (K.told sink.new) text result.status) }
-    ensures usage { result.status ≡ Status.Usage → (options_of (map string_bytes words.now) ≡ None)
-        × Appends (K.told sink.old) (K.told sink.new) usage_line }
-    ensures usage_comes { options_of (map string_bytes words.now) ≡ None → (result.status ≡ Status.Usage)
-        ⊎ ((result.status ≡ Status.Memory) ⊎ ((result.status ≡ Status.WriteFault) × Rose (K.faults sink.old) (K.faults sink.new))) }
-    ensures refused { result.status ≡ Status.SourceRefused → (o : Asked) × (options_of (map string_bytes words.now) ≡ Some o)
-        × IfSome (text_for o (S.told source.old)) (λ text. HasRefused o (K.told sink.old) (K.told sink.new) text) }
-    ensures read_fault { result.status ≡ Status.ReadFault → Rose (S.faults source.old) (S.faults source.new)
-        × Keeps (K.told sink.old) (K.told sink.new) }
-    ensures write_fault { result.status ≡ Status.WriteFault → Rose (K.faults sink.old) (K.faults sink.new)
-        × (options_of (map string_bytes words.now) ≡ None → TookFront (K.told sink.old) (K.told sink.new) usage_line)
-        × ((o : Asked) → options_of (map string_bytes words.now) ≡ Some o → IfSome (text_for o (S.told source.old)) (λ text.
-        HasFailed o (K.told sink.old) (K.told sink.new) text)) }
-    ensures memory { result.status ≡ Status.Memory → Keeps (K.told sink.old) (K.told sink.new) }
-    ensures unread { (o : Asked) → options_of (map string_bytes words.now) ≡ Some o → o.mode ≡ Works
-        → Keeps (S.told source.old) (S.told source.new) }
-    ensures complete { (o : Asked) → options_of (map string_bytes words.now) ≡ Some o
-        → (text : List ℕ) → text_for o (S.told source.old) ≡ Some text
-        → ¬ Rose (S.faults source.old) (S.faults source.new) → ¬ Rose (K.faults sink.old) (K.faults sink.new)
-        → ((out : Output) × IsAnswer o text out × (result.status ≡ out.status)) ⊎ (result.status ≡ Status.Memory) }
+    ensures serves { Serves (map string_bytes words.now)
+        (devices (S.told source.old) (S.faults source.old) (K.told sink.old) (K.faults sink.old))
+        (devices (S.told source.new) (S.faults source.new) (K.told sink.new) (K.faults sink.new)) result }
 {
     answer_words(alloc, words, source, sink)
 }

@@ -1,15 +1,20 @@
-ghost use Rattle.std.specs.Prelude.{◌≡◌, ◌≤◌, IfOk, IfErr};
-ghost use Rattle.dn_base.specs.Faults.{Rose};
-ghost use Rattle.dn_top.specs.Outside.{IsRead};
+ghost use Rattle.std.specs.Prelude.{◌≡◌, ◌≤◌, ◌+◌, IfOk, IfErr};
+ghost use Rattle.std.specs.Io.KnownBytes.{Keeps};
+ghost use Rattle.command_words.specs.Command.{IsWithinLimits};
+ghost use Rattle.dn_top.specs.Answers.{most_read};
+ghost use Rattle.dn_top.specs.Outside.{Failed as HasFailed, IsRead, IsUntouched, device};
+ghost use Rattle.dn_top.specs.Serving.{IsTaken};
 ghost use Rattle.dn_top.specs.declared.reading.ReadError.TheVariants.{NoMemory};
 
+use command_words::{Mode, Options};
 use dn_base::{Failed, Memory, Source};
 use std::alloc::{AllocError, Global};
+use work_gen::work;
 
 /// A text has at most this many bytes.
-pub(crate) const MOST_BYTES: usize = 1_048_576;
+const MOST_BYTES: usize = 1_048_576;
 
-/// Why a source wasn't read.
+/// Why there is no text.
 #[derive(Clone, Copy, Debug, PartialEq, Eq)]
 pub(crate) enum ReadError {
     /// The source failed.
@@ -26,16 +31,56 @@ impl From<AllocError> for ReadError {
     }
 }
 
-/// Reads the source to its end, or until one byte more than a text may have has come.
-pub(crate) fn read_text<S: Source>(alloc: Global, source: &mut S) -> Result<Vec<u8>, ReadError>
-    ensures text { IfOk result (λ text. IsRead (S.told source.old) (S.told source.new) 1048577 text.items) }
-    ensures counted { S.faults source.old ≤ S.faults source.new }
-    ensures failed { IfErr result (λ error. error ≡ ReadError.Failed → Rose (S.faults source.old) (S.faults source.new)) }
+impl From<Memory> for ReadError {
+    ghost from_gives = { λ _ error. error ≡ NoMemory };
+
+    fn from(_error: Memory) -> ReadError {
+        ReadError::NoMemory
+    }
+}
+
+/// How many bytes each mode reads at most, one more than its text may have; `None` where it generates its text.
+fn most_of(mode: Mode) -> Option<usize>
+    ensures { result ≡ most_read mode }
+{
+    match mode {
+        Mode::Run => Some(MOST_BYTES + 1),
+        Mode::Work => None,
+        Mode::Check => Some(MOST_BYTES + 1),
+        Mode::List => Some(MOST_BYTES + 1),
+        Mode::Flat => Some(MOST_BYTES + 1),
+    }
+}
+
+/// The text that options are about: the generated one, or what the source has.
+pub(crate) fn take_text<S: Source>(
+    alloc: Global,
+    options: &Options,
+    source: &mut S,
+) -> Result<Vec<u8>, ReadError>
+    requires { IsWithinLimits options.now }
+    ensures text { IfOk result (λ text. IsTaken options.now (device (S.told source.old) (S.faults source.old)) (device (S.told source.new) (S.faults source.new)) text.items) }
+    ensures failed { IfErr result (λ error. error ≡ ReadError.Failed
+        → HasFailed (device (S.told source.old) (S.faults source.old)) (device (S.told source.new) (S.faults source.new))) }
+    ensures unread { most_read options.now.mode ≡ None
+        → IsUntouched (device (S.told source.old) (S.faults source.old)) (device (S.told source.new) (S.faults source.new)) }
+{
+    match most_of(options.mode) {
+        Some(most) => read_text(alloc, most, source),
+        None => Ok(work(alloc, options.size)?),
+    }
+}
+
+/// Reads the source to its end, or until the most bytes have come.
+fn read_text<S: Source>(alloc: Global, most: usize, source: &mut S) -> Result<Vec<u8>, ReadError>
+    ensures text { IfOk result (λ text. IsRead (device (S.told source.old) (S.faults source.old)) (device (S.told source.new) (S.faults source.new)) most text.items) }
+    ensures failed { IfErr result (λ error. error ≡ ReadError.Failed
+        → HasFailed (device (S.told source.old) (S.faults source.old)) (device (S.told source.new) (S.faults source.new))) }
 {
     let mut text = Vec::new(alloc);
     let mut buf = [0; 4096];
-    while text.len() < MOST_BYTES + 1 {
-        let want = (MOST_BYTES + 1 - text.len()).min(4096);
+    while text.len() < most {
+        let want = (most - text.len()).min(4096);
         match source.read(&mut buf[..want]) {
             Ok(0) => return Ok(text),
             Ok(count) => text.extend_from_slice(&buf[..count])?,

@@ -1,58 +1,73 @@
-ghost use Rattle.std.specs.Prelude.{◌≡◌, ◌≤◌, ◌⊎◌, IfErr};
-ghost use Rattle.std.specs.Io.KnownBytes.{Keeps};
-ghost use Rattle.dn_base.specs.Faults.{Rose};
-ghost use Rattle.dn_top.specs.Serving.{IsFinished, IsReplied, IsServed, HasFailedToRead};
+ghost use Rattle.std.specs.Prelude.{◌≡◌, ◌≤◌};
+ghost use Rattle.command_words.specs.Command.{IsWithinLimits};
+ghost use Rattle.dn_top.specs.Answers.{most_read, usage_line};
+ghost use Rattle.dn_top.specs.Outside.{IsUntouched, device, devices};
+ghost use Rattle.dn_top.specs.Serving.{IsDoneBy, IsFinished, IsReplied};
 
-use crate::Answer;
 use crate::answers::output_of;
-use crate::reading::{ReadError, read_text};
+use crate::reading::{ReadError, take_text};
 use crate::writing::write_text;
 use command_words::Options;
 use dn_base::{Sink, Source, Status};
 use std::alloc::Global;
 
+/// What the program answers besides what it writes.
+#[derive(Clone, Copy, Debug, PartialEq, Eq)]
+pub struct Answer {
+    /// How it ended.
+    pub status: Status,
+}
+
 /// Writes the bytes and ends with this status, or with `WriteFault` where the sink failed.
-pub(crate) fn finish<K: Sink>(sink: &mut K, bytes: &[u8], status: Status) -> Answer
-    ensures counted { K.faults sink.old ≤ K.faults sink.new }
-    ensures finished { IsFinished (K.told sink.old) (K.told sink.new) (K.faults sink.old) (K.faults sink.new) bytes.now status result.status }
+fn finish<K: Sink>(sink: &mut K, bytes: &[u8], status: Status) -> Status
+    ensures { IsFinished (device (K.told sink.old) (K.faults sink.old)) (device (K.told sink.new) (K.faults sink.new)) bytes.now status result }
 {
     match write_text(sink, bytes) {
-        Ok(()) => Answer { status },
-        Err(_) => Answer {
-            status: Status::WriteFault,
-        },
+        Ok(()) => status,
+        Err(_) => Status::WriteFault,
+    }
+}
+
+/// Refuses the command words.
+#[tactic(auto, unfolding(run_report::specs::Refusal::refusal_of))]
+pub(crate) fn refuse_words<K: Sink>(sink: &mut K) -> Answer
+    ensures { IsFinished (device (K.told sink.old) (K.faults sink.old)) (device (K.told sink.new) (K.faults sink.new)) usage_line Status.Usage result.status }
+{
+    Answer {
+        status: finish(sink, b"refused usage\n", Status::Usage),
     }
 }
 
 /// Makes and writes the answer to a text.
-pub(crate) fn reply<K: Sink>(alloc: Global, options: &Options, text: &[u8], sink: &mut K) -> Answer
-    requires least { 1 ≤ options.now.fuel }
-    requires most { options.now.fuel ≤ 32768 }
-    ensures counted { K.faults sink.old ≤ K.faults sink.new }
-    ensures replied { IsReplied options.now (K.told sink.old) (K.told sink.new) (K.faults sink.old) (K.faults sink.new) text.now result.status }
+fn reply<K: Sink>(alloc: Global, options: &Options, text: &[u8], sink: &mut K) -> Answer
+    requires { IsWithinLimits options.now }
+    ensures { IsReplied options.now (device (K.told sink.old) (K.faults sink.old)) (device (K.told sink.new) (K.faults sink.new)) text.now result.status }
 {
     match output_of(alloc, options, text) {
-        Ok(output) => finish(sink, output.bytes.as_slice(), output.status),
+        Ok(output) => Answer {
+            status: finish(sink, output.bytes.as_slice(), output.status),
+        },
         Err(_) => Answer {
             status: Status::Memory,
         },
     }
 }
 
-/// Reads a text, and makes and writes the answer to it.
-pub(crate) fn serve<S: Source, K: Sink>(
+/// Does what options ask for.
+pub(crate) fn answer_options<S: Source, K: Sink>(
     alloc: Global,
     options: &Options,
     source: &mut S,
     sink: &mut K,
 ) -> Answer
-    requires least { 1 ≤ options.now.fuel }
-    requires most { options.now.fuel ≤ 32768 }
-    ensures counted { K.faults sink.old ≤ K.faults sink.new }
-    ensures served { IsServed options.now (S.told source.old) (S.told source.new) (K.told sink.old) (K.told sink.new) (K.faults sink.old) (K.faults sink.new) result.status
-        ⊎ HasFailedToRead (S.faults source.old) (S.faults source.new) (K.told sink.old) (K.told sink.new) result.status }
+    requires { IsWithinLimits options.now }
+    ensures served { IsDoneBy options.now
+        (devices (S.told source.old) (S.faults source.old) (K.told sink.old) (K.faults sink.old))
+        (devices (S.told source.new) (S.faults source.new) (K.told sink.new) (K.faults sink.new)) result.status }
+    ensures unread { most_read options.now.mode ≡ None
+        → IsUntouched (device (S.told source.old) (S.faults source.old)) (device (S.told source.new) (S.faults source.new)) }
 {
-    match read_text(alloc, source) {
+    match take_text(alloc, options, source) {
         Ok(text) => reply(alloc, options, text.as_slice(), sink),
         Err(ReadError::Failed) => Answer {
             status: Status::ReadFault,

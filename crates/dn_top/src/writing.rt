@@ -1,16 +1,14 @@
 ghost use Rattle.std.specs.Prelude.{◌≡◌, ◌≤◌, OnOk, OnErr};
-ghost use Rattle.std.specs.Io.KnownBytes.{Appends};
-ghost use Rattle.dn_base.specs.Faults.{Rose};
-ghost use Rattle.dn_top.specs.Outside.{TookFront};
+ghost use Rattle.dn_top.specs.Outside.{Failed as HasFailed, Took, TookFront, device};
 
 use dn_base::{Failed, Sink};
 
 /// Writes all of these bytes and flushes the sink.
 pub(crate) fn write_text<K: Sink>(sink: &mut K, bytes: &[u8]) -> Result<(), Failed>
-    ensures ok { OnOk result (Appends (K.told sink.old) (K.told sink.new) bytes.now) }
-    ensures front { TookFront (K.told sink.old) (K.told sink.new) bytes.now }
+    ensures ok { OnOk result (Took (device (K.told sink.old) (K.faults sink.old)) (device (K.told sink.new) (K.faults sink.new)) bytes.now) }
+    ensures front { TookFront (device (K.told sink.old) (K.faults sink.old)) (device (K.told sink.new) (K.faults sink.new)) bytes.now }
     ensures counted { K.faults sink.old ≤ K.faults sink.new }
-    ensures failed { OnErr result (Rose (K.faults sink.old) (K.faults sink.new)) }
+    ensures failed { OnErr result (HasFailed (device (K.told sink.old) (K.faults sink.old)) (device (K.told sink.new) (K.faults sink.new))) }
 {
     write_bytes(sink, bytes)?;
     sink.flush()
@@ -18,10 +16,10 @@ pub(crate) fn write_text<K: Sink>(sink: &mut K, bytes: &[u8]) -> Result<(), Fail
 
 /// Writes all of these bytes.
 fn write_bytes<K: Sink>(sink: &mut K, bytes: &[u8]) -> Result<(), Failed>
-    ensures ok { OnOk result (Appends (K.told sink.old) (K.told sink.new) bytes.now) }
-    ensures front { TookFront (K.told sink.old) (K.told sink.new) bytes.now }
+    ensures ok { OnOk result (Took (device (K.told sink.old) (K.faults sink.old)) (device (K.told sink.new) (K.faults sink.new)) bytes.now) }
+    ensures front { TookFront (device (K.told sink.old) (K.faults sink.old)) (device (K.told sink.new) (K.faults sink.new)) bytes.now }
     ensures counted { K.faults sink.old ≤ K.faults sink.new }
-    ensures failed { OnErr result (Rose (K.faults sink.old) (K.faults sink.new)) }
+    ensures failed { OnErr result (HasFailed (device (K.told sink.old) (K.faults sink.old)) (device (K.told sink.new) (K.faults sink.new))) }
 {
     let mut done = 0;
     while done < bytes.len() {

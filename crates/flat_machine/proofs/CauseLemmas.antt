@@ -31,7 +31,7 @@ use Rattle.flat_machine.specs.Step.{Started, At, fresh, wish, wish_unless, in_st
 use Rattle.flat_machine.specs.Phases.{Flat, run_all, begin, finished_by, has_finished, settle, settled, initial, opened}
 use Rattle.flat_machine.specs.Grants.{grant_by, grant_for, can_take, go_on, with_task, resumed, granted_at, granted, granted_if, grants_from, so_far, first_or, first_grant, next_grant, is_whole}
 use Rattle.flat_machine.specs.Ending.{shown_by, shown_of, task_end, is_waiting, is_trapped, is_spent, outcome_of, end_of, whole_only, flat_end}
-use Rattle.flat_machine.specs.Laws.{IsAtRest, HasUsedUp, IsOutOfFuel, IsHeldUp}
+use Rattle.flat_machine.specs.Laws.{IsAtRest, HasUsedUp, IsOutOfFuel, IsHeldUp, IsEnded}
 use Rattle.flat_machine.proofs.Rest.{IsLess, advanced-more, loaded-more, wish-open, step-less, rest-still, segment-rest}
 use Rattle.flat_machine.proofs.Rights.{wish-need, told}
 use Rattle.flat_machine.proofs.PhaseLemmas.{begin-past}
@@ -252,25 +252,26 @@ all-spent P fuel F h =
 
 -- ---- the ending of a run
 
--- the machine after the whole list, and how its tasks are shown
-record IsEnded (P : ProgramParts) (fuel : ℕ) (gs : List Grant) (e : FlatEnd) : Type 0 where
-  last : Flat
-  leads : so_far P fuel gs ≡ Some last
-  tasks : e.ending.tasks ≡ map (task_end P fuel) (last.past ++ last.tasks)
-  outcome' : e.ending.outcome ≡ outcome_of e.ending.tasks
-
-ended-by : (P : ProgramParts) (fuel : ℕ) (gs : List Grant) (F : Flat) → so_far P fuel gs ≡ Some F → IsEnded P fuel gs (end_of P fuel F)
+ended-by : (P : ProgramParts) (fuel : ℕ) (gs : List Grant) (F : Flat) → so_far P fuel gs ≡ Some F → is_whole P fuel F ≡ true → IsEnded P fuel gs (end_of P fuel F)
 unfolding end_of
-ended-by P fuel gs F e = record { last = F; leads = e; tasks = refl; outcome' = refl }
+ended-by P fuel gs F e whole = record { last = F; leads = e; whole = whole; tasks = refl; memory = refl; outcome = refl; loads = refl }
 
-run-ended : (P : ProgramParts) (fuel : ℕ) (gs : List Grant) (e : FlatEnd) → flat_end P fuel gs ≡ Some e → IsEnded P fuel gs e
+-- the end of a whole run is that of its last state
+pub run-ended : (P : ProgramParts) (fuel : ℕ) (gs : List Grant) (e : FlatEnd) → flat_end P fuel gs ≡ Some e → IsEnded P fuel gs e
 unfolding flat_end
 run-ended P fuel gs e ends = by_run (so_far P fuel gs) refl ends
   where
     by_run : (o : Option Flat) → so_far P fuel gs ≡ o → whole_only P fuel o ≡ Some e → IsEnded P fuel gs e
     by_run None is k = absurd (none-some e k)
     by_run (Some F) is k =
-        subst (IsEnded P fuel gs) (cond_some (is_whole P fuel F) (end_of P fuel F) e k).1 (ended-by P fuel gs F is)
+        let parts = cond_some (is_whole P fuel F) (end_of P fuel F) e k in
+        subst (IsEnded P fuel gs) parts.1 (ended-by P fuel gs F is parts.0)
+
+pub whole-ends : (P : ProgramParts) (fuel : ℕ) (gs : List Grant) (F : Flat) → so_far P fuel gs ≡ Some F → is_whole P fuel F ≡ true → flat_end P fuel gs ≡ Some (end_of P fuel F)
+unfolding flat_end
+whole-ends P fuel gs F is whole =
+    let choice : Bool → Option FlatEnd = λ b. if b then Some (end_of P fuel F) else None in
+    ap (whole_only P fuel) is ∙ ap choice whole
 
 pub run-spent : (P : ProgramParts) (fuel : ℕ) (gs : List Grant) (e : FlatEnd) → flat_end P fuel gs ≡ Some e → All (HasUsedUp fuel) e.ending.tasks
 run-spent P fuel gs e ends =
@@ -326,12 +327,12 @@ stuck-waits ends e =
 
 pub run-out_of_fuel : (P : ProgramParts) (fuel : ℕ) (gs : List Grant) (e : FlatEnd) → flat_end P fuel gs ≡ Some e → e.ending.outcome ≡ outcome.TheVariants.Fuel → IsOutOfFuel fuel e.ending.tasks
 run-out_of_fuel P fuel gs e ends is =
-    fuel-shown fuel e.ending.tasks (run-spent P fuel gs e ends) (sym (run-ended P fuel gs e ends).outcome' ∙ is)
+    fuel-shown fuel e.ending.tasks (run-spent P fuel gs e ends) (sym (run-ended P fuel gs e ends).outcome ∙ is)
 
 pub run-stuck : (P : ProgramParts) (fuel : ℕ) (gs : List Grant) (e : FlatEnd) → flat_end P fuel gs ≡ Some e → e.ending.outcome ≡ outcome.TheVariants.Stuck
     → Any (λ (t : TaskEnd). is_waiting t.end ≡ true) e.ending.tasks
 run-stuck P fuel gs e ends is =
-    Any-from_list_any (λ (t : TaskEnd). is_waiting t.end) e.ending.tasks (stuck-waits e.ending.tasks (sym (run-ended P fuel gs e ends).outcome' ∙ is))
+    Any-from_list_any (λ (t : TaskEnd). is_waiting t.end) e.ending.tasks (stuck-waits e.ending.tasks (sym (run-ended P fuel gs e ends).outcome ∙ is))
 
 -- a task that has ended isn't shown as waiting
 ended-shown : (P : ProgramParts) (fuel : ℕ) (r : Started) → is_none r.state.end ≡ false → is_waiting (task_end P fuel r).end ≡ false

@@ -1,7 +1,7 @@
 -- Induction over a run: what each beginning of a phase and each grant keeps holds of every state that a list of grants leads
 -- to; and what each step keeps holds of all its tasks.
-use Rattle.std.proofs.Common.{◌≡◌, ℕ, zero, suc, ◌+◌, ◌<◌, Bool, true, List, [], ◌∷◌, ◌++◌, length, get_or, position, slice_get, Option, Some, None, refl, sym, ap, subst, arith}
-use Rattle.std.specs.List.{All, IsAmong, list_all}
+use Rattle.std.proofs.Common.{◌≡◌, ℕ, zero, suc, true, List, [], ◌∷◌, get_or, position, slice_get, Option, Some, None, refl, subst, arith}
+use Rattle.std.specs.List.{All, IsAmong}
 use Rattle.std.proofs.lemmas.List.Elements.{All-nil, All-cons, All-append, All-set}
 use Rattle.std.proofs.lemmas.List.Quantifiers.{position-Some}
 use Rattle.std.proofs.lemmas.Option.{none-some, same_Some, slice_get_within, get_or_from_slice_get}
@@ -11,9 +11,8 @@ use Rattle.region_table.specs.declared.declared.TaskDecl.{TaskDecl}
 use Rattle.region_table.specs.declared.declared.Phase.{Phase}
 use Rattle.rv_core.specs.Step.{advanced}
 use Rattle.flat_machine.specs.Step.{Started, At, fresh, in_state, flat_step, flat_steps, segment, IsWaiting}
-use Rattle.flat_machine.specs.Phases.{Flat, Ran, run_all, begin, has_finished, settled, initial, opened}
+use Rattle.flat_machine.specs.Phases.{Flat, Ran, run_all, begin, settled, initial, opened}
 use Rattle.flat_machine.specs.Grants.{can_take, go_on, with_task, resumed, granted_at, granted, granted_if, grants_from, so_far}
-use Rattle.flat_machine.proofs.PhaseLemmas.{begin-past}
 use Rattle.flat_machine.proofs.GrantLemmas.{can_take-waits}
 use Rattle.flat_machine.proofs.SettleLaws.{BeginKeeps, settled-kept}
 

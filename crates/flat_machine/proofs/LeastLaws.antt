@@ -1,6 +1,5 @@
 -- The work that is left falls at each grant, so that each program has a least list.
 use Rattle.std.proofs.Common.{◌≡◌, ℕ, zero, suc, ◌+◌, ◌*◌, ◌<◌, ◌≤◌, Bool, true, List, [], ◌∷◌, length, drop, get_or, position, slice_get, sum_by, Option, Some, None, refl, sym, ap, ◌∙◌, subst, length-append, arith}
-use Rattle.std.specs.List.{All, list_all}
 use Rattle.std.proofs.lemmas.List.{drop_more}
 use Rattle.std.proofs.lemmas.List.Sums.{sum_by-cons, sum_by-set}
 use Rattle.std.proofs.lemmas.List.Quantifiers.{position-Some}
@@ -13,10 +12,9 @@ use Rattle.rv_core.specs.declared.need.Need.{Need}
 use Rattle.rv_core.specs.Need.{need_of}
 use Rattle.rv_core.specs.Step.{advanced}
 use Rattle.flat_machine.specs.Step.{Started, At, fresh, wish, wish_unless, in_state, segment, room, IsWithin, IsWaiting}
-use Rattle.flat_machine.specs.Phases.{Flat, run_all, begin, has_finished, settled, opened, work}
+use Rattle.flat_machine.specs.Phases.{Flat, run_all, begin, settled, opened, work}
 use Rattle.flat_machine.specs.Grants.{can_take, go_on, with_task, resumed, granted_at, granted, next_grant, IsLeastFrom, IsLeast}
 use Rattle.flat_machine.proofs.Rest.{more-less, advanced-more}
-use Rattle.flat_machine.proofs.PhaseLemmas.{begin-begun}
 use Rattle.flat_machine.proofs.GrantLemmas.{can_take-waits, next-legal}
 use Rattle.flat_machine.proofs.CauseLemmas.{IsResting, HasSettled, acquire-advances, granted-resting, opened-resting}
 use Rattle.flat_machine.proofs.SegmentLaws.{segment-room}

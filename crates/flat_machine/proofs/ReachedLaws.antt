@@ -1,11 +1,9 @@
 -- The tasks of the states that lists of grants lead to: which they are, and that they stand at their places later.
-use Rattle.std.proofs.Common.{◌≡◌, ◌≢◌, ℕ, zero, suc, ◌+◌, ◌-◌, ◌<◌, ◌≤◌, ◌==◌, Bool, true, false, ◌&&◌, if◌then◌else◌, List, [], ◌∷◌, ◌++◌, length, map, take, drop, get_or, set, position, slice_get, slice_set, Option, Some, None, refl, sym, ap, ◌∙◌, subst, ⊎_elim, length-append, arith}
-use Rattle.std.specs.List.{All, AllPairs, flat_map, list_all, position_or_len}
-use Rattle.std.proofs.lemmas.Bool.{cases_eq}
+use Rattle.std.proofs.Common.{◌≡◌, ◌≢◌, ℕ, zero, suc, ◌+◌, ◌<◌, Bool, true, false, if◌then◌else◌, List, [], ◌∷◌, ◌++◌, length, map, take, get_or, position, slice_get, slice_set, Option, Some, None, refl, sym, ap, ◌∙◌, subst, arith}
+use Rattle.std.specs.List.{All, AllPairs, flat_map, position_or_len}
 use Rattle.std.proofs.lemmas.Bool.Decides.{nat_tests}
 use Rattle.std.proofs.lemmas.Grind.{flat_map-append}
-use Rattle.std.proofs.lemmas.List.{append-nil, map-append, take_more, get_or-map, get_or_append_left, get_or-set_same, get_or-set_other, length-set, length-map}
-use Rattle.std.proofs.lemmas.List.Concat.{flat_map-cons}
+use Rattle.std.proofs.lemmas.List.{append-nil, map-append, take_more, get_or-map, length-map}
 use Rattle.std.proofs.lemmas.List.Elements.{All-nil, All-cons, All-append, All-set, All-weaker}
 use Rattle.std.proofs.lemmas.List.Sums.{position_or_len_is}
 use Rattle.std.proofs.lemmas.Option.{none-some, same_Some, slice_get_within, slice_get-get_or, get_or_from_slice_get}
@@ -19,14 +17,13 @@ use Rattle.rv_core.specs.declared.need.Need.{Need}
 use Rattle.rv_core.specs.declared.need.Need as need
 use Rattle.rv_core.specs.Step.{advanced}
 use Rattle.flat_machine.specs.Step.{Started, At, fresh, wish, in_state, segment}
-use Rattle.flat_machine.specs.Phases.{Flat, all_tasks, run_all, begin, has_finished, settled, initial, opened}
-use Rattle.flat_machine.specs.Grants.{is_free, grant_of, grant_by, grant_for, is_grant, can_take, go_on, with_task, resumed, granted_at, granted, granted_if, grants_from, so_far}
+use Rattle.flat_machine.specs.Phases.{Flat, all_tasks, run_all, begin, settled, opened}
+use Rattle.flat_machine.specs.Grants.{is_free, grant_of, grant_by, is_grant, can_take, go_on, with_task, resumed, granted_at, granted, granted_if, grants_from, so_far}
 use Rattle.flat_machine.specs.Laws.{IsLater, StandsLater, AreLater, HasTasks, HasFront}
-use Rattle.flat_machine.proofs.PhaseLemmas.{begin-begun, begin-past}
 use Rattle.flat_machine.proofs.GrantLemmas.{same-grant, grants-none}
 use Rattle.flat_machine.proofs.SegmentLaws.{same-later, later-itself, later-more, segment-later}
-use Rattle.flat_machine.proofs.SettleLaws.{BeginKeeps, IsFront, settled-front}
-use Rattle.flat_machine.proofs.KeptLaws.{RunKeeps, so_far-kept}
+use Rattle.flat_machine.proofs.SettleLaws.{IsFront, settled-front}
+use Rattle.flat_machine.proofs.KeptLaws.{so_far-kept}
 
 -- ---- which tasks have started
 

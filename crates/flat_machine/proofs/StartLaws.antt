@@ -1,19 +1,18 @@
 -- The first segments of a phase of a checked program: each starts from the phase's first memory, as far as its task can tell.
-use Rattle.std.proofs.Common.{◌≡◌, ◌≢◌, ℕ, zero, suc, ◌+◌, ◌<◌, Bool, true, false, List, [], ◌∷◌, length, map, get_or, slice_get, slice_index, Option, Some, None, refl, sym, ap, ◌∙◌, subst, bit_and, arith}
+use Rattle.std.proofs.Common.{◌≡◌, ℕ, zero, suc, ◌<◌, true, false, List, [], ◌∷◌, length, map, get_or, slice_index, refl, sym, ap, ◌∙◌, subst, arith}
 use Rattle.std.specs.List.{All, AllPairs, IsAmong}
 use Rattle.std.proofs.lemmas.Bool.{false≢true}
-use Rattle.std.proofs.lemmas.List.Elements.{All-cons}
 use Rattle.region_table.specs.Program.{ProgramParts, IsPhase, IsProgram}
 use Rattle.region_table.specs.declared.declared.TaskDecl.{TaskDecl}
 use Rattle.region_table.specs.declared.declared.Phase.{Phase}
-use Rattle.rv_core.specs.Access.{holds, may_load, may_store}
+use Rattle.rv_core.specs.Access.{holds, may_store}
 use Rattle.effect_checker.specs.Checked.{IsChecked}
-use Rattle.flat_machine.specs.Step.{Started, At, fresh, segment}
-use Rattle.flat_machine.specs.Phases.{Ran, run_all}
-use Rattle.flat_machine.specs.Laws.{at_memory, IsAlike, HoldApart, first_segment, StartAlone}
+use Rattle.flat_machine.specs.Step.{Started, At, fresh}
+use Rattle.flat_machine.specs.Phases.{run_all}
+use Rattle.flat_machine.specs.Laws.{at_memory, first_segment, StartAlone}
 use Rattle.flat_machine.proofs.Rights.{store-loads}
 use Rattle.flat_machine.proofs.Frames.{Agree, KeepsOut, segment-frame, segment-alike, segment-size, agree-after, no-store}
-use Rattle.flat_machine.proofs.Separation.{AreApart, keeps-out}
+use Rattle.flat_machine.proofs.Separation.{keeps-out}
 
 -- each of two tasks keeps out of what the other may load
 record BothKeepOut (phase : ℕ) (a b : TaskDecl) : Type 0 where

@@ -13,10 +13,11 @@ use Rattle.rv_core.specs.declared.ending.EndShown as shown
 use Rattle.rv_core.specs.declared.ending.TaskEnd.{TaskEnd}
 use Rattle.rv_core.specs.declared.need.Need.{Need}
 use Rattle.rv_core.specs.declared.need.Need.TheVariants.{Acquire}
+use Rattle.flat_machine.specs.declared.ending.FlatEnd.{FlatEnd}
 use Rattle.flat_machine.specs.Step.{Started, At, fresh, segment}
 use Rattle.flat_machine.specs.Phases.{Flat, all_tasks, run_all}
-use Rattle.flat_machine.specs.Grants.{grants_from, so_far}
-use Rattle.flat_machine.specs.Ending.{shown_of, is_waiting, is_trapped}
+use Rattle.flat_machine.specs.Grants.{grants_from, so_far, is_whole}
+use Rattle.flat_machine.specs.Ending.{shown_of, ends_of, loads_of, is_waiting, is_trapped, outcome_of}
 
 abbrev pub at_memory : Started → List ℕ → At
 at_memory r m = record { task = r; memory = m }
@@ -122,3 +123,13 @@ pub record StartAlone (P : ProgramParts) (fuel phase : ℕ) (tasks : List TaskDe
   pub stored : (d : TaskDecl) (w : ℕ) → IsAmong tasks d → may_store d 0 w ≡ true
       → slice_index (run_all P fuel phase tasks m).memory w ≡ slice_index (first_segment P fuel phase m d).memory w
   pub kept : (w : ℕ) → All (λ (d : TaskDecl). may_store d 0 w ≡ false) tasks → slice_index (run_all P fuel phase tasks m).memory w ≡ slice_index m w
+
+-- the end of a whole run shows the state to which its grants lead
+pub record IsEnded (P : ProgramParts) (fuel : ℕ) (gs : List Grant) (e : FlatEnd) : Type 0 where
+  pub last : Flat
+  pub leads : so_far P fuel gs ≡ Some last
+  pub whole : is_whole P fuel last ≡ true
+  pub tasks : e.ending.tasks ≡ ends_of P fuel last
+  pub memory : e.ending.memory ≡ last.memory
+  pub outcome : e.ending.outcome ≡ outcome_of e.ending.tasks
+  pub loads : e.loads ≡ loads_of last

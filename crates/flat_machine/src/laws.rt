@@ -15,7 +15,7 @@ ghost use Rattle.flat_machine.specs.Step.{Started, At, wish, flat_step, segment,
 ghost use Rattle.flat_machine.specs.Phases.{Flat, has_finished, settled, opened};
 ghost use Rattle.flat_machine.specs.Grants.{is_free, grant_of, go_on, with_task, so_far, is_whole, granted, granted_if, IsLeast};
 ghost use Rattle.flat_machine.specs.Ending.{is_waiting, end_of, flat_end};
-ghost use Rattle.flat_machine.specs.Laws.{at_memory, IsAtRest, AgreeOn, IsAlike, HoldsLess, IsLater, HoldApart, SameInEitherOrder, HasUsedUp, IsOutOfFuel, IsHeldUp, HasTasks, HasFront, StartAlone};
+ghost use Rattle.flat_machine.specs.Laws.{at_memory, IsAtRest, AgreeOn, IsAlike, HoldsLess, IsLater, HoldApart, SameInEitherOrder, HasUsedUp, IsOutOfFuel, IsHeldUp, HasTasks, HasFront, StartAlone, IsEnded};
 
 /// A segment changes no word but those that its task may store with the locks that it holds at the start. It only gives
 /// locks up.
@@ -107,6 +107,13 @@ pub fn the_least_list_has_a_run()
 pub fn without_locks_there_is_one_run()
     ensures run { (P : ProgramParts) (fuel : ℕ) → length P.locks ≡ 0 → flat_end P fuel [] ≡ Some (end_of P fuel (opened P fuel)) }
     ensures only { (P : ProgramParts) (fuel : ℕ) (g : Grant) (gs : List Grant) → length P.locks ≡ 0 → flat_end P fuel (g ∷ gs) ≡ None }
+{}
+
+/// The end of a run shows the state to which its grants lead: how its tasks stand, what they have loaded, and its memory; and
+/// a list that leads to a state in which no task can take a grant has that end.
+pub fn the_end_of_a_run_shows_its_last_state()
+    ensures shows { (P : ProgramParts) (fuel : ℕ) (gs : List Grant) (e : FlatEnd) → flat_end P fuel gs ≡ Some e → IsEnded P fuel gs e }
+    ensures whole { (P : ProgramParts) (fuel : ℕ) (gs : List Grant) (F : Flat) → so_far P fuel gs ≡ Some F → is_whole P fuel F ≡ true → flat_end P fuel gs ≡ Some (end_of P fuel F) }
 {}
 
 /// In the ending of a run each task that is shown as out of fuel has retired just as many instructions as it may. A run whose

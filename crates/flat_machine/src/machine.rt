@@ -1,6 +1,7 @@
 ghost use Rattle.std.specs.Prelude.{◌≡◌, ◌≤◌, ◌<◌, ℕ, ◌+◌, ◌*◌, ◌++◌, ◌&&◌, true, false, None, Some, length, drop, map, sum_by, slice_get, option_copied, IfOk, IfSome, IfNone, position};
 ghost use Rattle.std.specs.List.{All, HoldsAt, list_any, list_all};
 ghost use Rattle.rv_core.specs.Access.{holds};
+ghost use Rattle.rv_core.specs.Decoded.{IsDecoded};
 ghost use Rattle.flat_machine.specs.Step.{At, Started, segment, in_state, room, IsWithin, IsWaiting};
 ghost use Rattle.flat_machine.specs.Phases.{Flat, Ran, run_all, begin, has_finished, next_phase, settled, opened, initial, work, IsSound};
 ghost use Rattle.flat_machine.specs.Grants.{is_free, grant_by, grant_for, is_grant, can_take, first_grant, next_grant, resumed, granted, grants_from, IsStoppedAt, IsLeastFrom};
@@ -10,7 +11,7 @@ use crate::ending::{FlatEnd, outcome, push_ends, push_loads};
 use crate::running::{Running, start};
 use dn_base::{Grant, LockId, Memory, PhaseId, Sequence};
 use region_table::{Phase, Program, TaskDecl};
-use rv_core::{Ending, Need};
+use rv_core::{DecodedCode, Ending, Need};
 use std::alloc::Global;
 use std::marker::Model;
 
@@ -39,11 +40,13 @@ impl<'a> Model for Machine<'a> {
 fn run_all<'a>(
     alloc: Global,
     program: &Program,
+    code: &DecodedCode,
     fuel: u32,
     phase: PhaseId,
     tasks: &'a [TaskDecl],
     memory: &mut Vec<u32>,
 ) -> Result<Vec<Running<'a>>, Memory>
+    requires code { IsDecoded program.now code.now }
     requires fuel { fuel ≤ 32768 }
     requires words { length memory.old.items ≡ length program.now.memory }
     ensures value { IfOk result (λ ran. let all : Ran = record { tasks = ran.items; memory = memory.new.items } in
@@ -56,7 +59,7 @@ fn run_all<'a>(
     let mut ran = Vec::new(alloc);
     for task in tasks {
         let mut running = start(alloc, phase, task);
-        running.segment(program, fuel, memory)?;
+        running.segment(program, code, fuel, memory)?;
         ran.push(running)?;
     }
     Ok(ran)
@@ -182,9 +185,11 @@ impl<'a> Machine<'a> {
         &mut self,
         alloc: Global,
         program: &Program,
+        code: &DecodedCode,
         fuel: u32,
         phase: &'a Phase,
     ) -> Result<(), Memory>
+        requires code { IsDecoded program.now code.now }
         requires fuel { fuel ≤ 32768 }
         requires words { length self.old.memory ≡ length program.now.memory }
         requires begun { self.old.begun < 64 }
@@ -198,6 +203,7 @@ impl<'a> Machine<'a> {
         self.tasks = run_all(
             alloc,
             program,
+            code,
             fuel,
             PhaseId(self.begun),
             phase.tasks.as_slice(),
@@ -210,7 +216,14 @@ impl<'a> Machine<'a> {
 
 impl<'a> Machine<'a> {
     /// As long as all tasks have finished, the next phase begins.
-    fn settle(&mut self, alloc: Global, program: &'a Program, fuel: u32) -> Result<(), Memory>
+    fn settle(
+        &mut self,
+        alloc: Global,
+        program: &'a Program,
+        code: &DecodedCode,
+        fuel: u32,
+    ) -> Result<(), Memory>
+        requires code { IsDecoded program.now code.now }
         requires fuel { fuel ≤ 32768 }
         requires sound { IsSound program.now fuel self.old }
         ensures value { IfOk result (λ done. self.new ≡ settled program.now fuel self.old) }
@@ -218,7 +231,7 @@ impl<'a> Machine<'a> {
         ensures work { IfOk result (λ done. work program.now fuel self.new ≤ work program.now fuel self.old) }
     {
         'phases: while let Some(phase) = self.next_phase(program) {
-            self.begin(alloc, program, fuel, phase)?;
+            self.begin(alloc, program, code, fuel, phase)?;
         }
         Ok(())
     }
@@ -228,8 +241,10 @@ impl<'a> Machine<'a> {
     pub(crate) fn open(
         alloc: Global,
         program: &'a Program,
+        code: &DecodedCode,
         fuel: u32,
     ) -> Result<Machine<'a>, Memory>
+        requires code { IsDecoded program.now code.now }
         requires fuel { fuel ≤ 32768 }
         ensures value { IfOk result (λ machine. machine ≡ opened program.now fuel) }
         ensures sound { IfOk result (IsSound program.now fuel) }
@@ -237,12 +252,19 @@ impl<'a> Machine<'a> {
         ensures words { length program.now.memory ≤ 65536 }
     {
         let mut machine = Machine::initial(alloc, program)?;
-        machine.settle(alloc, program, fuel)?;
+        machine.settle(alloc, program, code, fuel)?;
         Ok(machine)
     }
 
     /// The task at this place, which wants a lock, acquires it and goes on.
-    fn resume(&mut self, program: &Program, fuel: u32, place: usize) -> Result<(), Memory>
+    fn resume(
+        &mut self,
+        program: &Program,
+        code: &DecodedCode,
+        fuel: u32,
+        place: usize,
+    ) -> Result<(), Memory>
+        requires code { IsDecoded program.now code.now }
         requires fuel { fuel ≤ 32768 }
         requires sound { IsSound program.now fuel self.old }
         requires place { place < length self.old.tasks }
@@ -253,7 +275,7 @@ impl<'a> Machine<'a> {
     {
         let running = &mut self.tasks[place];
         running.acquire(program, fuel);
-        running.segment(program, fuel, &mut self.memory)?;
+        running.segment(program, code, fuel, &mut self.memory)?;
         Ok(())
     }
 
@@ -264,9 +286,11 @@ impl<'a> Machine<'a> {
         &mut self,
         alloc: Global,
         program: &'a Program,
+        code: &DecodedCode,
         fuel: u32,
         given: Grant,
     ) -> Result<bool, Memory>
+        requires code { IsDecoded program.now code.now }
         requires fuel { fuel ≤ 32768 }
         requires locks { length program.now.locks ≤ 32 }
         requires sound { IsSound program.now fuel self.old }
@@ -279,8 +303,8 @@ impl<'a> Machine<'a> {
         let Some(place) = place_of(program, fuel, self.tasks.as_slice(), given) else {
             return Ok(false);
         };
-        self.resume(program, fuel, place)?;
-        self.settle(alloc, program, fuel)?;
+        self.resume(program, code, fuel, place)?;
+        self.settle(alloc, program, code, fuel)?;
         Ok(true)
     }
 
@@ -289,9 +313,11 @@ impl<'a> Machine<'a> {
         &mut self,
         alloc: Global,
         program: &'a Program,
+        code: &DecodedCode,
         fuel: u32,
         grants: &[Grant],
     ) -> Result<bool, Memory>
+        requires code { IsDecoded program.now code.now }
         requires fuel { fuel ≤ 32768 }
         requires locks { length program.now.locks ≤ 32 }
         requires sound { IsSound program.now fuel self.old }
@@ -301,7 +327,7 @@ impl<'a> Machine<'a> {
         ensures sound { IfOk result (λ legal. IsSound program.now fuel self.new) }
     {
         for given in grants {
-            if !self.grant(alloc, program, fuel, *given)? {
+            if !self.grant(alloc, program, code, fuel, *given)? {
                 return Ok(false);
             }
         }
@@ -313,9 +339,11 @@ impl<'a> Machine<'a> {
         &mut self,
         alloc: Global,
         program: &'a Program,
+        code: &DecodedCode,
         fuel: u32,
         next: Grant,
     ) -> Result<(), Memory>
+        requires code { IsDecoded program.now code.now }
         requires fuel { fuel ≤ 32768 }
         requires locks { length program.now.locks ≤ 32 }
         requires sound { IsSound program.now fuel self.old }
@@ -324,7 +352,7 @@ impl<'a> Machine<'a> {
         ensures sound { IfOk result (λ done. IsSound program.now fuel self.new) }
         ensures work { IfOk result (λ done. work program.now fuel self.new < work program.now fuel self.old) }
     {
-        let _legal = self.grant(alloc, program, fuel, next)?;
+        let _legal = self.grant(alloc, program, code, fuel, next)?;
         Ok(())
     }
 
@@ -333,8 +361,10 @@ impl<'a> Machine<'a> {
         &mut self,
         alloc: Global,
         program: &'a Program,
+        code: &DecodedCode,
         fuel: u32,
     ) -> Result<Vec<Grant>, Memory>
+        requires code { IsDecoded program.now code.now }
         requires fuel { fuel ≤ 32768 }
         requires locks { length program.now.locks ≤ 32 }
         requires sound { IsSound program.now fuel self.old }
@@ -345,7 +375,7 @@ impl<'a> Machine<'a> {
     {
         let mut grants = Vec::new(alloc);
         'grants: while let Some(next) = self.next_grant(program, fuel) {
-            self.grant_next(alloc, program, fuel, next)?;
+            self.grant_next(alloc, program, code, fuel, next)?;
             grants.push(next)?;
         }
         Ok(grants)

@@ -1,5 +1,6 @@
 ghost use Rattle.std.specs.Prelude.{◌≡◌, ◌≤◌, ◌<◌, Some, length, IfOk, IfSome, true, false};
 ghost use Rattle.rv_core.specs.Access.{holds};
+ghost use Rattle.rv_core.specs.Decoded.{IsDecoded};
 ghost use Rattle.rv_core.specs.Kinds.{Allowed};
 ghost use Rattle.rv_core.specs.Step.{advanced};
 ghost use Rattle.flat_machine.specs.Step.{At, fresh, wish, in_state, flat_step, segment, room, IsWithin, HasLock, IsWaiting, IsStill};
@@ -7,7 +8,7 @@ ghost use Rattle.flat_machine.specs.Phases.{has_finished};
 
 use dn_base::{LoadSeen, Memory, PhaseId, Sequence, WordId};
 use region_table::{Program, TaskDecl};
-use rv_core::{End, Need, TaskState};
+use rv_core::{DecodedCode, End, Need, TaskState};
 use std::alloc::Global;
 use std::marker::Model;
 
@@ -65,9 +66,11 @@ impl Running<'_> {
     pub(crate) fn step(
         &mut self,
         program: &Program,
+        code: &DecodedCode,
         fuel: u32,
         memory: &mut Vec<u32>,
     ) -> Result<bool, Memory>
+        requires code { IsDecoded program.now code.now }
         requires fuel { fuel ≤ 32768 }
         requires words { length memory.old.items ≡ length program.now.memory }
         requires within { IsWithin fuel self.old }
@@ -83,7 +86,7 @@ impl Running<'_> {
         if self.state.end.is_some() {
             return Ok(false);
         }
-        let next = self.state.next(program, self.decl, fuel);
+        let next = self.state.next_in(program, self.decl, fuel, code);
         match next.need {
             Need::Local | Need::Release { .. } => {
                 self.state.complete(program, self.decl, fuel, &next);
@@ -123,9 +126,11 @@ impl Running<'_> {
     pub(crate) fn segment(
         &mut self,
         program: &Program,
+        code: &DecodedCode,
         fuel: u32,
         memory: &mut Vec<u32>,
     ) -> Result<(), Memory>
+        requires code { IsDecoded program.now code.now }
         requires fuel { fuel ≤ 32768 }
         requires words { length memory.old.items ≡ length program.now.memory }
         requires within { IsWithin fuel self.old }
@@ -136,7 +141,7 @@ impl Running<'_> {
         ensures room { room fuel self.new ≤ room fuel self.old }
     {
         for _done in 0..fuel + 1 {
-            if !self.step(program, fuel, memory)? {
+            if !self.step(program, code, fuel, memory)? {
                 return Ok(());
             }
         }

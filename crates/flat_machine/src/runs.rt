@@ -6,6 +6,7 @@ use crate::ending::FlatEnd;
 use crate::machine::Machine;
 use dn_base::{Grant, Memory};
 use effect_checker::Checked;
+use rv_core::DecodedCode;
 use std::alloc::Global;
 
 /// Runs a checked program on one memory, by a list of grants, and gives its end.
@@ -18,11 +19,11 @@ use std::alloc::Global;
 /// one, a core whose task doesn't wait for its lock, or a lock that a task holds, or comes when the run is over; or the list
 /// ends while the lock that some task waits for is free.
 ///
-/// The time is in step with the instructions that retire and with the number of grants, and the memory with the data words
-/// and the loads.
+/// The time is in step with the code words, the instructions that retire and the number of grants, and the memory with the code
+/// words, the data words and the loads.
 ///
 /// # Errors
-/// `Memory` where there is no room for the memory, the tasks, their loads or the end.
+/// `Memory` where there is no room for the code, the memory, the tasks, their loads or the end.
 #[tactic(auto, unfolding(crate::specs::Ending::flat_end))]
 pub fn flat(
     alloc: Global,
@@ -36,8 +37,9 @@ pub fn flat(
     ensures within { IfOk result (λ end. IfSome end (λ e. (length e.ending.memory ≤ 65536) × (length e.ending.tasks ≤ 64))) }
 {
     let program = checked.program();
-    let mut machine = Machine::open(alloc, program, fuel)?;
-    if !machine.grant_all(alloc, program, fuel, grants)? {
+    let code = DecodedCode::new(alloc, program)?;
+    let mut machine = Machine::open(alloc, program, &code, fuel)?;
+    if !machine.grant_all(alloc, program, &code, fuel, grants)? {
         return Ok(None);
     }
     if machine.next_grant(program, fuel).is_some() {
@@ -52,15 +54,16 @@ pub fn flat(
 /// Each task may retire `fuel` instructions, from 1 to 32,768.
 ///
 /// # Errors
-/// `Memory` where there is no room for the memory, the tasks, their loads or the list.
+/// `Memory` where there is no room for the code, the memory, the tasks, their loads or the list.
 pub fn least_grants(alloc: Global, checked: &Checked, fuel: u32) -> Result<Vec<Grant>, Memory>
     requires some { 1 ≤ fuel }
     requires most { fuel ≤ 32768 }
     ensures { IfOk result (λ grants. IsLeast checked.now fuel grants.items) }
 {
     let program = checked.program();
-    let mut machine = Machine::open(alloc, program, fuel)?;
-    machine.grant_least(alloc, program, fuel)
+    let code = DecodedCode::new(alloc, program)?;
+    let mut machine = Machine::open(alloc, program, &code, fuel)?;
+    machine.grant_least(alloc, program, &code, fuel)
 }
 
 /// A run by the least list: the list, and the end.
@@ -75,7 +78,7 @@ pub struct LeastRun {
 /// Each task may retire `fuel` instructions, from 1 to 32,768.
 ///
 /// # Errors
-/// `Memory` where there is no room for the memory, the tasks, their loads, the list or the end.
+/// `Memory` where there is no room for the code, the memory, the tasks, their loads, the list or the end.
 #[tactic(auto, unfolding(crate::specs::Ending::flat_end))]
 pub fn least_run(alloc: Global, checked: &Checked, fuel: u32) -> Result<LeastRun, Memory>
     requires some { 1 ≤ fuel }
@@ -85,8 +88,9 @@ pub fn least_run(alloc: Global, checked: &Checked, fuel: u32) -> Result<LeastRun
     ensures within { IfOk result (λ run. (length run.end.ending.memory ≤ 65536) × (length run.end.ending.tasks ≤ 64)) }
 {
     let program = checked.program();
-    let mut machine = Machine::open(alloc, program, fuel)?;
-    let grants = machine.grant_least(alloc, program, fuel)?;
+    let code = DecodedCode::new(alloc, program)?;
+    let mut machine = Machine::open(alloc, program, &code, fuel)?;
+    let grants = machine.grant_least(alloc, program, &code, fuel)?;
     let end = machine.finish(alloc, program, fuel)?;
     Ok(LeastRun { grants, end })
 }

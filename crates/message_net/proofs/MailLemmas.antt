@@ -1,5 +1,5 @@
 -- Places of actors, and what messages add to the mails in flight.
-use Rattle.std.proofs.Common.{◌≡◌, ℕ, ◌+◌, ◌<◌, true, cond, nat_lt, nat_le, ◌&&◌, List, [], ◌∷◌, ◌++◌, length, Option, Some, None, refl, ◌∙◌, ap, arith, append_assoc, length-append}
+use Rattle.std.proofs.Common.{◌≡◌, ℕ, ◌+◌, ◌<◌, ◌≤◌, Bool, true, false, cond, nat_lt, nat_le, ◌&&◌, List, [], ◌∷◌, ◌++◌, length, Option, Some, None, refl, ◌∙◌, ap, subst, arith, append_assoc, length-append}
 use Rattle.std.specs.Prelude.{sum_by}
 use Rattle.std.proofs.lemmas.List.Sums.{sum_by_push, sum_by-cons, sum_by-append}
 use Rattle.std.proofs.lemmas.Bool.Decides.{nat_tests}
@@ -9,8 +9,9 @@ use Rattle.message_net.specs.declared.actor.MailId.{MailId}
 use Rattle.message_net.specs.declared.message.Message.{Message}
 use Rattle.message_net.specs.declared.message.Mail.{Mail}
 use Rattle.message_net.specs.declared.message.Outgoing.{Outgoing}
-use Rattle.message_net.specs.Id.{same_actor}
-use Rattle.message_net.specs.Pool.{of_id, count_of, posted}
+use Rattle.message_net.specs.Id.{same_actor, same_id}
+use Rattle.message_net.specs.Pool.{of_id, count_of, AreDistinct, posted}
+use Rattle.message_net.proofs.PoolLemmas.{same_actor-true, AreDistinct-posted}
 use Rattle.message_net.specs.Mail.{has_actor, place_of, mail_of, mails_with, mails_of, all_mails}
 
 -- each actor of a machine has a place of its own
@@ -77,3 +78,36 @@ pub count_of-mails_of : (id : MailId) (from : Actor) (number : ℕ) (outs : List
 count_of-mails_of id from number [] = grind (arith, nat_tests)
 count_of-mails_of id from number (out ∷ outs) =
     grind (arith, nat_tests, sum_by-cons (λ (m : Mail). cond (of_id id m) 1 0) (mail_of from number out) (mails_of from (number + 1) outs), count_of-mails_of id from (number + 1) outs)
+
+-- what passes a test weighs 1
+abbrev bit : Bool → ℕ
+bit b = cond b 1 0
+
+-- a message that is sent is counted under its own id at most
+pub count_of-mails_with : (id : MailId) (from : Actor) (number : ℕ) (sent : Option Outgoing) (mails : List Mail) → count_of id (mails_with from number sent mails) ≤ count_of id mails + bit (same_id (record { sender = from; number = number }) id)
+count_of-mails_with id from number None mails = omega arith
+count_of-mails_with id from number (Some out) mails =
+    omega (arith, sum_by_push (λ (m : Mail). cond (of_id id m) 1 0) mails (mail_of from number out))
+
+-- ids stay distinct, where none of the sender's next numbers is in flight
+pub AreDistinct-mails_with : (from : Actor) (number : ℕ) (sent : Option Outgoing) (mails : List Mail) → AreDistinct mails → count_of (record { sender = from; number = number }) mails ≡ 0 → AreDistinct (mails_with from number sent mails)
+AreDistinct-mails_with from number None mails distinct new = distinct
+AreDistinct-mails_with from number (Some out) mails distinct new =
+    AreDistinct-posted mails (mail_of from number out) distinct new
+
+pub AreDistinct-all_mails : (from : Actor) (number : ℕ) (outs : List Outgoing) (mails : List Mail) → AreDistinct mails → ((i : ℕ) → number ≤ i → i < number + length outs → count_of (record { sender = from; number = i }) mails ≡ 0) → AreDistinct (all_mails from number outs mails)
+AreDistinct-all_mails from number outs mails distinct new id =
+    by_test (same_actor from id.sender && (nat_le number id.number && nat_lt id.number (number + length outs))) refl where
+      sum : count_of id (all_mails from number outs mails) ≡ count_of id mails + count_of id (mails_of from number outs)
+      sum = sum_by-all_mails (λ (m : Mail). cond (of_id id m) 1 0) from number outs mails
+
+      by_test : (t : Bool) → (same_actor from id.sender && (nat_le number id.number && nat_lt id.number (number + length outs))) ≡ t → count_of id (all_mails from number outs mails) ≤ 1
+      by_test true e =
+          let sender : from ≡ id.sender = same_actor-true from id.sender (grind (arith, nat_tests)) in
+          let none : count_of (record { sender = from; number = id.number }) mails ≡ 0 = new id.number (grind (arith, nat_tests)) (grind (arith, nat_tests)) in
+          let here : count_of id mails ≡ 0 = subst (λ (a : Actor). count_of (record { sender = a; number = id.number }) mails ≡ 0) sender none in
+          let one : count_of id (mails_of from number outs) ≡ 1 = count_of-mails_of id from number outs ∙ rw e refl in
+          omega (arith, sum, here, one)
+      by_test false e =
+          let none : count_of id (mails_of from number outs) ≡ 0 = count_of-mails_of id from number outs ∙ rw e refl in
+          omega (arith, sum, none, distinct id)

@@ -16,7 +16,7 @@ use Rattle.message_net.specs.Id.{same_actor, same_id}
 use Rattle.message_net.specs.Pool.{of_id, count_of, AreDistinct, IsPool, IsFound, posted, without, taken, taken_at}
 
 -- ids that pass the test are equal
-same_actor-true : (a b : Actor) → same_actor a b ≡ true → a ≡ b
+pub same_actor-true : (a b : Actor) → same_actor a b ≡ true → a ≡ b
 same_actor-true (Core a) (Core b) e = grind (arith, nat_tests)
 same_actor-true (Core a) (Bank b) e = cc
 same_actor-true (Core a) Keeper e = cc
@@ -27,7 +27,7 @@ same_actor-true Keeper (Core b) e = cc
 same_actor-true Keeper (Bank b) e = cc
 same_actor-true Keeper Keeper e = refl
 
-same_actor-refl : (a : Actor) → same_actor a a ≡ true
+pub same_actor-refl : (a : Actor) → same_actor a a ≡ true
 same_actor-refl (Core a) = grind (arith, nat_tests)
 same_actor-refl (Bank a) = grind (arith, nat_tests)
 same_actor-refl Keeper = refl

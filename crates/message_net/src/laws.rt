@@ -66,10 +66,14 @@ pub fn all_mails_are_added()
         → length (all_mails from number outs mails) ≡ length mails + length outs }
 {}
 
-/// Ids stay distinct.
+/// Ids stay distinct: what is taken is gone, and a sender's next numbers are new where none of them is in flight.
 pub fn ids_stay_distinct()
     ensures post { (mails : List Mail) (m : Mail) → AreDistinct mails → count_of m.id mails ≡ 0 → AreDistinct (posted m mails) }
     ensures take { (mails : List Mail) (place : ℕ) → AreDistinct mails → AreDistinct (without place mails) }
+    ensures gone { (id : MailId) (mails : List Mail) → AreDistinct mails → count_of id (taken id mails).1 ≡ 0 }
+    ensures sent { (from : Actor) (number : ℕ) (outs : List Outgoing) (mails : List Mail) → AreDistinct mails
+        → ((i : ℕ) → number ≤ i → i < number + length outs → count_of (record { sender = from; number = i }) mails ≡ 0)
+        → AreDistinct (all_mails from number outs mails) }
 {}
 
 /// To take by id what stands at a place is to take it by its place.

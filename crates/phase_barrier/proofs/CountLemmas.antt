@@ -14,9 +14,9 @@ use Rattle.message_net.specs.Kind.{kind_of}
 use Rattle.dn_base.specs.declared.ids.PhaseId.{PhaseId}
 use Rattle.dn_base.specs.declared.ids.CoreId.{CoreId}
 use Rattle.phase_barrier.specs.declared.keeper.Verdict.TheVariants.{Wait, Go, Halt}
-use Rattle.phase_barrier.specs.Barrier.{Barrier, opened, all_arrived, is_over, advanced, decided, counted, arrival, arrives, keeper_gets, is_marked, has_arrived, waits_in, arrived_count}
+use Rattle.phase_barrier.specs.Barrier.{Barrier, opened, all_arrived, is_over, advanced, decided, counted, arrival, arrives, keeper_gets, IsBarrier, is_marked, has_arrived, waits_in, arrived_count}
 use Rattle.phase_barrier.specs.Letters.{letter_count, go_count}
-use Rattle.phase_barrier.proofs.ArrivalLemmas.{get-set, unmarked}
+use Rattle.phase_barrier.proofs.ArrivalLemmas.{get-set, unmarked, begins}
 
 -- what passes a test weighs 1
 abbrev bit : Bool → ℕ
@@ -266,3 +266,48 @@ others-arrived k core d bad new answered there differ =
       by_mark : (b : Bool) → 1 ≤ bit (b && not (all_arrived k)) → b ≡ true
       by_mark true some = refl
       by_mark false some = absurd (omega (arith, some))
+
+-- nobody has arrived as a phase begins, so not all have
+none-whole : (k : Barrier) (n : ℕ) → k.arrived ≡ replicate n false → 1 ≤ n → all_arrived k ≡ false
+none-whole k n none some = missing-one k 0 (rw none (unmarked n 0 some))
+
+pub IsBarrier-opened : (cores phases : ℕ) → 1 ≤ cores → IsBarrier (opened cores phases)
+IsBarrier-opened cores phases some =
+    let short = none-whole (opened cores phases) cores refl some in
+    record {
+      some = omega (arith, some, length-replicate cores false);
+      current = λ there. omega (arith, there);
+      full = λ whole. absurd (cc);
+    }
+
+arrives-barrier : (k : Barrier) (core : ℕ) (bad : Bool) → IsBarrier k → IsBarrier (arrives k core bad).0
+arrives-barrier k core bad good = by_mark (slice_get k.arrived core) refl where
+  cores : length (set k.arrived core true) ≡ length k.arrived
+  cores = length-set k.arrived core true
+
+  by_outcome : Waited k core bad ⊎ (Ended k core bad ⊎ Begun k core bad) → IsBarrier (arrives k core bad).0
+  by_outcome (inl w) =
+      let missing = w.missing in
+      rw w.is (record { some = omega (arith, good.some, cores); current = good.current; full = λ whole. absurd (cc) })
+  by_outcome (inr (inl h)) =
+      rw h.is (record { some = omega (arith, good.some, cores); current = good.current; full = λ whole. h.over })
+  by_outcome (inr (inr g)) =
+      let some : 1 ≤ length (set k.arrived core true) = omega (arith, good.some, cores) in
+      let short = none-whole (advanced (counted core bad k)) (length (set k.arrived core true)) refl some in
+      let next = begins (counted core bad k) g.over in
+      rw g.is
+      (record {
+        some = omega (arith, some, length-replicate (length (set k.arrived core true)) false);
+        current = λ there. next;
+        full = λ whole. absurd (cc);
+      })
+
+  by_mark : (o : Option Bool) → slice_get k.arrived core ≡ o → IsBarrier (arrives k core bad).0
+  by_mark None e = rw e good
+  by_mark (Some true) e = rw e good
+  by_mark (Some false) e = by_outcome (outcome k core bad e)
+
+pub IsBarrier-gets : (k : Barrier) (m : Message) → IsBarrier k → IsBarrier (keeper_gets k m).0
+unfolding keeper_gets
+IsBarrier-gets k (message.TheVariants.Arrived core bad) good = arrives-barrier k core.0 bad good
+IsBarrier-gets k _ good = good

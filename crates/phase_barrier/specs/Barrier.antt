@@ -1,5 +1,5 @@
 -- The barrier between phases: who has arrived, and what its keeper answers.
-use Rattle.std.specs.Prelude.{ℕ, ◌+◌, Bool, true, false, ◌||◌, ◌&&◌, not, nat_le, List, length, replicate, slice_get, slice_set, Option, Some, None, if◌then◌else◌, count_by}
+use Rattle.std.specs.Prelude.{◌≡◌, ℕ, ◌+◌, ◌<◌, ◌≤◌, Bool, true, false, ◌||◌, ◌&&◌, not, nat_le, List, length, replicate, slice_get, slice_set, Option, Some, None, if◌then◌else◌, count_by}
 use Rattle.std.specs.List.{list_all}
 use Rattle.message_net.specs.declared.message.Message.{Message}
 use Rattle.message_net.specs.declared.message.Message.TheVariants.{Arrived}
@@ -71,3 +71,10 @@ waits_in core k = has_arrived core k && not (all_arrived k)
 -- how many cores have arrived in the current phase
 abbrev pub arrived_count : Barrier → ℕ
 arrived_count k = count_by (λ (a : Bool). a) k.arrived
+
+-- what is true of a machine's keeper: there is a core, the current phase is one of the program's if it has one, and all
+-- have arrived only once the run is over
+pub record IsBarrier (k : Barrier) : Type 0 where
+  pub some : 1 ≤ length k.arrived
+  pub current : 1 ≤ k.phases → k.phase < k.phases
+  pub full : all_arrived k ≡ true → is_over k ≡ true

@@ -5,7 +5,7 @@ ghost use Rattle.message_net.specs.declared.event.EventKind.TheVariants.{Arrived
 ghost use Rattle.message_net.specs.Kind.{kind_of};
 ghost use Rattle.phase_barrier.specs.declared.keeper.Verdict.{Verdict};
 ghost use Rattle.phase_barrier.specs.declared.keeper.Verdict.TheVariants.{Wait, Go, Halt};
-ghost use Rattle.phase_barrier.specs.Barrier.{Barrier, all_arrived, counted, advanced, released, is_over, arrives, keeper_gets, waits_in, arrived_count};
+ghost use Rattle.phase_barrier.specs.Barrier.{Barrier, IsBarrier, opened, all_arrived, counted, advanced, released, is_over, arrives, keeper_gets, waits_in, arrived_count};
 ghost use Rattle.phase_barrier.specs.Letters.{letter_count, go_count, letters, goes_to};
 
 /// Counting a core marks that core alone.
@@ -42,6 +42,12 @@ pub fn only_arrivals_count()
     ensures other { (k : Barrier) (m : Message) → kind_of m ≢ Arrived → keeper_gets k m ≡ (k, Wait) }
     ensures phases { (k : Barrier) (m : Message) → (keeper_gets k m).0.phases ≡ k.phases }
     ensures cores { (k : Barrier) (m : Message) → length (keeper_gets k m).0.arrived ≡ length k.arrived }
+{}
+
+/// A machine's keeper stays one: the current phase is one of the program's, and all have arrived only once the run is over.
+pub fn a_keeper_stays_the_machines()
+    ensures opened { (cores phases : ℕ) → 1 ≤ cores → IsBarrier (opened cores phases) }
+    ensures kept { (k : Barrier) (m : Message) → IsBarrier k → IsBarrier (keeper_gets k m).0 }
 {}
 
 /// A verdict has one letter for each core of the machine and none for another, and at Wait there are none at all.

@@ -6,6 +6,7 @@ use Rattle.dn_base.specs.declared.ids.CoreId.{CoreId}
 use Rattle.dn_base.specs.declared.ids.WordId.{WordId}
 use Rattle.region_table.specs.declared.declared.TaskDecl.{TaskDecl}
 use Rattle.rv_core.specs.declared.task.TaskState.{TaskState}
+use Rattle.message_net.specs.declared.message.Message.TheVariants.{RegAck, RegFwd, ReadFwd, WbAck, DataReply}
 use Rattle.word_cache.specs.declared.row.Entry.{Entry}
 use Rattle.word_cache.specs.declared.row.Entry.TheVariants.{Valid, Registered, Leaving}
 use Rattle.word_cache.specs.Cache.{Pair, lookup, without, changed, has_room}
@@ -13,7 +14,6 @@ use Rattle.word_cache.proofs.LookLemmas.{lookup-without, lookup-put, lookup-chan
 use Rattle.registration_protocol.specs.declared.node.NodeWait as wait
 use Rattle.registration_protocol.specs.Node.{NodeParts, Setting, entry_of}
 use Rattle.registration_protocol.specs.OwnEvents.{stored, evicts}
-use Rattle.message_net.specs.declared.message.Message.TheVariants.{RegAck, RegFwd, ReadFwd, WbAck, DataReply}
 use Rattle.registration_protocol.specs.Messages.{node_gets, ack_row, forward_row, gone_row, read_row, data_row}
 use Rattle.registration_protocol.specs.Changes.{acknowledged, forwarded, given_back, given_up}
 

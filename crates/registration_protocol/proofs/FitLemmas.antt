@@ -14,6 +14,7 @@ use Rattle.dn_base.specs.declared.ids.CoreId.{CoreId}
 use Rattle.dn_base.specs.declared.ids.LockId.{LockId}
 use Rattle.region_table.specs.Program.{ProgramParts}
 use Rattle.region_table.specs.declared.declared.TaskDecl.{TaskDecl}
+use Rattle.region_table.specs.Tasks.{declared}
 use Rattle.rv_core.specs.declared.task.TaskState.{TaskState}
 use Rattle.rv_core.specs.declared.task.End as cause
 use Rattle.rv_core.specs.declared.task.End.{End}
@@ -25,8 +26,9 @@ use Rattle.rv_core.specs.Need.{need_of}
 use Rattle.rv_core.specs.Step.{advanced, loaded_of}
 use Rattle.rv_core.specs.Task.{started, stopped}
 use Rattle.rv_core.proofs.Needs.{need-allowed}
+use Rattle.rv_core.proofs.Completions.{acquire-allowed, advanced-retired, loaded-retired, loaded-held, fuel-left}
 use Rattle.write_signature.specs.declared.signature.Signature.{Signature}
-use Rattle.write_signature.specs.Signature.{tag, empty, in_phase}
+use Rattle.write_signature.specs.Signature.{empty, in_phase}
 use Rattle.write_signature.proofs.SignatureLemmas.{tag-empty, tag-in_phase}
 use Rattle.message_net.specs.declared.message.Message as message
 use Rattle.message_net.specs.declared.message.Message.{Message}
@@ -37,14 +39,12 @@ use Rattle.word_cache.proofs.CacheLaws.{cache-empty, cache-put, cache-changed, c
 use Rattle.registration_protocol.specs.declared.node.NodeWait as wait
 use Rattle.registration_protocol.specs.declared.node.NodeWait.{NodeWait}
 use Rattle.registration_protocol.specs.declared.node.Received.{Received}
-use Rattle.region_table.specs.Tasks.{declared}
 use Rattle.registration_protocol.specs.Node.{NodeParts, Setting, need_now, need_if, entry_of, is_ready, keeping, opened}
 use Rattle.registration_protocol.specs.Fit.{Fits, HoldsOwn, NeedsLock, IsOfPhase}
 use Rattle.registration_protocol.specs.OwnEvents.{may_access, lets, noted, loads, stores, stored, instr_row, instr_by, instructed, may_instr, evicts, evicted, arrives}
 use Rattle.registration_protocol.specs.Messages.{fills, data_row, ack_row, forward_row, read_row, gone_row, granted_to, grant_row, begins, go_row, halt_row, node_gets}
 use Rattle.registration_protocol.proofs.InstrLemmas.{HasNext, has-next}
 use Rattle.registration_protocol.proofs.SignatureLemmas.{length-noted, noted-tags}
-use Rattle.rv_core.proofs.Completions.{acquire-allowed, advanced-retired, loaded-retired, loaded-held, fuel-left}
 
 -- ---- a node of which one part changes
 

@@ -3,28 +3,28 @@ use Rattle.std.proofs.Common.{◌≡◌, ℕ, Bool, true, false, cond, not, ◌&
 use Rattle.std.proofs.lemmas.Bool.{and_parts}
 use Rattle.std.specs.Option.{is_some}
 use Rattle.dn_base.specs.declared.ids.WordId.{WordId}
+use Rattle.dn_base.specs.declared.ids.LockId.{LockId}
 use Rattle.region_table.specs.declared.declared.TaskDecl.{TaskDecl}
+use Rattle.region_table.specs.Tasks.{declared}
 use Rattle.rv_core.specs.declared.task.TaskState.{TaskState}
 use Rattle.rv_core.specs.declared.task.End.{End}
 use Rattle.rv_core.specs.declared.need.Need as need
 use Rattle.rv_core.specs.declared.need.Need.{Need}
 use Rattle.rv_core.specs.Need.{need_of}
+use Rattle.rv_core.specs.Kinds.{IsLoad, IsStore, IsAdvance}
+use Rattle.rv_core.specs.Step.{advanced, merged_of}
+use Rattle.rv_core.proofs.Completions.{acquire-allowed, advanced-held, loaded-held, stopped-held, advanced-retired, loaded-retired, stopped-retired, advanced-end, loaded-end, stopped-end}
 use Rattle.word_cache.specs.declared.row.Entry.{Entry}
 use Rattle.word_cache.specs.declared.row.Entry.TheVariants.{Valid, Registered, Leaving}
 use Rattle.word_cache.specs.Cache.{may_go}
 use Rattle.word_cache.proofs.LookLemmas.{lookup-put, lookup-touched}
 use Rattle.registration_protocol.specs.declared.node.NodeWait as wait
 use Rattle.registration_protocol.specs.declared.node.NodeWait.{NodeWait}
-use Rattle.region_table.specs.Tasks.{declared}
 use Rattle.registration_protocol.specs.Node.{NodeParts, Setting, need_now, need_if, need_by, entry_of, is_active, is_ready, is_settled, goes_on, waits_for_nothing}
 use Rattle.registration_protocol.specs.OwnEvents.{lets, loads, stores, instr_row, instr_by, instructed, may_instr, may_evict, may_arrive, makes_room, wanted_by, written_by, written_if, written_now}
 use Rattle.registration_protocol.specs.Changes.{looked_at, stored_in}
 use Rattle.registration_protocol.specs.Parts.{MayInstruct, MayEvict, MayArrive, accessed, Instructs, completes, loads_to, task_by, Retires, Acquires}
 use Rattle.registration_protocol.proofs.EntryLemmas.{at_word, steady}
-use Rattle.rv_core.specs.Kinds.{IsLoad, IsStore, IsAdvance}
-use Rattle.rv_core.specs.Step.{advanced, merged_of}
-use Rattle.dn_base.specs.declared.ids.LockId.{LockId}
-use Rattle.rv_core.proofs.Completions.{acquire-allowed, advanced-held, loaded-held, stopped-held, advanced-retired, loaded-retired, stopped-retired, advanced-end, loaded-end, stopped-end}
 
 -- ---- what the leaves tell
 

@@ -8,4 +8,5 @@ pub mod OwnLemmas
 pub mod PlaceLemmas
 pub mod SignatureLemmas
 pub mod SignLemmas
+pub mod StillLemmas
 pub mod TestLemmas

@@ -2,15 +2,20 @@
 use Rattle.std.proofs.Common.{◌≡◌, ℕ, ◌+◌, ◌<◌, ◌==◌, nat_lt, Bool, true, false, cond, not, ◌&&◌, length, Option, Some, None, refl, arith}
 use Rattle.std.proofs.lemmas.Bool.Decides.{nat_tests}
 use Rattle.std.specs.Prelude.{slice_get}
+use Rattle.std.specs.Option.{option_map}
 use Rattle.dn_base.specs.declared.ids.CoreId.{CoreId}
 use Rattle.dn_base.specs.declared.ids.WordId.{WordId}
 use Rattle.dn_base.specs.declared.ids.LockId.{LockId}
 use Rattle.dn_base.specs.declared.ids.PhaseId.{PhaseId}
+use Rattle.region_table.specs.declared.declared.TaskDecl.{TaskDecl}
+use Rattle.region_table.specs.Tasks.{declared}
 use Rattle.rv_core.specs.declared.task.TaskState.{TaskState}
+use Rattle.rv_core.specs.Task.{started}
 use Rattle.write_signature.specs.declared.signature.Signature.{Signature}
 use Rattle.message_net.specs.declared.message.Message as message
 use Rattle.message_net.specs.declared.message.Message.{Message}
 use Rattle.message_net.specs.declared.message.Message.TheVariants.{RegAck, RegFwd, ReadFwd, WbAck, DataReply, Grant, Go, Halt}
+use Rattle.message_net.specs.Mail.{to_core}
 use Rattle.word_cache.specs.declared.row.Entry.{Entry}
 use Rattle.word_cache.specs.declared.row.Entry.TheVariants.{Valid, Registered, Leaving}
 use Rattle.word_cache.specs.Cache.{IsCache, has_room, put, entry_after_phase, entry_after_grant}
@@ -18,11 +23,11 @@ use Rattle.word_cache.proofs.LookLemmas.{lookup-dropped_written, lookup-dropped_
 use Rattle.registration_protocol.specs.declared.node.NodeWait as wait
 use Rattle.registration_protocol.specs.declared.node.NodeWait.{NodeWait}
 use Rattle.registration_protocol.specs.declared.node.Received.{Received}
-use Rattle.message_net.specs.Mail.{to_core}
 use Rattle.registration_protocol.specs.Node.{NodeParts, Setting, entry_of, keeping}
 use Rattle.registration_protocol.specs.Messages.{node_gets, becomes, fills, data_row, ack_row, forward_row, read_row, gone_row, guarded_by, written_in, holds_now, granted_to, grant_row, begins}
 use Rattle.registration_protocol.specs.Changes.{KeepsTask, is_for_node}
 use Rattle.registration_protocol.proofs.PlaceLemmas.{ack-keeps, forward-keeps, read-keeps, gone-keeps}
+use Rattle.registration_protocol.specs.Parts.{retired_of, held_of}
 
 -- ---- the table, row by row
 
@@ -200,3 +205,11 @@ grant-entries C n t lock signature w is = lookup-dropped_signed signature n.phas
 pub begin-entries : (C : Setting) (n : NodeParts) (phase w : ℕ) → IsCache n.cache
     → entry_of (begins C n phase) w ≡ entry_after_phase (written_in (slice_get C.plans n.phase)) w (entry_of n w)
 begin-entries C n phase w is = lookup-dropped_written (written_in (slice_get C.plans n.phase)) w n.cache.pairs is.apart
+
+-- a task that begins has retired nothing and holds no lock
+starts_anew : (o : Option TaskDecl) → (retired_of (option_map started o) ≡ 0) × (held_of (option_map started o) ≡ 0)
+starts_anew None = (refl, refl)
+starts_anew (Some d) = (refl, refl)
+
+pub begin-task : (C : Setting) (n : NodeParts) (phase : ℕ) → (retired_of (begins C n phase).task ≡ 0) × (held_of (begins C n phase).task ≡ 0)
+begin-task C n phase = starts_anew (declared C.program phase n.core)

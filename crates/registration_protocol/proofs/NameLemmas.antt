@@ -12,14 +12,14 @@ use Rattle.rv_core.proofs.Completions.{load-allowed, store-allowed, acquire-allo
 use Rattle.message_net.specs.declared.message.Message as message
 use Rattle.message_net.specs.declared.message.Message.{Message}
 use Rattle.message_net.specs.declared.message.Outgoing.{Outgoing}
-use Rattle.message_net.specs.Mail.{to_home, to_core, to_keeper}
+use Rattle.message_net.specs.Mail.{to_home, to_core}
 use Rattle.word_cache.specs.declared.row.Entry.{Entry}
 use Rattle.word_cache.specs.declared.row.Entry.TheVariants.{Valid, Registered, Leaving}
 use Rattle.registration_protocol.specs.declared.node.Received.{Received}
 use Rattle.registration_protocol.specs.declared.node.Step.{Step}
 use Rattle.registration_protocol.specs.Node.{NodeParts, Setting, entry_of}
 use Rattle.registration_protocol.specs.Fit.{IsContext}
-use Rattle.registration_protocol.specs.OwnEvents.{may_instr, instr_row, instructed, evicts, evicted, arrives}
+use Rattle.registration_protocol.specs.OwnEvents.{may_instr, instructed, evicts, evicted, arrives}
 use Rattle.registration_protocol.specs.Messages.{node_gets, read_row}
 use Rattle.registration_protocol.specs.Names.{NamesOwn, IsFor}
 use Rattle.registration_protocol.specs.Parts.{accessed, load_sends, store_sends, sent_by}

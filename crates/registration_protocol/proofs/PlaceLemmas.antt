@@ -4,6 +4,7 @@ use Rattle.dn_base.specs.declared.ids.CoreId.{CoreId}
 use Rattle.dn_base.specs.declared.ids.LockId.{LockId}
 use Rattle.dn_base.specs.declared.ids.WordId.{WordId}
 use Rattle.region_table.specs.declared.declared.TaskDecl.{TaskDecl}
+use Rattle.region_table.specs.Tasks.{declared}
 use Rattle.rv_core.specs.declared.task.TaskState.{TaskState}
 use Rattle.rv_core.specs.declared.need.Need as need
 use Rattle.rv_core.specs.declared.need.Need.{Need}
@@ -16,7 +17,6 @@ use Rattle.word_cache.specs.Cache.{Pair, has_room}
 use Rattle.registration_protocol.specs.declared.node.NodeWait as wait
 use Rattle.registration_protocol.specs.declared.node.NodeWait.{NodeWait}
 use Rattle.registration_protocol.specs.declared.node.Received.{Received}
-use Rattle.region_table.specs.Tasks.{declared}
 use Rattle.registration_protocol.specs.Node.{NodeParts, Setting, need_now, entry_of, keeping}
 use Rattle.registration_protocol.specs.OwnEvents.{loads, stores, instr_row, instr_by, instructed, evicts, evicted}
 use Rattle.registration_protocol.specs.Messages.{node_gets, fills, data_row, ack_row, forward_row, read_row, gone_row, granted_to, grant_row}

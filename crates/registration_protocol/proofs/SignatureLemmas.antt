@@ -5,12 +5,12 @@ use Rattle.std.proofs.lemmas.List.Elements.{All-nil, All-cons, All-head, All-tai
 use Rattle.std.specs.List.{All}
 use Rattle.std.specs.Option.{option_map}
 use Rattle.region_table.specs.Words.{has}
+use Rattle.region_table.specs.declared.declared.TaskDecl.{TaskDecl}
 use Rattle.rv_core.specs.Access.{holds as is_held}
 use Rattle.write_signature.specs.Signature.{tag, inserted}
 use Rattle.write_signature.proofs.SignatureLemmas.{tag-inserted}
-use Rattle.registration_protocol.specs.Fit.{IsOfPhase}
-use Rattle.region_table.specs.declared.declared.TaskDecl.{TaskDecl}
 use Rattle.write_signature.specs.declared.signature.Signature.{Signature}
+use Rattle.registration_protocol.specs.Fit.{IsOfPhase}
 use Rattle.registration_protocol.specs.OwnEvents.{noted, noted_at}
 
 fill_suc : {X : Type 0} (n : ℕ) (d : List X) (v : X) → n < length d → slice_set (replicate n v ++ drop n d) n v ≡ replicate (suc n) v ++ drop (suc n) d

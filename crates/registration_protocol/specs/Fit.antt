@@ -1,19 +1,22 @@
 -- When a context is one of a machine, and when a node fits it.
-use Rattle.std.specs.Prelude.{◌≡◌, ℕ, ◌<◌, ◌≤◌, true, false, length, Option, Some, IfSome}
+use Rattle.std.specs.Prelude.{◌≡◌, ℕ, ◌<◌, ◌≤◌, true, false, length, Option, Some, IfSome, None}
 use Rattle.std.specs.List.{All}
 use Rattle.std.specs.Option.{is_some}
 use Rattle.region_table.specs.Program.{cores_of}
 use Rattle.region_table.specs.Plan.{ArePlans}
+use Rattle.region_table.specs.Tasks.{declared}
+use Rattle.region_table.specs.declared.declared.TaskDecl.{TaskDecl}
 use Rattle.rv_core.specs.declared.task.TaskState.{TaskState}
 use Rattle.rv_core.specs.declared.need.Need as need
 use Rattle.rv_core.specs.declared.need.Need.{Need}
 use Rattle.rv_core.specs.Access.{holds}
+use Rattle.rv_core.specs.declared.need.Next.{Next}
+use Rattle.rv_core.specs.Next.{IsNextOf}
 use Rattle.write_signature.specs.declared.signature.Signature.{Signature}
 use Rattle.write_signature.specs.Signature.{tag}
 use Rattle.word_cache.specs.Cache.{IsCache}
 use Rattle.registration_protocol.specs.declared.node.NodeWait as wait
 use Rattle.registration_protocol.specs.declared.node.NodeWait.{NodeWait}
-use Rattle.region_table.specs.Tasks.{declared}
 use Rattle.registration_protocol.specs.Node.{NodeParts, Setting, need_now}
 
 -- a context: the plans are those of the program's phases, the cores are those that the program needs, and the other sizes and
@@ -59,3 +62,9 @@ pub record Fits (C : Setting) (n : NodeParts) : Type 0 where
   pub sets : n.cache.sets ≡ C.shape.sets
   pub ways : n.cache.ways ≡ C.shape.ways
   pub waiting : NeedsLock (need_now C n) n.waiting
+
+-- a look is at the next instruction of a task that goes on
+pub record IsLook (C : Setting) (d : TaskDecl) (next : Next) (t : TaskState) : Type 0 where
+  pub going : t.end ≡ None
+  pub fuel : t.retired ≤ C.fuel
+  pub is_next : IsNextOf C.program d C.fuel t next

@@ -6,6 +6,7 @@ use Rattle.dn_base.specs.declared.ids.WordId.{WordId}
 use Rattle.dn_base.specs.declared.ids.LockId.{LockId}
 use Rattle.region_table.specs.declared.interval.Interval.{Interval}
 use Rattle.region_table.specs.declared.plan.PhasePlan.{PhasePlan}
+use Rattle.region_table.specs.Tasks.{declared}
 use Rattle.rv_core.specs.declared.task.TaskState.{TaskState}
 use Rattle.rv_core.specs.Step.{advanced}
 use Rattle.rv_core.specs.Task.{started}
@@ -14,14 +15,13 @@ use Rattle.write_signature.specs.Signature.{in_phase, empty}
 use Rattle.message_net.specs.declared.message.Message as message
 use Rattle.message_net.specs.declared.message.Message.{Message}
 use Rattle.message_net.specs.declared.message.Outgoing.{Outgoing}
+use Rattle.message_net.specs.Mail.{to_home, to_core}
 use Rattle.word_cache.specs.declared.row.Entry.{Entry}
 use Rattle.word_cache.specs.declared.row.Entry.TheVariants.{Valid, Registered, Leaving}
 use Rattle.word_cache.specs.Cache.{with_pairs, has_room, put, changed, without, dropped_written, dropped_signed}
 use Rattle.registration_protocol.specs.declared.node.NodeWait as wait
 use Rattle.registration_protocol.specs.declared.node.NodeWait.{NodeWait}
 use Rattle.registration_protocol.specs.declared.node.Received.{Received}
-use Rattle.region_table.specs.Tasks.{declared}
-use Rattle.message_net.specs.Mail.{to_home, to_core}
 use Rattle.registration_protocol.specs.Node.{NodeParts, Setting, entry_of, keeping}
 
 -- the node is this one then, and sends nothing

@@ -3,8 +3,8 @@ use Rattle.std.specs.Prelude.{◌<◌, length, ◌≡◌, true}
 use Rattle.message_net.specs.declared.message.Message as message
 use Rattle.message_net.specs.declared.message.Message.{Message}
 use Rattle.message_net.specs.declared.message.Outgoing.{Outgoing}
-use Rattle.registration_protocol.specs.Node.{Setting}
 use Rattle.message_net.specs.Mail.{has_actor}
+use Rattle.registration_protocol.specs.Node.{Setting}
 
 -- the word, the lock and the core that a message names are the machine's
 abbrev pub NamesOwn : Setting → Message → Type 0

@@ -6,6 +6,7 @@ use Rattle.dn_base.specs.declared.ids.WordId.{WordId}
 use Rattle.region_table.specs.declared.declared.TaskDecl.{TaskDecl}
 use Rattle.region_table.specs.Words.{has}
 use Rattle.region_table.specs.Plan.{uses_plainly}
+use Rattle.region_table.specs.Tasks.{declared}
 use Rattle.rv_core.specs.declared.task.TaskState.{TaskState}
 use Rattle.rv_core.specs.declared.task.End as cause
 use Rattle.rv_core.specs.declared.task.End.{End}
@@ -24,14 +25,13 @@ use Rattle.message_net.specs.declared.message.Message.TheVariants.{ReadReq, RegR
 use Rattle.message_net.specs.declared.message.Outgoing.{Outgoing}
 use Rattle.message_net.specs.declared.event.Event as event
 use Rattle.message_net.specs.declared.event.Event.{Event}
+use Rattle.message_net.specs.Mail.{to_home, to_keeper}
 use Rattle.word_cache.specs.declared.row.Entry.{Entry}
 use Rattle.word_cache.specs.declared.row.Entry.TheVariants.{Valid, Registered, Leaving}
 use Rattle.word_cache.specs.Cache.{has_room, put, changed, touched, without, may_go, victim_of}
 use Rattle.registration_protocol.specs.declared.node.NodeWait as wait
 use Rattle.registration_protocol.specs.declared.node.NodeWait.{NodeWait}
 use Rattle.registration_protocol.specs.declared.node.Step.{Step}
-use Rattle.region_table.specs.Tasks.{declared}
-use Rattle.message_net.specs.Mail.{to_home, to_keeper}
 use Rattle.registration_protocol.specs.Node.{NodeParts, Setting, goes_on, need_now, entry_of, is_settled, is_active, is_ready, waits_for_nothing, keeping, signature_of}
 
 -- whether an access of a word may go on, by its entry: it stalls while the word is leaving, and where there is no entry it

@@ -1,32 +1,34 @@
 -- An instruction, part by part: what it changes of the task, the wait and the signatures, and what it sends and reads.
-use Rattle.std.specs.Prelude.{◌≡◌, ℕ, ◌^◌, Bool, true, false, List, Option, Some, None, if◌then◌else◌, ◌+◌, ◌<◌, length, bit_or}
+use Rattle.std.specs.Prelude.{◌≡◌, ℕ, ◌^◌, Bool, true, false, List, Option, Some, None, if◌then◌else◌, ◌+◌, ◌<◌, length, bit_or, ◌⊎◌}
 use Rattle.dn_base.specs.declared.ids.LoadSeen.{LoadSeen}
 use Rattle.dn_base.specs.declared.ids.WordId.{WordId}
+use Rattle.dn_base.specs.declared.ids.LockId.{LockId}
 use Rattle.region_table.specs.declared.declared.TaskDecl.{TaskDecl}
+use Rattle.region_table.specs.Tasks.{declared}
 use Rattle.rv_core.specs.declared.task.TaskState.{TaskState}
 use Rattle.rv_core.specs.declared.need.Need as need
 use Rattle.rv_core.specs.declared.need.Need.{Need}
 use Rattle.rv_core.specs.Need.{need_of}
 use Rattle.rv_core.specs.Step.{advanced, loaded_of}
 use Rattle.rv_core.specs.Task.{stopped, retires_at}
+use Rattle.rv_core.specs.declared.task.End.{End}
+use Rattle.rv_core.specs.Kinds.{held_after}
+use Rattle.rv_core.specs.Access.{holds}
 use Rattle.write_signature.specs.declared.signature.Signature.{Signature}
 use Rattle.message_net.specs.declared.message.Message.TheVariants.{ReadReq, RegReq, Acquire, Release}
 use Rattle.message_net.specs.declared.message.Outgoing.{Outgoing}
+use Rattle.message_net.specs.Mail.{to_home}
+use Rattle.message_net.specs.declared.event.Event as event
+use Rattle.message_net.specs.declared.event.Event.{Event}
 use Rattle.word_cache.specs.declared.row.Entry.{Entry}
 use Rattle.word_cache.specs.declared.row.Entry.TheVariants.{Valid, Registered, Leaving}
-use Rattle.word_cache.specs.Cache.{may_go}
+use Rattle.word_cache.specs.Cache.{may_go, is_stuck}
 use Rattle.registration_protocol.specs.declared.node.NodeWait as wait
 use Rattle.registration_protocol.specs.declared.node.NodeWait.{NodeWait}
 use Rattle.registration_protocol.specs.declared.node.Step.{Step}
-use Rattle.region_table.specs.Tasks.{declared}
-use Rattle.message_net.specs.Mail.{to_home}
 use Rattle.registration_protocol.specs.Node.{NodeParts, Setting, need_now, entry_of, signature_of, is_settled, goes_on, is_ready}
-use Rattle.registration_protocol.specs.OwnEvents.{lets, noted, me, wanted_by, makes_room}
+use Rattle.registration_protocol.specs.OwnEvents.{lets, noted, me, wanted_by, makes_room, may_instr, may_evict, may_arrive}
 use Rattle.registration_protocol.specs.Changes.{KeepsPlace, entry_by}
-use Rattle.rv_core.specs.declared.task.End.{End}
-use Rattle.dn_base.specs.declared.ids.LockId.{LockId}
-use Rattle.rv_core.specs.Kinds.{held_after}
-use Rattle.rv_core.specs.Access.{holds}
 
 -- a node whose next instruction may go on: its task, the task's declaration, and what the instruction needs
 pub record MayInstruct (C : Setting) (n : NodeParts) : Type 0 where
@@ -193,3 +195,20 @@ pub record Acquires (C : Setting) (t : TaskState) (lock : LockId) (u : TaskState
   pub retired : u.retired ≡ t.retired + 1
   pub held : u.held ≡ bit_or t.held (2 ^ lock.0)
   pub end : u.end ≡ t.end
+
+-- some word of a node has an entry that may not be evicted: it is pending or leaving
+abbrev pub IsStuckAt : NodeParts → Type 0
+IsStuckAt n = (v : ℕ) × (is_stuck (entry_of n v) ≡ true)
+
+-- a node waits for the value of a word, or for a lock, or an answer to some word's registration or write-back is to come
+abbrev pub IsWaiting : NodeParts → Type 0
+IsWaiting n =
+    ((word : WordId) × (n.waiting ≡ wait.TheVariants.Reading word))
+    ⊎ (((lock : LockId) × (n.waiting ≡ wait.TheVariants.Locking lock)) ⊎ IsStuckAt n)
+
+-- an event is one of a node's own, and may come
+abbrev pub MayCome : Setting → NodeParts → Event → Type 0
+MayCome C n (event.TheVariants.Instr core) = (core ≡ me n) × (may_instr C n ≡ true)
+MayCome C n (event.TheVariants.Evict core word) = (core ≡ me n) × (may_evict C n word.0 ≡ true)
+MayCome C n (event.TheVariants.Arrive core) = (core ≡ me n) × (may_arrive n ≡ true)
+MayCome C n (event.TheVariants.Handle id) = ⊥

@@ -1,28 +1,27 @@
-ghost use Rattle.std.specs.Prelude.{◌≡◌, ◌<◌, ◌≤◌, ◌||◌, true, Some, None, length, slice_index_or};
-ghost use Rattle.std.specs.Option.{is_some};
+ghost use Rattle.std.specs.Prelude.{◌≡◌, ◌<◌, ◌≤◌, ◌||◌, true, Some, None, length, IfSome};
+ghost use Rattle.std.specs.Option.{is_some, option_map};
 ghost use Rattle.region_table.specs.Plan.{uses_plainly};
-ghost use Rattle.rv_core.specs.Need.{need_of};
 ghost use Rattle.rv_core.specs.Kinds.{IsLoad, IsStore, IsAdvance};
 ghost use Rattle.rv_core.specs.Step.{advanced, loaded_of, merged_of};
 ghost use Rattle.rv_core.specs.Task.{stopped};
-ghost use Rattle.write_signature.specs.Signature.{empty};
+ghost use Rattle.rv_core.specs.declared.task.TaskState.{TaskState};
 ghost use Rattle.message_net.specs.declared.message.Message.TheVariants.{Acquire as AcquireOf, Release as ReleaseOf};
+ghost use Rattle.message_net.specs.Mail.{to_home};
 ghost use Rattle.word_cache.specs.declared.row.Entry.TheVariants.{Registered as AsRegistered};
 ghost use Rattle.word_cache.specs.Cache.{has_room};
-ghost use Rattle.registration_protocol.specs.Fit.{IsContext, Fits};
-ghost use Rattle.message_net.specs.Mail.{to_home};
+ghost use Rattle.registration_protocol.specs.Fit.{IsContext, Fits, IsLook};
 ghost use Rattle.registration_protocol.specs.Node.{entry_of, signature_of};
-ghost use Rattle.registration_protocol.specs.declared.node.NodeWait.TheVariants.{Locking};
-ghost use Rattle.registration_protocol.specs.OwnEvents.{may_access, lets, may_instr, misses, me, retires, stored, registers, loads, stores, instr_row, instructed};
+ghost use Rattle.registration_protocol.specs.declared.node.NodeWait.TheVariants.{None as WaitsForNothing, Locking};
+ghost use Rattle.registration_protocol.specs.OwnEvents.{may_access, lets, may_instr, misses, me, stored, registers, loads, stores, instr_row, instructed, noted};
 ghost use Rattle.registration_protocol.specs.Setting.{setting};
 
 use crate::node::{Node, NodeWait, Step, send_home};
 use crate::setting::{Context, declaration};
 use crate::signatures::note;
-use dn_base::{LoadSeen, LockId, WordId};
+use dn_base::{LoadSeen, LockId, PhaseId, Sequence, WordId};
 use message_net::{Message, Outgoing};
 use region_table::TaskDecl;
-use rv_core::{End, Need, TaskState};
+use rv_core::{End, Need, Next, TaskState};
 use word_cache::Entry;
 use write_signature::Signature;
 
@@ -53,15 +52,61 @@ fn is_plain(task: &TaskDecl, word: WordId) -> bool
     task.effects.reads.contains(word) || task.effects.writes.contains(word)
 }
 
-impl Node {
-    /// The instruction has retired, and the task stands so.
-    fn retire(&mut self, task: TaskState)
-        ensures { self.new ≡ retires self.old task }
-    {
-        self.task = Some(task);
-        self.wait = NodeWait::None;
+/// The next instruction retires: it needs nothing, or is a store, an acquire or a release.
+fn advance(task: &mut Option<TaskState>, context: &Context<'_>, declared: &TaskDecl, next: &Next)
+    requires look { IfSome task.old (IsLook (setting context.now) declared.now next.now) }
+    requires kind { IsAdvance next.now.need }
+    ensures { task.new ≡ option_map (advanced (setting context.now).program) task.old }
+{
+    if let Some(task) = task {
+        task.complete(context.program, declared, context.fuel, next);
     }
+}
 
+/// The next instruction retires, a load of a word of this value.
+fn load(
+    task: &mut Option<TaskState>,
+    context: &Context<'_>,
+    declared: &TaskDecl,
+    next: &Next,
+    value: u32,
+)
+    requires look { IfSome task.old (IsLook (setting context.now) declared.now next.now) }
+    requires kind { IsLoad next.now.need }
+    ensures { task.new ≡ option_map (loaded_of (setting context.now).program value) task.old }
+{
+    if let Some(task) = task {
+        task.complete_load(context.program, declared, context.fuel, next, value);
+    }
+}
+
+/// The task ends.
+fn stop(task: &mut Option<TaskState>, cause: End)
+    requires { IfSome task.old (λ t. (t.end ≡ None) × (t.retired < 4294967295)) }
+    ensures { task.new ≡ option_map (stopped cause) task.old }
+{
+    if let Some(task) = task {
+        task.stop(cause);
+    }
+}
+
+/// Notes a store of the task to the word in the signatures of the locks.
+fn sign(
+    signatures: &mut Sequence<Signature>,
+    task: &Option<TaskState>,
+    declared: &TaskDecl,
+    word: WordId,
+    phase: PhaseId,
+)
+    requires { length signatures.old ≤ 32 }
+    ensures { (t : TaskState) → task.now ≡ Some t → signatures.new ≡ noted declared.now t.held word.0 phase.0 0 signatures.old }
+{
+    if let Some(task) = task {
+        note(signatures, declared, task.held, word, phase);
+    }
+}
+
+impl Node {
     /// The node asks a word's home for its value.
     fn miss(&mut self, context: &Context<'_>, word: WordId) -> Step
         requires { 0 < (setting context.now).shape.banks }
@@ -78,19 +123,17 @@ impl Node {
         &mut self,
         context: &Context<'_>,
         declared: &TaskDecl,
-        task: TaskState,
+        next: &Next,
         word: WordId,
         value: u32,
     ) -> Step
-        requires open { task.end ≡ None }
-        requires fuel { task.retired ≤ (setting context.now).fuel }
-        requires kind { IsLoad (need_of (setting context.now).program declared.now (setting context.now).fuel task) }
-        ensures node { self.new ≡ retires self.old (loaded_of (setting context.now).program value task) }
+        requires look { IfSome self.old.task (IsLook (setting context.now) declared.now next.now) }
+        requires kind { IsLoad next.now.need }
+        ensures node { self.new ≡ record self.old { task = option_map (loaded_of (setting context.now).program value) self.old.task; waiting = WaitsForNothing } }
         ensures step { result ≡ record { sent = None; seen = Some (record { word = word; value = value }) } }
     {
-        let mut task = task;
-        task.loaded(context.program, declared, context.fuel, value);
-        self.retire(task);
+        load(&mut self.task, context, declared, next, value);
+        self.wait = NodeWait::None;
         Step {
             sent: None,
             seen: Some(LoadSeen { word, value }),
@@ -102,15 +145,14 @@ impl Node {
         &mut self,
         context: &Context<'_>,
         declared: &TaskDecl,
-        task: TaskState,
+        next: &Next,
         word: WordId,
     ) -> Step
         requires banks { 0 < (setting context.now).shape.banks }
-        requires open { task.end ≡ None }
-        requires fuel { task.retired ≤ (setting context.now).fuel }
-        requires kind { IsLoad (need_of (setting context.now).program declared.now (setting context.now).fuel task) }
-        ensures node { self.new ≡ (loads (setting context.now) self.old declared.now task word (entry_of self.old word.0)).0 }
-        ensures step { result ≡ (loads (setting context.now) self.old declared.now task word (entry_of self.old word.0)).1 }
+        requires look { IfSome self.old.task (IsLook (setting context.now) declared.now next.now) }
+        requires kind { IsLoad next.now.need }
+        ensures node { (t : TaskState) → self.old.task ≡ Some t → self.new ≡ (loads (setting context.now) self.old declared.now t word (entry_of self.old word.0)).0 }
+        ensures step { (t : TaskState) → self.old.task ≡ Some t → result ≡ (loads (setting context.now) self.old declared.now t word (entry_of self.old word.0)).1 }
     {
         match self.cache.get(word) {
             None => self.miss(context, word),
@@ -120,13 +162,25 @@ impl Node {
                     marked: marked || is_plain(declared, word),
                 };
                 self.cache.set(word, entry);
-                self.see(context, declared, task, word, value)
+                self.see(context, declared, next, word, value)
             }
             Some(Entry::Registered { value, .. }) => {
                 self.cache.touch(word);
-                self.see(context, declared, task, word, value)
+                self.see(context, declared, next, word, value)
             }
             Some(Entry::Leaving(_)) => silence(),
+        }
+    }
+
+    /// The word after the task's store, where the word's value was `old`.
+    fn merged(&self, context: &Context<'_>, declared: &TaskDecl, next: &Next, old: u32) -> u32
+        requires look { IfSome self.now.task (IsLook (setting context.now) declared.now next.now) }
+        requires kind { IsStore next.now.need }
+        ensures { (t : TaskState) → self.now.task ≡ Some t → result ≡ merged_of (setting context.now).program old t }
+    {
+        match &self.task {
+            Some(task) => task.merged_by(context.program, declared, context.fuel, next, old),
+            None => old,
         }
     }
 
@@ -135,24 +189,23 @@ impl Node {
         &mut self,
         context: &Context<'_>,
         declared: &TaskDecl,
-        task: TaskState,
+        next: &Next,
         word: WordId,
         old: u32,
         pending: bool,
     )
-        requires open { task.end ≡ None }
-        requires fuel { task.retired ≤ (setting context.now).fuel }
-        requires kind { IsStore (need_of (setting context.now).program declared.now (setting context.now).fuel task) }
+        requires look { IfSome self.old.task (IsLook (setting context.now) declared.now next.now) }
+        requires kind { IsStore next.now.need }
         requires locks { length self.old.signatures ≤ 32 }
         requires room { (is_some (entry_of self.old word.0) || has_room self.old.cache word.0) ≡ true }
-        ensures { self.new ≡ stored (setting context.now) self.old declared.now task word (AsRegistered (merged_of (setting context.now).program old task) pending) }
+        ensures { (t : TaskState) → self.old.task ≡ Some t
+            → self.new ≡ stored (setting context.now) self.old declared.now t word (AsRegistered (merged_of (setting context.now).program old t) pending) }
     {
-        let value = task.merged(context.program, declared, context.fuel, old);
-        note(&mut self.signatures, declared, task.held, word, self.phase);
+        let value = self.merged(context, declared, next, old);
+        sign(&mut self.signatures, &self.task, declared, word, self.phase);
         self.cache.set(word, Entry::Registered { value, pending });
-        let mut task = task;
-        task.advance(context.program, declared, context.fuel);
-        self.retire(task);
+        advance(&mut self.task, context, declared, next);
+        self.wait = NodeWait::None;
     }
 
     /// A store to the word, whose value was `old`, retires, and asks the word's home to make the core its registrant.
@@ -160,21 +213,22 @@ impl Node {
         &mut self,
         context: &Context<'_>,
         declared: &TaskDecl,
-        task: TaskState,
+        next: &Next,
         word: WordId,
         old: u32,
     ) -> Step
         requires banks { 0 < (setting context.now).shape.banks }
-        requires open { task.end ≡ None }
-        requires fuel { task.retired ≤ (setting context.now).fuel }
-        requires kind { IsStore (need_of (setting context.now).program declared.now (setting context.now).fuel task) }
+        requires look { IfSome self.old.task (IsLook (setting context.now) declared.now next.now) }
+        requires kind { IsStore next.now.need }
         requires locks { length self.old.signatures ≤ 32 }
         requires room { (is_some (entry_of self.old word.0) || has_room self.old.cache word.0) ≡ true }
-        ensures node { self.new ≡ (registers (setting context.now) self.old declared.now task word (merged_of (setting context.now).program old task)).0 }
-        ensures step { result ≡ (registers (setting context.now) self.old declared.now task word (merged_of (setting context.now).program old task)).1 }
+        ensures node { (t : TaskState) → self.old.task ≡ Some t
+            → self.new ≡ (registers (setting context.now) self.old declared.now t word (merged_of (setting context.now).program old t)).0 }
+        ensures step { (t : TaskState) → self.old.task ≡ Some t
+            → result ≡ (registers (setting context.now) self.old declared.now t word (merged_of (setting context.now).program old t)).1 }
     {
-        self.write(context, declared, task, word, old, true);
         let core = self.core;
+        self.write(context, declared, next, word, old, true);
         sending(send_home(context, word.0, Message::RegReq { word, core }))
     }
 
@@ -183,25 +237,24 @@ impl Node {
         &mut self,
         context: &Context<'_>,
         declared: &TaskDecl,
-        task: TaskState,
+        next: &Next,
         word: WordId,
         whole: bool,
     ) -> Step
         requires banks { 0 < (setting context.now).shape.banks }
-        requires open { task.end ≡ None }
-        requires fuel { task.retired ≤ (setting context.now).fuel }
-        requires kind { IsStore (need_of (setting context.now).program declared.now (setting context.now).fuel task) }
+        requires look { IfSome self.old.task (IsLook (setting context.now) declared.now next.now) }
+        requires kind { IsStore next.now.need }
         requires locks { length self.old.signatures ≤ 32 }
         requires access { may_access self.old word.0 (entry_of self.old word.0) ≡ true }
-        ensures node { self.new ≡ (stores (setting context.now) self.old declared.now task word whole (entry_of self.old word.0)).0 }
-        ensures step { result ≡ (stores (setting context.now) self.old declared.now task word whole (entry_of self.old word.0)).1 }
+        ensures node { (t : TaskState) → self.old.task ≡ Some t → self.new ≡ (stores (setting context.now) self.old declared.now t word whole (entry_of self.old word.0)).0 }
+        ensures step { (t : TaskState) → self.old.task ≡ Some t → result ≡ (stores (setting context.now) self.old declared.now t word whole (entry_of self.old word.0)).1 }
     {
         match self.cache.get(word) {
-            None if whole => self.register(context, declared, task, word, 0),
+            None if whole => self.register(context, declared, next, word, 0),
             None => self.miss(context, word),
-            Some(Entry::Valid { value, .. }) => self.register(context, declared, task, word, value),
+            Some(Entry::Valid { value, .. }) => self.register(context, declared, next, word, value),
             Some(Entry::Registered { value, pending }) => {
-                self.write(context, declared, task, word, value, pending);
+                self.write(context, declared, next, word, value, pending);
                 silence()
             }
             Some(Entry::Leaving(_)) => silence(),
@@ -230,23 +283,10 @@ impl Node {
     }
 
     /// The node gives the lock back to its home, with the words that were written under it.
-    fn release(
-        &mut self,
-        context: &Context<'_>,
-        declared: &TaskDecl,
-        task: TaskState,
-        lock: LockId,
-    ) -> Step
-        requires banks { 0 < (setting context.now).shape.banks }
-        requires open { task.end ≡ None }
-        requires fuel { task.retired ≤ (setting context.now).fuel }
-        requires kind { IsAdvance (need_of (setting context.now).program declared.now (setting context.now).fuel task) }
-        ensures node { self.new ≡ record self.old { task = Some (advanced (setting context.now).program task) } }
-        ensures step { result ≡ record { sent = to_home (setting context.now).shape.banks lock.0 (ReleaseOf lock (me self.old) (signature_of self.old lock.0)); seen = None } }
+    fn release(&self, context: &Context<'_>, lock: LockId) -> Step
+        requires { 0 < (setting context.now).shape.banks }
+        ensures { result ≡ record { sent = to_home (setting context.now).shape.banks lock.0 (ReleaseOf lock (me self.now) (signature_of self.now lock.0)); seen = None } }
     {
-        let mut task = task;
-        task.advance(context.program, declared, context.fuel);
-        self.task = Some(task);
         let core = self.core;
         let signature = self.signature(lock);
         sending(send_home(
@@ -260,62 +300,36 @@ impl Node {
         ))
     }
 
-    /// An instruction that needs nothing retires.
-    fn advance(&mut self, context: &Context<'_>, declared: &TaskDecl, task: TaskState) -> Step
-        requires open { task.end ≡ None }
-        requires fuel { task.retired ≤ (setting context.now).fuel }
-        requires kind { IsAdvance (need_of (setting context.now).program declared.now (setting context.now).fuel task) }
-        ensures node { self.new ≡ record self.old { task = Some (advanced (setting context.now).program task) } }
-        ensures step { result ≡ record { sent = None; seen = None } }
-    {
-        let mut task = task;
-        task.advance(context.program, declared, context.fuel);
-        self.task = Some(task);
-        silence()
-    }
-
-    /// The task ends.
-    fn end(&mut self, task: TaskState, cause: End) -> Step
-        requires open { task.end ≡ None }
-        requires fuel { task.retired < 4294967295 }
-        ensures node { self.new ≡ record self.old { task = Some (stopped cause task) } }
-        ensures step { result ≡ record { sent = None; seen = None } }
-    {
-        let mut task = task;
-        task.stop(cause);
-        self.task = Some(task);
-        silence()
-    }
-
-    /// The instruction with this need.
-    fn perform(
-        &mut self,
-        context: &Context<'_>,
-        declared: &TaskDecl,
-        task: TaskState,
-        need: Need,
-    ) -> Step
+    /// The instruction of this look.
+    fn perform(&mut self, context: &Context<'_>, declared: &TaskDecl, next: &Next) -> Step
         requires banks { 0 < (setting context.now).shape.banks }
         requires most { (setting context.now).fuel ≤ 32768 }
-        requires open { task.end ≡ None }
-        requires fuel { task.retired ≤ (setting context.now).fuel }
-        requires need { need_of (setting context.now).program declared.now (setting context.now).fuel task ≡ need }
+        requires look { IfSome self.old.task (IsLook (setting context.now) declared.now next.now) }
         requires locks { length self.old.signatures ≤ 32 }
-        requires lets { lets self.old (Some need) ≡ true }
-        ensures node { self.new ≡ (instr_row (setting context.now) self.old declared.now task need).0 }
-        ensures step { result ≡ (instr_row (setting context.now) self.old declared.now task need).1 }
+        requires lets { lets self.old (Some next.now.need) ≡ true }
+        ensures node { (t : TaskState) → self.old.task ≡ Some t → self.new ≡ (instr_row (setting context.now) self.old declared.now t next.now.need).0 }
+        ensures step { (t : TaskState) → self.old.task ≡ Some t → result ≡ (instr_row (setting context.now) self.old declared.now t next.now.need).1 }
     {
-        match need {
-            Need::Local => self.advance(context, declared, task),
-            Need::End { cause } => self.end(task, cause),
-            Need::Load { word } => self.load(context, declared, task, word),
-            Need::Store { word, whole } => self.store(context, declared, task, word, whole),
+        match next.need {
+            Need::Local => {
+                advance(&mut self.task, context, declared, next);
+                silence()
+            }
+            Need::End { cause } => {
+                stop(&mut self.task, cause);
+                silence()
+            }
+            Need::Load { word } => self.load(context, declared, next, word),
+            Need::Store { word, whole } => self.store(context, declared, next, word, whole),
             Need::Acquire { lock } => self.acquire(context, lock),
-            Need::Release { lock } => self.release(context, declared, task, lock),
+            Need::Release { lock } => {
+                advance(&mut self.task, context, declared, next);
+                self.release(context, lock)
+            }
         }
     }
 
-    /// The node's next instruction, by its need.
+    /// The node's next instruction, by one look at it.
     #[tactic(auto, unfolding(crate::specs::OwnEvents::instructed))]
     fn next(&mut self, context: &Context<'_>) -> Step
         requires context { IsContext (setting context.now) }
@@ -324,7 +338,7 @@ impl Node {
         ensures node { self.new ≡ (instructed (setting context.now) self.old).0 }
         ensures step { result ≡ (instructed (setting context.now) self.old).1 }
     {
-        let Some(task) = self.task else {
+        let Some(task) = &self.task else {
             return silence();
         };
         let Some(declared) = declaration(context.program, self.phase, self.core) else {
@@ -333,8 +347,8 @@ impl Node {
         if task.end.is_some() {
             return silence();
         }
-        let need = task.need(context.program, declared, context.fuel);
-        self.perform(context, declared, task, need)
+        let next = task.next(context.program, declared, context.fuel);
+        self.perform(context, declared, &next)
     }
 
     /// The node's next instruction, which may go on: it retires, or asks for what it lacks, or ends the task. A load of a word

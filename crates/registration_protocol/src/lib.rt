@@ -14,7 +14,10 @@ mod signatures;
 mod tests;
 
 pub use laws::{
-    a_node_keeps_its_place, a_store_writes_one_entry, a_value_is_a_copy, one_entry_changes,
+    a_grant_part_by_part, a_leave_tells_of_its_node, a_node_keeps_its_place, a_node_stays_fit,
+    a_phase_begins_part_by_part, a_still_node_waits, a_store_writes_one_entry,
+    a_store_writes_one_word, a_value_is_a_copy, an_instruction_part_by_part, an_own_event_may_come,
+    mails_are_of_the_machine, one_entry_changes, signatures_are_of_the_phase, the_task_stays,
 };
 pub use node::{Node, NodeWait, Received, Step};
 pub use setting::Context;

@@ -1,6 +1,6 @@
-ghost use Rattle.std.specs.Prelude.{◌≡◌, ◌<◌, true, Some, None, IfOk, if◌then◌else◌};
+ghost use Rattle.std.specs.Prelude.{◌≡◌, ◌<◌, true, Some, None, IfOk, if◌then◌else◌, ◌&&◌};
 ghost use Rattle.message_net.specs.Mail.{to_core, to_home};
-ghost use Rattle.registration_protocol.specs.Node.{NodeParts, Setting, opened, need_now, entry_of, is_settled, goes_on};
+ghost use Rattle.registration_protocol.specs.Node.{NodeParts, Setting, opened, need_now, entry_of, is_settled, goes_on, is_active, is_ready};
 ghost use Rattle.registration_protocol.specs.Fit.{IsContext, Fits};
 ghost use Rattle.registration_protocol.specs.Setting.{setting};
 ghost use Rattle.registration_protocol.specs.OwnEvents.{may_access, lets, may_instr, may_arrive, arrives, evicted};
@@ -190,12 +190,19 @@ impl Node {
         }
     }
 
+    /// Whether the node's next instruction, which has this need, may go on.
+    pub(crate) fn may_go_on(&self, need: Option<Need>) -> bool
+        ensures { result ≡ (is_active self.now && is_ready self.now.waiting && lets self.now need) }
+    {
+        let ready = matches!(self.wait, NodeWait::None | NodeWait::Filled(_));
+        !(self.halted || self.arrived) && ready && self.lets(need)
+    }
+
     /// Whether the node's next instruction may go on. Takes no memory.
     pub fn may_instr(&self, context: &Context<'_>) -> bool
         ensures { result ≡ may_instr (setting context.now) self.now }
     {
-        let ready = matches!(self.wait, NodeWait::None | NodeWait::Filled(_));
-        !(self.halted || self.arrived) && ready && self.lets(self.need(context))
+        self.may_go_on(self.need(context))
     }
 
     /// The node arrives at the barrier, and tells the keeper whether its task was bad. It may. Takes no memory.

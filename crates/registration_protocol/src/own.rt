@@ -1,9 +1,9 @@
-ghost use Rattle.std.specs.Prelude.{◌≡◌, ◌↔◌, ℕ, true, false, None, IfSome};
+ghost use Rattle.std.specs.Prelude.{◌≡◌, ◌↔◌, ℕ, true, false, None, IfSome, ◌&&◌};
+ghost use Rattle.word_cache.specs.Cache.{may_go};
 ghost use Rattle.registration_protocol.specs.Fit.{IsContext, Fits};
-ghost use Rattle.registration_protocol.specs.Node.{need_now, entry_of};
+ghost use Rattle.registration_protocol.specs.Node.{need_now, entry_of, is_active, waits_for_nothing};
 ghost use Rattle.registration_protocol.specs.OwnEvents.{crowded, wanted_by, makes_room, may_evict, may_arrive, evicted, victim_for, eviction, arrival, own_event, IsStill, shown_by, end_of};
 ghost use Rattle.registration_protocol.specs.Setting.{setting};
-ghost use Rattle.word_cache.specs.Cache.{may_go};
 
 use crate::node::{Node, NodeWait};
 use crate::setting::Context;
@@ -37,11 +37,11 @@ impl Node {
         }
     }
 
-    /// The word for which the next instruction lacks a place, if there is one.
-    fn wanted(&self, context: &Context<'_>) -> Option<WordId>
-        ensures { result ≡ wanted_by self.now (need_now (setting context.now) self.now) }
+    /// The word for which an instruction with this need lacks a place, if there is one.
+    fn wanted(&self, need: Option<Need>) -> Option<WordId>
+        ensures { result ≡ wanted_by self.now need }
     {
-        match self.need(context) {
+        match need {
             Some(Need::Load { word }) => self.crowded(word),
             Some(Need::Store { word, .. }) => self.crowded(word),
             _ => None,
@@ -59,6 +59,20 @@ impl Node {
         }
     }
 
+    /// Whether the node may evict the word to make room for the wanted one, if there is one.
+    fn may_make_room(&self, context: &Context<'_>, word: WordId, wanted: Option<WordId>) -> bool
+        requires context { IsContext (setting context.now) }
+        requires fits { Fits (setting context.now) self.now }
+        ensures { result ≡ (is_active self.now && waits_for_nothing self.now.waiting && makes_room self.now word.0 wanted) }
+    {
+        let sets = context.shape.sets;
+        let idle = !(self.halted || self.arrived) && self.wait == NodeWait::None;
+        match wanted {
+            Some(wanted) => idle && word.0 % sets == wanted.0 % sets && self.may_go(word),
+            None => false,
+        }
+    }
+
     /// Whether the node may evict the word: its next instruction lacks a place for a word of the same set, it waits for
     /// nothing, and the word is Valid, or Registered and not pending. Takes no memory.
     pub fn may_evict(&self, context: &Context<'_>, word: WordId) -> bool
@@ -66,12 +80,7 @@ impl Node {
         requires fits { Fits (setting context.now) self.now }
         ensures { result ≡ may_evict (setting context.now) self.now word.0 }
     {
-        let sets = context.shape.sets;
-        let idle = !(self.halted || self.arrived) && self.wait == NodeWait::None;
-        match self.wanted(context) {
-            Some(wanted) => idle && word.0 % sets == wanted.0 % sets && self.may_go(word),
-            None => false,
-        }
+        self.may_make_room(context, word, self.wanted(self.need(context)))
     }
 
     /// Evicts a word, which may be evicted: a copy goes, and a registered word goes back to its home. Takes no memory.
@@ -86,26 +95,28 @@ impl Node {
         self.give_up(context, word)
     }
 
-    /// The cache's victim for the word that the next instruction lacks a place for.
-    fn victim(&self, context: &Context<'_>) -> Option<WordId>
-        ensures value { result ≡ victim_for self.now (wanted_by self.now (need_now (setting context.now) self.now)) }
+    /// The cache's victim for the wanted word, if there is one.
+    fn victim(&self, wanted: Option<WordId>) -> Option<WordId>
+        ensures value { result ≡ victim_for self.now wanted }
         ensures evictable { IfSome result (λ w. may_go (entry_of self.now w.0) ≡ true) }
     {
-        match self.wanted(context) {
+        match wanted {
             Some(wanted) => self.cache.victim(wanted),
             None => None,
         }
     }
 
-    /// The eviction that the node makes next.
-    fn eviction(&self, context: &Context<'_>) -> Option<Event>
+    /// The eviction that the node makes next, whose next instruction has this need.
+    fn eviction(&self, context: &Context<'_>, need: Option<Need>) -> Option<Event>
         requires context { IsContext (setting context.now) }
         requires fits { Fits (setting context.now) self.now }
+        requires need { need ≡ need_now (setting context.now) self.now }
         ensures value { result ≡ eviction (setting context.now) self.now }
         ensures none { (result ≡ None) ↔ ((w : ℕ) → may_evict (setting context.now) self.now w ≡ false) }
     {
-        let victim = self.victim(context)?;
-        if self.may_evict(context, victim) {
+        let wanted = self.wanted(need);
+        let victim = self.victim(wanted)?;
+        if self.may_make_room(context, victim, wanted) {
             Some(Event::Evict(self.core, victim))
         } else {
             None
@@ -134,10 +145,11 @@ impl Node {
         // None exactly where none of its events may come
         ensures none { (result ≡ None) ↔ IsStill (setting context.now) self.now }
     {
-        if self.may_instr(context) {
+        let need = self.need(context);
+        if self.may_go_on(need) {
             return Some(Event::Instr(self.core));
         }
-        match self.eviction(context) {
+        match self.eviction(context, need) {
             Some(event) => Some(event),
             None => self.arrival(),
         }
@@ -148,7 +160,7 @@ impl Node {
     pub fn task_end(&self) -> Option<TaskEnd>
         ensures { result ≡ end_of self.now self.now.task }
     {
-        let task = self.task?;
+        let task = self.task.as_ref()?;
         let end = shown(task.end, self.wait)?;
         Some(TaskEnd {
             phase: self.phase,

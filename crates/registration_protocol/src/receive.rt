@@ -56,7 +56,7 @@ impl Node {
         ensures node { self.new ≡ (granted_to (setting context.now) self.old lock signature self.old.task).0 }
         ensures received { result ≡ (granted_to (setting context.now) self.old lock signature self.old.task).1 }
     {
-        let Some(mut task) = self.task else {
+        let Some(task) = &mut self.task else {
             return nothing();
         };
         let Some(declared) = declaration(context.program, self.phase, self.core) else {
@@ -66,7 +66,6 @@ impl Node {
         self.signatures
             .set(lock.0 as usize, own_phase(signature, self.phase));
         self.drop_signed(context, lock, &signature);
-        self.task = Some(task);
         self.wait = NodeWait::None;
         Received {
             sent: None,

@@ -1,8 +1,8 @@
 ghost use Rattle.std.specs.Prelude.{◌≡◌, ◌≤◌, length};
 ghost use Rattle.std.specs.List.{find};
 ghost use Rattle.std.specs.Option.{option_copied, option_map};
-ghost use Rattle.rv_core.specs.Task.{started};
 ghost use Rattle.region_table.specs.Tasks.{declared, is_for};
+ghost use Rattle.rv_core.specs.Task.{started};
 
 use dn_base::{CoreId, PhaseId, Shape};
 use region_table::{PhasePlan, Program, TaskDecl};
@@ -33,15 +33,20 @@ fn find_in(tasks: &[TaskDecl], core: CoreId) -> Option<&TaskDecl>
     None
 }
 
-/// The task that the program declares for the core in the phase, if it does.
+/// The task that the program declares for the core in the phase, if it does. Where each core below it has a task, it stands
+/// at the place of the core's number.
 pub(crate) fn declaration(program: &Program, phase: PhaseId, core: CoreId) -> Option<&TaskDecl>
     ensures value { option_copied result ≡ declared program.now phase.0 core.0 }
     ensures locks { length program.now.locks ≤ 32 }
     ensures phases { length program.now.phases ≤ 64 }
 {
-    match program.phases.get(phase.0 as usize) {
-        Some(phase) => find_in(phase.tasks.as_slice(), core),
-        None => None,
+    let Some(phase) = program.phases.get(phase.0 as usize) else {
+        return None;
+    };
+    let tasks = phase.tasks.as_slice();
+    match tasks.get(core.0 as usize) {
+        Some(task) if task.core.0 == core.0 => Some(task),
+        _ => find_in(tasks, core),
     }
 }
 

@@ -14,7 +14,7 @@ use Rattle.queue_lock.specs.Lock.{Lock, IsLockOf, acquired, released}
 use Rattle.queue_lock.proofs.RowLemmas.{IsLockOf-acquired, IsLockOf-released, answer-released}
 use Rattle.registry_bank.specs.declared.bank.BankWord.{BankWord}
 use Rattle.registry_bank.specs.declared.bank.BankWord.TheVariants.{Home, Reg}
-use Rattle.registry_bank.specs.Bank.{BankParts, IsBank, is_core, bank_word, bank_lock, with_word, with_lock, reads, registers, takes_back, acquires, releases, grants, hands_on, from_core, bank_gets}
+use Rattle.registry_bank.specs.Bank.{BankParts, IsBank, is_core, bank_word, bank_lock, with_word, with_lock, reads, registers, takes_back, acquires, releases, grants, hands_on, from_core, bank_gets, is_for_bank}
 use Rattle.registry_bank.proofs.ChangeLemmas.{word-changed, lock-changed}
 
 -- one bank is another after a message, as far as numbers go
@@ -192,3 +192,13 @@ stays b (Acquire lock core) good =
 stays b (Release lock core signature) good =
     stays-from_core b core (releases b lock core signature (bank_lock b lock.0)) good (λ below. stays-releases b lock core signature (bank_lock b lock.0) refl good)
 stays b _ good = silent b good
+
+-- a message of a kind that banks don't answer
+pub other-kind : (b : BankParts) (m : Message) → is_for_bank m ≡ false → bank_gets b m ≡ (b, None)
+unfolding bank_gets
+other-kind b (ReadReq word reader) other = absurd (cc)
+other-kind b (RegReq word core) other = absurd (cc)
+other-kind b (WriteBack word value core) other = absurd (cc)
+other-kind b (Acquire lock core) other = absurd (cc)
+other-kind b (Release lock core signature) other = absurd (cc)
+other-kind b _ other = refl

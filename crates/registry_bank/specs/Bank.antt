@@ -1,5 +1,5 @@
 -- A bank of the shared memory: what it holds, and what it does with each message.
-use Rattle.std.specs.Prelude.{◌≡◌, ℕ, ◌+◌, ◌/◌, ◌%◌, ◌<◌, Bool, ◌&&◌, ◌==◌, nat_lt, List, [], ◌∷◌, length, map, replicate, slice_get, slice_set, Option, Some, None, if◌then◌else◌}
+use Rattle.std.specs.Prelude.{◌≡◌, ℕ, ◌+◌, ◌/◌, ◌%◌, ◌<◌, Bool, true, false, ◌&&◌, ◌==◌, nat_lt, List, [], ◌∷◌, length, map, replicate, slice_get, slice_set, Option, Some, None, if◌then◌else◌}
 use Rattle.dn_base.specs.declared.ids.CoreId.{CoreId}
 use Rattle.dn_base.specs.declared.ids.WordId.{WordId}
 use Rattle.dn_base.specs.declared.ids.LockId.{LockId}
@@ -137,6 +137,15 @@ bank_gets b (Acquire lock core) = from_core b core (acquires b lock core (bank_l
 bank_gets b (Release lock core signature) =
     from_core b core (releases b lock core signature (bank_lock b lock.0))
 bank_gets b _ = (b, None)
+
+-- whether a message is of a kind that banks answer
+abbrev pub is_for_bank : Message → Bool
+is_for_bank (ReadReq word reader) = true
+is_for_bank (RegReq word core) = true
+is_for_bank (WriteBack word value core) = true
+is_for_bank (Acquire lock core) = true
+is_for_bank (Release lock core signature) = true
+is_for_bank _ = false
 
 -- what a word has once a core is its registrant, and once a core has given it back, by what it had before
 abbrev pub after_register : CoreId → Option BankWord → Option BankWord

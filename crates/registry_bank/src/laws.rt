@@ -1,5 +1,5 @@
 //! What a bank's messages come to, for whoever reasons about the machine.
-ghost use Rattle.std.specs.Prelude.{◌≡◌, ℕ, ◌<◌, ◌≤◌, ◌==◌, Some, List, if◌then◌else◌, length};
+ghost use Rattle.std.specs.Prelude.{◌≡◌, ℕ, false, None, ◌<◌, ◌≤◌, ◌==◌, Some, List, if◌then◌else◌, length};
 ghost use Rattle.dn_base.specs.declared.ids.CoreId.{CoreId};
 ghost use Rattle.dn_base.specs.declared.ids.WordId.{WordId};
 ghost use Rattle.dn_base.specs.declared.ids.LockId.{LockId};
@@ -10,7 +10,7 @@ ghost use Rattle.message_net.specs.declared.message.Message.{Message};
 ghost use Rattle.message_net.specs.declared.message.Message.TheVariants.{ReadReq, RegReq, WriteBack, Acquire, Release};
 ghost use Rattle.message_net.specs.declared.message.Outgoing.{Outgoing};
 ghost use Rattle.registry_bank.specs.declared.bank.BankWord.{BankWord};
-ghost use Rattle.registry_bank.specs.Bank.{BankParts, IsNewBank, IsBank, opened_bank, bank_word, bank_lock, with_word, with_lock, bank_gets, after_register, after_write_back, after_acquire, after_release};
+ghost use Rattle.registry_bank.specs.Bank.{BankParts, IsNewBank, IsBank, opened_bank, bank_word, bank_lock, with_word, with_lock, bank_gets, is_for_bank, after_register, after_write_back, after_acquire, after_release};
 
 /// As a run begins each word of the bank holds its value in the first memory, and each of its locks is free.
 pub fn an_opened_bank_holds_the_first_memory()
@@ -24,6 +24,11 @@ pub fn a_bank_stays_the_machines()
     ensures kept { (b : BankParts) (m : Message) → IsBank b → IsBank (bank_gets b m).0 }
     ensures answers { (b : BankParts) (m : Message) (out : Outgoing) → IsBank b → (bank_gets b m).1 ≡ Some out
         → (core : CoreId) × (out.to ≡ Core core) × (core.0 < b.cores) }
+{}
+
+/// A message of a kind that banks don't answer changes nothing.
+pub fn other_kinds_change_nothing()
+    ensures { (b : BankParts) (m : Message) → is_for_bank m ≡ false → bank_gets b m ≡ (b, None) }
 {}
 
 /// A word that gets another content changes alone, and no lock does.

@@ -18,7 +18,7 @@ fn push_grant(out: &mut Vec<u8>, grant: Grant) -> Result<(), Memory>
     push(out, b"\n")
 }
 
-fn push_grants(out: &mut Vec<u8>, grants: &[Grant]) -> Result<(), Memory>
+pub(crate) fn push_grants(out: &mut Vec<u8>, grants: &[Grant]) -> Result<(), Memory>
     ensures { OnOk result (out.new.items ≡ out.old.items ++ flat_map grant_line grants.now) }
 {
     for grant in grants {

@@ -7,11 +7,15 @@
 mod answer;
 mod grants;
 mod refusal;
+mod run;
 #[cfg(test)]
 mod tests;
+#[cfg(test)]
+mod tests_report;
 mod totals;
 
 pub use answer::answer_text;
 pub use grants::grant_text;
 pub use refusal::{Refusal, refusal_line};
+pub use run::report;
 pub use totals::{checked_line, summary};

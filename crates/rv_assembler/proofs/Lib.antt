@@ -6,3 +6,4 @@ pub mod SoundLemmas
 pub mod NameLemmas
 pub mod SourceLemmas
 pub mod LargeLemmas
+pub mod DeclaredLemmas

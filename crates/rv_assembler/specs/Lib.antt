@@ -13,3 +13,4 @@ pub mod Program
 pub mod Source
 pub mod Lookup
 pub mod Whole
+pub mod Names

@@ -1,5 +1,6 @@
 pub mod HighLocks
 pub mod Needs
 pub mod Looks
+pub mod DecodedLemmas
 pub mod HeldLemmas
 pub mod Completions

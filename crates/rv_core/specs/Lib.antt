@@ -6,4 +6,5 @@ pub mod Need
 pub mod Step
 pub mod Kinds
 pub mod Next
+pub mod Decoded
 pub mod Ending

@@ -6,6 +6,7 @@
 #![tactic(auto)]
 
 mod access;
+mod decoded;
 mod ending;
 mod laws;
 mod need;
@@ -14,6 +15,7 @@ mod registers;
 mod step;
 mod task;
 
+pub use decoded::DecodedCode;
 pub use ending::{EndShown, Ending, TaskEnd};
 pub use laws::{
     a_call_changes_one_lock, a_task_that_finishes_holds_no_lock,

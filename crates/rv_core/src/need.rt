@@ -139,7 +139,12 @@ fn call(program: &Program, state: &TaskState, number: u32, lock: u32) -> Need
 }
 
 /// What an instruction needs.
-fn instruction(program: &Program, task: &TaskDecl, state: &TaskState, instr: Instr) -> Need
+pub(crate) fn instruction(
+    program: &Program,
+    task: &TaskDecl,
+    state: &TaskState,
+    instr: Instr,
+) -> Need
     ensures { result ≡ instr_need program.now task.now state.now instr }
 {
     match instr {
@@ -200,7 +205,7 @@ fn ends(need: Need) -> Next
 impl TaskState {
     /// The look, case by case.
     #[tactic(auto, unfolding(crate::specs::Need::need_of))]
-    fn look(&self, program: &Program, task: &TaskDecl, fuel: u32) -> Next
+    pub(crate) fn look(&self, program: &Program, task: &TaskDecl, fuel: u32) -> Next
         ensures { IsNextOf program.now task.now fuel self.now result }
     {
         if self.retired == fuel {

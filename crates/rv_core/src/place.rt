@@ -4,7 +4,7 @@ ghost use Rattle.rv_core.specs.Place.{code_at, data_at, size_of, byte_at, half_a
 use rv_isa::Width;
 
 /// The address of code word 0, in bytes.
-const CODE: u32 = 0x1000;
+pub(crate) const CODE: u32 = 0x1000;
 
 /// The address of data word 0, in bytes.
 const DATA: u32 = 0x1000_0000;

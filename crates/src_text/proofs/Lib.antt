@@ -5,3 +5,4 @@ pub mod LineLemmas
 pub mod CutLemmas
 pub mod LawLemmas
 pub mod SliceLemmas
+pub mod PartLemmas

@@ -26,7 +26,7 @@ front_of_more (b ∷ bs) more some =
     ∙ take_at (front (b ∷ bs)) (drop (length (front (b ∷ bs))) (b ∷ bs) ++ more) (length (front (b ∷ bs))) refl
 
 -- a place where a token begins is within the code
-within_code : (p : ℕ) (code : List ℕ) → begins (get_or (32 ∷ code) p 0) (get_or code p 0) ≡ true → p < length code
+pub within_code : (p : ℕ) (code : List ℕ) → begins (get_or (32 ∷ code) p 0) (get_or code p 0) ≡ true → p < length code
 within_code p code begun = elim (cases_lt p (length code)) [
   | inl within ↦ within
   | inr past ↦ absurd (nothing (get_or (32 ∷ code) p 0) (get_or code p 0) (get_or_past code p 0 past) begun)
@@ -39,7 +39,7 @@ drop_some : (p : ℕ) (code : List ℕ) → p < length code → 0 < length (drop
 drop_some p code within = omega (arith, length-drop p code)
 
 -- a lexeme that stands in the code of a line that stands in the text
-slice_of_lexeme : (text line code more rest : List ℕ) (place p : ℕ) (l : Lexeme) → line ≡ code ++ more → drop place text ≡ line ++ rest → StandsAt place p code l → slice_range text l.start (l.start + length l.bytes) ≡ l.bytes
+pub slice_of_lexeme : (text line code more rest : List ℕ) (place p : ℕ) (l : Lexeme) → line ≡ code ++ more → drop place text ≡ line ++ rest → StandsAt place p code l → slice_range text l.start (l.start + length l.bytes) ≡ l.bytes
 slice_of_lexeme text line code more rest place p l in_line in_text stands =
     let within = within_code p code stands.begun in
     let low : p ≤ length code = omega arith in
@@ -71,7 +71,7 @@ by_fault : (text : List ℕ) (number : ℕ) (ts : List Token) (f : Option LineFa
 by_fault text number ts None good = good refl
 by_fault text number ts (Some f) good = All-nil (IsSliceOf text)
 
-same_tokens : (number : ℕ) (ts : List Token) (f : Option LineFault) → f ≡ None → ts ≡ (line_with number ts f).tokens
+pub same_tokens : (number : ℕ) (ts : List Token) (f : Option LineFault) → f ≡ None → ts ≡ (line_with number ts f).tokens
 same_tokens number ts f none = ap (λ (g : Option LineFault). (line_with number ts g).tokens) (sym none)
 
 slices_of_line : (text line rest : List ℕ) (number place : ℕ) → drop place text ≡ line ++ rest → All (IsSliceOf text) (line_of number place line).tokens
@@ -84,7 +84,7 @@ slices_of_line text line rest number place in_text =
     (subst (AllZip IsTokenOf ls) (sym (same_tokens number (filter_map token_of ls) (fault_of number line) none)) (AreTokensOf-line_of number place line none)))
 
 -- what a line of a text begins
-in_the_text : (text line : List ℕ) (place : ℕ) → slice_range text place (place + length line) ≡ line → drop place text ≡ line ++ drop (length line) (drop place text)
+pub in_the_text : (text line : List ℕ) (place : ℕ) → slice_range text place (place + length line) ≡ line → drop place text ≡ line ++ drop (length line) (drop place text)
 in_the_text text line place slice =
     let count : place + length line - place ≡ length line = omega arith in
     sym (take-append-drop (length line) (drop place text))

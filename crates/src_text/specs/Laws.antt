@@ -1,10 +1,11 @@
 -- What holds of the lines and the lexemes of every text.
-use Rattle.std.specs.Prelude.{◌≡◌, ℕ, ◌+◌, ◌<◌, ◌≤◌, Bool, false, not, ◌&&◌, List, [], ◌∷◌, ◌++◌, length, take, drop, get_or, slice_get, slice_index, slice_range, nat_le, nat_lt, if◌then◌else◌, IsTrue, IsFalse, Some, All, sum_by, flat_map}
-use Rattle.std.specs.List.{list_any, AllZip}
-use Rattle.src_text.specs.Byte.{is_newline, is_blank, is_word, is_mark, is_token_byte}
+use Rattle.std.specs.Prelude.{◌≡◌, ℕ, ◌+◌, ◌<◌, ◌≤◌, ◌==◌, Bool, false, not, ◌&&◌, ◌||◌, List, [], ◌∷◌, ◌++◌, length, take, drop, get_or, slice_get, slice_index, slice_range, nat_le, nat_lt, if◌then◌else◌, IsTrue, IsFalse, Some, All, sum_by, flat_map}
+use Rattle.std.specs.List.{list_any, list_all, AllZip}
+use Rattle.src_text.specs.Byte.{is_newline, is_blank, is_letter, is_word, is_mark, is_token_byte}
 use Rattle.src_text.specs.Lexeme.{Lexeme, begins, front, code_of, kind_of}
 use Rattle.src_text.specs.Line.{cut, line_of, lines_of}
 use Rattle.src_text.specs.declared.token.Token.{Token}
+use Rattle.src_text.specs.declared.token.TokenKind.TheVariants.{Name}
 
 -- a line with its newline
 abbrev pub ended : List ℕ → List ℕ
@@ -86,3 +87,16 @@ AreInOrder from (t ∷ ts) = (from ≤ t.start) × AreInOrder t.end ts
 -- no byte of the code is left out but blanks
 abbrev pub LeavesBlanks : ℕ → List ℕ → List Token → Type 0
 LeavesBlanks place line ts = (p : ℕ) → p < length (code_of line) → IsFalse (is_blank (slice_index (code_of line) p)) → IsTrue (list_any (holds (place + p)) ts)
+
+-- whether bytes are a name: a letter, `_` or `.`, and then letters, digits, `_` and `.`
+abbrev pub is_name : List ℕ → Bool
+is_name [] = false
+is_name (b ∷ bs) = (is_letter b || b == 95 || b == 46) && list_all is_word bs
+
+-- the token's place is one of the text
+abbrev pub IsPlaced : List ℕ → Token → Type 0
+IsPlaced text t = (t.start ≤ t.end) × (t.end ≤ length text)
+
+-- the bytes from a name token's start to its end are a name
+abbrev pub IsNamed : List ℕ → Token → Type 0
+IsNamed text t = t.kind ≡ Name → IsTrue (is_name (slice_range text t.start t.end))

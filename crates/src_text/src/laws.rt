@@ -1,7 +1,7 @@
 //! What holds of the lines and the tokens of every text, as laws: functions that do nothing, whose contracts say it.
 
 ghost use Rattle.std.specs.Prelude.{◌≡◌, ◌≢◌, ℕ, List, [], ◌∷◌, None, All};
-ghost use Rattle.src_text.specs.Laws.{AreInOrder, AreLexemesOf, AreLinesOf, AreNumbered, AreTokensOf, IsLongest, IsSliceOf, LeavesBlanks};
+ghost use Rattle.src_text.specs.Laws.{AreInOrder, AreLexemesOf, AreLinesOf, AreNumbered, AreTokensOf, IsLongest, IsNamed, IsPlaced, IsSliceOf, LeavesBlanks};
 ghost use Rattle.src_text.specs.Lexeme.{front, lexemes_of};
 ghost use Rattle.src_text.specs.Line.{cut, fault_of, line_of, lines_of};
 
@@ -37,7 +37,10 @@ pub fn lines_have_their_tokens()
         → (line_of number place line).tokens ≡ [] }
 {}
 
-/// The tokens of a text are parts of it: the bytes from a token's start to its end are a token of its kind.
+/// The tokens of a text are parts of it: the bytes from a token's start to its end are a token of its kind, and those of a
+/// name token are a name.
 pub fn tokens_are_slices_of_the_text()
-    ensures { (text : List ℕ) → All (λ line. All (IsSliceOf text) line.tokens) (lines_of text) }
+    ensures places { (text : List ℕ) → All (λ line. All (IsPlaced text) line.tokens) (lines_of text) }
+    ensures kinds { (text : List ℕ) → All (λ line. All (IsSliceOf text) line.tokens) (lines_of text) }
+    ensures names { (text : List ℕ) → All (λ line. All (IsNamed text) line.tokens) (lines_of text) }
 {}

@@ -61,5 +61,6 @@ fn main(rt: HostRuntime) -> io::Result<()> {
     bench(&rt, rt.alloc(), 1, calls, rates)?;
     bench(&rt, rt.alloc(), 2, calls, rates)?;
     bench(&rt, rt.alloc(), 4, calls, rates)?;
-    bench(&rt, rt.alloc(), 8, calls, rates)
+    bench(&rt, rt.alloc(), 8, calls, rates)?;
+    bench(&rt, rt.alloc(), 17, calls, rates)
 }

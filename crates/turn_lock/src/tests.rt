@@ -1,12 +1,11 @@
-ghost use Rattle.std.specs.Prelude.{ℕ, ◌+◌, ◌%◌, ◌^◌, All, IfSome};
+ghost use Rattle.std.specs.Prelude.{ℕ, ◌+◌, ◌%◌, ◌^◌, IfSome};
 ghost use Rattle.turn_lock.specs.Passes.{IsPassOf};
 
 use crate::{Entry, Object, Turn, TurnPass};
 use dn_base::Memory;
-use std::alloc::{AllocError, Global};
+use std::alloc::AllocError;
 use std::sync::Wait;
 use std::test::Fail;
-use std::thread;
 use std::thread::{Threads, join};
 
 /// Adds its input to a total, and answers the total.
@@ -235,104 +234,5 @@ fn a_refused_call_leaves_no_trace(rt: HostRuntime) -> Result<(), Fail> {
     let calls = history.as_slice();
     assert_eq!(rt; (object.total.sum, calls.len()), (11, 3));
     assert!(rt; calls.iter().all(|e| e.input != 3));
-    Ok(())
-}
-
-// Moves so many passes, or all where there are fewer.
-fn move_some(
-    turn: &Turn<Total>,
-    from: &mut Vec<TurnPass<Total>>,
-    into: &mut Vec<TurnPass<Total>>,
-    most: usize,
-) -> Result<(), Memory>
-    requires { All (IsPassOf turn.now) from.old.items × All (IsPassOf turn.now) into.old.items }
-    ensures { All (IsPassOf turn.now) from.new.items × All (IsPassOf turn.now) into.new.items }
-{
-    for _moved in 0..most {
-        let Some(pass) = from.pop() else {
-            return Ok(());
-        };
-        into.push(pass)?;
-    }
-    Ok(())
-}
-
-// Ten calls with each of these passes.
-fn call_with_each<R: Wait>(
-    rt: &R,
-    alloc: Global,
-    turn: &Turn<Total>,
-    mut passes: Vec<TurnPass<Total>>,
-) -> Option<Vec<TurnPass<Total>>>
-    requires { All (IsPassOf turn.now) passes.items }
-    ensures { IfSome result (λ called. All (IsPassOf turn.now) called.items) }
-{
-    let mut called = Vec::new(alloc);
-    while let Some(pass) = passes.pop() {
-        called.push(call_often(rt, turn, pass, 10)?).ok()?;
-    }
-    Some(called)
-}
-
-// Each thread has some of the passes. All come back.
-fn call_in_threads<R: Threads + Wait + Sync>(
-    rt: &R,
-    alloc: Global,
-    turn: &Turn<Total>,
-    hands: Vec<Vec<TurnPass<Total>>>,
-) -> Option<Vec<TurnPass<Total>>>
-    requires { All (λ hand. All (IsPassOf turn.now) hand.items) hands.items }
-    ensures { IfSome result (λ all. All (IsPassOf turn.now) all.items) }
-{
-    let called = thread::map_vec(
-        rt,
-        hands,
-        &|hand: Vec<TurnPass<Total>>| -> Option<Vec<TurnPass<Total>>>
-            requires { All (IsPassOf turn.now) hand.items }
-            ensures { IfSome result (λ called. All (IsPassOf turn.entry.now) called.items) }
-        { call_with_each(rt, alloc, turn, hand) },
-    );
-    collect(alloc, turn, called.ok()?)
-}
-
-fn collect(
-    alloc: Global,
-    turn: &Turn<Total>,
-    mut hands: Vec<Option<Vec<TurnPass<Total>>>>,
-) -> Option<Vec<TurnPass<Total>>>
-    requires { All (λ hand. IfSome hand (λ passes. All (IsPassOf turn.now) passes.items)) hands.items }
-    ensures { IfSome result (λ all. All (IsPassOf turn.now) all.items) }
-{
-    let mut all = Vec::new(alloc);
-    while let Some(hand) = hands.pop() {
-        let mut hand = hand?;
-        move_some(turn, &mut hand, &mut all, 17).ok()?;
-    }
-    Some(all)
-}
-
-#[test]
-fn four_threads_share_seventeen_passes(rt: HostRuntime) -> Result<(), Fail> {
-    let alloc = rt.alloc();
-    let (turn, mut first) = Turn::start(alloc, Total { sum: 0 }, 17)?;
-    let mut second = Vec::new(alloc);
-    let mut third = Vec::new(alloc);
-    let mut fourth = Vec::new(alloc);
-    move_some(&turn, &mut first, &mut second, 4)?;
-    move_some(&turn, &mut first, &mut third, 4)?;
-    move_some(&turn, &mut first, &mut fourth, 4)?;
-    let hands = vec![in alloc; first, second, third, fourth]?;
-    let Some(passes) = call_in_threads(&rt, alloc, &turn, hands) else {
-        panic!(rt; "no memory")
-    };
-    assert_eq!(rt; passes.len(), 17);
-    let Ok((total, history)) = turn.close(passes) else {
-        unreachable!()
-    };
-    let calls = history.as_slice();
-    assert_eq!(rt; (total.sum, calls.len()), (170, 170));
-    for pass in 0..17 {
-        assert_eq!(rt; calls_of(calls, pass), 10);
-    }
     Ok(())
 }

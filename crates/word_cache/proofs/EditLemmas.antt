@@ -23,7 +23,7 @@ new_pairs : (ps : List Place) → Each (λ (q : Place). q.pair ≡ None) ps → 
 new_pairs [] none = refl
 new_pairs (q ∷ qs) none = rw none.0 (new_pairs qs none.1)
 
-pub new_row : (sets ways : ℕ) (row : List Place) → 0 < sets → sets ≤ 256 → 0 < ways → ways ≤ 16 → length row ≡ sets * ways → ((i : ℕ) (d : Place) → i < length row → get_or row i d ≡ record { pair = None; used = i }) → IsCacheRow sets ways (sets * ways) row
+pub new_row : (sets ways : ℕ) (row : List Place) → 0 < sets → sets ≤ 256 → 0 < ways → ways ≤ 16 → length row ≡ sets * ways → ((i : ℕ) (d : Place) → i < length row → get_or row i d ≡ record { pair = None; used = i + 1 }) → IsCacheRow sets ways (sets * ways + 1) row
 new_row sets ways row s1 s2 w1 w2 whole each =
     record {
       row_is = record {
@@ -32,14 +32,15 @@ new_row sets ways row s1 s2 w1 w2 whole each =
         some_ways = w1;
         most_ways = w2;
         whole = whole;
-        times = λ i j d e bi bj other. rw (each i d bi, each j e bj) other;
+        numbered = λ i d bi. rw (each i d bi) (omega arith);
+        times = λ i j d e bi bj other same. other (omega (arith, ap (λ (q : Place). q.used) (sym (each i d bi)) ∙ same ∙ ap (λ (q : Place). q.used) (each j e bj)));
         words = λ i j d e bi bj other. rw (each i d bi) tt;
         placed = λ i d bi. rw (each i d bi) tt;
       };
       before = λ i d bi. rw (each i d bi) (omega (arith, bi, whole));
     }
 
-pub new_row_pairs : (row : List Place) → ((i : ℕ) (d : Place) → i < length row → get_or row i d ≡ record { pair = None; used = i }) → pairs_by_use row ≡ []
+pub new_row_pairs : (row : List Place) → ((i : ℕ) (d : Place) → i < length row → get_or row i d ≡ record { pair = None; used = i + 1 }) → pairs_by_use row ≡ []
 new_row_pairs row each =
     new_pairs (by_use row) (Each-by_use (λ (q : Place). q.pair ≡ None) row (Each-get (λ (q : Place). q.pair ≡ None) row (λ i d below. ap (λ (q : Place). q.pair) (each i d below))))
 
@@ -52,15 +53,15 @@ push_last : (row : List Place) (x : Place) (d : Place) → get_or (row ++ x ∷ 
 push_last [] x d = refl
 push_last (q ∷ qs) x d = push_last qs x d
 
-pub new_place : (row : List Place) (n : ℕ) → length row ≡ n → ((i : ℕ) (d : Place) → i < n → get_or row i d ≡ record { pair = None; used = i }) → (i : ℕ) (d : Place) → i < n + 1 → get_or (row ++ record { pair = None; used = n } ∷ []) i d ≡ record { pair = None; used = i }
+pub new_place : (row : List Place) (n : ℕ) → length row ≡ n → ((i : ℕ) (d : Place) → i < n → get_or row i d ≡ record { pair = None; used = i + 1 }) → (i : ℕ) (d : Place) → i < n + 1 → get_or (row ++ record { pair = None; used = n + 1 } ∷ []) i d ≡ record { pair = None; used = i + 1 }
 new_place row n long each i d below = by_test (nat_lt i n) refl where
-  by_test : (t : Bool) → nat_lt i n ≡ t → get_or (row ++ record { pair = None; used = n } ∷ []) i d ≡ record { pair = None; used = i }
+  by_test : (t : Bool) → nat_lt i n ≡ t → get_or (row ++ record { pair = None; used = n + 1 } ∷ []) i d ≡ record { pair = None; used = i + 1 }
   by_test true e =
       let lower : i < n = grind (arith, nat_tests) in
-      push_below row (record { pair = None; used = n }) i d (omega (arith, lower, long)) ∙ each i d lower
+      push_below row (record { pair = None; used = n + 1 }) i d (omega (arith, lower, long)) ∙ each i d lower
   by_test false e =
       let last : i ≡ n = grind (arith, nat_tests) in
-      rw (last, ← long) (push_last row (record { pair = None; used = length row }) d)
+      rw (last, ← long) (push_last row (record { pair = None; used = length row + 1 }) d)
 
 -- the entry at the word's place
 pub entry_found : (sets ways k : ℕ) (d : Place) (word : WordId) (row : List Place) → IsRow sets ways row → k < length row → has_word word.0 (get_or row k d) ≡ true → option_map (λ (p : Pair). p.1) (get_or row k d).pair ≡ lookup word.0 (pairs_by_use row)
@@ -86,7 +87,7 @@ entry_held sets ways k d word row good within may absent = by_pair (get_or row k
 pub wrote : (sets ways k time : ℕ) (d : Place) (word : WordId) (e : Entry) (row : List Place) → IsRow sets ways row → k < length row → AreBefore time row → k / ways ≡ word.0 % sets → MayHold word.0 (get_or row k d).pair → ((j : ℕ) (f : Place) → j < length row → j ≢ k → has_word word.0 (get_or row j f) ≡ false) → IsCacheRow sets ways (time + 1) (set row k (record { pair = Some (word, e); used = time })) × (pairs_by_use (set row k (record { pair = Some (word, e); used = time })) ≡ put word e (pairs_by_use row))
 wrote sets ways k time d word e row good within before place may absent = (
   record {
-    row_is = IsRow-set sets ways k (record { pair = Some (word, e); used = time }) row good within (λ j f below other same. omega (arith, before j f below, same)) (λ j f below other. of_other word e (get_or row j f).pair (absent j f below other)) (sym place);
+    row_is = IsRow-set sets ways k (record { pair = Some (word, e); used = time }) row good within (omega (arith, before k d within)) (λ j f below other same. omega (arith, before j f below, same)) (λ j f below other. of_other word e (get_or row j f).pair (absent j f below other)) (sym place);
     before = AreBefore-set (time + 1) k (record { pair = Some (word, e); used = time }) row (λ j f below. omega (arith, before j f below)) within (omega arith);
   },
   written_last sets ways k d word e (record { pair = Some (word, e); used = time }) row good within before refl (Each-others (λ (q : Place). has_word word.0 q ≡ false) row k (λ j f below other. absent j f below other)) may,
@@ -99,7 +100,7 @@ touched_is word e ps there = rw there refl
 pub kept_row : (sets ways k clock : ℕ) (d y : Place) (row : List Place) → IsCacheRow sets ways clock row → k < length row → y.used ≡ (get_or row k d).used → Keeps y.pair (get_or row k d).pair → IsCacheRow sets ways clock (set row k y)
 kept_row sets ways k clock d y row good within time keeps =
     record {
-      row_is = IsRow-set sets ways k y row good.row_is within
+      row_is = IsRow-set sets ways k y row good.row_is within (omega (arith, time, good.row_is.numbered k d within))
           (λ j f below other same. good.row_is.times j k f d below within other (same ∙ time))
           (λ j f below other. keeps_apart (get_or row j f).pair y.pair (get_or row j f).pair (get_or row k d).pair (itself (get_or row j f).pair) keeps (good.row_is.words j k f d below within other))
           (keeps_set sets (k / ways) y.pair (get_or row k d).pair keeps (good.row_is.placed k d within));

@@ -1,5 +1,5 @@
 -- What the calls do to the row of a cache, and what the pairs are then.
-use Rattle.std.proofs.Common.{◌≡◌, ◌≢◌, ℕ, ◌/◌, ◌%◌, ◌<◌, ◌==◌, Bool, true, false, List, [], ◌∷◌, ◌++◌, length, get_or, set, Option, Some, None, refl, arith, ap, ◌∙◌, sym, length-set}
+use Rattle.std.proofs.Common.{◌≡◌, ◌≢◌, ℕ, ◌/◌, ◌%◌, ◌<◌, ◌≤◌, ◌==◌, Bool, true, false, List, [], ◌∷◌, ◌++◌, length, get_or, set, Option, Some, None, refl, arith, ap, ◌∙◌, sym, length-set}
 use Rattle.std.proofs.lemmas.Bool.{eqb-true, eqb-false}
 use Rattle.std.proofs.lemmas.Bool.Decides.{nat_tests}
 use Rattle.std.proofs.lemmas.List.{get_or-set_same, get_or-set_other}
@@ -7,7 +7,7 @@ use Rattle.dn_base.specs.declared.ids.WordId.{WordId}
 use Rattle.word_cache.specs.declared.row.Entry.{Entry}
 use Rattle.word_cache.specs.declared.row.Place.{Place}
 use Rattle.word_cache.specs.Cache.{Pair, lookup, without, put, changed}
-use Rattle.word_cache.specs.Row.{by_use, pairs_of, pairs_by_use, has_word, pair_is_of, AreOfOthers, IsOfSet, MayHold, IsRow, AreBefore}
+use Rattle.word_cache.specs.Row.{by_use, pairs_of, pairs_by_use, has_word, pair_is_of, AreOfOthers, IsOfSet, MayHold, IsRow, AreFrom, AreBefore}
 use Rattle.word_cache.proofs.OrderLemmas.{Each, Each-get, Each-by_use, Each-others, others, by_use-set, by_use-at, Lacks, pairs-empty, pairs-last, lookup-none, lookup-put, without-none, without-put, changed-put}
 
 -- pairs of other words
@@ -129,14 +129,25 @@ pairs_kept R back row k y within all new i j d e bi bj other = by_test (i == k) 
   by_test false false a b =
       rw (get_or-set_other row k i y d (eqb-false i k a), get_or-set_other row k j y e (eqb-false j k b)) (all i j d e (low i bi) (low j bj) other)
 
-pub IsRow-set : (sets ways k : ℕ) (y : Place) (row : List Place) → IsRow sets ways row → k < length row → ((j : ℕ) (d : Place) → j < length row → j ≢ k → (get_or row j d).used ≢ y.used) → ((j : ℕ) (d : Place) → j < length row → j ≢ k → AreOfOthers (get_or row j d).pair y.pair) → IsOfSet sets (k / ways) y.pair → IsRow sets ways (set row k y)
-IsRow-set sets ways k y row good within time words place =
+AreFrom-set : (time k : ℕ) (y : Place) (row : List Place) → AreFrom time row → k < length row → time ≤ y.used → AreFrom time (set row k y)
+AreFrom-set time k y row from within later i d below = by_test (i == k) refl where
+  by_test : (t : Bool) → (i == k) ≡ t → time ≤ (get_or (set row k y) i d).used
+  by_test true e =
+      let same : i ≡ k = eqb-true i k e in
+      rw (same, get_or-set_same row k y d within) later
+  by_test false e =
+      let low : i < length row = omega (arith, below, length-set row k y) in
+      rw (get_or-set_other row k i y d (eqb-false i k e)) (from i d low)
+
+pub IsRow-set : (sets ways k : ℕ) (y : Place) (row : List Place) → IsRow sets ways row → k < length row → 1 ≤ y.used → ((j : ℕ) (d : Place) → j < length row → j ≢ k → (get_or row j d).used ≢ y.used) → ((j : ℕ) (d : Place) → j < length row → j ≢ k → AreOfOthers (get_or row j d).pair y.pair) → IsOfSet sets (k / ways) y.pair → IsRow sets ways (set row k y)
+IsRow-set sets ways k y row good within numbered time words place =
     record {
       some_sets = good.some_sets;
       most_sets = good.most_sets;
       some_ways = good.some_ways;
       most_ways = good.most_ways;
       whole = length-set row k y ∙ good.whole;
+      numbered = AreFrom-set 1 k y row good.numbered within numbered;
       times = pairs_kept (λ (p q : Place). p.used ≢ q.used) (λ p q apart same. apart (sym same)) row k y within good.times time;
       words = pairs_kept (λ (p q : Place). AreOfOthers p.pair q.pair) (λ p q apart. apart_back p.pair q.pair apart) row k y within good.words words;
       placed = each;

@@ -58,6 +58,7 @@ row-map f sets ways clock row times keeps good =
         some_ways = good.row_is.some_ways;
         most_ways = good.row_is.most_ways;
         whole = length-map row f ∙ good.row_is.whole;
+        numbered = λ i d bi. rw (get_or-map f row i d d (low i bi), times (get_or row i d)) (good.row_is.numbered i d (low i bi));
         times = λ i j d e bi bj other. rw (get_or-map f row i d d (low i bi), get_or-map f row j e e (low j bj), times (get_or row i d), times (get_or row j e)) (good.row_is.times i j d e (low i bi) (low j bj) other);
         words = λ i j d e bi bj other. rw (get_or-map f row i d d (low i bi), get_or-map f row j e e (low j bj)) (keeps_apart (f (get_or row i d)).pair (f (get_or row j e)).pair (get_or row i d).pair (get_or row j e).pair (keeps (get_or row i d)) (keeps (get_or row j e)) (good.row_is.words i j d e (low i bi) (low j bj) other));
         placed = λ i d bi. rw (get_or-map f row i d d (low i bi)) (keeps_set sets (i / ways) (f (get_or row i d)).pair (get_or row i d).pair (keeps (get_or row i d)) (good.row_is.placed i d (low i bi)));

@@ -6,7 +6,7 @@ use Rattle.std.proofs.lemmas.List.Sums.{sum_by-cons}
 use Rattle.std.proofs.lemmas.Bool.Decides.{nat_tests}
 use Rattle.word_cache.specs.declared.row.Place.{Place}
 use Rattle.word_cache.specs.Cache.{Pair}
-use Rattle.word_cache.specs.Row.{by_use, pairs_of, pairs_by_use, IsRow, IsFirst, earlier, is_from}
+use Rattle.word_cache.specs.Row.{by_use, pairs_of, pairs_by_use, IsRow, AreFrom, IsFirst, earlier, is_from}
 use Rattle.word_cache.proofs.OrderLemmas.{Each-get, Each-by_use, Each-others, others, by_use-set, by_use-at, passes, find-none, find-put, renumbered}
 use Rattle.word_cache.proofs.RowLemmas.{IsRow-set, others_apart}
 
@@ -93,12 +93,12 @@ elsewhere_used sets ways k time d row good within from first j e below other equ
     apart (omega (arith, least, from, equal))
 
 -- the place with the least time from `time` on may get that time
-pub new_time : (sets ways k time : ℕ) (d y : Place) (row : List Place) → IsRow sets ways row → k < length row → y.pair ≡ (get_or row k d).pair → y.used ≡ time → time ≤ (get_or row k d).used → ((j : ℕ) (e : Place) → j < length row → time ≤ (get_or row j e).used → (get_or row k d).used ≤ (get_or row j e).used) → (pairs_by_use (set row k y) ≡ pairs_by_use row) × IsRow sets ways (set row k y)
-new_time sets ways k time d y row good within same at from first = (
+pub new_time : (sets ways k time : ℕ) (d y : Place) (row : List Place) → IsRow sets ways row → k < length row → y.pair ≡ (get_or row k d).pair → y.used ≡ time → 1 ≤ time → time ≤ (get_or row k d).used → ((j : ℕ) (e : Place) → j < length row → time ≤ (get_or row j e).used → (get_or row k d).used ≤ (get_or row j e).used) → (pairs_by_use (set row k y) ≡ pairs_by_use row) × IsRow sets ways (set row k y)
+new_time sets ways k time d y row good within same at numbered from first = (
   ap pairs_of (by_use-set row k y within (Each-others (λ (q : Place). q.used ≢ y.used) row k differs))
       ∙ renumbered (get_or row k d) y (by_use (others row k)) same (Each-by_use (λ (q : Place). nat_lt y.used q.used ≡ nat_lt (get_or row k d).used q.used) (others row k) (Each-others (λ (q : Place). nat_lt y.used q.used ≡ nat_lt (get_or row k d).used q.used) row k alike))
       ∙ ap pairs_of (sym (by_use-at row k d within (others_apart sets ways k d row good within))),
-  IsRow-set sets ways k y row good within differs (λ j e below other. rw same (good.words j k e d below within other)) (rw same (good.placed k d within)),
+  IsRow-set sets ways k y row good within (omega (arith, at, numbered)) differs (λ j e below other. rw same (good.words j k e d below within other)) (rw same (good.placed k d within)),
 ) where
   differs : (j : ℕ) (e : Place) → j < length row → j ≢ k → (get_or row j e).used ≢ y.used
   differs j e below other equal = elsewhere_used sets ways k time d row good within from first j e below other (equal ∙ at)
@@ -143,12 +143,13 @@ one_fewer (suc k) time d y (q ∷ qs) within at from other =
     let weighs = from_next time q (other 0 q (omega arith) (omega arith)) in
     omega (arith, weighs, one_fewer k time d y qs (omega (arith, within)) at from (λ j e below apart. other (suc j) e (omega (arith, below)) (omega (arith, apart))), sum_by-cons (λ (p : Place). bit (is_from (time + 1) p)) q (set qs k y), sum_by-cons (λ (p : Place). bit (is_from time p)) q qs)
 
--- all places are from the first time on
-pub all_from : (row : List Place) → count_by (is_from 0) row ≡ length row
-all_from [] = refl
-all_from (q ∷ qs) =
-    let here : bit (is_from 0 q) ≡ 1 = grind (arith, nat_tests) in
-    omega (arith, here, all_from qs, sum_by-cons (λ (p : Place). bit (is_from 0 p)) q qs)
+-- all places are from a time on where each was used then or later
+pub all_from : (time : ℕ) (row : List Place) → AreFrom time row → count_by (is_from time) row ≡ length row
+all_from time [] from = refl
+all_from time (q ∷ qs) from =
+    let first = from 0 q (omega arith) in
+    let here : bit (is_from time q) ≡ 1 = grind (arith, nat_tests, first) in
+    omega (arith, here, all_from time qs (λ i d below. from (suc i) d (omega (arith, below))), sum_by-cons (λ (p : Place). bit (is_from time p)) q qs)
 
 -- and none where none was used from a time on
 pub none_from : (time : ℕ) (row : List Place) → IsFirst (is_from time) row 0 (length row) None → count_by (is_from time) row ≡ 0

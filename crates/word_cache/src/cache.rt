@@ -1,4 +1,4 @@
-ghost use Rattle.std.specs.Prelude.{◌≡◌, ◌≢◌, ℕ, ◌*◌, ◌<◌, ◌≤◌, ◌||◌, true, None, [], IfOk, IfSome};
+ghost use Rattle.std.specs.Prelude.{◌≡◌, ◌≢◌, ℕ, ◌+◌, ◌*◌, ◌<◌, ◌≤◌, ◌||◌, true, None, [], IfOk, IfSome};
 ghost use Rattle.std.specs.Option.{is_some};
 ghost use Rattle.std.specs.Prelude.{length};
 ghost use Rattle.std.specs.List.{filter};
@@ -39,18 +39,21 @@ impl Model for WordCache {
     ghost invariant = { λ c. IsKept c.sets c.ways c.clock c.pending c.places.items };
 }
 
-/// The places of an empty cache, each with a time of its own.
+/// The places of an empty cache, numbered from 1.
 fn empty_places(alloc: Global, sets: u32, ways: u32) -> Result<Vec<Place>, Memory>
     requires sets { 0 < sets }
     requires most_sets { sets ≤ 256 }
     requires ways { 0 < ways }
     requires most_ways { ways ≤ 16 }
-    ensures row { IfOk result (λ places. IsCacheRow sets ways (sets * ways) places.items) }
+    ensures row { IfOk result (λ places. IsCacheRow sets ways (sets * ways + 1) places.items) }
     ensures pairs { IfOk result (λ places. pairs_by_use places.items ≡ []) }
 {
     let mut places = Vec::new(alloc);
-    for used in 0..u64::from(sets * ways) {
-        places.push(Place { pair: None, used })?;
+    for before in 0..u64::from(sets * ways) {
+        places.push(Place {
+            pair: None,
+            used: before + 1,
+        })?;
     }
     Ok(places)
 }
@@ -71,7 +74,7 @@ impl WordCache {
             sets,
             ways,
             places: empty_places(alloc, sets, ways)?,
-            clock: u64::from(sets * ways),
+            clock: u64::from(sets * ways) + 1,
             pending: 0,
         })
     }

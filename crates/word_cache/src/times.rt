@@ -1,22 +1,23 @@
 ghost use Rattle.std.specs.Prelude.{◌≡◌, ℕ, ◌+◌, ◌*◌, ◌<◌, ◌≤◌, length};
-ghost use Rattle.word_cache.specs.Row.{pairs_by_use, IsRow, AreBefore, IsCacheRow, last_time};
+ghost use Rattle.word_cache.specs.Row.{pairs_by_use, IsRow, AreFrom, AreBefore, IsCacheRow, last_time};
 
 use crate::row::{Place, least_from};
 
 /// The last time of the clock.
 pub(crate) const LAST: u64 = u64::MAX;
 
-/// Numbers the times of a row's places from 0 in their order, and gives the next time. Takes no memory: the place with the
+/// Numbers the times of a row's places from 1 in their order, and gives the next time. Takes no memory: the place with the
 /// least time that isn't renumbered yet gets the next number, until none is left.
 fn renumber(places: &mut Vec<Place>, sets: u32, ways: u32) -> u64
     requires { IsRow sets ways places.old.items }
     ensures row { IsRow sets ways places.new.items }
     ensures pairs { pairs_by_use places.new.items ≡ pairs_by_use places.old.items }
+    ensures first { AreFrom 1 places.new.items }
     ensures before { AreBefore result places.new.items }
-    ensures next { result ≡ sets * ways }
-    ensures within { result ≤ 4096 }
+    ensures next { result ≡ sets * ways + 1 }
+    ensures within { result ≤ 4097 }
 {
-    let mut time = 0;
+    let mut time = 1;
     while let Some(place) = least_from(places.as_slice(), time) {
         let Place { pair, used: _ } = places[place];
         places[place] = Place { pair, used: time };
@@ -25,7 +26,7 @@ fn renumber(places: &mut Vec<Place>, sets: u32, ways: u32) -> u64
     time
 }
 
-/// A time behind those of all places. Only where the clock stands at its last time, all are numbered from 0 again.
+/// A time behind those of all places. Only where the clock stands at its last time, all are numbered from 1 again.
 fn free_time(places: &mut Vec<Place>, clock: u64, sets: u32, ways: u32) -> u64
     requires { IsCacheRow sets ways clock places.old.items }
     ensures row { IsRow sets ways places.new.items }
@@ -33,7 +34,7 @@ fn free_time(places: &mut Vec<Place>, clock: u64, sets: u32, ways: u32) -> u64
     ensures before { AreBefore result places.new.items }
     ensures within { result < last_time }
     ensures kept { clock < last_time → (places.new.items ≡ places.old.items) × (result ≡ clock) }
-    ensures anew { clock ≡ last_time → result ≡ sets * ways }
+    ensures anew { clock ≡ last_time → result ≡ sets * ways + 1 }
 {
     if clock == LAST {
         renumber(places, sets, ways)

@@ -6,9 +6,9 @@ abbrev pub invariant-loop-buf : goal.invariant-loop-buf
 invariant-loop-buf g l =
     record {
       bytes : Consumes (g.S.Source.told l.fn.source) (g.S.Source.told l.source) l.text.items;
-      within : length l.text.items ≤ 1048577;
+      within : length l.text.items ≤ l.most;
       counted : g.S.Source.faults l.fn.source ≤ g.S.Source.faults l.source;
     }
 
 abbrev pub decreases-loop-buf : goal.decreases-loop-buf
-decreases-loop-buf g l = 1048577 - vec_len l.text
+decreases-loop-buf g l = l.most - vec_len l.text

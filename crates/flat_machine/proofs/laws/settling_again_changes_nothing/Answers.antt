@@ -1,4 +1,4 @@
-use Rattle.flat_machine.proofs.SettleLaws.{settled-waits, settled-again, settled-front}
+use Rattle.flat_machine.proofs.SettleLaws.{settled-waits, settled-again}
 use Rattle.flat_machine.proofs.laws.settling_again_changes_nothing.Goals as goal
 
 pub returns-clause-again : goal.returns-clause-again

@@ -4,4 +4,4 @@ use Rattle.word_cache.proofs.cache.empty_places.Goals as goal
 
 pub returns-clause-pairs : goal.returns-clause-pairs
 returns-clause-pairs c =
-    new_row_pairs c.loop-used.places.items (λ i d below. c.loop-used.invariant.each i d (omega (arith, below, c.loop-used.invariant.long)))
+    new_row_pairs c.loop-before.places.items (λ i d below. c.loop-before.invariant.each i d (omega (arith, below, c.loop-before.invariant.long)))

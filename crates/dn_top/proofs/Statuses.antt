@@ -1,0 +1,70 @@
+-- The statuses of answers.
+use Rattle.std.proofs.Common.{◌≡◌, inl, inr, ℕ, Bool, true, false, List, refl, sym, ap, ◌∙◌}
+use Rattle.dn_base.specs.declared.status.Status.{Status}
+use Rattle.dn_base.specs.declared.status.Status as status
+use Rattle.dn_base.specs.declared.status.Outcome.{Outcome}
+use Rattle.dn_base.specs.declared.status.Outcome as outcome
+use Rattle.dn_base.specs.Status.{status_of}
+use Rattle.command_words.specs.declared.options.Mode.{Mode}
+use Rattle.command_words.specs.declared.options.Mode as mode
+use Rattle.command_words.specs.declared.options.Options.{Options}
+use Rattle.dn_top.specs.declared.answers.Output.{Output}
+use Rattle.dn_top.specs.Answers.{done_in, IsDone, IsRefusal, IsAnswer, IsOutcome}
+
+-- whether a status is a refusal's
+refuses : Status → Bool
+refuses status.TheVariants.SourceRefused = true
+refuses _ = false
+
+-- whether a status is one of those that no answer has
+abbrev pub other : Status → Bool
+other status.TheVariants.Usage = true
+other status.TheVariants.ReadFault = true
+other status.TheVariants.WriteFault = true
+other status.TheVariants.Memory = true
+other _ = false
+
+other_of : (o : Outcome) → other (status_of o) ≡ false
+other_of outcome.TheVariants.Done = refl
+other_of outcome.TheVariants.Trapped = refl
+other_of outcome.TheVariants.Fuel = refl
+other_of outcome.TheVariants.Stuck = refl
+
+refuses_of : (o : Outcome) → refuses (status_of o) ≡ false
+unfolding refuses
+refuses_of outcome.TheVariants.Done = refl
+refuses_of outcome.TheVariants.Trapped = refl
+refuses_of outcome.TheVariants.Fuel = refl
+refuses_of outcome.TheVariants.Stuck = refl
+
+outcome_refused : (s : Status) → IsOutcome s → s ≡ status.TheVariants.SourceRefused → ⊥
+unfolding refuses
+outcome_refused s (o, e) r = let no_refusal : refuses status.TheVariants.SourceRefused ≡ false = ap refuses (sym r ∙ e) ∙ refuses_of o in cc
+
+pub outcome-other : (s : Status) → IsOutcome s → other s ≡ false
+outcome-other s (o, e) = ap other e ∙ other_of o
+
+status_in : (out p : Output) → out ≡ p → out.status ≡ p.status
+status_in out p e = ap (λ (x : Output). x.status) e
+
+-- what was done has an outcome's status
+done_outcome : (m : Mode) (o : Options) (text : List ℕ) (out : Output) → done_in m o text out → IsOutcome out.status
+done_outcome mode.TheVariants.Run o text out h = (h.holds.end.ending.outcome, status_in out _ h.holds.answer)
+done_outcome mode.TheVariants.Work o text out h = (h.holds.end.ending.outcome, status_in out _ h.holds.answer)
+done_outcome mode.TheVariants.Check o text out h = (outcome.TheVariants.Done, status_in out _ h.holds)
+done_outcome mode.TheVariants.List o text out h = (outcome.TheVariants.Done, status_in out _ h.holds.answer)
+done_outcome mode.TheVariants.Flat o text out h = (h.holds.end.ending.outcome, status_in out _ h.holds.answer)
+
+-- the status of an answer is that of an outcome or of a refusal
+pub answer-other : (o : Options) (text : List ℕ) (out : Output) → IsAnswer o text out → other out.status ≡ false
+answer-other o text out (inl done) = outcome-other out.status (done_outcome o.mode o text out done)
+answer-other o text out (inr was) = ap other (status_in out _ was.answer)
+
+-- an answer with an outcome's status says what was done, and one with the other that the text was refused
+pub answer-done : (o : Options) (text : List ℕ) (out : Output) → IsAnswer o text out → IsOutcome out.status → IsDone o text out
+answer-done o text out (inl done) is = done
+answer-done o text out (inr was) is = absurd (outcome_refused out.status is (status_in out _ was.answer))
+
+pub answer-refused : (o : Options) (text : List ℕ) (out : Output) → IsAnswer o text out → out.status ≡ status.TheVariants.SourceRefused → IsRefusal o text out
+answer-refused o text out (inl done) is = absurd (outcome_refused out.status (done_outcome o.mode o text out done) is)
+answer-refused o text out (inr was) is = was

@@ -1,9 +1,0 @@
-use Rattle.std.proofs.Common.{length, ap, ◌∙◌}
-use Rattle.flat_machine.proofs.TestLemmas.{whole-program}
-use Rattle.flat_machine.proofs.tests.program.Goals as goal
-
-pub invariant_of-check : goal.invariant_of-check
-invariant_of-check c =
-    whole-program c.from_vec.result c.from_vec-2.result c.in_ok-regions.regions c.in_ok-locks.locks c.args.phases
-    (rw (c.from_vec.ensures, c.in_ok-code.ensures.items) c.requires.code) (ap length (c.from_vec-2.ensures ∙ c.in_ok-memory.ensures.items))
-    c.in_ok-regions.ensures c.in_ok-locks.ensures c.requires.well c.requires.few c.requires.tasks

@@ -1,0 +1,3 @@
+pub mod Order
+pub mod Log
+pub mod Counts

@@ -1,0 +1,72 @@
+ghost use Rattle.std.specs.Prelude.{◌≡◌, ◌<◌, map};
+ghost use Rattle.grant_log.specs.Counts.{kind_place, count_of, no_counts, added, AreCounts};
+
+use crate::log::Stamped;
+use message_net::EventKind;
+
+/// How many events of each kind there were, in the order in which `EventKind` names the kinds.
+#[derive(Clone, Copy, Debug, PartialEq, Eq)]
+pub struct Counts {
+    pub kinds: [u64; 17],
+}
+
+/// The place of a kind among the seventeen.
+fn place(kind: EventKind) -> usize
+    ensures value { result ≡ kind_place kind }
+    ensures within { result < 17 }
+{
+    match kind {
+        EventKind::Instr => 0,
+        EventKind::Evict => 1,
+        EventKind::Arrive => 2,
+        EventKind::ReadReq => 3,
+        EventKind::ReadFwd => 4,
+        EventKind::DataReply => 5,
+        EventKind::RegReq => 6,
+        EventKind::RegFwd => 7,
+        EventKind::RegAck => 8,
+        EventKind::WriteBack => 9,
+        EventKind::WbAck => 10,
+        EventKind::Acquire => 11,
+        EventKind::Release => 12,
+        EventKind::Grant => 13,
+        EventKind::Arrived => 14,
+        EventKind::Go => 15,
+        EventKind::Halt => 16,
+    }
+}
+
+impl Counts {
+    /// No event of any kind.
+    pub fn none() -> Counts
+        ensures { result ≡ no_counts }
+    {
+        Counts { kinds: [0; 17] }
+    }
+
+    /// How many events of this kind there were.
+    pub fn count(&self, kind: EventKind) -> u64
+        ensures { result ≡ count_of kind self.now }
+    {
+        self.kinds[place(kind)]
+    }
+
+    /// One more event of this kind. Its count is below the greatest of its type.
+    pub fn add(&mut self, kind: EventKind)
+        requires { count_of kind self.old < 18446744073709551615 }
+        ensures { self.new ≡ added kind self.old }
+    {
+        self.kinds[place(kind)] += 1;
+    }
+
+    /// The counts of these entries.
+    pub fn of(merged: &[Stamped]) -> Counts
+        ensures { AreCounts (map (λ e. e.kind) merged.now) result }
+    {
+        let mut counts = Counts::none();
+        for entry in merged {
+            counts.add(entry.kind);
+        }
+        counts
+    }
+}

@@ -1,0 +1,45 @@
+//! What the definitions come to, for whoever reasons about logs.
+ghost use Rattle.std.specs.Prelude.{◌≡◌, ℕ, ◌+◌, ◌<◌, if◌then◌else◌, List, length, filter, flat_map, sum};
+ghost use Rattle.message_net.specs.declared.actor.Actor.{Actor};
+ghost use Rattle.message_net.specs.declared.event.EventKind.{EventKind};
+ghost use Rattle.grant_log.specs.declared.counts.Counts.{Counts};
+ghost use Rattle.grant_log.specs.declared.log.Stamped.{Stamped};
+ghost use Rattle.grant_log.specs.Order.{IsBefore};
+ghost use Rattle.grant_log.specs.Log.{AreLogs, IsMerge, of_actor};
+ghost use Rattle.grant_log.specs.Counts.{kind_place, same_kind, count_of, added, AreCounts};
+
+/// Each kind has a place of its own among the seventeen.
+pub fn kinds_have_places_of_their_own()
+    ensures within { (k : EventKind) → kind_place k < 17 }
+    ensures own { (j k : EventKind) → kind_place j ≡ kind_place k → j ≡ k }
+{}
+
+/// One more event raises the count of its kind by one, and no other.
+pub fn an_event_raises_its_kind_alone()
+    ensures kind { (j k : EventKind) (counts : Counts) → length counts.kinds ≡ 17
+        → count_of j (added k counts) ≡ count_of j counts + (if same_kind j k then 1 else 0) }
+    ensures sum { (k : EventKind) (counts : Counts) → length counts.kinds ≡ 17 → sum (added k counts).kinds ≡ sum counts.kinds + 1 }
+{}
+
+/// A list of events has one `Counts`, which adds up to its length.
+pub fn counts_add_up()
+    ensures sum { (kinds : List EventKind) (counts : Counts) → length counts.kinds ≡ 17 → AreCounts kinds counts → sum counts.kinds ≡ length kinds }
+    ensures one { (kinds : List EventKind) (counts other : Counts) → length counts.kinds ≡ 17 → length other.kinds ≡ 17
+        → AreCounts kinds counts → AreCounts kinds other → counts ≡ other }
+{}
+
+/// An entry with a smaller stamp stands before one with a greater.
+pub fn stamps_come_first()
+    ensures { (a b : Stamped) → a.stamp < b.stamp → IsBefore a b }
+{}
+
+/// Logs have one merge.
+pub fn a_merge_is_the_only_one()
+    ensures { (logs : List (List Stamped)) (merged other : List Stamped) → IsMerge logs merged → IsMerge logs other → merged ≡ other }
+{}
+
+/// In the merge an actor's entries stand as they do in its log.
+pub fn a_merge_keeps_each_log()
+    ensures { (logs : List (List Stamped)) (merged : List Stamped) (a : Actor) → AreLogs logs → IsMerge logs merged
+        → filter (of_actor a) merged ≡ filter (of_actor a) (flat_map (λ log. log) logs) }
+{}

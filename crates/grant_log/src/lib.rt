@@ -1,0 +1,19 @@
+//! What the actors of a run noted of its events: each actor's log with rising stamps, the one list that all logs make, the
+//! grants in it, and how many events of each kind there were.
+//!
+//! An entry's stamp is greater than that of the entry that sent the mail that it handles, so that in the merged list each
+//! mail is handled after it was sent.
+#![tactic(auto)]
+
+mod counts;
+mod laws;
+mod log;
+#[cfg(test)]
+mod tests;
+
+pub use counts::Counts;
+pub use laws::{
+    a_merge_is_the_only_one, a_merge_keeps_each_log, an_event_raises_its_kind_alone, counts_add_up,
+    kinds_have_places_of_their_own, stamps_come_first,
+};
+pub use log::{Stamped, grants, merge};

@@ -1,0 +1,60 @@
+-- A look at an instruction that was decoded before is a look at the word.
+use Rattle.std.proofs.Common.{◌≡◌, ℕ, ◌-◌, ◌/◌, ◌%◌, Bool, true, false, ◌&&◌, ◌==◌, nat_le, cond, List, map, slice_get, Option, Some, None, option_map, refl, sym, ap, ◌∙◌, arith}
+use Rattle.std.proofs.lemmas.Bool.Decides.{nat_tests}
+use Rattle.std.proofs.lemmas.Option.{none-some, same_Some, slice_get-map}
+use Rattle.region_table.specs.Program.{ProgramParts}
+use Rattle.region_table.specs.declared.declared.TaskDecl.{TaskDecl}
+use Rattle.rv_isa.specs.Encoding.{decoded}
+use Rattle.rv_isa.specs.declared.instr.Instr.{Instr}
+use Rattle.rv_core.specs.declared.task.TaskState.{TaskState}
+use Rattle.rv_core.specs.declared.task.End as cause
+use Rattle.rv_core.specs.declared.need.Need.{Need}
+use Rattle.rv_core.specs.declared.need.Need.TheVariants.{End}
+use Rattle.rv_core.specs.declared.need.Next.{Next}
+use Rattle.rv_core.specs.Need.{need_of, instr_need, word_need, fetch_need}
+use Rattle.rv_core.specs.Place.{code_at}
+use Rattle.rv_core.specs.Step.{read_instr, instr_at}
+use Rattle.rv_core.specs.Next.{IsNextOf}
+use Rattle.rv_core.specs.Decoded.{entry_of, found_at, IsDecoded}
+
+entry-read : (o : Option ℕ) → entry_of (option_map decoded o) ≡ read_instr o
+entry-read None = refl
+entry-read (Some word) = refl
+
+found-read : (code : List ℕ) (pc : ℕ) → found_at (map decoded code) pc ≡ read_instr (code_at code pc)
+found-read code pc = by_test (nat_le 0x1000 pc && pc % 4 == 0)
+  where
+    by_test : (b : Bool) → cond b (entry_of (slice_get (map decoded code) ((pc - 0x1000) / 4))) None ≡ read_instr (cond b (slice_get code ((pc - 0x1000) / 4)) None)
+    by_test true = ap entry_of (slice_get-map decoded code ((pc - 0x1000) / 4)) ∙ entry-read (slice_get code ((pc - 0x1000) / 4))
+    by_test false = refl
+
+-- the entry at the program counter is the instruction there
+pub found-at : (P : ProgramParts) (t : TaskState) (instrs : List (Option Instr)) → IsDecoded P instrs → found_at instrs t.pc ≡ instr_at P t
+found-at P t instrs is = ap (λ (l : List (Option Instr)). found_at l t.pc) is ∙ found-read P.code t.pc
+
+-- what an instruction that is known needs
+known-need : (P : ProgramParts) (d : TaskDecl) (t : TaskState) (i : Instr) (o : Option ℕ) → read_instr o ≡ Some i → fetch_need P d t o ≡ instr_need P d t i
+known-need P d t i None e = absurd (none-some i e)
+known-need P d t i (Some word) e = ap (word_need P d t word) e
+
+pub known-next : (P : ProgramParts) (d : TaskDecl) (fuel : ℕ) (t : TaskState) (i : Instr) → (t.retired ≡ fuel → ⊥) → instr_at P t ≡ Some i
+    → IsNextOf P d fuel t (record { need = instr_need P d t i; instr = Some i })
+unfolding need_of
+known-next P d fuel t i left is = by_test (t.retired == fuel) refl
+  where
+    by_test : (b : Bool) → (t.retired == fuel) ≡ b
+        → ◌≡◌ {A = Next} (record { need = instr_need P d t i; instr = Some i }) (record { need = cond b (End cause.TheVariants.Fuel) (fetch_need P d t (code_at P.code t.pc)); instr = cond b None (instr_at P t) })
+    by_test true e = absurd (left (grind (arith, nat_tests)))
+    by_test false e =
+        let with_instr : Option Instr → Next = λ o. record { need = instr_need P d t i; instr = o } in
+        let with_need : Need → Next = λ n. record { need = n; instr = instr_at P t } in
+        sym (ap with_need (known-need P d t i (code_at P.code t.pc) is) ∙ ap with_instr is)
+
+-- the look by an instruction that is known, and by what it needs
+pub look-known : (P : ProgramParts) (d : TaskDecl) (fuel : ℕ) (t : TaskState) (n : Need) (o : Option Instr) → (t.retired ≡ fuel → ⊥) → o ≡ instr_at P t
+    → Some n ≡ option_map (instr_need P d t) o → IsNextOf P d fuel t (record { need = n; instr = o })
+look-known P d fuel t n None left known is = absurd (none-some n (sym is))
+look-known P d fuel t n (Some i) left known is =
+    let same : n ≡ instr_need P d t i = same_Some n (instr_need P d t i) is in
+    let with_need : Need → Next = λ m. record { need = m; instr = Some i } in
+    ap with_need same ∙ known-next P d fuel t i left (sym known)

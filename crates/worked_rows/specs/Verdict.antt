@@ -1,0 +1,19 @@
+-- Which cases agree, and how they are counted.
+use Rattle.std.specs.Prelude.{◌≡◌}
+use Rattle.dn_base.specs.Faults.{raised}
+use Rattle.worked_rows.specs.Standing.{StandIn}
+use Rattle.worked_rows.specs.declared.case.Case.{Case}
+use Rattle.worked_rows.specs.declared.running.Got.{Got}
+use Rattle.worked_rows.specs.declared.report.Report.{Report}
+
+-- the exit code is the one that is wanted, and so is what was written
+abbrev pub IsAsWanted : Case → Got → Type 0
+IsAsWanted case got = (case.exit ≡ got.exit) × StandIn case.output.items got.bytes.items
+
+-- one more case agrees, and nothing is said of it
+abbrev pub Agrees : Report → Report → Type 0
+Agrees old new = (new.agree ≡ raised old.agree) × (new.differ ≡ old.differ) × (new.lines ≡ old.lines)
+
+-- one more case differs
+abbrev pub Differs : Report → Report → Type 0
+Differs old new = (new.agree ≡ old.agree) × (new.differ ≡ raised old.differ)

@@ -1,0 +1,47 @@
+//! Runs the program on each case of the files here, and says which answers aren't those that the case wants.
+#![tactic(auto)]
+
+mod agreement;
+mod block;
+mod case;
+mod checking;
+mod files;
+mod numbers;
+mod report;
+mod rows;
+mod running;
+mod sections;
+mod texts;
+mod trouble;
+
+use checking::check_all;
+use files::files;
+use std::process::ExitCode;
+use std::rt::Env;
+use std::{env, io};
+
+/// The folder of the cases: the first word of the command, or else where the program runs.
+fn folder(rt: &(impl Env + AllocGlobal)) -> io::Result<String> {
+    for word in env::args(rt)?.skip(1) {
+        return Ok(word);
+    }
+    Ok(String::from_str(rt.alloc(), ".")?)
+}
+
+fn main(rt: HostRuntime) -> io::Result<ExitCode> {
+    let alloc = rt.alloc();
+    let folder = folder(&rt)?;
+    let files = files(&rt, folder.as_str())?;
+    let Ok(report) = check_all(alloc, files.as_slice()) else {
+        println!(rt; "there was no memory")?;
+        return Ok(ExitCode::FAILURE);
+    };
+    print!(rt; "{}", report.lines.as_str())?;
+    let agree = report.agree;
+    println!(rt; "{agree} cases agree")?;
+    Ok(if report.differ == 0 {
+        ExitCode::SUCCESS
+    } else {
+        ExitCode::FAILURE
+    })
+}

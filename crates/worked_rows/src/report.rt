@@ -1,0 +1,99 @@
+use crate::agreement::stand_in;
+use crate::case::Case;
+use crate::running::Got;
+use crate::trouble::BadForm;
+use std::alloc::{AllocError, Global};
+
+/// How many cases agree, and what is said of those that don't.
+#[derive(Drop)]
+pub struct Report {
+    pub agree: u64,
+    pub differ: u64,
+    pub lines: String,
+}
+
+impl Report {
+    ghost use Rattle.std.specs.Prelude.{OnOk};
+    ghost use Rattle.worked_rows.specs.Verdict.{IsAsWanted, Agrees, Differs};
+
+    /// The report on no case.
+    pub fn new(alloc: Global) -> Report {
+        Report {
+            agree: 0,
+            differ: 0,
+            lines: String::new(alloc),
+        }
+    }
+
+    /// Adds a case that isn't of the form of a case.
+    pub fn add_bad(
+        &mut self,
+        alloc: Global,
+        file: &str,
+        line: usize,
+        why: BadForm,
+    ) -> Result<(), AllocError>
+        ensures { OnOk result (Differs self.old self.new) }
+    {
+        let why = why.message();
+        let text = format!(in alloc; "{file}:{line}: {why}\n")?;
+        self.lines.push_str(text.as_str())?;
+        self.differ = self.differ.saturating_add(1);
+        Ok(())
+    }
+
+    /// Adds a case that was run.
+    pub fn add(
+        &mut self,
+        alloc: Global,
+        name: &str,
+        case: &Case,
+        got: &Got,
+    ) -> Result<(), AllocError>
+        ensures agrees { OnOk result (IsAsWanted case.now got.now → Agrees self.old self.new) }
+        ensures differs { OnOk result (¬ IsAsWanted case.now got.now → Differs self.old self.new) }
+    {
+        let has_ended = case.exit == got.exit;
+        let has_written = stand_in(case.output.as_slice(), got.bytes.as_slice());
+        if has_ended && has_written {
+            self.agree = self.agree.saturating_add(1);
+            return Ok(());
+        }
+        self.differ = self.differ.saturating_add(1);
+        if !has_ended {
+            let line = exit_line(alloc, name, case.exit, got.exit)?;
+            self.lines.push_str(line.as_str())?;
+        }
+        if !has_written {
+            let line = output_line(alloc, name, case, got)?;
+            self.lines.push_str(line.as_str())?;
+        }
+        Ok(())
+    }
+}
+
+fn exit_line(alloc: Global, name: &str, wanted: u8, got: u8) -> Result<String, AllocError> {
+    format!(in alloc; "{name}: exit code {got}, not {wanted}\n")
+}
+
+/// Names the first line in which the output leaves what is wanted.
+fn output_line(alloc: Global, name: &str, case: &Case, got: &Got) -> Result<String, AllocError> {
+    let wanted: &[u8] = match case.output.first() {
+        Some(part) => part.as_slice(),
+        None => b"",
+    };
+    let mut wanted = wanted.split(|byte| *byte == b'\n');
+    let mut number = 0_u64;
+    for line in got.bytes.split(|byte| *byte == b'\n') {
+        number = number.saturating_add(1);
+        let other = wanted.next();
+        if other != Some(line) {
+            let line = String::from_utf8_lossy(alloc, line)?;
+            let other = String::from_utf8_lossy(alloc, other.unwrap_or(b""))?;
+            return format!(in alloc;
+                "{name}: line {number} of the output is \"{line}\", not \"{other}\"\n"
+            );
+        }
+    }
+    format!(in alloc; "{name}: the output has {number} lines, and not all that is wanted\n")
+}

@@ -1,0 +1,32 @@
+use crate::case::Case;
+use dn_base::{Memory, TextSource, VecSink};
+use dn_top::answer_words;
+use std::alloc::Global;
+
+/// What the program answered.
+#[derive(Drop)]
+pub struct Got {
+    pub exit: u8,
+    pub bytes: Vec<u8>,
+}
+
+/// Runs the program on a case.
+pub fn run(alloc: Global, case: &Case) -> Result<Got, Memory> {
+    let mut source = TextSource::new(
+        alloc,
+        case.text.as_slice(),
+        case.per_read,
+        case.failing_reads.as_slice(),
+    )?;
+    let mut sink = VecSink::new(
+        alloc,
+        case.room,
+        case.per_write,
+        case.failing_writes.as_slice(),
+    )?;
+    let answer = answer_words(alloc, case.words.as_slice(), &mut source, &mut sink);
+    Ok(Got {
+        exit: answer.status.code(),
+        bytes: Vec::from_slice(alloc, sink.bytes())?,
+    })
+}

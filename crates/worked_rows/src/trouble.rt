@@ -1,0 +1,74 @@
+use dn_base::Memory;
+use std::alloc::{AllocError, AllocFailed};
+
+/// How a line isn't of the form that it should be, or what a case lacks.
+#[derive(Clone, Copy)]
+pub enum BadForm {
+    NoKeyword,
+    Twice,
+    NoNumber,
+    NoByte,
+    NoBlock,
+    NoGap,
+    Short,
+    UnknownText,
+    NoColumn,
+    NoRow,
+    NoName,
+    TakenName,
+    NoExit,
+    NoOutput,
+    NoText,
+}
+
+impl BadForm {
+    /// What is said of it.
+    pub fn message(self) -> &'static str {
+        match self {
+            BadForm::NoKeyword => "a line of a case begins with two blanks, a keyword or #",
+            BadForm::Twice => "the case has this already",
+            BadForm::NoNumber => "a number is wanted here, in decimal digits and within its range",
+            BadForm::NoByte => "bytes are wanted here, each as 0x and hexadecimal digits",
+            BadForm::NoBlock => "this belongs to a text or an output, and none is open",
+            BadForm::NoGap => "lines are left out of an output only",
+            BadForm::Short => "there are fewer bytes above",
+            BadForm::UnknownText =>
+                "there is no such file, and no such case above that has no rows",
+            BadForm::NoColumn => "the row has no such column",
+            BadForm::NoRow =>
+                "rows are wanted here: lines that begin with two blanks, or A to B on the line of each",
+            BadForm::NoName => "a case has a name",
+            BadForm::TakenName => "another case or a file has this name",
+            BadForm::NoExit => "the case has no exit code",
+            BadForm::NoOutput => "the case has no output",
+            BadForm::NoText => "a case file is a text in UTF-8",
+        }
+    }
+}
+
+/// Why a case isn't run.
+#[derive(Clone, Copy)]
+pub enum Trouble {
+    /// It is of bad form.
+    Form(BadForm),
+    /// There was no memory.
+    Memory,
+}
+
+impl From<Memory> for Trouble {
+    fn from(_error: Memory) -> Trouble {
+        Trouble::Memory
+    }
+}
+
+impl From<AllocError> for Trouble {
+    fn from(_error: AllocError) -> Trouble {
+        Trouble::Memory
+    }
+}
+
+impl<T: Drop> From<AllocFailed<T>> for Trouble {
+    fn from(_error: AllocFailed<T>) -> Trouble {
+        Trouble::Memory
+    }
+}
