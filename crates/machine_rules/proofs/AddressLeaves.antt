@@ -1,29 +1,26 @@
 -- Every event sends what it sends to an actor that is there, and of the right sort.
-use Rattle.std.proofs.Common.{◌≡◌, ◌≢◌, ◌⊎◌, inl, inr, ℕ, zero, suc, ◌+◌, ◌%◌, ◌<◌, ◌≤◌, ◌==◌, ◌&&◌, ◌||◌, not, nat_lt, Bool, true, false, cond, List, [], ◌∷◌, length, get_or, slice_get, Option, Some, None, refl, sym, ap, subst, ◌∙◌, arith}
-use Rattle.std.proofs.lemmas.Bool.{eqb-true}
+use Rattle.std.proofs.Common.{◌≡◌, ◌⊎◌, inl, inr, ℕ, zero, suc, ◌+◌, ◌%◌, ◌<◌, ◌≤◌, ◌==◌, ◌&&◌, not, nat_lt, List, ◌∷◌, length, get_or, slice_get, Option, Some, None, refl, ap, arith}
 use Rattle.std.proofs.lemmas.Bool.Decides.{nat_tests}
 use Rattle.std.proofs.lemmas.Option.{slice_get_cases}
 use Rattle.dn_base.specs.declared.ids.WordId.{WordId}
 use Rattle.dn_base.specs.declared.ids.CoreId.{CoreId}
 use Rattle.dn_base.specs.declared.ids.LockId.{LockId}
-use Rattle.message_net.specs.declared.actor.Actor.{Actor}
-use Rattle.message_net.specs.declared.actor.Actor.TheVariants.{Core, Bank, Keeper}
+use Rattle.message_net.specs.declared.actor.Actor.TheVariants.{Core, Bank}
 use Rattle.message_net.specs.declared.event.Event.{Event}
 use Rattle.message_net.specs.declared.message.Message.{Message}
-use Rattle.message_net.specs.declared.message.Message.TheVariants.{ReadReq, ReadFwd, DataReply, RegReq, RegFwd, RegAck, WriteBack, WbAck, Acquire, Release, Grant, Arrived, Go, Halt}
+use Rattle.message_net.specs.declared.message.Message.TheVariants.{Go, Halt}
 use Rattle.message_net.specs.declared.message.Outgoing.{Outgoing}
-use Rattle.message_net.specs.Mail.{to_core, to_home, to_keeper}
 use Rattle.queue_lock.specs.Lock.{Lock, places_of}
 use Rattle.queue_lock.proofs.LockLemmas.{places_of-cons}
 use Rattle.registry_bank.specs.declared.bank.BankWord.{BankWord}
-use Rattle.registry_bank.specs.declared.bank.BankWord.TheVariants.{Home, Reg}
+use Rattle.registry_bank.specs.declared.bank.BankWord.TheVariants.{Reg}
 use Rattle.phase_barrier.specs.Barrier.{Barrier}
 use Rattle.registration_protocol.specs.Node.{NodeParts}
-use Rattle.machine_rules.specs.State.{State, entry_in, entry_at, home_at, lock_at}
+use Rattle.machine_rules.specs.State.{State, entry_in, home_at, lock_at}
 use Rattle.machine_rules.specs.Flight.{Test, bit, flight, asks, passes_on, gives_back, seeks, forwards, acquires}
 use Rattle.machine_rules.specs.Next.{next}
 use Rattle.machine_rules.specs.Coherent.{locks_in, queued_in}
-use Rattle.machine_rules.proofs.Bits.{passes, pending_bit, settled_bit, leaving_bit, owner_bit, reading_in}
+use Rattle.machine_rules.proofs.Bits.{passes, pending_bit, settled_bit, leaving_bit, reading_in}
 use Rattle.machine_rules.proofs.BitLemmas.{owner-bit}
 use Rattle.machine_rules.proofs.Invariant.{Invariant, is_lost, is_bank}
 use Rattle.machine_rules.proofs.Steps.{NodeStep}
@@ -132,34 +129,42 @@ address-leaves S M e inv =
   where
     good : IsAddressed S
     good = inv.addressed
+
     owner-there : (w : ℕ) (owner : CoreId) → home_at S w ≡ Some (Reg owner) → owner.0 < length S.nodes
     owner-there w owner is =
         there-by S owner.0 (λ (o : Option NodeParts). pending_bit (entry_in w o) + settled_bit (entry_in w o) + leaving_bit (entry_in w o)) refl
         (omega (arith, inv.words.row w owner.0, owner-bit owner.0 (home_at S w) is))
+
     asked-there : (word : WordId) (core : CoreId) → flight (next S e) (asks word.0 core.0) + bit ((word.0 == word.0) && (core.0 == core.0)) ≡ flight S (asks word.0 core.0) + 0 → core.0 < length S.nodes
     asked-there word core moved =
         let one = rw (same-number word.0, same-number core.0) at moved in
         there-by S core.0 (λ (o : Option NodeParts). pending_bit (entry_in word.0 o)) refl (omega (arith, inv.words.row word.0 core.0, one))
+
     forwarded-there : (core other : CoreId) (word : WordId) → flight (next S e) (passes_on word.0 other.0) + bit ((word.0 == word.0) && (other.0 == other.0)) ≡ flight S (passes_on word.0 other.0) + 0 → other.0 < length S.nodes
     forwarded-there core other word moved =
         let one = rw (same-number word.0, same-number other.0) at moved in
         there-by S other.0 (λ (o : Option NodeParts). pending_bit (entry_in word.0 o)) refl (omega (arith, inv.words.row word.0 other.0, one))
+
     left-there : (word : WordId) (value : ℕ) (core : CoreId) → flight (next S e) (gives_back word.0 core.0) + bit ((word.0 == word.0) && (core.0 == core.0)) ≡ flight S (gives_back word.0 core.0) + 0 → core.0 < length S.nodes
     left-there word value core moved =
         let one = rw (same-number word.0, same-number core.0) at moved in
         there-by S core.0 (λ (o : Option NodeParts). leaving_bit (entry_in word.0 o)) refl (omega (arith, inv.words.row word.0 core.0, one))
+
     read-there : (core reader : CoreId) (word : WordId) → flight (next S e) (forwards word.0 reader.0) + bit ((word.0 == word.0) && (reader.0 == reader.0)) ≡ flight S (forwards word.0 reader.0) + 0 → reader.0 < length S.nodes
     read-there core reader word moved =
         let one = rw (same-number word.0, same-number reader.0) at moved in
         there-by S reader.0 (reading_in word.0) refl (omega (arith, inv.reads.row word.0 reader.0, one))
+
     sought-there : (word : WordId) (reader : CoreId) → flight (next S e) (seeks word.0 reader.0) + bit ((word.0 == word.0) && (reader.0 == reader.0)) ≡ flight S (seeks word.0 reader.0) + 0 → reader.0 < length S.nodes
     sought-there word reader moved =
         let one = rw (same-number word.0, same-number reader.0) at moved in
         there-by S reader.0 (reading_in word.0) refl (omega (arith, inv.reads.row word.0 reader.0, one))
+
     waiting-there : (lock : LockId) (core : CoreId) → flight (next S e) (acquires lock.0 core.0) + bit ((lock.0 == lock.0) && (core.0 == core.0)) ≡ flight S (acquires lock.0 core.0) + 0 → core.0 < length S.nodes
     waiting-there lock core moved =
         let one = rw (same-number lock.0, same-number core.0) at moved in
         there-by S core.0 (λ (o : Option NodeParts). bit (locks_in lock.0 o)) refl (omega (arith, inv.locks.row lock.0 core.0, one))
+
     queued-there : (lock : LockId) (waiter : CoreId) (others : List CoreId) (h : Lock) → lock_at S lock.0 ≡ Some h → h.queue ≡ waiter ∷ others → waiter.0 < length S.nodes
     queued-there lock waiter others h is queue =
         let first : 1 ≤ places_of waiter.0 h.queue = rw (queue) (rw (places_of-cons waiter.0 waiter others, same-number waiter.0) (omega arith)) in

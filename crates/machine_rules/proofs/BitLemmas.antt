@@ -1,14 +1,13 @@
 -- What the counts of entries, homes and nodes say.
-use Rattle.std.proofs.Common.{◌≡◌, ◌≢◌, ◌⊎◌, inl, inr, ℕ, ◌+◌, ◌≤◌, ◌==◌, Bool, true, false, not, ◌&&◌, cond, Option, Some, None, refl, sym, ap, ◌∙◌, arith}
+use Rattle.std.proofs.Common.{◌≡◌, ℕ, ◌+◌, ◌≤◌, ◌==◌, Bool, true, false, Option, Some, None, refl, ap, arith}
 use Rattle.std.proofs.lemmas.Bool.{eqb-true}
 use Rattle.std.proofs.lemmas.Bool.Decides.{nat_tests}
-use Rattle.dn_base.specs.declared.ids.CoreId.{CoreId}
 use Rattle.word_cache.specs.declared.row.Entry.{Entry}
 use Rattle.word_cache.specs.declared.row.Entry.TheVariants.{Valid, Registered, Leaving}
 use Rattle.registry_bank.specs.declared.bank.BankWord.{BankWord}
 use Rattle.registry_bank.specs.declared.bank.BankWord.TheVariants.{Home, Reg}
 use Rattle.machine_rules.specs.Flight.{bit}
-use Rattle.machine_rules.proofs.Bits.{pending_bit, settled_bit, leaving_bit, valid_bit, known_bit, owner_bit, home_bit}
+use Rattle.machine_rules.proofs.Bits.{pending_bit, settled_bit, leaving_bit, valid_bit, owner_bit}
 
 -- an entry has one state at the most
 pub entry-bits : (e : Option Entry) → pending_bit e + settled_bit e + leaving_bit e + valid_bit e ≤ 1

@@ -1,5 +1,5 @@
 -- What is counted of entries, homes and nodes: each is 0 or 1.
-use Rattle.std.proofs.Common.{ℕ, ◌+◌, ◌==◌, Bool, true, false, not, ◌&&◌, cond, Option, Some, None}
+use Rattle.std.proofs.Common.{ℕ, ◌==◌, Bool, false, not, ◌&&◌, Option, Some, None}
 use Rattle.word_cache.specs.declared.row.Entry.{Entry}
 use Rattle.word_cache.specs.declared.row.Entry.TheVariants.{Valid, Registered, Leaving}
 use Rattle.registry_bank.specs.declared.bank.BankWord.{BankWord}

@@ -1,7 +1,5 @@
 -- Every event that may come is one of the ways.
-use Rattle.std.proofs.Common.{◌≡◌, ◌≢◌, ◌⊎◌, inl, inr, ℕ, zero, suc, ◌+◌, ◌<◌, ◌≤◌, ◌==◌, ◌&&◌, ◌||◌, not, nat_lt, Bool, true, false, cond, List, [], ◌∷◌, length, get_or, slice_get, slice_index_or, sum_by, Option, Some, None, refl, sym, ap, subst, ◌∙◌, arith}
-use Rattle.std.proofs.lemmas.Bool.{eqb-true}
-use Rattle.std.proofs.lemmas.Bool.Decides.{nat_tests}
+use Rattle.std.proofs.Common.{◌≡◌, ◌⊎◌, inl, inr, ℕ, zero, suc, ◌+◌, ◌<◌, ◌≤◌, Bool, true, false, length, get_or, slice_get, slice_index_or, sum_by, Option, Some, None, refl, sym, ap, subst, ◌∙◌, arith}
 use Rattle.std.proofs.lemmas.Option.{slice_get_cases, get_or_from_slice_get}
 use Rattle.std.proofs.lemmas.List.Sums.{sum_by-cons}
 use Rattle.dn_base.specs.declared.ids.CoreId.{CoreId}
@@ -14,10 +12,9 @@ use Rattle.message_net.specs.declared.event.Event.TheVariants.{Instr, Evict, Arr
 use Rattle.message_net.specs.declared.message.Mail.{Mail}
 use Rattle.message_net.specs.declared.message.Message.{Message}
 use Rattle.message_net.specs.declared.message.Message.TheVariants.{ReadReq, ReadFwd, DataReply, RegReq, RegFwd, RegAck, WriteBack, WbAck, Acquire, Release, Grant, Arrived, Go, Halt}
-use Rattle.message_net.specs.declared.message.Outgoing.{Outgoing}
 use Rattle.phase_barrier.specs.declared.keeper.Verdict.{Verdict}
 use Rattle.phase_barrier.specs.declared.keeper.Verdict.TheVariants as verdict
-use Rattle.phase_barrier.specs.Barrier.{Barrier, counted, decided, released, advanced, all_arrived, is_over, keeper_gets, arrives as keeper_arrives}
+use Rattle.phase_barrier.specs.Barrier.{Barrier, counted, decided, advanced, all_arrived, is_over, keeper_gets}
 use Rattle.phase_barrier.specs.Letters.{letters, to_each, to_number}
 use Rattle.phase_barrier.proofs.CountLemmas.{keeper_gets-arrived, arrives-new}
 use Rattle.registration_protocol.specs.Node.{NodeParts}
@@ -26,9 +23,8 @@ use Rattle.machine_rules.specs.Flight.{Test, bit, flight, arrives}
 use Rattle.machine_rules.specs.Next.{next, enabled, seen_in, granted_in}
 use Rattle.machine_rules.specs.Memory.{store_in}
 use Rattle.machine_rules.specs.Coherent.{is_alive, waits_in}
-use Rattle.machine_rules.proofs.Bits.{passes}
 use Rattle.machine_rules.proofs.Invariant.{Invariant, is_right}
-use Rattle.machine_rules.proofs.Steps.{KeeperStep, letter_bit, Handled, handled, as_sent, keeper-step}
+use Rattle.machine_rules.proofs.Steps.{KeeperStep, letter_bit, Handled, handled, keeper-step}
 use Rattle.machine_rules.proofs.Leaves.{Leaves, Tells, BarrierStep, to_all, stored_to, at_keeper}
 use Rattle.machine_rules.proofs.WordCore.{same-number}
 use Rattle.machine_rules.proofs.DispatchOwn.{instr-ways, evict-ways, arrive-ways}
@@ -93,13 +89,16 @@ unmarked : (S : State) (M : ℕ → ℕ) (core : ℕ) → Invariant S M → 1 �
 unmarked S M core inv some = by_case (slice_get_cases S.keeper.arrived core).1 where
   within : core < length S.nodes
   within = there-by S core (λ (o : Option NodeParts). bit (is_alive o)) refl (omega (arith, some, inv.phases.row core))
+
   not-all : all_arrived S.keeper ≡ false
   not-all = by_all (all_arrived S.keeper) refl where
     by_all : (x : Bool) → all_arrived S.keeper ≡ x → all_arrived S.keeper ≡ false
     by_all true all = absurd (omega (arith, some, inv.phases.over all core))
     by_all false all = all
+
   waits : waits_in S core ≡ 0
   waits = omega (arith, some, inv.phases.row core, alive-one (slice_get S.nodes core))
+
   by_mark : (x : Bool) → slice_get S.keeper.arrived core ≡ Some x → get_or S.keeper.arrived core x ≡ x → slice_get S.keeper.arrived core ≡ Some false
   by_mark false is same = is
   by_mark true is same = absurd (marked is)
@@ -109,6 +108,7 @@ unmarked S M core inv some = by_case (slice_get_cases S.keeper.arrived core).1 w
           let here : slice_index_or S.keeper.arrived core false ≡ true = get_or_from_slice_get S.keeper.arrived core true false is in
           let one = rw (not-all, here) at waits in
           omega (arith, one)
+
   by_case : ((x : Bool) × (core < length S.keeper.arrived) × (slice_get S.keeper.arrived core ≡ Some x) × (get_or S.keeper.arrived core x ≡ x)) ⊎ ((length S.keeper.arrived ≤ core) × (slice_get S.keeper.arrived core ≡ None))
       → slice_get S.keeper.arrived core ≡ Some false
   by_case (inl (x, in_list, is, same)) = by_mark x is same
@@ -121,12 +121,16 @@ arrived-way S M id m core bad G inv h to is leaves = by_all (all_arrived (counte
   one =
       let counted_here = subst (λ (x : Message). bit (arrives core.0 m.to x) ≤ flight S (arrives core.0)) is (counts S id m (arrives core.0) h) in
       rw (same-number core.0) at counted_here
+
   new : slice_get S.keeper.arrived core.0 ≡ Some false
   new = unmarked S M core.0 inv one
+
   row : keeper_gets S.keeper (Arrived core bad) ≡ decided (counted core.0 bad S.keeper)
   row = keeper_gets-arrived S.keeper core bad ∙ arrives-new S.keeper core.0 bad new
+
   tells : Tells S (Handle id) None None None
   tells = keeper-tells S id m h to
+
   by_over : all_arrived (counted core.0 bad S.keeper) ≡ true → (x : Bool) → is_over (counted core.0 bad S.keeper) ≡ x → G M
   by_over all true over =
       let now : keeper_gets S.keeper (Arrived core bad) ≡ (counted core.0 bad S.keeper, verdict.Halt) = row ∙ (rw (all, over) refl) in
@@ -135,7 +139,8 @@ arrived-way S M id m core bad G inv h to is leaves = by_all (all_arrived (counte
       let now : keeper_gets S.keeper (Arrived core bad) ≡ (advanced (counted core.0 bad S.keeper), verdict.Go (record { 0 = S.keeper.phase + 1 })) = row ∙ (rw (all, over) refl) in
       leaves.all_go core bad new all over tells
       (barrier-step S id m core bad (advanced (counted core.0 bad S.keeper)) (verdict.Go (record { 0 = S.keeper.phase + 1 })) (Some (Go (record { 0 = S.keeper.phase + 1 }))) h to is now
-       (λ p. letters-all p S.setting.shape.cores (Go (record { 0 = S.keeper.phase + 1 }))))
+      (λ p. letters-all p S.setting.shape.cores (Go (record { 0 = S.keeper.phase + 1 }))))
+
   by_all : (x : Bool) → all_arrived (counted core.0 bad S.keeper) ≡ x → G M
   by_all false more =
       let now : keeper_gets S.keeper (Arrived core bad) ≡ (counted core.0 bad S.keeper, verdict.Wait) = row ∙ (rw (more) refl) in
@@ -146,6 +151,7 @@ keeper-ways : (S : State) (M : ℕ → ℕ) (id : MailId) (m : Mail) (G : (ℕ �
 keeper-ways S M id m G inv h to leaves = by_message m.message refl where
   right : is_right S.setting.shape.cores S.setting.shape.banks Keeper m.message ≡ true
   right = subst (λ (a : Actor). is_right S.setting.shape.cores S.setting.shape.banks a m.message ≡ true) to (goes-right S M id m inv h)
+
   by_message : (message : Message) → m.message ≡ message → G M
   by_message (Arrived core bad) is = arrived-way S M id m core bad G inv h to is leaves
   by_message (ReadReq word reader) is = let wrong = rw (is) at right in absurd (cc)

@@ -1,5 +1,5 @@
 -- The handling of a mail by a bank is one of the ways.
-use Rattle.std.proofs.Common.{◌≡◌, ◌≢◌, ◌⊎◌, inl, inr, ℕ, zero, suc, ◌+◌, ◌%◌, ◌<◌, ◌≤◌, ◌==◌, ◌&&◌, ◌||◌, not, nat_lt, Bool, true, false, cond, List, [], ◌∷◌, ◌++◌, length, get_or, slice_get, Option, Some, None, refl, sym, ap, subst, ◌∙◌, arith}
+use Rattle.std.proofs.Common.{◌≡◌, ◌≢◌, ◌⊎◌, inl, inr, ℕ, ◌+◌, ◌%◌, ◌<◌, ◌≤◌, ◌==◌, nat_lt, Bool, true, false, cond, List, [], ◌∷◌, ◌++◌, length, get_or, slice_get, Option, Some, None, refl, sym, ap, subst, ◌∙◌, arith}
 use Rattle.std.proofs.lemmas.Bool.{eqb-true}
 use Rattle.std.proofs.lemmas.Bool.Decides.{nat_tests}
 use Rattle.std.proofs.lemmas.Option.{slice_get_cases}
@@ -14,9 +14,8 @@ use Rattle.rv_core.proofs.Completions.{acquire-allowed}
 use Rattle.write_signature.specs.declared.signature.Signature.{Signature}
 use Rattle.write_signature.specs.Signature.{joined}
 use Rattle.message_net.specs.declared.actor.Actor.{Actor}
-use Rattle.message_net.specs.declared.actor.Actor.TheVariants.{Core, Bank, Keeper}
+use Rattle.message_net.specs.declared.actor.Actor.TheVariants.{Bank}
 use Rattle.message_net.specs.declared.actor.MailId.{MailId}
-use Rattle.message_net.specs.declared.event.Event.{Event}
 use Rattle.message_net.specs.declared.event.Event.TheVariants.{Handle}
 use Rattle.message_net.specs.declared.message.Mail.{Mail}
 use Rattle.message_net.specs.declared.message.Message.{Message}
@@ -30,18 +29,17 @@ use Rattle.registry_bank.specs.declared.bank.BankWord.TheVariants.{Home, Reg}
 use Rattle.registry_bank.specs.Bank.{BankParts, bank_word, bank_lock, bank_gets, with_word, with_lock, grants, hands_on}
 use Rattle.registry_bank.proofs.ChangeLemmas.{word-changed, lock-changed}
 use Rattle.registry_bank.proofs.RowLemmas.{read-home, read-registered, register-home, register-other, write_back-own, write_back-other, write_back-home, acquire-here, release-here}
-use Rattle.registration_protocol.specs.declared.node.NodeWait as wait
 use Rattle.registration_protocol.specs.Node.{NodeParts, need_now}
-use Rattle.registration_protocol.proofs.InstrLemmas.{HasNext, has-next}
-use Rattle.machine_rules.specs.State.{State, entry_in, entry_at, word_in, home_at, lock_in, lock_at}
+use Rattle.registration_protocol.proofs.InstrLemmas.{has-next}
+use Rattle.machine_rules.specs.State.{State, entry_in, word_in, home_at, lock_in, lock_at}
 use Rattle.machine_rules.specs.Flight.{Test, bit, flight, asks, gives_back, seeks, acquires, releases}
 use Rattle.machine_rules.specs.Next.{next, seen_in, granted_in}
 use Rattle.machine_rules.specs.Memory.{store_in}
 use Rattle.machine_rules.specs.Coherent.{locks_in, queued_in, holder_in}
-use Rattle.machine_rules.proofs.Bits.{passes, pending_bit, settled_bit, leaving_bit, known_bit, owner_bit, reading_in}
+use Rattle.machine_rules.proofs.Bits.{passes, pending_bit, leaving_bit, known_bit, owner_bit, reading_in}
 use Rattle.machine_rules.proofs.BitLemmas.{owner-bit}
 use Rattle.machine_rules.proofs.Invariant.{Invariant, is_right}
-use Rattle.machine_rules.proofs.Steps.{BankStep, Handled, as_sent, bank-step}
+use Rattle.machine_rules.proofs.Steps.{BankStep, Handled, bank-step}
 use Rattle.machine_rules.proofs.Leaves.{Leaves, Tells, WordStep, LockStep, at_bank}
 use Rattle.machine_rules.proofs.WordCore.{same-number}
 use Rattle.machine_rules.proofs.DispatchCore.{counts, goes-right, reading-word, locking-lock}
@@ -111,8 +109,10 @@ word-step S M id bank message w b content r at row words locks =
   where
     step : BankStep S (next S (Handle id)) bank.0 b message (at_bank bank message)
     step = at.step
+
     now : (i : ℕ) → slice_get (next S (Handle id)).banks i ≡ cond (bank.0 == i) (Some r.0) (slice_get S.banks i)
     now i = subst (λ (x : BankParts × Option Outgoing). slice_get (next S (Handle id)).banks i ≡ cond (bank.0 == i) (Some x.0) (slice_get S.banks i)) row (step.banks i)
+
     homes : (v : ℕ) → home_at (next S (Handle id)) v ≡ cond (w == v) (Some content) (home_at S v)
     homes v = rw (step.setting) (by_test (bank.0 == v % S.setting.shape.banks) refl) where
       by_test : (x : Bool) → (bank.0 == v % S.setting.shape.banks) ≡ x → word_in v (slice_get (next S (Handle id)).banks (v % S.setting.shape.banks)) ≡ cond (w == v) (Some content) (home_at S v)
@@ -122,6 +122,7 @@ word-step S M id bank message w b content r at row words locks =
       by_test false e =
           let apart : (w == v) ≡ false = grind (arith, nat_tests, e, at.home) in
           ap (word_in v) (rw (e) at (now (v % S.setting.shape.banks))) ∙ (rw (apart) refl)
+
     lock_states : (l : ℕ) → lock_at (next S (Handle id)) l ≡ lock_at S l
     lock_states l = rw (step.setting) (by_test (bank.0 == l % S.setting.shape.banks) refl) where
       by_test : (x : Bool) → (bank.0 == l % S.setting.shape.banks) ≡ x → lock_in l (slice_get (next S (Handle id)).banks (l % S.setting.shape.banks)) ≡ lock_at S l
@@ -145,8 +146,10 @@ lock-step S M id bank message l b state r at row words locks =
   where
     step : BankStep S (next S (Handle id)) bank.0 b message (at_bank bank message)
     step = at.step
+
     now : (i : ℕ) → slice_get (next S (Handle id)).banks i ≡ cond (bank.0 == i) (Some r.0) (slice_get S.banks i)
     now i = subst (λ (x : BankParts × Option Outgoing). slice_get (next S (Handle id)).banks i ≡ cond (bank.0 == i) (Some x.0) (slice_get S.banks i)) row (step.banks i)
+
     homes : (v : ℕ) → home_at (next S (Handle id)) v ≡ home_at S v
     homes v = rw (step.setting) (by_test (bank.0 == v % S.setting.shape.banks) refl) where
       by_test : (x : Bool) → (bank.0 == v % S.setting.shape.banks) ≡ x → word_in v (slice_get (next S (Handle id)).banks (v % S.setting.shape.banks)) ≡ home_at S v
@@ -154,6 +157,7 @@ lock-step S M id bank message l b state r at row words locks =
           let here : home_at S v ≡ bank_word b v = ap (word_in v) (ap (slice_get S.banks) (sym (eqb-true bank.0 (v % S.setting.shape.banks) e)) ∙ at.found) in
           ap (word_in v) (rw (e) at (now (v % S.setting.shape.banks))) ∙ words v ∙ sym here
       by_test false e = ap (word_in v) (rw (e) at (now (v % S.setting.shape.banks)))
+
     lock_states : (k : ℕ) → lock_at (next S (Handle id)) k ≡ cond (l == k) (Some state) (lock_at S k)
     lock_states k = rw (step.setting) (by_test (bank.0 == k % S.setting.shape.banks) refl) where
       by_test : (x : Bool) → (bank.0 == k % S.setting.shape.banks) ≡ x → lock_in k (slice_get (next S (Handle id)).banks (k % S.setting.shape.banks)) ≡ cond (l == k) (Some state) (lock_at S k)
@@ -192,13 +196,17 @@ read-way S M id bank word reader b G leaves at = by_home (home_at S word.0) refl
   some =
       let one = rw (same-number word.0, same-number reader.0) at (at.counted (seeks word.0 reader.0)) in
       omega (arith, one, at.inv.reads.row word.0 reader.0)
+
   within : reader.0 < length S.nodes
   within = there-by S reader.0 (reading_in word.0) refl some
+
   inside : reader.0 < b.cores
   inside = let size = sized S M id bank (ReadReq word reader) word.0 b at in omega (arith, within, size)
+
   by_node : (o : Option NodeParts) → slice_get S.nodes reader.0 ≡ o → 1 ≤ reading_in word.0 o → word.0 < length S.setting.program.memory
   by_node None is one = absurd (omega (arith, one))
   by_node (Some n) is one = (reading-works S M reader.0 n word at.inv is (reading-word n.waiting word one)).within
+
   by_home : (o : Option BankWord) → home_at S word.0 ≡ o → G M
   by_home None is = absurd (known-word S M word.0 at.inv (by_node (slice_get S.nodes reader.0) refl some) is)
   by_home (Some (Home value)) is =
@@ -219,12 +227,16 @@ register-way : (S : State) (M : ℕ → ℕ) (id : MailId) (bank : BankId) (word
 register-way S M id bank word core b G leaves at = by_home (home_at S word.0) refl where
   asked : 1 ≤ flight S (asks word.0 core.0)
   asked = rw (same-number word.0, same-number core.0) at (at.counted (asks word.0 core.0))
+
   within : core.0 < length S.nodes
   within = there-by S core.0 (λ (o : Option NodeParts). pending_bit (entry_in word.0 o)) refl (omega (arith, asked, at.inv.words.row word.0 core.0))
+
   size : (b.cores ≡ length S.nodes) × (0 < b.banks)
   size = sized S M id bank (RegReq word core) word.0 b at
+
   inside : core.0 < b.cores
   inside = omega (arith, within, size)
+
   by_home : (o : Option BankWord) → home_at S word.0 ≡ o → G M
   by_home None is = absurd (omega (arith, asked, at.inv.words.row word.0 core.0, ap known_bit is))
   by_home (Some (Home value)) is =
@@ -232,14 +244,14 @@ register-way S M id bank word core b G leaves at = by_home (home_at S word.0) re
       let row = register-home b word core value inside here in
       leaves.register_home bank word core value is at.tells
       (word-step S M id bank (RegReq word core) word.0 b (Reg core) (with_word b word.0 (Reg core), to_core core (RegAck word)) at row
-       (λ v. word-changed b word.0 v (Home value) (Reg core) size.1 here) (λ l. refl))
+      (λ v. word-changed b word.0 v (Home value) (Reg core) size.1 here) (λ l. refl))
   by_home (Some (Reg owner)) is =
       let here = sym (home-is S M id bank (RegReq word core) word.0 b at) ∙ is in
       let other : owner.0 ≢ core.0 = λ same. not-own is same in
       let row = register-other b word core owner inside here other in
       leaves.register_owned bank word core owner is other at.tells
       (word-step S M id bank (RegReq word core) word.0 b (Reg core) (with_word b word.0 (Reg core), to_core owner (RegFwd word core)) at row
-       (λ v. word-changed b word.0 v (Reg owner) (Reg core) size.1 here) (λ l. refl))
+      (λ v. word-changed b word.0 v (Reg owner) (Reg core) size.1 here) (λ l. refl))
     where
       not-own : home_at S word.0 ≡ Some (Reg owner) → owner.0 ≡ core.0 → ⊥
       not-own is same =
@@ -253,12 +265,16 @@ back-way : (S : State) (M : ℕ → ℕ) (id : MailId) (bank : BankId) (word : W
 back-way S M id bank word value core b G leaves at = by_home (home_at S word.0) refl where
   given : 1 ≤ flight S (gives_back word.0 core.0)
   given = rw (same-number word.0, same-number core.0) at (at.counted (gives_back word.0 core.0))
+
   within : core.0 < length S.nodes
   within = there-by S core.0 (λ (o : Option NodeParts). leaving_bit (entry_in word.0 o)) refl (omega (arith, given, at.inv.words.row word.0 core.0))
+
   size : (b.cores ≡ length S.nodes) × (0 < b.banks)
   size = sized S M id bank (WriteBack word value core) word.0 b at
+
   inside : core.0 < b.cores
   inside = omega (arith, within, size)
+
   by_home : (o : Option BankWord) → home_at S word.0 ≡ o → G M
   by_home None is = absurd (omega (arith, given, at.inv.words.row word.0 core.0, ap known_bit is))
   by_home (Some (Home old)) is =
@@ -274,7 +290,7 @@ back-way S M id bank word value core b G leaves at = by_home (home_at S word.0) 
         let row = write_back-own b word value core owner inside here (eqb-true owner.0 core.0 e) in
         leaves.write_back bank word core value (is ∙ ap (λ (c : CoreId). Some (Reg c)) same) at.tells
         (word-step S M id bank (WriteBack word value core) word.0 b (Home value) (with_word b word.0 (Home value), to_core core (WbAck word)) at row
-         (λ v. word-changed b word.0 v (Reg owner) (Home value) size.1 here) (λ l. refl))
+        (λ v. word-changed b word.0 v (Reg owner) (Home value) size.1 here) (λ l. refl))
     by_owner owner is false e =
         let other : owner.0 ≢ core.0 = λ same. absurd (grind (arith, nat_tests, e, same)) in
         let here = sym (home-is S M id bank (WriteBack word value core) word.0 b at) ∙ is in
@@ -297,6 +313,7 @@ waited-lock S M lock core inv some none = by_node (slice_get S.nodes core.0) ref
     by_task (Some t) is =
         let next_is = has-next S.setting n t (need.TheVariants.Acquire lock) is needs in
         (acquire-allowed S.setting.program next_is.decl S.setting.fuel t lock next_is.asks).0
+
   by_node : (o : Option NodeParts) → slice_get S.nodes core.0 ≡ o → 1 ≤ bit (locks_in lock.0 o) → ⊥
   by_node None is one = absurd (omega (arith, one))
   by_node (Some n) is one =
@@ -316,34 +333,41 @@ acquire-way : (S : State) (M : ℕ → ℕ) (id : MailId) (bank : BankId) (lock 
 acquire-way S M id bank lock core b G leaves at = by_lock (lock_at S lock.0) refl where
   asked : 1 ≤ flight S (acquires lock.0 core.0)
   asked = rw (same-number lock.0, same-number core.0) at (at.counted (acquires lock.0 core.0))
+
   waits : 1 ≤ bit (locks_in lock.0 (slice_get S.nodes core.0))
   waits = omega (arith, asked, at.inv.locks.row lock.0 core.0)
+
   within : core.0 < length S.nodes
   within = there-by S core.0 (λ (o : Option NodeParts). bit (locks_in lock.0 o)) refl waits
+
   size : (b.cores ≡ length S.nodes) × (0 < b.banks)
   size = sized S M id bank (Acquire lock core) lock.0 b at
+
   inside : core.0 < b.cores
   inside = omega (arith, within, size)
+
   by_lock : (o : Option Lock) → lock_at S lock.0 ≡ o → G M
   by_lock None is = absurd (waited-lock S M lock core at.inv waits is)
   by_lock (Some h) is = by_holder h.holder refl where
     here : bank_lock b lock.0 ≡ Some h
     here = sym (lock-is S M id bank (Acquire lock core) lock.0 b at) ∙ is
+
     row : bank_gets b (Acquire lock core) ≡ (with_lock b lock.0 (acquired h core).0, grants lock core (acquired h core).1)
     row = acquire-here b lock core h inside here
+
     by_holder : (o : Option CoreId) → h.holder ≡ o → G M
     by_holder None free =
         let now = row ∙ ap (λ (x : Lock × Option Signature). (with_lock b lock.0 x.0, grants lock core x.1)) (acquired-free h core free) in
         leaves.acquire_free bank lock core h is free at.tells
         (lock-step S M id bank (Acquire lock core) lock.0 b (record h { holder = Some core }) (with_lock b lock.0 (record h { holder = Some core }), to_core core (Grant lock h.kept)) at now
-         (λ v. refl) (λ k. lock-changed b lock.0 k h (record h { holder = Some core }) size.1 here))
+        (λ v. refl) (λ k. lock-changed b lock.0 k h (record h { holder = Some core }) size.1 here))
     by_holder (Some holder) has =
         let none : places_of core.0 h.queue ≡ 0 = omega (arith, asked, at.inv.locks.row lock.0 core.0, waiting-one S lock.0 core.0, ap (queued_in core.0) is) in
         let room = room-of b.cores h core ((at.inv.machine.bank bank.0 b at.found).well.locks lock.0 h here) inside none in
         let now = row ∙ ap (λ (x : Lock × Option Signature). (with_lock b lock.0 x.0, grants lock core x.1)) (acquired-held h core holder has none room) in
         leaves.acquire_held bank lock core holder h is has at.tells
         (lock-step S M id bank (Acquire lock core) lock.0 b (record h { queue = h.queue ++ core ∷ [] }) (with_lock b lock.0 (record h { queue = h.queue ++ core ∷ [] }), None) at now
-         (λ v. refl) (λ k. lock-changed b lock.0 k h (record h { queue = h.queue ++ core ∷ [] }) size.1 here))
+        (λ v. refl) (λ k. lock-changed b lock.0 k h (record h { queue = h.queue ++ core ∷ [] }) size.1 here))
 
 -- a lock's holder is a core of the machine
 holder-inside : (cores : ℕ) (h : Lock) (core : CoreId) → IsLockOf cores h → holder_count core.0 h.holder ≡ 1 → core.0 < cores
@@ -357,47 +381,56 @@ release-way : (S : State) (M : ℕ → ℕ) (id : MailId) (bank : BankId) (lock 
 release-way S M id bank lock core s b G leaves at = by_lock (lock_at S lock.0) refl where
   given : 1 ≤ flight S (releases lock.0 core.0)
   given = rw (same-number lock.0, same-number core.0) at (at.counted (releases lock.0 core.0))
+
   by_lock : (o : Option Lock) → lock_at S lock.0 ≡ o → G M
   by_lock None is = absurd (omega (arith, given, at.inv.locks.row lock.0 core.0, ap (holder_in core.0) is))
   by_lock (Some h) is = by_queue h.queue refl where
     here : bank_lock b lock.0 ≡ Some h
     here = sym (lock-is S M id bank (Release lock core s) lock.0 b at) ∙ is
+
     one : holder_count core.0 h.holder ≡ 1
     one = omega (arith, given, at.inv.locks.row lock.0 core.0, ap (holder_in core.0) is, holder-within core.0 h.holder)
+
     has : h.holder ≡ Some core
     has = holder-is core h.holder one
+
     size : (b.cores ≡ length S.nodes) × (0 < b.banks)
     size = sized S M id bank (Release lock core s) lock.0 b at
+
     inside : core.0 < b.cores
     inside = holder-inside b.cores h core ((at.inv.machine.bank bank.0 b at.found).well.locks lock.0 h here) one
+
     row : bank_gets b (Release lock core s) ≡ (with_lock b lock.0 (released h core s).0, hands_on lock (released h core s).1)
     row = release-here b lock core s h inside here
+
     by_queue : (queue : List CoreId) → h.queue ≡ queue → G M
     by_queue [] none =
         let given_up = released-own h core s one ∙ ap (handed_on (record h { kept = joined h.kept s })) none in
         let now = row ∙ ap (λ (x : Lock × Option (CoreId × Signature)). (with_lock b lock.0 x.0, hands_on lock x.1)) given_up in
         leaves.release_last bank lock core core s h is has refl none at.tells
         (lock-step S M id bank (Release lock core s) lock.0 b (record h { holder = None; kept = joined h.kept s }) (with_lock b lock.0 (record h { holder = None; kept = joined h.kept s }), None) at now
-         (λ v. refl) (λ k. lock-changed b lock.0 k h (record h { holder = None; kept = joined h.kept s }) size.1 here))
+        (λ v. refl) (λ k. lock-changed b lock.0 k h (record h { holder = None; kept = joined h.kept s }) size.1 here))
     by_queue (waiter ∷ others) first =
         let given_up = released-own h core s one ∙ ap (handed_on (record h { kept = joined h.kept s })) first in
         let now = row ∙ ap (λ (x : Lock × Option (CoreId × Signature)). (with_lock b lock.0 x.0, hands_on lock x.1)) given_up in
         leaves.release_on bank lock core core waiter others s h is has refl first at.tells
         (lock-step S M id bank (Release lock core s) lock.0 b (record h { holder = Some waiter; queue = others; kept = joined h.kept s })
-         (with_lock b lock.0 (record h { holder = Some waiter; queue = others; kept = joined h.kept s }), to_core waiter (Grant lock (joined h.kept s))) at now
-         (λ v. refl) (λ k. lock-changed b lock.0 k h (record h { holder = Some waiter; queue = others; kept = joined h.kept s }) size.1 here))
+        (with_lock b lock.0 (record h { holder = Some waiter; queue = others; kept = joined h.kept s }), to_core waiter (Grant lock (joined h.kept s))) at now
+        (λ v. refl) (λ k. lock-changed b lock.0 k h (record h { holder = Some waiter; queue = others; kept = joined h.kept s }) size.1 here))
 
 -- a bank's mail, by its kind
 pub bank-ways : (S : State) (M : ℕ → ℕ) (id : MailId) (m : Mail) (bank : BankId) (G : (ℕ → ℕ) → Type 0) → Invariant S M → Handled S id m → m.to ≡ Bank bank → Leaves S M (Handle id) G → G M
 bank-ways S M id m bank G inv h to leaves = by_message m.message refl where
   right : is_right S.setting.shape.cores S.setting.shape.banks (Bank bank) m.message ≡ true
   right = subst (λ (a : Actor). is_right S.setting.shape.cores S.setting.shape.banks a m.message ≡ true) to (goes-right S M id m inv h)
+
   by_bank : (message : Message) (w : ℕ) → m.message ≡ message → (bank.0 == w % S.setting.shape.banks) ≡ true → ((b : BankParts) → AtBank S M id bank message w b → G M) → G M
   by_bank message w is home way =
       let here : bank.0 ≡ w % S.setting.shape.banks = eqb-true bank.0 (w % S.setting.shape.banks) home in
       let inside : bank.0 < length S.banks = omega (arith, here, inv.machine.banks, inv.machine.context.some_banks) in
       let at = bank-there S bank.0 inside in
       way at.0 (at-bank S M id m bank message w at.0 inv h to is at.1 here)
+
   by_message : (message : Message) → m.message ≡ message → G M
   by_message (ReadReq word reader) is = by_bank (ReadReq word reader) word.0 is (rw (is) at right) (λ b. read-way S M id bank word reader b G leaves)
   by_message (ReadFwd word reader) is = let wrong = rw (is) at right in absurd (cc)

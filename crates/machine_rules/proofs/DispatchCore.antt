@@ -1,5 +1,5 @@
 -- The handling of a mail by a core is one of the ways.
-use Rattle.std.proofs.Common.{◌≡◌, ◌≢◌, ◌⊎◌, inl, inr, ℕ, zero, suc, ◌+◌, ◌≤◌, ◌<◌, ◌==◌, ◌&&◌, ◌||◌, not, nat_lt, Bool, true, false, cond, List, length, get_or, slice_get, sum_by, Option, Some, None, refl, sym, ap, subst, ◌∙◌, arith}
+use Rattle.std.proofs.Common.{◌≡◌, ◌⊎◌, inl, inr, ℕ, ◌+◌, ◌≤◌, ◌<◌, ◌==◌, ◌&&◌, not, nat_lt, Bool, true, false, length, get_or, slice_get, Option, Some, None, refl, sym, ap, subst, ◌∙◌, arith}
 use Rattle.std.proofs.lemmas.Bool.{eqb-true}
 use Rattle.std.proofs.lemmas.Option.{slice_get_cases}
 use Rattle.std.proofs.lemmas.Bool.Decides.{nat_tests}
@@ -7,42 +7,37 @@ use Rattle.dn_base.specs.declared.ids.WordId.{WordId}
 use Rattle.dn_base.specs.declared.ids.CoreId.{CoreId}
 use Rattle.dn_base.specs.declared.ids.LockId.{LockId}
 use Rattle.dn_base.specs.declared.ids.PhaseId.{PhaseId}
-use Rattle.dn_base.specs.declared.ids.Grant.{Grant as Granted}
 use Rattle.region_table.specs.Tasks.{declared}
 use Rattle.rv_core.specs.declared.task.TaskState.{TaskState}
 use Rattle.rv_core.specs.declared.need.Need as need
 use Rattle.write_signature.specs.declared.signature.Signature.{Signature}
 use Rattle.message_net.specs.declared.actor.Actor.{Actor}
-use Rattle.message_net.specs.declared.actor.Actor.TheVariants.{Core, Bank, Keeper}
+use Rattle.message_net.specs.declared.actor.Actor.TheVariants.{Core}
 use Rattle.message_net.specs.declared.actor.MailId.{MailId}
-use Rattle.message_net.specs.declared.event.Event.{Event}
 use Rattle.message_net.specs.declared.event.Event.TheVariants.{Handle}
 use Rattle.message_net.specs.declared.message.Mail.{Mail}
 use Rattle.message_net.specs.declared.message.Message.{Message}
 use Rattle.message_net.specs.declared.message.Message.TheVariants.{ReadReq, ReadFwd, DataReply, RegReq, RegFwd, RegAck, WriteBack, WbAck, Acquire, Release, Grant, Arrived, Go, Halt}
-use Rattle.message_net.specs.declared.message.Outgoing.{Outgoing}
-use Rattle.message_net.specs.Mail.{to_core, to_home}
 use Rattle.message_net.proofs.PoolLemmas.{weight-within}
 use Rattle.word_cache.specs.declared.row.Entry.{Entry}
 use Rattle.word_cache.specs.declared.row.Entry.TheVariants.{Valid, Registered, Leaving}
-use Rattle.word_cache.specs.Cache.{has_room}
 use Rattle.registration_protocol.specs.declared.node.NodeWait as wait
 use Rattle.registration_protocol.specs.declared.node.NodeWait.{NodeWait}
 use Rattle.registration_protocol.specs.declared.node.Received.{Received}
-use Rattle.registration_protocol.specs.Node.{NodeParts, Setting, entry_of, need_now}
-use Rattle.registration_protocol.specs.Messages.{node_gets, becomes, answers, ack_row, forward_row, read_row, gone_row, holds_now, begins}
-use Rattle.registration_protocol.proofs.InstrLemmas.{HasNext, has-next}
+use Rattle.registration_protocol.specs.Node.{NodeParts, entry_of, need_now}
+use Rattle.registration_protocol.specs.Messages.{node_gets, ack_row, forward_row, read_row, gone_row}
+use Rattle.registration_protocol.proofs.InstrLemmas.{has-next}
 use Rattle.registration_protocol.proofs.MessageLemmas.{ack-is, forward-is, read-is, back-is, data-is, grant-is, go-is, halt-is}
-use Rattle.machine_rules.specs.State.{State, entry_in, entry_at, home_at}
-use Rattle.machine_rules.specs.Flight.{Test, bit, counted, flight, asks, passes_on, passes_to, confirms, frees, forwards, replies, grants, goes, halts}
-use Rattle.machine_rules.specs.Next.{next, enabled, seen_in, granted_in}
+use Rattle.machine_rules.specs.State.{State, entry_in, entry_at}
+use Rattle.machine_rules.specs.Flight.{Test, bit, counted, flight, confirms, frees, replies, grants, goes, halts}
+use Rattle.machine_rules.specs.Next.{next, seen_in, granted_in}
 use Rattle.machine_rules.specs.Memory.{store_in}
 use Rattle.machine_rules.specs.Coherent.{owned_value, is_alive, locks_in, is_locking}
-use Rattle.machine_rules.proofs.Bits.{pending_bit, settled_bit, leaving_bit, owner_bit, reading_in, is_reading}
+use Rattle.machine_rules.proofs.Bits.{settled_bit, reading_in, is_reading}
 use Rattle.machine_rules.proofs.BitLemmas.{pending-is, leaving-is, bit-true}
 use Rattle.machine_rules.proofs.Invariant.{Invariant, is_lost, is_right, is_astray}
-use Rattle.machine_rules.proofs.Steps.{NodeStep, Handled, as_sent, core-step}
-use Rattle.machine_rules.proofs.Leaves.{Leaves, Tells, stored_to, at_core}
+use Rattle.machine_rules.proofs.Steps.{NodeStep, Handled, core-step}
+use Rattle.machine_rules.proofs.Leaves.{Leaves, Tells, at_core}
 use Rattle.machine_rules.proofs.WordCore.{same-number}
 
 -- a mail in flight that passes a test is counted
@@ -195,6 +190,7 @@ busy S M core n lock inv found waits = (by_halted n.halted refl, by_arrived n.ar
   by_halted : (x : Bool) → n.halted ≡ x → n.halted ≡ false
   by_halted false is = is
   by_halted true is = let none = (inv.phases.asleep core n found is).waiting in absurd (cc)
+
   by_arrived : (x : Bool) → n.arrived ≡ x → n.arrived ≡ false
   by_arrived false is = is
   by_arrived true is = let none = (inv.phases.arrived core n found is).waiting in absurd (cc)
@@ -207,10 +203,13 @@ grant-way S M id core lock s n G leaves at = by_task n.task refl where
       let one = rw (same-number lock.0, same-number core.0) at (at.counted (grants lock.0 core.0)) in
       let here = ap (λ (o : Option NodeParts). bit (locks_in lock.0 o)) at.found in
       locking-lock n.waiting lock (omega (arith, one, here, at.inv.locks.row lock.0 core.0))
+
   needs : need_now S.setting n ≡ Some (need.TheVariants.Acquire lock)
   needs = rw (waits) at ((at.inv.machine.node core.0 n at.found).fits).waiting
+
   own : n.core ≡ core.0
   own = (at.inv.machine.node core.0 n at.found).core
+
   by_task : (o : Option TaskState) → n.task ≡ o → G M
   by_task None is =
       let none : need_now S.setting n ≡ None = rw (is) refl in
@@ -259,6 +258,7 @@ go-way S M id core phase n G leaves at =
     same_phase : (x : Bool) → (phase.0 == S.keeper.phase) ≡ x → bit (not x) ≤ flight S (is_astray S.keeper.phase) → phase.0 ≡ S.keeper.phase
     same_phase true e one = eqb-true phase.0 S.keeper.phase e
     same_phase false e one = absurd (omega (arith, one, at.inv.phases.astray))
+
     in_program : (S.keeper.phase < length S.setting.program.phases) ⊎ (length S.setting.program.phases ≡ 0) → n.phase < length S.setting.program.phases → phase.0 ≡ S.keeper.phase
         → phase.0 < length S.setting.program.phases
     in_program (inl within) here right = omega (arith, within, right)
@@ -278,11 +278,13 @@ pub core-ways : (S : State) (M : ℕ → ℕ) (id : MailId) (m : Mail) (core : C
 core-ways S M id m core G inv h to leaves = by_message m.message refl where
   right : is_right S.setting.shape.cores S.setting.shape.banks (Core core) m.message ≡ true
   right = subst (λ (a : Actor). is_right S.setting.shape.cores S.setting.shape.banks a m.message ≡ true) to (goes-right S M id m inv h)
+
   by_node : (message : Message) → m.message ≡ message → nat_lt core.0 S.setting.shape.cores ≡ true → ((n : NodeParts) → AtNode S M id core message n → G M) → G M
   by_node message is within way =
       let inside : core.0 < length S.nodes = grind (arith, nat_tests, within, inv.machine.nodes) in
       let at = node-there S core.0 inside in
       way at.0 (at-node S M id m core message at.0 inv h to is at.1)
+
   by_message : (message : Message) → m.message ≡ message → G M
   by_message (ReadReq word reader) is = let wrong = rw (is) at right in absurd (cc)
   by_message (ReadFwd word reader) is = by_node (ReadFwd word reader) is (rw (is) at right) (λ n. read-way S M id core reader word n G leaves)

@@ -1,19 +1,14 @@
 -- An event of a core by itself is one of the ways.
-use Rattle.std.proofs.Common.{◌≡◌, ◌≢◌, ◌⊎◌, inl, inr, ℕ, zero, suc, ◌+◌, ◌≤◌, ◌==◌, ◌&&◌, ◌||◌, not, Bool, true, false, cond, List, slice_get, Option, Some, None, refl, sym, ap, subst, ◌∙◌, arith}
-use Rattle.std.proofs.lemmas.Bool.Decides.{nat_tests}
+use Rattle.std.proofs.Common.{◌≡◌, ◌⊎◌, inl, inr, ℕ, Bool, true, false, slice_get, Option, Some, None, refl, sym, ap, subst, ◌∙◌}
 use Rattle.dn_base.specs.declared.ids.WordId.{WordId}
 use Rattle.dn_base.specs.declared.ids.CoreId.{CoreId}
-use Rattle.dn_base.specs.declared.ids.LoadSeen.{LoadSeen}
 use Rattle.region_table.specs.declared.declared.TaskDecl.{TaskDecl}
-use Rattle.region_table.specs.Plan.{uses_plainly}
 use Rattle.region_table.specs.Tasks.{declared}
 use Rattle.rv_core.specs.declared.task.TaskState.{TaskState}
 use Rattle.rv_core.specs.declared.need.Need as need
 use Rattle.rv_core.specs.declared.need.Need.{Need}
 use Rattle.rv_core.specs.Kinds.{IsStore}
-use Rattle.rv_core.specs.Need.{need_of}
-use Rattle.rv_core.specs.Step.{advanced, loaded_of, merged_of}
-use Rattle.rv_core.specs.Task.{stopped}
+use Rattle.rv_core.specs.Step.{merged_of}
 use Rattle.message_net.specs.declared.event.Event.{Event}
 use Rattle.message_net.specs.declared.event.Event.TheVariants.{Instr, Evict, Arrive}
 use Rattle.message_net.specs.declared.message.Message.TheVariants.{ReadReq, RegReq, WriteBack, Acquire, Release, Arrived}
@@ -23,9 +18,9 @@ use Rattle.word_cache.specs.declared.row.Entry.{Entry}
 use Rattle.word_cache.specs.declared.row.Entry.TheVariants.{Valid, Registered, Leaving}
 use Rattle.word_cache.specs.Cache.{has_room, may_go}
 use Rattle.registration_protocol.specs.declared.node.Step.{Step}
-use Rattle.registration_protocol.specs.Node.{NodeParts, Setting, entry_of, need_now, is_settled, is_active, signature_of}
+use Rattle.registration_protocol.specs.Node.{NodeParts, entry_of, need_now, is_active, signature_of}
 use Rattle.registration_protocol.specs.OwnEvents.{me, lets, may_access, may_instr, may_evict, may_arrive, instructed, instr_row, loads, stores, misses, stored, evicted, evicts, arrives, written_now, written_by, is_bad}
-use Rattle.registration_protocol.specs.Parts.{MayInstruct, MayEvict, MayArrive}
+use Rattle.registration_protocol.specs.Parts.{MayInstruct, MayEvict}
 use Rattle.registration_protocol.proofs.InstrLemmas.{may-instruct, may-evict, may-arrive, instructed-is, written-is, written-none}
 use Rattle.machine_rules.specs.State.{State}
 use Rattle.machine_rules.specs.Next.{next, enabled, when_there, seen_in, granted_in}
@@ -122,7 +117,7 @@ missed S M core n d t word x G leaves needs g none room row writes =
     let tells : Tells S (Instr core) None None None = record { seen_is = h.seen; granted_is = h.granted; store_is = h.store ∙ writes } in
     same-memory S M (Instr core) G tells.store_is
     (leaves.miss core n d t word x needs g.acts none room tells
-     (subst (λ (c : CoreId). NodeStep S (next S (Instr core)) core.0 n (misses S.setting n word).0 None (to_home S.setting.shape.banks word.0 (ReadReq word c))) g.mine h.step))
+    (subst (λ (c : CoreId). NodeStep S (next S (Instr core)) core.0 n (misses S.setting n word).0 None (to_home S.setting.shape.banks word.0 (ReadReq word c))) g.mine h.step))
 
 -- a load, by the entry of its word
 loaded : (S : State) (M : ℕ → ℕ) (core : CoreId) (n : NodeParts) (d : TaskDecl) (t : TaskState) (word : WordId) (G : (ℕ → ℕ) → Type 0) → Leaves S M (Instr core) G
@@ -156,14 +151,14 @@ kept S M core n d t word true G leaves g None is may row writes =
     let tells : Tells S (Instr core) None None (Some (word, value)) = record { seen_is = h.seen; granted_is = h.granted; store_is = h.store ∙ writes } in
     new-memory S M (Instr core) G (Some (word, value)) tells.store_is
     (leaves.store_new core n d t word value g.acts is may refl tells
-     (subst (λ (c : CoreId). NodeStep S (next S (Instr core)) core.0 n (stored S.setting n d t word (Registered value true)) None (to_home S.setting.shape.banks word.0 (RegReq word c))) g.mine h.step))
+    (subst (λ (c : CoreId). NodeStep S (next S (Instr core)) core.0 n (stored S.setting n d t word (Registered value true)) None (to_home S.setting.shape.banks word.0 (RegReq word c))) g.mine h.step))
 kept S M core n d t word whole G leaves g (Some (Valid old marked)) is may row writes =
     let value = merged_of S.setting.program old t in
     let h = instructed-row S core n (stores S.setting n d t word whole (Some (Valid old marked))) g.acts.found row in
     let tells : Tells S (Instr core) None None (Some (word, value)) = record { seen_is = h.seen; granted_is = h.granted; store_is = h.store ∙ writes } in
     new-memory S M (Instr core) G (Some (word, value)) tells.store_is
     (leaves.store_copy core n d t word whole old value marked g.acts is refl tells
-     (subst (λ (c : CoreId). NodeStep S (next S (Instr core)) core.0 n (stored S.setting n d t word (Registered value true)) None (to_home S.setting.shape.banks word.0 (RegReq word c))) g.mine h.step))
+    (subst (λ (c : CoreId). NodeStep S (next S (Instr core)) core.0 n (stored S.setting n d t word (Registered value true)) None (to_home S.setting.shape.banks word.0 (RegReq word c))) g.mine h.step))
 kept S M core n d t word whole G leaves g (Some (Registered old pending)) is may row writes =
     let value = merged_of S.setting.program old t in
     let h = instructed-row S core n (stores S.setting n d t word whole (Some (Registered old pending))) g.acts.found row in
@@ -191,13 +186,13 @@ acted S M core n d t G leaves (need.TheVariants.Acquire lock) g =
     let tells = quietly S core n (instr_row S.setting n d t (need.TheVariants.Acquire lock)) (need.TheVariants.Acquire lock) h g.now (λ x. x) in
     same-memory S M (Instr core) G tells.store_is
     (leaves.acquire core n d t lock g.acts tells
-     (subst (λ (c : CoreId). NodeStep S (next S (Instr core)) core.0 n (instr_row S.setting n d t (need.TheVariants.Acquire lock)).0 None (to_home S.setting.shape.banks lock.0 (Acquire lock c))) g.mine h.step))
+    (subst (λ (c : CoreId). NodeStep S (next S (Instr core)) core.0 n (instr_row S.setting n d t (need.TheVariants.Acquire lock)).0 None (to_home S.setting.shape.banks lock.0 (Acquire lock c))) g.mine h.step))
 acted S M core n d t G leaves (need.TheVariants.Release lock) g =
     let h = instructed-row S core n (instr_row S.setting n d t (need.TheVariants.Release lock)) g.acts.found g.row in
     let tells = quietly S core n (instr_row S.setting n d t (need.TheVariants.Release lock)) (need.TheVariants.Release lock) h g.now (λ x. x) in
     same-memory S M (Instr core) G tells.store_is
     (leaves.release core n d t lock g.acts g.allows tells
-     (subst (λ (c : CoreId). NodeStep S (next S (Instr core)) core.0 n (instr_row S.setting n d t (need.TheVariants.Release lock)).0 None (to_home S.setting.shape.banks lock.0 (Release lock c (signature_of n lock.0)))) g.mine h.step))
+    (subst (λ (c : CoreId). NodeStep S (next S (Instr core)) core.0 n (instr_row S.setting n d t (need.TheVariants.Release lock)).0 None (to_home S.setting.shape.banks lock.0 (Release lock c (signature_of n lock.0)))) g.mine h.step))
 
 pub instr-ways : (S : State) (M : ℕ → ℕ) (core : CoreId) (G : (ℕ → ℕ) → Type 0) → Invariant S M → enabled S (Instr core) ≡ true → Leaves S M (Instr core) G
     → G (stored_to (store_in S (Instr core)) M)
@@ -242,7 +237,7 @@ evict-ways S M core word G inv may leaves =
         let row = evicts S.setting n word (Some (Registered value false)) in
         leaves.evict_own core n word value found (awake n i.arrived i.halted) i.waiting is (silent-evict S core word)
         (subst (λ (c : CoreId). NodeStep S (next S (Evict core word)) core.0 n row.0 None (to_home S.setting.shape.banks word.0 (WriteBack word value c))) mine
-         (evict-row S core word n (evicts S.setting n word (Some (Registered value false))) found (ap (evicts S.setting n word) is)))
+        (evict-row S core word n (evicts S.setting n word (Some (Registered value false))) found (ap (evicts S.setting n word) is)))
     by_entry n found i (Some (Leaving value)) is goes = absurd (cc)
 
 pub arrive-ways : (S : State) (M : ℕ → ℕ) (core : CoreId) (G : (ℕ → ℕ) → Type 0) → Invariant S M → enabled S (Arrive core) ≡ true → Leaves S M (Arrive core) G
@@ -254,4 +249,4 @@ arrive-ways S M core G inv may leaves =
     let mine : me n ≡ core = ap (λ (x : ℕ). let c : CoreId = record { 0 = x } in c) ((inv.machine.node core.0 n at.found).core) in
     same-memory S M (Arrive core) G (silent-arrive S core).store_is
     (leaves.arrive core n at.found i.halted i.arrived i.done i.settled (silent-arrive S core)
-     (subst (λ (c : CoreId). NodeStep S (next S (Arrive core)) core.0 n (arrives n).0 None (to_keeper (Arrived c (is_bad n.task)))) mine (arrive-step S core n at.found)))
+    (subst (λ (c : CoreId). NodeStep S (next S (Arrive core)) core.0 n (arrives n).0 None (to_keeper (Arrived c (is_bad n.task)))) mine (arrive-step S core n at.found)))

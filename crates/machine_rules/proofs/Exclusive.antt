@@ -1,6 +1,6 @@
 -- What the task of one core may store no task of another core may load: as long as both are at work.
 use Rattle.std.specs.List.{IsAmong}
-use Rattle.std.proofs.Common.{◌≡◌, ◌≢◌, ◌⊎◌, inl, inr, ℕ, zero, suc, ◌+◌, ◌<◌, ◌≤◌, ◌==◌, ◌&&◌, not, Bool, true, false, cond, List, [], length, slice_get, Option, Some, None, refl, sym, ap, subst, ◌∙◌, arith}
+use Rattle.std.proofs.Common.{◌≡◌, ◌≢◌, ◌⊎◌, inl, inr, ℕ, zero, suc, ◌<◌, ◌≤◌, ◌==◌, Bool, true, false, [], length, slice_get, Option, Some, None, refl, sym, ap, subst, ◌∙◌, arith}
 use Rattle.std.proofs.lemmas.Bool.{eqb-true}
 use Rattle.std.proofs.lemmas.Bool.Decides.{nat_tests}
 use Rattle.dn_base.specs.declared.ids.WordId.{WordId}
@@ -13,7 +13,6 @@ use Rattle.rv_core.specs.declared.task.TaskState.{TaskState}
 use Rattle.rv_core.specs.declared.need.Need as need
 use Rattle.rv_core.specs.declared.need.Need.{Need}
 use Rattle.rv_core.specs.Access.{holds as is_held, may_load, may_store}
-use Rattle.rv_core.specs.Need.{need_of}
 use Rattle.rv_core.proofs.Completions.{load-allowed, store-allowed}
 use Rattle.flat_machine.specs.Step.{Started}
 use Rattle.flat_machine.proofs.Separation.{AreApart, keeps-out}
@@ -25,13 +24,12 @@ use Rattle.word_cache.specs.Cache.{pending_bit as pending_pair, pending_count}
 use Rattle.word_cache.proofs.WeightLemmas.{pending-most}
 use Rattle.registration_protocol.specs.declared.node.NodeWait as wait
 use Rattle.registration_protocol.specs.declared.node.NodeWait.{NodeWait}
-use Rattle.registration_protocol.specs.Node.{NodeParts, Setting, entry_of, need_now, is_settled}
-use Rattle.registration_protocol.proofs.InstrLemmas.{HasNext, has-next}
+use Rattle.registration_protocol.specs.Node.{NodeParts, entry_of, need_now, is_settled}
+use Rattle.registration_protocol.proofs.InstrLemmas.{has-next}
 use Rattle.machine_rules.specs.State.{State, entry_in, entry_at, lock_at}
-use Rattle.machine_rules.specs.Flight.{bit, flight, goes}
-use Rattle.machine_rules.specs.Coherent.{MayStore, NeedsValue, HasArrived, held_by, holds_lock, has_lock, holder_in, is_alive}
+use Rattle.machine_rules.specs.Flight.{bit}
+use Rattle.machine_rules.specs.Coherent.{NeedsValue, HasArrived, has_lock, holder_in, is_alive}
 use Rattle.machine_rules.proofs.Bits.{pending_bit, reading_in, is_reading}
-use Rattle.machine_rules.proofs.BitLemmas.{bit-true}
 use Rattle.machine_rules.proofs.Invariant.{Invariant, LocksGood}
 use Rattle.machine_rules.proofs.Leaves.{IsActing}
 
@@ -95,6 +93,7 @@ awake-by S M c n inv found busy = (by_halted n.halted refl, by_arrived n.arrived
   by_halted : (x : Bool) → n.halted ≡ x → n.halted ≡ false
   by_halted false is = is
   by_halted true is = absurd (busy (inv.phases.asleep c n found is))
+
   by_arrived : (x : Bool) → n.arrived ≡ x → n.arrived ≡ false
   by_arrived false is = is
   by_arrived true is = absurd (busy (inv.phases.arrived c n found is))
@@ -146,6 +145,7 @@ pub needs-word : (S : State) (M : ℕ → ℕ) (c : ℕ) (n : NodeParts) (word :
 needs-word S M c n word inv found awake absent wants = by_task n.task refl wants where
   own : n.core ≡ c
   own = (inv.machine.node c n found).core
+
   by_need : (t : TaskState) → n.task ≡ Some t → (x : Need) → need_now S.setting n ≡ Some x → (x ≡ need.TheVariants.Load word) ⊎ (x ≡ need.TheVariants.Store word false) → ReadingWork S c n word.0
   by_need t is x now (inl load) =
       let next_is = has-next S.setting n t x is now in
@@ -167,6 +167,7 @@ needs-word S M c n word inv found awake absent wants = by_task n.task refl wants
         right = store-loads next_is.decl t.held word.0 may.1;
         within = may.0;
       }
+
   by_task : (o : Option TaskState) → n.task ≡ o → NeedsValue S n word → ReadingWork S c n word.0
   by_task None is wants =
       let none : need_now S.setting n ≡ None = rw (is) refl in
@@ -238,6 +239,7 @@ load-none-pending S M core n d t word needs inv kind h other apart = by_bit (pen
   right : (needs ≡ need.TheVariants.Load word) ⊎ (needs ≡ need.TheVariants.Store word false) → may_load d t.held word.0 ≡ true
   right (inl load) = (load-allowed S.setting.program d S.setting.fuel t word (h.wants ∙ load)).1
   right (inr store) = store-loads d t.held word.0 (store-allowed S.setting.program d S.setting.fuel t word false (h.wants ∙ store)).1
+
   by_bit : (x : ℕ) → pending_bit (entry_at S other word.0) ≡ x → pending_bit (entry_at S other word.0) ≤ 1 → pending_bit (entry_at S other word.0) ≡ 0
   by_bit zero is within = is
   by_bit (suc x) is within =

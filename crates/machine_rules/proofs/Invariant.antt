@@ -1,14 +1,10 @@
 -- What holds after every event, in the form in which it is kept: equations on counts, each for one word and one core, for
 -- one lock and one core, or for one core.
-use Rattle.std.proofs.Common.{◌≡◌, ◌≢◌, ◌⊎◌, ℕ, ◌+◌, ◌%◌, ◌<◌, ◌≤◌, ◌==◌, nat_lt, Bool, true, false, not, ◌&&◌, cond, List, [], length, slice_get, slice_index, slice_index_or, sum_by, Option, Some, None}
-use Rattle.std.specs.List.{All, IsAmong}
+use Rattle.std.proofs.Common.{◌≡◌, ◌≢◌, ◌⊎◌, ℕ, ◌+◌, ◌%◌, ◌<◌, ◌≤◌, ◌==◌, nat_lt, Bool, true, false, not, ◌&&◌, List, [], length, slice_get, slice_index_or, sum_by, Option, Some, None}
 use Rattle.dn_base.specs.declared.ids.CoreId.{CoreId}
 use Rattle.dn_base.specs.declared.ids.WordId.{WordId}
-use Rattle.dn_base.specs.declared.ids.LockId.{LockId}
 use Rattle.region_table.specs.declared.declared.TaskDecl.{TaskDecl}
 use Rattle.region_table.specs.Words.{has}
-use Rattle.region_table.specs.Plan.{uses_plainly}
-use Rattle.region_table.specs.Program.{IsProgram}
 use Rattle.region_table.specs.Tasks.{declared}
 use Rattle.rv_core.specs.declared.task.End.TheVariants.{Finished}
 use Rattle.rv_core.specs.declared.task.TaskState.{TaskState}
@@ -17,26 +13,21 @@ use Rattle.write_signature.specs.declared.signature.Signature.{Signature}
 use Rattle.write_signature.specs.Signature.{tag, holds}
 use Rattle.message_net.specs.declared.actor.Actor.{Actor}
 use Rattle.message_net.specs.declared.actor.Actor.TheVariants.{Core, Bank, Keeper}
-use Rattle.message_net.specs.declared.message.Mail.{Mail}
-use Rattle.message_net.specs.declared.message.Message.{Message}
-use Rattle.message_net.specs.declared.message.Message.TheVariants.{ReadReq, ReadFwd, DataReply, RegReq, RegFwd, RegAck, WriteBack, WbAck, Acquire, Release, Grant, Arrived, Go, Halt}
-use Rattle.word_cache.specs.declared.row.Entry.{Entry}
+use Rattle.message_net.specs.declared.message.Message.TheVariants.{ReadReq, RegReq, WriteBack, Acquire, Release, Grant, Arrived, Go}
 use Rattle.word_cache.specs.declared.row.Entry.TheVariants.{Valid, Registered, Leaving}
 use Rattle.word_cache.specs.Cache.{has_room}
 use Rattle.queue_lock.specs.Lock.{Lock}
 use Rattle.registry_bank.specs.declared.bank.BankWord.TheVariants.{Home, Reg}
-use Rattle.registry_bank.specs.Bank.{BankParts}
 use Rattle.phase_barrier.specs.Barrier.{all_arrived}
 use Rattle.registration_protocol.specs.declared.node.NodeWait as wait
 use Rattle.registration_protocol.specs.declared.node.NodeWait.{NodeWait}
-use Rattle.registration_protocol.specs.Node.{NodeParts, Setting, need_now, entry_of, goes_on, is_settled}
+use Rattle.registration_protocol.specs.Node.{NodeParts, entry_of}
 use Rattle.registration_protocol.specs.OwnEvents.{is_bad}
-use Rattle.registration_protocol.specs.Messages.{written_in}
 use Rattle.machine_rules.specs.State.{State, entry_at, home_at, lock_at}
 use Rattle.machine_rules.specs.Sound.{IsMachine}
-use Rattle.machine_rules.specs.Flight.{Test, bit, is_to, flight, asks, passes_on, passes_to, turns_back, confirms, gives_back, gives_back_value, frees, seeks, forwards, forwards_at, replies, misinforms, acquires, releases, grants, arrives, goes, halts}
+use Rattle.machine_rules.specs.Flight.{Test, bit, flight, asks, passes_on, passes_to, turns_back, confirms, gives_back, gives_back_value, frees, seeks, forwards, forwards_at, replies, misinforms, acquires, releases, grants, arrives, goes, halts}
 use Rattle.machine_rules.specs.Coherent.{MayStore, UsesPlainly, IsBehind, HasWriter, NeedsValue, HasArrived, owned_value, held_by, has_lock, locks_in, queued_in, holder_in, is_alive, waits_in, counts_bad}
-use Rattle.machine_rules.proofs.Bits.{pending_bit, settled_bit, leaving_bit, known_bit, owner_bit, home_bit, lock_bit, reading_in, same_signature, signed_in}
+use Rattle.machine_rules.proofs.Bits.{pending_bit, settled_bit, leaving_bit, known_bit, owner_bit, reading_in, same_signature, signed_in}
 
 -- ---- Where mails go.
 

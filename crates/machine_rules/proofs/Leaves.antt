@@ -1,6 +1,6 @@
 -- Every way in which an event may go in a state that keeps the invariant: which node, bank or keeper changes, into what, and
 -- what is sent. A family of the invariant is kept by all events where it is kept by each of these.
-use Rattle.std.proofs.Common.{◌≡◌, ◌≢◌, ◌⊎◌, ℕ, zero, suc, ◌+◌, ◌<◌, ◌≤◌, ◌==◌, Bool, true, false, not, ◌||◌, cond, List, [], ◌∷◌, ◌++◌, length, slice_get, slice_index_or, Option, Some, None}
+use Rattle.std.proofs.Common.{◌≡◌, ◌≢◌, ◌⊎◌, ℕ, zero, suc, ◌+◌, ◌<◌, ◌==◌, Bool, true, false, ◌||◌, cond, List, [], ◌∷◌, ◌++◌, length, slice_get, Option, Some, None}
 use Rattle.dn_base.specs.declared.ids.CoreId.{CoreId}
 use Rattle.dn_base.specs.declared.ids.WordId.{WordId}
 use Rattle.dn_base.specs.declared.ids.LockId.{LockId}
@@ -19,27 +19,23 @@ use Rattle.rv_core.specs.Need.{need_of}
 use Rattle.rv_core.specs.Step.{advanced, loaded_of, merged_of}
 use Rattle.rv_core.specs.Task.{stopped}
 use Rattle.write_signature.specs.declared.signature.Signature.{Signature}
-use Rattle.write_signature.specs.Signature.{empty}
-use Rattle.message_net.specs.declared.actor.Actor.{Actor}
 use Rattle.message_net.specs.declared.actor.Actor.TheVariants.{Core, Bank, Keeper}
 use Rattle.message_net.specs.declared.event.Event.{Event}
 use Rattle.message_net.specs.declared.message.Message.{Message}
 use Rattle.message_net.specs.declared.message.Message.TheVariants.{ReadReq, ReadFwd, DataReply, RegReq, RegFwd, RegAck, WriteBack, WbAck, Acquire, Release, Grant, Arrived, Go, Halt}
 use Rattle.message_net.specs.declared.message.Outgoing.{Outgoing}
 use Rattle.message_net.specs.Mail.{to_core, to_home, to_keeper}
-use Rattle.word_cache.specs.declared.row.Entry.{Entry}
 use Rattle.word_cache.specs.declared.row.Entry.TheVariants.{Valid, Registered, Leaving}
-use Rattle.word_cache.specs.Cache.{has_room, with_pairs, put, changed, touched, without, is_pending}
-use Rattle.queue_lock.specs.Lock.{Lock, queued, handed_on}
+use Rattle.word_cache.specs.Cache.{has_room, put, touched}
+use Rattle.queue_lock.specs.Lock.{Lock}
 use Rattle.write_signature.specs.Signature.{joined}
 use Rattle.registry_bank.specs.declared.bank.BankWord.{BankWord}
 use Rattle.registry_bank.specs.declared.bank.BankWord.TheVariants.{Home, Reg}
-use Rattle.registry_bank.specs.Bank.{BankParts, bank_word, bank_lock, with_word, with_lock}
 use Rattle.phase_barrier.specs.Barrier.{Barrier, counted, advanced as next_phase, all_arrived, is_over}
 use Rattle.registration_protocol.specs.declared.node.NodeWait as wait
 use Rattle.registration_protocol.specs.declared.node.NodeWait.{NodeWait}
-use Rattle.registration_protocol.specs.Node.{NodeParts, Setting, keeping, signature_of, entry_of, is_settled, is_active, is_ready, goes_on}
-use Rattle.registration_protocol.specs.OwnEvents.{me, is_bad, retires, with_put, stored, noted}
+use Rattle.registration_protocol.specs.Node.{NodeParts, keeping, signature_of, entry_of, is_settled, is_active, is_ready, goes_on}
+use Rattle.registration_protocol.specs.OwnEvents.{is_bad, retires, with_put, stored}
 use Rattle.registration_protocol.specs.Messages.{with_entry, lacking, holds_now, begins}
 use Rattle.machine_rules.specs.State.{State, home_at, lock_at}
 use Rattle.machine_rules.specs.Next.{next, seen_in, granted_in}
@@ -47,7 +43,7 @@ use Rattle.machine_rules.specs.Memory.{store_in}
 use Rattle.machine_rules.specs.Flight.{Test, bit, flight}
 use Rattle.machine_rules.specs.Coherent.{owned_value}
 use Rattle.machine_rules.proofs.Bits.{passes, settled_bit, owner_bit}
-use Rattle.machine_rules.proofs.Steps.{NodeStep, letter_bit}
+use Rattle.machine_rules.proofs.Steps.{NodeStep}
 
 -- what an event tells and stores
 pub record Tells (S : State) (e : Event) (seen : Option LoadSeen) (granted : Option Granted) (store : Option (WordId × ℕ)) : Type 0 where

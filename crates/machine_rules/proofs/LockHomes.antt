@@ -1,25 +1,21 @@
 -- The rows of locks after what a lock's home does.
-use Rattle.std.proofs.Common.{◌≡◌, ◌≢◌, ◌⊎◌, inl, inr, ℕ, zero, suc, ◌+◌, ◌≤◌, ◌==◌, ◌&&◌, ◌||◌, not, Bool, true, false, cond, List, [], ◌∷◌, ◌++◌, slice_get, Option, Some, None, refl, sym, ap, subst, ◌∙◌, arith}
+use Rattle.std.proofs.Common.{◌≡◌, ℕ, ◌==◌, Bool, true, false, cond, List, [], ◌∷◌, ◌++◌, slice_get, Option, Some, None, refl, ap, subst, ◌∙◌, arith}
 use Rattle.std.proofs.lemmas.Bool.{eqb-true}
-use Rattle.std.proofs.lemmas.Bool.Decides.{nat_tests}
 use Rattle.dn_base.specs.declared.ids.CoreId.{CoreId}
 use Rattle.dn_base.specs.declared.ids.LockId.{LockId}
 use Rattle.dn_base.specs.declared.ids.BankId.{BankId}
 use Rattle.write_signature.specs.declared.signature.Signature.{Signature}
-use Rattle.message_net.specs.declared.actor.Actor.TheVariants.{Core, Bank, Keeper}
+use Rattle.message_net.specs.declared.actor.Actor.TheVariants.{Core, Bank}
 use Rattle.message_net.specs.declared.message.Message.TheVariants.{Acquire, Release, Grant}
 use Rattle.message_net.specs.declared.message.Outgoing.{Outgoing}
 use Rattle.queue_lock.specs.Lock.{Lock, places_of, holder_count}
 use Rattle.queue_lock.proofs.LockLemmas.{places_of-cons, places_of-push}
-use Rattle.registration_protocol.specs.Node.{NodeParts}
-use Rattle.machine_rules.specs.State.{State, lock_in, lock_at}
-use Rattle.machine_rules.specs.Flight.{Test, bit, flight, acquires, releases, grants}
+use Rattle.machine_rules.specs.State.{State, lock_at}
+use Rattle.machine_rules.specs.Flight.{bit}
 use Rattle.machine_rules.specs.Coherent.{has_lock, locks_in, queued_in, holder_in}
-use Rattle.machine_rules.proofs.Bits.{passes}
 use Rattle.machine_rules.proofs.Invariant.{LocksGood, LockRow, lock_counts}
-use Rattle.machine_rules.proofs.Leaves.{LockStep}
 use Rattle.machine_rules.proofs.WordCore.{same-number}
-use Rattle.machine_rules.proofs.LockRows.{LockFlows, lock-flows}
+use Rattle.machine_rules.proofs.LockRows.{LockFlows}
 
 -- an event of the home of a lock, whose state was h and is k afterwards
 pub record LockHome (S T : State) (lock : LockId) (h k : Lock) (left sent : Option Outgoing) : Type 0 where

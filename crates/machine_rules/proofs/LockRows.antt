@@ -1,5 +1,5 @@
 -- The rows of locks after each event.
-use Rattle.std.proofs.Common.{◌≡◌, ◌≢◌, ◌⊎◌, inl, inr, ℕ, zero, suc, ◌+◌, ◌≤◌, ◌==◌, ◌^◌, ◌&&◌, ◌||◌, not, Bool, true, false, cond, List, [], ◌∷◌, ◌++◌, slice_get, bit_or, bit_xor, Option, Some, None, refl, sym, ap, subst, ◌∙◌, arith}
+use Rattle.std.proofs.Common.{◌≡◌, ℕ, ◌==◌, ◌&&◌, ◌||◌, not, Bool, true, false, cond, slice_get, Option, Some, None, refl, ap, subst, ◌∙◌, arith}
 use Rattle.std.proofs.lemmas.Bool.{eqb-true}
 use Rattle.std.proofs.lemmas.Bool.Decides.{nat_tests}
 use Rattle.dn_base.specs.declared.ids.CoreId.{CoreId}
@@ -7,16 +7,13 @@ use Rattle.dn_base.specs.declared.ids.LockId.{LockId}
 use Rattle.dn_base.specs.declared.ids.BankId.{BankId}
 use Rattle.rv_core.specs.Access.{holds as is_held}
 use Rattle.write_signature.specs.declared.signature.Signature.{Signature}
-use Rattle.message_net.specs.declared.actor.Actor.TheVariants.{Core, Bank, Keeper}
+use Rattle.message_net.specs.declared.actor.Actor.TheVariants.{Core, Bank}
 use Rattle.message_net.specs.declared.message.Message.TheVariants.{Acquire, Release, Grant}
 use Rattle.message_net.specs.declared.message.Outgoing.{Outgoing}
-use Rattle.queue_lock.specs.Lock.{Lock, places_of, holder_count}
-use Rattle.queue_lock.proofs.LockLemmas.{places_of-cons, places_of-push}
 use Rattle.registration_protocol.specs.Node.{NodeParts}
-use Rattle.machine_rules.specs.State.{State, lock_in, lock_at}
-use Rattle.machine_rules.specs.Flight.{Test, bit, flight, acquires, releases, grants}
+use Rattle.machine_rules.specs.State.{State, lock_at}
+use Rattle.machine_rules.specs.Flight.{bit, acquires, releases, grants}
 use Rattle.machine_rules.specs.Coherent.{held_by, holds_lock, has_lock, is_locking, locks_in, queued_in, holder_in}
-use Rattle.machine_rules.proofs.Bits.{passes}
 use Rattle.machine_rules.proofs.Invariant.{LocksGood, LockRow, lock_counts}
 use Rattle.machine_rules.proofs.Steps.{NodeStep}
 use Rattle.machine_rules.proofs.WordEvents.{Flown, Balance}
@@ -51,6 +48,7 @@ lock-core S T {core = core} {n = n} {m = m} {left = left} {sent = sent} step =
     by_holding : (l d : ℕ) (x : Bool) → (core == d) ≡ x → bit (has_lock T d l) ≡ cond x (bit (is_held (held_by m.task) l)) (bit (has_lock S d l))
     by_holding l d true e = ap (λ (o : Option NodeParts). bit (holds_lock l o)) (rw (e) at (step.nodes d))
     by_holding l d false e = ap (λ (o : Option NodeParts). bit (holds_lock l o)) (rw (e) at (step.nodes d))
+
     by_waiting : (l d : ℕ) (x : Bool) → (core == d) ≡ x → bit (locks_in l (slice_get T.nodes d)) ≡ cond x (bit (is_locking l m.waiting)) (bit (locks_in l (slice_get S.nodes d)))
     by_waiting l d true e = ap (λ (o : Option NodeParts). bit (locks_in l o)) (rw (e) at (step.nodes d))
     by_waiting l d false e = ap (λ (o : Option NodeParts). bit (locks_in l o)) (rw (e) at (step.nodes d))
@@ -92,6 +90,7 @@ acquire-rows S T core n m lock bank h g held before after =
       by_lock : (x : Bool) → (lock.0 == l) ≡ x → LockFlows S T None None l d
       by_lock true f = rw (f, e) at (h.flows l d)
       by_lock false f = rw (f) at (h.flows l d)
+
     own : (l : ℕ) → LockRow (lock_counts T l core.0)
     own l = by_lock (lock.0 == l) refl where
       by_lock : (x : Bool) → (lock.0 == l) ≡ x → LockRow (lock_counts T l core.0)
@@ -114,6 +113,7 @@ release-rows S T core n m lock s bank h g had held waits =
       by_lock : (x : Bool) → (lock.0 == l) ≡ x → LockFlows S T None None l d
       by_lock true f = rw (f, e) at (h.flows l d)
       by_lock false f = rw (f) at (h.flows l d)
+
     own : (l : ℕ) → LockRow (lock_counts T l core.0)
     own l = by_lock (lock.0 == l) refl where
       by_lock : (x : Bool) → (lock.0 == l) ≡ x → LockRow (lock_counts T l core.0)
@@ -148,6 +148,7 @@ grant-rows S T core n m lock s h g had held before after =
       by_lock : (x : Bool) → (lock.0 == l) ≡ x → LockFlows S T None None l d
       by_lock true f = rw (f, e) at (h.flows l d)
       by_lock false f = rw (f) at (h.flows l d)
+
     own : (l : ℕ) → LockRow (lock_counts T l core.0)
     own l = by_lock (lock.0 == l) refl where
       by_lock : (x : Bool) → (lock.0 == l) ≡ x → LockRow (lock_counts T l core.0)

@@ -1,5 +1,5 @@
 -- What is kept of locks beside the rows: the signatures at their homes and in mails.
-use Rattle.std.proofs.Common.{◌≡◌, ◌≢◌, ◌⊎◌, inl, inr, ℕ, zero, suc, ◌+◌, ◌<◌, ◌≤◌, ◌==◌, ◌&&◌, ◌||◌, not, nat_lt, Bool, true, false, cond, List, [], ◌∷◌, slice_get, sum_by, Option, Some, None, refl, sym, ap, subst, ◌∙◌, arith}
+use Rattle.std.proofs.Common.{◌≡◌, ℕ, zero, suc, ◌+◌, ◌≤◌, ◌==◌, ◌&&◌, not, nat_lt, Bool, true, false, cond, slice_get, Option, Some, refl, sym, subst, ◌∙◌, arith}
 use Rattle.std.proofs.lemmas.Bool.{eqb-true}
 use Rattle.std.proofs.lemmas.Bool.Decides.{nat_tests}
 use Rattle.std.proofs.lemmas.List.Sums.{sum_by-le-sum_by}
@@ -18,10 +18,8 @@ use Rattle.message_net.proofs.PoolLemmas.{weight-somewhere, weight-within}
 use Rattle.queue_lock.specs.Lock.{Lock}
 use Rattle.machine_rules.specs.State.{State, lock_at}
 use Rattle.machine_rules.specs.Flight.{Test, bit, counted, flight, grants}
-use Rattle.machine_rules.specs.Coherent.{holder_in}
 use Rattle.machine_rules.proofs.Bits.{passes, same_signature}
-use Rattle.machine_rules.proofs.BitLemmas.{bit-true}
-use Rattle.machine_rules.proofs.Invariant.{LocksGood, LockRow, lock_counts, is_unlike, is_late, is_lost, is_right, is_core}
+use Rattle.machine_rules.proofs.Invariant.{LocksGood, LockRow, lock_counts, is_unlike, is_late, is_lost, is_core}
 use Rattle.machine_rules.proofs.WordEvents.{Flown}
 use Rattle.machine_rules.proofs.WordCore.{same-number}
 
@@ -81,6 +79,7 @@ no-grants S l s addressed none = by_count (flight S (is_unlike l s)) refl where
           by_lock : (x y : Bool) → 1 ≤ bit (x && y) → bit (x && true) ≤ 0 → ⊥
           by_lock true y one zero_bits = absurd (omega (arith, zero_bits))
           by_lock false y one zero_bits = absurd (omega (arith, one))
+
           by_core : (c : CoreId) → m.to ≡ Core c → ⊥
           by_core c to =
               let within = rw (is, to, same-number c.0) at (weight-within (counted (grants l c.0)) S.mails place m there) in
@@ -98,6 +97,7 @@ no-grants S l s addressed none = by_count (flight S (is_unlike l s)) refl where
       by_message m place (Arrived core bad) is there some = absurd (omega (arith, some))
       by_message m place (Go phase) is there some = absurd (omega (arith, some))
       by_message m place Halt is there some = absurd (omega (arith, some))
+
       somewhere : (place : ℕ) × (m : Mail) × (slice_get S.mails place ≡ Some m) × (1 ≤ counted (is_unlike l s) m) → ⊥
       somewhere (place, m, there, some) = by_message m place m.message refl there some
 
@@ -147,6 +147,7 @@ signs-kept S T lock h k left sent g was now phase flown same late others own =
         let one : k ≡ x = cc in
         subst (λ (y : Lock). tag y.kept ≤ S.keeper.phase) one (rw (same) (g.kept lock.0 h was))
     by_kept l x false e is = g.kept l x (sym (rw (e) at (now l)) ∙ is)
+
     by_granted : (l : ℕ) (x : Lock) (t : Bool) → (lock.0 == l) ≡ t → lock_at T l ≡ Some x → flight T (is_unlike l x.kept) ≡ 0
     by_granted l x true e is =
         let state : Some k ≡ Some x = sym (rw (e) at (now l)) ∙ is in
@@ -173,12 +174,14 @@ signs-joined S T lock core s h k to sent g was now phase flown is_joined late ot
       by_test : (t : Bool) → nat_lt S.keeper.phase (tag s) ≡ t → flight T (is_late S.keeper.phase) + bit (nat_lt S.keeper.phase (tag s)) ≡ flight S (is_late S.keeper.phase) + passes (is_late S.keeper.phase) sent → tag s ≤ S.keeper.phase
       by_test true e moved = let one = rw (e) at moved in absurd (omega (arith, one, late, g.released))
       by_test false e moved = grind (arith, nat_tests, e)
+
     by_kept : (l : ℕ) (x : Lock) (t : Bool) → (lock.0 == l) ≡ t → lock_at T l ≡ Some x → tag x.kept ≤ S.keeper.phase
     by_kept l x true e is =
         let state : Some k ≡ Some x = sym (rw (e) at (now l)) ∙ is in
         let one : k ≡ x = cc in
         subst (λ (y : Lock). tag y.kept ≤ S.keeper.phase) one (rw (is_joined) (tag-joined_below h.kept s S.keeper.phase (g.kept lock.0 h was) early))
     by_kept l x false e is = g.kept l x (sym (rw (e) at (now l)) ∙ is)
+
     by_granted : (l : ℕ) (x : Lock) (t : Bool) → (lock.0 == l) ≡ t → lock_at T l ≡ Some x → flight T (is_unlike l x.kept) ≡ 0
     by_granted l x true e is =
         let state : Some k ≡ Some x = sym (rw (e) at (now l)) ∙ is in

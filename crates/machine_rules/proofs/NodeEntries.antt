@@ -1,8 +1,7 @@
 -- What a node's step leaves of the words that it has registered or is giving back.
-use Rattle.std.proofs.Common.{◌≡◌, ◌≢◌, ◌⊎◌, inl, inr, ℕ, zero, suc, ◌+◌, ◌≤◌, ◌==◌, ◌&&◌, ◌||◌, not, Bool, true, false, cond, List, slice_get, Option, Some, None, refl, sym, ap, subst, ◌∙◌, arith}
+use Rattle.std.proofs.Common.{◌≡◌, ℕ, ◌==◌, ◌&&◌, ◌||◌, not, Bool, true, false, cond, List, slice_get, Option, Some, None, refl, sym, ap, subst, ◌∙◌}
 use Rattle.std.proofs.lemmas.Bool.{eqb-true}
 use Rattle.std.specs.Option.{option_map}
-use Rattle.dn_base.specs.declared.ids.WordId.{WordId}
 use Rattle.region_table.specs.declared.interval.Interval.{Interval}
 use Rattle.region_table.specs.Words.{has}
 use Rattle.write_signature.specs.declared.signature.Signature.{Signature}
@@ -10,7 +9,7 @@ use Rattle.write_signature.specs.Signature.{holds}
 use Rattle.message_net.specs.declared.message.Outgoing.{Outgoing}
 use Rattle.word_cache.specs.declared.row.Entry.{Entry}
 use Rattle.word_cache.specs.declared.row.Entry.TheVariants.{Valid, Registered, Leaving}
-use Rattle.word_cache.specs.Cache.{lookup, put, without, changed, touched, entry_after_phase, entry_after_grant}
+use Rattle.word_cache.specs.Cache.{entry_after_phase, entry_after_grant}
 use Rattle.word_cache.proofs.LookLemmas.{lookup-changed}
 use Rattle.registration_protocol.specs.Node.{NodeParts, entry_of}
 use Rattle.registration_protocol.specs.Messages.{with_entry}
@@ -44,6 +43,7 @@ calm-at n m w e now pending owned =
     by_pending : (v : ℕ) (x : Bool) → (w == v) ≡ x → pending_bit (entry_of m v) ≡ pending_bit (entry_of n v)
     by_pending v true f = ap pending_bit (rw (f) at (now v)) ∙ subst (λ (x : ℕ). pending_bit e ≡ pending_bit (entry_of n x)) (eqb-true w v f) pending
     by_pending v false f = ap pending_bit (rw (f) at (now v))
+
     by_owned : (v value : ℕ) (x : Bool) → (w == v) ≡ x → owned_value (entry_of m v) ≡ Some value → owned_value (entry_of n v) ≡ Some value
     by_owned v value true f is =
         subst (λ (x : ℕ). owned_value (entry_of n x) ≡ Some value) (eqb-true w v f) (owned value (sym (ap owned_value (rw (f) at (now v))) ∙ is))
@@ -120,6 +120,7 @@ calm-node S T core n m left sent step calm =
     by_pending d v true e =
         ap pending_bit (rw (e) at (entry-node S T core n m left sent step d v)) ∙ calm.pending v ∙ sym (ap pending_bit (entry-own S core d n v step.found e))
     by_pending d v false e = ap pending_bit (rw (e) at (entry-node S T core n m left sent step d v))
+
     by_owned : (d v value : ℕ) (x : Bool) → (core == d) ≡ x → owned_value (entry_at T d v) ≡ Some value → owned_value (entry_at S d v) ≡ Some value
     by_owned d v value true e is =
         ap owned_value (entry-own S core d n v step.found e) ∙ calm.owned v value (sym (ap owned_value (rw (e) at (entry-node S T core n m left sent step d v))) ∙ is)

@@ -1,5 +1,5 @@
 -- The machine as a run begins keeps the invariant.
-use Rattle.std.proofs.Common.{◌≡◌, ◌≢◌, ◌⊎◌, inl, inr, ℕ, zero, suc, ◌+◌, ◌<◌, ◌≤◌, ◌==◌, ◌&&◌, not, Bool, true, false, cond, nat_lt, List, [], ◌∷◌, length, get_or, replicate, slice_get, slice_index, slice_index_or, Option, Some, None, refl, sym, ap, subst, ◌∙◌, arith}
+use Rattle.std.proofs.Common.{◌≡◌, ◌⊎◌, inl, inr, ℕ, zero, suc, ◌+◌, ◌<◌, ◌≤◌, ◌==◌, ◌&&◌, not, Bool, true, false, cond, nat_lt, List, [], ◌∷◌, length, replicate, slice_get, slice_index, slice_index_or, Option, Some, None, refl, sym, ap, subst, ◌∙◌, arith}
 use Rattle.std.proofs.lemmas.Bool.{eqb-true}
 use Rattle.std.specs.Prelude.{option_map}
 use Rattle.std.specs.Option.{option_and_then}
@@ -14,11 +14,8 @@ use Rattle.region_table.specs.Tasks.{is_for, declared}
 use Rattle.rv_core.specs.declared.task.TaskState.{TaskState}
 use Rattle.rv_core.specs.declared.task.End.TheVariants.{Finished}
 use Rattle.rv_core.specs.Task.{started}
-use Rattle.write_signature.specs.Signature.{tag, empty}
 use Rattle.write_signature.proofs.SignatureLemmas.{tag-empty}
-use Rattle.word_cache.specs.declared.row.Entry.{Entry}
 use Rattle.queue_lock.specs.Lock.{Lock, free_lock}
-use Rattle.registry_bank.specs.declared.bank.BankWord.{BankWord}
 use Rattle.registry_bank.specs.declared.bank.BankWord.TheVariants.{Home, Reg}
 use Rattle.registry_bank.specs.Bank.{first_word}
 use Rattle.phase_barrier.specs.Barrier.{Barrier, all_arrived, opened as opened_barrier}
@@ -26,12 +23,12 @@ use Rattle.phase_barrier.proofs.ArrivalLemmas.{unmarked}
 use Rattle.phase_barrier.proofs.CountLemmas.{missing-one}
 use Rattle.registration_protocol.specs.Node.{NodeParts, Setting, goes_on, opened as opened_node}
 use Rattle.registration_protocol.specs.Fit.{IsContext}
-use Rattle.machine_rules.specs.State.{State, opened, entry_at, home_at, lock_at}
-use Rattle.machine_rules.specs.Flight.{Test, bit, flight, asks, passes_on, passes_to, turns_back, confirms, gives_back, gives_back_value, frees, seeks, forwards, forwards_at, replies, misinforms, acquires, releases, grants, arrives, goes, halts}
-use Rattle.machine_rules.specs.Coherent.{HasArrived, held_by, has_lock, holds_lock, locks_in, queued_in, holder_in, is_alive, waits_in, counts_bad}
-use Rattle.machine_rules.proofs.Bits.{pending_bit, settled_bit, leaving_bit, known_bit, owner_bit, reading_in}
+use Rattle.machine_rules.specs.State.{opened, lock_at}
+use Rattle.machine_rules.specs.Flight.{bit, asks, passes_on, passes_to, turns_back, confirms, gives_back, frees, seeks, forwards, forwards_at, replies, misinforms, acquires, releases, grants, arrives, goes, halts}
+use Rattle.machine_rules.specs.Coherent.{HasArrived, held_by, has_lock, holds_lock, locks_in, queued_in, holder_in, is_alive, waits_in}
+use Rattle.machine_rules.proofs.Bits.{pending_bit, settled_bit, leaving_bit, owner_bit, reading_in}
 use Rattle.machine_rules.proofs.Invariant.{Invariant, WordsGood, WordRow, word_counts, LocksGood, LockRow, lock_counts, PhasesGood, PhaseRow, phase_counts, ReadsGood, ReadRow, read_counts, ValuesGood, CopiesGood, is_lost, is_late, is_unlike, is_astray, is_lie}
-use Rattle.machine_rules.proofs.OpenedFacts.{IsNewNode, opened-setting, opened-flight, opened-keeper, opened-node, opened-entry, opened-home, opened-lock}
+use Rattle.machine_rules.proofs.OpenedFacts.{opened-setting, opened-flight, opened-keeper, opened-node, opened-entry, opened-home, opened-lock}
 use Rattle.machine_rules.proofs.OpenedSound.{opened-machine}
 
 -- ---- words
@@ -43,8 +40,21 @@ no-owner c (Some value) = refl
 words-row : (C : Setting) (w c : ℕ) → IsContext C → WordRow (word_counts (opened C) w c)
 words-row C w c context =
     let entry = opened-entry C c w in
-    omega (arith, ap pending_bit entry, ap settled_bit entry, ap leaving_bit entry, ap (owner_bit c) (opened-home C w context), no-owner c (slice_get C.program.memory w),
-           opened-flight C (asks w c), opened-flight C (passes_on w c), opened-flight C (confirms w c), opened-flight C (passes_to w c), opened-flight C (turns_back w c), opened-flight C (gives_back w c), opened-flight C (frees w c))
+    omega (
+      arith,
+      ap pending_bit entry,
+      ap settled_bit entry,
+      ap leaving_bit entry,
+      ap (owner_bit c) (opened-home C w context),
+      no-owner c (slice_get C.program.memory w),
+      opened-flight C (asks w c),
+      opened-flight C (passes_on w c),
+      opened-flight C (confirms w c),
+      opened-flight C (passes_to w c),
+      opened-flight C (turns_back w c),
+      opened-flight C (gives_back w c),
+      opened-flight C (frees w c),
+    )
 
 words-open : (C : Setting) → IsContext C → WordsGood (opened C)
 words-open C context =
@@ -138,8 +148,8 @@ phases-open C =
       astray = opened-flight C (is_astray (opened C).keeper.phase);
       arrived = λ c n found has. let never = ap (λ (x : NodeParts). x.arrived) (opened-node C c n found).is in absurd (cc);
       asleep = λ c n found has.
-        let is = (opened-node C c n found).is in
-        subst HasArrived (sym is) (first-asleep C c (sym (ap (λ (x : NodeParts). x.halted) is) ∙ has));
+          let is = (opened-node C c n found).is in
+          subst HasArrived (sym is) (first-asleep C c (sym (ap (λ (x : NodeParts). x.halted) is) ∙ has));
       truly = opened-flight C (is_lie (opened C).nodes);
       bad = λ is. let never = ap (λ k. k.bad) (opened-keeper C) in absurd (cc);
       good = λ is c. rw (unmarked-core C c) refl;
@@ -153,15 +163,18 @@ phases-open C =
   where
     phase-first : (opened C).keeper.phase ≡ 0
     phase-first = ap (λ k. k.phase) (opened-keeper C)
+
     never-finished : (o : Option TaskDecl) (t : TaskState) → option_map started o ≡ Some t → t.end ≡ Some Finished → ⊥
     never-finished None t has by = cc
     never-finished (Some d) t has by =
         let same : started d ≡ t = cc in
         let going : None ≡ t.end = ap (λ (x : TaskState). x.end) same in
         cc
+
     unfinished : (c : ℕ) (n : NodeParts) (t : TaskState) → slice_get (opened C).nodes c ≡ Some n → n.task ≡ Some t → t.end ≡ Some Finished → ⊥
     unfinished c n t found has by =
         never-finished (declared C.program 0 c) t (sym (ap (λ (x : NodeParts). x.task) (opened-node C c n found).is) ∙ has) by
+
     by_phases : (t : Bool) → nat_lt 0 (length C.program.phases) ≡ t
         → (opened C).keeper.phase < length (opened C).setting.program.phases ⊎ (length (opened C).setting.program.phases ≡ 0)
     by_phases true e = rw (opened-setting C) (inl (grind (arith, nat_tests, e, phase-first)))
@@ -243,6 +256,6 @@ opened-invariant C context program checked =
       copies = copies-open C;
       behind = behind-open C;
       ended = λ c n found halted. inr (
-        ap (λ (x : Setting). length x.program.phases) (opened-setting C) ∙ eqb-true (length C.program.phases) 0 (sym (ap (λ (x : NodeParts). x.halted) (opened-node C c n found).is) ∙ halted)
-      );
+          ap (λ (x : Setting). length x.program.phases) (opened-setting C) ∙ eqb-true (length C.program.phases) 0 (sym (ap (λ (x : NodeParts). x.halted) (opened-node C c n found).is) ∙ halted)
+          );
     }

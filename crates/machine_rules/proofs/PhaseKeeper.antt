@@ -13,7 +13,7 @@ use Rattle.registration_protocol.specs.Node.{NodeParts}
 use Rattle.registration_protocol.specs.OwnEvents.{is_bad}
 use Rattle.machine_rules.specs.State.{State}
 use Rattle.machine_rules.specs.Sound.{IsMachine}
-use Rattle.machine_rules.specs.Flight.{bit, counted, flight, arrives, goes, halts}
+use Rattle.machine_rules.specs.Flight.{bit, flight, arrives, goes, halts}
 use Rattle.machine_rules.specs.Coherent.{held_by, is_alive, waits_in, counts_bad}
 use Rattle.machine_rules.proofs.Invariant.{PhasesGood, is_astray, is_lie, is_lost, bad_in}
 use Rattle.machine_rules.proofs.Leaves.{BarrierStep, at_keeper, to_all}

@@ -1,5 +1,5 @@
 -- What is known of reads after an event, from what the event changes.
-use Rattle.std.proofs.Common.{◌≡◌, ◌≢◌, ◌⊎◌, inl, inr, ℕ, zero, suc, ◌+◌, ◌≤◌, ◌==◌, ◌&&◌, ◌||◌, not, Bool, true, false, cond, List, slice_get, sum_by, Option, Some, None, refl, sym, ap, subst, ◌∙◌, arith}
+use Rattle.std.proofs.Common.{◌≡◌, ◌⊎◌, inl, inr, ℕ, ◌+◌, ◌≤◌, ◌==◌, Bool, true, false, cond, slice_get, Option, Some, None, refl, sym, ap, subst, ◌∙◌, arith}
 use Rattle.std.specs.Option.{is_some}
 use Rattle.std.proofs.lemmas.Bool.{eqb-true}
 use Rattle.dn_base.specs.declared.ids.WordId.{WordId}
@@ -9,21 +9,20 @@ use Rattle.rv_core.specs.declared.task.TaskState.{TaskState}
 use Rattle.rv_core.specs.declared.need.Need as need
 use Rattle.rv_core.specs.declared.need.Need.{Need}
 use Rattle.message_net.specs.declared.message.Outgoing.{Outgoing}
-use Rattle.word_cache.specs.declared.row.Entry.{Entry}
-use Rattle.word_cache.specs.declared.row.Entry.TheVariants.{Valid, Registered, Leaving}
+use Rattle.word_cache.specs.declared.row.Entry.TheVariants.{Valid}
 use Rattle.word_cache.specs.Cache.{has_room}
 use Rattle.registration_protocol.specs.declared.node.NodeWait as wait
 use Rattle.registration_protocol.specs.declared.node.NodeWait.{NodeWait}
 use Rattle.registration_protocol.specs.Node.{NodeParts, Setting, entry_of, need_now, is_ready}
 use Rattle.machine_rules.specs.State.{State, entry_at, home_at}
-use Rattle.machine_rules.specs.Flight.{Test, bit, flight, seeks, forwards, forwards_at, replies}
+use Rattle.machine_rules.specs.Flight.{bit, flight, seeks, forwards, forwards_at, replies}
 use Rattle.machine_rules.proofs.Bits.{passes, pending_bit, owner_bit, reading_in, is_reading}
 use Rattle.machine_rules.proofs.Invariant.{Invariant, ReadsGood, ReadRow, read_counts}
 use Rattle.machine_rules.proofs.Steps.{NodeStep}
 use Rattle.machine_rules.proofs.Leaves.{IsActing}
 use Rattle.machine_rules.proofs.WordEvents.{Flown}
 use Rattle.machine_rules.proofs.WordQuiet.{home-node}
-use Rattle.machine_rules.proofs.NodeEntries.{IsCalm, IsCalmState, calm-node}
+use Rattle.machine_rules.proofs.NodeEntries.{IsCalm, calm-node}
 use Rattle.machine_rules.proofs.ReadMails.{SameReads}
 
 -- ---- what a node has that waits for a word, or has got it
@@ -69,6 +68,7 @@ well-same C n m well waits phase core task none room copy =
   where
     now : need_now C m ≡ need_now C n
     now = rw (phase, core, task) refl
+
     wants : (word : WordId) → WantsValue C n word → WantsValue C m word
     wants word (inl is) = inl (now ∙ is)
     wants word (inr is) = inr (now ∙ is)
@@ -92,6 +92,7 @@ pub acting-free : (S : State) (M : ℕ → ℕ) (core : CoreId) (n : NodeParts) 
 acting-free S M core n d t needs inv acts other = by_wait n.waiting refl acts.ready where
   now : need_now S.setting n ≡ Some needs
   now = acting-need S core n d t needs acts ((inv.machine.node core.0 n acts.found).core)
+
   no_access : (word : WordId) → WantsValue S.setting n word → ⊥
   no_access word (inl is) = let same : needs ≡ need.TheVariants.Load word = some-same needs (need.TheVariants.Load word) (sym now ∙ is) in let wrong = rw (same) at other in absurd (cc) where
     some-same : (x y : Need) → Some x ≡ Some y → x ≡ y
@@ -99,6 +100,7 @@ acting-free S M core n d t needs inv acts other = by_wait n.waiting refl acts.re
   no_access word (inr is) = let same : needs ≡ need.TheVariants.Store word false = some-same needs (need.TheVariants.Store word false) (sym now ∙ is) in let wrong = rw (same) at other in absurd (cc) where
     some-same : (x y : Need) → Some x ≡ Some y → x ≡ y
     some-same x y e = cc
+
   by_wait : (waiting : NodeWait) → n.waiting ≡ waiting → is_ready waiting ≡ true → waits_free waiting ≡ true
   by_wait wait.TheVariants.None is ready = refl
   by_wait (wait.TheVariants.Locking lock) is ready = refl
@@ -163,6 +165,7 @@ pub well-after : (S T : State) (core : ℕ) (n m : NodeParts) (left sent : Optio
 well-after S T core n m left sent step g well c k found = subst (λ (C : Setting). WaitsWell C k) (sym step.setting) (by_test (core == c) refl) where
   some-same : (x y : NodeParts) → Some x ≡ Some y → x ≡ y
   some-same x y e = cc
+
   by_test : (x : Bool) → (core == c) ≡ x → WaitsWell S.setting k
   by_test true e = subst (λ (x : NodeParts). WaitsWell S.setting x) (some-same m k (sym (rw (e) at (step.nodes c)) ∙ found)) well
   by_test false e = waits-well S c k g (sym (rw (e) at (step.nodes c)) ∙ found)

@@ -1,27 +1,23 @@
 -- What is known of reads after what the home of a word does.
-use Rattle.std.proofs.Common.{◌≡◌, ◌≢◌, ◌⊎◌, inl, inr, ℕ, zero, suc, ◌+◌, ◌≤◌, ◌==◌, ◌&&◌, ◌||◌, not, Bool, true, false, cond, List, slice_get, sum_by, Option, Some, None, refl, sym, ap, subst, ◌∙◌, arith}
+use Rattle.std.proofs.Common.{◌≡◌, ℕ, ◌≤◌, ◌==◌, Bool, true, false, cond, List, slice_get, Option, Some, refl, sym, ap, subst, ◌∙◌, arith}
 use Rattle.std.proofs.lemmas.Bool.{eqb-true}
-use Rattle.std.proofs.lemmas.Bool.Decides.{nat_tests}
 use Rattle.dn_base.specs.declared.ids.WordId.{WordId}
 use Rattle.dn_base.specs.declared.ids.CoreId.{CoreId}
 use Rattle.dn_base.specs.declared.ids.BankId.{BankId}
-use Rattle.message_net.specs.declared.actor.Actor.{Actor}
-use Rattle.message_net.specs.declared.actor.Actor.TheVariants.{Core, Bank, Keeper}
-use Rattle.message_net.specs.declared.message.Message.TheVariants.{ReadReq, ReadFwd, DataReply, RegReq, RegFwd, RegAck, WriteBack, WbAck}
+use Rattle.message_net.specs.declared.message.Message.TheVariants.{ReadReq, ReadFwd, DataReply, RegReq}
 use Rattle.message_net.specs.declared.message.Outgoing.{Outgoing}
 use Rattle.message_net.specs.Mail.{to_core}
 use Rattle.registry_bank.specs.declared.bank.BankWord.{BankWord}
 use Rattle.registry_bank.specs.declared.bank.BankWord.TheVariants.{Home, Reg}
 use Rattle.registration_protocol.specs.Node.{NodeParts}
-use Rattle.machine_rules.specs.State.{State, entry_at, home_at}
-use Rattle.machine_rules.specs.Flight.{Test, bit, flight, is_to, asks, seeks, forwards, forwards_at, replies}
-use Rattle.machine_rules.proofs.Bits.{passes, pending_bit, owner_bit, reading_in}
-use Rattle.machine_rules.proofs.Invariant.{Invariant, ReadsGood, WordsGood}
+use Rattle.machine_rules.specs.State.{State, home_at}
+use Rattle.machine_rules.specs.Flight.{bit, flight, asks, forwards_at}
+use Rattle.machine_rules.proofs.Bits.{passes, owner_bit, reading_in}
+use Rattle.machine_rules.proofs.Invariant.{ReadsGood, WordsGood}
 use Rattle.machine_rules.proofs.Leaves.{WordStep, at_bank}
-use Rattle.machine_rules.proofs.WordEvents.{Flown}
 use Rattle.machine_rules.proofs.WordCore.{same-number}
 use Rattle.machine_rules.proofs.ReadMails.{IsNoRead, SameReads, same-reads, forward-reading}
-use Rattle.machine_rules.proofs.ReadEvents.{rows-carried, rows-same, pair-same, reads-nodes, quiet-nodes}
+use Rattle.machine_rules.proofs.ReadEvents.{rows-carried, rows-same, pair-same, reads-nodes}
 
 -- a home that has what it had
 pub home-same : (S T : State) (w : ℕ) (content : BankWord) → ((v : ℕ) → home_at T v ≡ cond (w == v) (Some content) (home_at S v)) → home_at S w ≡ Some content → (v : ℕ) → home_at T v ≡ home_at S v
@@ -69,6 +65,7 @@ read-registered S T word core bank sent words g step came went none =
   where
     same : SameReads S T
     same = same-reads S T (at_bank bank (RegReq word core)) sent step.flown came went
+
     by_word : (w d e : ℕ) → 1 ≤ flight T (forwards_at w d) → (x : Bool) → (word.0 == w) ≡ x → owner_bit e (home_at T w) ≤ bit (d == e)
     by_word w d e some true f =
         let here : 1 ≤ flight S (forwards_at word.0 d) = subst (λ (x : ℕ). 1 ≤ flight S (forwards_at x d)) (sym (eqb-true word.0 w f)) (omega (arith, some, same.passed w d)) in
@@ -84,6 +81,7 @@ read-written S T word value left sent g step came went =
   where
     same : SameReads S T
     same = same-reads S T left sent step.flown came went
+
     by_word : (w d e : ℕ) → 1 ≤ flight T (forwards_at w d) → (x : Bool) → (word.0 == w) ≡ x → owner_bit e (home_at T w) ≤ bit (d == e)
     by_word w d e some true f = omega (arith, ap (owner_bit e) (rw (f) at (step.homes w)))
     by_word w d e some false f = omega (arith, g.pair w d e (omega (arith, some, same.passed w d)), ap (owner_bit e) (rw (f) at (step.homes w)))

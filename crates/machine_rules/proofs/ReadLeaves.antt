@@ -1,6 +1,5 @@
 -- Every event keeps what is known of reads.
-use Rattle.std.proofs.Common.{◌≡◌, ◌≢◌, ◌⊎◌, inl, inr, ℕ, zero, suc, ◌+◌, ◌%◌, ◌≤◌, ◌==◌, ◌&&◌, ◌||◌, not, Bool, true, false, cond, List, slice_get, sum_by, Option, Some, None, refl, sym, ap, subst, ◌∙◌, arith}
-use Rattle.dn_base.specs.declared.ids.WordId.{WordId}
+use Rattle.std.proofs.Common.{◌≡◌, ℕ, ◌+◌, ◌%◌, ◌≤◌, ◌==◌, ◌||◌, Bool, true, false, cond, slice_get, Option, Some, None, refl, ap, subst, ◌∙◌, arith}
 use Rattle.dn_base.specs.declared.ids.CoreId.{CoreId}
 use Rattle.std.proofs.lemmas.Bool.{eqb-true}
 use Rattle.region_table.specs.Plan.{uses_plainly}
@@ -8,7 +7,7 @@ use Rattle.rv_core.specs.Step.{advanced, loaded_of}
 use Rattle.rv_core.specs.Task.{stopped}
 use Rattle.write_signature.specs.Signature.{joined}
 use Rattle.message_net.specs.Mail.{to_core, to_home, to_keeper}
-use Rattle.word_cache.specs.Cache.{put, touched}
+use Rattle.word_cache.specs.Cache.{touched}
 use Rattle.phase_barrier.specs.Barrier.{Barrier, counted, advanced as next_phase}
 use Rattle.registration_protocol.specs.OwnEvents.{retires, with_put, stored, is_bad}
 use Rattle.machine_rules.proofs.WordEvents.{Flown}
@@ -31,16 +30,15 @@ use Rattle.registration_protocol.specs.Node.{NodeParts, entry_of, keeping, signa
 use Rattle.registration_protocol.specs.Messages.{with_entry, lacking, holds_now, begins, guarded_by, written_in}
 use Rattle.registration_protocol.proofs.MessageLemmas.{grant-entries, begin-entries}
 use Rattle.registration_protocol.proofs.EntryLemmas.{store-entry}
-use Rattle.machine_rules.specs.State.{State, entry_at, home_at}
-use Rattle.machine_rules.specs.Flight.{bit}
+use Rattle.machine_rules.specs.State.{State, home_at}
 use Rattle.machine_rules.specs.Next.{next}
-use Rattle.machine_rules.proofs.Bits.{passes, pending_bit, reading_in, is_reading}
+use Rattle.machine_rules.proofs.Bits.{pending_bit}
 use Rattle.machine_rules.proofs.Invariant.{Invariant, ReadsGood}
 use Rattle.machine_rules.proofs.Steps.{NodeStep}
-use Rattle.machine_rules.proofs.Leaves.{Leaves, IsActing, LockStep, BarrierStep, at_core, at_bank, at_keeper}
+use Rattle.machine_rules.proofs.Leaves.{Leaves, IsActing, BarrierStep, at_core, at_bank, at_keeper}
 use Rattle.machine_rules.proofs.NodeEntries.{changed-now, phase-pending, grant-pending}
 use Rattle.machine_rules.proofs.ReadMails.{IsNoRead, no-read, no-read-none, same-reads, same-posted, no_read_in}
-use Rattle.machine_rules.proofs.ReadEvents.{waits-well, waits_free, well-same, acting-free, ready-bit, free-bit, quiet-nodes}
+use Rattle.machine_rules.proofs.ReadEvents.{waits-well, waits_free, well-same, acting-free, ready-bit, quiet-nodes}
 use Rattle.machine_rules.proofs.ReadSteps.{free-step, kept-step, well-at, missed, replied, passed, registered}
 use Rattle.machine_rules.proofs.ReadHome.{home-same, read-home, read-owned, read-registered, read-written}
 
@@ -88,7 +86,7 @@ reads-leaves S M e inv =
       load_copy = λ core n d t word value marked acts is told step.
           acted S T core n (retires (with_put n word (Valid value (marked || uses_plainly d word.0))) (loaded_of S.setting.program value t)) d t (need.TheVariants.Load word) None g acts step no-read-none refl
           (less-at n (with_put n word (Valid value (marked || uses_plainly d word.0))) word.0 (Some (Valid value (marked || uses_plainly d word.0)))
-           (λ v. lookup-put word (Valid value (marked || uses_plainly d word.0)) v n.cache.pairs) (omega arith));
+          (λ v. lookup-put word (Valid value (marked || uses_plainly d word.0)) v n.cache.pairs) (omega arith));
       load_own = λ core n d t word value pending acts is told step.
           acted S T core n (retires (keeping n (touched word n.cache.pairs)) (loaded_of S.setting.program value t)) d t (need.TheVariants.Load word) None g acts step no-read-none refl
           (λ v. omega (arith, ap pending_bit (lookup-touched word v n.cache.pairs)));
@@ -98,7 +96,7 @@ reads-leaves S M e inv =
       store_own = λ core n d t word whole old value pending acts was is told step.
           acted S T core n (stored S.setting n d t word (Registered value pending)) d t (need.TheVariants.Store word whole) None g acts step no-read-none refl
           (less-at n (stored S.setting n d t word (Registered value pending)) word.0 (Some (Registered value pending)) (store-entry S.setting n d t word (Registered value pending))
-           (omega (arith, ap pending_bit was)));
+          (omega (arith, ap pending_bit was)));
       acquire = λ core n d t lock acts told step.
           acted S T core n (record n { waiting = wait.TheVariants.Locking lock }) d t (need.TheVariants.Acquire lock) (to_home S.setting.shape.banks lock.0 (Acquire lock core)) g acts step
           (no-read (Bank (record { 0 = lock.0 % S.setting.shape.banks })) (Acquire lock core) refl) refl (λ v. omega arith);
@@ -138,13 +136,19 @@ reads-leaves S M e inv =
           (less-at n (lacking n word.0) word.0 None (λ v. lookup-without word.0 v n.cache.pairs) (omega arith));
       grant = λ core n d t lock s found waits has open' declares wants awake absent told step.
           free-step S T core.0 n (holds_now S.setting n t lock s).0 (at_core core (Grant lock s)) None step g (no-read (Core core) (Grant lock s) refl) no-read-none (λ w. rw (waits) refl) refl
-          (λ v. omega (arith, ap pending_bit (grant-entries S.setting n t lock s v ((inv.machine.node core.0 n found).fits).cache),
-           grant-pending s n.phase (guarded_by (slice_get S.setting.plans n.phase) lock.0) v (entry_of n v)));
+          (λ v. omega (
+            arith,
+            ap pending_bit (grant-entries S.setting n t lock s v ((inv.machine.node core.0 n found).fits).cache),
+            grant-pending s n.phase (guarded_by (slice_get S.setting.plans n.phase) lock.0) v (entry_of n v),
+          ));
       go = λ core n phase found awake arrived same next_is within told step.
           let waits = (inv.phases.arrived core.0 n found arrived).waiting in
           free-step S T core.0 n (begins S.setting n phase.0) (at_core core (Go phase)) None step g (no-read (Core core) (Go phase) refl) no-read-none (λ w. rw (waits) refl) refl
-          (λ v. omega (arith, ap pending_bit (begin-entries S.setting n phase.0 v ((inv.machine.node core.0 n found).fits).cache),
-           phase-pending (written_in (slice_get S.setting.plans n.phase)) v (entry_of n v)));
+          (λ v. omega (
+            arith,
+            ap pending_bit (begin-entries S.setting n phase.0 v ((inv.machine.node core.0 n found).fits).cache),
+            phase-pending (written_in (slice_get S.setting.plans n.phase)) v (entry_of n v),
+          ));
       halt = λ core n found awake arrived told step.
           stayed S T core.0 n (record n { halted = true }) (at_core core Halt) None g step (no-read (Core core) Halt refl) no-read-none refl refl refl refl refl;
       read_home = λ bank word reader value was told step. read-home S T word reader bank value g was step;

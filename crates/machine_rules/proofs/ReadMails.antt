@@ -1,12 +1,11 @@
 -- The mails of reads: how many come and go, and who waits for them.
-use Rattle.std.proofs.Common.{◌≡◌, ◌≢◌, ◌⊎◌, inl, inr, ℕ, zero, suc, ◌+◌, ◌<◌, ◌≤◌, ◌==◌, ◌&&◌, ◌||◌, not, nat_lt, Bool, true, false, cond, List, length, slice_get, sum_by, Option, Some, None, refl, sym, ap, subst, ◌∙◌, arith}
+use Rattle.std.proofs.Common.{◌≡◌, ℕ, zero, suc, ◌+◌, ◌<◌, ◌≤◌, ◌==◌, ◌&&◌, not, nat_lt, Bool, true, false, length, slice_get, Option, Some, None, refl, subst, arith}
 use Rattle.std.specs.Option.{is_some}
 use Rattle.std.proofs.lemmas.Bool.{eqb-true}
 use Rattle.std.proofs.lemmas.Bool.Decides.{nat_tests}
 use Rattle.dn_base.specs.declared.ids.WordId.{WordId}
-use Rattle.dn_base.specs.declared.ids.CoreId.{CoreId}
 use Rattle.message_net.specs.declared.actor.Actor.{Actor}
-use Rattle.message_net.specs.declared.actor.Actor.TheVariants.{Core, Bank, Keeper}
+use Rattle.message_net.specs.declared.actor.Actor.TheVariants.{Core}
 use Rattle.message_net.specs.declared.message.Mail.{Mail}
 use Rattle.message_net.specs.declared.message.Message.{Message}
 use Rattle.message_net.specs.declared.message.Message.TheVariants.{ReadReq, ReadFwd, DataReply, RegReq, RegFwd, RegAck, WriteBack, WbAck, Acquire, Release, Grant, Arrived, Go, Halt}
@@ -16,14 +15,14 @@ use Rattle.registry_bank.specs.declared.bank.BankWord.{BankWord}
 use Rattle.registration_protocol.specs.declared.node.NodeWait as wait
 use Rattle.registration_protocol.specs.declared.node.NodeWait.{NodeWait}
 use Rattle.registration_protocol.specs.Node.{NodeParts}
-use Rattle.machine_rules.specs.State.{State, entry_at, home_at}
-use Rattle.machine_rules.specs.Flight.{Test, bit, counted, flight, is_to, seeks, forwards, forwards_at, replies, misinforms, passes_on, passes_to}
-use Rattle.machine_rules.proofs.Bits.{passes, pending_bit, known_bit, reading_in, is_reading}
+use Rattle.machine_rules.specs.State.{State, home_at}
+use Rattle.machine_rules.specs.Flight.{Test, bit, counted, flight, is_to, seeks, forwards, forwards_at, replies, misinforms}
+use Rattle.machine_rules.proofs.Bits.{passes, known_bit, reading_in, is_reading}
 use Rattle.machine_rules.proofs.BitLemmas.{bit-true}
 use Rattle.machine_rules.proofs.Invariant.{Invariant, ReadsGood}
 use Rattle.machine_rules.proofs.Leaves.{to_all}
 use Rattle.machine_rules.proofs.WordEvents.{Flown}
-use Rattle.machine_rules.proofs.Exclusive.{ReadingWork, reading-works}
+use Rattle.machine_rules.proofs.Exclusive.{reading-works}
 
 -- a mail, if there is one, that is of no read
 pub record IsNoRead (out : Option Outgoing) : Type 0 where
@@ -117,6 +116,7 @@ forward-reader S w d some = of_mail (counted-place (λ (m : Mail). forwards_at w
   reads m (Arrived core bad) is pass = absurd (cc)
   reads m (Go phase) is pass = absurd (cc)
   reads m Halt is pass = absurd (cc)
+
   of_mail : (place : ℕ) × (m : Mail) × (slice_get S.mails place ≡ Some m) × (forwards_at w d m.to m.message ≡ true) → (c : ℕ) × (1 ≤ flight S (forwards w c))
   of_mail (place, m, there, pass) =
       let r = reads m m.message refl pass in
@@ -132,6 +132,7 @@ reader-node S w c some = by_node (slice_get S.nodes c) refl some where
   by_wait n found wait.TheVariants.None is one = absurd (omega (arith, one))
   by_wait n found (wait.TheVariants.Filled word) is one = absurd (omega (arith, one))
   by_wait n found (wait.TheVariants.Locking lock) is one = absurd (omega (arith, one))
+
   by_node : (o : Option NodeParts) → slice_get S.nodes c ≡ o → 1 ≤ reading_in w o
       → (n : NodeParts) × (word : WordId) × (slice_get S.nodes c ≡ Some n) × (n.waiting ≡ wait.TheVariants.Reading word) × (word.0 ≡ w)
   by_node None found one = absurd (omega (arith, one))

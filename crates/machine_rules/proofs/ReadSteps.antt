@@ -1,7 +1,6 @@
 -- What is known of reads after a core's step, by the kinds of step.
-use Rattle.std.proofs.Common.{◌≡◌, ◌≢◌, ◌⊎◌, inl, inr, ℕ, zero, suc, ◌+◌, ◌≤◌, ◌==◌, ◌&&◌, ◌||◌, not, Bool, true, false, cond, List, slice_get, sum_by, Option, Some, None, refl, sym, ap, subst, ◌∙◌, arith}
+use Rattle.std.proofs.Common.{◌≡◌, ◌⊎◌, inl, inr, ℕ, ◌+◌, ◌≤◌, ◌==◌, ◌&&◌, Bool, true, false, cond, slice_get, Option, Some, None, refl, sym, ap, subst, ◌∙◌, arith}
 use Rattle.std.proofs.lemmas.Bool.{eqb-true}
-use Rattle.std.proofs.lemmas.Bool.Decides.{nat_tests}
 use Rattle.dn_base.specs.declared.ids.WordId.{WordId}
 use Rattle.dn_base.specs.declared.ids.CoreId.{CoreId}
 use Rattle.dn_base.specs.declared.ids.BankId.{BankId}
@@ -9,29 +8,28 @@ use Rattle.region_table.specs.declared.declared.TaskDecl.{TaskDecl}
 use Rattle.rv_core.specs.declared.task.TaskState.{TaskState}
 use Rattle.rv_core.specs.declared.need.Need as need
 use Rattle.rv_core.specs.declared.need.Need.{Need}
-use Rattle.message_net.specs.declared.actor.Actor.{Actor}
-use Rattle.message_net.specs.declared.actor.Actor.TheVariants.{Core, Bank, Keeper}
-use Rattle.message_net.specs.declared.message.Message.TheVariants.{ReadReq, ReadFwd, DataReply, RegReq}
+use Rattle.message_net.specs.declared.actor.Actor.TheVariants.{Bank}
+use Rattle.message_net.specs.declared.message.Message.TheVariants.{ReadReq, DataReply, RegReq}
 use Rattle.message_net.specs.declared.message.Outgoing.{Outgoing}
 use Rattle.word_cache.specs.declared.row.Entry.{Entry}
-use Rattle.word_cache.specs.declared.row.Entry.TheVariants.{Valid, Registered, Leaving}
+use Rattle.word_cache.specs.declared.row.Entry.TheVariants.{Valid, Registered}
 use Rattle.word_cache.specs.Cache.{has_room, is_valid, put}
 use Rattle.registration_protocol.specs.declared.node.NodeWait as wait
 use Rattle.registration_protocol.specs.declared.node.NodeWait.{NodeWait}
-use Rattle.registration_protocol.specs.Node.{NodeParts, Setting, entry_of, need_now, keeping, is_ready}
+use Rattle.registration_protocol.specs.Node.{NodeParts, entry_of, need_now, keeping}
 use Rattle.registration_protocol.specs.OwnEvents.{stored}
 use Rattle.registration_protocol.proofs.EntryLemmas.{store-entry}
 use Rattle.word_cache.proofs.LookLemmas.{lookup-put}
-use Rattle.machine_rules.specs.State.{State, entry_at, home_at}
-use Rattle.machine_rules.specs.Flight.{Test, bit, flight, is_to, seeks, forwards, forwards_at, replies}
-use Rattle.machine_rules.proofs.Bits.{passes, pending_bit, owner_bit, reading_in, is_reading}
-use Rattle.machine_rules.proofs.Invariant.{Invariant, ReadsGood, ReadRow, read_counts}
+use Rattle.machine_rules.specs.State.{State, entry_at}
+use Rattle.machine_rules.specs.Flight.{bit, seeks, forwards, forwards_at, replies}
+use Rattle.machine_rules.proofs.Bits.{passes, pending_bit, reading_in, is_reading}
+use Rattle.machine_rules.proofs.Invariant.{Invariant, ReadsGood}
 use Rattle.machine_rules.proofs.Steps.{NodeStep}
 use Rattle.machine_rules.proofs.Leaves.{IsActing, at_core}
-use Rattle.machine_rules.proofs.WordEvents.{Flown, entry-node}
+use Rattle.machine_rules.proofs.WordEvents.{entry-node}
 use Rattle.machine_rules.proofs.WordCore.{same-number}
 use Rattle.machine_rules.proofs.Exclusive.{store-none-reading, load-none-pending, pending-one}
-use Rattle.machine_rules.proofs.NodeEntries.{IsCalm, calm-same, calm-at, calm-node, entry-own}
+use Rattle.machine_rules.proofs.NodeEntries.{calm-same, calm-at, calm-node, entry-own}
 use Rattle.machine_rules.proofs.ReadMails.{IsNoRead, no-read, no-read-none, SameReads, same-reads}
 use Rattle.machine_rules.proofs.ReadEvents.{WantsValue, IsCopied, rows-same, WaitsWell, waits-well, waits_free, well-free, well-same, acting-need, free-bit, ready-bit, rows-carried, reading-node, reading-own, reading-same, reads-node, quiet-node}
 
@@ -66,9 +64,11 @@ well-at S core n m w old e g found now is other room waits phase own task =
   where
     here : (v : ℕ) → (w == v) ≡ true → entry_of n v ≡ Some old
     here v f = subst (λ (x : ℕ). entry_of n x ≡ Some old) (eqb-true w v f) is
+
     by_none : (v : ℕ) (x : Bool) → (w == v) ≡ x → entry_of n v ≡ None → entry_of m v ≡ None
     by_none v true f none = let some = here v f in absurd (cc)
     by_none v false f none = (rw (f) at (now v)) ∙ none
+
     by_copy : (v value : ℕ) (marked : Bool) (x : Bool) → (w == v) ≡ x → entry_of n v ≡ Some (Valid value marked) → entry_of m v ≡ Some (Valid value marked)
     by_copy v value marked true f copy = absurd (not-copy (sym (here v f) ∙ copy)) where
       not-copy : Some old ≡ Some (Valid value marked) → ⊥
@@ -104,18 +104,22 @@ missed S T M core n d t word needs bank inv kind acts none room step =
   where
     m : NodeParts
     m = record n { waiting = wait.TheVariants.Reading word }
+
     wants : WantsValue S.setting n word
     wants = by_kind kind where
       now : need_now S.setting n ≡ Some needs
       now = acting-need S core n d t needs acts ((inv.machine.node core.0 n acts.found).core)
+
       by_kind : (needs ≡ need.TheVariants.Load word) ⊎ (needs ≡ need.TheVariants.Store word false) → WantsValue S.setting n word
       by_kind (inl is) = inl (now ∙ ap (λ (x : Need). Some x) is)
       by_kind (inr is) = inr (now ∙ ap (λ (x : Need). Some x) is)
+
     well : WaitsWell S.setting m
     well = record {
       reading = λ v is. let same : word ≡ v = cc in subst (λ (x : WordId). (entry_of m x.0 ≡ None) × (has_room m.cache x.0 ≡ true) × WantsValue S.setting m x) same (none, room, wants);
       filled = λ v is. absurd (cc);
     }
+
     carried : (w c : ℕ) → reading_in w (slice_get T.nodes c) + (0 + 0 + 0) ≡ reading_in w (slice_get S.nodes c) + (bit ((word.0 == w) && (core.0 == c)) + 0 + 0)
     carried w c = by_tests (word.0 == w) refl (core.0 == c) refl where
       by_tests : (x : Bool) → (word.0 == w) ≡ x → (y : Bool) → (core.0 == c) ≡ y
@@ -132,13 +136,16 @@ missed S T M core n d t word needs bank inv kind acts none room step =
       by_tests false e false f =
           let now = rw (f) at (reading-node S T core.0 n m None (Some (record { to = Bank bank; message = ReadReq word core })) step w c) in
           omega (arith, now)
+
     calm : (d v : ℕ) → pending_bit (entry_at T d v) ≡ pending_bit (entry_at S d v)
     calm = (calm-node S T core.0 n m None (Some (record { to = Bank bank; message = ReadReq word core })) step (calm-same n m (λ v. refl))).pending
+
     alone : (e : ℕ) → pending_bit (entry_at S e word.0) ≡ 0
     alone e = by_core (core.0 == e) refl where
       by_core : (x : Bool) → (core.0 == e) ≡ x → pending_bit (entry_at S e word.0) ≡ 0
       by_core true f = ap pending_bit (entry-own S core.0 e n word.0 acts.found f ∙ none)
       by_core false f = load-none-pending S M core n d t word needs inv kind acts e f
+
     quiet : (w c e : ℕ) → reading_in w (slice_get T.nodes c) + pending_bit (entry_at T e w) ≤ 1
     quiet w c e = by_word (word.0 == w) refl where
       by_word : (x : Bool) → (word.0 == w) ≡ x → reading_in w (slice_get T.nodes c) + pending_bit (entry_at T e w) ≤ 1
@@ -154,15 +161,19 @@ replied S T M core n word value inv found waits none step =
   where
     left : Option Outgoing
     left = at_core core (DataReply word value)
+
     m : NodeParts
     m = record (keeping n (put word (Valid value false) n.cache.pairs)) { waiting = wait.TheVariants.Filled word }
+
     now : (v : ℕ) → entry_of m v ≡ cond (word.0 == v) (Some (Valid value false)) (entry_of n v)
     now v = lookup-put word (Valid value false) v n.cache.pairs
+
     well : WaitsWell S.setting m
     well = record {
       reading = λ v is. absurd (cc);
       filled = λ v is. let same : word ≡ v = cc in subst (λ (x : WordId). IsCopied S.setting m x) same ((value, false, rw (same-number word.0) at (now word.0)), (inv.reads.reading core.0 n word found waits).2);
     }
+
     carried : (w c : ℕ) → reading_in w (slice_get T.nodes c) + (0 + 0 + bit ((word.0 == w) && (core.0 == c))) ≡ reading_in w (slice_get S.nodes c) + (0 + 0 + 0)
     carried w c = by_tests (word.0 == w) refl (core.0 == c) refl where
       by_tests : (x : Bool) → (word.0 == w) ≡ x → (y : Bool) → (core.0 == c) ≡ y
@@ -179,8 +190,10 @@ replied S T M core n word value inv found waits none step =
           by_test false is = omega (arith, is)
       by_tests true e false f = let is = rw (f) at (reading-node S T core.0 n m left None step w c) in omega (arith, is)
       by_tests false e false f = let is = rw (f) at (reading-node S T core.0 n m left None step w c) in omega (arith, is)
+
     calm : (d v : ℕ) → pending_bit (entry_at T d v) ≡ pending_bit (entry_at S d v)
     calm = (calm-node S T core.0 n m left None step (calm-at n m word.0 (Some (Valid value false)) now (sym (ap pending_bit none)) (λ x is. absurd (cc)))).pending
+
     quiet : (w c e : ℕ) → reading_in w (slice_get T.nodes c) + pending_bit (entry_at T e w) ≤ 1
     quiet w c e = omega (arith, carried w c, inv.reads.quiet w c e, calm e w)
 
@@ -208,14 +221,19 @@ registered S T M core n d t word whole value bank inv acts step =
   where
     m : NodeParts
     m = stored S.setting n d t word (Registered value true)
+
     sent : Option Outgoing
     sent = Some (record { to = Bank bank; message = RegReq word core })
+
     same : SameReads S T
     same = same-reads S T None sent step.flown no-read-none (no-read (Bank bank) (RegReq word core) refl)
+
     reading : (w c : ℕ) → reading_in w (slice_get T.nodes c) ≡ reading_in w (slice_get S.nodes c)
     reading = reading-same S T core.0 n m None sent step (λ w. sym (ready-bit n.waiting w acts.ready))
+
     unread : (c : ℕ) → reading_in word.0 (slice_get S.nodes c) ≡ 0
     unread c = store-unread S M core n d t word whole inv acts c
+
     quiet : (w c e : ℕ) → reading_in w (slice_get T.nodes c) + pending_bit (entry_at T e w) ≤ 1
     quiet w c e = by_tests (word.0 == w) refl (core.0 == e) refl where
       by_tests : (x : Bool) → (word.0 == w) ≡ x → (y : Bool) → (core.0 == e) ≡ y → reading_in w (slice_get T.nodes c) + pending_bit (entry_at T e w) ≤ 1

@@ -1,14 +1,14 @@
 -- What is kept says that the phases are coherent.
-use Rattle.std.proofs.Common.{◌≡◌, ◌≢◌, ◌⊎◌, inl, inr, ℕ, zero, suc, ◌+◌, ◌≤◌, ◌==◌, not, ◌&&◌, Bool, true, false, slice_get, sum_by, Option, Some, None, refl, sym, ap, ◌∙◌, arith}
+use Rattle.std.proofs.Common.{◌≡◌, inl, inr, ℕ, zero, suc, ◌≤◌, not, ◌&&◌, Bool, true, false, slice_get, Option, Some, refl, ap, arith}
 use Rattle.dn_base.specs.declared.ids.CoreId.{CoreId}
 use Rattle.message_net.specs.declared.message.Mail.{Mail}
 use Rattle.message_net.specs.declared.message.Message.TheVariants.{Arrived}
 use Rattle.registration_protocol.specs.Node.{NodeParts}
 use Rattle.registration_protocol.specs.OwnEvents.{is_bad}
 use Rattle.machine_rules.specs.State.{State}
-use Rattle.machine_rules.specs.Flight.{bit, flight, counted, arrives, goes, halts}
+use Rattle.machine_rules.specs.Flight.{bit, flight, counted, goes}
 use Rattle.machine_rules.specs.Coherent.{ArePhases, IsInPhase, IsInFlight, is_alive}
-use Rattle.machine_rules.proofs.Invariant.{PhasesGood, is_lie, same_truth, bad_in}
+use Rattle.machine_rules.proofs.Invariant.{PhasesGood, is_lie, same_truth}
 use Rattle.message_net.proofs.PoolLemmas.{weight-within}
 
 alive-arrived : (n : NodeParts) → 1 ≤ bit (is_alive (Some n)) → n.arrived ≡ true
@@ -21,6 +21,7 @@ in_phase : (S : State) → PhasesGood S → (c : ℕ) (n : NodeParts) → slice_
 in_phase S g c n found awake = by_count (flight S (goes c)) refl where
   alive : (bit (is_alive (slice_get S.nodes c))) ≡ bit (is_alive (Some n))
   alive = ap (λ (o : Option NodeParts). bit (is_alive o)) found
+
   by_count : (x : ℕ) → flight S (goes c) ≡ x → IsInPhase S c n
   by_count zero is = inl (omega (arith, g.phase c n found awake, is))
   by_count (suc x) is =

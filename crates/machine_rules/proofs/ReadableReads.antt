@@ -1,22 +1,19 @@
 -- What is kept says that the reads are coherent.
-use Rattle.std.proofs.Common.{◌≡◌, ◌≢◌, ◌⊎◌, inl, inr, ℕ, zero, suc, ◌+◌, ◌≤◌, ◌==◌, Bool, true, false, cond, List, slice_get, sum_by, Option, Some, None, refl, sym, ap, ◌∙◌, arith}
+use Rattle.std.proofs.Common.{◌≡◌, inl, inr, ℕ, ◌≤◌, ◌==◌, Bool, true, false, cond, slice_get, Option, Some, None, refl, sym, ap, ◌∙◌, arith}
 use Rattle.std.proofs.lemmas.Bool.{eqb-true}
 use Rattle.std.proofs.lemmas.Bool.Decides.{nat_tests}
-use Rattle.dn_base.specs.declared.ids.CoreId.{CoreId}
 use Rattle.dn_base.specs.declared.ids.WordId.{WordId}
 use Rattle.message_net.specs.declared.message.Mail.{Mail}
 use Rattle.message_net.specs.declared.message.Message.TheVariants.{DataReply}
-use Rattle.word_cache.specs.declared.row.Entry.TheVariants.{Valid, Registered, Leaving}
 use Rattle.registry_bank.specs.declared.bank.BankWord.{BankWord}
 use Rattle.registry_bank.specs.declared.bank.BankWord.TheVariants.{Home, Reg}
 use Rattle.registration_protocol.specs.declared.node.NodeWait as wait
 use Rattle.registration_protocol.specs.declared.node.NodeWait.{NodeWait}
-use Rattle.registration_protocol.specs.Node.{NodeParts}
 use Rattle.machine_rules.specs.State.{State, entry_at, home_at}
 use Rattle.machine_rules.specs.Memory.{word_value}
-use Rattle.machine_rules.specs.Flight.{bit, flight, counted, misinforms, seeks, forwards, forwards_at, replies}
-use Rattle.machine_rules.specs.Coherent.{AreReads, IsReading, IsPending, IsInFlight, waits_for, owned_value, IsAtOrHome}
-use Rattle.machine_rules.proofs.Bits.{pending_bit, owner_bit, known_bit, reading_in, is_reading}
+use Rattle.machine_rules.specs.Flight.{bit, flight, counted, misinforms, forwards_at}
+use Rattle.machine_rules.specs.Coherent.{AreReads, IsReading, IsInFlight, waits_for, IsAtOrHome}
+use Rattle.machine_rules.proofs.Bits.{owner_bit, known_bit, reading_in}
 use Rattle.machine_rules.proofs.BitLemmas.{pending-bit, owner-bit}
 use Rattle.machine_rules.proofs.Invariant.{Invariant, WordsGood, ReadsGood, ValuesGood}
 use Rattle.machine_rules.proofs.ReadMails.{forward-reading, read-known}
@@ -46,6 +43,7 @@ at_or_home : (S : State) (M : ℕ → ℕ) → Invariant S M → (d w : ℕ) →
 at_or_home S M inv d w some = by_home (home_at S w) refl where
   known : 1 ≤ known_bit (home_at S w)
   known = let reader = forward-reading S w d inv.reads some in read-known S M w reader.0 inv reader.1
+
   by_home : (h : Option BankWord) → home_at S w ≡ h → IsAtOrHome S d w
   by_home None is = absurd (omega (arith, known, ap known_bit is))
   by_home (Some (Home value)) is = inr (value, is)

@@ -1,6 +1,5 @@
 -- What is kept says that a state shows the memory to which each store was applied.
-use Rattle.std.proofs.Common.{◌≡◌, ◌≢◌, ◌⊎◌, inl, inr, ℕ, zero, suc, ◌+◌, ◌≤◌, ◌==◌, Bool, true, false, List, [], ◌∷◌, slice_get, Option, Some, None, refl, sym, ap, ◌∙◌, arith}
-use Rattle.dn_base.specs.declared.ids.CoreId.{CoreId}
+use Rattle.std.proofs.Common.{◌≡◌, ℕ, zero, suc, ◌+◌, ◌≤◌, true, false, List, [], ◌∷◌, slice_get, Option, Some, None, refl, sym, ap, ◌∙◌, arith}
 use Rattle.word_cache.specs.declared.row.Entry.{Entry}
 use Rattle.word_cache.specs.declared.row.Entry.TheVariants.{Valid, Registered, Leaving}
 use Rattle.registry_bank.specs.declared.bank.BankWord.{BankWord}
@@ -20,6 +19,7 @@ found-pending [] w value is = absurd (cc)
 found-pending (n ∷ ns) w value is = by_entry (found-pending ns w value) (entry_of n w) refl is where
   by_place : (c : ℕ) × (entry_in w (slice_get ns c) ≡ Some (Registered value true)) → (c : ℕ) × (entry_in w (slice_get (n ∷ ns) c) ≡ Some (Registered value true))
   by_place (c, here) = (suc c, here)
+
   by_entry : (pending_among ns w ≡ Some value → (c : ℕ) × (entry_in w (slice_get ns c) ≡ Some (Registered value true)))
       → (e : Option Entry) → entry_of n w ≡ e → or_else (pending_value e) (pending_among ns w) ≡ Some value
       → (c : ℕ) × (entry_in w (slice_get (n ∷ ns) c) ≡ Some (Registered value true))
@@ -36,6 +36,7 @@ none-pending (n ∷ ns) w is c = by_entry (none-pending ns w) (entry_of n w) ref
   later : ((d : ℕ) → pending_bit (entry_in w (slice_get ns d)) ≡ 0) → pending_bit (entry_of n w) ≡ 0 → (c : ℕ) → pending_bit (entry_in w (slice_get (n ∷ ns) c)) ≡ 0
   later rest here zero = here
   later rest here (suc c) = rest c
+
   by_entry : (pending_among ns w ≡ None → (d : ℕ) → pending_bit (entry_in w (slice_get ns d)) ≡ 0)
       → (e : Option Entry) → entry_of n w ≡ e → or_else (pending_value e) (pending_among ns w) ≡ None → (c : ℕ) → pending_bit (entry_in w (slice_get (n ∷ ns) c)) ≡ 0
   by_entry again None e rest c = later (again rest) (rw (e) refl) c

@@ -1,12 +1,12 @@
 -- What is kept says that registrants, pending and leaving words are coherent.
-use Rattle.std.proofs.Common.{◌≡◌, ◌≢◌, ◌⊎◌, inl, inr, ℕ, zero, suc, ◌+◌, ◌≤◌, ◌==◌, Bool, true, false, Option, Some, None, refl, sym, ap, ◌∙◌, arith}
+use Rattle.std.proofs.Common.{◌≡◌, ◌⊎◌, inl, inr, ℕ, zero, suc, ◌+◌, ◌≤◌, true, false, Option, Some, None, refl, arith}
 use Rattle.word_cache.specs.declared.row.Entry.{Entry}
 use Rattle.word_cache.specs.declared.row.Entry.TheVariants.{Valid, Registered, Leaving}
 use Rattle.machine_rules.specs.State.{State, entry_at, home_at}
-use Rattle.machine_rules.specs.Flight.{bit, flight, asks, passes_on, passes_to, confirms, turns_back, gives_back, gives_back_value, frees}
+use Rattle.machine_rules.specs.Flight.{flight, passes_to}
 use Rattle.machine_rules.specs.Coherent.{IsPending, IsSettled, IsLeaving, IsRegistrant, AreRegistrants, ArePending, AreLeaving}
 use Rattle.machine_rules.proofs.Bits.{pending_bit, settled_bit, leaving_bit, owner_bit}
-use Rattle.machine_rules.proofs.BitLemmas.{pending-is, settled-is, leaving-is, owner-is, pending-bit, settled-bit, leaving-bit, owner-bit, one-bit}
+use Rattle.machine_rules.proofs.BitLemmas.{owner-is, pending-bit, settled-bit, leaving-bit, owner-bit, one-bit}
 use Rattle.machine_rules.proofs.Invariant.{WordsGood, WordRow, word_counts}
 
 -- an entry that isn't Valid is one of three

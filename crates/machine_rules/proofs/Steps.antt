@@ -1,5 +1,5 @@
 -- What an event changes of a state: the node, the bank or the keeper that it is an event of, and the mails in flight.
-use Rattle.std.proofs.Common.{◌≡◌, ℕ, ◌+◌, ◌≤◌, ◌==◌, Bool, true, false, cond, nat_lt, List, slice_get, slice_set, sum_by, Option, Some, None, refl, sym, ap, ◌∙◌, arith}
+use Rattle.std.proofs.Common.{◌≡◌, ℕ, ◌+◌, ◌≤◌, ◌==◌, true, cond, List, slice_get, sum_by, Option, Some, None, refl, ap, ◌∙◌, arith}
 use Rattle.std.proofs.lemmas.Bool.Decides.{nat_tests}
 use Rattle.dn_base.specs.declared.ids.CoreId.{CoreId}
 use Rattle.dn_base.specs.declared.ids.WordId.{WordId}
@@ -13,14 +13,14 @@ use Rattle.message_net.specs.declared.message.Message.{Message}
 use Rattle.message_net.specs.declared.message.Outgoing.{Outgoing}
 use Rattle.message_net.specs.Pool.{count_of, taken}
 use Rattle.registry_bank.specs.Bank.{BankParts, bank_gets}
-use Rattle.phase_barrier.specs.Barrier.{Barrier, keeper_gets}
+use Rattle.phase_barrier.specs.Barrier.{keeper_gets}
 use Rattle.phase_barrier.specs.Letters.{letters}
 use Rattle.registration_protocol.specs.Node.{NodeParts}
 use Rattle.registration_protocol.specs.OwnEvents.{instructed, evicted, arrives}
 use Rattle.registration_protocol.specs.Messages.{node_gets}
 use Rattle.machine_rules.specs.State.{State}
 use Rattle.machine_rules.specs.Flight.{Test, bit, counted, flight, weighs}
-use Rattle.machine_rules.specs.Next.{next, enabled, number_of, core_does, bank_does, keeper_handles, gets, handles, sends, posts}
+use Rattle.machine_rules.specs.Next.{next, enabled, number_of, core_does, bank_does, keeper_handles, posts}
 use Rattle.machine_rules.proofs.Bits.{passes}
 use Rattle.machine_rules.proofs.Lists.{get-set-there}
 use Rattle.message_net.specs.Pool.{IsFound}

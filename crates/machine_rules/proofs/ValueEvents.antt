@@ -1,32 +1,29 @@
 -- What is known of values after an event, from what the event changes.
-use Rattle.std.proofs.Common.{◌≡◌, ◌≢◌, ◌⊎◌, inl, inr, ℕ, zero, suc, ◌+◌, ◌≤◌, ◌==◌, ◌&&◌, ◌||◌, not, Bool, true, false, cond, List, slice_get, sum_by, Option, Some, None, refl, sym, ap, subst, ◌∙◌, arith}
+use Rattle.std.proofs.Common.{◌≡◌, ℕ, zero, suc, ◌≤◌, ◌==◌, ◌&&◌, Bool, true, false, slice_get, Option, Some, None, refl, sym, ap, subst, ◌∙◌, arith}
 use Rattle.std.proofs.lemmas.Bool.{eqb-true}
 use Rattle.std.proofs.lemmas.Bool.Decides.{nat_tests}
 use Rattle.dn_base.specs.declared.ids.WordId.{WordId}
 use Rattle.dn_base.specs.declared.ids.CoreId.{CoreId}
 use Rattle.message_net.specs.declared.actor.Actor.{Actor}
-use Rattle.message_net.specs.declared.actor.Actor.TheVariants.{Core, Bank, Keeper}
 use Rattle.message_net.specs.declared.message.Mail.{Mail}
 use Rattle.message_net.specs.declared.message.Message.{Message}
 use Rattle.message_net.specs.declared.message.Message.TheVariants.{ReadReq, ReadFwd, DataReply, RegReq, RegFwd, RegAck, WriteBack, WbAck, Acquire, Release, Grant, Arrived, Go, Halt}
 use Rattle.message_net.specs.declared.message.Outgoing.{Outgoing}
 use Rattle.message_net.proofs.PoolLemmas.{counted-place, weight-within}
-use Rattle.word_cache.specs.declared.row.Entry.{Entry}
-use Rattle.word_cache.specs.declared.row.Entry.TheVariants.{Valid, Registered, Leaving}
+use Rattle.word_cache.specs.declared.row.Entry.TheVariants.{Registered}
 use Rattle.registry_bank.specs.declared.bank.BankWord.{BankWord}
 use Rattle.registry_bank.specs.declared.bank.BankWord.TheVariants.{Home, Reg}
-use Rattle.registration_protocol.specs.Node.{NodeParts, entry_of}
+use Rattle.registration_protocol.specs.Node.{NodeParts}
 use Rattle.machine_rules.specs.State.{State, entry_at, home_at}
-use Rattle.machine_rules.specs.Flight.{Test, bit, counted, flight, is_to, passes_on, passes_to, forwards_at, replies, misinforms}
+use Rattle.machine_rules.specs.Flight.{bit, counted, flight, is_to, passes_on, passes_to, forwards_at, misinforms}
 use Rattle.machine_rules.specs.Coherent.{owned_value}
-use Rattle.machine_rules.proofs.Bits.{passes, pending_bit, settled_bit, owner_bit, reading_in}
-use Rattle.machine_rules.proofs.BitLemmas.{pending-is, pending-bit, owner-is}
-use Rattle.machine_rules.proofs.Invariant.{Invariant, WordsGood, ReadsGood, ValuesGood, AllSettled, is_lost}
+use Rattle.machine_rules.proofs.Bits.{passes, pending_bit, settled_bit, owner_bit}
+use Rattle.machine_rules.proofs.BitLemmas.{pending-is, pending-bit}
+use Rattle.machine_rules.proofs.Invariant.{WordsGood, ValuesGood, AllSettled}
 use Rattle.machine_rules.proofs.Steps.{NodeStep}
-use Rattle.machine_rules.proofs.Leaves.{WordStep, stored_to}
+use Rattle.machine_rules.proofs.Leaves.{WordStep}
 use Rattle.machine_rules.proofs.WordEvents.{Flown}
 use Rattle.machine_rules.proofs.WordQuiet.{home-node}
-use Rattle.machine_rules.proofs.WordCore.{same-number}
 use Rattle.machine_rules.proofs.NodeEntries.{IsCalm, IsCalmState, calm-node, calm-nodes}
 
 -- ---- mails
@@ -88,6 +85,7 @@ sought-pending S w d g some = of_mail (counted-place (λ (m : Mail). passes_to w
   passes_for m (Arrived core bad) pass = absurd (cc)
   passes_for m (Go phase) pass = absurd (cc)
   passes_for m Halt pass = absurd (cc)
+
   of_mail : (place : ℕ) × (m : Mail) × (slice_get S.mails place ≡ Some m) × (passes_to w d m.to m.message ≡ true) → (c : ℕ) × (1 ≤ pending_bit (entry_at S c w))
   of_mail (place, m, there, pass) =
       let r = passes_for m m.message pass in
@@ -158,20 +156,24 @@ values-home S T M w content left sent g step at_home owned went =
   where
     calm : IsCalmState S T
     calm = calm-nodes S T step.nodes
+
     content-same : (x y : BankWord) → Some x ≡ Some y → x ≡ y
     content-same x y e = cc
+
     by_none : (v : ℕ) → home_at T v ≡ None → (x : Bool) → (w == v) ≡ x → M v ≡ 0
     by_none v none true e = let is = rw (e) at (step.homes v) in absurd (cc)
     by_none v none false e = g.beyond v (sym (rw (e) at (step.homes v)) ∙ none)
+
     by_home : (v value : ℕ) → AllSettled S v → home_at T v ≡ Some (Home value) → (x : Bool) → (w == v) ≡ x → value ≡ M v
     by_home v value all is true e =
         let same : w ≡ v = eqb-true w v e in
         subst (λ (x : ℕ). value ≡ M x) same (at_home value (subst (λ (x : ℕ). AllSettled S x) (sym same) all) (content-same content (Home value) (sym (rw (e) at (step.homes v)) ∙ is)))
     by_home v value all is false e = g.home v value all (sym (rw (e) at (step.homes v)) ∙ is)
+
     by_owner : (v value : ℕ) (core : CoreId) → AllSettled S v → home_at T v ≡ Some (Reg core) → owned_value (entry_at S core.0 v) ≡ Some value → (x : Bool) → (w == v) ≡ x → value ≡ M v
     by_owner v value core all is has true e =
         let same : w ≡ v = eqb-true w v e in
         subst (λ (x : ℕ). value ≡ M x) same
         (owned value core (subst (λ (x : ℕ). AllSettled S x) (sym same) all) (content-same content (Reg core) (sym (rw (e) at (step.homes v)) ∙ is))
-         (subst (λ (x : ℕ). owned_value (entry_at S core.0 x) ≡ Some value) (sym same) has))
+        (subst (λ (x : ℕ). owned_value (entry_at S core.0 x) ≡ Some value) (sym same) has))
     by_owner v value core all is has false e = g.owner v value core all (sym (rw (e) at (step.homes v)) ∙ is) has

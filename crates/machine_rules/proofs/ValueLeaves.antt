@@ -1,11 +1,7 @@
 -- Every event keeps what is known of values.
-use Rattle.std.proofs.Common.{◌≡◌, ◌≢◌, ◌⊎◌, inl, inr, ℕ, zero, suc, ◌+◌, ◌%◌, ◌≤◌, ◌==◌, ◌&&◌, ◌||◌, not, Bool, true, false, cond, List, slice_get, sum_by, Option, Some, None, refl, sym, ap, subst, ◌∙◌, arith}
-use Rattle.dn_base.specs.declared.ids.WordId.{WordId}
+use Rattle.std.proofs.Common.{◌≡◌, ℕ, ◌+◌, ◌%◌, ◌||◌, Bool, true, false, slice_get, Option, Some, None, refl, sym, ap, ◌∙◌, arith}
 use Rattle.dn_base.specs.declared.ids.CoreId.{CoreId}
 use Rattle.region_table.specs.Plan.{uses_plainly}
-use Rattle.region_table.specs.declared.declared.TaskDecl.{TaskDecl}
-use Rattle.rv_core.specs.declared.task.TaskState.{TaskState}
-use Rattle.rv_core.specs.declared.need.Need as need
 use Rattle.rv_core.specs.Step.{advanced, loaded_of}
 use Rattle.rv_core.specs.Task.{stopped}
 use Rattle.write_signature.specs.Signature.{joined}
@@ -21,21 +17,21 @@ use Rattle.word_cache.specs.Cache.{put, touched, entry_after_phase, entry_after_
 use Rattle.word_cache.proofs.LookLemmas.{lookup-without, lookup-put, lookup-touched}
 use Rattle.phase_barrier.specs.Barrier.{Barrier, counted, advanced as next_phase}
 use Rattle.registration_protocol.specs.declared.node.NodeWait as wait
-use Rattle.registration_protocol.specs.Node.{NodeParts, entry_of, keeping, signature_of}
-use Rattle.registration_protocol.specs.OwnEvents.{retires, with_put, stored, is_bad}
+use Rattle.registration_protocol.specs.Node.{NodeParts, keeping, signature_of}
+use Rattle.registration_protocol.specs.OwnEvents.{retires, with_put, is_bad}
 use Rattle.registration_protocol.specs.Messages.{with_entry, lacking, holds_now, begins, guarded_by, written_in}
 use Rattle.registration_protocol.proofs.MessageLemmas.{grant-entries, begin-entries}
-use Rattle.machine_rules.specs.State.{State, entry_at, home_at}
+use Rattle.machine_rules.specs.State.{State, home_at}
 use Rattle.machine_rules.specs.Next.{next}
 use Rattle.machine_rules.specs.Coherent.{owned_value}
 use Rattle.machine_rules.proofs.Bits.{pending_bit, settled_bit}
 use Rattle.machine_rules.proofs.Invariant.{Invariant, ValuesGood}
 use Rattle.machine_rules.proofs.Leaves.{Leaves, BarrierStep, at_core, at_bank, at_keeper}
 use Rattle.machine_rules.proofs.WordEvents.{Flown}
-use Rattle.machine_rules.proofs.NodeEntries.{IsCalm, calm-same, calm-at, calm-entries, calm-nodes, changed-now, phase-pending, phase-owned, grant-pending, grant-owned}
+use Rattle.machine_rules.proofs.NodeEntries.{calm-same, calm-at, calm-entries, calm-nodes, changed-now, phase-pending, phase-owned, grant-pending, grant-owned}
 use Rattle.machine_rules.proofs.ReadMails.{no-read, no_read_in, same-posted}
 use Rattle.machine_rules.proofs.ReadHome.{home-same}
-use Rattle.machine_rules.proofs.ValueEvents.{IsMute, mute, mute-none, IsNoMore, no-more, values-quiet, values-node}
+use Rattle.machine_rules.proofs.ValueEvents.{IsMute, mute, mute-none, no-more, values-quiet, values-node}
 use Rattle.machine_rules.proofs.ValueSteps.{answered, acknowledged, value-registered, value-written, value-read, value-owned}
 use Rattle.machine_rules.proofs.ValueStores.{value-stored}
 
@@ -96,7 +92,7 @@ values-leaves S M e inv =
           values-node S T M core.0 n (with_entry n word.0 (Leaving value)) None (to_home S.setting.shape.banks word.0 (WriteBack word value core)) g step
           (mute (Bank (record { 0 = word.0 % S.setting.shape.banks })) (WriteBack word value core) refl)
           (calm-at n (with_entry n word.0 (Leaving value)) word.0 (Some (Leaving value)) (changed-now n word.0 (Registered value false) (Leaving value) is) (sym (ap pending_bit is))
-           (λ x has. ap owned_value is ∙ has));
+          (λ x has. ap owned_value is ∙ has));
       arrive = λ core n found awake absent over settled told step.
           let m : NodeParts = record n { arrived = true } in
           values-node S T M core.0 n m None (to_keeper (Arrived core (is_bad n.task))) g step (mute Keeper (Arrived core (is_bad n.task)) refl) (calm-same n m (λ v. refl));
@@ -121,12 +117,12 @@ values-leaves S M e inv =
           let words = guarded_by (slice_get S.setting.plans n.phase) lock.0 in
           values-node S T M core.0 n (holds_now S.setting n t lock s).0 (at_core core (Grant lock s)) None g step mute-none
           (calm-entries n (holds_now S.setting n t lock s).0 (entry_after_grant s n.phase words)
-           (λ v. grant-entries S.setting n t lock s v ((inv.machine.node core.0 n found).fits).cache) (grant-pending s n.phase words) (grant-owned s n.phase words));
+          (λ v. grant-entries S.setting n t lock s v ((inv.machine.node core.0 n found).fits).cache) (grant-pending s n.phase words) (grant-owned s n.phase words));
       go = λ core n phase found awake arrived same next_is within told step.
           let words = written_in (slice_get S.setting.plans n.phase) in
           values-node S T M core.0 n (begins S.setting n phase.0) (at_core core (Go phase)) None g step mute-none
           (calm-entries n (begins S.setting n phase.0) (entry_after_phase words)
-           (λ v. begin-entries S.setting n phase.0 v ((inv.machine.node core.0 n found).fits).cache) (phase-pending words) (phase-owned words));
+          (λ v. begin-entries S.setting n phase.0 v ((inv.machine.node core.0 n found).fits).cache) (phase-pending words) (phase-owned words));
       halt = λ core n found awake arrived told step.
           let m : NodeParts = record n { halted = true } in
           values-node S T M core.0 n m (at_core core Halt) None g step mute-none (calm-same n m (λ v. refl));

@@ -1,35 +1,32 @@
 -- What is known of values after the events that answer, acknowledge, register and write back.
-use Rattle.std.proofs.Common.{◌≡◌, ◌≢◌, ◌⊎◌, inl, inr, ℕ, zero, suc, ◌+◌, ◌≤◌, ◌==◌, ◌&&◌, ◌||◌, not, Bool, true, false, cond, List, slice_get, sum_by, Option, Some, None, refl, sym, ap, subst, ◌∙◌, arith}
+use Rattle.std.proofs.Common.{◌≡◌, ℕ, ◌+◌, ◌≤◌, ◌==◌, Bool, true, false, cond, Option, Some, None, refl, sym, ap, subst, ◌∙◌, arith}
 use Rattle.std.proofs.lemmas.Bool.{eqb-true}
-use Rattle.std.proofs.lemmas.Bool.Decides.{nat_tests}
 use Rattle.dn_base.specs.declared.ids.WordId.{WordId}
 use Rattle.dn_base.specs.declared.ids.CoreId.{CoreId}
 use Rattle.dn_base.specs.declared.ids.BankId.{BankId}
-use Rattle.message_net.specs.declared.actor.Actor.TheVariants.{Core, Bank, Keeper}
-use Rattle.message_net.specs.declared.message.Message.TheVariants.{ReadReq, ReadFwd, DataReply, RegReq, RegFwd, RegAck, WriteBack, WbAck}
+use Rattle.message_net.specs.declared.actor.Actor.TheVariants.{Core}
+use Rattle.message_net.specs.declared.message.Message.TheVariants.{ReadReq, ReadFwd, DataReply, RegReq, RegAck, WriteBack, WbAck}
 use Rattle.message_net.specs.declared.message.Outgoing.{Outgoing}
 use Rattle.message_net.specs.Mail.{to_core}
-use Rattle.word_cache.specs.declared.row.Entry.{Entry}
-use Rattle.word_cache.specs.declared.row.Entry.TheVariants.{Valid, Registered, Leaving}
-use Rattle.registry_bank.specs.declared.bank.BankWord.{BankWord}
+use Rattle.word_cache.specs.declared.row.Entry.TheVariants.{Registered, Leaving}
 use Rattle.registry_bank.specs.declared.bank.BankWord.TheVariants.{Home, Reg}
 use Rattle.registration_protocol.specs.Node.{NodeParts, entry_of}
 use Rattle.registration_protocol.specs.Messages.{with_entry}
 use Rattle.machine_rules.specs.State.{State, entry_at, home_at}
-use Rattle.machine_rules.specs.Flight.{Test, bit, flight, is_to, asks, confirms, gives_back, gives_back_value, seeks, forwards_at, misinforms}
+use Rattle.machine_rules.specs.Flight.{bit, flight, asks, confirms, gives_back, gives_back_value, seeks, forwards_at, misinforms}
 use Rattle.machine_rules.specs.Coherent.{owned_value}
-use Rattle.machine_rules.proofs.Bits.{passes, pending_bit, settled_bit, leaving_bit, owner_bit, reading_in}
-use Rattle.machine_rules.proofs.BitLemmas.{entry-bits, leaving-is, owner-is, pending-bit}
-use Rattle.machine_rules.proofs.Invariant.{Invariant, WordsGood, ReadsGood, ValuesGood, AllSettled}
+use Rattle.machine_rules.proofs.Bits.{passes, pending_bit, owner_bit}
+use Rattle.machine_rules.proofs.BitLemmas.{entry-bits, leaving-is, owner-is}
+use Rattle.machine_rules.proofs.Invariant.{WordsGood, ReadsGood, ValuesGood, AllSettled}
 use Rattle.machine_rules.proofs.Steps.{NodeStep}
 use Rattle.machine_rules.proofs.Leaves.{WordStep, at_core, at_bank}
 use Rattle.machine_rules.proofs.WordEvents.{Flown, entry-node}
 use Rattle.machine_rules.proofs.WordGood.{valued-within}
 use Rattle.machine_rules.proofs.WordQuiet.{home-node}
 use Rattle.machine_rules.proofs.WordCore.{same-number}
-use Rattle.machine_rules.proofs.NodeEntries.{IsCalm, IsCalmState, calm-same, calm-node, calm-nodes, changed-now, entry-own}
+use Rattle.machine_rules.proofs.NodeEntries.{calm-same, calm-node, calm-nodes, changed-now, entry-own}
 use Rattle.machine_rules.proofs.ReadHome.{home-same}
-use Rattle.machine_rules.proofs.ValueEvents.{IsMute, mute, mute-none, no-more, true-reply, passes-true, values-calm, values-home}
+use Rattle.machine_rules.proofs.ValueEvents.{IsMute, mute, true-reply, passes-true, values-calm, values-home}
 
 -- a read is answered from a word that is registered or leaving: with the word's value
 pub answered : (S T : State) (M : ℕ → ℕ) (core reader : CoreId) (n : NodeParts) (word : WordId) (value : ℕ) → ValuesGood S M → owned_value (entry_of n word.0) ≡ Some value
@@ -41,8 +38,10 @@ answered S T M core reader n word value g has step =
   where
     left : Option Outgoing
     left = at_core core (ReadFwd word reader)
+
     sent : Option Outgoing
     sent = to_core reader (DataReply word value)
+
     is_true : value ≡ M word.0
     is_true =
         let came = rw (same-number word.0, same-number core.0) at (step.flown (forwards_at word.0 core.0)) in
@@ -63,49 +62,64 @@ acknowledged S T M core n word value words g is step =
   where
     m : NodeParts
     m = with_entry n word.0 (Registered value false)
+
     left : Option Outgoing
     left = at_core core (RegAck word)
+
     homes : (v : ℕ) → home_at T v ≡ home_at S v
     homes = home-node S T core.0 n m left None step
+
     now : (v : ℕ) → entry_of m v ≡ cond (word.0 == v) (Some (Registered value false)) (entry_of n v)
     now = changed-now n word.0 (Registered value true) (Registered value false) is
+
     here : entry_at S core.0 word.0 ≡ Some (Registered value true)
     here = entry-own S core.0 core.0 n word.0 step.found (same-number core.0) ∙ is
+
     value-true : value ≡ M word.0
     value-true = g.pending core.0 word.0 value here
+
     -- another word's entries, and those of another core
     other_word : (c w : ℕ) → (word.0 == w) ≡ false → entry_at T c w ≡ entry_at S c w
     other_word c w f = by_core (core.0 == c) refl where
       by_core : (x : Bool) → (core.0 == c) ≡ x → entry_at T c w ≡ entry_at S c w
       by_core true e = (rw (e) at (entry-node S T core.0 n m left None step c w)) ∙ (rw (f) at (now w)) ∙ sym (entry-own S core.0 c n w step.found e)
       by_core false e = rw (e) at (entry-node S T core.0 n m left None step c w)
+
     at_word : (c w : ℕ) → (core.0 == c) ≡ true → (word.0 == w) ≡ true → entry_at T c w ≡ Some (Registered value false)
     at_word c w e f = (rw (e) at (entry-node S T core.0 n m left None step c w)) ∙ (rw (f) at (now w))
+
     was_at : (c w : ℕ) → (core.0 == c) ≡ true → (word.0 == w) ≡ true → entry_at S c w ≡ Some (Registered value true)
     was_at c w e f = subst (λ (x : ℕ). entry_at S c x ≡ Some (Registered value true)) (eqb-true word.0 w f) (subst (λ (x : ℕ). entry_at S x word.0 ≡ Some (Registered value true)) (eqb-true core.0 c e) here)
+
     owned : (c w x : ℕ) → owned_value (entry_at T c w) ≡ Some x → owned_value (entry_at S c w) ≡ Some x
     owned c w x has = by_tests (core.0 == c) refl (word.0 == w) refl where
       by_tests : (y : Bool) → (core.0 == c) ≡ y → (z : Bool) → (word.0 == w) ≡ z → owned_value (entry_at S c w) ≡ Some x
       by_tests true e true f = ap owned_value (was_at c w e f) ∙ (sym (ap owned_value (at_word c w e f)) ∙ has)
       by_tests true e false f = sym (ap owned_value (other_word c w f)) ∙ has
       by_tests false e z f = sym (ap owned_value (rw (e) at (entry-node S T core.0 n m left None step c w))) ∙ has
+
     by_pending : (c w x : ℕ) → entry_at T c w ≡ Some (Registered x true) → (y : Bool) → (core.0 == c) ≡ y → (z : Bool) → (word.0 == w) ≡ z → x ≡ M w
     by_pending c w x has true e true f = let wrong : Some (Registered value false) ≡ Some (Registered x true) = sym (at_word c w e f) ∙ has in absurd (cc)
     by_pending c w x has true e false f = g.pending c w x (sym (other_word c w f) ∙ has)
     by_pending c w x has false e z f = g.pending c w x (sym (rw (e) at (entry-node S T core.0 n m left None step c w)) ∙ has)
+
     settled : (w : ℕ) → (word.0 == w) ≡ false → AllSettled T w → AllSettled S w
     settled w f all c = sym (ap pending_bit (other_word c w f)) ∙ all c
+
     owner-one : 1 ≤ owner_bit core.0 (home_at S word.0)
     owner-one =
         let came = rw (same-number word.0, same-number core.0) at (step.flown (confirms word.0 core.0)) in
         omega (arith, came, words.row word.0 core.0)
+
     owner : home_at S word.0 ≡ Some (Reg (record { 0 = core.0 }))
     owner = owner-is core.0 (home_at S word.0) owner-one
+
     by_home : (w x : ℕ) → AllSettled T w → home_at S w ≡ Some (Home x) → (z : Bool) → (word.0 == w) ≡ z → x ≡ M w
     by_home w x all has true f =
         let wrong : Some (Reg (record { 0 = core.0 })) ≡ Some (Home x) = sym owner ∙ subst (λ (v : ℕ). home_at S v ≡ Some (Home x)) (sym (eqb-true word.0 w f)) has in
         absurd (cc)
     by_home w x all has false f = g.home w x (settled w f all) has
+
     by_owner : (w x : ℕ) (c : CoreId) → AllSettled T w → home_at S w ≡ Some (Reg c) → owned_value (entry_at S c.0 w) ≡ Some x → (z : Bool) → (word.0 == w) ≡ z → x ≡ M w
     by_owner w x c all has owns true f =
         let same : word.0 ≡ w = eqb-true word.0 w f in
@@ -117,6 +131,7 @@ acknowledged S T M core n word value words g is step =
       where
         reg-same : (a : ℕ) (c : CoreId) → Some (Reg (record { 0 = a })) ≡ Some (Reg c) → a ≡ c.0
         reg-same a c e = let same : (let x : CoreId = record { 0 = a } in x) ≡ c = cc in ap (λ (x : CoreId). x.0) same
+
         some-same : (a b : ℕ) → Some a ≡ Some b → a ≡ b
         some-same a b e = cc
     by_owner w x c all has owns false f = g.owner w x c (settled w f all) has owns
@@ -144,17 +159,25 @@ value-written S T M word core bank value words g was step =
   where
     came : flight T (gives_back word.0 core.0) + 1 ≡ flight S (gives_back word.0 core.0) + 0
     came = rw (same-number word.0, same-number core.0) at (step.flown (gives_back word.0 core.0))
+
     leaving : (x : ℕ) × (entry_at S core.0 word.0 ≡ Some (Leaving x))
     leaving = leaving-is (entry_at S core.0 word.0) (omega (arith, came, words.row word.0 core.0))
+
     carried : flight T (gives_back_value word.0 core.0 leaving.0) + bit (value == leaving.0) ≡ flight S (gives_back_value word.0 core.0 leaving.0) + 0
     carried = rw (same-number word.0, same-number core.0) at (step.flown (gives_back_value word.0 core.0 leaving.0))
+
     equal : value ≡ leaving.0
     equal = by_test (value == leaving.0) refl carried where
       by_test : (x : Bool) → (value == leaving.0) ≡ x → flight T (gives_back_value word.0 core.0 leaving.0) + bit x ≡ flight S (gives_back_value word.0 core.0 leaving.0) + 0 → value ≡ leaving.0
       by_test true e moved = eqb-true value leaving.0 e
       by_test false e moved =
           absurd (omega (
-            arith, moved, came, words.row word.0 core.0, entry-bits (entry_at S core.0 word.0), words.valued word.0 core.0 leaving.0 leaving.1,
+            arith,
+            moved,
+            came,
+            words.row word.0 core.0,
+            entry-bits (entry_at S core.0 word.0),
+            words.valued word.0 core.0 leaving.0 leaving.1,
             valued-within T word.0 core.0 leaving.0,
           ))
 
@@ -186,6 +209,7 @@ value-owned S T M word reader owner bank reads g was step =
   where
     all : AllSettled S word.0
     all = read-settled S T word reader bank (to_core owner (ReadFwd word reader)) reads step.flown refl
+
     by_tests : (d w value : ℕ) → 1 ≤ flight T (forwards_at w d) → owned_value (entry_at S d w) ≡ Some value → (x : Bool) → (word.0 == w) ≡ x → (y : Bool) → (owner.0 == d) ≡ y → value ≡ M w
     by_tests d w value some has true e true f =
         let same : word.0 ≡ w = eqb-true word.0 w e in

@@ -1,7 +1,6 @@
 -- What is known of values after a store.
-use Rattle.std.proofs.Common.{◌≡◌, ◌≢◌, ◌⊎◌, inl, inr, ℕ, zero, suc, ◌+◌, ◌≤◌, ◌==◌, ◌&&◌, ◌||◌, not, Bool, true, false, cond, List, slice_get, sum_by, Option, Some, None, refl, sym, ap, subst, ◌∙◌, arith}
+use Rattle.std.proofs.Common.{◌≡◌, ℕ, zero, suc, ◌≤◌, ◌==◌, Bool, true, false, cond, slice_get, Option, Some, None, refl, sym, ap, subst, ◌∙◌, arith}
 use Rattle.std.proofs.lemmas.Bool.{eqb-true}
-use Rattle.std.proofs.lemmas.Bool.Decides.{nat_tests}
 use Rattle.dn_base.specs.declared.ids.WordId.{WordId}
 use Rattle.dn_base.specs.declared.ids.CoreId.{CoreId}
 use Rattle.region_table.specs.declared.declared.TaskDecl.{TaskDecl}
@@ -14,22 +13,20 @@ use Rattle.message_net.specs.declared.message.Message.{Message}
 use Rattle.message_net.specs.declared.message.Message.TheVariants.{ReadReq, ReadFwd, DataReply, RegReq, RegFwd, RegAck, WriteBack, WbAck, Acquire, Release, Grant, Arrived, Go, Halt}
 use Rattle.message_net.specs.declared.message.Outgoing.{Outgoing}
 use Rattle.message_net.proofs.PoolLemmas.{counted-place, weight-within}
-use Rattle.word_cache.specs.declared.row.Entry.{Entry}
-use Rattle.word_cache.specs.declared.row.Entry.TheVariants.{Valid, Registered, Leaving}
-use Rattle.registry_bank.specs.declared.bank.BankWord.{BankWord}
+use Rattle.word_cache.specs.declared.row.Entry.TheVariants.{Registered}
 use Rattle.registry_bank.specs.declared.bank.BankWord.TheVariants.{Home, Reg}
 use Rattle.registration_protocol.specs.Node.{NodeParts, entry_of}
 use Rattle.registration_protocol.specs.OwnEvents.{stored}
 use Rattle.registration_protocol.proofs.EntryLemmas.{store-entry}
 use Rattle.machine_rules.specs.State.{State, entry_at, home_at}
-use Rattle.machine_rules.specs.Flight.{Test, bit, counted, flight, is_to, forwards_at, replies, misinforms}
+use Rattle.machine_rules.specs.Flight.{counted, flight, forwards_at, replies, misinforms}
 use Rattle.machine_rules.specs.Coherent.{owned_value}
-use Rattle.machine_rules.proofs.Bits.{passes, pending_bit, settled_bit, known_bit, owner_bit, reading_in}
-use Rattle.machine_rules.proofs.BitLemmas.{entry-bits, owner-is, pending-bit, settled-bit}
-use Rattle.machine_rules.proofs.Invariant.{Invariant, WordsGood, ReadsGood, ValuesGood, AllSettled, is_lost}
+use Rattle.machine_rules.proofs.Bits.{pending_bit, settled_bit, known_bit, reading_in}
+use Rattle.machine_rules.proofs.BitLemmas.{entry-bits, owner-is, pending-bit}
+use Rattle.machine_rules.proofs.Invariant.{Invariant, ValuesGood, AllSettled, is_lost}
 use Rattle.machine_rules.proofs.Steps.{NodeStep}
 use Rattle.machine_rules.proofs.Leaves.{IsActing, stored_to}
-use Rattle.machine_rules.proofs.WordEvents.{Flown, entry-node}
+use Rattle.machine_rules.proofs.WordEvents.{entry-node}
 use Rattle.machine_rules.proofs.WordQuiet.{home-node}
 use Rattle.machine_rules.proofs.WordCore.{same-number}
 use Rattle.machine_rules.proofs.NodeEntries.{entry-own}
@@ -59,6 +56,7 @@ unread-lies : (S : State) (M : ℕ → ℕ) (word : WordId) (value : ℕ) → In
 unread-lies S M word value inv unread = by_count (flight S (misinforms M')) refl where
   M' : ℕ → ℕ
   M' = stored_to (Some (word, value)) M
+
   of_mail : (place : ℕ) × (m : Mail) × (slice_get S.mails place ≡ Some m) × (misinforms M' m.to m.message ≡ true) → ⊥
   of_mail (place, m, there, pass) = by_message m.message refl pass where
     by_message : (message : Message) → m.message ≡ message → misinforms M' m.to message ≡ true → ⊥
@@ -83,6 +81,7 @@ unread-lies S M word value inv unread = by_count (flight S (misinforms M')) refl
     by_message (Arrived core bad) is pass = cc
     by_message (Go phase) is pass = cc
     by_message Halt is pass = cc
+
   by_count : (x : ℕ) → flight S (misinforms M') ≡ x → flight S (misinforms M') ≡ 0
   by_count zero is = is
   by_count (suc x) is = absurd (of_mail (counted-place (λ (m : Mail). misinforms M' m.to m.message) S.mails (omega (arith, is))))
@@ -103,29 +102,39 @@ value-stored S T M core n d t word whole value pending sent inv acts settled ste
   where
     M' : ℕ → ℕ
     M' = stored_to (Some (word, value)) M
+
     m : NodeParts
     m = stored S.setting n d t word (Registered value pending)
+
     homes : (v : ℕ) → home_at T v ≡ home_at S v
     homes = home-node S T core.0 n m None sent step
+
     unread : (c : ℕ) → reading_in word.0 (slice_get S.nodes c) ≡ 0
     unread c = store-unread S M core n d t word whole inv acts c
+
     -- the new memory, and the entries
     new : (w : ℕ) → (word.0 == w) ≡ true → M' w ≡ value
     new w e = rw (e) refl
+
     old : (w : ℕ) → (word.0 == w) ≡ false → M' w ≡ M w
     old w e = rw (e) refl
+
     own : (c w : ℕ) → (core.0 == c) ≡ true → (word.0 == w) ≡ true → entry_at T c w ≡ Some (Registered value pending)
     own c w f e = (rw (f) at (entry-node S T core.0 n m None sent step c w)) ∙ (rw (e) at (store-entry S.setting n d t word (Registered value pending) w))
+
     others : (c w : ℕ) → (core.0 == c) ≡ false → entry_at T c w ≡ entry_at S c w
     others c w f = rw (f) at (entry-node S T core.0 n m None sent step c w)
+
     other_word : (c w : ℕ) → (word.0 == w) ≡ false → entry_at T c w ≡ entry_at S c w
     other_word c w e = by_core (core.0 == c) refl where
       by_core : (x : Bool) → (core.0 == c) ≡ x → entry_at T c w ≡ entry_at S c w
       by_core true f =
           (rw (f) at (entry-node S T core.0 n m None sent step c w)) ∙ (rw (e) at (store-entry S.setting n d t word (Registered value pending) w)) ∙ sym (entry-own S core.0 c n w acts.found f)
       by_core false f = others c w f
+
     settled-before : (w : ℕ) → (word.0 == w) ≡ false → AllSettled T w → AllSettled S w
     settled-before w e all c = sym (ap pending_bit (other_word c w e)) ∙ all c
+
     -- where nothing is pending then, the core is the word's registrant
     owner-here : AllSettled T word.0 → home_at S word.0 ≡ Some (Reg (record { 0 = core.0 }))
     owner-here all = by_pending pending refl settled where
@@ -136,6 +145,7 @@ value-stored S T M core n d t word whole value pending sent inv acts settled ste
       by_pending false is settled = owner-is core.0 (home_at S word.0) (omega (arith, settled-owner S word.0 core.0 inv.words before, here)) where
         here : settled_bit (entry_at S core.0 word.0) ≡ 1
         here = ap settled_bit (entry-own S core.0 core.0 n word.0 acts.found (same-number core.0)) ∙ settled refl
+
         before : AllSettled S word.0
         before c = by_core (core.0 == c) refl where
           by_core : (x : Bool) → (core.0 == c) ≡ x → pending_bit (entry_at S c word.0) ≡ 0
@@ -143,14 +153,17 @@ value-stored S T M core n d t word whole value pending sent inv acts settled ste
               let same : core.0 ≡ c = eqb-true core.0 c f in
               subst (λ (x : ℕ). pending_bit (entry_at S x word.0) ≡ 0) same (omega (arith, here, entry-bits (entry_at S core.0 word.0)))
           by_core false f = store-none-pending S M core n d t word whole inv acts c f
+
     at_number : (w : ℕ) → (word.0 == w) ≡ true → word.0 ≡ w
     at_number w e = eqb-true word.0 w e
+
     by_none : (w : ℕ) → home_at S w ≡ None → (x : Bool) → (word.0 == w) ≡ x → M' w ≡ 0
     by_none w none true e =
         let known = known-home S M word.0 inv (store-right S core n d t word whole acts).0 in
         let here : home_at S word.0 ≡ None = subst (λ (x : ℕ). home_at S x ≡ None) (sym (at_number w e)) none in
         absurd (omega (arith, known, ap known_bit here))
     by_none w none false e = old w e ∙ inv.values.beyond w none
+
     by_pending : (c w x : ℕ) → entry_at T c w ≡ Some (Registered x true) → (y : Bool) → (word.0 == w) ≡ y → (z : Bool) → (core.0 == c) ≡ z → x ≡ M' w
     by_pending c w x is true e true f =
         let both : Some (Registered value pending) ≡ Some (Registered x true) = sym (own c w f e) ∙ is in
@@ -160,12 +173,14 @@ value-stored S T M core n d t word whole value pending sent inv acts settled ste
         let none = subst (λ (v : ℕ). pending_bit (entry_at S c v) ≡ 0) (at_number w e) (store-none-pending S M core n d t word whole inv acts c f) in
         absurd (omega (arith, none, pending-bit (entry_at S c w) x (sym (others c w f) ∙ is)))
     by_pending c w x is false e z f = inv.values.pending c w x (sym (other_word c w e) ∙ is) ∙ sym (old w e)
+
     by_home : (w x : ℕ) → AllSettled T w → home_at S w ≡ Some (Home x) → (y : Bool) → (word.0 == w) ≡ y → x ≡ M' w
     by_home w x all is true e =
         let owner = owner-here (subst (λ (v : ℕ). AllSettled T v) (sym (at_number w e)) all) in
         let wrong : Some (Reg (record { 0 = core.0 })) ≡ Some (Home x) = sym owner ∙ subst (λ (v : ℕ). home_at S v ≡ Some (Home x)) (sym (at_number w e)) is in
         absurd (cc)
     by_home w x all is false e = inv.values.home w x (settled-before w e all) is ∙ sym (old w e)
+
     by_owner : (w x : ℕ) (c : CoreId) → AllSettled T w → home_at S w ≡ Some (Reg c) → owned_value (entry_at T c.0 w) ≡ Some x → (y : Bool) → (word.0 == w) ≡ y → x ≡ M' w
     by_owner w x c all is has true e =
         let owner = owner-here (subst (λ (v : ℕ). AllSettled T v) (sym (at_number w e)) all) in
@@ -176,9 +191,11 @@ value-stored S T M core n d t word whole value pending sent inv acts settled ste
       where
         reg-same : (a : ℕ) (c : CoreId) → Some (Reg (record { 0 = a })) ≡ Some (Reg c) → a ≡ c.0
         reg-same a c e = let same : (let x : CoreId = record { 0 = a } in x) ≡ c = cc in ap (λ (x : CoreId). x.0) same
+
         some-same : (a b : ℕ) → Some a ≡ Some b → a ≡ b
         some-same a b e = cc
     by_owner w x c all is has false e = inv.values.owner w x c (settled-before w e all) is (sym (ap owned_value (other_word c.0 w e)) ∙ has) ∙ sym (old w e)
+
     by_forward : (k w x : ℕ) → 1 ≤ flight S (forwards_at w k) → owned_value (entry_at T k w) ≡ Some x → (y : Bool) → (word.0 == w) ≡ y → x ≡ M' w
     by_forward k w x some has true e =
         let reader = forward-reading S w k inv.reads some in

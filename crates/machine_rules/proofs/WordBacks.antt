@@ -1,33 +1,31 @@
 -- The good words after an eviction of a registered word, and after each event of a word's home.
-use Rattle.std.proofs.Common.{◌≡◌, ◌≢◌, ◌⊎◌, inl, inr, ℕ, zero, suc, ◌+◌, ◌%◌, ◌≤◌, ◌==◌, ◌&&◌, ◌||◌, not, Bool, true, false, cond, List, [], slice_get, Option, Some, None, refl, sym, ap, subst, ◌∙◌, arith}
+use Rattle.std.proofs.Common.{◌≡◌, ◌≢◌, ℕ, ◌%◌, ◌≤◌, ◌==◌, Bool, true, false, cond, Option, Some, None, refl, sym, ap, subst, ◌∙◌, arith}
 use Rattle.std.proofs.lemmas.Bool.{eqb-true}
 use Rattle.std.proofs.lemmas.Bool.Decides.{nat_tests}
 use Rattle.dn_base.specs.declared.ids.WordId.{WordId}
 use Rattle.dn_base.specs.declared.ids.CoreId.{CoreId}
 use Rattle.dn_base.specs.declared.ids.BankId.{BankId}
-use Rattle.message_net.specs.declared.actor.Actor.{Actor}
-use Rattle.message_net.specs.declared.actor.Actor.TheVariants.{Core, Bank, Keeper}
-use Rattle.message_net.specs.declared.message.Message.{Message}
+use Rattle.message_net.specs.declared.actor.Actor.TheVariants.{Core, Bank}
 use Rattle.message_net.specs.declared.message.Message.TheVariants.{RegReq, RegFwd, RegAck, WriteBack, WbAck}
 use Rattle.message_net.specs.declared.message.Outgoing.{Outgoing}
 use Rattle.message_net.specs.Mail.{to_core, to_home}
 use Rattle.word_cache.specs.declared.row.Entry.{Entry}
-use Rattle.word_cache.specs.declared.row.Entry.TheVariants.{Valid, Registered, Leaving}
+use Rattle.word_cache.specs.declared.row.Entry.TheVariants.{Registered, Leaving}
 use Rattle.registry_bank.specs.declared.bank.BankWord.{BankWord}
 use Rattle.registry_bank.specs.declared.bank.BankWord.TheVariants.{Home, Reg}
 use Rattle.registration_protocol.specs.Node.{NodeParts, entry_of}
 use Rattle.registration_protocol.specs.Messages.{with_entry}
-use Rattle.machine_rules.specs.State.{State, entry_in, entry_at, home_at}
-use Rattle.machine_rules.specs.Flight.{Test, bit, flight, gives_back, gives_back_value}
+use Rattle.machine_rules.specs.State.{State, entry_at, home_at}
+use Rattle.machine_rules.specs.Flight.{flight, gives_back, gives_back_value}
 use Rattle.machine_rules.specs.Coherent.{MayStore}
-use Rattle.machine_rules.proofs.Bits.{passes, pending_bit, settled_bit, leaving_bit, known_bit, owner_bit}
+use Rattle.machine_rules.proofs.Bits.{passes, pending_bit, leaving_bit, owner_bit}
 use Rattle.machine_rules.proofs.Invariant.{WordsGood, WordRow, word_counts}
 use Rattle.machine_rules.proofs.Steps.{NodeStep}
 use Rattle.machine_rules.proofs.Leaves.{WordStep, at_bank}
-use Rattle.machine_rules.proofs.WordEvents.{Flown, WordFlows, flows, IsAside, WordEvent, rows}
-use Rattle.machine_rules.proofs.WordCore.{AtCore, same-number, evicted-row}
+use Rattle.machine_rules.proofs.WordEvents.{flows, IsAside, WordEvent, rows}
+use Rattle.machine_rules.proofs.WordCore.{same-number, evicted-row}
 use Rattle.machine_rules.proofs.WordHome.{AtHome, home-registered, owned-registered, written-back, written-past}
-use Rattle.machine_rules.proofs.WordGood.{IsSingle, single-calm, AreValued, valued-within, valued-still, valued-taken, pending-one, right-kept}
+use Rattle.machine_rules.proofs.WordGood.{single-calm, AreValued, valued-within, valued-taken, pending-one, right-kept}
 use Rattle.machine_rules.proofs.WordRights.{keeps-same, right-nodes}
 use Rattle.machine_rules.proofs.WordQuiet.{aside, aside-none}
 use Rattle.machine_rules.proofs.WordSteps.{EntryStep, at-core, word-event, core-good, calm}
@@ -43,14 +41,18 @@ evicted-good S T core n word value was step g =
   where
     sent : Option Outgoing
     sent = to_home S.setting.shape.banks word.0 (WriteBack word value core)
+
     h : EntryStep S T core.0 n (with_entry n word.0 (Leaving value)) word.0 (Some (Registered value false)) (Some (Leaving value)) None (to_home S.setting.shape.banks word.0 (WriteBack word value core))
     h = record { step = step; was = was; now = changed-now n word.0 (Registered value false) (Leaving value) was; came = λ v e. aside-none v; went = λ v e. aside v _ (WriteBack word value core) e }
+
     less : (d v : ℕ) → pending_bit (entry_at T d v) ≤ pending_bit (entry_at S d v)
     less = calm S T core.0 n _ word.0 _ _ _ _ h (omega arith)
+
     rights : (d v : ℕ) → pending_bit (entry_at T d v) ≡ 1 → MayStore T d v
     rights d v one =
         right-kept S T core.0 n (with_entry n word.0 (Leaving value)) None (to_home S.setting.shape.banks word.0 (WriteBack word value core)) step refl
         (keeps-same n (with_entry n word.0 (Leaving value)) refl) d v (g.right d v (omega (arith, one, less d v, pending-one (entry_at S d v))))
+
     valued : AreValued T
     valued v d x is = by_tests (word.0 == v) refl (core.0 == d) refl where
       by_tests : (p : Bool) → (word.0 == v) ≡ p → (q : Bool) → (core.0 == d) ≡ q → flight T (gives_back_value v d x) ≡ flight T (gives_back v d)
@@ -125,7 +127,7 @@ pub registered-home-good : (S T : State) (word : WordId) (core : CoreId) (bank :
     → WordStep S T word.0 (Reg core) (at_bank bank (RegReq word core)) (to_core core (RegAck word)) → WordsGood S → WordsGood T
 registered-home-good S T word core bank value was step g =
     let h : HomeStep S T word.0 (Home value) (Reg core) (at_bank bank (RegReq word core)) (to_core core (RegAck word)) =
-        record { step = step; was = was; came = λ v e. aside v (Bank bank) (RegReq word core) e; went = λ v e. aside v (Core core) (RegAck word) e } in
+    record { step = step; was = was; came = λ v e. aside v (Bank bank) (RegReq word core) e; went = λ v e. aside v (Core core) (RegAck word) e } in
     home-good S T word.0 (Home value) (Reg core) (at_bank bank (RegReq word core)) (to_core core (RegAck word)) h g
     (home-registered S T word core bank value (at-home S T word.0 _ _ _ _ h) g) (λ d v. refl) (λ d v x. refl)
 
@@ -133,7 +135,7 @@ pub registered-owned-good : (S T : State) (word : WordId) (core owner : CoreId) 
     → WordStep S T word.0 (Reg core) (at_bank bank (RegReq word core)) (to_core owner (RegFwd word core)) → WordsGood S → WordsGood T
 registered-owned-good S T word core owner bank was other step g =
     let h : HomeStep S T word.0 (Reg owner) (Reg core) (at_bank bank (RegReq word core)) (to_core owner (RegFwd word core)) =
-        record { step = step; was = was; came = λ v e. aside v (Bank bank) (RegReq word core) e; went = λ v e. aside v (Core owner) (RegFwd word core) e } in
+    record { step = step; was = was; came = λ v e. aside v (Bank bank) (RegReq word core) e; went = λ v e. aside v (Core owner) (RegFwd word core) e } in
     let apart : (owner.0 == core.0) ≡ false = grind (arith, nat_tests, other) in
     home-good S T word.0 (Reg owner) (Reg core) (at_bank bank (RegReq word core)) (to_core owner (RegFwd word core)) h g
     (owned-registered S T word core owner bank (at-home S T word.0 _ _ _ _ h) apart g) (λ d v. refl) (λ d v x. refl)
@@ -142,7 +144,7 @@ pub written-back-good : (S T : State) (word : WordId) (core : CoreId) (bank : Ba
     → WordStep S T word.0 (Home value) (at_bank bank (WriteBack word value core)) (to_core core (WbAck word)) → WordsGood S → WordsGood T
 written-back-good S T word core bank value was step g =
     let h : HomeStep S T word.0 (Reg core) (Home value) (at_bank bank (WriteBack word value core)) (to_core core (WbAck word)) =
-        record { step = step; was = was; came = λ v e. aside v (Bank bank) (WriteBack word value core) e; went = λ v e. aside v (Core core) (WbAck word) e } in
+    record { step = step; was = was; came = λ v e. aside v (Bank bank) (WriteBack word value core) e; went = λ v e. aside v (Core core) (WbAck word) e } in
     home-good S T word.0 (Reg core) (Home value) (at_bank bank (WriteBack word value core)) (to_core core (WbAck word)) h g
     (written-back S T word core bank value (at-home S T word.0 _ _ _ _ h) g) (λ d v. refl) (λ d v x. refl)
 
@@ -150,6 +152,6 @@ pub written-past-good : (S T : State) (word : WordId) (core : CoreId) (bank : Ba
     → WordStep S T word.0 content (at_bank bank (WriteBack word value core)) (to_core core (WbAck word)) → WordsGood S → WordsGood T
 written-past-good S T word core bank value content was past step g =
     let h : HomeStep S T word.0 content content (at_bank bank (WriteBack word value core)) (to_core core (WbAck word)) =
-        record { step = step; was = was; came = λ v e. aside v (Bank bank) (WriteBack word value core) e; went = λ v e. aside v (Core core) (WbAck word) e } in
+    record { step = step; was = was; came = λ v e. aside v (Bank bank) (WriteBack word value core) e; went = λ v e. aside v (Core core) (WbAck word) e } in
     home-good S T word.0 content content (at_bank bank (WriteBack word value core)) (to_core core (WbAck word)) h g
     (written-past S T word core bank value content (at-home S T word.0 _ _ _ _ h) past g) (λ d v. refl) (λ d v x. refl)

@@ -1,15 +1,12 @@
 -- Events that concern one word: its entry at one core may change, and what its home has; no mail of another word comes or goes.
-use Rattle.std.proofs.Common.{◌≡◌, ◌≢◌, ◌⊎◌, inl, inr, ℕ, zero, suc, ◌+◌, ◌≤◌, ◌==◌, ◌&&◌, Bool, true, false, cond, List, slice_get, Option, Some, None, refl, sym, ap, ◌∙◌, arith}
+use Rattle.std.proofs.Common.{◌≡◌, ℕ, ◌+◌, ◌==◌, Bool, true, false, cond, Option, refl, ap, arith}
 use Rattle.std.proofs.lemmas.Bool.{eqb-true}
-use Rattle.std.proofs.lemmas.Bool.Decides.{nat_tests}
-use Rattle.dn_base.specs.declared.ids.WordId.{WordId}
 use Rattle.message_net.specs.declared.message.Outgoing.{Outgoing}
 use Rattle.word_cache.specs.declared.row.Entry.{Entry}
-use Rattle.word_cache.specs.declared.row.Entry.TheVariants.{Valid, Registered, Leaving}
 use Rattle.registry_bank.specs.declared.bank.BankWord.{BankWord}
 use Rattle.registration_protocol.specs.Node.{NodeParts, entry_of}
 use Rattle.machine_rules.specs.State.{State, entry_in, entry_at, home_at}
-use Rattle.machine_rules.specs.Flight.{Test, bit, flight, asks, passes_on, passes_to, confirms, turns_back, gives_back, gives_back_value, frees}
+use Rattle.machine_rules.specs.Flight.{Test, flight, asks, passes_on, passes_to, confirms, turns_back, gives_back, gives_back_value, frees}
 use Rattle.machine_rules.proofs.Bits.{passes, pending_bit, settled_bit, leaving_bit, known_bit, owner_bit}
 use Rattle.machine_rules.proofs.Invariant.{WordsGood, WordRow, word_counts}
 use Rattle.machine_rules.proofs.Steps.{NodeStep}
@@ -68,9 +65,28 @@ other-row S T w core change home left sent h g v d e =
     let entry = rw (e) at (h.entries d v) in
     let at_home = rw (e) at (h.homes v) in
     omega (
-      arith, g.row v d, flows S T left sent h.flown v d, ap pending_bit entry, ap settled_bit entry, ap leaving_bit entry, ap known_bit at_home, ap (owner_bit d) at_home,
-      (h.came v e).asked d, (h.came v e).forwarded d, (h.came v e).acked d, (h.came v e).sought d, (h.came v e).turned d, (h.came v e).written d, (h.came v e).freed d,
-      (h.went v e).asked d, (h.went v e).forwarded d, (h.went v e).acked d, (h.went v e).sought d, (h.went v e).turned d, (h.went v e).written d, (h.went v e).freed d,
+      arith,
+      g.row v d,
+      flows S T left sent h.flown v d,
+      ap pending_bit entry,
+      ap settled_bit entry,
+      ap leaving_bit entry,
+      ap known_bit at_home,
+      ap (owner_bit d) at_home,
+      (h.came v e).asked d,
+      (h.came v e).forwarded d,
+      (h.came v e).acked d,
+      (h.came v e).sought d,
+      (h.came v e).turned d,
+      (h.came v e).written d,
+      (h.came v e).freed d,
+      (h.went v e).asked d,
+      (h.went v e).forwarded d,
+      (h.went v e).acked d,
+      (h.went v e).sought d,
+      (h.went v e).turned d,
+      (h.went v e).written d,
+      (h.went v e).freed d,
     )
 
 -- the rows of all words, from those of word w

@@ -1,11 +1,8 @@
 -- What else is kept of words: one pending at the most, the values of write-backs, and the right to store.
-use Rattle.std.proofs.Common.{◌≡◌, ◌≢◌, ◌⊎◌, inl, inr, ℕ, zero, suc, ◌+◌, ◌≤◌, ◌==◌, ◌&&◌, Bool, true, false, cond, List, slice_get, sum_by, Option, Some, None, refl, sym, ap, subst, ◌∙◌, arith}
+use Rattle.std.proofs.Common.{◌≡◌, ℕ, ◌+◌, ◌≤◌, ◌==◌, ◌&&◌, Bool, true, false, slice_get, Option, Some, None, refl, sym, ap, subst, ◌∙◌, arith}
 use Rattle.std.proofs.lemmas.Bool.{eqb-true}
 use Rattle.std.proofs.lemmas.Bool.Decides.{nat_tests}
 use Rattle.std.proofs.lemmas.List.Sums.{sum_by-le-sum_by}
-use Rattle.dn_base.specs.declared.ids.WordId.{WordId}
-use Rattle.dn_base.specs.declared.ids.CoreId.{CoreId}
-use Rattle.message_net.specs.declared.actor.Actor.{Actor}
 use Rattle.message_net.specs.declared.message.Mail.{Mail}
 use Rattle.message_net.specs.declared.message.Message.{Message}
 use Rattle.message_net.specs.declared.message.Message.TheVariants.{ReadReq, ReadFwd, DataReply, RegReq, RegFwd, RegAck, WriteBack, WbAck, Acquire, Release, Grant, Arrived, Go, Halt}
@@ -17,15 +14,12 @@ use Rattle.word_cache.specs.declared.row.Entry.{Entry}
 use Rattle.word_cache.specs.declared.row.Entry.TheVariants.{Valid, Registered, Leaving}
 use Rattle.registration_protocol.specs.Node.{NodeParts}
 use Rattle.region_table.specs.Tasks.{declared}
-use Rattle.machine_rules.specs.State.{State, entry_in, entry_at, home_at}
-use Rattle.machine_rules.specs.Flight.{Test, bit, counted, flight, gives_back, gives_back_value}
+use Rattle.machine_rules.specs.State.{State, entry_at}
+use Rattle.machine_rules.specs.Flight.{bit, counted, flight, gives_back, gives_back_value}
 use Rattle.machine_rules.specs.Coherent.{MayStore}
-use Rattle.machine_rules.proofs.Bits.{passes, pending_bit, leaving_bit}
-use Rattle.machine_rules.proofs.BitLemmas.{leaving-bit}
-use Rattle.machine_rules.proofs.Invariant.{WordsGood, WordRow, word_counts}
+use Rattle.machine_rules.proofs.Bits.{passes, pending_bit}
 use Rattle.machine_rules.proofs.Steps.{NodeStep}
 use Rattle.machine_rules.proofs.WordEvents.{Flown}
-use Rattle.machine_rules.proofs.WordCore.{same-number}
 
 -- ---- One core at the most has a word pending.
 
@@ -145,6 +139,12 @@ pub valued-taken : (S T : State) (left sent : Option Outgoing) → AreValued S �
     → ((d v : ℕ) → passes (gives_back v d) sent ≡ 0) → ((d v value : ℕ) → passes (gives_back_value v d value) sent ≡ 0) → AreValued T
 valued-taken S T left sent valued flown same none none_valued w c value is =
     omega (
-      arith, valued w c value (sym (same c w) ∙ is), flown (gives_back w c), flown (gives_back_value w c value), none c w, none_valued c w value, passes-le w c value left,
+      arith,
+      valued w c value (sym (same c w) ∙ is),
+      flown (gives_back w c),
+      flown (gives_back_value w c value),
+      none c w,
+      none_valued c w value,
+      passes-le w c value left,
       valued-within T w c value,
     )

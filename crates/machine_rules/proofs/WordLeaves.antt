@@ -1,5 +1,5 @@
 -- Every event keeps what is known of words.
-use Rattle.std.proofs.Common.{◌≡◌, ◌≢◌, ◌⊎◌, inl, inr, ℕ, zero, suc, ◌+◌, ◌%◌, ◌<◌, ◌≤◌, ◌==◌, ◌&&◌, ◌||◌, not, nat_lt, Bool, true, false, cond, List, [], length, slice_get, Option, Some, None, refl, sym, ap, subst, ◌∙◌, arith}
+use Rattle.std.proofs.Common.{◌≡◌, ℕ, zero, suc, ◌+◌, ◌<◌, ◌≤◌, ◌==◌, ◌||◌, nat_lt, Bool, true, false, cond, length, slice_get, Option, Some, None, refl, sym, ap, subst, ◌∙◌, arith}
 use Rattle.std.proofs.lemmas.Bool.{eqb-true}
 use Rattle.std.proofs.lemmas.Bool.Decides.{nat_tests}
 use Rattle.std.specs.Option.{is_some}
@@ -16,35 +16,31 @@ use Rattle.flat_machine.specs.Laws.{HoldsLess}
 use Rattle.rv_core.specs.Task.{stopped}
 use Rattle.rv_core.proofs.Completions.{advanced-held, loaded-held, stopped-held, store-allowed}
 use Rattle.message_net.specs.declared.actor.Actor.{Actor}
-use Rattle.message_net.specs.declared.actor.Actor.TheVariants.{Core, Bank, Keeper}
+use Rattle.message_net.specs.declared.actor.Actor.TheVariants.{Core}
 use Rattle.message_net.specs.declared.event.Event.{Event}
 use Rattle.message_net.specs.declared.message.Message.{Message}
-use Rattle.message_net.specs.declared.message.Message.TheVariants.{ReadReq, ReadFwd, DataReply, RegReq, RegFwd, RegAck, WriteBack, WbAck, Acquire, Release, Grant, Arrived, Go, Halt}
+use Rattle.message_net.specs.declared.message.Message.TheVariants.{ReadReq, ReadFwd, DataReply, Acquire, Release, Grant, Arrived, Go, Halt}
 use Rattle.message_net.specs.declared.message.Outgoing.{Outgoing}
-use Rattle.word_cache.specs.declared.row.Entry.{Entry}
-use Rattle.word_cache.specs.declared.row.Entry.TheVariants.{Valid, Registered, Leaving}
+use Rattle.word_cache.specs.declared.row.Entry.TheVariants.{Valid}
 use Rattle.word_cache.proofs.LookLemmas.{lookup-put, lookup-touched}
 use Rattle.registry_bank.specs.declared.bank.BankWord.{BankWord}
-use Rattle.registry_bank.specs.declared.bank.BankWord.TheVariants.{Home, Reg}
 use Rattle.registration_protocol.specs.declared.node.NodeWait as wait
 use Rattle.registration_protocol.specs.Node.{NodeParts, keeping, signature_of, entry_of}
-use Rattle.registration_protocol.specs.OwnEvents.{stored, with_put, is_bad}
+use Rattle.registration_protocol.specs.OwnEvents.{with_put, is_bad}
 use Rattle.region_table.specs.Plan.{uses_plainly}
 use Rattle.word_cache.specs.Cache.{put}
-use Rattle.registration_protocol.specs.Messages.{lacking, holds_now, begins, guarded_by, written_in}
+use Rattle.registration_protocol.specs.Messages.{lacking, holds_now, guarded_by, written_in}
 use Rattle.registration_protocol.proofs.MessageLemmas.{grant-entries, begin-entries}
-use Rattle.machine_rules.specs.State.{State, entry_in, entry_at, home_at}
+use Rattle.machine_rules.specs.State.{State, home_at}
 use Rattle.machine_rules.specs.Flight.{Test, bit, flight, asks, passes_on, passes_to, confirms, turns_back, gives_back, gives_back_value, frees}
 use Rattle.machine_rules.specs.Next.{next}
-use Rattle.machine_rules.specs.Coherent.{MayStore}
-use Rattle.machine_rules.proofs.Bits.{passes, pending_bit, settled_bit, leaving_bit, known_bit, owner_bit}
+use Rattle.machine_rules.proofs.Bits.{passes, known_bit}
 use Rattle.machine_rules.proofs.Invariant.{Invariant, WordsGood}
-use Rattle.machine_rules.proofs.Steps.{NodeStep}
-use Rattle.machine_rules.proofs.Leaves.{Leaves, IsActing, WordStep, LockStep, BarrierStep, to_all, at_core, at_bank}
+use Rattle.machine_rules.proofs.Leaves.{Leaves, IsActing, to_all}
 use Rattle.machine_rules.proofs.Exclusive.{store-none-pending}
-use Rattle.machine_rules.proofs.WordEvents.{Flown, IsAside}
+use Rattle.machine_rules.proofs.WordEvents.{IsAside}
 use Rattle.machine_rules.proofs.WordGood.{right-kept}
-use Rattle.machine_rules.proofs.WordRights.{keeps-same, keeps-held, keeps-more, acquired-more, settled-none, right-others, right-nodes}
+use Rattle.machine_rules.proofs.WordRights.{keeps-same, keeps-more, acquired-more, settled-none, right-others, right-nodes}
 use Rattle.machine_rules.proofs.WordQuiet.{owned_part, of_word, SameFlights, same-flights, aside, aside-none, quiet, quiet-node}
 use Rattle.machine_rules.proofs.WordMade.{task-step, advanced-good, loaded-good, put-part, lacking-part, phase-part, grant-part}
 use Rattle.machine_rules.proofs.WordMoves.{acknowledged-good, freed-good, forwarded-good, passed-good, rewritten-good, registered-good}
@@ -146,7 +142,7 @@ words-leaves S M e inv =
           (λ v. ap owned_part (grant-entries S.setting n t lock s v ((inv.machine.node core.0 n found).fits).cache) ∙ grant-part s n.phase (guarded_by (slice_get S.setting.plans n.phase) lock.0) v (entry_of n v))
           (λ v. aside v _ (Grant lock s) refl) aside-none
           (λ c w one. right-kept S (next S e) core.0 n (holds_now S.setting n t lock s).0 _ None step refl
-           (keeps-more n (holds_now S.setting n t lock s).0 t (advanced S.setting.program t) has refl (grown d t lock wants)) c w (g.right c w one));
+          (keeps-more n (holds_now S.setting n t lock s).0 t (advanced S.setting.program t) has refl (grown d t lock wants)) c w (g.right c w one));
       go = λ core n phase found awake absent right next_is within told step.
           quiet-node S (next S e) core.0 n _ _ None step g
           (λ v. ap owned_part (begin-entries S.setting n phase.0 v ((inv.machine.node core.0 n found).fits).cache) ∙ phase-part (written_in (slice_get S.setting.plans n.phase)) v (entry_of n v))
@@ -183,13 +179,18 @@ words-leaves S M e inv =
   where
     g : WordsGood S
     g = inv.words
+
     load-held : (core : CoreId) (n : NodeParts) (d : TaskDecl) (t : TaskState) (word : WordId) (value : ℕ) → IsActing S core n d t (need.TheVariants.Load word) → (loaded_of S.setting.program value t).held ≡ t.held
     load-held core n d t word value acts = loaded-held S.setting.program d S.setting.fuel t value (rw (acts.wants) tt)
+
     stored-word : (core : CoreId) (n : NodeParts) (d : TaskDecl) (t : TaskState) (word : WordId) (whole : Bool) → IsActing S core n d t (need.TheVariants.Store word whole) → word.0 < length S.setting.program.memory
     stored-word core n d t word whole acts = (store-allowed S.setting.program d S.setting.fuel t word whole acts.wants).0
+
     grown : (d : TaskDecl) (t : TaskState) (lock : LockId) → need_of S.setting.program d S.setting.fuel t ≡ need.TheVariants.Acquire lock → HoldsLess t.held (advanced S.setting.program t).held
     grown d t lock wants = rw (advanced-held S.setting.program d S.setting.fuel t (need.TheVariants.Acquire lock) wants tt) (acquired-more t.held lock.0)
+
     banks-home : (next S e).setting ≡ S.setting → (next S e).banks ≡ S.banks → (v : ℕ) → home_at (next S e) v ≡ home_at S v
     banks-home setting banks v = rw (setting, banks) refl
+
     letter-aside : (letter : Message) → ((v : ℕ) → of_word v letter ≡ false) → (message : Message) → Some letter ≡ Some message → (v : ℕ) → of_word v message ≡ false
     letter-aside letter calm message is v = let same : letter ≡ message = cc in subst (λ (x : Message). of_word v x ≡ false) same (calm v)

@@ -1,55 +1,29 @@
 -- Every event keeps what is known of words.
-use Rattle.std.proofs.Common.{◌≡◌, ◌≢◌, ◌⊎◌, inl, inr, ℕ, zero, suc, ◌+◌, ◌≤◌, ◌==◌, ◌&&◌, ◌||◌, not, Bool, true, false, cond, List, [], length, nat_lt, slice_get, Option, Some, None, refl, sym, ap, subst, ◌∙◌, arith}
+use Rattle.std.proofs.Common.{◌≡◌, ℕ, ◌==◌, ◌&&◌, ◌||◌, not, Bool, true, false, cond, List, Option, Some, None, refl, sym, ap, subst, ◌∙◌}
 use Rattle.std.proofs.lemmas.Bool.{eqb-true}
-use Rattle.std.proofs.lemmas.Bool.Decides.{nat_tests}
-use Rattle.std.specs.Option.{option_map, is_some}
-use Rattle.dn_base.specs.declared.ids.WordId.{WordId}
 use Rattle.dn_base.specs.declared.ids.CoreId.{CoreId}
-use Rattle.dn_base.specs.declared.ids.BankId.{BankId}
-use Rattle.dn_base.specs.declared.ids.LockId.{LockId}
 use Rattle.region_table.specs.declared.interval.Interval.{Interval}
 use Rattle.region_table.specs.Words.{has}
 use Rattle.region_table.specs.declared.declared.TaskDecl.{TaskDecl}
 use Rattle.rv_core.specs.declared.task.TaskState.{TaskState}
-use Rattle.rv_core.specs.declared.need.Need as need
 use Rattle.rv_core.specs.declared.need.Need.{Need}
-use Rattle.rv_core.specs.Kinds.{IsAdvance, IsLoad}
-use Rattle.rv_core.specs.Need.{need_of}
-use Rattle.rv_core.specs.Step.{advanced, loaded_of}
-use Rattle.rv_core.specs.Task.{stopped}
-use Rattle.rv_core.proofs.Completions.{advanced-held, loaded-held, stopped-held, store-allowed}
 use Rattle.write_signature.specs.declared.signature.Signature.{Signature}
 use Rattle.write_signature.specs.Signature.{holds}
-use Rattle.message_net.specs.declared.actor.Actor.{Actor}
-use Rattle.message_net.specs.declared.actor.Actor.TheVariants.{Core, Bank, Keeper}
-use Rattle.message_net.specs.declared.event.Event.{Event}
-use Rattle.message_net.specs.declared.message.Message.{Message}
-use Rattle.message_net.specs.declared.message.Message.TheVariants.{ReadReq, ReadFwd, DataReply, RegReq, RegFwd, RegAck, WriteBack, WbAck, Acquire, Release, Grant, Arrived, Go, Halt}
 use Rattle.message_net.specs.declared.message.Outgoing.{Outgoing}
-use Rattle.message_net.specs.Mail.{to_core, to_home, to_keeper}
 use Rattle.word_cache.specs.declared.row.Entry.{Entry}
 use Rattle.word_cache.specs.declared.row.Entry.TheVariants.{Valid, Registered, Leaving}
-use Rattle.word_cache.specs.Cache.{without, changed, put, touched, is_kept, is_valid, unmarked, entry_after_phase, entry_after_grant}
-use Rattle.word_cache.proofs.LookLemmas.{lookup-without, lookup-put, lookup-changed, lookup-touched}
-use Rattle.registry_bank.specs.declared.bank.BankWord.{BankWord}
-use Rattle.registry_bank.specs.declared.bank.BankWord.TheVariants.{Home, Reg}
-use Rattle.registration_protocol.specs.declared.node.NodeWait as wait
-use Rattle.registration_protocol.specs.Node.{NodeParts, keeping, entry_of, is_settled}
-use Rattle.registration_protocol.specs.OwnEvents.{retires, with_put, stored}
-use Rattle.registration_protocol.specs.Messages.{with_entry, lacking, holds_now, begins, guarded_by, written_in}
-use Rattle.registration_protocol.proofs.MessageLemmas.{grant-entries, begin-entries}
-use Rattle.machine_rules.specs.State.{State, entry_in, entry_at, home_at}
-use Rattle.machine_rules.specs.Flight.{Test, bit, flight, gives_back, gives_back_value}
-use Rattle.machine_rules.specs.Next.{next}
-use Rattle.machine_rules.specs.Coherent.{MayStore, owned_value}
-use Rattle.machine_rules.proofs.Bits.{passes, pending_bit, settled_bit, leaving_bit, known_bit, owner_bit}
-use Rattle.machine_rules.proofs.Invariant.{Invariant, WordsGood, WordRow, word_counts}
+use Rattle.word_cache.specs.Cache.{entry_after_phase, entry_after_grant}
+use Rattle.word_cache.proofs.LookLemmas.{lookup-without}
+use Rattle.registration_protocol.specs.Node.{NodeParts, entry_of}
+use Rattle.registration_protocol.specs.Messages.{lacking}
+use Rattle.machine_rules.specs.State.{State}
+use Rattle.machine_rules.proofs.Invariant.{WordsGood}
 use Rattle.machine_rules.proofs.Steps.{NodeStep}
-use Rattle.machine_rules.proofs.Leaves.{Leaves, Tells, IsActing, WordStep, LockStep, BarrierStep, to_all, stored_to, at_core, at_bank, at_keeper}
-use Rattle.machine_rules.proofs.WordEvents.{Flown, IsAside}
-use Rattle.machine_rules.proofs.WordGood.{IsSingle, single-calm, single-registered, AreValued, valued-within, valued-still, right-kept, KeepsRights}
-use Rattle.machine_rules.proofs.WordRights.{keeps-same, keeps-held, keeps-more, acquired-more, settled-none, right-others, right-nodes}
-use Rattle.machine_rules.proofs.WordQuiet.{owned_part, of_word, aside, aside-none, quiet-node}
+use Rattle.machine_rules.proofs.Leaves.{IsActing}
+use Rattle.machine_rules.proofs.WordEvents.{IsAside}
+use Rattle.machine_rules.proofs.WordGood.{right-kept, KeepsRights}
+use Rattle.machine_rules.proofs.WordRights.{keeps-held}
+use Rattle.machine_rules.proofs.WordQuiet.{owned_part, aside-none, quiet-node}
 
 -- ---- steps of a core that leave what isn't a copy
 

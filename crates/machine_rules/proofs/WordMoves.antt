@@ -1,13 +1,10 @@
 -- The good words after each event that concerns one word.
-use Rattle.std.proofs.Common.{◌≡◌, ◌≢◌, ◌⊎◌, inl, inr, ℕ, zero, suc, ◌+◌, ◌%◌, ◌≤◌, ◌==◌, ◌&&◌, ◌||◌, not, Bool, true, false, cond, List, [], length, nat_lt, slice_get, Option, Some, None, refl, sym, ap, subst, ◌∙◌, arith}
+use Rattle.std.proofs.Common.{◌≡◌, ℕ, ◌+◌, ◌%◌, ◌≤◌, ◌==◌, ◌&&◌, Bool, true, false, cond, Option, Some, None, refl, sym, ap, subst, ◌∙◌, arith}
 use Rattle.std.proofs.lemmas.Bool.{eqb-true}
-use Rattle.std.proofs.lemmas.Bool.Decides.{nat_tests}
-use Rattle.std.specs.Option.{option_map, is_some}
+use Rattle.std.specs.Option.{option_map}
 use Rattle.dn_base.specs.declared.ids.WordId.{WordId}
 use Rattle.dn_base.specs.declared.ids.CoreId.{CoreId}
-use Rattle.dn_base.specs.declared.ids.BankId.{BankId}
 use Rattle.region_table.specs.declared.declared.TaskDecl.{TaskDecl}
-use Rattle.region_table.specs.Tasks.{declared}
 use Rattle.rv_core.specs.declared.task.TaskState.{TaskState}
 use Rattle.rv_core.specs.declared.need.Need as need
 use Rattle.rv_core.specs.declared.need.Need.{Need}
@@ -15,34 +12,29 @@ use Rattle.rv_core.specs.Access.{may_store}
 use Rattle.rv_core.specs.Step.{advanced}
 use Rattle.rv_core.proofs.Completions.{advanced-held, store-allowed}
 use Rattle.message_net.specs.declared.actor.Actor.{Actor}
-use Rattle.message_net.specs.declared.actor.Actor.TheVariants.{Core, Bank, Keeper}
-use Rattle.message_net.specs.declared.message.Message.{Message}
-use Rattle.message_net.specs.declared.message.Message.TheVariants.{ReadReq, ReadFwd, DataReply, RegReq, RegFwd, RegAck, WriteBack, WbAck}
+use Rattle.message_net.specs.declared.actor.Actor.TheVariants.{Core}
+use Rattle.message_net.specs.declared.message.Message.TheVariants.{RegReq, RegFwd, RegAck, WbAck}
 use Rattle.message_net.specs.declared.message.Outgoing.{Outgoing}
 use Rattle.message_net.specs.Mail.{to_core, to_home}
 use Rattle.word_cache.specs.declared.row.Entry.{Entry}
-use Rattle.word_cache.specs.declared.row.Entry.TheVariants.{Valid, Registered, Leaving}
-use Rattle.word_cache.specs.Cache.{without, changed, put}
-use Rattle.word_cache.proofs.LookLemmas.{lookup-without, lookup-put, lookup-changed}
-use Rattle.registry_bank.specs.declared.bank.BankWord.{BankWord}
-use Rattle.registry_bank.specs.declared.bank.BankWord.TheVariants.{Home, Reg}
-use Rattle.registration_protocol.specs.Node.{NodeParts, keeping, entry_of}
+use Rattle.word_cache.specs.declared.row.Entry.TheVariants.{Registered, Leaving}
+use Rattle.word_cache.proofs.LookLemmas.{lookup-without, lookup-changed}
+use Rattle.registration_protocol.specs.Node.{NodeParts, entry_of}
 use Rattle.registration_protocol.specs.OwnEvents.{stored}
 use Rattle.registration_protocol.specs.Messages.{with_entry, lacking}
 use Rattle.registration_protocol.proofs.EntryLemmas.{store-entry}
 use Rattle.machine_rules.specs.State.{State, entry_in, entry_at, home_at}
-use Rattle.machine_rules.specs.Flight.{Test, bit, flight, gives_back, gives_back_value}
+use Rattle.machine_rules.specs.Flight.{gives_back, gives_back_value}
 use Rattle.machine_rules.specs.Coherent.{MayStore}
 use Rattle.machine_rules.proofs.Bits.{passes, pending_bit, settled_bit, leaving_bit, known_bit, owner_bit}
 use Rattle.machine_rules.proofs.Invariant.{WordsGood, WordRow, word_counts}
 use Rattle.machine_rules.proofs.Steps.{NodeStep}
-use Rattle.machine_rules.proofs.Leaves.{IsActing, WordStep, at_core, at_bank}
-use Rattle.machine_rules.proofs.WordEvents.{Flown, WordFlows, flows, IsAside, WordEvent, entry-node, rows}
-use Rattle.machine_rules.proofs.WordCore.{AtCore, same-number, acknowledged-row, freed-row, evicted-row, registered-row, forwarded-row, passed-row}
-use Rattle.machine_rules.proofs.WordHome.{AtHome, home-registered, owned-registered, written-back, written-past}
-use Rattle.machine_rules.proofs.WordGood.{IsSingle, single-calm, single-registered, AreValued, valued-within, valued-still, valued-taken, pending-one, right-kept, KeepsRights}
-use Rattle.machine_rules.proofs.WordRights.{keeps-same, keeps-held, right-nodes}
-use Rattle.machine_rules.proofs.WordQuiet.{of_word, aside, aside-none}
+use Rattle.machine_rules.proofs.Leaves.{IsActing, at_core}
+use Rattle.machine_rules.proofs.WordEvents.{IsAside, entry-node}
+use Rattle.machine_rules.proofs.WordCore.{AtCore, same-number, acknowledged-row, freed-row, registered-row, forwarded-row, passed-row}
+use Rattle.machine_rules.proofs.WordGood.{single-calm, single-registered, valued-still, pending-one, right-kept, KeepsRights}
+use Rattle.machine_rules.proofs.WordRights.{keeps-same, keeps-held}
+use Rattle.machine_rules.proofs.WordQuiet.{aside, aside-none}
 use Rattle.machine_rules.proofs.WordSteps.{EntryStep, at-core, word-event, core-good, calm, still}
 
 -- ---- entries
@@ -95,7 +87,7 @@ pub acknowledged-good : (S T : State) (core : CoreId) (n : NodeParts) (word : Wo
     → NodeStep S T core.0 n (with_entry n word.0 (Registered value false)) (at_core core (RegAck word)) None → WordsGood S → WordsGood T
 acknowledged-good S T core n word value was step g =
     let h : EntryStep S T core.0 n (with_entry n word.0 (Registered value false)) word.0 (Some (Registered value true)) (Some (Registered value false)) (at_core core (RegAck word)) None =
-        record { step = step; was = was; now = changed-now n word.0 (Registered value true) (Registered value false) was; came = λ v e. aside v (Core core) (RegAck word) e; went = λ v e. aside-none v } in
+    record { step = step; was = was; now = changed-now n word.0 (Registered value true) (Registered value false) was; came = λ v e. aside v (Core core) (RegAck word) e; went = λ v e. aside-none v } in
     calm-good S T core.0 n _ word.0 (Some (Registered value true)) (Some (Registered value false)) (at_core core (RegAck word)) None h g
     (acknowledged-row S T word core value (at-core S T core.0 n _ word.0 _ _ _ _ h) g) (omega arith)
     (still S T core.0 n _ word.0 _ _ _ _ h refl) (back-ack (Core core) word) no-back refl (keeps-same n (with_entry n word.0 (Registered value false)) refl)
@@ -104,7 +96,7 @@ pub freed-good : (S T : State) (core : CoreId) (n : NodeParts) (word : WordId) (
     → NodeStep S T core.0 n (lacking n word.0) (at_core core (WbAck word)) None → WordsGood S → WordsGood T
 freed-good S T core n word value was step g =
     let h : EntryStep S T core.0 n (lacking n word.0) word.0 (Some (Leaving value)) None (at_core core (WbAck word)) None =
-        record { step = step; was = was; now = λ v. lookup-without word.0 v n.cache.pairs; came = λ v e. aside v (Core core) (WbAck word) e; went = λ v e. aside-none v } in
+    record { step = step; was = was; now = λ v. lookup-without word.0 v n.cache.pairs; came = λ v e. aside v (Core core) (WbAck word) e; went = λ v e. aside-none v } in
     calm-good S T core.0 n (lacking n word.0) word.0 (Some (Leaving value)) None (at_core core (WbAck word)) None h g
     (freed-row S T word core value (at-core S T core.0 n _ word.0 _ _ _ _ h) g) (omega arith)
     (still S T core.0 n _ word.0 _ _ _ _ h refl) (back-freed (Core core) word) no-back refl (keeps-same n (lacking n word.0) refl)
@@ -113,7 +105,7 @@ pub forwarded-good : (S T : State) (core other : CoreId) (n : NodeParts) (word :
     → NodeStep S T core.0 n (lacking n word.0) (at_core core (RegFwd word other)) (to_core other (RegAck word)) → WordsGood S → WordsGood T
 forwarded-good S T core other n word value was step g =
     let h : EntryStep S T core.0 n (lacking n word.0) word.0 (Some (Registered value false)) None (at_core core (RegFwd word other)) (to_core other (RegAck word)) =
-        record { step = step; was = was; now = λ v. lookup-without word.0 v n.cache.pairs; came = λ v e. aside v (Core core) (RegFwd word other) e; went = λ v e. aside v (Core other) (RegAck word) e } in
+    record { step = step; was = was; now = λ v. lookup-without word.0 v n.cache.pairs; came = λ v e. aside v (Core core) (RegFwd word other) e; went = λ v e. aside v (Core other) (RegAck word) e } in
     calm-good S T core.0 n (lacking n word.0) word.0 (Some (Registered value false)) None (at_core core (RegFwd word other)) (to_core other (RegAck word)) h g
     (forwarded-row S T word core other value (at-core S T core.0 n _ word.0 _ _ _ _ h) g) (omega arith)
     (still S T core.0 n _ word.0 _ _ _ _ h refl) (back-forward (Core core) word other) (back-ack (Core other) word) refl (keeps-same n (lacking n word.0) refl)
@@ -123,7 +115,7 @@ pub passed-good : (S T : State) (core other : CoreId) (n : NodeParts) (word : Wo
 passed-good S T core other n word unsettled step g =
     let old = entry_of n word.0 in
     let h : EntryStep S T core.0 n n word.0 (entry_of n word.0) (entry_of n word.0) (at_core core (RegFwd word other)) (to_core other (RegAck word)) =
-        record { step = step; was = refl; now = same-now n word.0 (entry_of n word.0) refl; came = λ v e. aside v (Core core) (RegFwd word other) e; went = λ v e. aside v (Core other) (RegAck word) e } in
+    record { step = step; was = refl; now = same-now n word.0 (entry_of n word.0) refl; came = λ v e. aside v (Core core) (RegFwd word other) e; went = λ v e. aside v (Core other) (RegAck word) e } in
     calm-good S T core.0 n n word.0 (entry_of n word.0) (entry_of n word.0) (at_core core (RegFwd word other)) (to_core other (RegAck word)) h g
     (passed-row S T word core other (entry_of n word.0) (at-core S T core.0 n n word.0 _ _ _ _ h) unsettled g) (omega arith)
     stays (back-forward (Core core) word other) (back-ack (Core other) word) refl (keeps-same n n refl)
@@ -187,17 +179,21 @@ registered-good S T core n d t word whole old value acts was quiet known alone s
     (registered-row S T word core value (record { 0 = word.0 % S.setting.shape.banks }) old (at-core S T core.0 n _ word.0 _ _ _ _ h) quiet known g)
     (single-registered S T word.0 core.0 g.single alone less)
     (valued-still S T None sent g.valued step.flown (still S T core.0 n _ word.0 _ _ _ _ h refl)
-     (λ d v. (refl, refl)) (λ d v value. (refl, refl)))
+    (λ d v. (refl, refl)) (λ d v value. (refl, refl)))
     rights
   where
     m : NodeParts
     m = stored S.setting n d t word (Registered value true)
+
     sent : Option Outgoing
     sent = to_home S.setting.shape.banks word.0 (RegReq word core)
+
     h : EntryStep S T core.0 n (stored S.setting n d t word (Registered value true)) word.0 old (Some (Registered value true)) None (to_home S.setting.shape.banks word.0 (RegReq word core))
     h = store-step S T core.0 n d t word old (Registered value true) (to_home S.setting.shape.banks word.0 (RegReq word core)) step was (λ v e. aside v _ (RegReq word core) e)
+
     held : (advanced S.setting.program t).held ≡ t.held
     held = store-held S core n d t word whole acts
+
     less : (c v : ℕ) → (core.0 == c) && (word.0 == v) ≡ false → pending_bit (entry_at T c v) ≤ pending_bit (entry_at S c v)
     less c v apart = by_tests (word.0 == v) refl (core.0 == c) refl apart where
       by_tests : (x : Bool) → (word.0 == v) ≡ x → (y : Bool) → (core.0 == c) ≡ y → y && x ≡ false → pending_bit (entry_at T c v) ≤ pending_bit (entry_at S c v)
@@ -208,6 +204,7 @@ registered-good S T core n d t word whole old value acts was quiet known alone s
       by_tests false e y f apart =
           let now = rw (e) at ((word-event S T core.0 n _ word.0 _ _ _ _ h).entries c v) in
           omega (arith, ap pending_bit now)
+
     own : MayStore T core.0 word.0
     own =
         record {
@@ -219,14 +216,17 @@ registered-good S T core n d t word whole old value acts was quiet known alone s
           declares = rw (step.setting) acts.declares;
           right = subst (λ (x : ℕ). may_store d x word.0 ≡ true) (sym held) (store-allowed S.setting.program d S.setting.fuel t word whole acts.wants).1;
         }
+
     others : (c v : ℕ) → pending_bit (entry_at S c v) ≡ 1 → MayStore T c v
     others c v one =
         right-kept S T core.0 n (stored S.setting n d t word (Registered value true)) None (to_home S.setting.shape.banks word.0 (RegReq word core)) step refl
         (keeps-held n (stored S.setting n d t word (Registered value true)) t (advanced S.setting.program t) acts.task refl held) c v (g.right c v one)
+
     rights : (c v : ℕ) → pending_bit (entry_at T c v) ≡ 1 → MayStore T c v
     rights c v one = by_tests (word.0 == v) refl (core.0 == c) refl where
       before : (core.0 == c) && (word.0 == v) ≡ false → MayStore T c v
       before apart = others c v (omega (arith, one, less c v apart, pending-one (entry_at S c v)))
+
       by_tests : (x : Bool) → (word.0 == v) ≡ x → (y : Bool) → (core.0 == c) ≡ y → MayStore T c v
       by_tests true e true f = subst (λ (x : ℕ). MayStore T c x) (eqb-true word.0 v e) (subst (λ (x : ℕ). MayStore T x word.0) (eqb-true core.0 c f) own)
       by_tests true e false f = before (rw (e, f) refl)

@@ -1,22 +1,18 @@
 -- Events that leave the words alone: no entry changes but copies, no home changes, and no mail of a word comes or goes.
-use Rattle.std.proofs.Common.{◌≡◌, ◌≢◌, ◌⊎◌, inl, inr, ℕ, zero, suc, ◌+◌, ◌≤◌, ◌==◌, ◌&&◌, Bool, true, false, cond, List, slice_get, sum_by, Option, Some, None, refl, sym, ap, subst, ◌∙◌, arith}
+use Rattle.std.proofs.Common.{◌≡◌, ℕ, ◌==◌, Bool, true, false, Option, Some, None, refl, sym, ap, subst, ◌∙◌, arith}
 use Rattle.std.proofs.lemmas.Bool.{eqb-true}
-use Rattle.std.proofs.lemmas.Bool.Decides.{nat_tests}
-use Rattle.dn_base.specs.declared.ids.WordId.{WordId}
-use Rattle.dn_base.specs.declared.ids.CoreId.{CoreId}
 use Rattle.message_net.specs.declared.actor.Actor.{Actor}
-use Rattle.message_net.specs.declared.actor.Actor.TheVariants.{Core}
 use Rattle.message_net.specs.declared.message.Message.{Message}
-use Rattle.message_net.specs.declared.message.Message.TheVariants.{ReadReq, ReadFwd, DataReply, RegReq, RegFwd, RegAck, WriteBack, WbAck, Acquire, Release, Grant, Arrived, Go, Halt}
+use Rattle.message_net.specs.declared.message.Message.TheVariants.{RegReq, RegFwd, RegAck, WriteBack, WbAck}
 use Rattle.message_net.specs.declared.message.Outgoing.{Outgoing}
 use Rattle.word_cache.specs.declared.row.Entry.{Entry}
 use Rattle.word_cache.specs.declared.row.Entry.TheVariants.{Valid, Registered, Leaving}
 use Rattle.registration_protocol.specs.Node.{NodeParts, entry_of}
-use Rattle.machine_rules.specs.State.{State, entry_in, entry_at, word_in, home_at}
-use Rattle.machine_rules.specs.Flight.{Test, bit, flight, asks, passes_on, passes_to, confirms, turns_back, gives_back, gives_back_value, frees}
+use Rattle.machine_rules.specs.State.{State, entry_in, entry_at, home_at}
+use Rattle.machine_rules.specs.Flight.{flight, asks, passes_on, passes_to, confirms, turns_back, gives_back, gives_back_value, frees}
 use Rattle.machine_rules.specs.Coherent.{MayStore}
-use Rattle.machine_rules.proofs.Bits.{passes, pending_bit, settled_bit, leaving_bit, known_bit, owner_bit}
-use Rattle.machine_rules.proofs.Invariant.{WordsGood, WordRow, word_counts}
+use Rattle.machine_rules.proofs.Bits.{pending_bit, settled_bit, leaving_bit, known_bit, owner_bit}
+use Rattle.machine_rules.proofs.Invariant.{WordsGood}
 use Rattle.machine_rules.proofs.Steps.{NodeStep}
 use Rattle.machine_rules.proofs.WordEvents.{Flown, IsAside, entry-node}
 
@@ -103,12 +99,26 @@ pub quiet : (S T : State) → WordsGood S → SameParts S T → ((v : ℕ) → h
 quiet S T g parts homes same right =
     record {
       row = λ w c. omega (
-        arith, g.row w c, pendings c w, settleds c w, leavings c w, ap known_bit (homes w), ap (owner_bit c) (homes w),
-        same.asked w c, same.forwarded w c, same.acked w c, same.sought w c, same.turned w c, same.written w c, same.freed w c,
+        arith,
+        g.row w c,
+        pendings c w,
+        settleds c w,
+        leavings c w,
+        ap known_bit (homes w),
+        ap (owner_bit c) (homes w),
+        same.asked w c,
+        same.forwarded w c,
+        same.acked w c,
+        same.sought w c,
+        same.turned w c,
+        same.written w c,
+        same.freed w c,
       );
       single = λ w c d. omega (arith, g.single w c d, pendings c w, pendings d w);
       valued = λ w c value is. omega (
-        arith, same.valued w c value, same.written w c,
+        arith,
+        same.valued w c value,
+        same.written w c,
         g.valued w c value (part-leaving (entry_at S c w) value (sym (parts c w) ∙ ap owned_part is)),
       );
       right = right;
@@ -116,8 +126,10 @@ quiet S T g parts homes same right =
   where
     pendings : (d v : ℕ) → pending_bit (entry_at T d v) ≡ pending_bit (entry_at S d v)
     pendings d v = pending-part (entry_at T d v) ∙ ap pending_bit (parts d v) ∙ sym (pending-part (entry_at S d v))
+
     settleds : (d v : ℕ) → settled_bit (entry_at T d v) ≡ settled_bit (entry_at S d v)
     settleds d v = settled-part (entry_at T d v) ∙ ap settled_bit (parts d v) ∙ sym (settled-part (entry_at S d v))
+
     leavings : (d v : ℕ) → leaving_bit (entry_at T d v) ≡ leaving_bit (entry_at S d v)
     leavings d v = leaving-part (entry_at T d v) ∙ ap leaving_bit (parts d v) ∙ sym (leaving-part (entry_at S d v))
 
@@ -142,6 +154,7 @@ quiet-node S T core n m left sent step g same came went right =
   where
     parts : SameParts S T
     parts = parts-node S T core n m left sent step same
+
     rights : (d w : ℕ) → pending_bit (entry_at T d w) ≡ 1 → MayStore T d w
     rights d w one =
         let pending = pending-part (entry_at T d w) ∙ ap pending_bit (parts d w) ∙ sym (pending-part (entry_at S d w)) in

@@ -1,20 +1,9 @@
 -- Who has a word pending may store it: what each event leaves of that right.
-use Rattle.std.proofs.Common.{◌≡◌, ◌≢◌, ◌⊎◌, inl, inr, ℕ, zero, suc, ◌+◌, ◌≤◌, ◌==◌, ◌^◌, ◌&&◌, ◌||◌, not, Bool, true, false, cond, List, [], slice_get, bit_or, Option, Some, None, refl, sym, ap, subst, ◌∙◌, arith}
+use Rattle.std.proofs.Common.{◌≡◌, ℕ, ◌==◌, ◌^◌, ◌||◌, Bool, true, false, bit_or, Option, Some, None, refl, sym, ap, subst, ◌∙◌, arith}
 use Rattle.std.proofs.lemmas.Bool.{eqb-true}
-use Rattle.std.proofs.lemmas.Bool.Decides.{nat_tests}
-use Rattle.dn_base.specs.declared.ids.CoreId.{CoreId}
-use Rattle.dn_base.specs.declared.ids.LockId.{LockId}
 use Rattle.message_net.specs.declared.message.Outgoing.{Outgoing}
-use Rattle.region_table.specs.Tasks.{declared}
-use Rattle.region_table.specs.declared.declared.TaskDecl.{TaskDecl}
 use Rattle.rv_core.specs.declared.task.TaskState.{TaskState}
-use Rattle.rv_core.specs.declared.need.Need as need
-use Rattle.rv_core.specs.declared.need.Need.{Need}
 use Rattle.rv_core.specs.Access.{holds, may_store}
-use Rattle.rv_core.specs.Kinds.{held_after, IsAdvance}
-use Rattle.rv_core.specs.Step.{advanced, loaded_of}
-use Rattle.rv_core.specs.Task.{stopped}
-use Rattle.rv_core.proofs.Completions.{advanced-held, loaded-held, stopped-held, store-allowed}
 use Rattle.rv_core.proofs.HeldLemmas.{holds-acquired}
 use Rattle.flat_machine.specs.Laws.{HoldsLess}
 use Rattle.flat_machine.proofs.Rights.{may_store-less}
@@ -27,8 +16,7 @@ use Rattle.machine_rules.specs.State.{State, entry_in, entry_at}
 use Rattle.machine_rules.specs.Coherent.{MayStore}
 use Rattle.machine_rules.proofs.Bits.{pending_bit}
 use Rattle.machine_rules.proofs.Steps.{NodeStep}
-use Rattle.machine_rules.proofs.Leaves.{IsActing}
-use Rattle.machine_rules.proofs.WordGood.{KeepsRights, right-kept}
+use Rattle.machine_rules.proofs.WordGood.{KeepsRights}
 
 -- the task keeps its rights where it stays, or holds the same locks
 pub keeps-same : (n m : NodeParts) → m.task ≡ n.task → KeepsRights n m

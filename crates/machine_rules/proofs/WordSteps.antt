@@ -1,37 +1,19 @@
 -- Every event keeps what is known of words.
-use Rattle.std.proofs.Common.{◌≡◌, ◌≢◌, ◌⊎◌, inl, inr, ℕ, zero, suc, ◌+◌, ◌≤◌, ◌==◌, ◌&&◌, ◌||◌, not, Bool, true, false, cond, List, [], length, nat_lt, slice_get, Option, Some, None, refl, sym, ap, subst, ◌∙◌, arith}
+use Rattle.std.proofs.Common.{◌≡◌, ℕ, ◌≤◌, ◌==◌, Bool, true, false, cond, slice_get, Option, Some, refl, sym, ap, subst, ◌∙◌, arith}
 use Rattle.std.proofs.lemmas.Bool.{eqb-true}
-use Rattle.std.proofs.lemmas.Bool.Decides.{nat_tests}
-use Rattle.dn_base.specs.declared.ids.WordId.{WordId}
-use Rattle.dn_base.specs.declared.ids.CoreId.{CoreId}
-use Rattle.dn_base.specs.declared.ids.BankId.{BankId}
-use Rattle.message_net.specs.declared.actor.Actor.{Actor}
-use Rattle.message_net.specs.declared.actor.Actor.TheVariants.{Core, Bank, Keeper}
-use Rattle.message_net.specs.declared.event.Event.{Event}
-use Rattle.message_net.specs.declared.message.Message.{Message}
-use Rattle.message_net.specs.declared.message.Message.TheVariants.{ReadReq, ReadFwd, DataReply, RegReq, RegFwd, RegAck, WriteBack, WbAck, Acquire, Release, Grant, Arrived, Go, Halt}
 use Rattle.message_net.specs.declared.message.Outgoing.{Outgoing}
 use Rattle.word_cache.specs.declared.row.Entry.{Entry}
-use Rattle.word_cache.specs.declared.row.Entry.TheVariants.{Valid, Registered, Leaving}
-use Rattle.word_cache.specs.Cache.{without, changed, put}
-use Rattle.word_cache.proofs.LookLemmas.{lookup-without, lookup-put, lookup-changed}
-use Rattle.registry_bank.specs.declared.bank.BankWord.{BankWord}
-use Rattle.registry_bank.specs.declared.bank.BankWord.TheVariants.{Home, Reg}
-use Rattle.registration_protocol.specs.Node.{NodeParts, keeping, entry_of}
-use Rattle.registration_protocol.specs.Messages.{with_entry, lacking}
+use Rattle.word_cache.specs.declared.row.Entry.TheVariants.{Leaving}
+use Rattle.registration_protocol.specs.Node.{NodeParts, entry_of}
 use Rattle.machine_rules.specs.State.{State, entry_in, entry_at, home_at}
-use Rattle.machine_rules.specs.Flight.{Test, bit, flight, gives_back, gives_back_value}
-use Rattle.machine_rules.specs.Next.{next}
 use Rattle.machine_rules.specs.Coherent.{MayStore}
-use Rattle.machine_rules.proofs.Bits.{passes, pending_bit, settled_bit, leaving_bit, known_bit, owner_bit}
+use Rattle.machine_rules.proofs.Bits.{pending_bit, leaving_bit}
 use Rattle.machine_rules.proofs.Invariant.{WordsGood, WordRow, word_counts}
 use Rattle.machine_rules.proofs.Steps.{NodeStep}
-use Rattle.machine_rules.proofs.Leaves.{WordStep}
-use Rattle.machine_rules.proofs.WordEvents.{Flown, WordFlows, flows, IsAside, WordEvent, entry-node, rows}
-use Rattle.machine_rules.proofs.WordCore.{AtCore, same-number, acknowledged-row, freed-row, evicted-row, registered-row, forwarded-row, passed-row}
-use Rattle.machine_rules.proofs.WordHome.{AtHome, home-registered, owned-registered, written-back, written-past}
-use Rattle.machine_rules.proofs.WordGood.{IsSingle, single-calm, single-registered, AreValued, valued-within, valued-still, right-kept, KeepsRights}
-use Rattle.machine_rules.proofs.WordQuiet.{of_word, aside, aside-none, home-node}
+use Rattle.machine_rules.proofs.WordEvents.{flows, IsAside, WordEvent, entry-node, rows}
+use Rattle.machine_rules.proofs.WordCore.{AtCore, same-number}
+use Rattle.machine_rules.proofs.WordGood.{IsSingle, AreValued}
+use Rattle.machine_rules.proofs.WordQuiet.{home-node}
 
 -- a core's step at one word: the entry of word w becomes `new`, and the others stay
 pub record EntryStep (S T : State) (core : ℕ) (n m : NodeParts) (w : ℕ) (old new : Option Entry) (left sent : Option Outgoing) : Type 0 where
@@ -68,6 +50,7 @@ word-event S T core n m w old new left sent h =
     same_home : (v : ℕ) (x : Bool) → (w == v) ≡ x → home_at S v ≡ cond x (home_at S w) (home_at S v)
     same_home v true e = ap (home_at S) (sym (eqb-true w v e))
     same_home v false e = refl
+
     by_tests : (d v : ℕ) (x : Bool) → (w == v) ≡ x → (y : Bool) → (core == d) ≡ y → entry_at T d v ≡ cond x (cond y new (entry_at S d v)) (entry_at S d v)
     by_tests d v x e false f = rw (f) at (entry-node S T core n m left sent h.step d v) ∙ same x where
       same : (z : Bool) → entry_at S d v ≡ cond z (entry_at S d v) (entry_at S d v)

@@ -1,6 +1,6 @@
 -- When a state of the machine is coherent: what holds between the nodes, the banks, the keeper and the mails in flight after
 -- every event of every run of a checked program. Eight parts, each on the state alone.
-use Rattle.std.specs.Prelude.{◌≡◌, ◌≢◌, ◌⊎◌, ℕ, ◌+◌, ◌%◌, ◌≤◌, ◌==◌, if◌then◌else◌, ◌∷◌, Bool, true, false, ◌&&◌, ◌||◌, not, List, [], length, slice_get, slice_index_or, Option, Some, None, IfSome}
+use Rattle.std.specs.Prelude.{◌≡◌, ◌≢◌, ◌⊎◌, ℕ, ◌+◌, ◌%◌, ◌≤◌, ◌==◌, if◌then◌else◌, ◌∷◌, Bool, true, false, ◌&&◌, not, List, [], slice_get, slice_index_or, Option, Some, None}
 use Rattle.std.specs.List.{All}
 use Rattle.dn_base.specs.declared.ids.CoreId.{CoreId}
 use Rattle.dn_base.specs.declared.ids.WordId.{WordId}
@@ -10,7 +10,6 @@ use Rattle.region_table.specs.Words.{has}
 use Rattle.region_table.specs.Plan.{uses_plainly}
 use Rattle.region_table.specs.Tasks.{declared}
 use Rattle.rv_core.specs.declared.task.TaskState.{TaskState}
-use Rattle.rv_core.specs.declared.need.Need.{Need}
 use Rattle.rv_core.specs.declared.need.Need.TheVariants.{Load, Store}
 use Rattle.rv_core.specs.Access.{holds as is_held, may_store}
 use Rattle.write_signature.specs.declared.signature.Signature.{Signature}
@@ -32,7 +31,7 @@ use Rattle.registration_protocol.specs.Node.{NodeParts, need_now, entry_of, goes
 use Rattle.registration_protocol.specs.OwnEvents.{is_bad}
 use Rattle.registration_protocol.specs.Messages.{written_in}
 use Rattle.machine_rules.specs.State.{State, entry_at, home_at, lock_at}
-use Rattle.machine_rules.specs.Flight.{bit, flight, asks, passes_on, passes_to, turns_back, confirms, gives_back, gives_back_value, frees, seeks, forwards, forwards_at, replies, acquires, releases, grants, arrives, goes, halts}
+use Rattle.machine_rules.specs.Flight.{bit, flight, asks, passes_on, passes_to, turns_back, confirms, gives_back_value, frees, seeks, forwards, forwards_at, replies, acquires, releases, grants, arrives, goes, halts}
 use Rattle.machine_rules.specs.Memory.{word_value}
 
 -- exactly one of three

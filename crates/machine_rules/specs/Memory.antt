@@ -1,5 +1,5 @@
 -- The value of each data word: as a state shows it, and as the stores of a run leave it.
-use Rattle.std.specs.Prelude.{ℕ, ◌==◌, Bool, true, false, List, [], ◌∷◌, length, map, slice_get, slice_set, slice_index, Option, Some, None}
+use Rattle.std.specs.Prelude.{ℕ, true, List, [], ◌∷◌, length, map, slice_get, slice_set, Option, Some, None}
 use Rattle.std.specs.List.{range_with_len}
 use Rattle.dn_base.specs.declared.ids.WordId.{WordId}
 use Rattle.message_net.specs.declared.event.Event.{Event}

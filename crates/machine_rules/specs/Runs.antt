@@ -1,8 +1,6 @@
 -- Runs: lists of events, each of which may come in its turn; and what is read off them.
-use Rattle.std.specs.Prelude.{◌≡◌, ℕ, ◌+◌, ◌==◌, Bool, true, false, ◌&&◌, List, [], ◌∷◌, ◌++◌, length, map, take, slice_get, Option, Some, None, if◌then◌else◌, cond}
-use Rattle.std.specs.List.{filter_map, flat_map}
-use Rattle.dn_base.specs.declared.ids.CoreId.{CoreId}
-use Rattle.dn_base.specs.declared.ids.PhaseId.{PhaseId}
+use Rattle.std.specs.Prelude.{◌≡◌, ℕ, ◌+◌, ◌==◌, Bool, true, false, ◌&&◌, List, [], ◌∷◌, ◌++◌, map, take, slice_get, Option, Some, None, if◌then◌else◌, cond}
+use Rattle.std.specs.List.{filter_map}
 use Rattle.dn_base.specs.declared.ids.Grant.{Grant}
 use Rattle.dn_base.specs.declared.ids.LoadSeen.{LoadSeen}
 use Rattle.message_net.specs.declared.event.Event.{Event}
@@ -10,7 +8,6 @@ use Rattle.message_net.specs.declared.event.Event.TheVariants.{Instr}
 use Rattle.message_net.specs.declared.event.EventKind.{EventKind}
 use Rattle.region_table.specs.declared.declared.TaskDecl.{TaskDecl}
 use Rattle.region_table.specs.declared.declared.Phase.{Phase}
-use Rattle.region_table.specs.Program.{ProgramParts}
 use Rattle.rv_core.specs.declared.ending.TaskEnd.{TaskEnd}
 use Rattle.rv_core.specs.declared.ending.Ending.{Ending}
 use Rattle.registration_protocol.specs.Node.{NodeParts}

@@ -1,6 +1,5 @@
 -- What is well formed in a state by itself, whatever the mails in flight say.
-use Rattle.std.specs.Prelude.{◌≡◌, ℕ, ◌+◌, ◌*◌, ◌<◌, ◌≤◌, nat_lt, List, length, slice_get, slice_index, Option, Some, None}
-use Rattle.std.specs.List.{All, IsAmong}
+use Rattle.std.specs.Prelude.{◌≡◌, ℕ, ◌+◌, ◌*◌, ◌<◌, ◌≤◌, nat_lt, length, slice_get, slice_index, Some}
 use Rattle.std.specs.Option.{is_some}
 use Rattle.region_table.specs.Program.{IsProgram}
 use Rattle.effect_checker.specs.Checked.{IsChecked}
