@@ -1,0 +1,76 @@
+-- Every run of the opened machine of a checked program leads to coherent states, which show the memory to which the run's
+-- stores were applied; and each load reads that memory.
+use Rattle.std.proofs.Common.{◌≡◌, ℕ, ◌+◌, ◌<◌, true, List, length, get_or, slice_index, Some, refl, sym, ap, subst, ◌∙◌, arith}
+use Rattle.std.proofs.lemmas.List.{ext_get_or}
+use Rattle.std.proofs.lemmas.List.FromFn.{get_or-map-range_with_len, length-map-range_with_len}
+use Rattle.dn_base.specs.declared.ids.LoadSeen.{LoadSeen}
+use Rattle.message_net.specs.declared.event.Event.{Event}
+use Rattle.registration_protocol.specs.Node.{Setting}
+use Rattle.machine_rules.specs.State.{opened}
+use Rattle.machine_rules.specs.Next.{enabled, seen_in}
+use Rattle.machine_rules.specs.Memory.{word_value, memory_of}
+use Rattle.machine_rules.specs.Runs.{after, IsRun, IsCompleteRun, memory_after}
+use Rattle.machine_rules.specs.Rest.{IsAtRest}
+use Rattle.machine_rules.specs.Coherent.{Coherent}
+use Rattle.machine_rules.specs.Sound.{IsSound, IsReady}
+use Rattle.machine_rules.proofs.Invariant.{Invariant}
+use Rattle.machine_rules.proofs.OpenedFacts.{opened-setting}
+use Rattle.machine_rules.proofs.OpenedSound.{opened-sound}
+use Rattle.machine_rules.proofs.OpenedInvariant.{opened-invariant}
+use Rattle.machine_rules.proofs.Readable.{coherent}
+use Rattle.machine_rules.proofs.ReadableValues.{value-is}
+use Rattle.machine_rules.proofs.LoadsRead.{loads-read}
+use Rattle.machine_rules.proofs.RestStates.{rest}
+use Rattle.machine_rules.proofs.RunsKept.{memory_over, memory-is, memory-length, run-setting, run-kept}
+
+-- the first memory, as a function
+abbrev pub first_memory : Setting → ℕ → ℕ
+first_memory C w = slice_index C.program.memory w
+
+pub run-all : (C : Setting) (events : List Event) → IsReady C → IsRun (opened C) events
+    → IsSound (after (opened C) events) (length events) × Invariant (after (opened C) events) (memory_over (first_memory C) (opened C) events)
+run-all C events ready run =
+    let all = run-kept (opened C) (first_memory C) 0 events (opened-sound C ready.context ready.program ready.checked) (opened-invariant C ready.context ready.program ready.checked) run in
+    let same : 0 + length events ≡ length events = omega arith in
+    (subst (IsSound (after (opened C) events)) same all.0, all.1)
+
+pub run-coherent : (C : Setting) (events : List Event) → IsReady C → IsRun (opened C) events → Coherent (after (opened C) events)
+run-coherent C events ready run = coherent (after (opened C) events) (memory_over (first_memory C) (opened C) events) (run-all C events ready run).1
+
+-- the run's memory, by the list or the function
+pub run-memory : (C : Setting) (events : List Event) (w : ℕ) → slice_index (memory_after C.program.memory (opened C) events) w ≡ memory_over (first_memory C) (opened C) events w
+run-memory C events w =
+    memory-is (opened C) C.program.memory (first_memory C) events (ap (λ (x : Setting). length x.program.memory) (sym (opened-setting C))) (λ v. refl) w
+
+pub run-values : (C : Setting) (events : List Event) → IsReady C → IsRun (opened C) events → (w : ℕ)
+    → word_value (after (opened C) events) w ≡ slice_index (memory_after C.program.memory (opened C) events) w
+run-values C events ready run w =
+    let inv = (run-all C events ready run).1 in
+    value-is (after (opened C) events) (memory_over (first_memory C) (opened C) events) inv.words inv.values w ∙ sym (run-memory C events w)
+
+pub run-loads : (C : Setting) (events : List Event) (e : Event) (seen : LoadSeen) → IsReady C → IsRun (opened C) events → enabled (after (opened C) events) e ≡ true
+    → seen_in (after (opened C) events) e ≡ Some seen → seen.value ≡ slice_index (memory_after C.program.memory (opened C) events) seen.word.0
+run-loads C events e seen ready run may is =
+    let inv = (run-all C events ready run).1 in
+    loads-read (after (opened C) events) (memory_over (first_memory C) (opened C) events) e inv may seen is ∙ sym (run-memory C events seen.word.0)
+
+-- all words at once
+pub run-shows : (C : Setting) (events : List Event) → IsReady C → IsRun (opened C) events → memory_of (after (opened C) events) ≡ memory_after C.program.memory (opened C) events
+run-shows C events ready run = ext_get_or 0 (memory_of (after (opened C) events)) (memory_after C.program.memory (opened C) events) (shown ∙ sym long) each where
+  words : length (after (opened C) events).setting.program.memory ≡ length C.program.memory
+  words = ap (λ (x : Setting). length x.program.memory) (run-setting (opened C) events ∙ opened-setting C)
+
+  shown : length (memory_of (after (opened C) events)) ≡ length C.program.memory
+  shown = length-map-range_with_len (word_value (after (opened C) events)) 0 (length (after (opened C) events).setting.program.memory) ∙ words
+
+  long : length (memory_after C.program.memory (opened C) events) ≡ length C.program.memory
+  long = memory-length (opened C) C.program.memory events
+
+  each : (i : ℕ) → i < length (memory_of (after (opened C) events)) → get_or (memory_of (after (opened C) events)) i 0 ≡ get_or (memory_after C.program.memory (opened C) events) i 0
+  each i within =
+      get_or-map-range_with_len (word_value (after (opened C) events)) 0 (length (after (opened C) events).setting.program.memory) i i 0 (omega (arith, within, shown, words)) (omega arith)
+      ∙ run-values C events ready run i
+
+-- where a run is complete every node is halted, or each task that hasn't ended waits for a lock that another holds
+pub run-rests : (C : Setting) (events : List Event) → IsReady C → IsCompleteRun (opened C) events → IsAtRest (after (opened C) events)
+run-rests C events ready complete = rest (after (opened C) events) (memory_over (first_memory C) (opened C) events) (run-all C events ready complete.run).1 complete.over

@@ -1,0 +1,326 @@
+-- When a state of the machine is coherent: what holds between the nodes, the banks, the keeper and the mails in flight after
+-- every event of every run of a checked program. Eight parts, each on the state alone.
+use Rattle.std.specs.Prelude.{◌≡◌, ◌≢◌, ◌⊎◌, ℕ, ◌+◌, ◌%◌, ◌≤◌, ◌==◌, if◌then◌else◌, ◌∷◌, Bool, true, false, ◌&&◌, not, List, [], slice_get, slice_index_or, Option, Some, None}
+use Rattle.std.specs.List.{All}
+use Rattle.dn_base.specs.declared.ids.CoreId.{CoreId}
+use Rattle.dn_base.specs.declared.ids.WordId.{WordId}
+use Rattle.dn_base.specs.declared.ids.LockId.{LockId}
+use Rattle.region_table.specs.declared.declared.TaskDecl.{TaskDecl}
+use Rattle.region_table.specs.Words.{has}
+use Rattle.region_table.specs.Plan.{uses_plainly}
+use Rattle.region_table.specs.Tasks.{declared}
+use Rattle.rv_core.specs.declared.task.TaskState.{TaskState}
+use Rattle.rv_core.specs.declared.need.Need.TheVariants.{Load, Store}
+use Rattle.rv_core.specs.Access.{holds as is_held, may_store}
+use Rattle.write_signature.specs.declared.signature.Signature.{Signature}
+use Rattle.write_signature.specs.Signature.{tag, holds, joined}
+use Rattle.message_net.specs.declared.actor.Actor.{Actor}
+use Rattle.message_net.specs.declared.actor.Actor.TheVariants.{Core, Bank, Keeper}
+use Rattle.message_net.specs.declared.message.Mail.{Mail}
+use Rattle.message_net.specs.declared.message.Message.{Message}
+use Rattle.message_net.specs.declared.message.Message.TheVariants.{ReadReq, ReadFwd, DataReply, RegReq, RegFwd, RegAck, WriteBack, WbAck, Acquire, Release, Grant, Arrived, Go, Halt}
+use Rattle.word_cache.specs.declared.row.Entry.{Entry}
+use Rattle.word_cache.specs.declared.row.Entry.TheVariants.{Valid, Registered, Leaving}
+use Rattle.word_cache.specs.Cache.{has_room}
+use Rattle.queue_lock.specs.Lock.{Lock, places_of, holder_count}
+use Rattle.phase_barrier.specs.Barrier.{all_arrived}
+use Rattle.registry_bank.specs.declared.bank.BankWord.TheVariants.{Home, Reg}
+use Rattle.registration_protocol.specs.declared.node.NodeWait as wait
+use Rattle.registration_protocol.specs.declared.node.NodeWait.{NodeWait}
+use Rattle.registration_protocol.specs.Node.{NodeParts, need_now, entry_of, goes_on, is_settled}
+use Rattle.registration_protocol.specs.OwnEvents.{is_bad}
+use Rattle.registration_protocol.specs.Messages.{written_in}
+use Rattle.machine_rules.specs.State.{State, entry_at, home_at, lock_at}
+use Rattle.machine_rules.specs.Flight.{bit, flight, asks, passes_on, passes_to, turns_back, confirms, gives_back_value, frees, seeks, forwards, forwards_at, replies, acquires, releases, grants, arrives, goes, halts}
+use Rattle.machine_rules.specs.Memory.{word_value}
+
+-- exactly one of three
+abbrev pub OneOf : ℕ → ℕ → ℕ → Type 0
+OneOf a b c = a + b + c ≡ 1
+
+-- a mail is in flight
+abbrev pub IsInFlight : State → Mail → Type 0
+IsInFlight S m = (place : ℕ) × (slice_get S.mails place ≡ Some m)
+
+-- how a core has a word: registered and not yet acknowledged, registered, or on its way back to its home with a value
+abbrev pub IsPending : State → ℕ → ℕ → Type 0
+IsPending S c w = (value : ℕ) × (entry_at S c w ≡ Some (Registered value true))
+
+abbrev pub IsSettled : State → ℕ → ℕ → Type 0
+IsSettled S c w = (value : ℕ) × (entry_at S c w ≡ Some (Registered value false))
+
+abbrev pub IsLeaving : State → ℕ → ℕ → ℕ → Type 0
+IsLeaving S c w value = entry_at S c w ≡ Some (Leaving value)
+
+-- the home of a word says that a core is its registrant
+abbrev pub IsRegistrant : State → ℕ → ℕ → Type 0
+IsRegistrant S c w = home_at S w ≡ Some (Reg (record { 0 = c }))
+
+-- what a core's node waits for
+abbrev pub waits_for : State → ℕ → NodeWait → Type 0
+waits_for S c waiting = (n : NodeParts) × (slice_get S.nodes c ≡ Some n) × (n.waiting ≡ waiting)
+
+-- the locks that a node's task holds, and the task's right to store a word with them
+abbrev pub held_by : Option TaskState → ℕ
+held_by None = 0
+held_by (Some t) = t.held
+
+abbrev pub holds_lock : ℕ → Option NodeParts → Bool
+holds_lock l None = false
+holds_lock l (Some n) = is_held (held_by n.task) l
+
+abbrev pub has_lock : State → ℕ → ℕ → Bool
+has_lock S c l = holds_lock l (slice_get S.nodes c)
+
+-- whether a core's node waits for a lock
+abbrev pub is_locking : ℕ → NodeWait → Bool
+is_locking l (wait.TheVariants.Locking lock) = lock.0 == l
+is_locking l _ = false
+
+abbrev pub locks_in : ℕ → Option NodeParts → Bool
+locks_in l None = false
+locks_in l (Some n) = is_locking l n.waiting
+
+-- how often a core stands in a lock's queue, and whether it is the holder
+abbrev pub queued_in : ℕ → Option Lock → ℕ
+queued_in c None = 0
+queued_in c (Some h) = places_of c h.queue
+
+abbrev pub holder_in : ℕ → Option Lock → ℕ
+holder_in c None = 0
+holder_in c (Some h) = holder_count c h.holder
+
+-- whether a core's node has arrived at the barrier and hasn't been halted
+abbrev pub is_alive : Option NodeParts → Bool
+is_alive None = false
+is_alive (Some n) = n.arrived && not n.halted
+
+-- whether a core waits in the keeper's set, which isn't whole yet
+abbrev pub waits_in : State → ℕ → ℕ
+waits_in S c = bit (not (all_arrived S.keeper) && slice_index_or S.keeper.arrived c false)
+
+-- a node is in the keeper's phase, or in the one before, has arrived in it, and is told to go on
+abbrev pub IsInPhase : State → ℕ → NodeParts → Type 0
+IsInPhase S c n =
+    (n.phase ≡ S.keeper.phase) ⊎ (n.phase + 1 ≡ S.keeper.phase) × (n.arrived ≡ true) × (1 ≤ flight S (goes c))
+
+-- a node that has arrived awaits nothing: no entry is pending, it waits for nothing, and it has no task that goes on
+pub record HasArrived (n : NodeParts) : Type 0 where
+  pub settled : is_settled n ≡ true
+  pub waiting : n.waiting ≡ wait.TheVariants.None
+  pub over : goes_on n.task ≡ false
+
+-- whether the task of a core that the keeper counts in its set was bad
+abbrev pub counts_bad : State → ℕ → Bool
+counts_bad S c = slice_index_or S.keeper.arrived c false && bad_in (slice_get S.nodes c)
+  where
+    bad_in : Option NodeParts → Bool
+    bad_in None = false
+    bad_in (Some n) = is_bad n.task
+
+-- 1. Phases.
+pub record ArePhases (S : State) : Type 0 where
+  pub phase : (c : ℕ) (n : NodeParts) → slice_get S.nodes c ≡ Some n → n.halted ≡ false → IsInPhase S c n
+  -- of a core that has arrived and isn't halted its arrival is in flight, or it waits in the keeper's set, or it is told to
+  -- go on or to halt, and just one of these; of another core none
+  pub whereabouts : (c : ℕ) → flight S (arrives c) + waits_in S c + (flight S (goes c) + flight S (halts c)) ≡ bit (is_alive (slice_get S.nodes c))
+  pub arrived : (c : ℕ) (n : NodeParts) → slice_get S.nodes c ≡ Some n → n.arrived ≡ true → HasArrived n
+  -- an arrival says truly whether the task was bad, and so does the keeper of those that it has counted
+  pub said : (m : Mail) (core : CoreId) (bad : Bool) → IsInFlight S m → m.message ≡ Arrived core bad
+      → (n : NodeParts) → slice_get S.nodes core.0 ≡ Some n → bad ≡ is_bad n.task
+  pub bad : S.keeper.bad ≡ true → (c : ℕ) × (counts_bad S c ≡ true)
+  pub good : S.keeper.bad ≡ false → (c : ℕ) → counts_bad S c ≡ false
+  pub unlocked : (c : ℕ) (n : NodeParts) → slice_get S.nodes c ≡ Some n → 1 ≤ flight S (goes c) → held_by n.task ≡ 0
+
+-- 2. Locks.
+pub record AreLocks (S : State) : Type 0 where
+  -- nobody waits for a lock without a holder
+  pub free : (l : ℕ) (h : Lock) → lock_at S l ≡ Some h → h.holder ≡ None → h.queue ≡ []
+  -- of the holder's grant, its task's holding and its release just one is under way; of other cores none
+  pub held : (l c : ℕ) → flight S (grants l c) + bit (has_lock S c l) + flight S (releases l c) ≡ holder_in c (lock_at S l)
+  -- of a core that waits for the lock its request, its place in the queue and its grant: just one; of other cores none
+  pub awaited : (l c : ℕ) → flight S (acquires l c) + queued_in c (lock_at S l) + flight S (grants l c) ≡ bit (locks_in l (slice_get S.nodes c))
+  -- a grant carries the kept signature
+  pub granted : (m : Mail) (lock : LockId) (s : Signature) → IsInFlight S m → m.message ≡ Grant lock s
+      → (h : Lock) → lock_at S lock.0 ≡ Some h → s ≡ h.kept
+  -- no signature is of a later phase, and those of a node are of its phase, which is no later one
+  pub kept : (l : ℕ) (h : Lock) → lock_at S l ≡ Some h → tag h.kept ≤ S.keeper.phase
+  pub sent : (m : Mail) (lock : LockId) (core : CoreId) (s : Signature) → IsInFlight S m → m.message ≡ Release lock core s → tag s ≤ S.keeper.phase
+  pub own : (c : ℕ) (n : NodeParts) → slice_get S.nodes c ≡ Some n → All (λ (s : Signature). tag s ≡ n.phase) n.signatures
+  pub behind : (c : ℕ) (n : NodeParts) → slice_get S.nodes c ≡ Some n → n.phase ≤ S.keeper.phase
+
+-- 3. Registrants.
+pub record AreRegistrants (S : State) : Type 0 where
+  -- a registrant has the word, registered or leaving
+  pub has : (c w : ℕ) → IsRegistrant S c w → IsPending S c w ⊎ (IsSettled S c w ⊎ ((value : ℕ) × IsLeaving S c w value))
+  -- who has it registered is its registrant, or is about to hear who is
+  pub told : (c w : ℕ) → IsSettled S c w → IsRegistrant S c w ⊎ (1 ≤ flight S (passes_to w c))
+
+-- the task of a core may store a word with the locks that it holds
+pub record MayStore (S : State) (c w : ℕ) : Type 0 where
+  pub node : NodeParts
+  pub found : slice_get S.nodes c ≡ Some node
+  pub task : TaskState
+  pub has : node.task ≡ Some task
+  pub decl : TaskDecl
+  pub declares : declared S.setting.program node.phase c ≡ Some decl
+  pub right : may_store decl task.held w ≡ true
+
+-- 4. Pending words.
+pub record ArePending (S : State) : Type 0 where
+  pub one_core : (c d w : ℕ) → IsPending S c w → IsPending S d w → c ≡ d
+  pub right : (c w : ℕ) → IsPending S c w → MayStore S c w
+  pub one_mail : (c w : ℕ) → IsPending S c w → OneOf (flight S (asks w c)) (flight S (passes_on w c)) (flight S (confirms w c))
+  pub before : (c w : ℕ) → IsPending S c w → 1 ≤ flight S (asks w c) → IsRegistrant S c w → ⊥
+  pub behind : (c w : ℕ) → IsPending S c w → 1 ≤ flight S (passes_on w c) + flight S (confirms w c) → IsRegistrant S c w
+  pub elsewhere : (c w : ℕ) → flight S (turns_back w c) ≡ 0
+
+-- 5. Leaving words.
+pub record AreLeaving (S : State) : Type 0 where
+  pub one_mail : (c w value : ℕ) → IsLeaving S c w value → flight S (gives_back_value w c value) + flight S (frees w c) ≡ 1
+  pub given : (c w value : ℕ) → IsLeaving S c w value → 1 ≤ flight S (frees w c) → IsRegistrant S c w → ⊥
+
+-- a node's next instruction loads the word or stores a part of it
+abbrev pub NeedsValue : State → NodeParts → WordId → Type 0
+NeedsValue S n word = (need_now S.setting n ≡ Some (Load word)) ⊎ (need_now S.setting n ≡ Some (Store word false))
+
+-- a node reads a word: it has no entry of it, and room
+pub record IsReading (S : State) (c : ℕ) (word : WordId) : Type 0 where
+  pub node : NodeParts
+  pub found : slice_get S.nodes c ≡ Some node
+  pub waiting : node.waiting ≡ wait.TheVariants.Reading word
+  pub none : entry_of node word.0 ≡ None
+  pub room : has_room node.cache word.0 ≡ true
+  pub wants : NeedsValue S node word
+
+-- a word's registrant is this core, or its home has it
+abbrev pub IsAtOrHome : State → ℕ → ℕ → Type 0
+IsAtOrHome S d w = IsRegistrant S d w ⊎ ((value : ℕ) × (home_at S w ≡ Some (Home value)))
+
+-- the value of an entry that a read can be answered from
+abbrev pub owned_value : Option Entry → Option ℕ
+owned_value (Some (Registered value pending)) = Some value
+owned_value (Some (Leaving value)) = Some value
+owned_value _ = None
+
+-- 6. Reads.
+pub record AreReads (S : State) : Type 0 where
+  pub reading : (c : ℕ) (word : WordId) → waits_for S c (wait.TheVariants.Reading word) → IsReading S c word
+  pub quiet : (c d : ℕ) (word : WordId) → waits_for S c (wait.TheVariants.Reading word) → IsPending S d word.0 → ⊥
+  pub one_mail : (c : ℕ) (word : WordId) → waits_for S c (wait.TheVariants.Reading word)
+      → OneOf (flight S (seeks word.0 c)) (flight S (forwards word.0 c)) (flight S (replies word.0 c))
+  pub answered : (m : Mail) (word : WordId) (value : ℕ) → IsInFlight S m → m.message ≡ DataReply word value → value ≡ word_value S word.0
+  pub forwarded : (d w : ℕ) → 1 ≤ flight S (forwards_at w d) → IsAtOrHome S d w
+  pub owned : (d w value : ℕ) → 1 ≤ flight S (forwards_at w d) → owned_value (entry_at S d w) ≡ Some value → value ≡ word_value S w
+  pub filled : (c : ℕ) (n : NodeParts) (word : WordId) → slice_get S.nodes c ≡ Some n → n.waiting ≡ wait.TheVariants.Filled word
+      → ((value : ℕ) × (marked : Bool) × (entry_of n word.0 ≡ Some (Valid value marked))) × NeedsValue S n word
+
+-- who awaits a message, by where it goes: nobody sends another one
+abbrev pub IsExpected : State → Actor → Message → Type 0
+IsExpected S (Bank bank) (RegReq word core) = (bank.0 ≡ word.0 % S.setting.shape.banks) × IsPending S core.0 word.0
+IsExpected S (Core core) (RegFwd word other) = IsPending S other.0 word.0
+IsExpected S (Core core) (RegAck word) = IsPending S core.0 word.0
+IsExpected S (Bank bank) (WriteBack word value core) = (bank.0 ≡ word.0 % S.setting.shape.banks) × IsLeaving S core.0 word.0 value
+IsExpected S (Core core) (WbAck word) = (value : ℕ) × IsLeaving S core.0 word.0 value
+IsExpected S (Bank bank) (ReadReq word reader) = (bank.0 ≡ word.0 % S.setting.shape.banks) × waits_for S reader.0 (wait.TheVariants.Reading word)
+IsExpected S (Core core) (ReadFwd word reader) = waits_for S reader.0 (wait.TheVariants.Reading word)
+IsExpected S (Core core) (DataReply word value) = waits_for S core.0 (wait.TheVariants.Reading word)
+IsExpected S (Bank bank) (Acquire lock core) = (bank.0 ≡ lock.0 % S.setting.shape.banks) × waits_for S core.0 (wait.TheVariants.Locking lock)
+IsExpected S (Bank bank) (Release lock core s) = (bank.0 ≡ lock.0 % S.setting.shape.banks) × (holder_in core.0 (lock_at S lock.0) ≡ 1)
+IsExpected S (Core core) (Grant lock s) = waits_for S core.0 (wait.TheVariants.Locking lock)
+IsExpected S Keeper (Arrived core bad) = is_alive (slice_get S.nodes core.0) ≡ true
+IsExpected S (Core core) (Go phase) = (phase.0 ≡ S.keeper.phase) × (is_alive (slice_get S.nodes core.0) ≡ true)
+IsExpected S (Core core) Halt = is_alive (slice_get S.nodes core.0) ≡ true
+IsExpected S _ _ = ⊥
+
+-- 7. No strays.
+abbrev pub AreExpected : State → Type 0
+AreExpected S = (m : Mail) → IsInFlight S m → IsExpected S m.to m.message
+
+-- the signature that a node has for a lock, and the one in the first release of the lock that is in flight
+abbrev pub signature_at : ℕ → Option NodeParts → Option Signature
+signature_at l None = None
+signature_at l (Some n) = slice_get n.signatures l
+
+abbrev pub release_in : ℕ → Message → Option Signature
+release_in l (Release lock core s) = if lock.0 == l then Some s else None
+release_in l _ = None
+
+abbrev pub first_release : ℕ → List Mail → Option Signature
+first_release l [] = None
+first_release l (m ∷ ms) = first_of (release_in l m.message) (first_release l ms)
+  where
+    first_of : Option Signature → Option Signature → Option Signature
+    first_of (Some s) rest = Some s
+    first_of None rest = rest
+
+-- the words written under a lock so far: those that its home knows of, and those of its holder, or of its release
+abbrev pub with_carried : Signature → Option Signature → Signature
+with_carried kept None = kept
+with_carried kept (Some s) = joined kept s
+
+abbrev pub with_holder : State → ℕ → Signature → Option CoreId → Signature
+with_holder S l kept None = kept
+with_holder S l kept (Some c) =
+    with_carried kept (if has_lock S c.0 l then signature_at l (slice_get S.nodes c.0) else first_release l S.mails)
+
+abbrev pub lock_signature : State → ℕ → Lock → Signature
+lock_signature S l h = with_holder S l h.kept h.holder
+
+-- another core's task of the keeper's phase writes the word: whatever it holds
+pub record HasWriter (S : State) (c w : ℕ) : Type 0 where
+  pub core : ℕ
+  pub other : core ≢ c
+  pub decl : TaskDecl
+  pub declares : declared S.setting.program S.keeper.phase core ≡ Some decl
+  pub writes : has decl.effects.writes w ≡ true
+
+-- another core's task of the keeper's phase may write the word under a lock that the core's task doesn't hold, and the
+-- lock's signature may hold it
+pub record HasGuardedWriter (S : State) (c w : ℕ) : Type 0 where
+  pub core : ℕ
+  pub other : core ≢ c
+  pub decl : TaskDecl
+  pub declares : declared S.setting.program S.keeper.phase core ≡ Some decl
+  pub lock : ℕ
+  pub writes : has (slice_index_or decl.effects.guarded_writes lock []) w ≡ true
+  pub unheld : has_lock S c lock ≡ false
+  pub state : Lock
+  pub there : lock_at S lock ≡ Some state
+  pub signed : holds (lock_signature S lock state) w S.keeper.phase ≡ true
+
+-- a core is still in the phase before the keeper's, which may have written the word, and its copy isn't marked
+pub record IsBehind (S : State) (c w : ℕ) (marked : Bool) : Type 0 where
+  pub node : NodeParts
+  pub found : slice_get S.nodes c ≡ Some node
+  pub phase : node.phase + 1 ≡ S.keeper.phase
+  pub written : has (written_in (slice_get S.setting.plans node.phase)) w ≡ true
+  pub unmarked : marked ≡ false
+
+-- a copy has the word's value, or it may be old: its core will drop it before it reads it
+abbrev pub IsFresh : State → ℕ → ℕ → ℕ → Type 0
+IsFresh S c w value = value ≡ word_value S w
+
+-- the task of a core in its phase uses a word plainly
+pub record UsesPlainly (S : State) (c w : ℕ) : Type 0 where
+  pub node : NodeParts
+  pub found : slice_get S.nodes c ≡ Some node
+  pub decl : TaskDecl
+  pub declares : declared S.setting.program node.phase c ≡ Some decl
+  pub plain : uses_plainly decl w ≡ true
+
+-- 8. Copies.
+pub record AreCopies (S : State) : Type 0 where
+  pub marked : (c w value : ℕ) → entry_at S c w ≡ Some (Valid value true) → UsesPlainly S c w
+  pub fresh : (c w value : ℕ) (marked : Bool) → entry_at S c w ≡ Some (Valid value marked)
+      → IsFresh S c w value ⊎ (IsBehind S c w marked ⊎ (HasWriter S c w ⊎ HasGuardedWriter S c w))
+
+pub record Coherent (S : State) : Type 0 where
+  pub phases : ArePhases S
+  pub locks : AreLocks S
+  pub registrants : AreRegistrants S
+  pub pending : ArePending S
+  pub leaving : AreLeaving S
+  pub reads : AreReads S
+  pub expected : AreExpected S
+  pub copies : AreCopies S

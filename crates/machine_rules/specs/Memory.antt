@@ -1,0 +1,68 @@
+-- The value of each data word: as a state shows it, and as the stores of a run leave it.
+use Rattle.std.specs.Prelude.{ℕ, true, List, [], ◌∷◌, length, map, slice_get, slice_set, Option, Some, None}
+use Rattle.std.specs.List.{range_with_len}
+use Rattle.dn_base.specs.declared.ids.WordId.{WordId}
+use Rattle.message_net.specs.declared.event.Event.{Event}
+use Rattle.message_net.specs.declared.event.Event.TheVariants.{Instr}
+use Rattle.word_cache.specs.declared.row.Entry.{Entry}
+use Rattle.word_cache.specs.declared.row.Entry.TheVariants.{Valid, Registered, Leaving}
+use Rattle.registry_bank.specs.declared.bank.BankWord.{BankWord}
+use Rattle.registry_bank.specs.declared.bank.BankWord.TheVariants.{Home, Reg}
+use Rattle.registration_protocol.specs.Node.{NodeParts, Setting, entry_of}
+use Rattle.registration_protocol.specs.OwnEvents.{written_now}
+use Rattle.machine_rules.specs.State.{State, entry_at, home_at}
+
+-- the value of a pending entry
+abbrev pub pending_value : Option Entry → Option ℕ
+pending_value (Some (Registered value true)) = Some value
+pending_value _ = None
+
+-- the first value of two, if there is one
+abbrev pub or_else : Option ℕ → Option ℕ → Option ℕ
+or_else (Some v) rest = Some v
+or_else None rest = rest
+
+-- the value that some core is about to register for a word
+abbrev pub pending_among : List NodeParts → ℕ → Option ℕ
+pending_among [] w = None
+pending_among (n ∷ ns) w = or_else (pending_value (entry_of n w)) (pending_among ns w)
+
+-- the value of the entry that a core has of a word
+abbrev pub value_of : Option Entry → ℕ
+value_of None = 0
+value_of (Some (Valid value marked)) = value
+value_of (Some (Registered value pending)) = value
+value_of (Some (Leaving value)) = value
+
+-- the value that the home of a word has, or its registrant
+abbrev pub kept_value : State → ℕ → Option BankWord → ℕ
+kept_value S w None = 0
+kept_value S w (Some (Home value)) = value
+kept_value S w (Some (Reg core)) = value_of (entry_at S core.0 w)
+
+abbrev pub value_by : State → ℕ → Option ℕ → ℕ
+value_by S w (Some value) = value
+value_by S w None = kept_value S w (home_at S w)
+
+-- the value of a word in a state: that of its pending entry where a core has one, else the one at its home, or the one in
+-- its registrant's entry
+unfoldable pub word_value : State → ℕ → ℕ
+word_value S w = value_by S w (pending_among S.nodes w)
+
+-- all data words of a state
+abbrev pub memory_of : State → List ℕ
+memory_of S = map (word_value S) (range_with_len 0 (length S.setting.program.memory))
+
+-- the word that the instruction of a core stores, if it stores one and retires, and what it stores
+abbrev pub store_of : Setting → Option NodeParts → Option (WordId × ℕ)
+store_of C None = None
+store_of C (Some n) = written_now C n
+
+unfoldable pub store_in : State → Event → Option (WordId × ℕ)
+store_in S (Instr core) = store_of S.setting (slice_get S.nodes core.0)
+store_in S _ = None
+
+-- a memory after a store, if there is one
+abbrev pub with_store : Option (WordId × ℕ) → List ℕ → List ℕ
+with_store None memory = memory
+with_store (Some (word, value)) memory = slice_set memory word.0 value

@@ -1,0 +1,62 @@
+-- What is well formed in a state by itself, whatever the mails in flight say.
+use Rattle.std.specs.Prelude.{◌≡◌, ℕ, ◌+◌, ◌*◌, ◌<◌, ◌≤◌, nat_lt, length, slice_get, slice_index, Some}
+use Rattle.std.specs.Option.{is_some}
+use Rattle.region_table.specs.Program.{IsProgram}
+use Rattle.effect_checker.specs.Checked.{IsChecked}
+use Rattle.message_net.specs.declared.message.Mail.{Mail}
+use Rattle.message_net.specs.Pool.{AreDistinct}
+use Rattle.registry_bank.specs.Bank.{BankParts, IsBank}
+use Rattle.phase_barrier.specs.Barrier.{all_arrived}
+use Rattle.registration_protocol.specs.Node.{NodeParts, Setting}
+use Rattle.registration_protocol.specs.Fit.{IsContext, Fits}
+use Rattle.machine_rules.specs.State.{State, home_at, lock_at}
+use Rattle.machine_rules.specs.Next.{place_in}
+use Rattle.machine_rules.specs.Flight.{bit}
+
+-- a setting of a machine: a program that is checked, and plans, a shape and fuel of it
+pub record IsReady (C : Setting) : Type 0 where
+  pub context : IsContext C
+  pub program : IsProgram C.program
+  pub checked : IsChecked C.program
+
+-- a node of the machine at its place, and a bank at its place
+pub record IsNodeAt (S : State) (place : ℕ) (n : NodeParts) : Type 0 where
+  pub fits : Fits S.setting n
+  pub core : n.core ≡ place
+
+pub record IsBankAt (S : State) (place : ℕ) (b : BankParts) : Type 0 where
+  pub well : IsBank b
+  pub bank : b.bank ≡ place
+  pub banks : b.banks ≡ S.setting.shape.banks
+  pub cores : b.cores ≡ S.setting.shape.cores
+
+-- a state of the machine of its setting: the program is a checked one, there are as many nodes, banks and numbers as it has
+-- actors, each is well formed and in its place, and the mails have ids of their own
+pub record IsMachine (S : State) : Type 0 where
+  pub context : IsContext S.setting
+  pub program : IsProgram S.setting.program
+  pub checked : IsChecked S.setting.program
+  pub nodes : length S.nodes ≡ S.setting.shape.cores
+  pub banks : length S.banks ≡ S.setting.shape.banks
+  pub numbers : length S.numbers ≡ S.setting.shape.cores + S.setting.shape.banks + 1
+  pub node : (core : ℕ) (n : NodeParts) → slice_get S.nodes core ≡ Some n → IsNodeAt S core n
+  pub bank : (bank : ℕ) (b : BankParts) → slice_get S.banks bank ≡ Some b → IsBankAt S bank b
+  -- a word, and a lock too, has a home exactly where the program has it
+  pub words : (w : ℕ) → is_some (home_at S w) ≡ nat_lt w (length S.setting.program.memory)
+  pub locks : (l : ℕ) → is_some (lock_at S l) ≡ nat_lt l (length S.setting.program.locks)
+  pub cores : length S.keeper.arrived ≡ S.setting.shape.cores
+  pub phases : S.keeper.phases ≡ length S.setting.program.phases
+  -- no two mails have one id, and each has a number that its sender has used
+  pub distinct : AreDistinct S.mails
+  pub numbered : (place : ℕ) (m : Mail) → slice_get S.mails place ≡ Some m → m.id.number < slice_index S.numbers (place_in S m.id.sender)
+
+-- how often the keeper has posted letters, at the most
+abbrev pub rounds : State → ℕ
+rounds S = S.keeper.phase + bit (all_arrived S.keeper)
+
+-- a state that so many events have led to: each sends one mail, but for those in which the keeper sends one to each core
+pub record IsSound (S : State) (made : ℕ) : Type 0 where
+  pub machine : IsMachine S
+  pub mails : length S.mails ≤ made + S.setting.shape.cores * rounds S
+  pub sent : (place : ℕ) → slice_index S.numbers place ≤ made + S.setting.shape.cores * rounds S
+  pub within : S.keeper.phase ≤ length S.setting.program.phases

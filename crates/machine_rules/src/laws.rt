@@ -1,0 +1,46 @@
+//! What holds of the machine's states and runs, for whoever reasons about them.
+ghost use Rattle.std.specs.Prelude.{◌≡◌, ℕ, ◌+◌, true, List, Some, slice_index};
+ghost use Rattle.dn_base.specs.declared.ids.LoadSeen.{LoadSeen};
+ghost use Rattle.message_net.specs.declared.event.Event.{Event};
+ghost use Rattle.registration_protocol.specs.Node.{Setting};
+ghost use Rattle.machine_rules.specs.State.{State, opened};
+ghost use Rattle.machine_rules.specs.Next.{next, enabled, seen_in};
+ghost use Rattle.machine_rules.specs.Memory.{memory_of};
+ghost use Rattle.machine_rules.specs.Runs.{after, IsRun, IsCompleteRun, memory_after};
+ghost use Rattle.machine_rules.specs.Coherent.{Coherent};
+ghost use Rattle.machine_rules.specs.Rest.{IsAtRest};
+ghost use Rattle.machine_rules.specs.Sound.{IsReady, IsSound};
+
+/// A sound state stays sound at every event that may come, whatever the mails in flight say.
+pub fn a_state_stays_sound()
+    ensures { (S : State) (made : ℕ) (e : Event) → IsSound S made → enabled S e ≡ true → IsSound (next S e) (made + 1) }
+{}
+
+/// The machine of a checked program is sound as a run begins.
+pub fn the_opened_machine_is_sound()
+    ensures { (C : Setting) → IsReady C → IsSound (opened C) 0 }
+{}
+
+/// Every run of the machine of a checked program leads to a coherent state.
+pub fn every_run_leads_to_a_coherent_state()
+    ensures { (C : Setting) (events : List Event) → IsReady C → IsRun (opened C) events → Coherent (after (opened C) events) }
+{}
+
+/// The words that a state shows are the memory to which the stores of its run were applied as they retired.
+pub fn a_state_shows_the_stores_of_its_run()
+    ensures { (C : Setting) (events : List Event) → IsReady C → IsRun (opened C) events
+        → memory_of (after (opened C) events) ≡ memory_after C.program.memory (opened C) events }
+{}
+
+/// A load that retires in a run reads the memory to which the stores before it were applied.
+pub fn each_load_reads_the_stores_before_it()
+    ensures { (C : Setting) (events : List Event) (e : Event) (seen : LoadSeen) → IsReady C → IsRun (opened C) events
+        → enabled (after (opened C) events) e ≡ true → seen_in (after (opened C) events) e ≡ Some seen
+        → seen.value ≡ slice_index (memory_after C.program.memory (opened C) events) seen.word.0 }
+{}
+
+/// Where no event may come any more, each node is halted, or some task of the phase hasn't ended and each such task waits for
+/// a lock that the task of another core holds.
+pub fn a_complete_run_is_at_rest()
+    ensures { (C : Setting) (events : List Event) → IsReady C → IsCompleteRun (opened C) events → IsAtRest (after (opened C) events) }
+{}

@@ -1,0 +1,13 @@
+//! What the multicore machine is: its states, which events may come in a state and what each makes of it, runs, what is read
+//! off a run, and when a state is coherent.
+#![tactic(auto)]
+
+mod laws;
+mod stepped;
+
+pub use laws::{
+    a_complete_run_is_at_rest, a_state_shows_the_stores_of_its_run, a_state_stays_sound,
+    each_load_reads_the_stores_before_it, every_run_leads_to_a_coherent_state,
+    the_opened_machine_is_sound,
+};
+pub use stepped::Stepped;
