@@ -1,15 +1,15 @@
-mod Bits
-mod Invariant
+pub mod Bits
+pub mod Invariant
 mod Lists
-mod Steps
-mod BitLemmas
-mod Leaves
+pub mod Steps
+pub mod BitLemmas
+pub mod Leaves
 mod ReadableWords
 mod ReadablePhases
-mod ReadableValues
+pub mod ReadableValues
 mod ReadableReads
 mod WordEvents
-mod WordCore
+pub mod WordCore
 mod WordHome
 mod WordGood
 mod WordQuiet
@@ -19,11 +19,11 @@ mod WordMade
 mod WordMoves
 mod WordBacks
 mod WordLeaves
-mod Exclusive
+pub mod Exclusive
 mod AddressLeaves
-mod PhaseRows
+pub mod PhaseRows
 mod PhaseNodes
-mod PhaseWhole
+pub mod PhaseWhole
 mod PhaseKeeper
 mod PhaseLeaves
 mod NodeEntries
@@ -50,26 +50,26 @@ mod CopyLeaves
 mod DispatchOwn
 mod DispatchCore
 mod DispatchBank
-mod Dispatch
-mod MachineMails
-mod MachineKept
-mod SoundEvents
-mod OpenedFacts
-mod OpenedSound
-mod OpenedInvariant
+pub mod Dispatch
+pub mod MachineMails
+pub mod MachineKept
+pub mod SoundEvents
+pub mod OpenedFacts
+pub mod OpenedSound
+pub mod OpenedInvariant
 mod ReadableLocks
 mod BehindLeaves
 mod ReadableMails
 mod Found
 mod ReadableCopies
 mod Readable
-mod LoadsRead
+pub mod LoadsRead
 mod EndedLeaves
-mod Kept
-mod RunsKept
-mod RunsCoherent
-mod RestNodes
-mod RestStates
+pub mod Kept
+pub mod RunsKept
+pub mod RunsCoherent
+pub mod RestNodes
+pub mod RestStates
 mod Spending
 mod SpendSteps
 mod SpendNodes

@@ -16,11 +16,11 @@ use Rattle.rv_core.specs.declared.task.TaskState.{TaskState}
 use Rattle.rv_core.specs.declared.need.Need as need
 use Rattle.rv_core.specs.declared.need.Need.{Need}
 use Rattle.rv_core.specs.Access.{holds as is_held, under, may_load, may_store}
-use Rattle.rv_core.proofs.Completions.{load-allowed}
+use Rattle.rv_core.proofs.Completions.{load-allowed, store-allowed}
 use Rattle.rv_core.proofs.HeldLemmas.{holds-none, holds-acquired}
 use Rattle.flat_machine.specs.Step.{Started}
 use Rattle.flat_machine.proofs.Separation.{AreApart, keeps-out}
-use Rattle.flat_machine.proofs.Rights.{both-ways}
+use Rattle.flat_machine.proofs.Rights.{store-loads, both-ways}
 use Rattle.message_net.specs.declared.event.Event.{Event}
 use Rattle.word_cache.specs.declared.row.Entry.TheVariants.{Valid, Registered}
 use Rattle.registration_protocol.specs.Node.{NodeParts, entry_of}
@@ -49,12 +49,20 @@ under-from (s ∷ ss) first held w (suc place) holds there =
     let here : first + suc place ≡ first + 1 + place = omega arith in
     or_right (is_held held first && has s w) (under ss (first + 1) held w) (under-from ss (first + 1) held w place (subst (λ (x : ℕ). is_held held x ≡ true) here holds) there)
 
+-- an instruction that needs the word's value: a load, or a store of a part
+abbrev pub IsValueNeed : Need → WordId → Type 0
+IsValueNeed needs word = (needs ≡ need.TheVariants.Load word) ⊎ (needs ≡ need.TheVariants.Store word false)
+
+value-right : (S : State) (core : CoreId) (n : NodeParts) (d : TaskDecl) (t : TaskState) (word : WordId) (needs : Need) → IsValueNeed needs word → IsActing S core n d t needs → may_load d t.held word.0 ≡ true
+value-right S core n d t word needs (inl load) h = (load-allowed S.setting.program d S.setting.fuel t word (h.wants ∙ load)).1
+value-right S core n d t word needs (inr store) h = store-loads d t.held word.0 (store-allowed S.setting.program d S.setting.fuel t word false (h.wants ∙ store)).1
+
 -- what the task of another core may store, with locks that this core doesn't hold, this core may not load
-kept-out : (S : State) (M : ℕ → ℕ) (core : CoreId) (n : NodeParts) (d : TaskDecl) (t : TaskState) (word : WordId) (other : ℕ) (decl : TaskDecl) (held : ℕ) → Invariant S M
-    → IsActing S core n d t (need.TheVariants.Load word) → other ≢ core.0 → declared S.setting.program S.keeper.phase other ≡ Some decl → ((lock : ℕ) → is_held held lock ≡ true → is_held t.held lock ≡ true → ⊥)
+kept-out : (S : State) (M : ℕ → ℕ) (core : CoreId) (n : NodeParts) (d : TaskDecl) (t : TaskState) (word : WordId) (needs : Need) (other : ℕ) (decl : TaskDecl) (held : ℕ) → Invariant S M
+    → IsValueNeed needs word → IsActing S core n d t needs → other ≢ core.0 → declared S.setting.program S.keeper.phase other ≡ Some decl → ((lock : ℕ) → is_held held lock ≡ true → is_held t.held lock ≡ true → ⊥)
     → may_store decl held word.0 ≡ true → ⊥
-kept-out S M core n d t word other decl held inv h apart declares unheld stores =
-    let here : n.phase ≡ S.keeper.phase = in-phase S M core.0 n d t inv (acting-works S core n d t (need.TheVariants.Load word) h) in
+kept-out S M core n d t word needs other decl held inv kind h apart declares unheld stores =
+    let here : n.phase ≡ S.keeper.phase = in-phase S M core.0 n d t inv (acting-works S core n d t needs h) in
     let one = declared-tells S.setting.program S.keeper.phase other decl declares in
     let two = declared-tells S.setting.program S.keeper.phase core.0 d (subst (λ (x : ℕ). declared S.setting.program x core.0 ≡ Some d) here h.declares) in
     let both : Some two.phase ≡ Some one.phase = sym two.there ∙ one.there in
@@ -69,29 +77,29 @@ kept-out S M core n d t word other decl held inv h apart declares unheld stores 
       cores = λ e. apart (sym one.own ∙ e ∙ two.own);
       held = unheld;
     } in
-    both-ways (may_load d t.held word.0) ((keeps-out S.setting.program one.phase first second between).out word.0 stores) (load-allowed S.setting.program d S.setting.fuel t word h.wants).1
+    both-ways (may_load d t.held word.0) ((keeps-out S.setting.program one.phase first second between).out word.0 stores) (value-right S core n d t word needs kind h)
 
 -- ---- a copy that is loaded isn't old
 
 -- a core at work isn't behind the keeper
-not-behind : (S : State) (M : ℕ → ℕ) (core : CoreId) (n : NodeParts) (d : TaskDecl) (t : TaskState) (word : WordId) (marked : Bool) → Invariant S M
-    → IsActing S core n d t (need.TheVariants.Load word) → IsBehind S core.0 word.0 marked → ⊥
-not-behind S M core n d t word marked inv h behind =
-    let here : n.phase ≡ S.keeper.phase = in-phase S M core.0 n d t inv (acting-works S core n d t (need.TheVariants.Load word) h) in
+not-behind : (S : State) (M : ℕ → ℕ) (core : CoreId) (n : NodeParts) (d : TaskDecl) (t : TaskState) (word : WordId) (needs : Need) (marked : Bool) → Invariant S M
+    → IsActing S core n d t needs → IsBehind S core.0 word.0 marked → ⊥
+not-behind S M core n d t word needs marked inv h behind =
+    let here : n.phase ≡ S.keeper.phase = in-phase S M core.0 n d t inv (acting-works S core n d t needs h) in
     let both : Some behind.node ≡ Some n = sym behind.found ∙ h.found in
     let same : behind.node ≡ n = cc in
     omega (arith, here, behind.phase, ap (λ (x : NodeParts). x.phase) same)
 
-not-written : (S : State) (M : ℕ → ℕ) (core : CoreId) (n : NodeParts) (d : TaskDecl) (t : TaskState) (word : WordId) → Invariant S M
-    → IsActing S core n d t (need.TheVariants.Load word) → HasWriter S core.0 word.0 → ⊥
-not-written S M core n d t word inv h by =
-    kept-out S M core n d t word by.core by.decl 0 inv h by.other by.declares (λ lock holds also. both-ways (is_held 0 lock) (holds-none lock) holds)
+not-written : (S : State) (M : ℕ → ℕ) (core : CoreId) (n : NodeParts) (d : TaskDecl) (t : TaskState) (word : WordId) (needs : Need) → Invariant S M
+    → IsValueNeed needs word → IsActing S core n d t needs → HasWriter S core.0 word.0 → ⊥
+not-written S M core n d t word needs inv kind h by =
+    kept-out S M core n d t word needs by.core by.decl 0 inv kind h by.other by.declares (λ lock holds also. both-ways (is_held 0 lock) (holds-none lock) holds)
     (or_left (has by.decl.effects.writes word.0) (under by.decl.effects.guarded_writes 0 0 word.0) by.writes)
 
-not-guarded : (S : State) (M : ℕ → ℕ) (core : CoreId) (n : NodeParts) (d : TaskDecl) (t : TaskState) (word : WordId) → Invariant S M
-    → IsActing S core n d t (need.TheVariants.Load word) → MayHaveWritten S core.0 word.0 → ⊥
-not-guarded S M core n d t word inv h by =
-    kept-out S M core n d t word by.core by.decl (bit_or 0 (2 ^ by.lock)) inv h by.other by.declares unheld
+not-guarded : (S : State) (M : ℕ → ℕ) (core : CoreId) (n : NodeParts) (d : TaskDecl) (t : TaskState) (word : WordId) (needs : Need) → Invariant S M
+    → IsValueNeed needs word → IsActing S core n d t needs → MayHaveWritten S core.0 word.0 → ⊥
+not-guarded S M core n d t word needs inv kind h by =
+    kept-out S M core n d t word needs by.core by.decl (bit_or 0 (2 ^ by.lock)) inv kind h by.other by.declares unheld
     (or_right (has by.decl.effects.writes word.0) (under by.decl.effects.guarded_writes 0 (bit_or 0 (2 ^ by.lock)) word.0)
     (under-from by.decl.effects.guarded_writes 0 (bit_or 0 (2 ^ by.lock)) word.0 by.lock (subst (λ (x : ℕ). is_held (bit_or 0 (2 ^ by.lock)) x ≡ true) (zero-first by.lock) (own-lock by.lock)) by.writes))
   where
@@ -112,21 +120,21 @@ not-guarded S M core n d t word inv h by =
           let none : is_held (bit_or 0 (2 ^ by.lock)) lock ≡ false = rw (holds-acquired 0 by.lock lock, e, holds-none lock) refl in
           both-ways (is_held (bit_or 0 (2 ^ by.lock)) lock) none one
 
-copy-loaded : (S : State) (M : ℕ → ℕ) (core : CoreId) (n : NodeParts) (d : TaskDecl) (t : TaskState) (word : WordId) (value : ℕ) (marked : Bool) → Invariant S M
-    → IsActing S core n d t (need.TheVariants.Load word) → entry_of n word.0 ≡ Some (Valid value marked) → value ≡ M word.0
-copy-loaded S M core n d t word value marked inv h is = by_age (inv.copies.fresh core.0 word.0 value marked (ap (entry_in word.0) h.found ∙ is)) where
+pub copy-loaded : (S : State) (M : ℕ → ℕ) (core : CoreId) (n : NodeParts) (d : TaskDecl) (t : TaskState) (word : WordId) (needs : Need) (value : ℕ) (marked : Bool) → Invariant S M
+    → IsValueNeed needs word → IsActing S core n d t needs → entry_of n word.0 ≡ Some (Valid value marked) → value ≡ M word.0
+copy-loaded S M core n d t word needs value marked inv kind h is = by_age (inv.copies.fresh core.0 word.0 value marked (ap (entry_in word.0) h.found ∙ is)) where
   by_age : (value ≡ M word.0) ⊎ MayBeOld S core.0 word.0 marked → value ≡ M word.0
   by_age (inl fresh) = fresh
-  by_age (inr (inl behind)) = absurd (not-behind S M core n d t word marked inv h behind)
-  by_age (inr (inr (inl writer))) = absurd (not-written S M core n d t word inv h writer)
-  by_age (inr (inr (inr guarded))) = absurd (not-guarded S M core n d t word inv h guarded)
+  by_age (inr (inl behind)) = absurd (not-behind S M core n d t word needs marked inv h behind)
+  by_age (inr (inr (inl writer))) = absurd (not-written S M core n d t word needs inv kind h writer)
+  by_age (inr (inr (inr guarded))) = absurd (not-guarded S M core n d t word needs inv kind h guarded)
 
 -- ---- a registered word that is loaded has the last value
 
-own-loaded : (S : State) (M : ℕ → ℕ) (core : CoreId) (n : NodeParts) (d : TaskDecl) (t : TaskState) (word : WordId) (value : ℕ) (pending : Bool) → Invariant S M
-    → IsActing S core n d t (need.TheVariants.Load word) → entry_of n word.0 ≡ Some (Registered value pending) → value ≡ M word.0
-own-loaded S M core n d t word value true inv h is = inv.values.pending core.0 word.0 value (ap (entry_in word.0) h.found ∙ is)
-own-loaded S M core n d t word value false inv h is = inv.values.owner word.0 value core all home (ap owned_value here) where
+pub own-loaded : (S : State) (M : ℕ → ℕ) (core : CoreId) (n : NodeParts) (d : TaskDecl) (t : TaskState) (word : WordId) (needs : Need) (value : ℕ) (pending : Bool) → Invariant S M
+    → IsValueNeed needs word → IsActing S core n d t needs → entry_of n word.0 ≡ Some (Registered value pending) → value ≡ M word.0
+own-loaded S M core n d t word needs value true inv kind h is = inv.values.pending core.0 word.0 value (ap (entry_in word.0) h.found ∙ is)
+own-loaded S M core n d t word needs value false inv kind h is = inv.values.owner word.0 value core all home (ap owned_value here) where
   here : entry_at S core.0 word.0 ≡ Some (Registered value false)
   here = ap (entry_in word.0) h.found ∙ is
 
@@ -134,7 +142,7 @@ own-loaded S M core n d t word value false inv h is = inv.values.owner word.0 va
   all c = by_core (core.0 == c) refl where
     by_core : (x : Bool) → (core.0 == c) ≡ x → pending_bit (entry_at S c word.0) ≡ 0
     by_core true e = subst (λ (x : ℕ). pending_bit (entry_at S x word.0) ≡ 0) (eqb-true core.0 c e) (ap pending_bit here)
-    by_core false e = load-none-pending S M core n d t word (need.TheVariants.Load word) inv (inl refl) h c e
+    by_core false e = load-none-pending S M core n d t word needs inv kind h c e
 
   home : home_at S word.0 ≡ Some (Reg core)
   home = owner-is core.0 (home_at S word.0) (omega (arith, settled-owner S word.0 core.0 inv.words all, ap settled_bit here))
@@ -159,8 +167,8 @@ loads-leaves S M e inv =
     record {
       local = λ core n d t acts told step. none-seen S M e told.seen_is;
       ends = λ core n d t by acts told step. none-seen S M e told.seen_is;
-      load_copy = λ core n d t word value marked acts is told step. one-seen S M e word value told.seen_is (copy-loaded S M core n d t word value marked inv acts is);
-      load_own = λ core n d t word value pending acts is told step. one-seen S M e word value told.seen_is (own-loaded S M core n d t word value pending inv acts is);
+      load_copy = λ core n d t word value marked acts is told step. one-seen S M e word value told.seen_is (copy-loaded S M core n d t word (need.TheVariants.Load word) value marked inv (inl refl) acts is);
+      load_own = λ core n d t word value pending acts is told step. one-seen S M e word value told.seen_is (own-loaded S M core n d t word (need.TheVariants.Load word) value pending inv (inl refl) acts is);
       miss = λ core n d t word needs which acts none room told step. none-seen S M e told.seen_is;
       store_new = λ core n d t word value acts none room is told step. none-seen S M e told.seen_is;
       store_copy = λ core n d t word whole old value marked acts entry is told step. none-seen S M e told.seen_is;

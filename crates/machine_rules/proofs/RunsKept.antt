@@ -99,7 +99,7 @@ pub stored-length : (store : Option (WordId × ℕ)) (memory : List ℕ) → len
 stored-length None memory = refl
 stored-length (Some (word, value)) memory = length-set memory word.0 value
 
-stored-list : (store : Option (WordId × ℕ)) (memory : List ℕ) (M : ℕ → ℕ) → ((word : WordId) (value : ℕ) → store ≡ Some (word, value) → word.0 < length memory) → ((w : ℕ) → slice_index memory w ≡ M w)
+pub stored-list : (store : Option (WordId × ℕ)) (memory : List ℕ) (M : ℕ → ℕ) → ((word : WordId) (value : ℕ) → store ≡ Some (word, value) → word.0 < length memory) → ((w : ℕ) → slice_index memory w ≡ M w)
     → (w : ℕ) → slice_index (with_store store memory) w ≡ stored_to store M w
 stored-list None memory M within same w = same w
 stored-list (Some (word, value)) memory M within same w = by_word (word.0 == w) refl where
