@@ -1,0 +1,200 @@
+-- Each complete run has the end of the flat machine's run by its grants: its loads and its memory.
+use Rattle.std.proofs.Common.{◌≡◌, ◌⊎◌, inl, inr, ℕ, zero, suc, ◌+◌, ◌<◌, ◌≤◌, true, false, List, [], ◌∷◌, ◌++◌, length, map, take, replicate, slice_get, Some, refl, sym, ap, subst, ◌∙◌, arith}
+use Rattle.std.proofs.lemmas.List.{map-append, ext_get_or}
+use Rattle.std.proofs.lemmas.Option.{slice_get_within}
+use Rattle.region_table.specs.Program.{ProgramParts, tasks_of, cores_in}
+use Rattle.region_table.specs.declared.declared.TaskDecl.{TaskDecl}
+use Rattle.region_table.specs.declared.declared.Phase.{Phase}
+use Rattle.flat_machine.specs.declared.ending.TaskLoads.{TaskLoads}
+use Rattle.flat_machine.specs.Step.{Started}
+use Rattle.flat_machine.specs.Phases.{Flat, initial}
+use Rattle.flat_machine.specs.Ending.{task_loads, loads_of as flat_loads, end_of, flat_end}
+use Rattle.flat_agreement.specs.Cores.{world_of}
+use Rattle.flat_agreement.proofs.CoreByCore.{agreed-ends, none-ends}
+use Rattle.flat_agreement.proofs.Places.{get-cases}
+use Rattle.message_net.specs.declared.event.Event.{Event}
+use Rattle.phase_barrier.specs.Barrier.{Barrier, all_arrived}
+use Rattle.registration_protocol.specs.Node.{NodeParts, Setting}
+use Rattle.machine_rules.specs.State.{State, opened}
+use Rattle.machine_rules.specs.Sound.{IsSound, IsReady}
+use Rattle.machine_rules.specs.Next.{next}
+use Rattle.machine_rules.specs.Memory.{store_in, memory_of}
+use Rattle.machine_rules.specs.Rest.{HasOpenTask, IsAtRest}
+use Rattle.machine_rules.specs.Runs.{after, IsRun, IsOver, IsCompleteRun, grants_of, loads_of, loads_from, all_loads, memory_after}
+use Rattle.machine_rules.proofs.Invariant.{Invariant}
+use Rattle.machine_rules.proofs.Leaves.{stored_to}
+use Rattle.machine_rules.proofs.Dispatch.{ways}
+use Rattle.machine_rules.proofs.SoundEvents.{sound-next}
+use Rattle.machine_rules.proofs.Kept.{kept}
+use Rattle.machine_rules.proofs.OpenedFacts.{opened-setting, opened-keeper, opened-node}
+use Rattle.machine_rules.proofs.OpenedSound.{opened-sound}
+use Rattle.machine_rules.proofs.OpenedInvariant.{opened-invariant}
+use Rattle.machine_rules.proofs.RestStates.{rest}
+use Rattle.machine_rules.proofs.RunsKept.{memory_over, memory-length, run-setting}
+use Rattle.machine_rules.proofs.RunsCoherent.{first_memory, run-all, run-memory, run-shows}
+use Rattle.run_agreement.specs.Agreed.{States, Loads, stands, tasks_from, Agreed}
+use Rattle.run_agreement.specs.Ends.{HasFlatEnd}
+use Rattle.run_agreement.proofs.Opened.{no_loads, no-phases-run}
+use Rattle.run_agreement.proofs.AgreedRuns.{loads_over}
+use Rattle.run_agreement.proofs.PrefixAgrees.{all-standing, run-agreed}
+use Rattle.run_agreement.proofs.Halting.{IsHalting, halting-leaves, not-all}
+use Rattle.run_agreement.proofs.Resting.{IsResting, task-stops, no-next}
+
+-- ---- halting, over a run
+
+run-halting : (S : State) (M : ℕ → ℕ) (made : ℕ) (events : List Event) → IsSound S made → Invariant S M → IsHalting S → IsRun S events → IsHalting (after S events)
+run-halting S M made [] sound inv h run = h
+run-halting S M made (e ∷ es) sound inv h run =
+    let later = sound-next S made e sound run.0 in
+    run-halting (next S e) (stored_to (store_in S e) M) (made + 1) es later (kept S M e inv run.0 later.machine) (ways S M e (λ M'. IsHalting (next S e)) inv run.0 (halting-leaves S M e inv h)) run.1
+
+some-cores : (ts : List TaskDecl) → 1 ≤ cores_in ts
+some-cores [] = omega arith
+some-cores (d ∷ ds) = let rest = some-cores ds in omega (arith, rest)
+
+opened-halting : (C : Setting) → IsReady C → IsHalting (opened C)
+opened-halting C ready =
+    record {
+      level = λ c n found halted. ap (λ (x : NodeParts). x.phase) (opened-node C c n found).is ∙ sym (ap (λ (k : Barrier). k.phase) (opened-keeper C));
+      over = λ all. absurd (never (sym (ap all_arrived (opened-keeper C)) ∙ all));
+    }
+  where
+    none : all_arrived (record { phases = length C.program.phases; phase = 0; arrived = replicate C.shape.cores false; bad = false }) ≡ false
+    none = not-all C.shape.cores (omega (arith, ready.context.cores, some-cores (tasks_of C.program.phases)))
+
+    never : all_arrived (record { phases = length C.program.phases; phase = 0; arrived = replicate C.shape.cores false; bad = false }) ≡ true → ⊥
+    never all = let off = none in absurd (cc)
+
+-- ---- loads
+
+loads-map : (K : States) (S : State) (events : List Event) (L : Loads) (phase : ℕ) (ds : List TaskDecl) → ((q c : ℕ) → L q c ≡ loads_of q c S events)
+    → map task_loads (map (stands K L phase) ds) ≡ map (λ (d : TaskDecl). record { phase = record { 0 = phase }; core = d.core; loads = loads_of phase d.core.0 S events }) ds
+loads-map K S events L phase [] same = refl
+loads-map K S events L phase (d ∷ ds) same =
+    let f : TaskDecl → TaskLoads = λ e. record { phase = record { 0 = phase }; core = e.core; loads = loads_of phase e.core.0 S events } in
+    let first : task_loads (stands K L phase d) ≡ f d = rw (same phase d.core.0) refl in
+    ap (λ (x : TaskLoads). x ∷ map task_loads (map (stands K L phase) ds)) first ∙ ap (λ (xs : List TaskLoads). f d ∷ xs) (loads-map K S events L phase ds same)
+
+loads-list : (K : States) (S : State) (events : List Event) (L : Loads) (phase : ℕ) (ps : List Phase) → ((q c : ℕ) → L q c ≡ loads_of q c S events) → map task_loads (tasks_from K L phase ps) ≡ loads_from phase ps S events
+loads-list K S events L phase [] same = refl
+loads-list K S events L phase (p ∷ ps) same =
+    let f : TaskDecl → TaskLoads = λ e. record { phase = record { 0 = phase }; core = e.core; loads = loads_of phase e.core.0 S events } in
+    map-append task_loads (map (stands K L phase) p.tasks) (tasks_from K L (phase + 1) ps)
+    ∙ ap (λ (xs : List TaskLoads). xs ++ map task_loads (tasks_from K L (phase + 1) ps)) (loads-map K S events L phase p.tasks same)
+    ∙ ap (λ (xs : List TaskLoads). map f p.tasks ++ xs) (loads-list K S events L (phase + 1) ps same)
+
+-- ---- the end
+
+end-loads : (P : ProgramParts) (fuel : ℕ) (F : Flat) → (end_of P fuel F).loads ≡ flat_loads F
+unfolding end_of
+end-loads P fuel F = refl
+
+end-memory : (P : ProgramParts) (fuel : ℕ) (F : Flat) → (end_of P fuel F).ending.memory ≡ F.memory
+unfolding end_of
+end-memory P fuel F = refl
+
+-- the set is whole, or some task is open
+whole-or-open : (S : State) (M : ℕ → ℕ) (p : Phase) → Invariant S M → IsOver S → slice_get S.setting.program.phases S.keeper.phase ≡ Some p → 0 < length S.nodes → (all_arrived S.keeper ≡ true) ⊎ ((c : ℕ) × HasOpenTask S c)
+whole-or-open S M p inv over there some = by_rest (rest S M inv over) where
+  by_ended : (all_arrived S.keeper ≡ true) ⊎ (length S.setting.program.phases ≡ 0) → (all_arrived S.keeper ≡ true) ⊎ ((c : ℕ) × HasOpenTask S c)
+  by_ended (inl all) = inl all
+  by_ended (inr none) = absurd (omega (arith, none, slice_get_within S.setting.program.phases S.keeper.phase p there))
+
+  by_rest : IsAtRest S → (all_arrived S.keeper ≡ true) ⊎ ((c : ℕ) × HasOpenTask S c)
+  by_rest (inl all) = let n = get-cases S.nodes 0 some in by_ended (inv.ended 0 n.0 n.1 (all 0 n.0 n.1))
+  by_rest (inr stuck) = inr stuck.some
+
+phases-end : (C : Setting) (p : Phase) (events : List Event) → IsReady C → slice_get C.program.phases 0 ≡ Some p → IsCompleteRun (opened C) events → HasFlatEnd C events
+phases-end C p events ready first complete =
+    record {
+      end' = end_of S.setting.program S.setting.fuel W;
+      run = subst (λ (x : Setting). flat_end x.program x.fuel (grants_of (opened C) events) ≡ Some (end_of S.setting.program S.setting.fuel W)) setting ends;
+      loads = end-loads S.setting.program S.setting.fuel W ∙ loads;
+      memory = end-memory S.setting.program S.setting.fuel W ∙ memory;
+    }
+  where
+    S : State
+    S = after (opened C) events
+
+    M : ℕ → ℕ
+    M = memory_over (first_memory C) (opened C) events
+
+    L : Loads
+    L = loads_over no_loads (opened C) events
+
+    h : Agreed S M (grants_of (opened C) events) L
+    h = run-agreed C p events ready first complete.run
+
+    inv : Invariant S M
+    inv = (run-all C events ready complete.run).1
+
+    setting : S.setting ≡ C
+    setting = run-setting (opened C) events ∙ opened-setting C
+
+    resting : IsResting S M h.states L h.phase
+    resting =
+        record {
+          inv = inv;
+          halting = run-halting (opened C) (first_memory C) 0 events (opened-sound C ready.context ready.program ready.checked) (opened-invariant C ready.context ready.program ready.checked)
+              (opened-halting C ready) complete.run;
+          over = complete.over;
+          shown = h.shown;
+          there = h.world.there;
+        }
+
+    past : List Started
+    past = tasks_from h.states L 0 (take S.keeper.phase S.setting.program.phases)
+
+    W : Flat
+    W = world_of S.keeper.phase past h.phase (stands h.states L S.keeper.phase) h.memory
+
+    nodes : 0 < length S.nodes
+    nodes = omega (arith, inv.machine.nodes, inv.machine.context.cores, some-cores (tasks_of S.setting.program.phases))
+
+    ends : flat_end S.setting.program S.setting.fuel (grants_of (opened C) events) ≡ Some (end_of S.setting.program S.setting.fuel W)
+    ends =
+        agreed-ends S.setting.program S.setting.fuel (grants_of (opened C) events) S.keeper.phase past h.phase (stands h.states L S.keeper.phase) h.memory
+        (λ d among. task-stops S M h.states L h.phase d resting among)
+        (no-next S M h.states L h.phase past h.memory resting (whole-or-open S M h.phase inv complete.over h.world.there nodes)) h.world
+
+    loads : flat_loads W ≡ all_loads (opened C) events
+    loads =
+        let number : suc S.keeper.phase ≡ S.keeper.phase + 1 = omega arith in
+        ap (λ (ts : List Started). map task_loads ts) (all-standing S.setting (grants_of (opened C) events) h.states L S.keeper.phase h.phase h.memory h.world)
+        ∙ loads-list h.states (opened C) events L 0 (take (suc S.keeper.phase) S.setting.program.phases) (λ q c. refl)
+        ∙ ap (λ (k : ℕ). loads_from 0 (take k S.setting.program.phases) (opened C) events) number
+
+    memory : h.memory ≡ memory_of S
+    memory = ext_get_or 0 h.memory (memory_after C.program.memory (opened C) events) long (λ i within. h.same i ∙ sym (run-memory C events i)) ∙ sym (run-shows C events ready complete.run)
+      where
+        long : length h.memory ≡ length (memory_after C.program.memory (opened C) events)
+        long = h.world.leads.world.words ∙ ap (λ (x : Setting). length x.program.memory) setting ∙ sym (memory-length (opened C) C.program.memory events)
+
+-- without phases nothing comes
+none-end : (C : Setting) (events : List Event) → IsReady C → C.program.phases ≡ [] → IsCompleteRun (opened C) events → HasFlatEnd C events
+none-end C events ready none complete =
+    record {
+      end' = end_of C.program C.fuel (initial C.program);
+      run = ap (λ (es : List Event). flat_end C.program C.fuel (grants_of (opened C) es)) empty ∙ none-ends C.program C.fuel (ap length none);
+      loads = end-loads C.program C.fuel (initial C.program) ∙ sym (no-begun (opened C) none-too);
+      memory = end-memory C.program C.fuel (initial C.program) ∙ sym (run-shows C events ready complete.run ∙ ap (λ (es : List Event). memory_after C.program.memory (opened C) es) empty);
+    }
+  where
+    empty : events ≡ []
+    empty = no-phases-run C events (ap length none) complete.run
+
+    none-too : (after (opened C) events).setting.program.phases ≡ []
+    none-too = ap (λ (x : Setting). x.program.phases) (run-setting (opened C) events ∙ opened-setting C) ∙ none
+
+    no-begun : (S : State) → (after S events).setting.program.phases ≡ [] → all_loads S events ≡ []
+    no-begun S is = ap (λ (ps : List Phase). loads_from 0 (take ((after S events).keeper.phase + 1) ps) S events) is ∙ no-first ((after S events).keeper.phase + 1)
+      where
+        no-first : (k : ℕ) → loads_from 0 (take k []) S events ≡ []
+        no-first zero = refl
+        no-first (suc k) = refl
+
+pub end-agrees : (C : Setting) (events : List Event) → IsReady C → IsCompleteRun (opened C) events → HasFlatEnd C events
+end-agrees C events ready complete = by_phases C.program.phases refl where
+  by_phases : (ps : List Phase) → C.program.phases ≡ ps → HasFlatEnd C events
+  by_phases [] is = none-end C events ready is complete
+  by_phases (p ∷ ps) is = phases-end C p events ready (ap (λ (xs : List Phase). slice_get xs 0) is) complete

@@ -1,0 +1,15 @@
+pub mod Standing
+pub mod Shown
+pub mod Acting
+pub mod Nodes
+pub mod Phases
+pub mod Quiet
+pub mod Told
+pub mod FreeLocks
+pub mod AgreedLeaves
+pub mod AgreedRuns
+pub mod Opened
+pub mod PrefixAgrees
+pub mod Halting
+pub mod Resting
+pub mod EndAgrees

@@ -1,0 +1,97 @@
+-- The machine as a run begins agrees with the flat machine before any grant.
+use Rattle.std.proofs.Common.{◌≡◌, ℕ, Bool, true, false, List, [], ◌∷◌, length, slice_get, Option, Some, None, refl, sym, ap, subst, ◌∙◌, arith}
+use Rattle.std.specs.List.{IsAmong}
+use Rattle.std.specs.Option.{option_map}
+use Rattle.std.proofs.lemmas.Bool.Decides.{nat_tests}
+use Rattle.std.proofs.lemmas.Option.{none-some, same_Some}
+use Rattle.region_table.specs.Program.{ProgramParts}
+use Rattle.region_table.specs.declared.declared.TaskDecl.{TaskDecl}
+use Rattle.region_table.specs.declared.declared.Phase.{Phase}
+use Rattle.region_table.specs.Tasks.{declared}
+use Rattle.region_table.proofs.TaskLemmas.{declared-only}
+use Rattle.rv_core.specs.declared.task.TaskState.{TaskState}
+use Rattle.rv_core.specs.Task.{started}
+use Rattle.flat_machine.specs.Step.{fresh}
+use Rattle.flat_agreement.proofs.CoreByCore.{agreed-opens}
+use Rattle.message_net.specs.declared.event.Event.{Event}
+use Rattle.message_net.specs.declared.event.Event.TheVariants.{Instr, Evict, Arrive, Handle}
+use Rattle.phase_barrier.specs.Barrier.{Barrier}
+use Rattle.registration_protocol.specs.Node.{NodeParts, Setting}
+use Rattle.registration_protocol.specs.OwnEvents.{may_instr, may_evict, may_arrive}
+use Rattle.machine_rules.specs.State.{opened}
+use Rattle.machine_rules.specs.Next.{enabled, when_there}
+use Rattle.machine_rules.specs.Runs.{IsRun}
+use Rattle.machine_rules.proofs.OpenedFacts.{opened-setting, opened-keeper, IsNewNode, opened-node}
+use Rattle.machine_rules.specs.Sound.{IsReady}
+use Rattle.machine_rules.proofs.RunsCoherent.{first_memory}
+use Rattle.run_agreement.specs.Agreed.{States, Loads, stands, IsWorldAt, AreShown, Agreed}
+use Rattle.run_agreement.proofs.Acting.{world-same}
+
+-- each task at its start
+abbrev pub started_or : Option TaskDecl → TaskState
+started_or None = record { regs = []; pc = 0; held = 0; retired = 0; end = None }
+started_or (Some d) = started d
+
+abbrev pub first_states : ProgramParts → States
+first_states P phase core = started_or (declared P phase core)
+
+abbrev pub no_loads : Loads
+no_loads phase core = []
+
+new-state : (o : Option TaskDecl) (t : TaskState) → option_map started o ≡ Some t → started_or o ≡ t
+new-state None t is = absurd (none-some t is)
+new-state (Some d) t is = same_Some (started d) t is
+
+first-shown : (C : Setting) → AreShown (opened C) (first_states C.program) no_loads
+first-shown C =
+    record {
+      here = λ c n t found task. here c n t (opened-node C c n found) task;
+      ahead = λ c phase n d found later is. ap started_or (subst (λ (x : Setting). declared x.program phase c ≡ Some d) (opened-setting C) is);
+      unread = λ c phase n found later. refl;
+    }
+  where
+    here : (c : ℕ) (n : NodeParts) (t : TaskState) → IsNewNode C c n → n.task ≡ Some t → first_states C.program n.phase c ≡ t
+    here c n t new task =
+        let phase : n.phase ≡ 0 = ap (λ (x : NodeParts). x.phase) new.is in
+        let first : option_map started (declared C.program 0 c) ≡ Some t = sym (ap (λ (x : NodeParts). x.task) new.is) ∙ task in
+        ap (λ (k : ℕ). first_states C.program k c) phase ∙ new-state (declared C.program 0 c) t first
+
+pub opened-agreed : (C : Setting) (p : Phase) → IsReady C → slice_get C.program.phases 0 ≡ Some p → Agreed (opened C) (first_memory C) [] no_loads
+opened-agreed C p ready there =
+    record {
+      states = first_states C.program;
+      shown = first-shown C;
+      memory = C.program.memory;
+      same = λ w. refl;
+      phase = p;
+      world = subst (λ (x : Setting). IsWorldAt x [] (first_states C.program) no_loads (opened C).keeper.phase p C.program.memory) (sym (opened-setting C))
+          (subst (λ (k : ℕ). IsWorldAt C [] (first_states C.program) no_loads k p C.program.memory) (sym (ap (λ (k : Barrier). k.phase) (opened-keeper C))) now);
+    }
+  where
+    first : (d : TaskDecl) → IsAmong p.tasks d → stands (first_states C.program) no_loads 0 d ≡ fresh 0 d
+    first d among =
+        let is : first_states C.program 0 d.core.0 ≡ started d = ap started_or (declared-only C.program 0 p d ready.program there among) in
+        rw (is) refl
+
+    now : IsWorldAt C [] (first_states C.program) no_loads 0 p C.program.memory
+    now = world-same C.program C.fuel [] 0 [] [] p (fresh 0) (stands (first_states C.program) no_loads 0) C.program.memory refl first (agreed-opens C.program C.fuel p ready.program ready.checked there)
+
+-- ---- without phases no event may come
+
+no-phases-halted : (C : Setting) (c : ℕ) (n : NodeParts) → length C.program.phases ≡ 0 → slice_get (opened C).nodes c ≡ Some n → n.halted ≡ true
+no-phases-halted C c n none found = ap (λ (x : NodeParts). x.halted) (opened-node C c n found).is ∙ grind (arith, nat_tests, none)
+
+none-there : (test : NodeParts → Bool) (o : Option NodeParts) → ((n : NodeParts) → o ≡ Some n → test n ≡ false) → when_there test o ≡ false
+none-there test None fails = refl
+none-there test (Some n) fails = fails n refl
+
+pub no-phases-over : (C : Setting) (e : Event) → length C.program.phases ≡ 0 → enabled (opened C) e ≡ false
+unfolding enabled opened
+no-phases-over C (Instr core) none = none-there (may_instr C) (slice_get (opened C).nodes core.0) (λ n found. (let off = no-phases-halted C core.0 n none found in rw (off) refl))
+no-phases-over C (Evict core word) none = none-there (λ (n : NodeParts). may_evict C n word.0) (slice_get (opened C).nodes core.0) (λ n found. (let off = no-phases-halted C core.0 n none found in rw (off) refl))
+no-phases-over C (Arrive core) none = none-there may_arrive (slice_get (opened C).nodes core.0) (λ n found. (let off = no-phases-halted C core.0 n none found in rw (off) refl))
+no-phases-over C (Handle id) none = refl
+
+pub no-phases-run : (C : Setting) (events : List Event) → length C.program.phases ≡ 0 → IsRun (opened C) events → events ≡ []
+no-phases-run C [] none run = refl
+no-phases-run C (e ∷ es) none run = let off = no-phases-over C e none in let on = run.0 in absurd (cc)
