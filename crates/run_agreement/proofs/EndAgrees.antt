@@ -32,10 +32,10 @@ use Rattle.machine_rules.proofs.OpenedInvariant.{opened-invariant}
 use Rattle.machine_rules.proofs.RestStates.{rest}
 use Rattle.machine_rules.proofs.RunsKept.{memory_over, memory-length, run-setting}
 use Rattle.machine_rules.proofs.RunsCoherent.{first_memory, run-all, run-memory, run-shows}
-use Rattle.run_agreement.specs.Agreed.{States, Loads, stands, tasks_from, Agreed}
+use Rattle.run_agreement.specs.Agreed.{States, Loads, Ends, stands, tasks_from, Agreed, more_ends}
 use Rattle.run_agreement.specs.Ends.{HasFlatEnd}
 use Rattle.run_agreement.proofs.Opened.{no_loads, no-phases-run}
-use Rattle.run_agreement.proofs.AgreedRuns.{loads_over}
+use Rattle.run_agreement.proofs.AgreedRuns.{loads_over, ends_over, no_ends}
 use Rattle.run_agreement.proofs.PrefixAgrees.{all-standing, run-agreed}
 use Rattle.run_agreement.proofs.Halting.{IsHalting, halting-leaves, not-all}
 use Rattle.run_agreement.proofs.Resting.{IsResting, task-stops, no-next}
@@ -122,7 +122,10 @@ phases-end C p events ready first complete =
     L : Loads
     L = loads_over no_loads (opened C) events
 
-    h : Agreed S M (grants_of (opened C) events) L
+    E : Ends
+    E = ends_over (more_ends no_ends (opened C)) (opened C) events
+
+    h : Agreed S M (grants_of (opened C) events) L E
     h = run-agreed C p events ready first complete.run
 
     inv : Invariant S M
