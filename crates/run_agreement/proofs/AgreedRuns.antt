@@ -3,13 +3,13 @@ use Rattle.std.proofs.Common.{◌≡◌, ℕ, ◌+◌, true, slice_get, List, []
 use Rattle.std.proofs.lemmas.List.{append_assoc, append-nil}
 use Rattle.dn_base.specs.declared.ids.Grant.{Grant}
 use Rattle.dn_base.specs.declared.ids.LoadSeen.{LoadSeen}
+use Rattle.rv_core.specs.declared.ending.TaskEnd.{TaskEnd}
 use Rattle.message_net.specs.declared.event.Event.{Event}
 use Rattle.machine_rules.specs.State.{State}
 use Rattle.machine_rules.specs.Sound.{IsSound}
 use Rattle.machine_rules.specs.Next.{next, enabled, granted_in}
 use Rattle.machine_rules.specs.Memory.{store_in}
 use Rattle.machine_rules.specs.Runs.{after, IsRun, read_off, grants_of, load_of, loads_of, end_in_phase, later, last_end}
-use Rattle.rv_core.specs.declared.ending.TaskEnd.{TaskEnd}
 use Rattle.machine_rules.proofs.Invariant.{Invariant}
 use Rattle.machine_rules.proofs.Leaves.{stored_to}
 use Rattle.machine_rules.proofs.Dispatch.{ways}

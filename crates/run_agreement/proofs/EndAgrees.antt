@@ -1,15 +1,15 @@
 -- Each complete run has the end of the flat machine's run by its grants: its loads and its ending.
 use Rattle.std.proofs.Common.{◌≡◌, ◌⊎◌, inl, inr, ℕ, zero, suc, ◌+◌, ◌<◌, ◌≤◌, true, false, List, [], ◌∷◌, ◌++◌, length, map, take, replicate, slice_get, Some, refl, sym, ap, subst, ◌∙◌, arith}
+use Rattle.std.specs.List.{IsAmong}
 use Rattle.std.proofs.lemmas.List.{map-append, ext_get_or}
 use Rattle.std.proofs.lemmas.Option.{slice_get_within}
 use Rattle.region_table.specs.Program.{ProgramParts, tasks_of, cores_in}
 use Rattle.region_table.specs.declared.declared.TaskDecl.{TaskDecl}
 use Rattle.region_table.specs.declared.declared.Phase.{Phase}
+use Rattle.rv_core.specs.declared.ending.TaskEnd.{TaskEnd}
 use Rattle.flat_machine.specs.declared.ending.TaskLoads.{TaskLoads}
 use Rattle.flat_machine.specs.Step.{Started}
 use Rattle.flat_machine.specs.Phases.{Flat, initial}
-use Rattle.std.specs.List.{IsAmong}
-use Rattle.rv_core.specs.declared.ending.TaskEnd.{TaskEnd}
 use Rattle.flat_machine.specs.Ending.{task_end, task_loads, loads_of as flat_loads, ends_of as flat_ends, ending_of, end_of, flat_end}
 use Rattle.flat_agreement.specs.Cores.{world_of}
 use Rattle.flat_agreement.proofs.CoreByCore.{agreed-ends, none-ends}
@@ -37,12 +37,12 @@ use Rattle.machine_rules.proofs.RunsCoherent.{first_memory, run-all, run-memory,
 use Rattle.run_agreement.specs.Agreed.{States, Loads, Ends, stands, tasks_from, Agreed, more_ends}
 use Rattle.run_agreement.specs.Ends.{HasFlatEnd}
 use Rattle.run_agreement.proofs.Opened.{no_loads, no-phases-run}
-use Rattle.run_agreement.proofs.AgreedRuns.{loads_over, ends_over, no_ends, last-run, ends-last}
 use Rattle.run_agreement.proofs.Quiet.{last-more}
-use Rattle.run_agreement.proofs.TaskEnds.{task-seen, ends-list, take-back}
+use Rattle.run_agreement.proofs.AgreedRuns.{loads_over, ends_over, no_ends, last-run, ends-last}
 use Rattle.run_agreement.proofs.PrefixAgrees.{all-standing, run-agreed}
 use Rattle.run_agreement.proofs.Halting.{IsHalting, halting-leaves, not-all}
 use Rattle.run_agreement.proofs.Resting.{IsResting, task-stops, no-next}
+use Rattle.run_agreement.proofs.TaskEnds.{task-seen, ends-list, take-back}
 
 -- ---- halting, over a run
 

@@ -1,21 +1,21 @@
 -- Events that leave each task as it was keep that the state agrees with the run.
 use Rattle.std.proofs.Common.{◌≡◌, ℕ, ◌+◌, ◌<◌, ◌==◌, Bool, true, false, slice_get, arith, List, Option, Some, None, refl, sym, ap, subst, ◌∙◌}
 use Rattle.std.specs.Option.{option_map}
-use Rattle.std.proofs.lemmas.Option.{none-some, same_Some}
 use Rattle.std.proofs.lemmas.Bool.Decides.{nat_tests}
+use Rattle.std.proofs.lemmas.Option.{none-some, same_Some}
 use Rattle.dn_base.specs.declared.ids.Grant.{Grant}
 use Rattle.region_table.specs.declared.declared.TaskDecl.{TaskDecl}
 use Rattle.region_table.specs.Tasks.{declared, IsDeclaration}
 use Rattle.region_table.proofs.TaskLemmas.{declared-tells}
+use Rattle.rv_core.specs.declared.task.TaskState.{TaskState}
 use Rattle.rv_core.specs.declared.task.End.{End}
 use Rattle.rv_core.specs.declared.ending.TaskEnd.{TaskEnd}
 use Rattle.rv_core.specs.Ending.{shown_end}
-use Rattle.registration_protocol.specs.OwnEvents.{end_of, end_by, shown_by}
-use Rattle.rv_core.specs.declared.task.TaskState.{TaskState}
 use Rattle.rv_core.specs.Task.{started}
 use Rattle.message_net.specs.declared.message.Outgoing.{Outgoing}
 use Rattle.phase_barrier.specs.Barrier.{Barrier}
 use Rattle.registration_protocol.specs.Node.{NodeParts, goes_on}
+use Rattle.registration_protocol.specs.OwnEvents.{end_of, end_by, shown_by}
 use Rattle.registration_protocol.specs.Messages.{begins}
 use Rattle.machine_rules.specs.State.{State}
 use Rattle.machine_rules.proofs.Invariant.{Invariant}
@@ -23,8 +23,8 @@ use Rattle.machine_rules.proofs.Steps.{NodeStep}
 use Rattle.run_agreement.specs.Agreed.{Loads, Ends, stands, AreShown, HasEnded, AreEnded, Agreed, more_ends}
 use Rattle.run_agreement.proofs.Standing.{SameAt, stands-same}
 use Rattle.run_agreement.proofs.Shown.{shown-still, shown-step, shown-go, ended-still, ended-step, ended-go}
-use Rattle.run_agreement.proofs.Nodes.{task-there}
 use Rattle.run_agreement.proofs.Acting.{past-same, world-same, world-moves}
+use Rattle.run_agreement.proofs.Nodes.{task-there}
 
 -- the nodes have the same tasks in the same phases; the keeper is in the same phase
 moves : {E : Ends} (S T : State) (M : ℕ → ℕ) (gs : List Grant) (L : Loads) → T.setting ≡ S.setting → T.keeper.phase ≡ S.keeper.phase → (h : Agreed S M gs L E) → AreShown T h.states L → AreEnded T h.states E → Agreed T M gs L E

@@ -1,10 +1,12 @@
 -- Where a run is complete, each task stands in the flat machine as it was seen to stand when its node last had it.
-use Rattle.std.proofs.Common.{◌≡◌, ◌⊎◌, inl, inr, ℕ, zero, suc, ◌+◌, ◌<◌, ◌≤◌, ◌==◌, Bool, true, false, List, [], ◌∷◌, ◌++◌, map, take, slice_get, Option, Some, None, refl, sym, ap, subst, ◌∙◌, arith}
+use Rattle.std.proofs.Common.{◌≡◌, inl, inr, ℕ, zero, suc, ◌+◌, ◌<◌, ◌≤◌, ◌==◌, Bool, true, false, List, [], ◌∷◌, ◌++◌, map, take, slice_get, Option, Some, None, refl, sym, ap, subst, ◌∙◌, arith}
 use Rattle.std.specs.List.{IsAmong, filter_map}
 use Rattle.std.proofs.lemmas.Bool.{eqb-true}
 use Rattle.std.proofs.lemmas.Bool.Decides.{nat_tests}
 use Rattle.std.proofs.lemmas.List.{map-append}
 use Rattle.std.proofs.lemmas.Option.{none-some, same_Some}
+use Rattle.dn_base.specs.declared.ids.CoreId.{CoreId}
+use Rattle.dn_base.specs.declared.ids.LockId.{LockId}
 use Rattle.region_table.specs.Program.{ProgramParts}
 use Rattle.region_table.specs.declared.declared.TaskDecl.{TaskDecl}
 use Rattle.region_table.specs.declared.declared.Phase.{Phase}
@@ -17,7 +19,6 @@ use Rattle.rv_core.specs.declared.need.Need.{Need}
 use Rattle.rv_core.specs.declared.ending.EndShown as shown
 use Rattle.rv_core.specs.declared.ending.EndShown.{EndShown}
 use Rattle.rv_core.specs.declared.ending.TaskEnd.{TaskEnd}
-use Rattle.rv_core.specs.Ending.{shown_end}
 use Rattle.rv_core.specs.Need.{need_of}
 use Rattle.flat_machine.specs.Step.{Started}
 use Rattle.flat_machine.specs.Ending.{task_end, shown_of, shown_by}
@@ -31,7 +32,6 @@ use Rattle.machine_rules.specs.State.{State}
 use Rattle.machine_rules.specs.Flight.{goes}
 use Rattle.machine_rules.specs.Rest.{IsLockedOut, IsAtRest}
 use Rattle.machine_rules.specs.Runs.{last_end, ends_from}
-use Rattle.machine_rules.proofs.Invariant.{Invariant}
 use Rattle.machine_rules.proofs.RestNodes.{over-quiet}
 use Rattle.machine_rules.proofs.RestStates.{rest}
 use Rattle.run_agreement.specs.Agreed.{States, Loads, Ends, stands, tasks_from, HasEnded, AreEnded}
@@ -63,6 +63,13 @@ waiting-shows P fuel K L q d t needs state open' wants =
     ∙ ap (λ (e : Option End). record { phase = record { 0 = q }; core = d.core; end = shown_of P fuel (r t) e; retired = t.retired }) open'
     ∙ ap (λ (x : Need). record { phase = record { 0 = q }; core = d.core; end = shown_by x; retired = t.retired }) wants
 
+waiting-tells : (n : NodeParts) (t : TaskState) (lock : LockId) (q : ℕ) (c : CoreId) → n.task ≡ Some t → t.end ≡ None → n.waiting ≡ wait.TheVariants.Locking lock → n.phase ≡ q → n.core ≡ c.0
+    → end_of n n.task ≡ Some (record { phase = record { 0 = q }; core = c; end = shown.TheVariants.Waits lock; retired = t.retired })
+waiting-tells n t lock q c task open' waiting phase core =
+    let tells : ℕ → ℕ → Option TaskEnd = λ k x. Some (record { phase = record { 0 = k }; core = record { 0 = x }; end = shown.TheVariants.Waits lock; retired = t.retired }) in
+    ap (end_of n) task ∙ ap (λ (o : Option End). end_by n t (shown_in o n.waiting)) open' ∙ ap (λ (w : NodeWait). end_by n t (shown_in None w)) waiting
+    ∙ ap (λ (k : ℕ). tells k n.core) phase ∙ ap (tells q) core
+
 -- a task of a phase that has begun
 pub task-seen : (S : State) (M : ℕ → ℕ) (K : States) (L : Loads) (E : Ends) (p : Phase) (q : ℕ) (x : Phase) (d : TaskDecl) → IsResting S M K L p → IsLast S E → AreEnded S K E → q ≤ S.keeper.phase
     → slice_get S.setting.program.phases q ≡ Some x → IsAmong x.tasks d → E q d.core.0 ≡ Some (task_end S.setting.program S.setting.fuel (stands K L q d))
@@ -89,10 +96,7 @@ task-seen S M K L E p q x d h last ended begun there among = by_node (node-there
       let here : declared P q c ≡ Some next_is.decl = subst (λ (k : ℕ). declared P k c ≡ Some next_is.decl) same (subst (λ (y : ℕ). declared P n.phase y ≡ Some next_is.decl) core next_is.declares) in
       let decl : next_is.decl ≡ d = same_Some next_is.decl d (sym here ∙ declares) in
       let wants : need_of P d S.setting.fuel t ≡ need.TheVariants.Acquire out.lock = subst (λ (y : TaskDecl). need_of P y S.setting.fuel t ≡ need.TheVariants.Acquire out.lock) decl next_is.asks in
-      let tells : end_of n n.task ≡ Some (record { phase = record { 0 = q }; core = d.core; end = shown.TheVariants.Waits out.lock; retired = t.retired }) =
-      ap (end_of n) task ∙ ap (λ (o : Option End). end_by n t (shown_in o n.waiting)) open' ∙ ap (λ (w : NodeWait). end_by n t (shown_in None w)) waiting
-      ∙ ap (λ (y : ℕ). Some (record { phase = record { 0 = y }; core = record { 0 = n.core }; end = shown.TheVariants.Waits out.lock; retired = t.retired })) same
-      ∙ ap (λ (y : ℕ). Some (record { phase = record { 0 = q }; core = record { 0 = y }; end = shown.TheVariants.Waits out.lock; retired = t.retired })) core in
+      let tells = waiting-tells n t out.lock q d.core task open' waiting same core in
       let told : E q c ≡ Some (record { phase = record { 0 = q }; core = d.core; end = shown.TheVariants.Waits out.lock; retired = t.retired }) =
       subst (λ (k : ℕ). E k c ≡ Some (record { phase = record { 0 = q }; core = d.core; end = shown.TheVariants.Waits out.lock; retired = t.retired })) same (last c n _ found tells) in
       told ∙ ap Some (sym (waiting-shows P S.setting.fuel K L q d t (need.TheVariants.Acquire out.lock) state open' wants))

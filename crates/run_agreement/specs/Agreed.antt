@@ -1,7 +1,4 @@
 -- How the tasks of a run stand, and what it means that a state of the machine agrees with the flat machine's run.
-use Rattle.rv_core.specs.declared.task.End.{End}
-use Rattle.rv_core.specs.declared.ending.TaskEnd.{TaskEnd}
-use Rattle.rv_core.specs.Ending.{shown_end}
 use Rattle.std.specs.Prelude.{◌≡◌, ℕ, ◌+◌, ◌<◌, List, [], ◌∷◌, ◌++◌, map, take, slice_get, slice_index, Option, Some, None}
 use Rattle.dn_base.specs.declared.ids.Grant.{Grant}
 use Rattle.dn_base.specs.declared.ids.LoadSeen.{LoadSeen}
@@ -9,6 +6,9 @@ use Rattle.region_table.specs.declared.declared.TaskDecl.{TaskDecl}
 use Rattle.region_table.specs.declared.declared.Phase.{Phase}
 use Rattle.region_table.specs.Tasks.{declared}
 use Rattle.rv_core.specs.declared.task.TaskState.{TaskState}
+use Rattle.rv_core.specs.declared.task.End.{End}
+use Rattle.rv_core.specs.declared.ending.TaskEnd.{TaskEnd}
+use Rattle.rv_core.specs.Ending.{shown_end}
 use Rattle.rv_core.specs.Task.{started}
 use Rattle.flat_machine.specs.Step.{Started}
 use Rattle.flat_agreement.specs.Cores.{IsAgreed}
@@ -25,7 +25,7 @@ States = ℕ → ℕ → TaskState
 abbrev pub Loads : Type 0
 Loads = ℕ → ℕ → List LoadSeen
 
--- by phase and core: how the core's task of the phase stood when its node last had it, as far as it was to be seen
+-- by phase and core: how the core's task of the phase was last seen to stand, if it was seen that it had ended or waited for a lock
 abbrev pub Ends : Type 0
 Ends = ℕ → ℕ → Option TaskEnd
 
