@@ -31,9 +31,9 @@ use Rattle.machine_rules.specs.State.{State}
 use Rattle.machine_rules.proofs.Invariant.{Invariant}
 use Rattle.machine_rules.proofs.Steps.{NodeStep}
 use Rattle.machine_rules.proofs.Exclusive.{IsAtWork, in-phase}
-use Rattle.run_agreement.specs.Agreed.{States, Loads, stands, tasks_from, IsWorldAt, AreShown, Agreed}
+use Rattle.run_agreement.specs.Agreed.{States, Loads, Ends, stands, tasks_from, IsWorldAt, AreShown, Agreed}
 use Rattle.run_agreement.proofs.Standing.{SameAt, ChangesAt, stands-same, tasks-same, map-same, with_state, with-own, with-other}
-use Rattle.run_agreement.proofs.Shown.{shown-step}
+use Rattle.run_agreement.proofs.Shown.{shown-step, ended-step}
 
 -- a task with its state and its loads
 abbrev pub task_of : ℕ → TaskDecl → TaskState → List LoadSeen → Started
@@ -161,12 +161,12 @@ world-moves S T gs K L p m setting phase h =
     let one : IsWorldAt S.setting gs K L T.keeper.phase p m = subst (λ (k : ℕ). IsWorldAt S.setting gs K L k p m) (sym phase) h in
     subst (λ (C : Setting). IsWorldAt C gs K L T.keeper.phase p m) (sym setting) one
 
-pub act : (S T : State) (M M' : ℕ → ℕ) (gs : List Grant) (L L' : Loads) (core : CoreId) (n m : NodeParts) (d : TaskDecl) (t t' : TaskState) (loads : List LoadSeen) (left sent : Option Outgoing) (needs : Need)
-    → Invariant S M → (h : Agreed S M gs L) → Acts S T L L' core n m d t t' loads left sent → t.end ≡ None → need_of S.setting.program d S.setting.fuel t ≡ needs
+pub act : {E : Ends} (S T : State) (M M' : ℕ → ℕ) (gs : List Grant) (L L' : Loads) (core : CoreId) (n m : NodeParts) (d : TaskDecl) (t t' : TaskState) (loads : List LoadSeen) (left sent : Option Outgoing) (needs : Need)
+    → Invariant S M → (h : Agreed S M gs L E) → Acts S T L L' core n m d t t' loads left sent → t.end ≡ None → need_of S.setting.program d S.setting.fuel t ≡ needs
     → (memory : List ℕ) → ((w : ℕ) → slice_index memory w ≡ M' w)
     → ((k : ℕ) → step_by S.setting.program (at_memory (task_of k d t (L n.phase core.0)) h.memory) (Some needs) ≡ at_memory (task_of k d t' loads) memory)
-    → Agreed T M' gs L'
-act S T M M' gs L L' core n m d t t' loads left sent needs inv h a open' wants memory same goes =
+    → Agreed T M' gs L' E
+act {E} S T M M' gs L L' core n m d t t' loads left sent needs inv h a open' wants memory same goes =
     let K : States = h.states in
     let phase : n.phase ≡ S.keeper.phase = in-phase S M core.0 n d t inv a.works in
     let world : IsWorldAt S.setting gs K L n.phase h.phase h.memory = subst (λ (k : ℕ). IsWorldAt S.setting gs K L k h.phase h.memory) (sym phase) h.world in
@@ -176,6 +176,7 @@ act S T M M' gs L L' core n m d t t' loads left sent needs inv h a open' wants m
     record {
       states = with_state K n.phase core.0 t';
       shown = shown-acts S T L L' core n m d t t' loads left sent K a h.shown;
+      ended = ended-step S T K (with_state K n.phase core.0 t') E core.0 n m left sent a.step a.phase (with-other K n.phase core.0 t') h.ended;
       memory = memory;
       same = same;
       phase = h.phase;
@@ -184,11 +185,11 @@ act S T M M' gs L L' core n m d t t' loads left sent needs inv h a open' wants m
     }
 
 -- a core's grant of a lock that no task of the phase holds
-pub act-grant : (S T : State) (M : ℕ → ℕ) (gs : List Grant) (L L' : Loads) (core : CoreId) (n m : NodeParts) (d : TaskDecl) (t : TaskState) (lock : LockId) (left sent : Option Outgoing)
-    → Invariant S M → (h : Agreed S M gs L) → Acts S T L L' core n m d t (advanced S.setting.program t) (L n.phase core.0) left sent → t.end ≡ None
+pub act-grant : {E : Ends} (S T : State) (M : ℕ → ℕ) (gs : List Grant) (L L' : Loads) (core : CoreId) (n m : NodeParts) (d : TaskDecl) (t : TaskState) (lock : LockId) (left sent : Option Outgoing)
+    → Invariant S M → (h : Agreed S M gs L E) → Acts S T L L' core n m d t (advanced S.setting.program t) (L n.phase core.0) left sent → t.end ≡ None
     → need_of S.setting.program d S.setting.fuel t ≡ need.TheVariants.Acquire lock → IsFreeAmong h.phase (stands h.states L n.phase) lock.0
-    → Agreed T M (gs ++ record { phase = record { 0 = n.phase }; core = core; lock = lock } ∷ []) L'
-act-grant S T M gs L L' core n m d t lock left sent inv h a open' wants free =
+    → Agreed T M (gs ++ record { phase = record { 0 = n.phase }; core = core; lock = lock } ∷ []) L' E
+act-grant {E} S T M gs L L' core n m d t lock left sent inv h a open' wants free =
     let K : States = h.states in
     let t' : TaskState = advanced S.setting.program t in
     let gs' : List Grant = gs ++ record { phase = record { 0 = n.phase }; core = core; lock = lock } ∷ [] in
@@ -200,6 +201,7 @@ act-grant S T M gs L L' core n m d t lock left sent inv h a open' wants free =
     record {
       states = with_state K n.phase core.0 t';
       shown = shown-acts S T L L' core n m d t t' (L n.phase core.0) left sent K a h.shown;
+      ended = ended-step S T K (with_state K n.phase core.0 t') E core.0 n m left sent a.step a.phase (with-other K n.phase core.0 t') h.ended;
       memory = h.memory;
       same = h.same;
       phase = h.phase;

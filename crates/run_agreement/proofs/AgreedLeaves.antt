@@ -36,25 +36,25 @@ use Rattle.machine_rules.proofs.Exclusive.{acting-works, IsAtWork, in-phase}
 use Rattle.machine_rules.proofs.LoadsRead.{copy-loaded, own-loaded}
 use Rattle.machine_rules.proofs.RunsKept.{stored-list}
 use Rattle.machine_rules.proofs.WordCore.{same-number}
-use Rattle.run_agreement.specs.Agreed.{Loads, stands, Agreed, more_grants, more_loads}
+use Rattle.run_agreement.specs.Agreed.{Loads, Ends, stands, Agreed, more_grants, more_loads}
 use Rattle.run_agreement.proofs.Acting.{task_of, Acts, act, act-grant}
-use Rattle.run_agreement.proofs.Quiet.{still-agreed, quiet-agreed, go-agreed, loads-same}
+use Rattle.run_agreement.proofs.Quiet.{IsLast, still-agreed, quiet-agreed, go-agreed, loads-same}
 use Rattle.run_agreement.proofs.Phases.{begins-agreed}
 use Rattle.run_agreement.proofs.FreeLocks.{granted-free}
 use Rattle.run_agreement.proofs.Told.{same-loads, same-grants, one-grant, loads-core, LoadsMore, more-loaded}
 
 -- the state after an event, with the grants and the loads that it adds
-abbrev pub AgreedNext : State → Event → List Granted → Loads → (ℕ → ℕ) → Type 0
-AgreedNext S e gs L M = Agreed (next S e) M (more_grants gs S e) (more_loads L S e)
+abbrev pub AgreedNext : State → Event → List Granted → Loads → Ends → (ℕ → ℕ) → Type 0
+AgreedNext S e gs L E M = Agreed (next S e) M (more_grants gs S e) (more_loads L S e) E
 
 -- ---- what a task does that loads nothing
 
-acts-plainly : (S : State) (M M' : ℕ → ℕ) (e : Event) (gs : List Granted) (L : Loads) (core : CoreId) (n m : NodeParts) (d : TaskDecl) (t t' : TaskState) (sent : Option Outgoing) (needs : Need)
-    → Invariant S M → (h : Agreed S M gs L) → IsActing S core n d t needs → seen_in S e ≡ None → granted_in S e ≡ None → NodeStep S (next S e) core.0 n m None sent → m.phase ≡ n.phase → m.task ≡ Some t'
+acts-plainly : {E : Ends} (S : State) (M M' : ℕ → ℕ) (e : Event) (gs : List Granted) (L : Loads) (core : CoreId) (n m : NodeParts) (d : TaskDecl) (t t' : TaskState) (sent : Option Outgoing) (needs : Need)
+    → Invariant S M → (h : Agreed S M gs L E) → IsActing S core n d t needs → seen_in S e ≡ None → granted_in S e ≡ None → NodeStep S (next S e) core.0 n m None sent → m.phase ≡ n.phase → m.task ≡ Some t'
     → (memory : List ℕ) → ((w : ℕ) → slice_index memory w ≡ M' w)
     → ((k : ℕ) → step_by S.setting.program (at_memory (task_of k d t (L n.phase core.0)) h.memory) (Some needs) ≡ at_memory (task_of k d t' (L n.phase core.0)) memory)
-    → AgreedNext S e gs L M'
-acts-plainly S M M' e gs L core n m d t t' sent needs inv h acts seen granted step phase task memory same goes =
+    → AgreedNext S e gs L E M'
+acts-plainly {E} S M M' e gs L core n m d t t' sent needs inv h acts seen granted step phase task memory same goes =
     let a : Acts S (next S e) L (more_loads L S e) core n m d t t' (L n.phase core.0) None sent = record {
       works = acting-works S core n d t needs acts;
       step = step;
@@ -63,17 +63,17 @@ acts-plainly S M M' e gs L core n m d t t' sent needs inv h acts seen granted st
       own = same-loads S e L seen n.phase core.0;
       others = λ q c apart. same-loads S e L seen q c;
     } in
-    let now : Agreed (next S e) M' gs (more_loads L S e) =
+    let now : Agreed (next S e) M' gs (more_loads L S e) E =
     act S (next S e) M M' gs L (more_loads L S e) core n m d t t' (L n.phase core.0) None sent needs inv h a acts.open' acts.wants memory same goes in
-    subst (λ (x : List Granted). Agreed (next S e) M' x (more_loads L S e)) (sym (same-grants S e gs granted)) now
+    subst (λ (x : List Granted). Agreed (next S e) M' x (more_loads L S e) E) (sym (same-grants S e gs granted)) now
 
 -- ---- loads
 
-loads-one : (S : State) (M : ℕ → ℕ) (e : Event) (gs : List Granted) (L : Loads) (core : CoreId) (n m : NodeParts) (d : TaskDecl) (t : TaskState) (word : WordId) (value : ℕ)
-    → Invariant S M → (h : Agreed S M gs L) → IsActing S core n d t (need.TheVariants.Load word) → seen_in S e ≡ Some (record { word = word; value = value }) → granted_in S e ≡ None → value ≡ M word.0
-    → NodeStep S (next S e) core.0 n m None None → m.phase ≡ n.phase → m.task ≡ Some (loaded_of S.setting.program value t) → AgreedNext S e gs L M
-loads-one S M e gs L core n m d t word value inv h acts seen granted right step phase task =
-    subst (λ (x : List Granted). Agreed (next S e) M x (more_loads L S e)) (sym (same-grants S e gs granted)) now
+loads-one : {E : Ends} (S : State) (M : ℕ → ℕ) (e : Event) (gs : List Granted) (L : Loads) (core : CoreId) (n m : NodeParts) (d : TaskDecl) (t : TaskState) (word : WordId) (value : ℕ)
+    → Invariant S M → (h : Agreed S M gs L E) → IsActing S core n d t (need.TheVariants.Load word) → seen_in S e ≡ Some (record { word = word; value = value }) → granted_in S e ≡ None → value ≡ M word.0
+    → NodeStep S (next S e) core.0 n m None None → m.phase ≡ n.phase → m.task ≡ Some (loaded_of S.setting.program value t) → AgreedNext S e gs L E M
+loads-one {E} S M e gs L core n m d t word value inv h acts seen granted right step phase task =
+    subst (λ (x : List Granted). Agreed (next S e) M x (more_loads L S e) E) (sym (same-grants S e gs granted)) now
   where
     one : LoadSeen
     one = record { word = word; value = value }
@@ -116,15 +116,15 @@ loads-one S M e gs L core n m d t word value inv h acts seen granted right step 
     goes : (k : ℕ) → step_by S.setting.program (at_memory (task_of k d t (L n.phase core.0)) h.memory) (Some (need.TheVariants.Load word)) ≡ at_memory (task_of k d t' loads) h.memory
     goes k = ap (λ (v : ℕ). at_memory (task_of k d (loaded_of S.setting.program v t) (L n.phase core.0 ++ record { word = word; value = v } ∷ [])) h.memory) same-value
 
-    now : Agreed (next S e) M gs (more_loads L S e)
+    now : Agreed (next S e) M gs (more_loads L S e) E
     now = act S (next S e) M M gs L (more_loads L S e) core n m d t t' loads None None (need.TheVariants.Load word) inv h a acts.open' acts.wants h.memory h.same goes
 
 -- ---- stores
 
-stores-one : (S : State) (M : ℕ → ℕ) (e : Event) (gs : List Granted) (L : Loads) (core : CoreId) (n m : NodeParts) (d : TaskDecl) (t : TaskState) (word : WordId) (whole : Bool) (value : ℕ) (sent : Option Outgoing)
-    → Invariant S M → (h : Agreed S M gs L) → IsActing S core n d t (need.TheVariants.Store word whole) → seen_in S e ≡ None → granted_in S e ≡ None → value ≡ merged_of S.setting.program (M word.0) t
-    → NodeStep S (next S e) core.0 n m None sent → m.phase ≡ n.phase → m.task ≡ Some (advanced S.setting.program t) → AgreedNext S e gs L (stored_to (Some (word, value)) M)
-stores-one S M e gs L core n m d t word whole value sent inv h acts seen granted right step phase task =
+stores-one : {E : Ends} (S : State) (M : ℕ → ℕ) (e : Event) (gs : List Granted) (L : Loads) (core : CoreId) (n m : NodeParts) (d : TaskDecl) (t : TaskState) (word : WordId) (whole : Bool) (value : ℕ) (sent : Option Outgoing)
+    → Invariant S M → (h : Agreed S M gs L E) → IsActing S core n d t (need.TheVariants.Store word whole) → seen_in S e ≡ None → granted_in S e ≡ None → value ≡ merged_of S.setting.program (M word.0) t
+    → NodeStep S (next S e) core.0 n m None sent → m.phase ≡ n.phase → m.task ≡ Some (advanced S.setting.program t) → AgreedNext S e gs L E (stored_to (Some (word, value)) M)
+stores-one {E} S M e gs L core n m d t word whole value sent inv h acts seen granted right step phase task =
     acts-plainly S M (stored_to (Some (word, value)) M) e gs L core n m d t (advanced S.setting.program t) sent (need.TheVariants.Store word whole) inv h acts seen granted step phase task
     (slice_set h.memory word.0 value) written goes
   where
@@ -158,11 +158,11 @@ own-merged S M core n d t word false old pending inv acts is =
 
 -- ---- grants
 
-takes-lock : (S : State) (M : ℕ → ℕ) (e : Event) (gs : List Granted) (L : Loads) (core : CoreId) (n : NodeParts) (d : TaskDecl) (t : TaskState) (lock : LockId) (s : Signature)
-    → Invariant S M → (h : Agreed S M gs L) → IsAtWork S core.0 n d t → t.end ≡ None → need_of S.setting.program d S.setting.fuel t ≡ need.TheVariants.Acquire lock
+takes-lock : {E : Ends} (S : State) (M : ℕ → ℕ) (e : Event) (gs : List Granted) (L : Loads) (core : CoreId) (n : NodeParts) (d : TaskDecl) (t : TaskState) (lock : LockId) (s : Signature)
+    → Invariant S M → (h : Agreed S M gs L E) → IsAtWork S core.0 n d t → t.end ≡ None → need_of S.setting.program d S.setting.fuel t ≡ need.TheVariants.Acquire lock
     → Tells S e None (Some (record { phase = record { 0 = n.phase }; core = core; lock = lock })) None
-    → NodeStep S (next S e) core.0 n (holds_now S.setting n t lock s).0 (at_core core (Grant lock s)) None → AgreedNext S e gs L M
-takes-lock S M e gs L core n d t lock s inv h works open' wants told step =
+    → NodeStep S (next S e) core.0 n (holds_now S.setting n t lock s).0 (at_core core (Grant lock s)) None → AgreedNext S e gs L E M
+takes-lock {E} S M e gs L core n d t lock s inv h works open' wants told step =
     let g : Granted = record { phase = record { 0 = n.phase }; core = core; lock = lock } in
     let a : Acts S (next S e) L (more_loads L S e) core n (holds_now S.setting n t lock s).0 d t (advanced S.setting.program t) (L n.phase core.0) (at_core core (Grant lock s)) None = record {
       works = works;
@@ -176,14 +176,14 @@ takes-lock S M e gs L core n d t lock s inv h works open' wants told step =
     let some : 1 ≤ flight S (grants lock.0 core.0) = omega (arith, one, step.flown (grants lock.0 core.0)) in
     let free : IsFreeAmong h.phase (stands h.states L n.phase) lock.0 =
     subst (λ (k : ℕ). IsFreeAmong h.phase (stands h.states L k) lock.0) (sym (in-phase S M core.0 n d t inv works)) (granted-free S M h.states L h.phase lock.0 core.0 inv h.shown h.world.there some) in
-    let now : Agreed (next S e) M (gs ++ g ∷ []) (more_loads L S e) =
+    let now : Agreed (next S e) M (gs ++ g ∷ []) (more_loads L S e) E =
     act-grant S (next S e) M gs L (more_loads L S e) core n (holds_now S.setting n t lock s).0 d t lock (at_core core (Grant lock s)) None inv h a open' wants free in
-    subst (λ (x : List Granted). Agreed (next S e) M x (more_loads L S e)) (sym (one-grant S e gs g told.granted_is)) now
+    subst (λ (x : List Granted). Agreed (next S e) M x (more_loads L S e) E) (sym (one-grant S e gs g told.granted_is)) now
 
 -- ---- every event
 
-pub agreed-leaves : (S : State) (M : ℕ → ℕ) (e : Event) (gs : List Granted) (L : Loads) → Invariant S M → Agreed S M gs L → Leaves S M e (AgreedNext S e gs L)
-agreed-leaves S M e gs L inv h =
+pub agreed-leaves : {E : Ends} (S : State) (M : ℕ → ℕ) (e : Event) (gs : List Granted) (L : Loads) → Invariant S M → IsLast S E → Agreed S M gs L E → Leaves S M e (AgreedNext S e gs L E)
+agreed-leaves {E} S M e gs L inv last h =
     record {
       local = λ core n d t acts told step. plainly core n _ d t _ None need.TheVariants.Local acts told step refl refl (λ k. refl);
       ends = λ core n d t by acts told step. plainly core n _ d t _ None (need.TheVariants.End by) acts told step refl refl (λ k. refl);
@@ -212,7 +212,7 @@ agreed-leaves S M e gs L inv h =
       freed = λ core n word value found is told step. quiet core n _ _ None told.seen_is told.granted_is step refl refl;
       grant = λ core n d t lock s found waits task open' declares wants awake absent told step.
           takes-lock S M e gs L core n d t lock s inv h (record { found = found; awake = awake; absent = absent; task = task; declares = declares }) open' wants told step;
-      go = λ core n phase found awake there right later within told step. kept told.seen_is told.granted_is (go-agreed S (next S e) M gs L core.0 n phase.0 _ None inv step later h);
+      go = λ core n phase found awake there right later within told step. kept told.seen_is told.granted_is (go-agreed S (next S e) M gs L core.0 n phase.0 _ None inv step later there last h);
       halt = λ core n found awake there told step. quiet core n _ _ None told.seen_is told.granted_is step refl refl;
       read_home = λ bank word reader value is told step. home told.seen_is told.granted_is step.setting step.nodes step.keeper;
       read_owned = λ bank word reader owner is told step. home told.seen_is told.granted_is step.setting step.nodes step.keeper;
@@ -229,17 +229,17 @@ agreed-leaves S M e gs L inv h =
       all_halt = λ core bad new whole over told step. kept told.seen_is told.granted_is (still-agreed S (next S e) M gs L step.setting step.nodes (ap (λ (k : Barrier). k.phase) step.keeper) h);
     }
   where
-    kept : seen_in S e ≡ None → granted_in S e ≡ None → Agreed (next S e) M gs L → AgreedNext S e gs L M
+    kept : seen_in S e ≡ None → granted_in S e ≡ None → Agreed (next S e) M gs L E → AgreedNext S e gs L E M
     kept seen granted now = loads-same (next S e) M gs (more_grants gs S e) L (more_loads L S e) (same-grants S e gs granted) (same-loads S e L seen) now
 
-    quiet : (core : CoreId) (n m : NodeParts) (left sent : Option Outgoing) → seen_in S e ≡ None → granted_in S e ≡ None → NodeStep S (next S e) core.0 n m left sent → m.phase ≡ n.phase → m.task ≡ n.task → AgreedNext S e gs L M
+    quiet : (core : CoreId) (n m : NodeParts) (left sent : Option Outgoing) → seen_in S e ≡ None → granted_in S e ≡ None → NodeStep S (next S e) core.0 n m left sent → m.phase ≡ n.phase → m.task ≡ n.task → AgreedNext S e gs L E M
     quiet core n m left sent seen granted step phase task = kept seen granted (quiet-agreed S (next S e) M gs L core.0 n m left sent step phase task h)
 
-    home : seen_in S e ≡ None → granted_in S e ≡ None → (next S e).setting ≡ S.setting → (next S e).nodes ≡ S.nodes → (next S e).keeper ≡ S.keeper → AgreedNext S e gs L M
+    home : seen_in S e ≡ None → granted_in S e ≡ None → (next S e).setting ≡ S.setting → (next S e).nodes ≡ S.nodes → (next S e).keeper ≡ S.keeper → AgreedNext S e gs L E M
     home seen granted setting nodes keeper = kept seen granted (still-agreed S (next S e) M gs L setting nodes (ap (λ (k : Barrier). k.phase) keeper) h)
 
     plainly : (core : CoreId) (n m : NodeParts) (d : TaskDecl) (t t' : TaskState) (sent : Option Outgoing) (needs : Need) → IsActing S core n d t needs → Tells S e None None None
         → NodeStep S (next S e) core.0 n m None sent → m.phase ≡ n.phase → m.task ≡ Some t'
-        → ((k : ℕ) → step_by S.setting.program (at_memory (task_of k d t (L n.phase core.0)) h.memory) (Some needs) ≡ at_memory (task_of k d t' (L n.phase core.0)) h.memory) → AgreedNext S e gs L M
+        → ((k : ℕ) → step_by S.setting.program (at_memory (task_of k d t (L n.phase core.0)) h.memory) (Some needs) ≡ at_memory (task_of k d t' (L n.phase core.0)) h.memory) → AgreedNext S e gs L E M
     plainly core n m d t t' sent needs acts told step phase task goes =
         acts-plainly S M M e gs L core n m d t t' sent needs inv h acts told.seen_is told.granted_is step phase task h.memory h.same goes

@@ -1,14 +1,16 @@
--- Each complete run has the end of the flat machine's run by its grants: its loads and its memory.
+-- Each complete run has the end of the flat machine's run by its grants: its loads and its ending.
 use Rattle.std.proofs.Common.{◌≡◌, ◌⊎◌, inl, inr, ℕ, zero, suc, ◌+◌, ◌<◌, ◌≤◌, true, false, List, [], ◌∷◌, ◌++◌, length, map, take, replicate, slice_get, Some, refl, sym, ap, subst, ◌∙◌, arith}
+use Rattle.std.specs.List.{IsAmong}
 use Rattle.std.proofs.lemmas.List.{map-append, ext_get_or}
 use Rattle.std.proofs.lemmas.Option.{slice_get_within}
 use Rattle.region_table.specs.Program.{ProgramParts, tasks_of, cores_in}
 use Rattle.region_table.specs.declared.declared.TaskDecl.{TaskDecl}
 use Rattle.region_table.specs.declared.declared.Phase.{Phase}
+use Rattle.rv_core.specs.declared.ending.TaskEnd.{TaskEnd}
 use Rattle.flat_machine.specs.declared.ending.TaskLoads.{TaskLoads}
 use Rattle.flat_machine.specs.Step.{Started}
 use Rattle.flat_machine.specs.Phases.{Flat, initial}
-use Rattle.flat_machine.specs.Ending.{task_loads, loads_of as flat_loads, end_of, flat_end}
+use Rattle.flat_machine.specs.Ending.{task_end, task_loads, loads_of as flat_loads, ends_of as flat_ends, ending_of, end_of, flat_end}
 use Rattle.flat_agreement.specs.Cores.{world_of}
 use Rattle.flat_agreement.proofs.CoreByCore.{agreed-ends, none-ends}
 use Rattle.flat_agreement.proofs.Places.{get-cases}
@@ -20,7 +22,7 @@ use Rattle.machine_rules.specs.Sound.{IsSound, IsReady}
 use Rattle.machine_rules.specs.Next.{next}
 use Rattle.machine_rules.specs.Memory.{store_in, memory_of}
 use Rattle.machine_rules.specs.Rest.{HasOpenTask, IsAtRest}
-use Rattle.machine_rules.specs.Runs.{after, IsRun, IsOver, IsCompleteRun, grants_of, loads_of, loads_from, all_loads, memory_after}
+use Rattle.machine_rules.specs.Runs.{after, IsRun, IsOver, IsCompleteRun, grants_of, loads_of, loads_from, all_loads, memory_after, last_end, ends_from, ends_of}
 use Rattle.machine_rules.proofs.Invariant.{Invariant}
 use Rattle.machine_rules.proofs.Leaves.{stored_to}
 use Rattle.machine_rules.proofs.Dispatch.{ways}
@@ -32,13 +34,15 @@ use Rattle.machine_rules.proofs.OpenedInvariant.{opened-invariant}
 use Rattle.machine_rules.proofs.RestStates.{rest}
 use Rattle.machine_rules.proofs.RunsKept.{memory_over, memory-length, run-setting}
 use Rattle.machine_rules.proofs.RunsCoherent.{first_memory, run-all, run-memory, run-shows}
-use Rattle.run_agreement.specs.Agreed.{States, Loads, stands, tasks_from, Agreed}
+use Rattle.run_agreement.specs.Agreed.{States, Loads, Ends, stands, tasks_from, Agreed, more_ends}
 use Rattle.run_agreement.specs.Ends.{HasFlatEnd}
 use Rattle.run_agreement.proofs.Opened.{no_loads, no-phases-run}
-use Rattle.run_agreement.proofs.AgreedRuns.{loads_over}
+use Rattle.run_agreement.proofs.Quiet.{last-more}
+use Rattle.run_agreement.proofs.AgreedRuns.{loads_over, ends_over, no_ends, last-run, ends-last}
 use Rattle.run_agreement.proofs.PrefixAgrees.{all-standing, run-agreed}
 use Rattle.run_agreement.proofs.Halting.{IsHalting, halting-leaves, not-all}
 use Rattle.run_agreement.proofs.Resting.{IsResting, task-stops, no-next}
+use Rattle.run_agreement.proofs.TaskEnds.{task-seen, ends-list, take-back}
 
 -- ---- halting, over a run
 
@@ -89,9 +93,12 @@ end-loads : (P : ProgramParts) (fuel : ℕ) (F : Flat) → (end_of P fuel F).loa
 unfolding end_of
 end-loads P fuel F = refl
 
-end-memory : (P : ProgramParts) (fuel : ℕ) (F : Flat) → (end_of P fuel F).ending.memory ≡ F.memory
+end-ending : (P : ProgramParts) (fuel : ℕ) (F : Flat) → (end_of P fuel F).ending ≡ ending_of (flat_ends P fuel F) F.memory
 unfolding end_of
-end-memory P fuel F = refl
+end-ending P fuel F = refl
+
+same-ending : (xs ys : List TaskEnd) (m m' : List ℕ) → xs ≡ ys → m ≡ m' → ending_of xs m ≡ ending_of ys m'
+same-ending xs ys m m' ends memory = ap (λ (zs : List TaskEnd). ending_of zs m) ends ∙ ap (ending_of ys) memory
 
 -- the set is whole, or some task is open
 whole-or-open : (S : State) (M : ℕ → ℕ) (p : Phase) → Invariant S M → IsOver S → slice_get S.setting.program.phases S.keeper.phase ≡ Some p → 0 < length S.nodes → (all_arrived S.keeper ≡ true) ⊎ ((c : ℕ) × HasOpenTask S c)
@@ -110,7 +117,7 @@ phases-end C p events ready first complete =
       end' = end_of S.setting.program S.setting.fuel W;
       run = subst (λ (x : Setting). flat_end x.program x.fuel (grants_of (opened C) events) ≡ Some (end_of S.setting.program S.setting.fuel W)) setting ends;
       loads = end-loads S.setting.program S.setting.fuel W ∙ loads;
-      memory = end-memory S.setting.program S.setting.fuel W ∙ memory;
+      ending = end-ending S.setting.program S.setting.fuel W ∙ same-ending (flat_ends S.setting.program S.setting.fuel W) (ends_of (opened C) events) h.memory (memory_of S) tasks memory;
     }
   where
     S : State
@@ -122,7 +129,10 @@ phases-end C p events ready first complete =
     L : Loads
     L = loads_over no_loads (opened C) events
 
-    h : Agreed S M (grants_of (opened C) events) L
+    E : Ends
+    E = ends_over (more_ends no_ends (opened C)) (opened C) events
+
+    h : Agreed S M (grants_of (opened C) events) L E
     h = run-agreed C p events ready first complete.run
 
     inv : Invariant S M
@@ -164,6 +174,23 @@ phases-end C p events ready first complete =
         ∙ loads-list h.states (opened C) events L 0 (take (suc S.keeper.phase) S.setting.program.phases) (λ q c. refl)
         ∙ ap (λ (k : ℕ). loads_from 0 (take k S.setting.program.phases) (opened C) events) number
 
+    task : (j : ℕ) (x : Phase) (d : TaskDecl) → slice_get (take (suc S.keeper.phase) S.setting.program.phases) j ≡ Some x → IsAmong x.tasks d
+        → last_end (0 + j) d.core.0 (opened C) events ≡ Some (task_end S.setting.program S.setting.fuel (stands h.states L (0 + j) d))
+    task j x d there among =
+        let back = take-back S.setting.program.phases (suc S.keeper.phase) j x there in
+        let number : j ≡ 0 + j = omega arith in
+        let seen : E j d.core.0 ≡ Some (task_end S.setting.program S.setting.fuel (stands h.states L j d)) =
+        task-seen S M h.states L E h.phase j x d resting (last-run (opened C) (more_ends no_ends (opened C)) events (last-more (opened C) no_ends)) h.ended (omega (arith, back.0)) back.1 among in
+        subst (λ (k : ℕ). last_end k d.core.0 (opened C) events ≡ Some (task_end S.setting.program S.setting.fuel (stands h.states L k d))) number
+        (sym (ends-last (opened C) events j d.core.0) ∙ seen)
+
+    tasks : flat_ends S.setting.program S.setting.fuel W ≡ ends_of (opened C) events
+    tasks =
+        let number : suc S.keeper.phase ≡ S.keeper.phase + 1 = omega arith in
+        ap (λ (ts : List Started). map (task_end S.setting.program S.setting.fuel) ts) (all-standing S.setting (grants_of (opened C) events) h.states L S.keeper.phase h.phase h.memory h.world)
+        ∙ ends-list S.setting.program S.setting.fuel h.states L (opened C) events 0 (take (suc S.keeper.phase) S.setting.program.phases) task
+        ∙ ap (λ (k : ℕ). ends_from 0 (take k S.setting.program.phases) (opened C) events) number
+
     memory : h.memory ≡ memory_of S
     memory = ext_get_or 0 h.memory (memory_after C.program.memory (opened C) events) long (λ i within. h.same i ∙ sym (run-memory C events i)) ∙ sym (run-shows C events ready complete.run)
       where
@@ -177,7 +204,8 @@ none-end C events ready none complete =
       end' = end_of C.program C.fuel (initial C.program);
       run = ap (λ (es : List Event). flat_end C.program C.fuel (grants_of (opened C) es)) empty ∙ none-ends C.program C.fuel (ap length none);
       loads = end-loads C.program C.fuel (initial C.program) ∙ sym (no-begun (opened C) none-too);
-      memory = end-memory C.program C.fuel (initial C.program) ∙ sym (run-shows C events ready complete.run ∙ ap (λ (es : List Event). memory_after C.program.memory (opened C) es) empty);
+      ending = end-ending C.program C.fuel (initial C.program) ∙ same-ending [] (ends_of (opened C) events) C.program.memory (memory_of (after (opened C) events)) (sym (no-ends (opened C) none-too))
+          (sym (run-shows C events ready complete.run ∙ ap (λ (es : List Event). memory_after C.program.memory (opened C) es) empty));
     }
   where
     empty : events ≡ []
@@ -190,6 +218,13 @@ none-end C events ready none complete =
     no-begun S is = ap (λ (ps : List Phase). loads_from 0 (take ((after S events).keeper.phase + 1) ps) S events) is ∙ no-first ((after S events).keeper.phase + 1)
       where
         no-first : (k : ℕ) → loads_from 0 (take k []) S events ≡ []
+        no-first zero = refl
+        no-first (suc k) = refl
+
+    no-ends : (S : State) → (after S events).setting.program.phases ≡ [] → ends_of S events ≡ []
+    no-ends S is = ap (λ (ps : List Phase). ends_from 0 (take ((after S events).keeper.phase + 1) ps) S events) is ∙ no-first ((after S events).keeper.phase + 1)
+      where
+        no-first : (k : ℕ) → ends_from 0 (take k []) S events ≡ []
         no-first zero = refl
         no-first (suc k) = refl
 

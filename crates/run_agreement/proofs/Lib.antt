@@ -12,4 +12,5 @@ pub mod Opened
 pub mod PrefixAgrees
 pub mod Halting
 pub mod Resting
+pub mod TaskEnds
 pub mod EndAgrees

@@ -24,7 +24,7 @@ use Rattle.machine_rules.specs.Runs.{IsRun}
 use Rattle.machine_rules.proofs.OpenedFacts.{opened-setting, opened-keeper, IsNewNode, opened-node}
 use Rattle.machine_rules.specs.Sound.{IsReady}
 use Rattle.machine_rules.proofs.RunsCoherent.{first_memory}
-use Rattle.run_agreement.specs.Agreed.{States, Loads, stands, IsWorldAt, AreShown, Agreed}
+use Rattle.run_agreement.specs.Agreed.{States, Loads, Ends, stands, IsWorldAt, AreShown, Agreed}
 use Rattle.run_agreement.proofs.Acting.{world-same}
 
 -- each task at its start
@@ -56,11 +56,12 @@ first-shown C =
         let first : option_map started (declared C.program 0 c) ≡ Some t = sym (ap (λ (x : NodeParts). x.task) new.is) ∙ task in
         ap (λ (k : ℕ). first_states C.program k c) phase ∙ new-state (declared C.program 0 c) t first
 
-pub opened-agreed : (C : Setting) (p : Phase) → IsReady C → slice_get C.program.phases 0 ≡ Some p → Agreed (opened C) (first_memory C) [] no_loads
-opened-agreed C p ready there =
+pub opened-agreed : {E : Ends} (C : Setting) (p : Phase) → IsReady C → slice_get C.program.phases 0 ≡ Some p → Agreed (opened C) (first_memory C) [] no_loads E
+opened-agreed {E} C p ready there =
     record {
       states = first_states C.program;
       shown = first-shown C;
+      ended = λ c q n d found before is. absurd (omega (arith, before, ap (λ (x : NodeParts). x.phase) (opened-node C c n found).is));
       memory = C.program.memory;
       same = λ w. refl;
       phase = p;

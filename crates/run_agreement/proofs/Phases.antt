@@ -29,9 +29,9 @@ use Rattle.machine_rules.proofs.Invariant.{Invariant, bad_in, is_lie}
 use Rattle.machine_rules.proofs.Leaves.{BarrierStep, at_keeper}
 use Rattle.machine_rules.proofs.PhaseRows.{counts-is}
 use Rattle.machine_rules.proofs.PhaseWhole.{none-posted, alive-arrived, Arriving, arriving, in-flight, said, IsWhole, is-whole, there-within}
-use Rattle.run_agreement.specs.Agreed.{States, Loads, stands, tasks_from, IsWorldAt, AreShown, Agreed}
+use Rattle.run_agreement.specs.Agreed.{States, Loads, Ends, stands, tasks_from, IsWorldAt, AreShown, Agreed}
 use Rattle.run_agreement.proofs.Standing.{tasks-next}
-use Rattle.run_agreement.proofs.Shown.{shown-still}
+use Rattle.run_agreement.proofs.Shown.{shown-still, ended-still}
 use Rattle.run_agreement.proofs.Acting.{world-same}
 use Rattle.run_agreement.proofs.Nodes.{node-there, HasIt, stands-or}
 
@@ -119,13 +119,14 @@ next-fresh S M K L phase q d inv shown there later among =
     let declares = declared-only S.setting.program phase q d inv.machine.program there among in
     rw (shown.ahead d.core.0 phase node.0 d node.1 before declares, shown.unread d.core.0 phase node.0 node.1 before) refl
 
-pub begins-agreed : (S T : State) (M : ℕ → ℕ) (gs : List Grant) (L : Loads) (core : CoreId) (bad : Bool) → Invariant S M → Agreed S M gs L
+pub begins-agreed : {E : Ends} (S T : State) (M : ℕ → ℕ) (gs : List Grant) (L : Loads) (core : CoreId) (bad : Bool) → Invariant S M → Agreed S M gs L E
     → BarrierStep S T (advanced (counted core.0 bad S.keeper)) (at_keeper (Arrived core bad)) (Some (Go (record { 0 = S.keeper.phase + 1 })))
-    → slice_get S.keeper.arrived core.0 ≡ Some false → all_arrived (counted core.0 bad S.keeper) ≡ true → is_over (counted core.0 bad S.keeper) ≡ false → Agreed T M gs L
-begins-agreed S T M gs L core bad inv h step new whole on =
+    → slice_get S.keeper.arrived core.0 ≡ Some false → all_arrived (counted core.0 bad S.keeper) ≡ true → is_over (counted core.0 bad S.keeper) ≡ false → Agreed T M gs L E
+begins-agreed {E} S T M gs L core bad inv h step new whole on =
     record {
       states = K;
       shown = shown-still S T K L L step.setting step.nodes (λ q c. refl) h.shown;
+      ended = ended-still S T K E step.setting step.nodes h.ended;
       memory = h.memory;
       same = h.same;
       phase = q;

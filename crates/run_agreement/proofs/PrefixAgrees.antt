@@ -22,11 +22,12 @@ use Rattle.machine_rules.proofs.OpenedInvariant.{opened-invariant}
 use Rattle.machine_rules.proofs.RunsKept.{memory_over, run-setting}
 use Rattle.machine_rules.specs.Sound.{IsReady}
 use Rattle.machine_rules.proofs.RunsCoherent.{first_memory}
-use Rattle.run_agreement.specs.Agreed.{States, Loads, stands, tasks_from, IsWorldAt, Agreed}
+use Rattle.run_agreement.specs.Agreed.{States, Loads, stands, tasks_from, IsWorldAt, Agreed, more_ends}
 use Rattle.run_agreement.specs.Fronts.{BeginsWith, IsFrontOf}
 use Rattle.run_agreement.proofs.Standing.{tasks-next}
+use Rattle.run_agreement.proofs.Quiet.{last-more}
 use Rattle.run_agreement.proofs.Opened.{no_loads, opened-agreed, no-phases-run}
-use Rattle.run_agreement.proofs.AgreedRuns.{loads_over, agreed-run}
+use Rattle.run_agreement.proofs.AgreedRuns.{loads_over, ends_over, no_ends, agreed-run}
 
 -- ---- where a task stands
 
@@ -90,9 +91,10 @@ world-begins C gs K L k p m F h run q x d before there among =
 -- the state after a run agrees
 pub run-agreed : (C : Setting) (p : Phase) (events : List Event) → IsReady C → slice_get C.program.phases 0 ≡ Some p → IsRun (opened C) events
     → Agreed (after (opened C) events) (memory_over (first_memory C) (opened C) events) (grants_of (opened C) events) (loads_over no_loads (opened C) events)
+    (ends_over (more_ends no_ends (opened C)) (opened C) events)
 run-agreed C p events ready there run =
-    agreed-run (opened C) (first_memory C) 0 [] no_loads events (opened-sound C ready.context ready.program ready.checked) (opened-invariant C ready.context ready.program ready.checked)
-    (opened-agreed C p ready there) run
+    agreed-run (opened C) (first_memory C) 0 [] no_loads (more_ends no_ends (opened C)) events (opened-sound C ready.context ready.program ready.checked) (opened-invariant C ready.context ready.program ready.checked)
+    (last-more (opened C) no_ends) (opened-agreed C p ready there) run
 
 pub run-world : (C : Setting) (p : Phase) (events : List Event) → IsReady C → slice_get C.program.phases 0 ≡ Some p → IsRun (opened C) events
     → (K : States) × (q : Phase) × (m : List ℕ) × IsWorldAt C (grants_of (opened C) events) K (loads_over no_loads (opened C) events) (after (opened C) events).keeper.phase q m

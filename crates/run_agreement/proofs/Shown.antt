@@ -11,7 +11,7 @@ use Rattle.message_net.specs.declared.message.Outgoing.{Outgoing}
 use Rattle.registration_protocol.specs.Node.{NodeParts, Setting}
 use Rattle.machine_rules.specs.State.{State}
 use Rattle.machine_rules.proofs.Steps.{NodeStep}
-use Rattle.run_agreement.specs.Agreed.{States, Loads, AreShown}
+use Rattle.run_agreement.specs.Agreed.{States, Loads, Ends, AreShown, HasEnded, AreEnded}
 use Rattle.run_agreement.proofs.Standing.{SameAt}
 
 -- the nodes of the state after a core's event
@@ -107,3 +107,42 @@ shown-go S T K L L' core n m left sent step phase own loads h =
     by_unread : (c q : ℕ) (x : NodeParts) → x.phase < q → Ways c x → L q c ≡ []
     by_unread c q x later (inl (at', same)) = h.unread c q n (there c at') (before c q x same later)
     by_unread c q x later (inr (apart, found)) = h.unread c q x found later
+
+-- ---- the tasks of past phases
+
+pub ended-still : (S T : State) (K : States) (E : Ends) → T.setting ≡ S.setting → T.nodes ≡ S.nodes → AreEnded S K E → AreEnded T K E
+ended-still S T K E setting nodes h c q n d found before is =
+    h c q n d (subst (λ (ns : List NodeParts). slice_get ns c ≡ Some n) nodes found) before (subst (λ (C : Setting). declared C.program q c ≡ Some d) setting is)
+
+pub ended-step : (S T : State) (K K' : States) (E : Ends) (core : ℕ) (n m : NodeParts) (left sent : Option Outgoing) → NodeStep S T core n m left sent → m.phase ≡ n.phase
+    → ((q c : ℕ) → (q ≡ n.phase → c ≡ core → ⊥) → K' q c ≡ K q c) → AreEnded S K E → AreEnded T K' E
+ended-step S T K K' E core n m left sent step phase others h c q x d found before is = by_ways (node-at S T core n m left sent c x step found) where
+  declares : declared S.setting.program q c ≡ Some d
+  declares = subst (λ (C : Setting). declared C.program q c ≡ Some d) step.setting is
+
+  by_ways : ((core ≡ c) × (m ≡ x)) ⊎ ((c ≡ core → ⊥) × (slice_get S.nodes c ≡ Some x)) → HasEnded q d (K' q c) (E q c)
+  by_ways (inl (at', same)) =
+      let earlier : q < n.phase = subst (λ (y : ℕ). q < y) (sym (ap (λ (y : NodeParts). y.phase) same) ∙ phase) before in
+      let there : slice_get S.nodes c ≡ Some n = subst (λ (y : ℕ). slice_get S.nodes y ≡ Some n) at' step.found in
+      subst (λ (t : TaskState). HasEnded q d t (E q c)) (sym (others q c (λ e f. omega (arith, e, earlier)))) (h c q n d there earlier declares)
+  by_ways (inr (apart, there)) = subst (λ (t : TaskState). HasEnded q d t (E q c)) (sym (others q c (λ e f. apart f))) (h c q x d there before declares)
+
+-- a node enters the next phase, and its task was over
+pub ended-go : (S T : State) (K : States) (E : Ends) (core : ℕ) (n m : NodeParts) (left sent : Option Outgoing) → NodeStep S T core n m left sent → m.phase ≡ n.phase + 1
+    → ((d : TaskDecl) → declared S.setting.program n.phase core ≡ Some d → HasEnded n.phase d (K n.phase core) (E n.phase core)) → AreEnded S K E → AreEnded T K E
+ended-go S T K E core n m left sent step phase own h c q x d found before is = by_ways (node-at S T core n m left sent c x step found) where
+  declares : declared S.setting.program q c ≡ Some d
+  declares = subst (λ (C : Setting). declared C.program q c ≡ Some d) step.setting is
+
+  by_phase : core ≡ c → q < n.phase + 1 → (b : Bool) → (n.phase == q) ≡ b → HasEnded q d (K q c) (E q c)
+  by_phase at' earlier true e =
+      let same : n.phase ≡ q = eqb-true n.phase q e in
+      let mine : declared S.setting.program n.phase core ≡ Some d =
+      subst (λ (y : ℕ). declared S.setting.program n.phase y ≡ Some d) (sym at') (subst (λ (k : ℕ). declared S.setting.program k c ≡ Some d) (sym same) declares) in
+      subst (λ (y : ℕ). HasEnded q d (K q y) (E q y)) at' (subst (λ (k : ℕ). HasEnded k d (K k core) (E k core)) same (own d mine))
+  by_phase at' earlier false e =
+      h c q n d (subst (λ (y : ℕ). slice_get S.nodes y ≡ Some n) at' step.found) (grind (arith, nat_tests, e, earlier)) declares
+
+  by_ways : ((core ≡ c) × (m ≡ x)) ⊎ ((c ≡ core → ⊥) × (slice_get S.nodes c ≡ Some x)) → HasEnded q d (K q c) (E q c)
+  by_ways (inl (at', same)) = by_phase at' (subst (λ (y : ℕ). q < y) (sym (ap (λ (y : NodeParts). y.phase) same) ∙ phase) before) (n.phase == q) refl
+  by_ways (inr (apart, there)) = h c q x d there before declares

@@ -16,7 +16,7 @@ pub fn every_run_agrees_with_the_flat_run_of_its_grants()
 {}
 
 /// The grants of a complete run are whole, and the flat machine's run by them ends with the run's loads, task by task, and with
-/// the memory of the run's last state.
-pub fn every_complete_run_has_the_loads_and_the_memory_of_the_flat_run()
+/// the run's ending: its outcome, the end of each task that started, and the memory of its last state.
+pub fn every_complete_run_has_the_end_of_the_flat_run()
     ensures { (C : Setting) (events : List Event) → IsReady C → IsCompleteRun (opened C) events → HasFlatEnd C events }
 {}

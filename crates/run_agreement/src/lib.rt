@@ -7,6 +7,6 @@
 mod laws;
 
 pub use laws::{
-    every_complete_run_has_the_loads_and_the_memory_of_the_flat_run,
+    every_complete_run_has_the_end_of_the_flat_run,
     every_run_agrees_with_the_flat_run_of_its_grants,
 };

@@ -1,5 +1,0 @@
-use Rattle.run_agreement.proofs.EndAgrees.{end-agrees}
-use Rattle.run_agreement.proofs.laws.every_complete_run_has_the_loads_and_the_memory_of_the_flat_run.Goals as goal
-
-pub returns : goal.returns
-returns c = end-agrees
