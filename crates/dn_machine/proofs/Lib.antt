@@ -1,0 +1,9 @@
+mod Letters
+mod ListItems
+mod CoreEvents
+mod MailEvents
+mod KeptLemmas
+mod PickLemmas
+pub mod PickLaws
+pub mod ScheduleLaws
+pub mod EndLemmas
