@@ -1,8 +1,8 @@
 -- What an event of a core makes of the state, by the node that is there.
-use Rattle.std.proofs.Common.{◌≡◌, ℕ, ◌+◌, ◌<◌, ◌≤◌, ◌==◌, Bool, true, false, cond, ◌&&◌, nat_lt, List, length, map, slice_get, slice_set, slice_index, Option, Some, None, refl, sym, ap, ◌∙◌, subst, arith}
+use Rattle.std.proofs.Common.{◌≡◌, ℕ, ◌<◌, ◌≤◌, ◌==◌, Bool, true, false, cond, ◌&&◌, nat_lt, List, length, map, slice_get, slice_set, slice_index, Option, Some, None, refl, sym, ◌∙◌, subst, arith}
 use Rattle.std.proofs.lemmas.Bool.Decides.{nat_tests}
 use Rattle.std.proofs.lemmas.List.{map-set, length-map}
-use Rattle.std.proofs.lemmas.Option.{slice_get_within, slice_get_past}
+use Rattle.std.proofs.lemmas.Option.{slice_get_past}
 use Rattle.std.proofs.Math.ListN.{length-set}
 use Rattle.dn_base.specs.declared.ids.CoreId.{CoreId}
 use Rattle.dn_base.specs.declared.ids.WordId.{WordId}
@@ -12,7 +12,7 @@ use Rattle.message_net.specs.declared.message.Mail.{Mail}
 use Rattle.message_net.specs.Mail.{mails_with}
 use Rattle.registry_bank.specs.Bank.{BankParts}
 use Rattle.message_net.specs.declared.event.Event.{Event}
-use Rattle.message_net.specs.declared.event.Event.TheVariants.{Instr, Evict, Arrive, Handle}
+use Rattle.message_net.specs.declared.event.Event.TheVariants.{Instr, Evict, Arrive}
 use Rattle.message_net.specs.declared.event.EventKind as kind
 use Rattle.message_net.specs.declared.message.Outgoing.{Outgoing}
 use Rattle.registration_protocol.specs.Node.{NodeParts, Setting}
@@ -21,7 +21,7 @@ use Rattle.registration_protocol.specs.OwnEvents.{may_instr, may_evict, may_arri
 use Rattle.machine_rules.specs.State.{State}
 use Rattle.machine_rules.specs.Next.{next, enabled, sends, core_does, bank_does, place_in, numbers_with, when_there, told, kind_in, seen_in, granted_in}
 use Rattle.dn_machine.proofs.ListItems.{get-set, get-put}
-use Rattle.dn_machine.specs.Content.{IsWhole, MaySend}
+use Rattle.dn_machine.specs.Content.{IsWhole}
 
 -- a node that is there may do what is enabled
 pub there-may : (test : NodeParts → Bool) (o : Option NodeParts) → when_there test o ≡ true → (n : NodeParts) × (o ≡ Some n) × (test n ≡ true)

@@ -1,17 +1,15 @@
 -- What the calls of a machine may count on.
-use Rattle.std.proofs.Common.{◌≡◌, ℕ, ◌+◌, ◌*◌, ◌<◌, ◌≤◌, Bool, true, false, List, length, slice_get, slice_index, Some, refl, sym, ap, ◌∙◌, arith}
+use Rattle.std.proofs.Common.{◌≡◌, ℕ, ◌+◌, ◌*◌, ◌<◌, ◌≤◌, Bool, true, false, arith}
 use Rattle.std.proofs.Math.Nat.{mul-le-mul}
 use Rattle.message_net.specs.declared.event.Event.{Event}
-use Rattle.registration_protocol.specs.Node.{NodeParts}
-use Rattle.registration_protocol.specs.Fit.{Fits}
 use Rattle.phase_barrier.specs.Barrier.{all_arrived}
-use Rattle.machine_rules.specs.State.{State, opened}
+use Rattle.machine_rules.specs.State.{State}
 use Rattle.machine_rules.specs.Next.{next, enabled, place_in}
 use Rattle.machine_rules.specs.Flight.{bit}
-use Rattle.machine_rules.specs.Sound.{IsSound, rounds}
+use Rattle.machine_rules.specs.Sound.{rounds}
 use Rattle.machine_rules.proofs.MachineMails.{unused}
 use Rattle.machine_rules.proofs.SoundEvents.{sound-next}
-use Rattle.dn_machine.specs.Content.{IsWhole, MaySend}
+use Rattle.dn_machine.specs.Content.{IsWhole}
 use Rattle.dn_machine.specs.Kept.{IsKept}
 
 bit-most : (b : Bool) → bit b ≤ 1

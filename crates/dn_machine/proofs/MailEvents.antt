@@ -1,7 +1,6 @@
 -- The handling of a mail.
-use Rattle.std.proofs.Common.{◌≡◌, ℕ, ◌+◌, ◌≤◌, Bool, true, false, cond, nat_lt, List, length, slice_get, slice_index, sum_by, position, Option, Some, None, refl, sym, ap, ◌∙◌, arith}
+use Rattle.std.proofs.Common.{◌≡◌, ℕ, ◌≤◌, true, cond, List, length, slice_get, position, Option, Some, None, refl, arith}
 use Rattle.std.proofs.lemmas.Bool.Decides.{nat_tests}
-use Rattle.dn_base.specs.declared.ids.Grant.{Grant}
 use Rattle.message_net.specs.declared.actor.Actor.{Actor}
 use Rattle.message_net.specs.declared.actor.Actor.TheVariants.{Core, Bank, Keeper}
 use Rattle.message_net.specs.declared.actor.MailId.{MailId}
@@ -11,10 +10,9 @@ use Rattle.message_net.specs.declared.message.Message.{Message}
 use Rattle.message_net.specs.Kind.{kind_of}
 use Rattle.message_net.specs.Pool.{IsFound, of_id, count_of, taken, taken_at, without}
 use Rattle.message_net.proofs.PoolLemmas.{found-counted, sum_by-without, length-without}
-use Rattle.registration_protocol.specs.Node.{NodeParts}
 use Rattle.machine_rules.specs.State.{State}
 use Rattle.machine_rules.specs.Next.{next, enabled, gets, told, kind_in, seen_in, granted_in, granted_at}
-use Rattle.dn_machine.specs.Content.{IsWhole, MaySend}
+use Rattle.dn_machine.specs.Content.{IsWhole}
 
 -- a mail that may be handled is there
 id-counted : (S : State) (id : MailId) → enabled S (Handle id) ≡ true → 1 ≤ count_of id S.mails

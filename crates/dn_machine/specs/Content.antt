@@ -1,8 +1,6 @@
 -- What changes in a machine as events come, as a part of its state.
-use Rattle.std.specs.Prelude.{◌≡◌, ℕ, ◌+◌, ◌<◌, ◌≤◌, List, length, map, slice_get, slice_index, Option, Some}
+use Rattle.std.specs.Prelude.{◌≡◌, ℕ, ◌+◌, ◌<◌, ◌≤◌, length, map, slice_get, slice_index, Some}
 use Rattle.message_net.specs.declared.actor.Actor.{Actor}
-use Rattle.message_net.specs.declared.actor.MailId.{MailId}
-use Rattle.message_net.specs.declared.message.Mail.{Mail}
 use Rattle.message_net.specs.Pool.{count_of}
 use Rattle.registration_protocol.specs.Node.{NodeParts, Setting}
 use Rattle.registration_protocol.specs.Fit.{IsContext, Fits}

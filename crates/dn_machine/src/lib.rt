@@ -13,8 +13,9 @@ mod picking;
 mod places;
 mod posting;
 mod record;
+mod starting;
 mod words;
 
 pub use laws::{a_pick_is_an_event_that_may_come, a_seed_gives_one_complete_run};
-pub use machine::Machine;
+pub use machine::{Machine, a_machine_is_kept};
 pub use record::RunRecord;

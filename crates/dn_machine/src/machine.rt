@@ -1,20 +1,24 @@
 ghost use Rattle.std.specs.Prelude.{◌≡◌, ◌↔◌, ◌+◌, ◌<◌, ◌≤◌, true, OnOk, OnErr, IfOk, IfSome, None, slice_get};
+ghost use Rattle.region_table.specs.Program.{cores_of};
 ghost use Rattle.registration_protocol.specs.Setting.{setting};
 ghost use Rattle.machine_rules.specs.Memory.{word_value};
 ghost use Rattle.machine_rules.specs.Next.{next, enabled, told};
 ghost use Rattle.machine_rules.specs.Runs.{IsOver};
 ghost use Rattle.dn_machine.specs.Ends.{end_at};
+ghost use Rattle.dn_machine.specs.Kept.{IsKept, IsOpened};
 ghost use Rattle.dn_machine.specs.Pick.{pick};
 
 use crate::content::Content;
 use crate::picking::pick_from;
+use crate::starting::opened_content;
 use dn_base::{CoreId, Memory, Shape, WordId};
 use effect_checker::Checked;
 use machine_rules::Stepped;
 use message_net::Event;
-use region_table::PhasePlan;
+use region_table::{PhasePlan, a_program_is_well_formed, plans};
 use registration_protocol::Context;
 use rv_core::TaskEnd;
+use std::alloc::Global;
 use std::marker::Model;
 
 /// The multicore machine: a checked program with the plans of its phases, the machine's size, the fuel of each task, what
@@ -61,6 +65,45 @@ fn context_of<'a>(
 }
 
 impl Machine {
+    /// The machine of a checked program as a run begins: each node in the first phase, the first memory in the banks, and no
+    /// mail in flight. The shape has the cores that the program needs, 1 to 16 banks, 1 to 256 sets and 1 to 16 ways, and a
+    /// task may retire `fuel` instructions, 1 to 32,768.
+    ///
+    /// # Errors
+    /// `Memory` where there is no room.
+    pub fn start(
+        alloc: Global,
+        checked: Checked,
+        shape: Shape,
+        fuel: u32,
+    ) -> Result<Machine, Memory>
+        requires cores { shape.cores ≡ cores_of checked }
+        requires some_banks { 1 ≤ shape.banks }
+        requires most_banks { shape.banks ≤ 16 }
+        requires some_sets { 1 ≤ shape.sets }
+        requires most_sets { shape.sets ≤ 256 }
+        requires some_ways { 1 ≤ shape.ways }
+        requires most_ways { shape.ways ≤ 16 }
+        requires some_fuel { 1 ≤ fuel }
+        requires most_fuel { fuel ≤ 32768 }
+        ensures { IfOk result (IsOpened checked shape fuel) }
+    {
+        let program = checked.program();
+        a_program_is_well_formed(program);
+        let _cores = program.cores();
+        let plans = plans(alloc, program)?;
+        let context = context_of(&checked, &plans, shape, fuel);
+        let content = opened_content(alloc, &context)?;
+        Ok(Machine {
+            checked,
+            plans,
+            shape,
+            fuel,
+            content,
+            made: 0,
+        })
+    }
+
     /// How many events have come.
     pub fn made(&self) -> u64
         ensures { result ≡ self.now.made }
@@ -122,4 +165,12 @@ impl Machine {
     {
         self.content.task_end(core)
     }
+}
+
+/// Every machine has 1 to 16 cores and is sound, so its program is a checked one; and it is the opened one where no event has
+/// come.
+pub fn a_machine_is_kept(machine: &Machine)
+    ensures { IsKept machine.now.state machine.now.made }
+{
+    let _made = &machine.made;
 }

@@ -1,4 +1,4 @@
-use Rattle.std.proofs.Common.{◌≡◌, ◌<◌, Some, length, slice_get, refl, sym, ap, ◌∙◌, rules}
+use Rattle.std.proofs.Common.{◌<◌, length, rules}
 use Rattle.std.proofs.lemmas.Option.{slice_get-get_or}
 use Rattle.dn_machine.proofs.enabling.may_give_up.Goals as goal
 

@@ -1,4 +1,4 @@
-use Rattle.std.proofs.Common.{◌-◌, true, false, arith}
+use Rattle.std.proofs.Common.{arith}
 use Rattle.dn_machine.proofs.PickLemmas.{picks-known, picks-mail, known-most}
 use Rattle.dn_machine.proofs.picking.pick_from.Goals as goal
 

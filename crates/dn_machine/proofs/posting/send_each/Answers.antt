@@ -1,7 +1,5 @@
-use Rattle.std.proofs.Common.{◌≡◌, ℕ, ◌+◌, ◌<◌, ◌≤◌, refl, arith}
-use Rattle.message_net.specs.Pool.{posted}
+use Rattle.std.proofs.Common.{◌≡◌, ◌+◌, arith}
 use Rattle.message_net.specs.declared.actor.Actor.TheVariants.{Keeper as TheKeeper}
-use Rattle.message_net.specs.declared.message.Mail.{Mail}
 use Rattle.message_net.specs.Mail.{mail_of}
 use Rattle.phase_barrier.specs.Letters.{to_number}
 use Rattle.dn_machine.proofs.Letters.{posting-start, posting-more, posting-end}

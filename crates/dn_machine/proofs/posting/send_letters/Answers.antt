@@ -1,4 +1,4 @@
-use Rattle.std.proofs.Common.{◌≡◌, ◌+◌, Some, length, slice_set, slice_index, refl, sym, ap, ◌∙◌}
+use Rattle.std.proofs.Common.{◌≡◌, sym, ap, ◌∙◌}
 use Rattle.phase_barrier.specs.Letters.{letters, to_each, told}
 use Rattle.phase_barrier.proofs.LetterLemmas.{length-to_each}
 use Rattle.dn_machine.proofs.posting.send_letters.Goals as goal

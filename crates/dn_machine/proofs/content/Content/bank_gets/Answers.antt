@@ -1,4 +1,4 @@
-use Rattle.std.proofs.Common.{◌≡◌, ℕ, ◌<◌, length, slice_get, Some, refl, sym, ap, ◌∙◌, arith, rules}
+use Rattle.std.proofs.Common.{◌<◌, length, refl, ◌∙◌, arith, rules}
 use Rattle.message_net.specs.declared.actor.Actor.TheVariants.{Bank as TheBank}
 use Rattle.registration_protocol.specs.Setting.{setting}
 use Rattle.dn_machine.specs.Content.{state_of}

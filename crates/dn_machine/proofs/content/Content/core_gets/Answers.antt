@@ -1,5 +1,4 @@
-use Rattle.std.proofs.Common.{◌≡◌, ℕ, ◌<◌, length, slice_get, Option, Some, refl, sym, ap, ◌∙◌, arith, rules}
-use Rattle.dn_base.specs.declared.ids.Grant.{Grant}
+use Rattle.std.proofs.Common.{◌<◌, length, refl, ap, ◌∙◌, rules}
 use Rattle.registration_protocol.specs.Setting.{setting}
 use Rattle.registration_protocol.specs.declared.node.Received.{Received}
 use Rattle.machine_rules.specs.State.{State}

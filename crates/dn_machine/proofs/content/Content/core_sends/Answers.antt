@@ -1,4 +1,3 @@
-use Rattle.std.proofs.Common.{◌≡◌}
 use Rattle.dn_machine.proofs.content.Content.core_sends.Goals as goal
 
 pub own_at-own-requires-clause-fits : goal.own_at-own-requires-clause-fits

@@ -1,4 +1,3 @@
-use Rattle.std.proofs.Common.{◌≡◌}
 use Rattle.dn_machine.proofs.content.Content.enabled.Goals as goal
 
 pub may_give_up-requires-clause-fits : goal.may_give_up-requires-clause-fits

@@ -1,6 +1,4 @@
-use Rattle.std.proofs.Common.{◌≡◌, Some, None, refl, sym, ap, ◌∙◌, arith}
-use Rattle.message_net.specs.Pool.{taken}
-use Rattle.message_net.specs.declared.event.EventKind.{EventKind}
+use Rattle.std.proofs.Common.{◌≡◌, Some, None, refl, sym, ◌∙◌}
 use Rattle.registration_protocol.specs.Setting.{setting}
 use Rattle.dn_machine.specs.Content.{state_of}
 use Rattle.dn_machine.proofs.MailEvents.{handle-there, handle-next, handle-told, whole-taken}

@@ -1,4 +1,3 @@
-use Rattle.std.proofs.Common.{◌≡◌, arith}
 use Rattle.message_net.specs.declared.actor.Actor.TheVariants.{Keeper as TheKeeper}
 use Rattle.dn_machine.proofs.content.Content.keeper_gets.Goals as goal
 

@@ -1,4 +1,3 @@
-use Rattle.std.proofs.Common.{◌≡◌}
 use Rattle.dn_machine.proofs.machine.Machine.enabled.Goals as goal
 
 pub enabled-requires-clause-fits : goal.enabled-requires-clause-fits

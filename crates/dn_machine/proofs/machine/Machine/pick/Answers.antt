@@ -1,4 +1,4 @@
-use Rattle.std.proofs.Common.{◌≡◌, ◌↔◌, true, IfSome, List, Option, Some, None, refl, sym, ap, ◌∙◌}
+use Rattle.std.proofs.Common.{◌≡◌, true, IfSome, List, Option, Some, None, refl, sym, ap, ◌∙◌}
 use Rattle.message_net.specs.declared.event.Event.{Event}
 use Rattle.machine_rules.specs.Next.{enabled}
 use Rattle.machine_rules.specs.Sound.{IsMachine}
@@ -17,7 +17,7 @@ picked-in c =
 pub returns-clause-comes : goal.returns-clause-comes
 returns-clause-comes c = by_result c.pick_from.result refl where
   by_result : (o : Option Event) → c.pick_from.result ≡ o → IfSome o (λ event. enabled c.args.self.now.state event ≡ true)
-  by_result None is = ()
+  by_result None is = tt
   by_result (Some e) is = pick-comes c.args.self.now.state c.args.draw e (machine-of c) (sym (picked-in c) ∙ is)
 
 pub returns-clause-none : goal.returns-clause-none
