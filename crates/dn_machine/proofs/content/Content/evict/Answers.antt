@@ -1,0 +1,54 @@
+use Rattle.std.proofs.Common.{◌≡◌, sym, ap, ◌∙◌}
+use Rattle.std.proofs.lemmas.Option.{slice_get_within}
+use Rattle.registration_protocol.specs.Setting.{setting}
+use Rattle.machine_rules.specs.State.{State}
+use Rattle.dn_machine.specs.Content.{state_of}
+use Rattle.dn_machine.proofs.CoreEvents.{evict-there, evict-next, evict-told, core-sent, whole-put, within-put, known-put, known-after}
+use Rattle.dn_machine.proofs.content.Content.evict.Goals as goal
+
+pub evict_at-sent-requires-clause-place : goal.evict_at-sent-requires-clause-place
+evict_at-sent-requires-clause-place c =
+    let there = evict-there (state_of (setting c.args.context.now) c.args.self.now) c.args.core c.args.word c.requires.may in
+    slice_get_within _ _ there.0 there.1
+
+pub evict_at-sent-requires-clause-fits : goal.evict_at-sent-requires-clause-fits
+evict_at-sent-requires-clause-fits c = λ n here. c.requires.whole.fits c.args.core.0 n here
+
+pub evict_at-sent-requires-clause-may : goal.evict_at-sent-requires-clause-may
+evict_at-sent-requires-clause-may c = λ n here.
+    let there = evict-there (state_of (setting c.args.context.now) c.args.self.now) c.args.core c.args.word c.requires.may in
+    let same : there.0 ≡ n = cc in
+    rw same at there.2
+
+pub core_sends-requires-clause-whole : goal.core_sends-requires-clause-whole
+core_sends-requires-clause-whole c =
+    let there = evict-there (state_of (setting c.args.context.now) c.args.self.now) c.args.core c.args.word c.requires.may in
+    let does = c.evict_at-sent.ensures there.0 there.1 in
+    whole-put (state_of (setting c.args.context.now) c.args.self.now) c.args.core.0 _ _ does.0 c.requires.whole (slice_get_within _ _ there.0 there.1) does.2
+
+pub core_sends-requires-clause-core : goal.core_sends-requires-clause-core
+core_sends-requires-clause-core c =
+    let there = evict-there (state_of (setting c.args.context.now) c.args.self.now) c.args.core c.args.word c.requires.may in
+    let does = c.evict_at-sent.ensures there.0 there.1 in
+    within-put c.args.self.now.nodes.items c.args.core.0 _ _ does.0 (slice_get_within _ _ there.0 there.1)
+
+pub core_sends-requires-clause-known : goal.core_sends-requires-clause-known
+core_sends-requires-clause-known c =
+    let there = evict-there (state_of (setting c.args.context.now) c.args.self.now) c.args.core c.args.word c.requires.may in
+    let does = c.evict_at-sent.ensures there.0 there.1 in
+    known-put (setting c.args.context.now) c.args.self.now.nodes.items c.args.self.now.own c.args.core.0 _ _ c.requires.known does.0
+
+pub returns-clause-state : goal.returns-clause-state
+returns-clause-state c =
+    let there = evict-there (state_of (setting c.args.context.now) c.args.self.now) c.args.core c.args.word c.requires.may in
+    let does = c.evict_at-sent.ensures there.0 there.1 in
+    c.core_sends.ensures.state ∙ (core-sent (state_of (setting c.args.context.now) c.args.self.now) c.args.core _ _ _ _ does.0 does.1 ∙ sym (evict-next (state_of (setting c.args.context.now) c.args.self.now) c.args.core c.args.word there.0 there.1))
+
+pub returns-clause-known : goal.returns-clause-known
+returns-clause-known c =
+    let there = evict-there (state_of (setting c.args.context.now) c.args.self.now) c.args.core c.args.word c.requires.may in
+    let does = c.evict_at-sent.ensures there.0 there.1 in
+    known-after (setting c.args.context.now) c.args.self.now.nodes.items c.args.self.now.own c.args.core.0 _ _ _ _ c.requires.known (slice_get_within _ _ there.0 there.1) does.0 (ap (λ (S : State). S.nodes) c.core_sends.ensures.state) c.core_sends.ensures.own
+
+pub returns-clause-told : goal.returns-clause-told
+returns-clause-told c = c.silent.ensures ∙ sym (evict-told (state_of (setting c.args.context.now) c.args.self.now) c.args.core c.args.word)

@@ -1,0 +1,33 @@
+use Rattle.std.proofs.Common.{◌≡◌, ◌≤◌, arith}
+use Rattle.region_table.specs.Program.{IsProgram, cores_of}
+use Rattle.registration_protocol.specs.Node.{Setting}
+use Rattle.registration_protocol.specs.Fit.{IsContext}
+use Rattle.registration_protocol.specs.Setting.{setting}
+use Rattle.machine_rules.specs.State.{opened}
+use Rattle.dn_machine.specs.Content.{state_of}
+use Rattle.dn_machine.proofs.Opened.{kept-opened}
+use Rattle.dn_machine.proofs.machine.Machine.start.Goals as goal
+
+pub invariant_of-result : goal.invariant_of-result
+invariant_of-result c =
+    let P : Setting = record { program = c.args.checked; plans = c.in_ok-plans.plans.items; shape = c.args.shape; fuel = c.args.fuel } in
+    let told : setting c.context_of-context.result ≡ P = c.context_of-context.ensures in
+    let same : c.program-program.result.now ≡ c.args.checked = c.program-program.ensures.value in
+    let cores : c.cores-cores.result ≡ cores_of c.args.checked = rw same at c.cores-cores.ensures.value in
+    let context : IsContext P = record {
+      plans = rw same at c.in_ok-plans.ensures;
+      cores = c.requires.cores;
+      some_banks = omega (arith, c.requires.some_banks);
+      most_banks = c.requires.most_banks;
+      some_sets = omega (arith, c.requires.some_sets);
+      most_sets = c.requires.most_sets;
+      some_ways = omega (arith, c.requires.some_ways);
+      most_ways = c.requires.most_ways;
+      some_fuel = omega (arith, c.requires.some_fuel);
+      most_fuel = c.requires.most_fuel;
+    } in
+    let some : 1 ≤ c.args.shape.cores = omega (arith, c.cores-cores.ensures.some, cores, c.requires.cores) in
+    let most : c.args.shape.cores ≤ 16 = omega (arith, c.cores-cores.ensures.within, cores, c.requires.cores) in
+    let program : IsProgram c.args.checked = rw same at c.a_program_is_well_formed.ensures in
+    let state : state_of P c.in_ok-content.content ≡ opened P = rw told at c.in_ok-content.ensures.state in
+    (kept-opened P _ context program c.program-program.ensures.checked some most state, rw told at c.in_ok-content.ensures.known)

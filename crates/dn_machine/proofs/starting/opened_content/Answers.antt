@@ -1,0 +1,11 @@
+use Rattle.registration_protocol.specs.Setting.{setting}
+use Rattle.dn_machine.proofs.Opened.{opened-from, opened-nodes-fit}
+use Rattle.dn_machine.proofs.starting.opened_content.Goals as goal
+
+pub own_events-requires-clause-fits : goal.own_events-requires-clause-fits
+own_events-requires-clause-fits c = λ core n here.
+    opened-nodes-fit (setting c.args.context.now) c.requires.context c.requires.program c.requires.checked core n (rw (c.as_slice.ensures.value, c.in_ok-nodes.ensures) at here)
+
+pub returns-clause-state : goal.returns-clause-state
+returns-clause-state c =
+    opened-from (setting c.args.context.now) _ _ _ _ _ _ _ _ c.memory_of.ensures.is c.locks_of.ensures.is c.phases_of.ensures.is c.in_ok-nodes.ensures c.in_ok-banks.ensures c.new-keeper.ensures c.new.ensures.mails c.in_ok-numbers.ensures

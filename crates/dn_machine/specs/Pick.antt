@@ -1,0 +1,28 @@
+-- Which event a draw picks in a state.
+use Rattle.std.specs.Prelude.{ℕ, ◌%◌, List, ◌++◌, length, map, slice_get, Option}
+use Rattle.std.specs.List.{filter_map}
+use Rattle.message_net.specs.declared.event.Event.{Event}
+use Rattle.message_net.specs.declared.event.Event.TheVariants.{Handle}
+use Rattle.message_net.specs.declared.message.Mail.{Mail}
+use Rattle.registration_protocol.specs.OwnEvents.{own_event}
+use Rattle.machine_rules.specs.State.{State}
+
+-- the own events that there are, in the order of cores
+abbrev pub known_events : List (Option Event) → List Event
+known_events own = filter_map (λ (o : Option Event). o) own
+
+-- the handling of each mail, in the order of their places
+abbrev pub handlings : List Mail → List Event
+handlings mails = map (λ (m : Mail). Handle m.id) mails
+
+-- the events that may be picked: each core's own event, then the handling of each mail
+abbrev pub candidates : List (Option Event) → List Mail → List Event
+candidates own mails = known_events own ++ handlings mails
+
+-- the candidate at the draw, modulo their number; None where there is none
+abbrev pub picked : List Event → ℕ → Option Event
+picked events draw = slice_get events (draw % length events)
+
+-- the event that a draw picks in a state
+unfoldable pub pick : State → ℕ → Option Event
+pick S draw = picked (candidates (map (own_event S.setting) S.nodes) S.mails) draw

@@ -1,0 +1,46 @@
+-- The events of a run by a seed, and what a run's record tells of them.
+use Rattle.std.specs.Prelude.{◌≡◌, ℕ, List, [], ◌∷◌, Some, None}
+use Rattle.rand_core.specs.Pcg32Seed.{pcg32_seed}
+use Rattle.rand_pcg.specs.Lcg.{Lcg}
+use Rattle.rand_pcg.specs.Pcg.{pcg32, pcg32_of_seed}
+use Rattle.message_net.specs.declared.event.Event.{Event}
+use Rattle.machine_rules.specs.State.{State}
+use Rattle.machine_rules.specs.Next.{next}
+use Rattle.machine_rules.specs.Runs.{grants_of, ending_of_run}
+use Rattle.dn_machine.specs.Pick.{pick}
+use Rattle.dn_machine.specs.declared.record.RunRecord.{RunRecord}
+
+-- the generator of a seed, the next word of a generator, and the generator behind that word
+unfoldable pub generator_of : ℕ → Lcg
+generator_of seed = pcg32_of_seed (pcg32_seed 16 seed)
+
+unfoldable pub word_of : Lcg → ℕ
+word_of g = (pcg32 g).0
+
+unfoldable pub after_word : Lcg → Lcg
+after_word g = (pcg32 g).1
+
+-- the generator behind so many words
+abbrev pub after_words : List Event → Lcg → Lcg
+after_words [] g = g
+after_words (e ∷ es) g = after_words es (after_word g)
+
+-- each event is the one that the next word of the generator picks in its turn
+abbrev pub ArePicked : State → Lcg → List Event → Type 0
+ArePicked S g [] = Unit {0}
+ArePicked S g (e ∷ es) = (pick S (word_of g) ≡ Some e) × ArePicked (next S e) (after_word g) es
+
+-- the events are those that the words of the generator pick one after another, until none is picked
+abbrev pub IsPicked : State → Lcg → List Event → Type 0
+IsPicked S g [] = pick S (word_of g) ≡ None
+IsPicked S g (e ∷ es) = (pick S (word_of g) ≡ Some e) × IsPicked (next S e) (after_word g) es
+
+-- the events are those of a seed
+abbrev pub IsScheduled : State → ℕ → List Event → Type 0
+IsScheduled S seed events = IsPicked S (generator_of seed) events
+
+-- a record of the run that a seed gives from a state on
+pub record IsRecord (S : State) (seed : ℕ) (r : RunRecord) : Type 0 where
+  pub scheduled : IsScheduled S seed r.events
+  pub granted : r.grants ≡ grants_of S r.events
+  pub ends : r.ending ≡ ending_of_run S r.events

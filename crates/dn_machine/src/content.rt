@@ -1,0 +1,17 @@
+use dn_base::Sequence;
+use message_net::{Event, Pool};
+use phase_barrier::Keeper;
+use registration_protocol::Node;
+use registry_bank::Bank;
+
+/// What changes in a machine as events come: the nodes, the banks, the keeper, the mails in flight, the number of each actor's
+/// next mail, and the own event of each core, where it has one.
+#[derive(Drop)]
+pub(crate) struct Content {
+    pub(crate) nodes: Vec<Node>,
+    pub(crate) banks: Vec<Bank>,
+    pub(crate) keeper: Keeper,
+    pub(crate) pool: Pool,
+    pub(crate) numbers: Sequence<u32>,
+    pub(crate) own: Sequence<Option<Event>>,
+}

@@ -1,0 +1,218 @@
+ghost use Rattle.std.specs.Prelude.{◌≡◌, ◌<◌, ◌≤◌, true, length, slice_get, slice_set, Some, None};
+ghost use Rattle.message_net.specs.declared.actor.Actor.TheVariants.{Core as TheCore, Bank as TheBank, Keeper as TheKeeper};
+ghost use Rattle.message_net.specs.declared.event.Event.TheVariants.{Instr as AnInstr, Evict as AnEvict, Arrive as AnArrive, Handle as HandleOf};
+ghost use Rattle.registration_protocol.specs.Node.{NodeParts};
+ghost use Rattle.registration_protocol.specs.OwnEvents.{own_event};
+ghost use Rattle.registration_protocol.specs.Setting.{setting};
+ghost use Rattle.machine_rules.specs.Next.{sends, next, enabled, gets, granted_at, granted_by, told, core_gets, bank_handles, keeper_handles};
+ghost use Rattle.phase_barrier.specs.Barrier.{keeper_gets};
+ghost use Rattle.dn_machine.specs.Content.{state_of, KnowsOwn, IsWhole};
+
+use crate::content::Content;
+use crate::places::{arrive_at, evict_at, handle_at, instruct_at, own_at, receive_at};
+use crate::posting::{send, send_letters};
+use dn_base::{BankId, CoreId, Grant, WordId};
+use machine_rules::Stepped;
+use message_net::{Actor, Event, EventKind, MailId, Message, Outgoing};
+use registration_protocol::Context;
+
+/// What an event tells that reads nothing and grants nothing.
+fn silent(kind: EventKind) -> Stepped
+    ensures { result ≡ record { kind = kind; seen = None; granted = None } }
+{
+    Stepped {
+        kind,
+        seen: None,
+        granted: None,
+    }
+}
+
+impl Content {
+    /// What a core sends is in flight, and what it does next by itself is found anew.
+    fn core_sends(&mut self, context: &Context<'_>, core: CoreId, sent: Option<Outgoing>)
+        requires whole { IsWhole (state_of (setting context.now) self.old) }
+        requires core { core.0 < length self.old.nodes.items }
+        requires known { length self.old.own ≡ length self.old.nodes.items }
+        requires spare { 1 ≤ self.old.pool.spare }
+        ensures state { state_of (setting context.now) self.new ≡ sends (state_of (setting context.now) self.old) (TheCore core) sent }
+        ensures own { (n : NodeParts) → slice_get self.old.nodes.items core.0 ≡ Some n
+            → self.new.own ≡ slice_set self.old.own core.0 (own_event (setting context.now) n) }
+    {
+        let place = core.0 as usize;
+        send(
+            &mut self.pool,
+            &mut self.numbers,
+            place,
+            Actor::Core(core),
+            sent,
+        );
+        let own = own_at(self.nodes.as_slice(), place, context);
+        self.own.set(place, own);
+    }
+
+    /// The next instruction of a core, which may go on.
+    pub(crate) fn instruct(&mut self, context: &Context<'_>, core: CoreId) -> Stepped
+        requires whole { IsWhole (state_of (setting context.now) self.old) }
+        requires known { KnowsOwn (setting context.now) self.old }
+        requires may { enabled (state_of (setting context.now) self.old) (AnInstr core) ≡ true }
+        requires spare { 1 ≤ self.old.pool.spare }
+        ensures state { state_of (setting context.now) self.new ≡ next (state_of (setting context.now) self.old) (AnInstr core) }
+        ensures told { result ≡ told (state_of (setting context.now) self.old) (AnInstr core) }
+        ensures known { KnowsOwn (setting context.now) self.new }
+    {
+        let step = instruct_at(&mut self.nodes, core.0 as usize, context);
+        self.core_sends(context, core, step.sent);
+        Stepped {
+            kind: EventKind::Instr,
+            seen: step.seen,
+            granted: None,
+        }
+    }
+
+    /// A core, which may, evicts a word.
+    pub(crate) fn evict(&mut self, context: &Context<'_>, core: CoreId, word: WordId) -> Stepped
+        requires whole { IsWhole (state_of (setting context.now) self.old) }
+        requires known { KnowsOwn (setting context.now) self.old }
+        requires may { enabled (state_of (setting context.now) self.old) (AnEvict core word) ≡ true }
+        requires spare { 1 ≤ self.old.pool.spare }
+        ensures state { state_of (setting context.now) self.new ≡ next (state_of (setting context.now) self.old) (AnEvict core word) }
+        ensures told { result ≡ told (state_of (setting context.now) self.old) (AnEvict core word) }
+        ensures known { KnowsOwn (setting context.now) self.new }
+    {
+        let sent = evict_at(&mut self.nodes, core.0 as usize, context, word);
+        self.core_sends(context, core, sent);
+        silent(EventKind::Evict)
+    }
+
+    /// A core, which may, arrives at the barrier.
+    pub(crate) fn arrive(&mut self, context: &Context<'_>, core: CoreId) -> Stepped
+        requires whole { IsWhole (state_of (setting context.now) self.old) }
+        requires known { KnowsOwn (setting context.now) self.old }
+        requires may { enabled (state_of (setting context.now) self.old) (AnArrive core) ≡ true }
+        requires spare { 1 ≤ self.old.pool.spare }
+        ensures state { state_of (setting context.now) self.new ≡ next (state_of (setting context.now) self.old) (AnArrive core) }
+        ensures told { result ≡ told (state_of (setting context.now) self.old) (AnArrive core) }
+        ensures known { KnowsOwn (setting context.now) self.new }
+    {
+        let sent = arrive_at(&mut self.nodes, core.0 as usize, context);
+        self.core_sends(context, core, Some(sent));
+        silent(EventKind::Arrive)
+    }
+
+    /// A core gets a message, where it is there; the lock that it is granted by it.
+    fn core_gets(&mut self, context: &Context<'_>, core: CoreId, message: Message) -> Option<Grant>
+        requires whole { IsWhole (state_of (setting context.now) self.old) }
+        requires known { KnowsOwn (setting context.now) self.old }
+        requires spare { 1 ≤ self.old.pool.spare }
+        ensures state { state_of (setting context.now) self.new ≡ core_gets (state_of (setting context.now) self.old) core message (slice_get self.old.nodes.items core.0) }
+        ensures granted { result ≡ granted_by (setting context.now) message (slice_get self.old.nodes.items core.0) }
+        ensures known { KnowsOwn (setting context.now) self.new }
+    {
+        let place = core.0 as usize;
+        if place >= self.nodes.len() {
+            return None;
+        }
+        let received = receive_at(&mut self.nodes, place, context, message);
+        self.core_sends(context, core, received.sent);
+        received.granted
+    }
+
+    /// A bank gets a message, where it is there.
+    fn bank_gets(&mut self, context: &Context<'_>, bank: BankId, message: Message)
+        requires whole { IsWhole (state_of (setting context.now) self.old) }
+        requires known { KnowsOwn (setting context.now) self.old }
+        requires spare { 1 ≤ self.old.pool.spare }
+        ensures state { state_of (setting context.now) self.new ≡ bank_handles (state_of (setting context.now) self.old) (TheBank bank) bank.0 message (slice_get self.old.banks.items bank.0) }
+        ensures known { KnowsOwn (setting context.now) self.new }
+    {
+        if bank.0 as usize >= self.banks.len() {
+            return;
+        }
+        let sent = handle_at(&mut self.banks, bank.0 as usize, message);
+        let from = Actor::Bank(bank);
+        let place = from.place(context.shape.cores, context.shape.banks);
+        send(&mut self.pool, &mut self.numbers, place, from, sent);
+    }
+
+    /// The keeper gets a message.
+    fn keeper_gets(&mut self, context: &Context<'_>, message: Message)
+        requires whole { IsWhole (state_of (setting context.now) self.old) }
+        requires known { KnowsOwn (setting context.now) self.old }
+        requires spare { (setting context.now).shape.cores ≤ self.old.pool.spare }
+        ensures state { state_of (setting context.now) self.new ≡ keeper_handles (state_of (setting context.now) self.old) (keeper_gets self.old.keeper message) }
+        ensures known { KnowsOwn (setting context.now) self.new }
+    {
+        let verdict = self.keeper.handle(message);
+        let cores = context.shape.cores;
+        let place = Actor::Keeper.place(cores, context.shape.banks);
+        send_letters(&mut self.pool, &mut self.numbers, place, cores, verdict);
+    }
+
+    /// An actor gets a message; the lock that a core is granted by it.
+    pub(crate) fn deliver(
+        &mut self,
+        context: &Context<'_>,
+        to: Actor,
+        message: Message,
+    ) -> Option<Grant>
+        requires whole { IsWhole (state_of (setting context.now) self.old) }
+        requires known { KnowsOwn (setting context.now) self.old }
+        requires spare { (setting context.now).shape.cores ≤ self.old.pool.spare }
+        ensures state { state_of (setting context.now) self.new ≡ gets (state_of (setting context.now) self.old) to message }
+        ensures granted { result ≡ granted_at (state_of (setting context.now) self.old) to message }
+        ensures known { KnowsOwn (setting context.now) self.new }
+    {
+        match to {
+            Actor::Core(core) => self.core_gets(context, core, message),
+            Actor::Bank(bank) => {
+                self.bank_gets(context, bank, message);
+                None
+            }
+            Actor::Keeper => {
+                self.keeper_gets(context, message);
+                None
+            }
+        }
+    }
+
+    /// The mail with this id, which is in flight, is handled by the actor that it goes to.
+    pub(crate) fn handle(&mut self, context: &Context<'_>, id: MailId) -> Stepped
+        requires whole { IsWhole (state_of (setting context.now) self.old) }
+        requires known { KnowsOwn (setting context.now) self.old }
+        requires may { enabled (state_of (setting context.now) self.old) (HandleOf id) ≡ true }
+        requires spare { (setting context.now).shape.cores ≤ self.old.pool.spare }
+        ensures state { state_of (setting context.now) self.new ≡ next (state_of (setting context.now) self.old) (HandleOf id) }
+        ensures told { result ≡ told (state_of (setting context.now) self.old) (HandleOf id) }
+        ensures known { KnowsOwn (setting context.now) self.new }
+    {
+        match self.pool.take(id) {
+            None => silent(EventKind::Instr),
+            Some(mail) => {
+                let granted = self.deliver(context, mail.to, mail.message);
+                Stepped {
+                    kind: mail.message.kind(),
+                    seen: None,
+                    granted,
+                }
+            }
+        }
+    }
+
+    /// An event, which may come.
+    pub(crate) fn act(&mut self, context: &Context<'_>, event: Event) -> Stepped
+        requires whole { IsWhole (state_of (setting context.now) self.old) }
+        requires known { KnowsOwn (setting context.now) self.old }
+        requires may { enabled (state_of (setting context.now) self.old) event ≡ true }
+        requires spare { (setting context.now).shape.cores ≤ self.old.pool.spare }
+        ensures state { state_of (setting context.now) self.new ≡ next (state_of (setting context.now) self.old) event }
+        ensures told { result ≡ told (state_of (setting context.now) self.old) event }
+        ensures known { KnowsOwn (setting context.now) self.new }
+    {
+        match event {
+            Event::Instr(core) => self.instruct(context, core),
+            Event::Evict(core, word) => self.evict(context, core, word),
+            Event::Arrive(core) => self.arrive(context, core),
+            Event::Handle(id) => self.handle(context, id),
+        }
+    }
+}

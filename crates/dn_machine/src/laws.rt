@@ -1,0 +1,21 @@
+//! What a pick tells of a state, for whoever reasons about runs.
+ghost use Rattle.std.specs.Prelude.{◌≡◌, ◌↔◌, ℕ, List, Some, None, true};
+ghost use Rattle.message_net.specs.declared.event.Event.{Event};
+ghost use Rattle.machine_rules.specs.State.{State};
+ghost use Rattle.machine_rules.specs.Next.{enabled};
+ghost use Rattle.machine_rules.specs.Runs.{IsOver, IsCompleteRun};
+ghost use Rattle.machine_rules.specs.Sound.{IsMachine, IsSound};
+ghost use Rattle.dn_machine.specs.Pick.{pick};
+ghost use Rattle.dn_machine.specs.Schedule.{IsScheduled};
+
+/// A picked event may come, and none is picked exactly where no event may come.
+pub fn a_pick_is_an_event_that_may_come()
+    ensures comes { (S : State) (draw : ℕ) (e : Event) → IsMachine S → pick S draw ≡ Some e → enabled S e ≡ true }
+    ensures none { (S : State) (draw : ℕ) → IsMachine S → (pick S draw ≡ None) ↔ IsOver S }
+{}
+
+/// The events of a seed are a complete run, and a seed has no other events.
+pub fn a_seed_gives_one_complete_run()
+    ensures complete { (S : State) (made seed : ℕ) (events : List Event) → IsSound S made → IsScheduled S seed events → IsCompleteRun S events }
+    ensures one { (S : State) (seed : ℕ) (events others : List Event) → IsScheduled S seed events → IsScheduled S seed others → events ≡ others }
+{}

@@ -1,0 +1,21 @@
+//! The multicore machine: the cores' nodes, the banks, the keeper of the barrier and the mails in flight, and the events that
+//! lead it from state to state.
+#![tactic(auto)]
+
+mod content;
+mod draws;
+mod enabling;
+mod ends;
+mod events;
+mod laws;
+mod machine;
+mod picking;
+mod places;
+mod posting;
+mod record;
+mod starting;
+mod words;
+
+pub use laws::{a_pick_is_an_event_that_may_come, a_seed_gives_one_complete_run};
+pub use machine::{Machine, a_machine_is_kept};
+pub use record::RunRecord;

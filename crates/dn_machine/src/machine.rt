@@ -1,0 +1,176 @@
+ghost use Rattle.std.specs.Prelude.{◌≡◌, ◌↔◌, ◌+◌, ◌<◌, ◌≤◌, true, OnOk, OnErr, IfOk, IfSome, None, slice_get};
+ghost use Rattle.region_table.specs.Program.{cores_of};
+ghost use Rattle.registration_protocol.specs.Setting.{setting};
+ghost use Rattle.machine_rules.specs.Memory.{word_value};
+ghost use Rattle.machine_rules.specs.Next.{next, enabled, told};
+ghost use Rattle.machine_rules.specs.Runs.{IsOver};
+ghost use Rattle.dn_machine.specs.Ends.{end_at};
+ghost use Rattle.dn_machine.specs.Kept.{IsKept, IsOpened};
+ghost use Rattle.dn_machine.specs.Pick.{pick};
+
+use crate::content::Content;
+use crate::picking::pick_from;
+use crate::starting::opened_content;
+use dn_base::{CoreId, Memory, Shape, WordId};
+use effect_checker::Checked;
+use machine_rules::Stepped;
+use message_net::Event;
+use region_table::{PhasePlan, a_program_is_well_formed, plans};
+use registration_protocol::Context;
+use rv_core::TaskEnd;
+use std::alloc::Global;
+use std::marker::Model;
+
+/// The multicore machine: a checked program with the plans of its phases, the machine's size, the fuel of each task, what
+/// changes as events come, and how many have come.
+///
+/// A contract sees the state, and the number of events that have led to it.
+#[derive(Drop)]
+pub struct Machine {
+    checked: Checked,
+    plans: Vec<PhasePlan>,
+    shape: Shape,
+    fuel: u32,
+    content: Content,
+    made: u64,
+}
+
+impl Model for Machine {
+    ghost use Rattle.dn_machine.specs.Kept.{Made, IsKept};
+    ghost use Rattle.dn_machine.specs.Content.{state_of, KnowsOwn};
+
+    ghost Value = { Made };
+
+    ghost view = { λ m. record { state = state_of (record { program = m.checked; plans = m.plans.items; shape = m.shape; fuel = m.fuel }) m.content; made = m.made } };
+
+    ghost invariant = { λ m. IsKept (state_of (record { program = m.checked; plans = m.plans.items; shape = m.shape; fuel = m.fuel }) m.content) m.made
+        × KnowsOwn (record { program = m.checked; plans = m.plans.items; shape = m.shape; fuel = m.fuel }) m.content };
+}
+
+/// What the nodes of a machine are told.
+fn context_of<'a>(
+    checked: &'a Checked,
+    plans: &'a Vec<PhasePlan>,
+    shape: Shape,
+    fuel: u32,
+) -> Context<'a>
+    ensures { setting result ≡ record { program = checked.now; plans = plans.now.items; shape = shape; fuel = fuel } }
+{
+    Context {
+        program: checked.program(),
+        plans: plans.as_slice(),
+        shape,
+        fuel,
+    }
+}
+
+impl Machine {
+    /// The machine of a checked program as a run begins: each node in the first phase, the first memory in the banks, and no
+    /// mail in flight. The shape has the cores that the program needs, 1 to 16 banks, 1 to 256 sets and 1 to 16 ways, and a
+    /// task may retire `fuel` instructions, 1 to 32,768.
+    ///
+    /// # Errors
+    /// `Memory` where there is no room.
+    pub fn start(
+        alloc: Global,
+        checked: Checked,
+        shape: Shape,
+        fuel: u32,
+    ) -> Result<Machine, Memory>
+        requires cores { shape.cores ≡ cores_of checked }
+        requires some_banks { 1 ≤ shape.banks }
+        requires most_banks { shape.banks ≤ 16 }
+        requires some_sets { 1 ≤ shape.sets }
+        requires most_sets { shape.sets ≤ 256 }
+        requires some_ways { 1 ≤ shape.ways }
+        requires most_ways { shape.ways ≤ 16 }
+        requires some_fuel { 1 ≤ fuel }
+        requires most_fuel { fuel ≤ 32768 }
+        ensures { IfOk result (IsOpened checked shape fuel) }
+    {
+        let program = checked.program();
+        a_program_is_well_formed(program);
+        let _cores = program.cores();
+        let plans = plans(alloc, program)?;
+        let context = context_of(&checked, &plans, shape, fuel);
+        let content = opened_content(alloc, &context)?;
+        Ok(Machine {
+            checked,
+            plans,
+            shape,
+            fuel,
+            content,
+            made: 0,
+        })
+    }
+
+    /// How many events have come.
+    pub fn made(&self) -> u64
+        ensures { result ≡ self.now.made }
+    {
+        self.made
+    }
+
+    /// Whether an event may come.
+    pub fn enabled(&self, event: &Event) -> bool
+        ensures { result ≡ enabled self.now.state event.now }
+    {
+        let context = context_of(&self.checked, &self.plans, self.shape, self.fuel);
+        self.content.enabled(&context, event)
+    }
+
+    /// Makes an event, which may come: the state is the one after it then, and the answer is what it tells. There are fewer
+    /// than 4,000,000,000 events before it.
+    ///
+    /// # Errors
+    /// `Memory` where there is no room for the mails; the machine is then as before.
+    pub fn step(&mut self, event: Event) -> Result<Stepped, Memory>
+        requires may { enabled self.old.state event ≡ true }
+        requires made { self.old.made < 4000000000 }
+        ensures state { OnOk result (self.new.state ≡ next self.old.state event) }
+        ensures made { OnOk result (self.new.made ≡ self.old.made + 1) }
+        ensures told { IfOk result (λ stepped. stepped ≡ told self.old.state event) }
+        ensures err { OnErr result (self.new ≡ self.old) }
+    {
+        self.content.reserve(self.shape.cores)?;
+        let context = context_of(&self.checked, &self.plans, self.shape, self.fuel);
+        let stepped = self.content.act(&context, event);
+        self.made += 1;
+        Ok(stepped)
+    }
+
+    /// The event that a draw picks: of each core's own event in the order of cores, and then the handling of each mail in the order
+    /// of the pool, the one at the draw modulo their number; None exactly where no event may come.
+    #[tactic(auto, unfolding(crate::specs::Pick::pick))]
+    pub fn pick(&self, draw: u32) -> Option<Event>
+        ensures picked { result ≡ pick self.now.state draw }
+        ensures comes { IfSome result (λ event. enabled self.now.state event ≡ true) }
+        ensures none { (result ≡ None) ↔ IsOver self.now.state }
+    {
+        pick_from(self.content.own.as_slice(), &self.content.pool, draw)
+    }
+
+    /// The value of a data word: that of its pending entry where a core has one, else the one at its home, or the one in its
+    /// registrant's entry; 0 for another word.
+    pub fn word(&self, word: WordId) -> u32
+        ensures { result ≡ word_value self.now.state word.0 }
+    {
+        let context = context_of(&self.checked, &self.plans, self.shape, self.fuel);
+        self.content.word(&context, word)
+    }
+
+    /// How the task of a core stands; None where it has none, and where it goes on and waits for no lock.
+    pub fn task_end(&self, core: CoreId) -> Option<TaskEnd>
+        ensures { result ≡ end_at (slice_get self.now.state.nodes core.0) }
+    {
+        self.content.task_end(core)
+    }
+}
+
+/// Every machine has 1 to 16 cores and is sound, so its program is a checked one; and it is the opened one where no event has
+/// come.
+pub fn a_machine_is_kept(machine: &Machine)
+    ensures { IsKept machine.now.state machine.now.made }
+{
+    let _made = &machine.made;
+}

@@ -1,0 +1,11 @@
+use dn_base::{Grant, Sequence};
+use message_net::Event;
+use rv_core::Ending;
+
+/// A run: its events, the grants in the order in which the cores handled them, and its ending.
+#[derive(Debug, Drop)]
+pub struct RunRecord {
+    pub events: Sequence<Event>,
+    pub grants: Sequence<Grant>,
+    pub ending: Ending,
+}

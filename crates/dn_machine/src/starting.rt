@@ -1,0 +1,133 @@
+ghost use Rattle.std.specs.Prelude.{◌≡◌, ◌+◌, ◌<◌, ◌≤◌, ℕ, map, replicate, length, slice_get, Some, IfOk};
+ghost use Rattle.std.specs.List.{range_with_len};
+ghost use Rattle.region_table.specs.Program.{IsProgram};
+ghost use Rattle.registry_bank.specs.Bank.{opened_bank};
+ghost use Rattle.effect_checker.specs.Checked.{IsChecked};
+ghost use Rattle.registration_protocol.specs.Fit.{IsContext, Fits};
+ghost use Rattle.registration_protocol.specs.Node.{NodeParts, opened};
+ghost use Rattle.registration_protocol.specs.OwnEvents.{own_event};
+ghost use Rattle.registration_protocol.specs.Setting.{setting};
+ghost use Rattle.machine_rules.specs.State.{opened as opened_machine};
+ghost use Rattle.dn_machine.specs.Content.{state_of, KnowsOwn};
+
+use crate::content::Content;
+use crate::places::own_at;
+use dn_base::{BankId, CoreId, Memory, Sequence, Shape};
+use message_net::{Event, Pool};
+use phase_barrier::Keeper;
+use region_table::Program;
+use registration_protocol::{Context, Node};
+use registry_bank::Bank;
+use std::alloc::Global;
+
+/// The nodes as a run begins, in the order of their cores.
+pub(crate) fn new_nodes(alloc: Global, context: &Context<'_>) -> Result<Vec<Node>, Memory>
+    requires { IsContext (setting context.now) }
+    ensures { IfOk result (λ nodes. nodes.items ≡ map (opened (setting context.now)) (range_with_len 0 (setting context.now).shape.cores)) }
+{
+    let mut nodes = Vec::new(alloc);
+    for core in 0..context.shape.cores {
+        nodes.push(Node::new(alloc, CoreId(core), context)?)?;
+    }
+    Ok(nodes)
+}
+
+/// The banks as a run begins, in the order of their numbers, with this first memory and so many locks in all.
+pub(crate) fn new_banks(
+    alloc: Global,
+    shape: Shape,
+    memory: &[u32],
+    locks: u32,
+) -> Result<Vec<Bank>, Memory>
+    requires banks { shape.banks ≤ 16 }
+    requires some { 1 ≤ shape.cores }
+    requires cores { shape.cores ≤ 16 }
+    requires memory { length memory.now ≤ 65536 }
+    requires locks { locks ≤ 32 }
+    ensures { IfOk result (λ banks. banks.items ≡ map (λ (bank : ℕ). opened_bank bank shape.banks shape.cores memory.now locks) (range_with_len 0 shape.banks)) }
+{
+    let mut banks = Vec::new(alloc);
+    for bank in 0..shape.banks {
+        banks.push(Bank::new(alloc, BankId(bank), shape.banks, shape.cores, memory, locks)?)?;
+    }
+    Ok(banks)
+}
+
+/// The first memory of a program.
+fn memory_of(program: &Program) -> &[u32]
+    ensures is { result.now ≡ program.now.memory }
+    ensures most { length result.now ≤ 65536 }
+{
+    program.memory.as_slice()
+}
+
+/// How many locks a program has.
+fn locks_of(program: &Program) -> u32
+    ensures is { result ≡ length program.now.locks }
+    ensures most { result ≤ 32 }
+{
+    program.locks.len() as u32
+}
+
+/// How many phases a program has.
+fn phases_of(program: &Program) -> u32
+    ensures is { result ≡ length program.now.phases }
+    ensures most { result ≤ 64 }
+{
+    program.phases.len() as u32
+}
+
+/// As many zeros.
+pub(crate) fn zeros(alloc: Global, count: u32) -> Result<Sequence<u32>, Memory>
+    ensures { IfOk result (λ numbers. numbers ≡ replicate count 0) }
+{
+    let mut numbers = Sequence::new(alloc);
+    for _done in 0..count {
+        numbers.push(0)?;
+    }
+    Ok(numbers)
+}
+
+/// What each node does next by itself.
+pub(crate) fn own_events(
+    alloc: Global,
+    nodes: &[Node],
+    context: &Context<'_>,
+) -> Result<Sequence<Option<Event>>, Memory>
+    requires context { IsContext (setting context.now) }
+    requires fits { (core : ℕ) (n : NodeParts) → slice_get nodes.now core ≡ Some n → Fits (setting context.now) n }
+    ensures { IfOk result (λ own. own ≡ map (own_event (setting context.now)) nodes.now) }
+{
+    let mut own = Sequence::new(alloc);
+    for place in 0..nodes.len() {
+        own.push(own_at(nodes, place, context))?;
+    }
+    Ok(own)
+}
+
+/// What changes in a machine, as a run begins.
+pub(crate) fn opened_content(alloc: Global, context: &Context<'_>) -> Result<Content, Memory>
+    requires context { IsContext (setting context.now) }
+    requires program { IsProgram (setting context.now).program }
+    requires checked { IsChecked (setting context.now).program }
+    requires some { 1 ≤ (setting context.now).shape.cores }
+    requires most { (setting context.now).shape.cores ≤ 16 }
+    ensures state { IfOk result (λ content. state_of (setting context.now) content ≡ opened_machine (setting context.now)) }
+    ensures known { IfOk result (KnowsOwn (setting context.now)) }
+{
+    let shape = context.shape;
+    let program = context.program;
+    let nodes = new_nodes(alloc, context)?;
+    let banks = new_banks(alloc, shape, memory_of(program), locks_of(program))?;
+    let keeper = Keeper::new(shape.cores, phases_of(program));
+    let own = own_events(alloc, nodes.as_slice(), context)?;
+    let numbers = zeros(alloc, shape.cores + shape.banks + 1)?;
+    Ok(Content {
+        nodes,
+        banks,
+        keeper,
+        pool: Pool::new(alloc),
+        numbers,
+        own,
+    })
+}

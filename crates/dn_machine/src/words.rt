@@ -1,0 +1,99 @@
+ghost use Rattle.std.specs.Prelude.{◌≡◌, ◌<◌, IfOk, slice_get};
+ghost use Rattle.registration_protocol.specs.Setting.{setting};
+ghost use Rattle.machine_rules.specs.State.{entry_in, home_at};
+ghost use Rattle.machine_rules.specs.Memory.{pending_among, value_of, kept_value, word_value, memory_of};
+ghost use Rattle.dn_machine.specs.Content.{state_of};
+
+use crate::content::Content;
+use dn_base::{CoreId, Memory, WordId};
+use registration_protocol::{Context, Node};
+use registry_bank::BankWord;
+use std::alloc::Global;
+use word_cache::Entry;
+
+/// The value that some core is about to register for a word.
+fn pending_among(nodes: &[Node], word: WordId) -> Option<u32>
+    ensures { result ≡ pending_among nodes.now word.0 }
+{
+    for node in nodes {
+        if let Some(
+            Entry::Registered {
+                value,
+                pending: true,
+            },
+        ) = node.entry(word)
+        {
+            return Some(value);
+        }
+    }
+    None
+}
+
+/// The value of an entry.
+fn value_of(entry: Option<Entry>) -> u32
+    ensures { result ≡ value_of entry }
+{
+    match entry {
+        None => 0,
+        Some(Entry::Valid { value, .. }) => value,
+        Some(Entry::Registered { value, .. }) => value,
+        Some(Entry::Leaving(value)) => value,
+    }
+}
+
+/// The value of the entry that a core has of a word.
+fn value_at(nodes: &[Node], core: CoreId, word: WordId) -> u32
+    ensures { result ≡ value_of (entry_in word.0 (slice_get nodes.now core.0)) }
+{
+    match nodes.get(core.0 as usize) {
+        Some(node) => value_of(node.entry(word)),
+        None => 0,
+    }
+}
+
+impl Content {
+    /// The value that the home of a word has, or its registrant.
+    fn kept_value(&self, context: &Context<'_>, word: WordId) -> u32
+        requires banks { 0 < (setting context.now).shape.banks }
+        ensures { result ≡ kept_value (state_of (setting context.now) self.now) word.0 (home_at (state_of (setting context.now) self.now) word.0) }
+    {
+        let place = word.0 % context.shape.banks;
+        match self.banks.as_slice().get(place as usize) {
+            None => 0,
+            Some(bank) => match bank.word(word) {
+                None => 0,
+                Some(BankWord::Home(value)) => value,
+                Some(BankWord::Reg(core)) => value_at(self.nodes.as_slice(), core, word),
+            },
+        }
+    }
+
+    /// The value of a data word.
+    #[tactic(auto, unfolding(machine_rules::specs::Memory::word_value))]
+    pub(crate) fn word(&self, context: &Context<'_>, word: WordId) -> u32
+        requires banks { 0 < (setting context.now).shape.banks }
+        ensures { result ≡ word_value (state_of (setting context.now) self.now) word.0 }
+    {
+        match pending_among(self.nodes.as_slice(), word) {
+            Some(value) => value,
+            None => self.kept_value(context, word),
+        }
+    }
+
+    /// All data words.
+    ///
+    /// # Errors
+    /// `Memory` where there is no room.
+    pub(crate) fn memory(&self, alloc: Global, context: &Context<'_>) -> Result<Vec<u32>, Memory>
+        requires banks { 0 < (setting context.now).shape.banks }
+        ensures { IfOk result (λ memory. memory.items ≡ memory_of (state_of (setting context.now) self.now)) }
+    {
+        let program = context.program;
+        let words = program.memory.len() as u32;
+        let mut memory = Vec::new(alloc);
+        for word in 0..words {
+            memory.push(self.word(context, WordId(word)))?;
+        }
+        Ok(memory)
+    }
+}
