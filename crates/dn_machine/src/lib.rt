@@ -14,6 +14,8 @@ mod places;
 mod posting;
 mod record;
 mod starting;
+#[cfg(test)]
+mod tests;
 mod words;
 
 pub use laws::{a_pick_is_an_event_that_may_come, a_seed_gives_one_complete_run};
