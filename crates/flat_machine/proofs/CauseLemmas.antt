@@ -30,7 +30,8 @@ use Rattle.flat_machine.specs.declared.ending.FlatEnd.{FlatEnd}
 use Rattle.flat_machine.specs.Step.{Started, At, fresh, wish, wish_unless, in_state, step_by, flat_step, flat_steps, segment, IsWithin, IsAcquire, IsWaiting}
 use Rattle.flat_machine.specs.Phases.{Flat, run_all, begin, finished_by, has_finished, settle, settled, initial, opened}
 use Rattle.flat_machine.specs.Grants.{grant_by, grant_for, can_take, go_on, with_task, resumed, granted_at, granted, granted_if, grants_from, so_far, first_or, first_grant, next_grant, is_whole}
-use Rattle.flat_machine.specs.Ending.{shown_by, shown_of, task_end, is_waiting, is_trapped, is_spent, outcome_of, end_of, whole_only, flat_end}
+use Rattle.rv_core.specs.Ending.{is_waiting, is_trapped, is_spent, outcome_of}
+use Rattle.flat_machine.specs.Ending.{shown_by, shown_of, task_end, end_of, whole_only, flat_end}
 use Rattle.flat_machine.specs.Laws.{IsAtRest, HasUsedUp, IsOutOfFuel, IsHeldUp, IsEnded}
 use Rattle.flat_machine.proofs.Rest.{IsLess, advanced-more, loaded-more, wish-open, step-less, rest-still, segment-rest}
 use Rattle.flat_machine.proofs.Rights.{wish-need, told}

@@ -1,9 +1,6 @@
 -- How a run of the flat machine ends.
-use Rattle.std.specs.Prelude.{ℕ, Bool, true, false, if◌then◌else◌, List, map, Option, Some, None}
-use Rattle.std.specs.List.{list_any}
+use Rattle.std.specs.Prelude.{ℕ, if◌then◌else◌, List, map, Option, Some, None}
 use Rattle.dn_base.specs.declared.ids.Grant.{Grant}
-use Rattle.dn_base.specs.declared.status.Outcome.{Outcome}
-use Rattle.dn_base.specs.declared.status.Outcome as outcome
 use Rattle.region_table.specs.Program.{ProgramParts}
 use Rattle.rv_core.specs.declared.task.End.{End}
 use Rattle.rv_core.specs.declared.need.Need.{Need}
@@ -11,8 +8,7 @@ use Rattle.rv_core.specs.declared.need.Need as need
 use Rattle.rv_core.specs.declared.ending.EndShown.{EndShown}
 use Rattle.rv_core.specs.declared.ending.EndShown as shown
 use Rattle.rv_core.specs.declared.ending.TaskEnd.{TaskEnd}
-use Rattle.rv_core.specs.declared.ending.Ending.{Ending}
-use Rattle.rv_core.specs.Ending.{shown_end}
+use Rattle.rv_core.specs.Ending.{shown_end, ending_of}
 use Rattle.rv_core.specs.Need.{need_of}
 use Rattle.flat_machine.specs.declared.ending.FlatEnd.{FlatEnd}
 use Rattle.flat_machine.specs.declared.ending.TaskLoads.{TaskLoads}
@@ -43,30 +39,6 @@ ends_of P fuel F = map (task_end P fuel) (all_tasks F)
 
 abbrev pub loads_of : Flat → List TaskLoads
 loads_of F = map task_loads (all_tasks F)
-
-abbrev pub is_waiting : EndShown → Bool
-is_waiting (shown.TheVariants.Waits lock) = true
-is_waiting _ = false
-
-abbrev pub is_trapped : EndShown → Bool
-is_trapped (shown.TheVariants.Trap kind pc value) = true
-is_trapped _ = false
-
-abbrev pub is_spent : EndShown → Bool
-is_spent shown.TheVariants.Fuel = true
-is_spent _ = false
-
--- a run is stuck where some task still waits; if none does it is trapped where some task trapped; if none did it is out of
--- fuel where some task ran out; and it is done where all have finished
-unfoldable pub outcome_of : List TaskEnd → Outcome
-outcome_of ends =
-    if list_any (λ (e : TaskEnd). is_waiting e.end) ends then outcome.TheVariants.Stuck
-    else if list_any (λ (e : TaskEnd). is_trapped e.end) ends then outcome.TheVariants.Trapped
-    else if list_any (λ (e : TaskEnd). is_spent e.end) ends then outcome.TheVariants.Fuel
-    else outcome.TheVariants.Done
-
-abbrev pub ending_of : List TaskEnd → List ℕ → Ending
-ending_of ends memory = record { outcome = outcome_of ends; tasks = ends; memory = memory }
 
 -- the ending and the loads of all tasks that started, in the order of their phases and cores
 unfoldable pub end_of : ProgramParts → ℕ → Flat → FlatEnd

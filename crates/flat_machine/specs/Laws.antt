@@ -17,7 +17,8 @@ use Rattle.flat_machine.specs.declared.ending.FlatEnd.{FlatEnd}
 use Rattle.flat_machine.specs.Step.{Started, At, fresh, segment}
 use Rattle.flat_machine.specs.Phases.{Flat, all_tasks, run_all}
 use Rattle.flat_machine.specs.Grants.{grants_from, so_far, is_whole}
-use Rattle.flat_machine.specs.Ending.{shown_of, ends_of, loads_of, is_waiting, is_trapped, outcome_of}
+use Rattle.rv_core.specs.Ending.{is_waiting, is_trapped, outcome_of}
+use Rattle.flat_machine.specs.Ending.{shown_of, ends_of, loads_of}
 
 abbrev pub at_memory : Started → List ℕ → At
 at_memory r m = record { task = r; memory = m }

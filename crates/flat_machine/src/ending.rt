@@ -1,10 +1,9 @@
 ghost use Rattle.std.specs.Prelude.{◌≡◌, ◌≤◌, ◌+◌, ◌++◌, length, map, IfOk};
-ghost use Rattle.std.specs.List.{list_any};
 ghost use Rattle.rv_core.specs.declared.ending.TaskEnd.{TaskEnd};
-ghost use Rattle.flat_machine.specs.Ending.{shown_of, task_end, task_loads, outcome_of, is_waiting, is_trapped, is_spent};
+ghost use Rattle.flat_machine.specs.Ending.{shown_of, task_end, task_loads};
 
 use crate::running::Running;
-use dn_base::{CoreId, LoadSeen, Memory, Outcome, PhaseId, Sequence};
+use dn_base::{CoreId, LoadSeen, Memory, PhaseId, Sequence};
 use region_table::Program;
 use rv_core::{EndShown, Ending, Need, TaskEnd};
 use std::alloc::Global;
@@ -86,39 +85,4 @@ pub(crate) fn push_loads(
         loads.push(loads_of_task(running))?;
     }
     Ok(())
-}
-
-/// The outcome of a run in which the tasks that started stand so: stuck where one waits for a lock, else trapped where one
-/// trapped, else out of fuel where one ran out of it, else done.
-#[tactic(auto, unfolding(crate::specs::Ending::outcome_of))]
-pub fn outcome(ends: &[TaskEnd]) -> Outcome
-    ensures { result ≡ outcome_of ends.now }
-{
-    if any_waits(ends) {
-        Outcome::Stuck
-    } else if any_traps(ends) {
-        Outcome::Trapped
-    } else if any_is_spent(ends) {
-        Outcome::Fuel
-    } else {
-        Outcome::Done
-    }
-}
-
-fn any_waits(ends: &[TaskEnd]) -> bool
-    ensures { result ≡ list_any (λ (e : TaskEnd). is_waiting e.end) ends.now }
-{
-    ends.iter().any(|e| matches!(e.end, EndShown::Waits { .. }))
-}
-
-fn any_traps(ends: &[TaskEnd]) -> bool
-    ensures { result ≡ list_any (λ (e : TaskEnd). is_trapped e.end) ends.now }
-{
-    ends.iter().any(|e| matches!(e.end, EndShown::Trap { .. }))
-}
-
-fn any_is_spent(ends: &[TaskEnd]) -> bool
-    ensures { result ≡ list_any (λ (e : TaskEnd). is_spent e.end) ends.now }
-{
-    ends.iter().any(|e| matches!(e.end, EndShown::Fuel))
 }

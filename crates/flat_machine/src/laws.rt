@@ -14,7 +14,8 @@ ghost use Rattle.flat_machine.specs.declared.ending.FlatEnd.{FlatEnd};
 ghost use Rattle.flat_machine.specs.Step.{Started, At, wish, flat_step, segment, IsWithin};
 ghost use Rattle.flat_machine.specs.Phases.{Flat, has_finished, settled, opened};
 ghost use Rattle.flat_machine.specs.Grants.{is_free, grant_of, go_on, with_task, so_far, is_whole, granted, granted_if, IsLeast};
-ghost use Rattle.flat_machine.specs.Ending.{is_waiting, end_of, flat_end};
+ghost use Rattle.rv_core.specs.Ending.{is_waiting};
+ghost use Rattle.flat_machine.specs.Ending.{end_of, flat_end};
 ghost use Rattle.flat_machine.specs.Laws.{at_memory, IsAtRest, AgreeOn, IsAlike, HoldsLess, IsLater, HoldApart, SameInEitherOrder, HasUsedUp, IsOutOfFuel, IsHeldUp, HasTasks, HasFront, StartAlone, IsEnded};
 
 /// A segment changes no word but those that its task may store with the locks that it holds at the start. It only gives

@@ -12,7 +12,7 @@ mod runs;
 #[cfg(test)]
 mod tests;
 
-pub use ending::{FlatEnd, TaskLoads, outcome};
+pub use ending::{FlatEnd, TaskLoads};
 pub use laws::{
     a_front_of_a_list_has_a_value, a_segment_adds_loads_and_gives_locks_up,
     a_segment_comes_to_rest, a_segment_keeps_other_words, a_segment_reads_its_words,

@@ -7,11 +7,11 @@ ghost use Rattle.flat_machine.specs.Phases.{Flat, Ran, run_all, begin, has_finis
 ghost use Rattle.flat_machine.specs.Grants.{is_free, grant_by, grant_for, is_grant, can_take, first_grant, next_grant, resumed, granted, grants_from, IsStoppedAt, IsLeastFrom};
 ghost use Rattle.flat_machine.specs.Ending.{end_of};
 
-use crate::ending::{FlatEnd, outcome, push_ends, push_loads};
+use crate::ending::{FlatEnd, push_ends, push_loads};
 use crate::running::{Running, start};
 use dn_base::{Grant, LockId, Memory, PhaseId, Sequence};
 use region_table::{Phase, Program, TaskDecl};
-use rv_core::{DecodedCode, Ending, Need};
+use rv_core::{DecodedCode, Ending, Need, outcome};
 use std::alloc::Global;
 use std::marker::Model;
 

@@ -4,7 +4,7 @@ ghost use Rattle.std.specs.Prelude.{◌≡◌, ◌<◌, ◌≤◌, [], ◌∷◌
 ghost use Rattle.std.specs.List.{All};
 ghost use Rattle.region_table.specs.Program.{LiesIn, IsTask, IsPhase};
 
-use crate::{FlatEnd, flat, least_grants, least_run, outcome};
+use crate::{FlatEnd, flat, least_grants, least_run};
 use dn_base::{CoreId, Grant, LoadSeen, LockId, Memory, Name, Outcome, PhaseId, Sequence, WordId};
 use effect_checker::{Checked, check};
 use region_table::{Effects, Phase, Program, Region, TaskDecl, WordSet};
@@ -136,7 +136,7 @@ fn the_least_list_and_its_end(rt: HostRuntime) -> Result<(), Fail> {
     let wanted = [grant(0), grant(1)];
     assert!(rt; run.grants.as_slice() == wanted.as_slice());
     assert!(rt; least_grants(alloc, &checked, 10)?.as_slice() == wanted.as_slice());
-    assert_eq!(rt; outcome(run.end.ending.tasks.as_slice()), Outcome::Done);
+    assert_eq!(rt; run.end.ending.outcome, Outcome::Done);
     assert!(rt; has_counted(&run.end, 0, 1));
     Ok(())
 }

@@ -74,6 +74,21 @@ impl Keeper {
         }
     }
 
+    /// How many cores there are, from 1 to 16. Takes no memory.
+    pub fn cores(&self) -> u32
+        ensures count { result ≡ length self.now.arrived }
+        ensures few { result ≤ 16 }
+    {
+        self.cores
+    }
+
+    /// The current phase. Takes no memory.
+    pub fn phase(&self) -> PhaseId
+        ensures { result.0 ≡ self.now.phase }
+    {
+        PhaseId(self.phase)
+    }
+
     /// Whether each core has arrived.
     fn flags(&self) -> &[bool]
         ensures { result.now ≡ self.now.arrived }

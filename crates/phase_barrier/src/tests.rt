@@ -16,6 +16,8 @@ fn a_keeper_counts_each_core_once(rt: HostRuntime) -> Result<(), Fail> {
         bad: false,
     };
     assert_eq!(rt; keeper.handle(last), go);
+    assert_eq!(rt; keeper.phase(), PhaseId(1));
+    assert_eq!(rt; keeper.cores(), 2);
     assert_eq!(rt; go.letter(), Some(Message::Go { phase: PhaseId(1) }));
     assert_eq!(rt; keeper.arrived(CoreId(1), true), Verdict::Wait);
     assert_eq!(rt; keeper.arrived(CoreId(0), false), Verdict::Halt);

@@ -150,6 +150,13 @@ impl Bank {
         })
     }
 
+    /// The bank's number. Takes no memory.
+    pub fn number(&self) -> BankId
+        ensures { result.0 ≡ self.now.bank }
+    {
+        self.bank
+    }
+
     /// What the bank holds for a word; None exactly where the word isn't one of this bank's. Takes no memory.
     pub fn word(&self, word: WordId) -> Option<BankWord>
         ensures { result ≡ bank_word self.now word.0 }

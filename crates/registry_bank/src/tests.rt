@@ -43,6 +43,7 @@ fn a_lock_is_granted_with_its_signature(rt: HostRuntime) -> Result<(), Fail> {
         bank.handle(Message::Acquire { lock, core }),
         to(1, Message::Grant { lock, signature })
     );
+    assert_eq!(rt; bank.number(), BankId(1));
     assert_eq!(rt; bank.word(WordId(1)), Some(BankWord::Home(7)));
     assert_eq!(rt; bank.handle(Message::Halt), None);
     Ok(())

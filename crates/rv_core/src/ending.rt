@@ -1,5 +1,6 @@
 ghost use Rattle.std.specs.Prelude.{◌≡◌};
-ghost use Rattle.rv_core.specs.Ending.{shown_end};
+ghost use Rattle.std.specs.List.{list_any};
+ghost use Rattle.rv_core.specs.Ending.{shown_end, outcome_of, is_waiting, is_trapped, is_spent};
 
 use crate::task::{End, TrapKind};
 use dn_base::{CoreId, LockId, Outcome, PhaseId, Sequence};
@@ -45,4 +46,39 @@ pub struct Ending {
     pub outcome: Outcome,
     pub tasks: Sequence<TaskEnd>,
     pub memory: Sequence<u32>,
+}
+
+/// The outcome of a run in which the tasks that started stand so: stuck where one waits for a lock, else trapped where one
+/// trapped, else out of fuel where one ran out of it, else done.
+#[tactic(auto, unfolding(crate::specs::Ending::outcome_of))]
+pub fn outcome(ends: &[TaskEnd]) -> Outcome
+    ensures { result ≡ outcome_of ends.now }
+{
+    if any_waits(ends) {
+        Outcome::Stuck
+    } else if any_traps(ends) {
+        Outcome::Trapped
+    } else if any_is_spent(ends) {
+        Outcome::Fuel
+    } else {
+        Outcome::Done
+    }
+}
+
+fn any_waits(ends: &[TaskEnd]) -> bool
+    ensures { result ≡ list_any (λ e. is_waiting e.end) ends.now }
+{
+    ends.iter().any(|e| matches!(e.end, EndShown::Waits { .. }))
+}
+
+fn any_traps(ends: &[TaskEnd]) -> bool
+    ensures { result ≡ list_any (λ e. is_trapped e.end) ends.now }
+{
+    ends.iter().any(|e| matches!(e.end, EndShown::Trap { .. }))
+}
+
+fn any_is_spent(ends: &[TaskEnd]) -> bool
+    ensures { result ≡ list_any (λ e. is_spent e.end) ends.now }
+{
+    ends.iter().any(|e| matches!(e.end, EndShown::Fuel))
 }

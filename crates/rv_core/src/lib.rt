@@ -16,7 +16,7 @@ mod step;
 mod task;
 
 pub use decoded::DecodedCode;
-pub use ending::{EndShown, Ending, TaskEnd};
+pub use ending::{EndShown, Ending, TaskEnd, outcome};
 pub use laws::{
     a_call_changes_one_lock, a_task_that_finishes_holds_no_lock,
     a_whole_store_leaves_the_same_over_any_word,

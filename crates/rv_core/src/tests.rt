@@ -1,8 +1,8 @@
 //! A program of a few words, run by one task over a memory of one word, by each of the two ways to complete an instruction.
 ghost use Rattle.std.specs.Prelude.{◌≡◌, ◌≤◌, None, length};
 
-use crate::{End, EndShown, Need, TaskState};
-use dn_base::{CoreId, Memory, Name, Sequence};
+use crate::{End, EndShown, Need, TaskEnd, TaskState, outcome};
+use dn_base::{CoreId, Memory, Name, Outcome, PhaseId, Sequence};
 use region_table::{Effects, Program, Region, TaskDecl, WordSet};
 use std::alloc::Global;
 use std::test::Fail;
@@ -137,5 +137,12 @@ fn a_task_runs_to_its_end_in_either_way(rt: HostRuntime) -> Result<(), Fail> {
         assert_eq!(rt; ran.word, 0x1122_4444);
     }
     assert_eq!(rt; EndShown::from(End::Finished), EndShown::Finished);
+    let end = TaskEnd {
+        phase: PhaseId(0),
+        core: CoreId(0),
+        end: EndShown::Finished,
+        retired: 9,
+    };
+    assert_eq!(rt; outcome(&[end]), Outcome::Done);
     Ok(())
 }
