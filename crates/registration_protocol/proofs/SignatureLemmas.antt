@@ -7,6 +7,7 @@ use Rattle.std.specs.Option.{option_map}
 use Rattle.region_table.specs.Words.{has}
 use Rattle.region_table.specs.declared.declared.TaskDecl.{TaskDecl}
 use Rattle.rv_core.specs.Access.{holds as is_held}
+use Rattle.rv_core.proofs.HeldLemmas.{holds-none}
 use Rattle.write_signature.specs.Signature.{tag, inserted}
 use Rattle.write_signature.proofs.SignatureLemmas.{tag-inserted}
 use Rattle.write_signature.specs.declared.signature.Signature.{Signature}
@@ -40,6 +41,14 @@ noted_next d held w phase i ss s within =
     ≡ take i ss ++ noted d held w phase i (drop i ss) in
     let next : suc i ≡ i + 1 = omega arith in
     subst F next more
+
+-- a task that holds no lock notes nothing
+pub noted-free : (d : TaskDecl) (w phase l : ℕ) (ss : List Signature) → noted d 0 w phase l ss ≡ ss
+noted-free d w phase l [] = refl
+noted-free d w phase l (s ∷ ss) =
+    let one : noted_at d 0 w phase l s ≡ s =
+    ap (λ (b : Bool). cond (b && has (slice_index_or d.effects.guarded_writes l []) w) (inserted s w phase) s) (holds-none l) in
+    ap (λ (x : Signature). x ∷ noted d 0 w phase (l + 1) ss) one ∙ ap (λ (xs : List Signature). s ∷ xs) (noted-free d w phase (l + 1) ss)
 
 -- there are as many signatures after a store
 pub length-noted : (d : TaskDecl) (held w phase l : ℕ) (ss : List Signature) → length (noted d held w phase l ss) ≡ length ss

@@ -70,11 +70,11 @@ fn note_at(
     requires locks { length signatures.old ≤ 32 }
     ensures { (d : Signature) → signatures.new ≡ slice_set signatures.old lock (noted_at task.now held word.0 phase.0 lock (slice_index_or signatures.old lock d)) }
 {
-    let mut signature = signatures.as_slice()[lock];
     if stores_under(task, held, lock, word) {
+        let mut signature = signatures.as_slice()[lock];
         signature.insert(word, phase);
+        signatures.set(lock, signature);
     }
-    signatures.set(lock, signature);
 }
 
 /// Notes a store to the word in the signature of each lock that the task holds and that guards the word for its stores.
@@ -88,6 +88,9 @@ pub(crate) fn note(
     requires { length signatures.old ≤ 32 }
     ensures { signatures.new ≡ noted task.now held word.0 phase.0 0 signatures.old }
 {
+    if held == 0 {
+        return;
+    }
     for lock in 0..signatures.len() {
         note_at(signatures, task, held, lock, word, phase);
     }
