@@ -71,7 +71,12 @@ pub mod RunsCoherent
 pub mod RestNodes
 pub mod RestStates
 mod Spending
+mod Totals
 mod SpendSteps
 mod SpendNodes
 mod SpendLeaves
 mod SpendBound
+mod PhasesOn
+mod LastTasks
+pub mod NoPhases
+pub mod BoundRuns

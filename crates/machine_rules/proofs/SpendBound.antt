@@ -1,5 +1,5 @@
 -- How many events there can be: none are paid as a run begins, each one is paid as it comes, and what pays is bounded.
-use Rattle.std.proofs.Common.{◌≡◌, inl, inr, ℕ, zero, suc, ◌+◌, ◌*◌, ◌≤◌, Bool, true, false, cond, nat_lt, List, [], ◌∷◌, length, slice_get, sum_by, Option, Some, None, refl, ap, subst, ◌∙◌, arith}
+use Rattle.std.proofs.Common.{◌≡◌, inl, inr, ℕ, suc, ◌+◌, ◌*◌, ◌≤◌, Bool, true, false, cond, nat_lt, List, [], ◌∷◌, length, slice_get, sum_by, Option, Some, None, refl, ap, subst, ◌∙◌, arith}
 use Rattle.std.proofs.Math.Nat.{mul-le-mul_left}
 use Rattle.std.specs.Option.{is_some}
 use Rattle.std.proofs.lemmas.List.Sums.{sum_by-cons}
@@ -25,7 +25,8 @@ use Rattle.machine_rules.proofs.Kept.{kept}
 use Rattle.machine_rules.proofs.Leaves.{stored_to}
 use Rattle.machine_rules.proofs.SoundEvents.{sound-next}
 use Rattle.machine_rules.proofs.OpenedFacts.{opened-flight, opened-node, opened-lock}
-use Rattle.machine_rules.proofs.Spending.{is_any, is_handed, is_register, is_reply, is_seek, is_pass, seeks_owned, debt, credit, earned, lent, queue_in, total, HasEarned, Spent, Spends}
+use Rattle.machine_rules.proofs.Spending.{is_any, is_handed, is_register, is_reply, is_seek, is_pass, seeks_owned, debt, credit, earned, lent, queue_in, HasEarned, Spent, Spends}
+use Rattle.machine_rules.proofs.Totals.{total-none}
 use Rattle.machine_rules.proofs.SpendNodes.{lent-most}
 use Rattle.machine_rules.proofs.SpendLeaves.{spend-leaves}
 
@@ -34,10 +35,6 @@ use Rattle.machine_rules.proofs.SpendLeaves.{spend-leaves}
 sum-none : (f : NodeParts → ℕ) (ns : List NodeParts) → ((c : ℕ) (n : NodeParts) → slice_get ns c ≡ Some n → f n ≡ 0) → sum_by f ns ≡ 0
 sum-none f [] none = refl
 sum-none f (n ∷ ns) none = omega (arith, none 0 n refl, sum-none f ns (λ c m found. none (suc c) m found), sum_by-cons f n ns)
-
-total-none : (f : ℕ → ℕ) (n : ℕ) → ((l : ℕ) → f l ≡ 0) → total f n ≡ 0
-total-none f zero none = refl
-total-none f (suc n) none = omega (arith, total-none f n none, none n)
 
 no-debt : (C : Setting) (c : ℕ) (n : NodeParts) → slice_get (opened C).nodes c ≡ Some n → debt n ≡ 0
 no-debt C c n found = rw ((opened-node C c n found).is) refl

@@ -6,3 +6,4 @@ pub mod Memory
 pub mod Coherent
 pub mod Sound
 pub mod Rest
+pub mod Bound

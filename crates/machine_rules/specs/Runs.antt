@@ -1,5 +1,5 @@
 -- Runs: lists of events, each of which may come in its turn; and what is read off them.
-use Rattle.std.specs.Prelude.{◌≡◌, ℕ, ◌+◌, ◌==◌, Bool, true, false, ◌&&◌, List, [], ◌∷◌, ◌++◌, map, take, slice_get, Option, Some, None, if◌then◌else◌, cond}
+use Rattle.std.specs.Prelude.{◌≡◌, ℕ, ◌+◌, ◌==◌, Bool, true, false, ◌&&◌, List, [], ◌∷◌, ◌++◌, map, take, slice_get, Option, Some, None, if◌then◌else◌}
 use Rattle.std.specs.List.{filter_map}
 use Rattle.dn_base.specs.declared.ids.Grant.{Grant}
 use Rattle.dn_base.specs.declared.ids.LoadSeen.{LoadSeen}
@@ -13,7 +13,7 @@ use Rattle.rv_core.specs.declared.ending.Ending.{Ending}
 use Rattle.registration_protocol.specs.Node.{NodeParts}
 use Rattle.registration_protocol.specs.OwnEvents.{end_of}
 use Rattle.flat_machine.specs.declared.ending.TaskLoads.{TaskLoads}
-use Rattle.flat_machine.specs.Ending.{ending_of}
+use Rattle.rv_core.specs.Ending.{ending_of}
 use Rattle.machine_rules.specs.State.{State}
 use Rattle.machine_rules.specs.Next.{next, enabled, seen_in, granted_in, kind_in}
 use Rattle.machine_rules.specs.Memory.{memory_of, store_in, with_store}
@@ -64,10 +64,10 @@ load_of phase core S _ = None
 abbrev pub loads_of : ℕ → ℕ → State → List Event → List LoadSeen
 loads_of phase core S events = read_off (load_of phase core) S events
 
--- how many events are of a kind
-abbrev pub count_in : (EventKind → Bool) → State → List Event → ℕ
-count_in test S [] = 0
-count_in test S (e ∷ es) = cond (test (kind_in S e)) 1 0 + count_in test (next S e) es
+-- the kinds of the events of a list
+abbrev pub kinds_of : State → List Event → List EventKind
+kinds_of S [] = []
+kinds_of S (e ∷ es) = kind_in S e ∷ kinds_of (next S e) es
 
 -- a memory to which each store is applied as it retires
 abbrev pub memory_after : List ℕ → State → List Event → List ℕ
@@ -80,8 +80,8 @@ abbrev pub end_in_phase : ℕ → Option NodeParts → Option TaskEnd
 end_in_phase phase None = None
 end_in_phase phase (Some n) = if n.phase == phase then end_of n n.task else None
 
-abbrev pub later : Option TaskEnd → Option TaskEnd → Option TaskEnd
-later (Some e) before = Some e
+abbrev pub later : {X : Type 0} → Option X → Option X → Option X
+later (Some x) before = Some x
 later None before = before
 
 -- how it stood when its node last had it

@@ -1,5 +1,5 @@
 //! What holds of the machine's states and runs, for whoever reasons about them.
-ghost use Rattle.std.specs.Prelude.{◌≡◌, ℕ, ◌+◌, true, List, Some, slice_index};
+ghost use Rattle.std.specs.Prelude.{◌≡◌, ℕ, ◌+◌, ◌*◌, ◌≤◌, true, List, length, Some, slice_index};
 ghost use Rattle.dn_base.specs.declared.ids.LoadSeen.{LoadSeen};
 ghost use Rattle.message_net.specs.declared.event.Event.{Event};
 ghost use Rattle.registration_protocol.specs.Node.{Setting};
@@ -7,6 +7,7 @@ ghost use Rattle.machine_rules.specs.State.{State, opened};
 ghost use Rattle.machine_rules.specs.Next.{next, enabled, seen_in};
 ghost use Rattle.machine_rules.specs.Memory.{memory_of};
 ghost use Rattle.machine_rules.specs.Runs.{after, IsRun, IsCompleteRun, memory_after};
+ghost use Rattle.machine_rules.specs.Bound.{retired_in, started_in};
 ghost use Rattle.machine_rules.specs.Coherent.{Coherent};
 ghost use Rattle.machine_rules.specs.Rest.{IsAtRest};
 ghost use Rattle.machine_rules.specs.Sound.{IsReady, IsSound};
@@ -43,4 +44,16 @@ pub fn each_load_reads_the_stores_before_it()
 /// a lock that the task of another core holds.
 pub fn a_complete_run_is_at_rest()
     ensures { (C : Setting) (events : List Event) → IsReady C → IsCompleteRun (opened C) events → IsAtRest (after (opened C) events) }
+{}
+
+/// The events of a run, complete or not, are at most 12 for each instruction that a task has retired and for each task that
+/// has started, and 3 for each core in each phase of the program.
+pub fn a_run_has_few_events()
+    ensures { (C : Setting) (events : List Event) → IsReady C → IsRun (opened C) events
+        → length events ≤ 12 * (retired_in (opened C) events + started_in (opened C) events) + 3 * (C.shape.cores * length C.program.phases) }
+{}
+
+/// No run goes on for ever: within the limits of programs and of their fuel none has more events than this.
+pub fn no_run_goes_on_for_ever()
+    ensures { (C : Setting) (events : List Event) → IsReady C → IsRun (opened C) events → length events ≤ 25169664 }
 {}

@@ -10,7 +10,8 @@ use Rattle.rv_core.specs.declared.ending.TaskEnd.{TaskEnd}
 use Rattle.flat_machine.specs.declared.ending.TaskLoads.{TaskLoads}
 use Rattle.flat_machine.specs.Step.{Started}
 use Rattle.flat_machine.specs.Phases.{Flat, initial}
-use Rattle.flat_machine.specs.Ending.{task_end, task_loads, loads_of as flat_loads, ends_of as flat_ends, ending_of, end_of, flat_end}
+use Rattle.flat_machine.specs.Ending.{task_end, task_loads, loads_of as flat_loads, ends_of as flat_ends, end_of, flat_end}
+use Rattle.rv_core.specs.Ending.{ending_of}
 use Rattle.flat_agreement.specs.Cores.{world_of}
 use Rattle.flat_agreement.proofs.CoreByCore.{agreed-ends, none-ends}
 use Rattle.flat_agreement.proofs.Places.{get-cases}
@@ -36,7 +37,8 @@ use Rattle.machine_rules.proofs.RunsKept.{memory_over, memory-length, run-settin
 use Rattle.machine_rules.proofs.RunsCoherent.{first_memory, run-all, run-memory, run-shows}
 use Rattle.run_agreement.specs.Agreed.{States, Loads, Ends, stands, tasks_from, Agreed, more_ends}
 use Rattle.run_agreement.specs.Ends.{HasFlatEnd}
-use Rattle.run_agreement.proofs.Opened.{no_loads, no-phases-run}
+use Rattle.machine_rules.proofs.NoPhases.{no-phases-run}
+use Rattle.run_agreement.proofs.Opened.{no_loads}
 use Rattle.run_agreement.proofs.Quiet.{last-more}
 use Rattle.run_agreement.proofs.AgreedRuns.{loads_over, ends_over, no_ends, last-run, ends-last}
 use Rattle.run_agreement.proofs.PrefixAgrees.{all-standing, run-agreed}

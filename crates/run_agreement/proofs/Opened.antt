@@ -1,8 +1,7 @@
 -- The machine as a run begins agrees with the flat machine before any grant.
-use Rattle.std.proofs.Common.{◌≡◌, ℕ, Bool, true, false, List, [], ◌∷◌, length, slice_get, Option, Some, None, refl, sym, ap, subst, ◌∙◌, arith}
+use Rattle.std.proofs.Common.{◌≡◌, ℕ, [], slice_get, Option, Some, None, refl, sym, ap, subst, ◌∙◌, arith}
 use Rattle.std.specs.List.{IsAmong}
 use Rattle.std.specs.Option.{option_map}
-use Rattle.std.proofs.lemmas.Bool.Decides.{nat_tests}
 use Rattle.std.proofs.lemmas.Option.{none-some, same_Some}
 use Rattle.region_table.specs.Program.{ProgramParts}
 use Rattle.region_table.specs.declared.declared.TaskDecl.{TaskDecl}
@@ -13,14 +12,9 @@ use Rattle.rv_core.specs.declared.task.TaskState.{TaskState}
 use Rattle.rv_core.specs.Task.{started}
 use Rattle.flat_machine.specs.Step.{fresh}
 use Rattle.flat_agreement.proofs.CoreByCore.{agreed-opens}
-use Rattle.message_net.specs.declared.event.Event.{Event}
-use Rattle.message_net.specs.declared.event.Event.TheVariants.{Instr, Evict, Arrive, Handle}
 use Rattle.phase_barrier.specs.Barrier.{Barrier}
 use Rattle.registration_protocol.specs.Node.{NodeParts, Setting}
-use Rattle.registration_protocol.specs.OwnEvents.{may_instr, may_evict, may_arrive}
 use Rattle.machine_rules.specs.State.{opened}
-use Rattle.machine_rules.specs.Next.{enabled, when_there}
-use Rattle.machine_rules.specs.Runs.{IsRun}
 use Rattle.machine_rules.proofs.OpenedFacts.{opened-setting, opened-keeper, IsNewNode, opened-node}
 use Rattle.machine_rules.specs.Sound.{IsReady}
 use Rattle.machine_rules.proofs.RunsCoherent.{first_memory}
@@ -76,23 +70,3 @@ opened-agreed {E} C p ready there =
 
     now : IsWorldAt C [] (first_states C.program) no_loads 0 p C.program.memory
     now = world-same C.program C.fuel [] 0 [] [] p (fresh 0) (stands (first_states C.program) no_loads 0) C.program.memory refl first (agreed-opens C.program C.fuel p ready.program ready.checked there)
-
--- ---- without phases no event may come
-
-no-phases-halted : (C : Setting) (c : ℕ) (n : NodeParts) → length C.program.phases ≡ 0 → slice_get (opened C).nodes c ≡ Some n → n.halted ≡ true
-no-phases-halted C c n none found = ap (λ (x : NodeParts). x.halted) (opened-node C c n found).is ∙ grind (arith, nat_tests, none)
-
-none-there : (test : NodeParts → Bool) (o : Option NodeParts) → ((n : NodeParts) → o ≡ Some n → test n ≡ false) → when_there test o ≡ false
-none-there test None fails = refl
-none-there test (Some n) fails = fails n refl
-
-pub no-phases-over : (C : Setting) (e : Event) → length C.program.phases ≡ 0 → enabled (opened C) e ≡ false
-unfolding enabled opened
-no-phases-over C (Instr core) none = none-there (may_instr C) (slice_get (opened C).nodes core.0) (λ n found. (let off = no-phases-halted C core.0 n none found in rw (off) refl))
-no-phases-over C (Evict core word) none = none-there (λ (n : NodeParts). may_evict C n word.0) (slice_get (opened C).nodes core.0) (λ n found. (let off = no-phases-halted C core.0 n none found in rw (off) refl))
-no-phases-over C (Arrive core) none = none-there may_arrive (slice_get (opened C).nodes core.0) (λ n found. (let off = no-phases-halted C core.0 n none found in rw (off) refl))
-no-phases-over C (Handle id) none = refl
-
-pub no-phases-run : (C : Setting) (events : List Event) → length C.program.phases ≡ 0 → IsRun (opened C) events → events ≡ []
-no-phases-run C [] none run = refl
-no-phases-run C (e ∷ es) none run = let off = no-phases-over C e none in let on = run.0 in absurd (cc)

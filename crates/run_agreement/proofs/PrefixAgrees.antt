@@ -26,7 +26,8 @@ use Rattle.run_agreement.specs.Agreed.{States, Loads, stands, tasks_from, IsWorl
 use Rattle.run_agreement.specs.Fronts.{BeginsWith, IsFrontOf}
 use Rattle.run_agreement.proofs.Standing.{tasks-next}
 use Rattle.run_agreement.proofs.Quiet.{last-more}
-use Rattle.run_agreement.proofs.Opened.{no_loads, opened-agreed, no-phases-run}
+use Rattle.machine_rules.proofs.NoPhases.{no-phases-run}
+use Rattle.run_agreement.proofs.Opened.{no_loads, opened-agreed}
 use Rattle.run_agreement.proofs.AgreedRuns.{loads_over, ends_over, no_ends, agreed-run}
 
 -- ---- where a task stands
