@@ -1,0 +1,6 @@
+pub mod Stamps
+pub mod Inbox
+pub mod Banks
+pub mod Ports
+pub mod Note
+pub mod Keepers

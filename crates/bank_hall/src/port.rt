@@ -1,0 +1,95 @@
+ghost use Rattle.std.specs.Prelude.{◌≡◌};
+ghost use Rattle.bank_hall.specs.Ports.{port_call};
+
+use crate::posted::{Posted, crosses, take_picked};
+use dn_base::Memory;
+use std::marker::Model;
+use turn_lock::Object;
+
+/// What a call of a port is given: a mail that comes, or the pick of the one that is taken.
+#[derive(Clone, Copy, Debug, PartialEq, Eq)]
+pub enum PortIn {
+    Post(Posted),
+    Take { pick: u32 },
+}
+
+/// What a call of a port answers: the mail is in the inbox, or what was taken of it.
+#[derive(Clone, Copy, Debug, PartialEq, Eq)]
+pub enum PortOut {
+    Kept,
+    /// None exactly where the inbox was empty, or the picked mail's stamp is 2^63 or more.
+    Taken(Option<Posted>),
+}
+
+/// A core's inbox. A mail comes at its end. A take has the mail at the place that its pick names, modulo how many there are,
+/// and the last mail moves into the free place.
+#[derive(Debug, Drop)]
+pub struct Port {
+    inbox: Vec<Posted>,
+}
+
+impl Model for Port {
+    ghost use Rattle.std.specs.Prelude.{◌-◌, vec_len};
+    ghost use Rattle.std.specs.Vec.{vec_capacity};
+    ghost use Rattle.bank_hall.specs.Ports.{PortParts};
+
+    ghost Value = { PortParts };
+
+    ghost view = { λ p. record { inbox = p.inbox.items; spare = vec_capacity p.inbox - vec_len p.inbox } };
+}
+
+impl Port {
+    /// The port with this inbox.
+    pub fn new(inbox: Vec<Posted>) -> Port
+        ensures { result.inbox ≡ inbox.items }
+    {
+        Port { inbox }
+    }
+
+    /// Gives the inbox back.
+    pub fn parts(self) -> Vec<Posted>
+        ensures { result.items ≡ self.inbox }
+    {
+        self.inbox
+    }
+}
+
+impl Object for Port {
+    type In = PortIn;
+
+    type Out = PortOut;
+
+    ghost use Rattle.std.specs.Prelude.{ℕ, List};
+    ghost use Rattle.bank_hall.specs.declared.posted.Posted.{Posted as Mailed};
+    ghost use Rattle.bank_hall.specs.Ports.{port_call};
+
+    ghost Content = { List Mailed };
+
+    ghost content = { λ p. p.inbox };
+
+    ghost spare = { λ p. p.spare };
+
+    ghost answer = { λ inbox input. (port_call inbox input).1 };
+
+    ghost next = { λ inbox input. (port_call inbox input).0 };
+
+    fn reserve(&mut self) -> Result<(), Memory> {
+        self.inbox.reserve(1)?;
+        Ok(())
+    }
+
+    #[tactic(auto, unfolding(crate::specs::Ports::port_call))]
+    fn step(&mut self, input: PortIn) -> PortOut {
+        match input {
+            PortIn::Post(posted) => {
+                self.inbox.push_reserved(posted);
+                PortOut::Kept
+            }
+            PortIn::Take { pick } => PortOut::Taken(take_picked(&mut self.inbox, pick, 0, 0)),
+        }
+    }
+}
+
+fn port_crosses(port: &Port) {
+    crosses(port);
+}

@@ -1,0 +1,85 @@
+ghost use Rattle.std.specs.Prelude.{◌≡◌, ◌^◌, ◌<◌, IfSome, IfNone, length, slice_get, Some, None, vec_len, vec_capacity};
+ghost use Rattle.bank_hall.specs.Stamps.{may_handle, stamp_after, noted};
+ghost use Rattle.bank_hall.specs.Inbox.{place_in, taken};
+
+use grant_log::Stamped;
+use message_net::{Actor, Event, Mail};
+
+/// A mail on its way, with the stamp of the event that sent it.
+#[derive(Clone, Copy, Debug, PartialEq, Eq)]
+pub struct Posted {
+    pub mail: Mail,
+    pub stamp: u64,
+}
+
+/// From this stamp on a mail isn't handled, and an actor with this clock handles none.
+const LAST_STAMP: u64 = 1 << 63;
+
+/// From this number for its next mail on an actor handles no mail.
+const LAST_NUMBER: u32 = 4_294_967_000;
+
+/// Whether an actor with this clock and this number for its next mail may handle a mail.
+pub(crate) fn can_handle(clock: u64, next: u32, posted: &Posted) -> bool
+    ensures { result ≡ may_handle clock next posted.now }
+{
+    clock < LAST_STAMP && next < LAST_NUMBER && posted.stamp < LAST_STAMP
+}
+
+/// The place that a pick names; None in an empty inbox.
+fn place_of(inbox: &[Posted], pick: u32) -> Option<usize>
+    ensures some { IfSome result (λ place. (place ≡ place_in inbox.now pick) × (place < length inbox.now)) }
+    ensures none { IfNone result (slice_get inbox.now (place_in inbox.now pick) ≡ None) }
+{
+    if inbox.is_empty() {
+        return None;
+    }
+    Some(pick as usize % inbox.len())
+}
+
+/// Takes the mail that the pick names out of the inbox, where there is one and an actor with this clock and this number for its
+/// next mail may handle it. The last mail moves into the free place.
+pub(crate) fn take_picked(
+    inbox: &mut Vec<Posted>,
+    pick: u32,
+    clock: u64,
+    next: u32,
+) -> Option<Posted>
+    ensures mail { result ≡ (taken (may_handle clock next) inbox.old.items pick).0 }
+    ensures rest { inbox.new.items ≡ (taken (may_handle clock next) inbox.old.items pick).1 }
+    ensures room { IfSome result (λ posted. (clock < 2 ^ 63) × (next < 4294967000) × (posted.stamp < 2 ^ 63)) }
+{
+    let place = place_of(inbox.as_slice(), pick)?;
+    if !can_handle(clock, next, &inbox[place]) {
+        return None;
+    }
+    Some(inbox.swap_remove(place))
+}
+
+/// The stamp of handling a mail, by the actor's clock.
+pub(crate) fn stamp_of(clock: u64, posted: &Posted) -> u64
+    requires clock { clock < 2 ^ 63 }
+    requires stamp { posted.now.stamp < 2 ^ 63 }
+    ensures { result ≡ stamp_after clock posted.now }
+{
+    if clock < posted.stamp {
+        posted.stamp + 1
+    } else {
+        clock + 1
+    }
+}
+
+/// What an actor notes of handling a mail.
+pub(crate) fn note(actor: Actor, stamp: u64, mail: &Mail) -> Stamped
+    ensures { result ≡ noted actor stamp mail.now }
+{
+    Stamped {
+        stamp,
+        actor,
+        event: Event::Handle(mail.id),
+        kind: mail.message.kind(),
+        granted: None,
+    }
+}
+
+/// Shows that a value goes from thread to thread, and may be shared.
+pub(crate) fn crosses<T: Send + Sync>(_value: &T) {}

@@ -1,0 +1,163 @@
+use crate::{
+    BankActor, BankIn, BankOut, Handled, KeeperActor, KeeperIn, KeeperOut, Port, PortIn, PortOut,
+    Posted,
+};
+use dn_base::{BankId, CoreId, Memory, WordId};
+use grant_log::Stamped;
+use message_net::{Actor, Event, EventKind, Mail, MailId, Message};
+use phase_barrier::{Keeper, Verdict};
+use registry_bank::Bank;
+use std::test::Fail;
+use turn_lock::Object;
+
+/// From this stamp on no mail is handled.
+const LAST_STAMP: u64 = 1 << 63;
+
+/// One call, with the memory for it.
+fn call<O: Object>(object: &mut O, input: O::In) -> Result<O::Out, Memory> {
+    object.reserve()?;
+    Ok(object.step(input))
+}
+
+fn id(sender: Actor, number: u32) -> MailId {
+    MailId { sender, number }
+}
+
+fn posted(from: MailId, to: Actor, message: Message, stamp: u64) -> Posted {
+    Posted {
+        mail: Mail {
+            id: from,
+            to,
+            message,
+        },
+        stamp,
+    }
+}
+
+#[test]
+fn a_bank_answers_with_the_stamp_of_its_step(rt: HostRuntime) -> Result<(), Fail> {
+    let alloc = rt.alloc();
+    let core = Actor::Core(CoreId(0));
+    let home = Actor::Bank(BankId(0));
+    let word = WordId(0);
+    let request = Message::RegReq {
+        word,
+        core: CoreId(0),
+    };
+    let bank = Bank::new(alloc, BankId(0), 1, 1, &[7], 0)?;
+    let mut actor = BankActor::new(bank, Vec::new(alloc), 3, 2);
+    let mail = posted(id(core, 4), home, request, 5);
+    assert_eq!(rt; call(&mut actor, BankIn::Post(mail))?, BankOut::Kept);
+    let handled = Handled {
+        stamped: Stamped {
+            stamp: 6,
+            actor: home,
+            event: Event::Handle(mail.mail.id),
+            kind: EventKind::RegReq,
+            granted: None,
+        },
+        reply: Some(posted(id(home, 3), core, Message::RegAck { word }, 6)),
+    };
+    assert_eq!(rt;
+        call(&mut actor, BankIn::Step { pick: 9 })?,
+        BankOut::Stepped(Some(handled))
+    );
+    assert_eq!(rt;
+        call(&mut actor, BankIn::Step { pick: 9 })?,
+        BankOut::Stepped(None)
+    );
+    let (bank, inbox, next, clock) = actor.parts();
+    assert_eq!(rt;
+        (bank.number(), inbox.len(), next, clock),
+        (BankId(0), 0, 4, 6)
+    );
+    Ok(())
+}
+
+#[test]
+fn a_spent_bank_changes_nothing(rt: HostRuntime) -> Result<(), Fail> {
+    let alloc = rt.alloc();
+    let home = Actor::Bank(BankId(0));
+    for (next, clock, stamp) in [
+        (4_294_967_000, 0, 0),
+        (0, LAST_STAMP, 0),
+        (0, 0, LAST_STAMP),
+    ] {
+        let bank = Bank::new(alloc, BankId(0), 1, 1, &[], 0)?;
+        let mut actor = BankActor::new(bank, Vec::new(alloc), next, clock);
+        let mail = posted(id(Actor::Keeper, 0), home, Message::Halt, stamp);
+        call(&mut actor, BankIn::Post(mail))?;
+        assert_eq!(rt;
+            call(&mut actor, BankIn::Step { pick: 0 })?,
+            BankOut::Stepped(None)
+        );
+        let (_bank, inbox, same_next, same_clock) = actor.parts();
+        assert_eq!(rt; inbox.as_slice(), [mail].as_slice());
+        assert_eq!(rt; (same_next, same_clock), (next, clock));
+    }
+    Ok(())
+}
+
+#[test]
+fn the_last_mail_of_a_port_moves_into_the_free_place(rt: HostRuntime) -> Result<(), Fail> {
+    let alloc = rt.alloc();
+    let core = Actor::Core(CoreId(0));
+    let first = posted(id(Actor::Keeper, 0), core, Message::Halt, 1);
+    let second = posted(id(Actor::Keeper, 1), core, Message::Halt, 2);
+    let third = posted(id(Actor::Keeper, 2), core, Message::Halt, LAST_STAMP);
+    let mut port = Port::new(vec![in alloc; first, second]?);
+    assert_eq!(rt; call(&mut port, PortIn::Post(third))?, PortOut::Kept);
+    assert_eq!(rt;
+        call(&mut port, PortIn::Take { pick: 3 })?,
+        PortOut::Taken(Some(first))
+    );
+    assert_eq!(rt;
+        call(&mut port, PortIn::Take { pick: 0 })?,
+        PortOut::Taken(None)
+    );
+    assert_eq!(rt;
+        call(&mut port, PortIn::Take { pick: 1 })?,
+        PortOut::Taken(Some(second))
+    );
+    assert_eq!(rt; port.parts().as_slice(), [third].as_slice());
+    Ok(())
+}
+
+#[test]
+fn letters_are_numbered_in_the_order_of_cores(rt: HostRuntime) -> Result<(), Fail> {
+    let alloc = rt.alloc();
+    let mut actor = KeeperActor::new(Keeper::new(2, 1), Vec::new(alloc), 6, 0);
+    for (number, stamp) in [(0, 8), (1, 3)] {
+        let core = CoreId(number);
+        let arrival = Message::Arrived { core, bad: false };
+        let mail = posted(id(Actor::Core(core), 0), Actor::Keeper, arrival, stamp);
+        assert_eq!(rt; call(&mut actor, KeeperIn::Post(mail))?, KeeperOut::Kept);
+    }
+    let KeeperOut::Stepped(Some(wait)) = call(&mut actor, KeeperIn::Step { pick: 0 })? else {
+        panic!(rt; "no step")
+    };
+    assert_eq!(rt;
+        (wait.stamped.stamp, wait.verdict, wait.first),
+        (9, Verdict::Wait, 6)
+    );
+    assert_eq!(rt; wait.letter(CoreId(0)), None);
+    let KeeperOut::Stepped(Some(halt)) = call(&mut actor, KeeperIn::Step { pick: 0 })? else {
+        panic!(rt; "no step")
+    };
+    assert_eq!(rt;
+        (halt.stamped.stamp, halt.verdict, halt.first),
+        (10, Verdict::Halt, 6)
+    );
+    let core = CoreId(1);
+    assert_eq!(rt;
+        halt.letter(core),
+        Some(posted(id(Actor::Keeper, 7), Actor::Core(core), Message::Halt, 10,))
+    );
+    assert_eq!(rt;
+        call(&mut actor, KeeperIn::Step { pick: 0 })?,
+        KeeperOut::Stepped(None)
+    );
+    let (keeper, inbox, next, clock) = actor.parts();
+    assert_eq!(rt; (keeper.cores(), inbox.len(), next, clock), (2, 0, 8, 10));
+    Ok(())
+}
