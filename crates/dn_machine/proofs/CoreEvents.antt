@@ -21,7 +21,8 @@ use Rattle.registration_protocol.specs.OwnEvents.{may_instr, may_evict, may_arri
 use Rattle.machine_rules.specs.State.{State}
 use Rattle.machine_rules.specs.Next.{next, enabled, sends, core_does, bank_does, place_in, numbers_with, when_there, told, kind_in, seen_in, granted_in}
 use Rattle.dn_machine.proofs.ListItems.{get-set, get-put}
-use Rattle.dn_machine.specs.Content.{IsWhole}
+use Rattle.dn_machine.proofs.OwnRow.{row-set}
+use Rattle.dn_machine.specs.Content.{in_row, IsWhole}
 
 -- a node that is there may do what is enabled
 pub there-may : (test : NodeParts → Bool) (o : Option NodeParts) → when_there test o ≡ true → (n : NodeParts) × (o ≡ Some n) × (test n ≡ true)
@@ -77,6 +78,7 @@ whole-set S core m whole within fits =
       context = whole.context;
       cores = length-set S.nodes core m ∙ whole.cores;
       some = whole.some;
+      most = whole.most;
       banks = whole.banks;
       numbers = whole.numbers;
       fits = λ d n here. by_place d n here;
@@ -102,17 +104,14 @@ whole-put S core m after is whole within fits = rw is (whole-set S core m whole 
 pub within-put : (nodes : List NodeParts) (core : ℕ) (m : NodeParts) (after : List NodeParts) → after ≡ slice_set nodes core m → core < length nodes → core < length after
 within-put nodes core m after is within = rw (is, length-set nodes core m) within
 
-pub known-put : (C : Setting) (nodes : List NodeParts) (known : List (Option Event)) (core : ℕ) (m : NodeParts) (after : List NodeParts) → known ≡ map (own_event C) nodes
-    → after ≡ slice_set nodes core m → length known ≡ length after
-known-put C nodes known core m after all is = rw (all, is, length-set nodes core m, length-map nodes (own_event C)) refl
-
 -- the own events are known where the one of the node that changed is found anew
 pub known-after : (C : Setting) (nodes : List NodeParts) (known : List (Option Event)) (core : ℕ) (m : NodeParts) (put after : List NodeParts) (now : List (Option Event))
-    → known ≡ map (own_event C) nodes → core < length nodes → put ≡ slice_set nodes core m → after ≡ put
-    → ((n : NodeParts) → slice_get put core ≡ Some n → now ≡ slice_set known core (own_event C n)) → now ≡ map (own_event C) after
+    → known ≡ in_row (map (own_event C) nodes) → core < length nodes → put ≡ slice_set nodes core m → after ≡ put
+    → ((n : NodeParts) → slice_get put core ≡ Some n → now ≡ slice_set known core (own_event C n)) → now ≡ in_row (map (own_event C) after)
 known-after C nodes known core m put after now all within is same found =
     let there : slice_get put core ≡ Some m = rw is (get-put nodes core m within) in
-    found m there ∙ (rw (all, same, is) (sym (map-set (own_event C) nodes core m)))
+    found m there
+    ∙ (rw (all, same, is, map-set (own_event C) nodes core m) (row-set (map (own_event C) nodes) core (own_event C m) (omega (arith, within, length-map nodes (own_event C)))))
 
 -- where no node is there the own events and the state stay
 pub none-there : (S : State) (core : ℕ) → length S.nodes ≤ core → slice_get S.nodes core ≡ None

@@ -28,6 +28,7 @@ whole-kept S made kept few =
       context = kept.sound.machine.context;
       cores = kept.sound.machine.nodes;
       some = kept.some;
+      most = kept.most;
       banks = kept.sound.machine.banks;
       numbers = kept.sound.machine.numbers;
       fits = λ core n here. (kept.sound.machine.node core n here).fits;

@@ -1,10 +1,17 @@
 mod Letters
 mod ListItems
+mod OwnRow
 mod CoreEvents
 mod MailEvents
 mod KeptLemmas
 mod Opened
 mod PickLemmas
+mod ActorLemmas
+pub mod PartsLemmas
 pub mod PickLaws
 pub mod ScheduleLaws
-pub mod EndLemmas
+mod Noted
+mod Making
+mod EndLists
+mod LogLemmas
+mod RunLemmas

@@ -15,7 +15,7 @@ use Rattle.machine_rules.specs.Next.{next, enabled, gets, told, kind_in, seen_in
 use Rattle.dn_machine.specs.Content.{IsWhole}
 
 -- a mail that may be handled is there
-id-counted : (S : State) (id : MailId) → enabled S (Handle id) ≡ true → 1 ≤ count_of id S.mails
+pub id-counted : (S : State) (id : MailId) → enabled S (Handle id) ≡ true → 1 ≤ count_of id S.mails
 unfolding enabled
 id-counted S id may = grind (arith, nat_tests, may)
 
@@ -62,6 +62,7 @@ whole-taken S id rest is whole =
       context = whole.context;
       cores = whole.cores;
       some = whole.some;
+      most = whole.most;
       banks = whole.banks;
       numbers = whole.numbers;
       fits = whole.fits;

@@ -22,7 +22,7 @@ pub opened-nodes-fit : (C : Setting) → IsContext C → IsProgram C.program →
 unfolding opened
 opened-nodes-fit C context program checked core n here = ((opened-machine C context program checked).node core n here).fits
 
-kept-first : (C : Setting) → IsContext C → IsProgram C.program → IsChecked C.program → 1 ≤ C.shape.cores → C.shape.cores ≤ 16 → IsKept (opened C) 0
+pub kept-first : (C : Setting) → IsContext C → IsProgram C.program → IsChecked C.program → 1 ≤ C.shape.cores → C.shape.cores ≤ 16 → IsKept (opened C) 0
 unfolding opened
 kept-first C context program checked some most =
     record {

@@ -86,7 +86,7 @@ pub record IsOwn (C : Setting) (nodes : List NodeParts) (e : Event) : Type 0 whe
   pub found : slice_get nodes core ≡ Some node
   pub own : own_event C node ≡ Some e
 
-known-own : (C : Setting) (nodes : List NodeParts) (place : ℕ) (e : Event) → slice_get (known_events (map (own_event C) nodes)) place ≡ Some e → IsOwn C nodes e
+pub known-own : (C : Setting) (nodes : List NodeParts) (place : ℕ) (e : Event) → slice_get (known_events (map (own_event C) nodes)) place ≡ Some e → IsOwn C nodes e
 known-own C [] place e is = absurd (cc)
 known-own C (n ∷ ns) place e is = by_own (own_event C n) refl place is (λ (p : ℕ) here. known-own C ns p e here) where
   behind : IsOwn C ns e → IsOwn C (n ∷ ns) e

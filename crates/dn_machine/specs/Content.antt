@@ -1,6 +1,7 @@
 -- What changes in a machine as events come, as a part of its state.
-use Rattle.std.specs.Prelude.{◌≡◌, ℕ, ◌+◌, ◌<◌, ◌≤◌, length, map, slice_get, slice_index, Some}
+use Rattle.std.specs.Prelude.{◌≡◌, ℕ, ◌+◌, ◌-◌, ◌<◌, ◌≤◌, List, ◌++◌, length, map, replicate, slice_get, slice_index, Option, Some, None}
 use Rattle.message_net.specs.declared.actor.Actor.{Actor}
+use Rattle.message_net.specs.declared.event.Event.{Event}
 use Rattle.message_net.specs.Pool.{count_of}
 use Rattle.registration_protocol.specs.Node.{NodeParts, Setting}
 use Rattle.registration_protocol.specs.Fit.{IsContext, Fits}
@@ -14,9 +15,13 @@ abbrev pub state_of : Setting → Content → State
 state_of C c =
     record { setting = C; nodes = c.nodes.items; banks = c.banks.items; keeper = c.keeper; mails = c.pool.mails; numbers = c.numbers }
 
+-- the own events of the cores in their order, in a row that has a place for each of 16 cores
+abbrev pub in_row : List (Option Event) → List (Option Event)
+in_row own = own ++ replicate (16 - length own) None
+
 -- the own event of each core is known
 abbrev pub KnowsOwn : Setting → Content → Type 0
-KnowsOwn C c = c.own ≡ map (own_event C) c.nodes.items
+KnowsOwn C c = c.own ≡ in_row (map (own_event C) c.nodes.items)
 
 -- an actor that has sent so many mails may send more: there is room for a mail to each core, each is counted with 32 bits,
 -- and no mail in flight has a number that is still to come
@@ -30,6 +35,7 @@ pub record IsWhole (S : State) : Type 0 where
   pub context : IsContext S.setting
   pub cores : length S.nodes ≡ S.setting.shape.cores
   pub some : 1 ≤ S.setting.shape.cores
+  pub most : S.setting.shape.cores ≤ 16
   pub banks : length S.banks ≡ S.setting.shape.banks
   pub numbers : length S.numbers ≡ S.setting.shape.cores + S.setting.shape.banks + 1
   pub fits : (core : ℕ) (n : NodeParts) → slice_get S.nodes core ≡ Some n → Fits S.setting n

@@ -4,6 +4,7 @@ use Rattle.dn_base.specs.declared.ids.Shape.{Shape}
 use Rattle.region_table.specs.Program.{ProgramParts}
 use Rattle.machine_rules.specs.State.{State, opened}
 use Rattle.machine_rules.specs.Sound.{IsSound}
+use Rattle.dn_machine.specs.Plans.{AreInOneForm}
 
 -- the state of a machine, and how many events have led to it
 pub record Made : Type 0 where
@@ -23,4 +24,5 @@ pub record IsOpened (program : ProgramParts) (shape : Shape) (fuel : ℕ) (m : M
   pub program_is : m.state.setting.program ≡ program
   pub shape_is : m.state.setting.shape ≡ shape
   pub fuel_is : m.state.setting.fuel ≡ fuel
+  pub plans_are : AreInOneForm m.state.setting.plans
   pub made : m.made ≡ 0

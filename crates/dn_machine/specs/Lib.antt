@@ -2,4 +2,9 @@ pub mod Content
 pub mod Kept
 pub mod Pick
 pub mod Schedule
+pub mod Run
 pub mod Ends
+pub mod Log
+pub mod Actors
+pub mod Parts
+pub mod Plans

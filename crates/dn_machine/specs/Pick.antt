@@ -1,11 +1,13 @@
 -- Which event a draw picks in a state.
-use Rattle.std.specs.Prelude.{ℕ, ◌%◌, List, ◌++◌, length, map, slice_get, Option}
+use Rattle.std.specs.Prelude.{ℕ, ◌%◌, List, ◌++◌, length, map, slice_get, Option, Some, None}
 use Rattle.std.specs.List.{filter_map}
 use Rattle.message_net.specs.declared.event.Event.{Event}
 use Rattle.message_net.specs.declared.event.Event.TheVariants.{Handle}
 use Rattle.message_net.specs.declared.message.Mail.{Mail}
 use Rattle.registration_protocol.specs.OwnEvents.{own_event}
 use Rattle.machine_rules.specs.State.{State}
+use Rattle.dn_machine.specs.declared.picking.Choice.{Choice}
+use Rattle.dn_machine.specs.declared.picking.Choice.TheVariants.{Own, Mail as MailAt}
 
 -- the own events that there are, in the order of cores
 abbrev pub known_events : List (Option Event) → List Event
@@ -26,3 +28,13 @@ picked events draw = slice_get events (draw % length events)
 -- the event that a draw picks in a state
 unfoldable pub pick : State → ℕ → Option Event
 pick S draw = picked (candidates (map (own_event S.setting) S.nodes) S.mails) draw
+
+-- the event of a choice
+abbrev pub handling_of : Option Mail → Option Event
+handling_of None = None
+handling_of (Some m) = Some (Handle m.id)
+
+abbrev pub chosen : List Mail → Option Choice → Option Event
+chosen mails None = None
+chosen mails (Some (Own e)) = Some e
+chosen mails (Some (MailAt place)) = handling_of (slice_get mails place)

@@ -1,4 +1,4 @@
--- The events of a run by a seed, and what a run's record tells of them.
+-- The events of a run by a seed.
 use Rattle.std.specs.Prelude.{◌≡◌, ℕ, List, [], ◌∷◌, Some, None}
 use Rattle.rand_core.specs.Pcg32Seed.{pcg32_seed}
 use Rattle.rand_pcg.specs.Lcg.{Lcg}
@@ -6,9 +6,7 @@ use Rattle.rand_pcg.specs.Pcg.{pcg32, pcg32_of_seed}
 use Rattle.message_net.specs.declared.event.Event.{Event}
 use Rattle.machine_rules.specs.State.{State}
 use Rattle.machine_rules.specs.Next.{next}
-use Rattle.machine_rules.specs.Runs.{grants_of, ending_of_run}
 use Rattle.dn_machine.specs.Pick.{pick}
-use Rattle.dn_machine.specs.declared.record.RunRecord.{RunRecord}
 
 -- the generator of a seed, the next word of a generator, and the generator behind that word
 unfoldable pub generator_of : ℕ → Lcg
@@ -38,9 +36,3 @@ IsPicked S g (e ∷ es) = (pick S (word_of g) ≡ Some e) × IsPicked (next S e)
 -- the events are those of a seed
 abbrev pub IsScheduled : State → ℕ → List Event → Type 0
 IsScheduled S seed events = IsPicked S (generator_of seed) events
-
--- a record of the run that a seed gives from a state on
-pub record IsRecord (S : State) (seed : ℕ) (r : RunRecord) : Type 0 where
-  pub scheduled : IsScheduled S seed r.events
-  pub granted : r.grants ≡ grants_of S r.events
-  pub ends : r.ending ≡ ending_of_run S r.events

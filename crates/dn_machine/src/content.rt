@@ -4,6 +4,9 @@ use phase_barrier::Keeper;
 use registration_protocol::Node;
 use registry_bank::Bank;
 
+/// The most cores that a machine has.
+pub(crate) const MOST_CORES: usize = 16;
+
 /// What changes in a machine as events come: the nodes, the banks, the keeper, the mails in flight, the number of each actor's
 /// next mail, and the own event of each core, where it has one.
 #[derive(Drop)]
@@ -13,5 +16,5 @@ pub(crate) struct Content {
     pub(crate) keeper: Keeper,
     pub(crate) pool: Pool,
     pub(crate) numbers: Sequence<u32>,
-    pub(crate) own: Sequence<Option<Event>>,
+    pub(crate) own: [Option<Event>; MOST_CORES],
 }

@@ -32,7 +32,6 @@ impl Content {
     fn core_sends(&mut self, context: &Context<'_>, core: CoreId, sent: Option<Outgoing>)
         requires whole { IsWhole (state_of (setting context.now) self.old) }
         requires core { core.0 < length self.old.nodes.items }
-        requires known { length self.old.own ≡ length self.old.nodes.items }
         requires spare { 1 ≤ self.old.pool.spare }
         ensures state { state_of (setting context.now) self.new ≡ sends (state_of (setting context.now) self.old) (TheCore core) sent }
         ensures own { (n : NodeParts) → slice_get self.old.nodes.items core.0 ≡ Some n
@@ -47,7 +46,7 @@ impl Content {
             sent,
         );
         let own = own_at(self.nodes.as_slice(), place, context);
-        self.own.set(place, own);
+        self.own[place] = own;
     }
 
     /// The next instruction of a core, which may go on.

@@ -2,17 +2,22 @@
 //! lead it from state to state.
 #![tactic(auto)]
 
+mod actors;
 mod content;
 mod draws;
 mod enabling;
 mod ends;
 mod events;
+mod forms;
 mod laws;
+mod log;
 mod machine;
+mod parts;
 mod picking;
 mod places;
 mod posting;
 mod record;
+mod running;
 mod starting;
 #[cfg(test)]
 mod tests;
@@ -20,4 +25,6 @@ mod words;
 
 pub use laws::{a_pick_is_an_event_that_may_come, a_seed_gives_one_complete_run};
 pub use machine::{Machine, a_machine_is_kept};
+pub use machine_rules::Stepped;
+pub use parts::{MachineParts, what_a_run_leaves_is_kept};
 pub use record::RunRecord;

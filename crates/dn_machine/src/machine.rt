@@ -7,9 +7,13 @@ ghost use Rattle.machine_rules.specs.Runs.{IsOver};
 ghost use Rattle.dn_machine.specs.Ends.{end_at};
 ghost use Rattle.dn_machine.specs.Kept.{IsKept, IsOpened};
 ghost use Rattle.dn_machine.specs.Pick.{pick};
+ghost use Rattle.dn_machine.specs.Run.{IsRunOf};
 
 use crate::content::Content;
+use crate::forms::plans_have_one_form;
 use crate::picking::pick_from;
+use crate::record::RunRecord;
+use crate::running::run_opened;
 use crate::starting::opened_content;
 use dn_base::{CoreId, Memory, Shape, WordId};
 use effect_checker::Checked;
@@ -27,12 +31,12 @@ use std::marker::Model;
 /// A contract sees the state, and the number of events that have led to it.
 #[derive(Drop)]
 pub struct Machine {
-    checked: Checked,
-    plans: Vec<PhasePlan>,
-    shape: Shape,
-    fuel: u32,
-    content: Content,
-    made: u64,
+    pub(crate) checked: Checked,
+    pub(crate) plans: Vec<PhasePlan>,
+    pub(crate) shape: Shape,
+    pub(crate) fuel: u32,
+    pub(crate) content: Content,
+    pub(crate) made: u64,
 }
 
 impl Model for Machine {
@@ -48,7 +52,7 @@ impl Model for Machine {
 }
 
 /// What the nodes of a machine are told.
-fn context_of<'a>(
+pub(crate) fn context_of<'a>(
     checked: &'a Checked,
     plans: &'a Vec<PhasePlan>,
     shape: Shape,
@@ -92,6 +96,7 @@ impl Machine {
         a_program_is_well_formed(program);
         let _cores = program.cores();
         let plans = plans(alloc, program)?;
+        plans_have_one_form(plans.as_slice());
         let context = context_of(&checked, &plans, shape, fuel);
         let content = opened_content(alloc, &context)?;
         Ok(Machine {
@@ -147,7 +152,7 @@ impl Machine {
         ensures comes { IfSome result (λ event. enabled self.now.state event ≡ true) }
         ensures none { (result ≡ None) ↔ IsOver self.now.state }
     {
-        pick_from(self.content.own.as_slice(), &self.content.pool, draw)
+        pick_from(&self.content.own, &self.content.pool, draw)
     }
 
     /// The value of a data word: that of its pending entry where a core has one, else the one at its home, or the one in its
@@ -164,6 +169,30 @@ impl Machine {
         ensures { result ≡ end_at (slice_get self.now.state.nodes core.0) }
     {
         self.content.task_end(core)
+    }
+
+    /// Runs the opened machine until no event may come: each event is the one that the next word of the seed's generator picks.
+    ///
+    /// After each event the state is coherent, and its words are the memory to which the stores were applied as they retired; and
+    /// the grants so far lead the flat machine to a state in which the loads of each task begin with those so far. At the end the
+    /// flat machine's run by the grants ends with the run's loads and ending.
+    ///
+    /// # Errors
+    /// `Memory` where there is no room for the mails or the record.
+    pub fn run(self, alloc: Global, seed: u32) -> Result<RunRecord, Memory>
+        requires { self.made ≡ 0 }
+        ensures { IfOk result (IsRunOf self.state seed) }
+    {
+        let Machine {
+            checked,
+            plans,
+            shape,
+            fuel,
+            content,
+            made: _,
+        } = self;
+        let context = context_of(&checked, &plans, shape, fuel);
+        run_opened(alloc, &context, content, seed)
     }
 }
 

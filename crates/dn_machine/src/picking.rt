@@ -1,5 +1,6 @@
-ghost use Rattle.std.specs.Prelude.{◌≡◌, ◌<◌, ◌≤◌, length, slice_get};
-ghost use Rattle.dn_machine.specs.Pick.{known_events, candidates, picked};
+ghost use Rattle.std.specs.Prelude.{◌≡◌, ℕ, ◌<◌, ◌≤◌, length, slice_get, Some};
+ghost use Rattle.dn_machine.specs.declared.picking.Choice.TheVariants.{Own as OwnEvent, Mail as MailAt};
+ghost use Rattle.dn_machine.specs.Pick.{known_events, candidates, picked, chosen};
 
 use message_net::{Event, Pool};
 
@@ -33,10 +34,19 @@ fn known_at(own: &[Option<Event>], place: u64) -> Option<Event>
     None
 }
 
-/// The event that a draw picks: of the own events and the handlings of the mails the one at the draw, modulo their number.
-pub(crate) fn pick_from(own: &[Option<Event>], pool: &Pool, draw: u32) -> Option<Event>
+/// What a draw picks: the own event of a core, or the handling of the mail at a place of the pool.
+#[derive(Clone, Copy, Debug)]
+pub(crate) enum Choice {
+    Own(Event),
+    Mail(u32),
+}
+
+/// What a draw picks: of the own events and the handlings of the mails the one at the draw, modulo their number.
+pub(crate) fn choose(own: &[Option<Event>], pool: &Pool, draw: u32) -> Option<Choice>
     requires cores { length own.now ≤ 16 }
-    ensures { result ≡ picked (candidates own.now pool.now.mails) draw }
+    ensures picked { chosen pool.now.mails result ≡ picked (candidates own.now pool.now.mails) draw }
+    ensures own { (e : Event) → result ≡ Some (OwnEvent e) → (place : ℕ) × (slice_get (known_events own.now) place ≡ Some e) }
+    ensures mail { (place : ℕ) → result ≡ Some (MailAt place) → place < length pool.now.mails }
 {
     let known = known_count(own);
     let count = known + pool.count() as u64;
@@ -45,8 +55,23 @@ pub(crate) fn pick_from(own: &[Option<Event>], pool: &Pool, draw: u32) -> Option
     }
     let place = draw as u64 % count;
     if place < known {
-        known_at(own, place)
+        match known_at(own, place) {
+            Some(event) => Some(Choice::Own(event)),
+            None => None,
+        }
     } else {
-        Some(Event::Handle(pool.at((place - known) as u32).id))
+        Some(Choice::Mail((place - known) as u32))
+    }
+}
+
+/// The event that a draw picks.
+pub(crate) fn pick_from(own: &[Option<Event>], pool: &Pool, draw: u32) -> Option<Event>
+    requires cores { length own.now ≤ 16 }
+    ensures { result ≡ picked (candidates own.now pool.now.mails) draw }
+{
+    match choose(own, pool, draw) {
+        Some(Choice::Own(event)) => Some(event),
+        Some(Choice::Mail(place)) => Some(Event::Handle(pool.at(place).id)),
+        None => None,
     }
 }

@@ -10,7 +10,7 @@ use message_net::{Actor, Message, Outgoing, Pool};
 use phase_barrier::Verdict;
 
 /// The number of an actor's next mail.
-fn next_number(numbers: &Sequence<u32>, place: usize) -> u32
+pub(crate) fn next_number(numbers: &Sequence<u32>, place: usize) -> u32
     requires { place < length numbers.now }
     ensures { result ≡ slice_index numbers.now place }
 {

@@ -8,9 +8,9 @@ ghost use Rattle.registration_protocol.specs.Node.{NodeParts, opened};
 ghost use Rattle.registration_protocol.specs.OwnEvents.{own_event};
 ghost use Rattle.registration_protocol.specs.Setting.{setting};
 ghost use Rattle.machine_rules.specs.State.{opened as opened_machine};
-ghost use Rattle.dn_machine.specs.Content.{state_of, KnowsOwn};
+ghost use Rattle.dn_machine.specs.Content.{state_of, in_row, KnowsOwn};
 
-use crate::content::Content;
+use crate::content::{Content, MOST_CORES};
 use crate::places::own_at;
 use dn_base::{BankId, CoreId, Memory, Sequence, Shape};
 use message_net::{Event, Pool};
@@ -88,21 +88,18 @@ pub(crate) fn zeros(alloc: Global, count: u32) -> Result<Sequence<u32>, Memory>
     Ok(numbers)
 }
 
-/// What each node does next by itself.
-pub(crate) fn own_events(
-    alloc: Global,
-    nodes: &[Node],
-    context: &Context<'_>,
-) -> Result<Sequence<Option<Event>>, Memory>
+/// What each node does next by itself. Takes no memory.
+pub(crate) fn own_events(nodes: &[Node], context: &Context<'_>) -> [Option<Event>; MOST_CORES]
+    requires most { length nodes.now ≤ 16 }
     requires context { IsContext (setting context.now) }
     requires fits { (core : ℕ) (n : NodeParts) → slice_get nodes.now core ≡ Some n → Fits (setting context.now) n }
-    ensures { IfOk result (λ own. own ≡ map (own_event (setting context.now)) nodes.now) }
+    ensures { result ≡ in_row (map (own_event (setting context.now)) nodes.now) }
 {
-    let mut own = Sequence::new(alloc);
+    let mut own = [None; MOST_CORES];
     for place in 0..nodes.len() {
-        own.push(own_at(nodes, place, context))?;
+        own[place] = own_at(nodes, place, context);
     }
-    Ok(own)
+    own
 }
 
 /// What changes in a machine, as a run begins.
@@ -120,7 +117,7 @@ pub(crate) fn opened_content(alloc: Global, context: &Context<'_>) -> Result<Con
     let nodes = new_nodes(alloc, context)?;
     let banks = new_banks(alloc, shape, memory_of(program), locks_of(program))?;
     let keeper = Keeper::new(shape.cores, phases_of(program));
-    let own = own_events(alloc, nodes.as_slice(), context)?;
+    let own = own_events(nodes.as_slice(), context);
     let numbers = zeros(alloc, shape.cores + shape.banks + 1)?;
     Ok(Content {
         nodes,

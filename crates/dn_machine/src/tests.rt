@@ -1,12 +1,12 @@
 //! A machine runs a task that stores 5, to its end. Which events there are follows from the rules by hand: one for each of the
 //! five instructions, the request of the registration and its acknowledgement, the arrival, its message, and the halt.
-ghost use Rattle.std.specs.Prelude.{◌≡◌, length, IfOk};
+ghost use Rattle.std.specs.Prelude.{◌≡◌, ◌≤◌, length, IfOk};
 ghost use Rattle.region_table.specs.Program.{IsTask, IsPhase};
 
-use crate::Machine;
-use dn_base::{CoreId, Memory, Name, PhaseId, Sequence, Shape, WordId};
+use crate::{Machine, a_machine_is_kept};
+use dn_base::{BankId, CoreId, Memory, Name, PhaseId, Sequence, Shape, WordId};
 use effect_checker::{Checked, check};
-use message_net::Event;
+use message_net::{Actor, Event, MailId};
 use region_table::{Effects, Phase, Program, Region, TaskDecl, WordSet};
 use rv_core::{EndShown, TaskEnd};
 use std::alloc::Global;
@@ -83,7 +83,7 @@ fn machine(alloc: Global) -> Result<Machine, Memory>
 
 /// Makes the events that these draws pick: more than the run has.
 fn run(machine: &mut Machine) -> Result<(), Memory>
-    requires { machine.old.made ≡ 0 }
+    requires { machine.old.made ≤ 40 }
 {
     for draw in 0..40 {
         if let Some(event) = machine.pick(draw) {
@@ -91,6 +91,20 @@ fn run(machine: &mut Machine) -> Result<(), Memory>
         }
     }
     Ok(())
+}
+
+/// The machine after three events, split and joined again.
+fn joined(machine: Machine) -> Result<Machine, Memory>
+    requires { machine.made ≡ 0 }
+    ensures { IfOk result (λ m. m.made ≤ 3) }
+{
+    let mut machine = machine;
+    for _done in 0..3_u32 {
+        if let Some(event) = machine.pick(0) {
+            machine.step(event)?;
+        }
+    }
+    Ok(Machine::join(machine.split()))
 }
 
 #[test]
@@ -111,5 +125,20 @@ fn a_machine_runs_to_its_end(rt: HostRuntime) -> Result<(), Fail> {
         retired: 5,
     };
     assert_eq!(rt; machine.task_end(CoreId(0)), Some(end));
+    Ok(())
+}
+
+#[test]
+fn a_machine_goes_on_once_it_is_joined(rt: HostRuntime) -> Result<(), Fail> {
+    let mut machine = joined(machine(rt.alloc())?)?;
+    a_machine_is_kept(&machine);
+    let sender = Actor::Core(CoreId(0));
+    let request = Event::Handle(MailId { sender, number: 0 });
+    assert_eq!(rt; machine.next_mail(sender), 1);
+    assert!(rt; machine.enabled(&request));
+    assert_eq!(rt; machine.actor(&request), Actor::Bank(BankId(0)));
+    run(&mut machine)?;
+    assert_eq!(rt; machine.made(), 10);
+    assert_eq!(rt; machine.word(WordId(0)), 5);
     Ok(())
 }

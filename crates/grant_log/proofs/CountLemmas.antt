@@ -32,7 +32,7 @@ count_by-push : (p : EventKind → Bool) (kinds : List EventKind) (k : EventKind
 count_by-push p kinds k = sum_by_push (λ x. cond (p x) 1 0) kinds k
 
 -- counts of a list stay so with one more event
-AreCounts-added : (kinds : List EventKind) (k : EventKind) (counts : Counts) → kind_place k < length counts.kinds → AreCounts kinds counts → AreCounts (kinds ++ k ∷ []) (added k counts)
+pub AreCounts-added : (kinds : List EventKind) (k : EventKind) (counts : Counts) → kind_place k < length counts.kinds → AreCounts kinds counts → AreCounts (kinds ++ k ∷ []) (added k counts)
 AreCounts-added kinds k counts within told j =
     count_of-added j k counts within ∙ omega (arith, told j, count_by-push (same_kind j) kinds k)
 

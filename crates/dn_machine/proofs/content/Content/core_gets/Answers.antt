@@ -4,7 +4,7 @@ use Rattle.registration_protocol.specs.declared.node.Received.{Received}
 use Rattle.machine_rules.specs.State.{State}
 use Rattle.dn_machine.specs.Content.{state_of}
 use Rattle.dn_machine.proofs.ListItems.{item}
-use Rattle.dn_machine.proofs.CoreEvents.{core-sent, whole-put, within-put, known-put, known-after}
+use Rattle.dn_machine.proofs.CoreEvents.{core-sent, whole-put, within-put, known-after}
 use Rattle.dn_machine.proofs.content.Content.core_gets.Goals as goal
 
 pub receive_at-received-requires-clause-fits : goal.receive_at-received-requires-clause-fits
@@ -23,13 +23,6 @@ core_sends-requires-clause-core c =
     let there = item c.args.self.now.nodes.items c.args.core.0 within in
     let does = c.receive_at-received.ensures there.0 there.1 in
     within-put c.args.self.now.nodes.items c.args.core.0 _ _ does.0 within
-
-pub core_sends-requires-clause-known : goal.core_sends-requires-clause-known
-core_sends-requires-clause-known c =
-    let within : c.args.core.0 < length c.args.self.now.nodes.items = search rules in
-    let there = item c.args.self.now.nodes.items c.args.core.0 within in
-    let does = c.receive_at-received.ensures there.0 there.1 in
-    known-put (setting c.args.context.now) c.args.self.now.nodes.items c.args.self.now.own c.args.core.0 _ _ c.requires.known does.0
 
 pub returns-clause-state : goal.returns-clause-state
 returns-clause-state c =

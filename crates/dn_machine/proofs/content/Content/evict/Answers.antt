@@ -3,7 +3,7 @@ use Rattle.std.proofs.lemmas.Option.{slice_get_within}
 use Rattle.registration_protocol.specs.Setting.{setting}
 use Rattle.machine_rules.specs.State.{State}
 use Rattle.dn_machine.specs.Content.{state_of}
-use Rattle.dn_machine.proofs.CoreEvents.{evict-there, evict-next, evict-told, core-sent, whole-put, within-put, known-put, known-after}
+use Rattle.dn_machine.proofs.CoreEvents.{evict-there, evict-next, evict-told, core-sent, whole-put, within-put, known-after}
 use Rattle.dn_machine.proofs.content.Content.evict.Goals as goal
 
 pub evict_at-sent-requires-clause-place : goal.evict_at-sent-requires-clause-place
@@ -31,12 +31,6 @@ core_sends-requires-clause-core c =
     let there = evict-there (state_of (setting c.args.context.now) c.args.self.now) c.args.core c.args.word c.requires.may in
     let does = c.evict_at-sent.ensures there.0 there.1 in
     within-put c.args.self.now.nodes.items c.args.core.0 _ _ does.0 (slice_get_within _ _ there.0 there.1)
-
-pub core_sends-requires-clause-known : goal.core_sends-requires-clause-known
-core_sends-requires-clause-known c =
-    let there = evict-there (state_of (setting c.args.context.now) c.args.self.now) c.args.core c.args.word c.requires.may in
-    let does = c.evict_at-sent.ensures there.0 there.1 in
-    known-put (setting c.args.context.now) c.args.self.now.nodes.items c.args.self.now.own c.args.core.0 _ _ c.requires.known does.0
 
 pub returns-clause-state : goal.returns-clause-state
 returns-clause-state c =

@@ -4,14 +4,14 @@ use Rattle.registration_protocol.specs.OwnEvents.{own_event}
 use Rattle.machine_rules.specs.State.{State}
 use Rattle.machine_rules.specs.Next.{next, enabled, told}
 use Rattle.dn_machine.specs.Kept.{Made}
-use Rattle.dn_machine.specs.Content.{state_of}
+use Rattle.dn_machine.specs.Content.{state_of, in_row}
 use Rattle.dn_machine.proofs.KeptLemmas.{whole-kept, kept-next}
 use Rattle.dn_machine.proofs.machine.Machine.step.Goals as goal
 
 pub invariant_of-self : goal.invariant_of-self
 invariant_of-self c =
     let P : Setting = record { program = c.self.inside.checked; plans = c.self.inside.plans.items; shape = c.self.inside.shape; fuel = c.self.inside.fuel } in
-    (rw (c.reserve.ensures.state P) c.self.invariant.0, c.reserve.ensures.own ∙ c.self.invariant.1 ∙ ap (λ (S : State). map (own_event P) S.nodes) (sym (c.reserve.ensures.state P)))
+    (rw (c.reserve.ensures.state P) c.self.invariant.0, c.reserve.ensures.own ∙ c.self.invariant.1 ∙ ap (λ (S : State). in_row (map (own_event P) S.nodes)) (sym (c.reserve.ensures.state P)))
 
 pub returns-in_err-reserve-clause-err : goal.returns-in_err-reserve-clause-err
 returns-in_err-reserve-clause-err c =
@@ -28,7 +28,7 @@ act-stepped-requires-clause-whole c =
 pub act-stepped-requires-clause-known : goal.act-stepped-requires-clause-known
 act-stepped-requires-clause-known c =
     let P : Setting = record { program = c.self.inside.checked; plans = c.self.inside.plans.items; shape = c.self.inside.shape; fuel = c.self.inside.fuel } in
-    rw c.context_of-context.ensures (c.reserve.ensures.own ∙ c.self.invariant.1 ∙ ap (λ (S : State). map (own_event P) S.nodes) (sym (c.reserve.ensures.state P)))
+    rw c.context_of-context.ensures (c.reserve.ensures.own ∙ c.self.invariant.1 ∙ ap (λ (S : State). in_row (map (own_event P) S.nodes)) (sym (c.reserve.ensures.state P)))
 
 pub act-stepped-requires-clause-may : goal.act-stepped-requires-clause-may
 act-stepped-requires-clause-may c =

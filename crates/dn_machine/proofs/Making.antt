@@ -1,0 +1,74 @@
+-- What a picked event comes to: a core's own, or the handling of the mail at a place.
+use Rattle.std.proofs.Common.{◌≡◌, ℕ, true, List, ◌++◌, slice_get, map, Option, Some, None, refl, sym, ap, ◌∙◌, Bool, cond, false}
+use Rattle.std.proofs.lemmas.Option.{none-some, same_Some}
+use Rattle.dn_base.specs.declared.ids.CoreId.{CoreId}
+use Rattle.dn_base.specs.declared.ids.WordId.{WordId}
+use Rattle.message_net.specs.declared.event.Event.{Event}
+use Rattle.message_net.specs.declared.event.Event.TheVariants.{Instr, Evict, Arrive, Handle}
+use Rattle.message_net.specs.declared.message.Mail.{Mail}
+use Rattle.message_net.specs.Pool.{AreDistinct, taken, without}
+use Rattle.message_net.proofs.PoolLemmas.{taken-of_id}
+use Rattle.registration_protocol.specs.Node.{NodeParts, Setting, need_now}
+use Rattle.registration_protocol.specs.OwnEvents.{may_instr, may_evict, may_arrive, me, wanted_by, victim_for, eviction_of, eviction, arrival, first_of, own_event}
+use Rattle.machine_rules.specs.State.{State}
+use Rattle.dn_machine.specs.declared.picking.Choice.{Choice}
+use Rattle.dn_machine.specs.Pick.{known_events, handlings, candidates, picked, pick, chosen}
+use Rattle.dn_machine.specs.Log.{own_core, core_of, core_in}
+use Rattle.dn_machine.specs.Content.{in_row}
+use Rattle.dn_machine.proofs.OwnRow.{known-row}
+use Rattle.dn_machine.proofs.PickLaws.{known-own}
+
+-- ---- own events
+
+-- an own event is its core's
+pub own-core-in : (S : State) (e : Event) (core : CoreId) → own_core e ≡ Some core → core_in S e ≡ own_core e
+unfolding core_in
+own-core-in S (Instr c) core is = refl
+own-core-in S (Evict c word) core is = refl
+own-core-in S (Arrive c) core is = refl
+own-core-in S (Handle id) core is = absurd (none-some core is)
+
+-- the own event of a node is of its core
+own-is : (C : Setting) (n : NodeParts) (e : Event) → own_event C n ≡ Some e → own_core e ≡ Some (me n)
+own-is C n e is = by_instr (may_instr C n) is where
+  by_arrive : (b : Bool) → cond b (Some (Arrive (me n))) None ≡ Some e → own_core e ≡ Some (me n)
+  by_arrive true is = rw (← same_Some (Arrive (me n)) e is) refl
+  by_arrive false is = absurd (none-some e is)
+
+  by_evict : (v : WordId) (b : Bool) → first_of (cond b (Some (Evict (me n) v)) None) (arrival n) ≡ Some e → own_core e ≡ Some (me n)
+  by_evict v true is = rw (← same_Some (Evict (me n) v) e is) refl
+  by_evict v false is = by_arrive (may_arrive n) is
+
+  by_victim : (o : Option WordId) → first_of (eviction_of C n o) (arrival n) ≡ Some e → own_core e ≡ Some (me n)
+  by_victim None is = by_arrive (may_arrive n) is
+  by_victim (Some v) is = by_evict v (may_evict C n v.0) is
+
+  by_instr : (b : Bool) → cond b (Some (Instr (me n))) (first_of (eviction C n) (arrival n)) ≡ Some e → own_core e ≡ Some (me n)
+  by_instr true is = rw (← same_Some (Instr (me n)) e is) refl
+  by_instr false is = by_victim (victim_for n (wanted_by n (need_now C n))) is
+
+-- a known own event is a core's
+pub known-core : (C : Setting) (nodes : List NodeParts) (own : List (Option Event)) (e : Event) → own ≡ in_row (map (own_event C) nodes) → (place : ℕ) × (slice_get (known_events own) place ≡ Some e)
+    → (core : CoreId) × (own_core e ≡ Some core)
+known-core C nodes own e known (place, there) =
+    let o = known-own C nodes place e (ap (λ (es : List Event). slice_get es place) (sym (known-row (map (own_event C) nodes)) ∙ sym (ap known_events known)) ∙ there) in
+    (me o.node, own-is C o.node e o.own)
+
+-- ---- mails
+
+-- the mail at a place is the one that is taken by its id
+pub taken-there : (mails : List Mail) (place : ℕ) (m : Mail) (rest : List Mail) → AreDistinct mails → slice_get mails place ≡ Some m → rest ≡ without place mails
+    → ((taken m.id mails).0 ≡ Some m) × (rest ≡ (taken m.id mails).1)
+taken-there mails place m rest distinct there left = let is = taken-of_id mails place m distinct there in (rw is refl, rw is left)
+
+pub handled-core : (S : State) (m : Mail) → (taken m.id S.mails).0 ≡ Some m → core_in S (Handle m.id) ≡ core_of m.to
+unfolding core_in
+handled-core S m took = rw took refl
+
+-- ---- what is picked
+
+-- the choice by the own events that are known is the pick of the state
+pub pick-chosen : (S : State) (own : List (Option Event)) (draw : ℕ) (o : Option Choice) → chosen S.mails o ≡ picked (candidates own S.mails) draw → own ≡ in_row (map (own_event S.setting) S.nodes) → chosen S.mails o ≡ pick S draw
+unfolding pick
+pick-chosen S own draw o is known =
+    is ∙ ap (λ (events : List Event). picked (events ++ handlings S.mails) draw) (ap known_events known ∙ known-row (map (own_event S.setting) S.nodes))

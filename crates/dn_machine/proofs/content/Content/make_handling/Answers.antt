@@ -1,0 +1,26 @@
+use Rattle.std.proofs.Common.{Option, refl, sym, ap, ◌∙◌}
+use Rattle.dn_base.specs.declared.ids.CoreId.{CoreId}
+use Rattle.registration_protocol.specs.Setting.{setting}
+use Rattle.dn_machine.specs.Content.{state_of}
+use Rattle.dn_machine.specs.Log.{end_there}
+use Rattle.dn_machine.proofs.Making.{taken-there, handled-core}
+use Rattle.dn_machine.proofs.MailEvents.{handle-next, handle-told, whole-taken}
+use Rattle.dn_machine.proofs.content.Content.make_handling.Goals as goal
+
+pub deliver-granted-requires-clause-whole : goal.deliver-granted-requires-clause-whole
+deliver-granted-requires-clause-whole c =
+    let took = taken-there c.args.self.now.pool.mails c.args.place c.take_at-mail.result c.take_at-mail.new.self.mails c.requires.distinct c.take_at-mail.ensures.value c.take_at-mail.ensures.rest in
+    whole-taken (state_of (setting c.args.context.now) c.args.self.now) c.take_at-mail.result.id c.take_at-mail.new.self.mails took.1 c.requires.whole
+
+pub returns-clause-came : goal.returns-clause-came
+returns-clause-came c =
+    let S = state_of (setting c.args.context.now) c.args.self.now in
+    let T = state_of (setting c.args.context.now) c.deliver-granted.new.self in
+    let m = c.take_at-mail.result in
+    let rest = c.take_at-mail.new.self.mails in
+    let took = taken-there c.args.self.now.pool.mails c.args.place m rest c.requires.distinct c.take_at-mail.ensures.value c.take_at-mail.ensures.rest in
+    record {
+      next = c.deliver-granted.ensures.state ∙ handle-next S m.id m rest took.0 took.1;
+      told = rw (handle-told S m.id m rest took.0, c.deliver-granted.ensures.granted, c.kind.ensures) refl;
+      end = c.end_there-end.ensures (setting c.args.context.now) ∙ ap (λ (o : Option CoreId). end_there T o) (c.core_of.ensures ∙ sym (handled-core S m took.0));
+    }

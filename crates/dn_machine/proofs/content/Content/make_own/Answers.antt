@@ -1,0 +1,18 @@
+use Rattle.std.proofs.Common.{Option, sym, ap, ◌∙◌}
+use Rattle.dn_base.specs.declared.ids.CoreId.{CoreId}
+use Rattle.registration_protocol.specs.Setting.{setting}
+use Rattle.dn_machine.specs.Content.{state_of}
+use Rattle.dn_machine.specs.Log.{end_there}
+use Rattle.dn_machine.proofs.Making.{own-core-in}
+use Rattle.dn_machine.proofs.content.Content.make_own.Goals as goal
+
+pub returns-clause-came : goal.returns-clause-came
+returns-clause-came c =
+    let S = state_of (setting c.args.context.now) c.args.self.now in
+    let T = state_of (setting c.args.context.now) c.act-told.new.self in
+    let core = c.own_core.ensures ∙ sym (own-core-in S c.args.event c.requires.own.0 c.requires.own.1) in
+    record {
+      next = c.act-told.ensures.state;
+      told = c.act-told.ensures.told;
+      end = c.end_there-end.ensures (setting c.args.context.now) ∙ ap (λ (o : Option CoreId). end_there T o) core;
+    }

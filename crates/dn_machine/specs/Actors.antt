@@ -1,0 +1,22 @@
+-- Whose event an event is.
+use Rattle.std.specs.Prelude.{Option, Some, None}
+use Rattle.message_net.specs.declared.actor.Actor.{Actor}
+use Rattle.message_net.specs.declared.actor.Actor.TheVariants.{Core}
+use Rattle.message_net.specs.declared.event.Event.{Event}
+use Rattle.message_net.specs.declared.event.Event.TheVariants.{Instr, Evict, Arrive, Handle}
+use Rattle.message_net.specs.declared.message.Mail.{Mail}
+use Rattle.message_net.specs.Pool.{taken}
+use Rattle.machine_rules.specs.State.{State}
+
+-- the actor that a mail goes to, if there is one
+abbrev pub goes_to : Option Mail → Option Actor
+goes_to None = None
+goes_to (Some m) = Some m.to
+
+-- the actor that makes an event: a core makes its own events, and a mail in flight is handled by the actor that it goes to;
+-- None where no mail in flight has the id
+unfoldable pub actor_in : State → Event → Option Actor
+actor_in S (Instr core) = Some (Core core)
+actor_in S (Evict core word) = Some (Core core)
+actor_in S (Arrive core) = Some (Core core)
+actor_in S (Handle id) = goes_to (taken id S.mails).0

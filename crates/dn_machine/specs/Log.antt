@@ -1,0 +1,82 @@
+-- What a picked event comes to, and what a run notes of its events.
+use Rattle.std.specs.Prelude.{◌≡◌, ℕ, List, [], ◌∷◌, ◌++◌, slice_get, Option, Some, None}
+use Rattle.dn_base.specs.declared.ids.CoreId.{CoreId}
+use Rattle.rv_core.specs.declared.ending.TaskEnd.{TaskEnd}
+use Rattle.message_net.specs.declared.actor.Actor.{Actor}
+use Rattle.message_net.specs.declared.actor.Actor.TheVariants.{Core, Bank, Keeper}
+use Rattle.message_net.specs.declared.event.Event.{Event}
+use Rattle.message_net.specs.declared.event.Event.TheVariants.{Instr, Evict, Arrive, Handle}
+use Rattle.message_net.specs.declared.message.Mail.{Mail}
+use Rattle.message_net.specs.Pool.{taken}
+use Rattle.grant_log.specs.Counts.{no_counts, added, AreCounts}
+use Rattle.machine_rules.specs.State.{State}
+use Rattle.machine_rules.specs.Next.{next, told}
+use Rattle.machine_rules.specs.Runs.{after, grants_of, kinds_of}
+use Rattle.machine_rules.specs.Sound.{IsMachine}
+use Rattle.run_agreement.specs.Agreed.{listed}
+use Rattle.dn_machine.specs.Ends.{end_at, no_ends, with_end, AreLastEnds}
+use Rattle.dn_machine.specs.Schedule.{IsScheduled}
+use Rattle.dn_machine.specs.declared.log.Happened.{Happened}
+use Rattle.dn_machine.specs.declared.log.Log.{Log}
+
+-- the core whose event it is; None for the handling of a mail, and for an actor that is no core
+abbrev pub own_core : Event → Option CoreId
+own_core (Instr core) = Some core
+own_core (Evict core word) = Some core
+own_core (Arrive core) = Some core
+own_core (Handle id) = None
+
+abbrev pub core_of : Actor → Option CoreId
+core_of (Core core) = Some core
+core_of (Bank bank) = None
+core_of Keeper = None
+
+-- the core that an event changes: the one whose own event it is, or the one that gets the mail
+abbrev pub gets_it : Option Mail → Option CoreId
+gets_it None = None
+gets_it (Some m) = core_of m.to
+
+unfoldable pub core_in : State → Event → Option CoreId
+core_in S (Instr core) = Some core
+core_in S (Evict core word) = Some core
+core_in S (Arrive core) = Some core
+core_in S (Handle id) = gets_it (taken id S.mails).0
+
+-- how the task of that core stands in a state
+abbrev pub end_there : State → Option CoreId → Option TaskEnd
+end_there T None = None
+end_there T (Some core) = end_at (slice_get T.nodes core.0)
+
+-- an event came in a state: what it told, and how the task of the core that it changed stands then
+pub record HasCome (S T : State) (h : Happened) : Type 0 where
+  pub next : T ≡ next S h.event
+  pub told : h.told ≡ told S h.event
+  pub end : h.end ≡ end_there T (core_in S h.event)
+
+-- the log of no event, for a program of so many phases
+abbrev pub no_log : ℕ → Log
+no_log phases = record { events = []; grants = []; counts = no_counts; ends = no_ends phases }
+
+-- the log with one event more
+abbrev pub noted : Happened → Log → Log
+noted h log =
+    record {
+      events = log.events ++ h.event ∷ [];
+      grants = log.grants ++ listed h.told.granted;
+      counts = added h.told.kind log.counts;
+      ends = with_end h.end log.ends;
+    }
+
+-- a log of the events of a run from a state on
+pub record IsLogOf (S : State) (es : List Event) (log : Log) : Type 0 where
+  pub events : log.events ≡ es
+  pub granted : log.grants ≡ grants_of S es
+  pub counted : AreCounts (kinds_of S es) log.counts
+  pub ends : AreLastEnds S es log.ends
+
+-- a log of the whole run of a seed, and the state to which it led
+pub record HasRun (S : State) (seed : ℕ) (T : State) (log : Log) : Type 0 where
+  pub scheduled : IsScheduled S seed log.events
+  pub leads : T ≡ after S log.events
+  pub machine : IsMachine T
+  pub logged : IsLogOf S log.events log

@@ -1,0 +1,26 @@
+-- The parts of a machine.
+use Rattle.std.specs.Prelude.{◌≡◌, IsPermutation}
+use Rattle.machine_rules.specs.State.{State}
+use Rattle.dn_machine.specs.Kept.{Made}
+use Rattle.dn_machine.specs.declared.parts.MachineParts.{MachineParts}
+
+-- the state that the parts of a machine make up, and how many events have led to it
+abbrev pub made_in : MachineParts → Made
+made_in p =
+    record {
+      state =
+          record {
+            setting = record { program = p.checked; plans = p.plans.items; shape = p.shape; fuel = p.fuel };
+            nodes = p.nodes.items;
+            banks = p.banks.items;
+            keeper = p.keeper;
+            mails = p.pool.mails;
+            numbers = p.next.items;
+          };
+      made = p.made;
+    }
+
+-- a state is another one but for the order of its mails
+pub record IsReordered (S T : State) : Type 0 where
+  pub mails : IsPermutation S.mails T.mails
+  pub rest : T ≡ record S { mails = T.mails }

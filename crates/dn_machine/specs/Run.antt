@@ -1,0 +1,67 @@
+-- What is promised of a run of the machine.
+use Rattle.std.specs.Prelude.{◌≡◌, ℕ, ◌+◌, ◌*◌, ◌≤◌, List, ◌++◌, length, slice_index, Some, true}
+use Rattle.dn_base.specs.declared.ids.LoadSeen.{LoadSeen}
+use Rattle.message_net.specs.declared.event.Event.{Event}
+use Rattle.grant_log.specs.Counts.{AreCounts}
+use Rattle.registration_protocol.specs.Node.{Setting}
+use Rattle.flat_machine.specs.Phases.{Flat}
+use Rattle.machine_rules.specs.State.{State}
+use Rattle.machine_rules.specs.Next.{enabled, seen_in}
+use Rattle.machine_rules.specs.Memory.{memory_of}
+use Rattle.machine_rules.specs.Runs.{after, IsCompleteRun, grants_of, kinds_of, memory_after, ending_of_run}
+use Rattle.machine_rules.specs.Rest.{IsAtRest}
+use Rattle.machine_rules.specs.Bound.{retired_in, started_in}
+use Rattle.machine_rules.specs.Coherent.{Coherent}
+use Rattle.run_agreement.specs.Fronts.{IsFrontOf}
+use Rattle.run_agreement.specs.Ends.{HasFlatEnd}
+use Rattle.dn_machine.specs.Schedule.{IsScheduled}
+use Rattle.dn_machine.specs.declared.record.RunRecord.{RunRecord}
+
+-- a record of the run that a seed gives from a state on: its events, and what is read off them
+pub record IsRecord (S : State) (seed : ℕ) (r : RunRecord) : Type 0 where
+  pub scheduled : IsScheduled S seed r.events
+  pub granted : r.grants ≡ grants_of S r.events
+  pub counted : AreCounts (kinds_of S r.events) r.counts
+  pub ends : r.ending ≡ ending_of_run S r.events
+
+-- this holds of every front of the events, the empty one and the whole among them
+abbrev pub OfEachFront : (List Event → Type 0) → List Event → Type 0
+OfEachFront Holds events = (front rest : List Event) → events ≡ front ++ rest → Holds front
+
+-- the memory to which the stores of the events are applied as they retire
+abbrev pub stored_by : State → List Event → List ℕ
+stored_by S events = memory_after S.setting.program.memory S events
+
+-- after these events the state is coherent, its words are the memory to which the stores were applied, and a load that
+-- retires next reads that memory
+pub record IsTrueAfter (S : State) (events : List Event) : Type 0 where
+  pub coherent : Coherent (after S events)
+  pub words : memory_of (after S events) ≡ stored_by S events
+  pub reads : (e : Event) (seen : LoadSeen) → enabled (after S events) e ≡ true → seen_in (after S events) e ≡ Some seen
+      → seen.value ≡ slice_index (stored_by S events) seen.word.0
+
+-- after these events the grants so far lead the flat machine to a state in which the loads of each task begin with those so far
+abbrev pub AgreesAfter : Setting → List Event → Type 0
+AgreesAfter C events = (F : Flat) × IsFrontOf C events F
+
+-- the events are at most 12 for each instruction that a task has retired and for each task that has started, and 3 for each
+-- core in each phase of the program; within the limits of programs and of their fuel none has more than the second number
+pub record HasFewEvents (S : State) (events : List Event) : Type 0 where
+  pub few : length events ≤ 12 * (retired_in S events + started_in S events) + 3 * (S.setting.shape.cores * length S.setting.program.phases)
+  pub most : length events ≤ 25169664
+
+-- the record of the run of a seed from a state on, that of the opened machine of a setting
+pub record IsRunOf (S : State) (seed : ℕ) (r : RunRecord) : Type 0 where
+  -- each event may come in its turn, and after them none
+  pub complete : IsCompleteRun S r.events
+  -- then every node is halted, or each task that hasn't ended waits for a lock that another core's task holds
+  pub rests : IsAtRest (after S r.events)
+  -- they are those of the seed, and what the record tells is read off them
+  pub is_true : IsRecord S seed r
+  -- after each of them the state is coherent, and shows the stores so far
+  pub coherent : OfEachFront (IsTrueAfter S) r.events
+  -- and the loads so far are fronts of the flat machine's by the grants so far
+  pub agrees : OfEachFront (AgreesAfter S.setting) r.events
+  -- at the end the loads and the ending are the flat machine's by the grants
+  pub flat : HasFlatEnd S.setting r.events
+  pub few : HasFewEvents S r.events

@@ -1,0 +1,156 @@
+ghost use Rattle.std.specs.Prelude.{◌≡◌, ◌+◌, ◌*◌, ◌<◌, ◌≤◌, ◌++◌, length, slice_get, OnOk, IfOk};
+ghost use Rattle.std.specs.List.{filter_map};
+ghost use Rattle.grant_log.specs.Counts.{count_of};
+ghost use Rattle.dn_machine.specs.Ends.{no_ends, with_end, end_in, place_of, noted_ends};
+ghost use Rattle.run_agreement.specs.Agreed.{listed};
+ghost use Rattle.dn_machine.specs.Log.{no_log, noted};
+
+use crate::record::RunRecord;
+use dn_base::{Grant, Memory, Sequence};
+use grant_log::Counts;
+use machine_rules::Stepped;
+use message_net::Event;
+use region_table::{Phase, TaskDecl};
+use rv_core::{Ending, TaskEnd};
+use std::alloc::Global;
+
+/// An event that came: what it told, and how the task of the core that it changed stands, where it has ended or waits for a
+/// lock.
+#[derive(Clone, Copy, Debug)]
+pub(crate) struct Happened {
+    pub(crate) event: Event,
+    pub(crate) told: Stepped,
+    pub(crate) end: Option<TaskEnd>,
+}
+
+/// What a run notes of its events: these, the grants, how many events of each kind there were, and how each task stood when
+/// its node last had it, in a table with a place for each phase and each of sixteen cores.
+#[derive(Debug, Drop)]
+pub(crate) struct Log {
+    pub(crate) events: Sequence<Event>,
+    pub(crate) grants: Sequence<Grant>,
+    pub(crate) counts: Counts,
+    pub(crate) ends: Sequence<Option<TaskEnd>>,
+}
+
+/// How many cores a machine has at the most.
+const MOST_CORES: usize = 16;
+
+/// A table without ends, for so many phases.
+fn no_ends(alloc: Global, phases: usize) -> Result<Sequence<Option<TaskEnd>>, Memory>
+    requires { phases ≤ 64 }
+    ensures { IfOk result (λ table. table ≡ no_ends phases) }
+{
+    Ok(Sequence::from_vec(vec![in alloc; None; MOST_CORES * phases]?))
+}
+
+/// Notes an end in its place.
+fn note_end(table: &mut Sequence<Option<TaskEnd>>, end: Option<TaskEnd>)
+    ensures { table.new ≡ with_end end table.old }
+{
+    if let Some(end) = end {
+        let place = MOST_CORES * end.phase.0 as usize + end.core.0 as usize;
+        if place < table.len() {
+            table.set(place, Some(end));
+        }
+    }
+}
+
+impl Log {
+    /// The log of no event, for a program of so many phases.
+    pub(crate) fn new(alloc: Global, phases: usize) -> Result<Log, Memory>
+        requires { phases ≤ 64 }
+        ensures { IfOk result (λ log. log ≡ no_log phases) }
+    {
+        Ok(Log {
+            events: Sequence::new(alloc),
+            grants: Sequence::new(alloc),
+            counts: Counts::none(),
+            ends: no_ends(alloc, phases)?,
+        })
+    }
+
+    /// Notes an event.
+    ///
+    /// # Errors
+    /// `Memory` where there is no room.
+    pub(crate) fn note(&mut self, happened: Happened) -> Result<(), Memory>
+        requires { count_of happened.told.kind self.old.counts < 18446744073709551615 }
+        ensures { OnOk result (self.new ≡ noted happened self.old) }
+    {
+        self.events.push(happened.event)?;
+        if let Some(grant) = happened.told.granted {
+            self.grants.push(grant)?;
+        }
+        self.counts.add(happened.told.kind);
+        note_end(&mut self.ends, happened.end);
+        Ok(())
+    }
+
+    /// The record of the run, with its ending.
+    pub(crate) fn record(self, ending: Ending) -> RunRecord
+        ensures { result ≡ record { events = self.events; grants = self.grants; counts = self.counts; ending = ending } }
+    {
+        RunRecord {
+            events: self.events,
+            grants: self.grants,
+            counts: self.counts,
+            ending,
+        }
+    }
+}
+
+/// The end that is noted in a place, if there is one.
+fn noted_at(table: &[Option<TaskEnd>], place: usize) -> Option<TaskEnd>
+    ensures { result ≡ end_in (slice_get table.now place) }
+{
+    match table.get(place) {
+        Some(end) => *end,
+        None => None,
+    }
+}
+
+/// Adds an end, if there is one.
+fn push_end(out: &mut Sequence<TaskEnd>, end: Option<TaskEnd>) -> Result<(), Memory>
+    ensures { OnOk result (out.new ≡ out.old ++ listed end) }
+{
+    match end {
+        Some(end) => out.push(end),
+        None => Ok(()),
+    }
+}
+
+/// Adds the noted ends of the tasks of a phase, in the order of cores.
+fn push_ends(
+    out: &mut Sequence<TaskEnd>,
+    table: &[Option<TaskEnd>],
+    phase: usize,
+    tasks: &[TaskDecl],
+) -> Result<(), Memory>
+    requires { phase ≤ 64 }
+    ensures { OnOk result (out.new ≡ out.old ++ filter_map (λ d. end_in (slice_get table.now (place_of phase d.core.0))) tasks.now) }
+{
+    for task in tasks {
+        let place = MOST_CORES * phase + task.core.0 as usize;
+        push_end(out, noted_at(table, place))?;
+    }
+    Ok(())
+}
+
+/// The noted ends of the tasks of the first phases, in the order of phases and cores.
+pub(crate) fn listed_ends(
+    alloc: Global,
+    table: &[Option<TaskEnd>],
+    phases: &[Phase],
+) -> Result<Sequence<TaskEnd>, Memory>
+    requires { length phases.now ≤ 64 }
+    ensures { IfOk result (λ ends. ends ≡ noted_ends table.now 0 phases.now) }
+{
+    let mut ends = Sequence::new(alloc);
+    let mut number = 0;
+    for phase in phases {
+        push_ends(&mut ends, table, number, phase.tasks.as_slice())?;
+        number += 1;
+    }
+    Ok(ends)
+}

@@ -1,0 +1,118 @@
+ghost use Rattle.std.specs.Prelude.{◌≡◌, ℕ, ◌+◌, ◌≤◌, List, length};
+ghost use Rattle.message_net.specs.declared.event.Event.{Event};
+ghost use Rattle.registration_protocol.specs.Node.{Setting};
+ghost use Rattle.machine_rules.specs.State.{State, opened};
+ghost use Rattle.machine_rules.specs.Runs.{after, IsRun};
+ghost use Rattle.machine_rules.specs.Sound.{IsReady};
+ghost use Rattle.dn_machine.specs.Kept.{IsKept};
+ghost use Rattle.dn_machine.specs.Parts.{made_in, IsReordered};
+
+use crate::content::Content;
+use crate::machine::{Machine, context_of};
+use crate::starting::own_events;
+use dn_base::{Sequence, Shape};
+use effect_checker::Checked;
+use message_net::Pool;
+use phase_barrier::Keeper;
+use region_table::PhasePlan;
+use registration_protocol::Node;
+use registry_bank::Bank;
+
+/// The parts of a machine, for whoever lets its actors work side by side: nodes and banks stand in the order of their numbers,
+/// and `next` has the number of each actor's next mail, of cores, then banks, then the keeper.
+#[derive(Drop)]
+pub struct MachineParts {
+    pub checked: Checked,
+    pub plans: Vec<PhasePlan>,
+    pub shape: Shape,
+    pub fuel: u32,
+    pub nodes: Vec<Node>,
+    pub banks: Vec<Bank>,
+    pub keeper: Keeper,
+    pub pool: Pool,
+    pub next: Vec<u32>,
+    pub made: u64,
+}
+
+impl Machine {
+    /// The parts of the machine. Takes no memory.
+    pub fn split(self) -> MachineParts
+        ensures parts { made_in result ≡ self }
+        ensures kept { IsKept (made_in result).state result.made }
+    {
+        let Machine {
+            checked,
+            plans,
+            shape,
+            fuel,
+            content,
+            made,
+        } = self;
+        let Content {
+            nodes,
+            banks,
+            keeper,
+            pool,
+            numbers,
+            own: _,
+        } = content;
+        MachineParts {
+            checked,
+            plans,
+            shape,
+            fuel,
+            nodes,
+            banks,
+            keeper,
+            pool,
+            next: numbers.into_vec(),
+            made,
+        }
+    }
+
+    /// The machine of these parts, whose state is one that a machine may have: the parts of a machine have such a state, and
+    /// `what_a_run_leaves_is_kept` says that runs and another order of the mails keep it. Takes no memory.
+    pub fn join(parts: MachineParts) -> Machine
+        requires { IsKept (made_in parts).state parts.made }
+        ensures { result ≡ made_in parts }
+    {
+        let MachineParts {
+            checked,
+            plans,
+            shape,
+            fuel,
+            nodes,
+            banks,
+            keeper,
+            pool,
+            next,
+            made,
+        } = parts;
+        let context = context_of(&checked, &plans, shape, fuel);
+        let own = own_events(nodes.as_slice(), &context);
+        let content = Content {
+            nodes,
+            banks,
+            keeper,
+            pool,
+            numbers: Sequence::from_vec(next),
+            own,
+        };
+        Machine {
+            checked,
+            plans,
+            shape,
+            fuel,
+            content,
+            made,
+        }
+    }
+}
+
+/// The opened machine of a checked program is in a state that a machine may have; so is whatever a run makes of such a state,
+/// and the same state with its mails in another order.
+pub fn what_a_run_leaves_is_kept()
+    ensures opened { (C : Setting) → IsReady C → 1 ≤ C.shape.cores → C.shape.cores ≤ 16 → IsKept (opened C) 0 }
+    ensures run { (S : State) (made : ℕ) (events : List Event) → IsKept S made → IsRun S events → IsKept (after S events) (made + length events) }
+    ensures reordered { (S T : State) (made : ℕ) → IsKept S made → IsReordered S T → IsKept T made }
+{}

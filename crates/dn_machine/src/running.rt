@@ -1,0 +1,213 @@
+ghost use Rattle.std.specs.Prelude.{◌≡◌, ◌<◌, ◌≤◌, true, ℕ, length, Some, None, Ok, IfOk, OnOk, slice_get};
+ghost use Rattle.message_net.specs.declared.message.Mail.{Mail};
+ghost use Rattle.message_net.specs.declared.event.Event.TheVariants.{Handle as HandleOf};
+ghost use Rattle.message_net.specs.Pool.{AreDistinct};
+ghost use Rattle.registration_protocol.specs.Node.{Setting};
+ghost use Rattle.registration_protocol.specs.Setting.{setting};
+ghost use Rattle.machine_rules.specs.State.{opened};
+ghost use Rattle.machine_rules.specs.Next.{enabled};
+ghost use Rattle.machine_rules.specs.Sound.{IsMachine};
+ghost use Rattle.dn_machine.specs.declared.log.Happened.{Happened as CameOf};
+ghost use Rattle.dn_machine.specs.Content.{state_of, KnowsOwn, IsWhole};
+ghost use Rattle.dn_machine.specs.Ends.{noted_ending};
+ghost use Rattle.dn_machine.specs.Kept.{IsKept};
+ghost use Rattle.dn_machine.specs.Log.{own_core, core_of, end_there, HasCome, no_log, HasRun};
+ghost use Rattle.dn_machine.specs.Pick.{pick};
+ghost use Rattle.dn_machine.specs.Run.{IsRunOf};
+
+use crate::content::Content;
+use crate::draws::{draw, generator};
+use crate::log::{Happened, Log, listed_ends};
+use crate::picking::{Choice, choose};
+use crate::record::RunRecord;
+use dn_base::{CoreId, Memory, Sequence};
+use machine_rules::Stepped;
+use message_net::{Actor, Event};
+use registration_protocol::Context;
+use rv_core::{Ending, TaskEnd, outcome};
+use std::alloc::Global;
+
+/// The core whose own event it is; None for the handling of a mail.
+fn own_core(event: Event) -> Option<CoreId>
+    ensures { result ≡ own_core event }
+{
+    match event {
+        Event::Instr(core) => Some(core),
+        Event::Evict(core, _) => Some(core),
+        Event::Arrive(core) => Some(core),
+        Event::Handle(_) => None,
+    }
+}
+
+/// The actor, where it is a core.
+fn core_of(actor: Actor) -> Option<CoreId>
+    ensures { result ≡ core_of actor }
+{
+    match actor {
+        Actor::Core(core) => Some(core),
+        Actor::Bank(_) => None,
+        Actor::Keeper => None,
+    }
+}
+
+impl Content {
+    /// How the task of a core stands, where a core is asked for.
+    fn end_there(&self, core: Option<CoreId>) -> Option<TaskEnd>
+        ensures { (C : Setting) → result ≡ end_there (state_of C self.now) core }
+    {
+        match core {
+            Some(core) => self.task_end(core),
+            None => None,
+        }
+    }
+
+    /// The own event of a core, which may come.
+    fn make_own(&mut self, context: &Context<'_>, event: Event) -> Happened
+        requires whole { IsWhole (state_of (setting context.now) self.old) }
+        requires known { KnowsOwn (setting context.now) self.old }
+        requires may { enabled (state_of (setting context.now) self.old) event ≡ true }
+        requires own { (core : CoreId) × (own_core event ≡ Some core) }
+        requires spare { (setting context.now).shape.cores ≤ self.old.pool.spare }
+        ensures event { result.event ≡ event }
+        ensures came { HasCome (state_of (setting context.now) self.old) (state_of (setting context.now) self.new) result }
+        ensures known { KnowsOwn (setting context.now) self.new }
+    {
+        let told = self.act(context, event);
+        let end = self.end_there(own_core(event));
+        Happened { event, told, end }
+    }
+
+    /// The handling of the mail at a place of the pool, which is taken from there.
+    fn make_handling(&mut self, context: &Context<'_>, place: u32) -> Happened
+        requires whole { IsWhole (state_of (setting context.now) self.old) }
+        requires known { KnowsOwn (setting context.now) self.old }
+        requires distinct { AreDistinct self.old.pool.mails }
+        requires place { place < length self.old.pool.mails }
+        requires spare { (setting context.now).shape.cores ≤ self.old.pool.spare }
+        ensures event { (m : Mail) → slice_get self.old.pool.mails place ≡ Some m → result.event ≡ HandleOf m.id }
+        ensures came { HasCome (state_of (setting context.now) self.old) (state_of (setting context.now) self.new) result }
+        ensures known { KnowsOwn (setting context.now) self.new }
+    {
+        let mail = self.pool.take_at(place);
+        let granted = self.deliver(context, mail.to, mail.message);
+        let told = Stepped {
+            kind: mail.message.kind(),
+            seen: None,
+            granted,
+        };
+        let end = self.end_there(core_of(mail.to));
+        Happened {
+            event: Event::Handle(mail.id),
+            told,
+            end,
+        }
+    }
+
+    /// The event that a draw picks, if one may come; there is room for the mails.
+    fn make(&mut self, context: &Context<'_>, draw: u32) -> Option<Happened>
+        requires machine { IsMachine (state_of (setting context.now) self.old) }
+        requires whole { IsWhole (state_of (setting context.now) self.old) }
+        requires most { length self.old.nodes.items ≤ 16 }
+        requires known { KnowsOwn (setting context.now) self.old }
+        requires spare { (setting context.now).shape.cores ≤ self.old.pool.spare }
+        ensures none { result ≡ None → (pick (state_of (setting context.now) self.old) draw ≡ None) × (state_of (setting context.now) self.new ≡ state_of (setting context.now) self.old) }
+        ensures some { (h : CameOf) → result ≡ Some h → (pick (state_of (setting context.now) self.old) draw ≡ Some h.event)
+            × HasCome (state_of (setting context.now) self.old) (state_of (setting context.now) self.new) h }
+        ensures known { KnowsOwn (setting context.now) self.new }
+    {
+        match choose(&self.own, &self.pool, draw) {
+            Some(Choice::Own(event)) => Some(self.make_own(context, event)),
+            Some(Choice::Mail(place)) => Some(self.make_handling(context, place)),
+            None => None,
+        }
+    }
+
+    /// The event that a draw picks, if one may come.
+    ///
+    /// # Errors
+    /// `Memory` where there is no room for the mails.
+    fn advance(&mut self, context: &Context<'_>, draw: u32) -> Result<Option<Happened>, Memory>
+        requires machine { IsMachine (state_of (setting context.now) self.old) }
+        requires whole { IsWhole (state_of (setting context.now) self.old) }
+        requires most { length self.old.nodes.items ≤ 16 }
+        requires known { KnowsOwn (setting context.now) self.old }
+        ensures none { result ≡ Ok None → (pick (state_of (setting context.now) self.old) draw ≡ None) × (state_of (setting context.now) self.new ≡ state_of (setting context.now) self.old) }
+        ensures some { (h : CameOf) → result ≡ Ok (Some h) → (pick (state_of (setting context.now) self.old) draw ≡ Some h.event)
+            × HasCome (state_of (setting context.now) self.old) (state_of (setting context.now) self.new) h }
+        ensures known { KnowsOwn (setting context.now) self.new }
+    {
+        self.reserve(context.shape.cores)?;
+        Ok(self.make(context, draw))
+    }
+
+    /// Makes the events that the words of a seed pick one after another, until none may come, and notes them.
+    ///
+    /// # Errors
+    /// `Memory` where there is no room for the mails or the log.
+    pub(crate) fn run(
+        &mut self,
+        context: &Context<'_>,
+        seed: u32,
+        log: &mut Log,
+    ) -> Result<(), Memory>
+        requires opened { state_of (setting context.now) self.old ≡ opened (setting context.now) }
+        requires kept { IsKept (state_of (setting context.now) self.old) 0 }
+        requires known { KnowsOwn (setting context.now) self.old }
+        requires empty { log.old ≡ no_log (length (setting context.now).program.phases) }
+        ensures { OnOk result (HasRun (opened (setting context.now)) seed (state_of (setting context.now) self.new) log.new) }
+    {
+        let mut words = generator(seed as u64);
+        'events: while let Some(happened) = self.advance(context, draw(&mut words))? {
+            log.note(happened)?;
+        }
+        Ok(())
+    }
+
+    /// The ending that the last state of a run and the noted ends tell.
+    ///
+    /// # Errors
+    /// `Memory` where there is no room for it.
+    pub(crate) fn ending(
+        &self,
+        alloc: Global,
+        context: &Context<'_>,
+        ends: &Sequence<Option<TaskEnd>>,
+    ) -> Result<Ending, Memory>
+        requires machine { IsMachine (state_of (setting context.now) self.now) }
+        ensures { IfOk result (λ ending. ending ≡ noted_ending ends.now (state_of (setting context.now) self.now)) }
+    {
+        let program = context.program;
+        let phases = program.phases.as_slice();
+        let begun = (self.keeper.phase().0 as usize + 1).min(phases.len());
+        let tasks = listed_ends(alloc, ends.as_slice(), &phases[..begun])?;
+        let memory = self.memory(alloc, context)?;
+        Ok(Ending {
+            outcome: outcome(tasks.as_slice()),
+            tasks,
+            memory: Sequence::from_vec(memory),
+        })
+    }
+}
+
+/// The record of the run of a seed, by a machine as a run begins.
+///
+/// # Errors
+/// `Memory` where there is no room for the mails or the record.
+pub(crate) fn run_opened(
+    alloc: Global,
+    context: &Context<'_>,
+    content: Content,
+    seed: u32,
+) -> Result<RunRecord, Memory>
+    requires opened { state_of (setting context.now) content ≡ opened (setting context.now) }
+    requires kept { IsKept (state_of (setting context.now) content) 0 }
+    requires known { KnowsOwn (setting context.now) content }
+    ensures { IfOk result (IsRunOf (opened (setting context.now)) seed) }
+{
+    let mut content = content;
+    let program = context.program;
+    let mut log = Log::new(alloc, program.phases.len())?;
+    content.run(context, seed, &mut log)?;
+    let ending = content.ending(alloc, context, &log.ends)?;
+    Ok(log.record(ending))
+}
