@@ -1,94 +1,108 @@
 -- What a call says by its answer.
-use Rattle.std.proofs.Common.{◌≡◌, ◌≢◌, ◌⊎◌, inl, inr, ℕ, true, false, List, Option, Some, None, IfSome, refl, sym, ap, subst, ◌∙◌}
+use Rattle.std.proofs.Common.{◌≡◌, ◌≢◌, ◌⊎◌, inl, inr, ℕ, true, false, List, Option, Some, None, IfSome, is_some, refl, sym, ap, subst, ◌∙◌}
 use Rattle.std.specs.Prelude.{option_and_then}
 use Rattle.dn_base.specs.declared.status.Status.{Status}
 use Rattle.dn_base.specs.declared.status.Status as status
+use Rattle.dn_machine.specs.declared.record.RunRecord.{RunRecord}
 use Rattle.command_words.specs.declared.options.Options.{Options}
 use Rattle.command_words.specs.Command.{options_of}
-use Rattle.dn_top.specs.declared.answers.Output.{Output}
+use Rattle.dn_top.specs.declared.output.Output.{Output}
 use Rattle.dn_top.specs.declared.serving.Answer.{Answer}
-use Rattle.dn_top.specs.Answers.{most_read, IsRefusal, IsAnswer, IsOutcome, usage_line}
+use Rattle.dn_top.specs.Answers.{answered, most_read, IsRefusal, IsAnswer, IsOutcome, usage_line}
 use Rattle.dn_top.specs.Outside.{Device, Devices, Failed, IsUntouched, Took, TookNothing, TookFront}
-use Rattle.dn_top.specs.Serving.{text_for, HasDone, HasRefused, HasFailed, HasStatus, has_stopped, Serves, IsFinished, IsReplied, IsStarved, IsUnread, IsDoneBy}
-use Rattle.dn_top.proofs.Statuses.{other, outcome-other, answer-other, answer-done, answer-refused}
+use Rattle.dn_top.specs.Serving.{text_for, IsRunWith, HandsBack, HasDone, HasRefused, HasFailed, HasStatus, has_stopped, Serves, IsFinished, IsReplied, IsStarved, IsUnread, IsDoneBy, bare}
+use Rattle.dn_top.proofs.Statuses.{other, outcome-other, answer-other, answer-done, answer-refused, answer-no_run, done-comes, done-run}
 use Rattle.dn_top.proofs.Fronts.{AnswersAlike, taken-alike}
 
 if-some : {X : Type 0} (o : Option X) (P Q : X → Type 0) → ((x : X) → P x → Q x) → IfSome o P → IfSome o Q
 if-some None P Q f h = tt
 if-some (Some x) P Q f h = f x h
 
-at-some : {X : Type 0} (o : Option X) (x : X) (P : X → Type 0) → o ≡ Some x → IfSome o P → P x
+pub at-some : {X : Type 0} (o : Option X) (x : X) (P : X → Type 0) → o ≡ Some x → IfSome o P → P x
 at-some None x P e h = absurd cc
 at-some (Some y) x P e h = let same : y ≡ x = cc in subst P same h
 
 -- ---- what a reply says
 
-module _ (o : Options) (before after : Device) (text : List ℕ) (s : Status) where
+status_at : (answer other : Answer) → answer ≡ other → answer.status ≡ other.status
+status_at answer other e = ap (λ (x : Answer). x.status) e
+
+run_at : (answer other : Answer) → answer ≡ other → answer.run ≡ other.run
+run_at answer other e = ap (λ (x : Answer). x.run) e
+
+-- an output has another status than this, which no answer has
+unlike : (o : Options) (text : List ℕ) (out : Output) (u : Status) → IsAnswer o text out → other u ≡ true → out.status ≢ u
+unlike o text out u is bad e = let plain = answer-other o text out is in let also : other out.status ≡ true = ap other e ∙ bad in cc
+
+module _ (o : Options) (before after : Device) (text : List ℕ) (answer : Answer) where
   record Written : Type 0 where
     out : Output
-    answer : IsAnswer o text out
-    ends : s ≡ out.status
+    is : IsAnswer o text out
+    ends : answer.status ≡ out.status
+    run : answer.run ≡ out.run
     took : Took before after out.bytes
 
   -- a reply with a status that some answer has was written
-  written : IsReplied o before after text s → other s ≡ false → Written
+  written : IsReplied o before after text answer → other answer.status ≡ false → Written
   written (inl given) plain = by_finish given.finished
     where
-      by_finish : IsFinished before after given.out.bytes given.out.status s → Written
-      by_finish (inl (e, a)) = record { out = given.out; answer = given.answer; ends = e; took = a }
-      by_finish (inr (e, failed, front)) = let bad : other s ≡ true = ap other e in cc
-  written (inr is) plain = let bad : other s ≡ true = ap other is.memory in cc
+      by_finish : IsFinished before after given.out answer → Written
+      by_finish (inl (e, took)) = record { out = given.out; is = given.is; ends = status_at answer _ e; run = run_at answer _ e; took = took }
+      by_finish (inr (e, failed, front)) = let bad : other answer.status ≡ true = ap other (status_at answer _ e) in cc
+  written (inr starved) plain = let bad : other answer.status ≡ true = ap other (status_at answer _ starved.memory) in cc
 
   record Stopped : Type 0 where
     out : Output
-    answer : IsAnswer o text out
+    is : IsAnswer o text out
     failed : Failed before after
     front : TookFront before after out.bytes
 
   -- one with the status WriteFault was cut off
-  stopped : IsReplied o before after text s → s ≡ status.TheVariants.WriteFault → Stopped
+  stopped : IsReplied o before after text answer → answer.status ≡ status.TheVariants.WriteFault → Stopped
   stopped (inl given) r = by_finish given.finished
     where
-      by_finish : IsFinished before after given.out.bytes given.out.status s → Stopped
-      by_finish (inl (e, a)) =
-          let plain = answer-other o text given.out given.answer in
-          let bad : other given.out.status ≡ true = ap other (sym e ∙ r) in
-          cc
-      by_finish (inr (e, failed, front)) = record { out = given.out; answer = given.answer; failed = failed; front = front }
-  stopped (inr is) r = let bad : status.TheVariants.Memory ≡ status.TheVariants.WriteFault = sym is.memory ∙ r in cc
+      by_finish : IsFinished before after given.out answer → Stopped
+      by_finish (inl (e, took)) = absurd (unlike o text given.out status.TheVariants.WriteFault given.is refl (sym (status_at answer _ e) ∙ r))
+      by_finish (inr (e, failed, front)) = record { out = given.out; is = given.is; failed = failed; front = front }
+  stopped (inr starved) r = let bad : status.TheVariants.Memory ≡ status.TheVariants.WriteFault = sym (status_at answer _ starved.memory) ∙ r in cc
 
   -- one with the status Memory wrote nothing
-  starved : IsReplied o before after text s → s ≡ status.TheVariants.Memory → TookNothing before after
-  starved (inl given) r = by_finish given.finished
+  starved-nothing : IsReplied o before after text answer → answer.status ≡ status.TheVariants.Memory → TookNothing before after
+  starved-nothing (inl given) r = by_finish given.finished
     where
-      by_finish : IsFinished before after given.out.bytes given.out.status s → TookNothing before after
-      by_finish (inl (e, a)) =
-          let plain = answer-other o text given.out given.answer in
-          let bad : other given.out.status ≡ true = ap other (sym e ∙ r) in
-          cc
-      by_finish (inr (e, failed, front)) = let bad : status.TheVariants.WriteFault ≡ status.TheVariants.Memory = sym e ∙ r in cc
-  starved (inr is) r = is.nothing
+      by_finish : IsFinished before after given.out answer → TookNothing before after
+      by_finish (inl (e, took)) = absurd (unlike o text given.out status.TheVariants.Memory given.is refl (sym (status_at answer _ e) ∙ r))
+      by_finish (inr (e, failed, front)) = let bad : status.TheVariants.WriteFault ≡ status.TheVariants.Memory = sym (status_at answer _ e) ∙ r in cc
+  starved-nothing (inr starved) r = starved.nothing
 
   -- none has one of these
-  never : (u : Status) → IsReplied o before after text s → other u ≡ true → u ≢ status.TheVariants.WriteFault → u ≢ status.TheVariants.Memory → s ≢ u
-  never u (inl given) is no_fault no_memory r = by_finish given.finished
+  never : (u : Status) → IsReplied o before after text answer → other u ≡ true → u ≢ status.TheVariants.WriteFault → u ≢ status.TheVariants.Memory → answer.status ≢ u
+  never u (inl given) bad no_fault no_memory r = by_finish given.finished
     where
-      by_finish : IsFinished before after given.out.bytes given.out.status s → ⊥
-      by_finish (inl (e, a)) =
-          let plain = answer-other o text given.out given.answer in
-          let bad : other given.out.status ≡ true = ap other (sym e ∙ r) ∙ is in
-          cc
-      by_finish (inr (e, failed, front)) = no_fault (sym r ∙ e)
-  never u (inr was) is no_fault no_memory r = no_memory (sym r ∙ was.memory)
+      by_finish : IsFinished before after given.out answer → ⊥
+      by_finish (inl (e, took)) = unlike o text given.out u given.is bad (sym (status_at answer _ e) ∙ r)
+      by_finish (inr (e, failed, front)) = no_fault (sym r ∙ status_at answer _ e)
+  never u (inr starved) bad no_fault no_memory r = no_memory (sym r ∙ status_at answer _ starved.memory)
 
   -- where the sink has no fault the answer was written, if there was memory
-  finished : IsReplied o before after text s → (Failed before after → ⊥) → HasStatus o text s ⊎ (s ≡ status.TheVariants.Memory)
+  finished : IsReplied o before after text answer → (Failed before after → ⊥) → HasStatus o text answer.status ⊎ (answer.status ≡ status.TheVariants.Memory)
   finished (inl given) calm = by_finish given.finished
     where
-      by_finish : IsFinished before after given.out.bytes given.out.status s → HasStatus o text s ⊎ (s ≡ status.TheVariants.Memory)
-      by_finish (inl (e, a)) = inl (record { out = given.out; answer = given.answer; ends = e })
+      by_finish : IsFinished before after given.out answer → HasStatus o text answer.status ⊎ (answer.status ≡ status.TheVariants.Memory)
+      by_finish (inl (e, took)) = inl (record { out = given.out; answer = given.is; ends = status_at answer _ e })
       by_finish (inr (e, failed, front)) = absurd (calm failed)
-  finished (inr is) calm = inr is.memory
+  finished (inr starved) calm = inr (status_at answer _ starved.memory)
+
+  -- one without an outcome's status hands no run back
+  replied-no_run : IsReplied o before after text answer → (IsOutcome answer.status → ⊥) → answer.run ≡ None
+  replied-no_run (inl given) none = by_finish given.finished
+    where
+      by_finish : IsFinished before after given.out answer → answer.run ≡ None
+      by_finish (inl (e, took)) =
+          run_at answer _ e
+          ∙ answer-no_run o text given.out given.is (λ is. none (subst IsOutcome (sym (status_at answer _ e)) is))
+      by_finish (inr (e, failed, front)) = run_at answer _ e
+  replied-no_run (inr starved) none = run_at answer _ starved.memory
 
 -- ---- what a call with options says
 
@@ -97,11 +111,11 @@ module _ (o : Options) (before after : Devices) (answer : Answer) where
   Alike text t = AnswersAlike o.mode o before.source after.source text t
 
   abbrev NoText : Type 0
-  NoText = IsUnread before after answer.status ⊎ IsStarved before.sink after.sink answer.status
+  NoText = IsUnread before after answer ⊎ IsStarved before.sink after.sink answer
 
   no_text-other : NoText → other answer.status ≡ true
-  no_text-other (inl is) = ap other is.fault
-  no_text-other (inr is) = ap other is.memory
+  no_text-other (inl is) = ap other (status_at answer _ is.fault)
+  no_text-other (inr is) = ap other (status_at answer _ is.memory)
 
   refusal-alike : (text t : List ℕ) (out : Output) → Alike text t → IsRefusal o text out → IsRefusal o t out
   refusal-alike text t out a r = record { line = r.line; why = a.refused r.line r.why; answer = r.answer }
@@ -110,59 +124,76 @@ module _ (o : Options) (before after : Devices) (answer : Answer) where
   answer-alike text t out a (inl d) = inl (a.done out d)
   answer-alike text t out a (inr r) = inr (refusal-alike text t out a r)
 
-  done-clause : IsDoneBy o before after answer.status → IsOutcome answer.status → IfSome (text_for o before.source) (λ t. HasDone o before after t answer)
+  done-clause : IsDoneBy o before after answer → IsOutcome answer.status → IfSome (text_for o before.source) (λ t. HasDone o before after t answer)
   done-clause (inr none) is = let plain = outcome-other answer.status is in let bad = no_text-other none in absurd cc
   done-clause (inl served) is =
-      let w = written o before.sink after.sink served.text answer.status served.reply (outcome-other answer.status is) in
+      let w = written o before.sink after.sink served.text answer served.reply (outcome-other answer.status is) in
       let there : IsOutcome w.out.status = (is.0, sym w.ends ∙ is.1) in
-      let done = answer-done o served.text w.out w.answer there in
+      let done = answer-done o served.text w.out w.is there in
       if-some (text_for o before.source) (λ t. Alike served.text t) (λ t. HasDone o before after t answer)
-      (λ t a. record { out = w.out; done = a.done w.out done; read = a.read w.out (a.done w.out done); took = w.took; ends = w.ends })
+      (λ t a. record { out = w.out; done = a.done w.out done; read = a.read w.out (a.done w.out done); took = w.took; ends = w.ends; run = w.run })
       (taken-alike o before.source after.source served.text served.taken)
 
-  refused-clause : IsDoneBy o before after answer.status → answer.status ≡ status.TheVariants.SourceRefused → IfSome (text_for o before.source) (λ t. HasRefused o before after t)
+  handed_back-clause : IsDoneBy o before after answer → IsOutcome answer.status → HandsBack o answer
+  handed_back-clause (inr none) is = let plain = outcome-other answer.status is in let bad = no_text-other none in absurd cc
+  handed_back-clause (inl served) is =
+      let w = written o before.sink after.sink served.text answer served.reply (outcome-other answer.status is) in
+      let there : IsOutcome w.out.status = (is.0, sym w.ends ∙ is.1) in
+      let done = answer-done o served.text w.out w.is there in
+      let run : IfSome w.out.run (IsRunWith o answer.status) = subst (λ (s : Status). IfSome w.out.run (IsRunWith o s)) (sym w.ends) (done-run o.mode o served.text w.out done) in
+      record {
+        comes = ap is_some w.run ∙ done-comes o.mode o served.text w.out done;
+        run = subst (λ (r : Option RunRecord). IfSome r (IsRunWith o answer.status)) (sym w.run) run;
+      }
+
+  refused-clause : IsDoneBy o before after answer → answer.status ≡ status.TheVariants.SourceRefused → IfSome (text_for o before.source) (λ t. HasRefused o before after t)
   refused-clause (inr none) r = let plain = ap other r in let bad = no_text-other none in absurd cc
   refused-clause (inl served) r =
-      let w = written o before.sink after.sink served.text answer.status served.reply (ap other r) in
-      let refused = answer-refused o served.text w.out w.answer (sym w.ends ∙ r) in
+      let w = written o before.sink after.sink served.text answer served.reply (ap other r) in
+      let refused = answer-refused o served.text w.out w.is (sym w.ends ∙ r) in
       if-some (text_for o before.source) (λ t. Alike served.text t) (λ t. HasRefused o before after t)
       (λ t a. record { out = w.out; refusal = refusal-alike served.text t w.out a refused; took = w.took })
       (taken-alike o before.source after.source served.text served.taken)
 
-  failed-clause : IsDoneBy o before after answer.status → answer.status ≡ status.TheVariants.WriteFault → Failed before.sink after.sink × IfSome (text_for o before.source) (λ t. HasFailed o before after t)
-  failed-clause (inr (inl is)) r = let bad : status.TheVariants.ReadFault ≡ status.TheVariants.WriteFault = sym is.fault ∙ r in absurd cc
-  failed-clause (inr (inr is)) r = let bad : status.TheVariants.Memory ≡ status.TheVariants.WriteFault = sym is.memory ∙ r in absurd cc
+  failed-clause : IsDoneBy o before after answer → answer.status ≡ status.TheVariants.WriteFault → Failed before.sink after.sink × IfSome (text_for o before.source) (λ t. HasFailed o before after t)
+  failed-clause (inr (inl is)) r = let bad : status.TheVariants.ReadFault ≡ status.TheVariants.WriteFault = sym (status_at answer _ is.fault) ∙ r in absurd cc
+  failed-clause (inr (inr is)) r = let bad : status.TheVariants.Memory ≡ status.TheVariants.WriteFault = sym (status_at answer _ is.memory) ∙ r in absurd cc
   failed-clause (inl served) r =
-      let w = stopped o before.sink after.sink served.text answer.status served.reply r in (
+      let w = stopped o before.sink after.sink served.text answer served.reply r in (
         w.failed,
         if-some (text_for o before.source) (λ t. Alike served.text t) (λ t. HasFailed o before after t)
-            (λ t a. record { out = w.out; answer = answer-alike served.text t w.out a w.answer; front = w.front })
+            (λ t a. record { out = w.out; answer = answer-alike served.text t w.out a w.is; front = w.front })
             (taken-alike o before.source after.source served.text served.taken),
       )
 
-  read_fault-clause : IsDoneBy o before after answer.status → answer.status ≡ status.TheVariants.ReadFault → Failed before.source after.source × TookNothing before.sink after.sink
+  read_fault-clause : IsDoneBy o before after answer → answer.status ≡ status.TheVariants.ReadFault → Failed before.source after.source × TookNothing before.sink after.sink
   read_fault-clause (inl served) r =
-      absurd (never o before.sink after.sink served.text answer.status status.TheVariants.ReadFault served.reply refl (λ x. cc) (λ x. cc) r)
+      absurd (never o before.sink after.sink served.text answer status.TheVariants.ReadFault served.reply refl (λ x. cc) (λ x. cc) r)
   read_fault-clause (inr (inl is)) r = (is.failed, is.nothing)
-  read_fault-clause (inr (inr is)) r = let bad : status.TheVariants.Memory ≡ status.TheVariants.ReadFault = sym is.memory ∙ r in absurd cc
+  read_fault-clause (inr (inr is)) r = let bad : status.TheVariants.Memory ≡ status.TheVariants.ReadFault = sym (status_at answer _ is.memory) ∙ r in absurd cc
 
-  memory-clause : IsDoneBy o before after answer.status → answer.status ≡ status.TheVariants.Memory → TookNothing before.sink after.sink
-  memory-clause (inl served) r = starved o before.sink after.sink served.text answer.status served.reply r
+  memory-clause : IsDoneBy o before after answer → answer.status ≡ status.TheVariants.Memory → TookNothing before.sink after.sink
+  memory-clause (inl served) r = starved-nothing o before.sink after.sink served.text answer served.reply r
   memory-clause (inr (inl is)) r = is.nothing
   memory-clause (inr (inr is)) r = is.nothing
 
-  usage-clause : IsDoneBy o before after answer.status → answer.status ≢ status.TheVariants.Usage
+  usage-clause : IsDoneBy o before after answer → answer.status ≢ status.TheVariants.Usage
   usage-clause (inl served) r =
-      never o before.sink after.sink served.text answer.status status.TheVariants.Usage served.reply refl (λ x. cc) (λ x. cc) r
-  usage-clause (inr (inl is)) r = let bad : status.TheVariants.ReadFault ≡ status.TheVariants.Usage = sym is.fault ∙ r in cc
-  usage-clause (inr (inr is)) r = let bad : status.TheVariants.Memory ≡ status.TheVariants.Usage = sym is.memory ∙ r in cc
+      never o before.sink after.sink served.text answer status.TheVariants.Usage served.reply refl (λ x. cc) (λ x. cc) r
+  usage-clause (inr (inl is)) r = let bad : status.TheVariants.ReadFault ≡ status.TheVariants.Usage = sym (status_at answer _ is.fault) ∙ r in cc
+  usage-clause (inr (inr is)) r = let bad : status.TheVariants.Memory ≡ status.TheVariants.Usage = sym (status_at answer _ is.memory) ∙ r in cc
 
-  complete-clause : IsDoneBy o before after answer.status → (t : List ℕ) → text_for o before.source ≡ Some t → (Failed before.source after.source → ⊥) → (Failed before.sink after.sink → ⊥)
+  no_run-clause : IsDoneBy o before after answer → (IsOutcome answer.status → ⊥) → answer.run ≡ None
+  no_run-clause (inl served) none = replied-no_run o before.sink after.sink served.text answer served.reply none
+  no_run-clause (inr (inl is)) none = run_at answer _ is.fault
+  no_run-clause (inr (inr is)) none = run_at answer _ is.memory
+
+  complete-clause : IsDoneBy o before after answer → (t : List ℕ) → text_for o before.source ≡ Some t → (Failed before.source after.source → ⊥) → (Failed before.sink after.sink → ⊥)
       → HasStatus o t answer.status ⊎ (answer.status ≡ status.TheVariants.Memory)
   complete-clause (inr (inl is)) t e calm_source calm_sink = absurd (calm_source is.failed)
-  complete-clause (inr (inr is)) t e calm_source calm_sink = inr is.memory
+  complete-clause (inr (inr is)) t e calm_source calm_sink = inr (status_at answer _ is.memory)
   complete-clause (inl served) t e calm_source calm_sink =
-      by_reply (finished o before.sink after.sink served.text answer.status served.reply calm_sink)
+      by_reply (finished o before.sink after.sink served.text answer served.reply calm_sink)
     where
       by_reply : HasStatus o served.text answer.status ⊎ (answer.status ≡ status.TheVariants.Memory) → HasStatus o t answer.status ⊎ (answer.status ≡ status.TheVariants.Memory)
       by_reply (inr m) = inr m
@@ -175,15 +206,17 @@ module _ (o : Options) (before after : Devices) (answer : Answer) where
 no_options : (o : Options) (x : Option Options) → x ≡ Some o → x ≡ None → ⊥
 no_options o x e f = cc
 
-same_options : (o p : Options) (x : Option Options) → x ≡ Some o → x ≡ Some p → o ≡ p
+pub same_options : (o p : Options) (x : Option Options) → x ≡ Some o → x ≡ Some p → o ≡ p
 same_options o p x e f = cc
 
 -- words that ask for options
-pub serves-options : (words : List (List ℕ)) (o : Options) (before after : Devices) (answer : Answer) → options_of words ≡ Some o → IsDoneBy o before after answer.status
+pub serves-options : (words : List (List ℕ)) (o : Options) (before after : Devices) (answer : Answer) → options_of words ≡ Some o → IsDoneBy o before after answer
     → (most_read o.mode ≡ None → IsUntouched before.source after.source) → Serves words before after answer
 serves-options words o before after answer e h unread =
     record {
       done = λ is. record { options = o; asked = e; text = done-clause o before after answer h is };
+      handed_back = λ is. subst (λ (x : Option Options). IfSome x (λ p. HandsBack p answer)) (sym e) (handed_back-clause o before after answer h is);
+      no_run = no_run-clause o before after answer h;
       usage = λ r. absurd (usage-clause o before after answer h r);
       usage_comes = λ none. absurd (no_options o (options_of words) e none);
       refused = λ r. record { options = o; asked = e; text = refused-clause o before after answer h r };
@@ -203,10 +236,13 @@ serves-options words o before after answer e h unread =
 
 -- words that are refused
 pub serves-usage : (words : List (List ℕ)) (before after : Devices) (answer : Answer) → options_of words ≡ None → IsUntouched before.source after.source
-    → IsFinished before.sink after.sink usage_line status.TheVariants.Usage answer.status → Serves words before after answer
-serves-usage words before after answer none untouched (inl (e, took)) =
+    → IsFinished before.sink after.sink (answered status.TheVariants.Usage usage_line) answer → Serves words before after answer
+serves-usage words before after answer none untouched (inl (is, took)) =
+    let e = status_at answer _ is in
     record {
-      done = λ is. let plain = outcome-other answer.status is in let bad : other answer.status ≡ true = ap other e in absurd cc;
+      done = λ given. let plain = outcome-other answer.status given in let bad : other answer.status ≡ true = ap other e in absurd cc;
+      handed_back = λ given. let plain = outcome-other answer.status given in let bad : other answer.status ≡ true = ap other e in absurd cc;
+      no_run = λ _. run_at answer _ is;
       usage = λ r. (none, took);
       usage_comes = λ _. inl e;
       refused = λ r. let bad : status.TheVariants.Usage ≡ status.TheVariants.SourceRefused = sym e ∙ r in absurd cc;
@@ -216,9 +252,12 @@ serves-usage words before after answer none untouched (inl (e, took)) =
       unread = λ _. untouched;
       complete = λ o f. absurd (no_options o (options_of words) f none);
     }
-serves-usage words before after answer none untouched (inr (e, failed, front)) =
+serves-usage words before after answer none untouched (inr (is, failed, front)) =
+    let e = status_at answer _ is in
     record {
-      done = λ is. let plain = outcome-other answer.status is in let bad : other answer.status ≡ true = ap other e in absurd cc;
+      done = λ given. let plain = outcome-other answer.status given in let bad : other answer.status ≡ true = ap other e in absurd cc;
+      handed_back = λ given. let plain = outcome-other answer.status given in let bad : other answer.status ≡ true = ap other e in absurd cc;
+      no_run = λ _. run_at answer _ is;
       usage = λ r. let bad : status.TheVariants.WriteFault ≡ status.TheVariants.Usage = sym e ∙ r in absurd cc;
       usage_comes = λ _. inr (inr (e, failed));
       refused = λ r. let bad : status.TheVariants.WriteFault ≡ status.TheVariants.SourceRefused = sym e ∙ r in absurd cc;
@@ -231,10 +270,13 @@ serves-usage words before after answer none untouched (inr (e, failed, front)) =
 
 -- words for which there was no memory
 pub serves-memory : (words : List (List ℕ)) (before after : Devices) (answer : Answer) → IsUntouched before.source after.source → TookNothing before.sink after.sink
-    → answer.status ≡ status.TheVariants.Memory → Serves words before after answer
-serves-memory words before after answer untouched nothing e =
+    → answer ≡ bare status.TheVariants.Memory → Serves words before after answer
+serves-memory words before after answer untouched nothing is =
+    let e = status_at answer _ is in
     record {
-      done = λ is. let plain = outcome-other answer.status is in let bad : other answer.status ≡ true = ap other e in absurd cc;
+      done = λ given. let plain = outcome-other answer.status given in let bad : other answer.status ≡ true = ap other e in absurd cc;
+      handed_back = λ given. let plain = outcome-other answer.status given in let bad : other answer.status ≡ true = ap other e in absurd cc;
+      no_run = λ _. run_at answer _ is;
       usage = λ r. let bad : status.TheVariants.Memory ≡ status.TheVariants.Usage = sym e ∙ r in absurd cc;
       usage_comes = λ _. inr (inl e);
       refused = λ r. let bad : status.TheVariants.Memory ≡ status.TheVariants.SourceRefused = sym e ∙ r in absurd cc;
@@ -242,5 +284,5 @@ serves-memory words before after answer untouched nothing e =
       write_fault = λ r. let bad : status.TheVariants.Memory ≡ status.TheVariants.WriteFault = sym e ∙ r in absurd cc;
       memory = λ r. nothing;
       unread = λ _. untouched;
-      complete = λ o f text is calm_source calm_sink. inr e;
+      complete = λ o f text told calm_source calm_sink. inr e;
     }

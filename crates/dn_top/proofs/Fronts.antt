@@ -8,7 +8,7 @@ use Rattle.region_table.specs.Program.{ProgramParts}
 use Rattle.command_words.specs.declared.options.Mode.{Mode}
 use Rattle.command_words.specs.declared.options.Mode as mode
 use Rattle.command_words.specs.declared.options.Options.{Options}
-use Rattle.dn_top.specs.declared.answers.Output.{Output}
+use Rattle.dn_top.specs.declared.output.Output.{Output}
 use Rattle.dn_top.specs.Answers.{HasProgram, HasChecked, IsNoProgram, IsUnfit, done_in, refused_in, most_read}
 use Rattle.dn_top.specs.Outside.{Device, IsRead}
 use Rattle.dn_top.specs.Serving.{text_by, text_for, read_by, taken_by, IsTaken}

@@ -1,5 +1,5 @@
 -- The statuses of answers.
-use Rattle.std.proofs.Common.{◌≡◌, inl, inr, ℕ, Bool, true, false, List, refl, sym, ap, ◌∙◌}
+use Rattle.std.proofs.Common.{◌≡◌, inl, inr, ℕ, Bool, true, false, List, None, IfSome, is_some, refl, sym, ap, subst, ◌∙◌}
 use Rattle.dn_base.specs.declared.status.Status.{Status}
 use Rattle.dn_base.specs.declared.status.Status as status
 use Rattle.dn_base.specs.declared.status.Outcome.{Outcome}
@@ -8,8 +8,9 @@ use Rattle.dn_base.specs.Status.{status_of}
 use Rattle.command_words.specs.declared.options.Mode.{Mode}
 use Rattle.command_words.specs.declared.options.Mode as mode
 use Rattle.command_words.specs.declared.options.Options.{Options}
-use Rattle.dn_top.specs.declared.answers.Output.{Output}
-use Rattle.dn_top.specs.Answers.{done_in, IsDone, IsRefusal, IsAnswer, IsOutcome}
+use Rattle.dn_top.specs.declared.output.Output.{Output}
+use Rattle.dn_top.specs.Serving.{IsRunWith}
+use Rattle.dn_top.specs.Answers.{done_in, makes_run, IsDone, IsRefusal, IsAnswer, IsOutcome}
 
 -- whether a status is a refusal's
 refuses : Status → Bool
@@ -37,7 +38,7 @@ refuses_of outcome.TheVariants.Trapped = refl
 refuses_of outcome.TheVariants.Fuel = refl
 refuses_of outcome.TheVariants.Stuck = refl
 
-outcome_refused : (s : Status) → IsOutcome s → s ≡ status.TheVariants.SourceRefused → ⊥
+pub outcome_refused : (s : Status) → IsOutcome s → s ≡ status.TheVariants.SourceRefused → ⊥
 unfolding refuses
 outcome_refused s (o, e) r = let no_refusal : refuses status.TheVariants.SourceRefused ≡ false = ap refuses (sym r ∙ e) ∙ refuses_of o in cc
 
@@ -49,8 +50,8 @@ status_in out p e = ap (λ (x : Output). x.status) e
 
 -- what was done has an outcome's status
 done_outcome : (m : Mode) (o : Options) (text : List ℕ) (out : Output) → done_in m o text out → IsOutcome out.status
-done_outcome mode.TheVariants.Run o text out h = (h.holds.end.ending.outcome, status_in out _ h.holds.answer)
-done_outcome mode.TheVariants.Work o text out h = (h.holds.end.ending.outcome, status_in out _ h.holds.answer)
+done_outcome mode.TheVariants.Run o text out h = (h.holds.run.ending.outcome, status_in out _ h.holds.answer)
+done_outcome mode.TheVariants.Work o text out h = (h.holds.run.ending.outcome, status_in out _ h.holds.answer)
 done_outcome mode.TheVariants.Check o text out h = (outcome.TheVariants.Done, status_in out _ h.holds)
 done_outcome mode.TheVariants.List o text out h = (outcome.TheVariants.Done, status_in out _ h.holds.answer)
 done_outcome mode.TheVariants.Flat o text out h = (h.holds.end.ending.outcome, status_in out _ h.holds.answer)
@@ -59,6 +60,32 @@ done_outcome mode.TheVariants.Flat o text out h = (h.holds.end.ending.outcome, s
 pub answer-other : (o : Options) (text : List ℕ) (out : Output) → IsAnswer o text out → other out.status ≡ false
 answer-other o text out (inl done) = outcome-other out.status (done_outcome o.mode o text out done)
 answer-other o text out (inr was) = ap other (status_in out _ was.answer)
+
+-- what was done hands a run back exactly in the modes that make one
+pub done-comes : (m : Mode) (o : Options) (text : List ℕ) (out : Output) → done_in m o text out → is_some out.run ≡ makes_run m
+done-comes mode.TheVariants.Run o text out h = ap (λ (x : Output). is_some x.run) h.holds.answer
+done-comes mode.TheVariants.Work o text out h = ap (λ (x : Output). is_some x.run) h.holds.answer
+done-comes mode.TheVariants.Check o text out h = ap (λ (x : Output). is_some x.run) h.holds
+done-comes mode.TheVariants.List o text out h = ap (λ (x : Output). is_some x.run) h.holds.answer
+done-comes mode.TheVariants.Flat o text out h = ap (λ (x : Output). is_some x.run) h.holds.answer
+
+-- the run is one that the options ask for
+abbrev RunsWell : Options → Output → Type 0
+RunsWell o out = IfSome out.run (IsRunWith o out.status)
+
+pub done-run : (m : Mode) (o : Options) (text : List ℕ) (out : Output) → done_in m o text out → IfSome out.run (IsRunWith o out.status)
+done-run mode.TheVariants.Run o text out h =
+    subst (RunsWell o) (sym h.holds.answer) (record { program = h.program; checked = h.checked; run = h.holds.is; ends = refl })
+done-run mode.TheVariants.Work o text out h =
+    subst (RunsWell o) (sym h.holds.answer) (record { program = h.program; checked = h.checked; run = h.holds.is; ends = refl })
+done-run mode.TheVariants.Check o text out h = subst (RunsWell o) (sym h.holds) tt
+done-run mode.TheVariants.List o text out h = subst (RunsWell o) (sym h.holds.answer) tt
+done-run mode.TheVariants.Flat o text out h = subst (RunsWell o) (sym h.holds.answer) tt
+
+-- an answer with another status hands no run back
+pub answer-no_run : (o : Options) (text : List ℕ) (out : Output) → IsAnswer o text out → (IsOutcome out.status → ⊥) → out.run ≡ None
+answer-no_run o text out (inl done) none = absurd (none (done_outcome o.mode o text out done))
+answer-no_run o text out (inr was) none = ap (λ (x : Output). x.run) was.answer
 
 -- an answer with an outcome's status says what was done, and one with the other that the text was refused
 pub answer-done : (o : Options) (text : List ℕ) (out : Output) → IsAnswer o text out → IsOutcome out.status → IsDone o text out

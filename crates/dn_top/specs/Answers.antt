@@ -1,5 +1,5 @@
 -- What the program answers to options and a text.
-use Rattle.std.specs.Prelude.{◌≡◌, ◌⊎◌, ℕ, List, ◌++◌, Option, Some, None, Ok, Err}
+use Rattle.std.specs.Prelude.{◌≡◌, ◌⊎◌, ℕ, Bool, true, false, List, ◌++◌, Option, Some, None, Ok, Err}
 use Rattle.dn_base.specs.declared.ids.Grant.{Grant}
 use Rattle.dn_base.specs.declared.status.Status.{Status}
 use Rattle.dn_base.specs.declared.status.Status as status
@@ -13,7 +13,6 @@ use Rattle.rv_listing.specs.Listing.{listed_lines, listed}
 use Rattle.effect_checker.specs.declared.fault.CheckFault.{CheckFault}
 use Rattle.effect_checker.specs.Checked.{IsChecked}
 use Rattle.effect_checker.specs.Faults.{IsLeastFault}
-use Rattle.rv_core.specs.declared.ending.Ending.{Ending}
 use Rattle.flat_machine.specs.declared.ending.FlatEnd.{FlatEnd}
 use Rattle.flat_machine.specs.Grants.{IsLeast}
 use Rattle.flat_machine.specs.Ending.{flat_end}
@@ -21,13 +20,14 @@ use Rattle.run_report.specs.declared.refusal.Refusal as refusal
 use Rattle.run_report.specs.Answer.{answer_of}
 use Rattle.run_report.specs.Grants.{grants_of}
 use Rattle.run_report.specs.Refusal.{refusal_of}
-use Rattle.run_report.specs.Summary.{summary_of, checked_of}
+use Rattle.run_report.specs.Summary.{checked_of}
 use Rattle.command_words.specs.declared.options.Mode.{Mode}
 use Rattle.command_words.specs.declared.options.Mode as mode
 use Rattle.command_words.specs.declared.options.Options.{Options}
-use Rattle.dn_top.specs.declared.answers.Output.{Output}
+use Rattle.dn_top.specs.declared.output.Output.{Output}
 use Rattle.dn_top.specs.declared.answers.Stop.{Stop}
 use Rattle.dn_top.specs.declared.answers.Stop as stop
+use Rattle.dn_top.specs.Runs.{IsMachineRun, reported, summed_up}
 
 -- ---- a text, its program and its check
 
@@ -67,24 +67,17 @@ IsStop IsLine stop.TheVariants.Memory = Unit {0}
 
 -- ---- what is done with a program
 
--- a status, and all that is written
+-- a status, and all that is written; no run of the machine is handed back
 abbrev pub answered : Status → List ℕ → Output
-answered status bytes = record { status = status; bytes = bytes }
+answered status bytes = record { status = status; bytes = bytes; run = None }
 
--- a program's run on one flat memory by the least list of grants, and what it is printed as
-pub record IsFlatRun (program : ProgramParts) (fuel : ℕ) (print : Ending → List Grant → List ℕ) (out : Output) : Type 0 where
+-- a program's run on one flat memory by the least list of grants, printed as its answer and the grants
+pub record IsFlatRun (program : ProgramParts) (fuel : ℕ) (out : Output) : Type 0 where
   pub grants : List Grant
   pub least : IsLeast program fuel grants
   pub end : FlatEnd
   pub flat : flat_end program fuel grants ≡ Some end
-  pub answer : out ≡ answered (status_of end.ending.outcome) (print end.ending grants)
-
--- a run is printed as the answer and the grants, or summed up
-abbrev pub answer_and_grants : Ending → List Grant → List ℕ
-answer_and_grants ending grants = answer_of ending ++ grants_of grants
-
-abbrev pub summed_up : Ending → List Grant → List ℕ
-summed_up ending grants = summary_of ending
+  pub answer : out ≡ answered (status_of end.ending.outcome) (answer_of end.ending ++ grants_of grants)
 
 -- the program's listing, which is a text of just this program, if it is within the limits of a text
 pub record IsListing (program : ProgramParts) (out : Output) : Type 0 where
@@ -95,11 +88,11 @@ pub record IsListing (program : ProgramParts) (out : Output) : Type 0 where
 
 -- what each mode does with a text
 abbrev pub done_in : Mode → Options → List ℕ → Output → Type 0
-done_in mode.TheVariants.Run o text out = HasChecked text (λ P. IsFlatRun P o.fuel answer_and_grants out)
-done_in mode.TheVariants.Work o text out = HasChecked text (λ P. IsFlatRun P o.fuel summed_up out)
+done_in mode.TheVariants.Run o text out = HasChecked text (λ P. IsMachineRun P o reported out)
+done_in mode.TheVariants.Work o text out = HasChecked text (λ P. IsMachineRun P o summed_up out)
 done_in mode.TheVariants.Check o text out = HasChecked text (λ P. out ≡ answered status.TheVariants.Done (checked_of P))
 done_in mode.TheVariants.List o text out = HasProgram text (λ P. IsListing P out)
-done_in mode.TheVariants.Flat o text out = HasChecked text (λ P. IsFlatRun P o.fuel answer_and_grants out)
+done_in mode.TheVariants.Flat o text out = HasChecked text (λ P. IsFlatRun P o.fuel out)
 
 -- which texts each mode refuses, and with which line
 abbrev pub refused_in : Mode → List ℕ → List ℕ → Type 0
@@ -116,6 +109,14 @@ most_read mode.TheVariants.Work = None
 most_read mode.TheVariants.Check = Some 1048577
 most_read mode.TheVariants.List = Some 1048577
 most_read mode.TheVariants.Flat = Some 1048577
+
+-- whether a mode runs the multicore machine, and so hands a run back
+abbrev pub makes_run : Mode → Bool
+makes_run mode.TheVariants.Run = true
+makes_run mode.TheVariants.Work = true
+makes_run mode.TheVariants.Check = false
+makes_run mode.TheVariants.List = false
+makes_run mode.TheVariants.Flat = false
 
 -- ---- answers
 

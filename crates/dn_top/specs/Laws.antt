@@ -1,16 +1,23 @@
 -- What the laws of the program speak of.
-use Rattle.std.specs.Prelude.{◌≡◌, ℕ, true, List, slice_get, Some, None}
+use Rattle.std.specs.Prelude.{◌≡◌, ◌⊎◌, ℕ, true, List, slice_get, Some, None}
 use Rattle.std.specs.List.{Any}
 use Rattle.dn_base.specs.declared.ids.Grant.{Grant}
 use Rattle.dn_base.specs.declared.status.Outcome as outcome
+use Rattle.dn_base.specs.declared.status.Status as status
 use Rattle.region_table.specs.Program.{ProgramParts}
 use Rattle.rv_core.specs.declared.ending.Ending.{Ending}
 use Rattle.rv_core.specs.declared.ending.TaskEnd.{TaskEnd}
 use Rattle.flat_machine.specs.Step.{Started}
 use Rattle.flat_machine.specs.Phases.{Flat}
 use Rattle.flat_machine.specs.Grants.{so_far}
-use Rattle.flat_machine.specs.Ending.{is_waiting}
+use Rattle.rv_core.specs.Ending.{is_waiting}
 use Rattle.flat_machine.specs.Laws.{IsOutOfFuel, IsHeldUp}
+use Rattle.command_words.specs.declared.options.Options.{Options}
+use Rattle.command_words.specs.Command.{options_of}
+use Rattle.dn_top.specs.declared.serving.Answer.{Answer}
+use Rattle.dn_top.specs.Answers.{IsOutcome}
+use Rattle.dn_top.specs.Outside.{Devices, Took}
+use Rattle.dn_top.specs.Serving.{text_for, Serves}
 
 -- why a run ends as it does: where it ran out of fuel some task did, after just as many instructions as it may retire, and
 -- none trapped or waits; each task that hasn't ended wants a lock that another task of its phase holds; and where the run is
@@ -21,3 +28,26 @@ pub record IsCaused (program : ProgramParts) (fuel : ℕ) (grants : List Grant) 
   pub reached : so_far program fuel grants ≡ Some machine
   pub held_up : (i : ℕ) (r : Started) → slice_get machine.tasks i ≡ Some r → r.state.end ≡ None → IsHeldUp program fuel machine.tasks i r
   pub stuck : ending.outcome ≡ outcome.TheVariants.Stuck → Any (λ (t : TaskEnd). is_waiting t.end ≡ true) ending.tasks
+
+-- ---- calls
+
+-- a call of the program: what its devices were and are, and its answer
+pub record Call : Type 0 where
+  pub before : Devices
+  pub after : Devices
+  pub answer : Answer
+
+-- its words ask for these options, this is the text that they are about, and its exit code is that of an outcome or of a refusal
+pub record IsAnswered (o : Options) (text : List ℕ) (c : Call) : Type 0 where
+  pub words : List (List ℕ)
+  pub asked : options_of words ≡ Some o
+  pub about : text_for o c.before.source ≡ Some text
+  pub serves : Serves words c.before c.after c.answer
+  pub ends : IsOutcome c.answer.status ⊎ (c.answer.status ≡ status.TheVariants.SourceRefused)
+
+-- two calls end with the same status, hand the same run back if any, and their sinks took the same bytes
+pub record GaveOneOutput (c d : Call) : Type 0 where
+  pub answer : c.answer ≡ d.answer
+  pub bytes : List ℕ
+  pub first : Took c.before.sink c.after.sink bytes
+  pub second : Took d.before.sink d.after.sink bytes

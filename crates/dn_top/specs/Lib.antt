@@ -1,4 +1,5 @@
 pub mod Answers
 pub mod Laws
 pub mod Outside
+pub mod Runs
 pub mod Serving

@@ -1,13 +1,18 @@
 -- What a call of the program reads and writes, and what its status says of that.
-use Rattle.std.specs.Prelude.{◌≡◌, ◌⊎◌, ℕ, List, [], Option, Some, None, IfSome, option_and_then}
+use Rattle.std.specs.Prelude.{◌≡◌, ◌⊎◌, ℕ, List, [], Option, Some, None, IfSome, is_some, option_and_then}
 use Rattle.dn_base.specs.declared.status.Status.{Status}
 use Rattle.dn_base.specs.declared.status.Status as status
+use Rattle.dn_base.specs.Status.{status_of}
+use Rattle.region_table.specs.Program.{ProgramParts}
+use Rattle.effect_checker.specs.Checked.{IsChecked}
+use Rattle.dn_machine.specs.declared.record.RunRecord.{RunRecord}
 use Rattle.work_gen.specs.Work.{work_of}
 use Rattle.command_words.specs.declared.options.Options.{Options}
 use Rattle.command_words.specs.Command.{options_of}
-use Rattle.dn_top.specs.declared.answers.Output.{Output}
+use Rattle.dn_top.specs.declared.output.Output.{Output}
 use Rattle.dn_top.specs.declared.serving.Answer.{Answer}
-use Rattle.dn_top.specs.Answers.{most_read, IsDone, IsRefusal, IsAnswer, IsOutcome, usage_line}
+use Rattle.dn_top.specs.Answers.{most_read, makes_run, IsDone, IsRefusal, IsAnswer, IsOutcome, usage_line}
+use Rattle.dn_top.specs.Runs.{IsRunOf}
 use Rattle.dn_top.specs.Outside.{Device, Devices, Failed, IsUntouched, IsRead, Took, TookNothing, TookFront}
 
 -- ---- the text of a call
@@ -34,13 +39,14 @@ pub record ForText (words : List (List ℕ)) (source : Device) (Holds : Options 
 -- ---- what a status says of a text
 
 -- of an outcome's status: what the options ask for was done with the text's program, the source was read as the mode wants
--- it, the sink took exactly the answer, and the status is the answer's
+-- it, the sink took exactly the output, and the answer has the output's status and its run
 pub record HasDone (o : Options) (before after : Devices) (text : List ℕ) (answer : Answer) : Type 0 where
   pub out : Output
   pub done : IsDone o text out
   pub read : read_by (most_read o.mode) before.source after.source
   pub took : Took before.sink after.sink out.bytes
   pub ends : answer.status ≡ out.status
+  pub run : answer.run ≡ out.run
 
 -- of a refusal: the text has a fault or its program has, and the sink took the line of the first one
 pub record HasRefused (o : Options) (before after : Devices) (text : List ℕ) : Type 0 where
@@ -65,6 +71,18 @@ abbrev pub has_stopped : Option Options → Devices → Devices → Type 0
 has_stopped None before after = TookFront before.sink after.sink usage_line
 has_stopped (Some o) before after = IfSome (text_for o before.source) (HasFailed o before after)
 
+-- r is a run of a checked program on the machine that the options ask for, and the status is that of its outcome
+pub record IsRunWith (o : Options) (s : Status) (r : RunRecord) : Type 0 where
+  pub program : ProgramParts
+  pub checked : IsChecked program
+  pub run : IsRunOf program o r
+  pub ends : s ≡ status_of r.ending.outcome
+
+-- of an outcome's status: a run is handed back exactly in the modes that make one, and it is one that the options ask for
+pub record HandsBack (o : Options) (answer : Answer) : Type 0 where
+  pub comes : is_some answer.run ≡ makes_run o.mode
+  pub run : IfSome answer.run (IsRunWith o answer.status)
+
 -- how many bytes words have the program read at most: None where they are refused or their mode generates its text
 abbrev pub most_asked : List (List ℕ) → Option ℕ
 most_asked words = option_and_then (λ (o : Options). most_read o.mode) (options_of words)
@@ -75,6 +93,10 @@ most_asked words = option_and_then (λ (o : Options). most_read o.mode) (options
 pub record Serves (words : List (List ℕ)) (before after : Devices) (answer : Answer) : Type 0 where
   -- an outcome comes only where what the words ask for was done with the text, and all of the answer was written
   pub done : IsOutcome answer.status → ForText words before.source (λ o text. HasDone o before after text answer)
+  -- there a run is handed back exactly in the modes run and work, also where the source doesn't tell its text
+  pub handed_back : IsOutcome answer.status → IfSome (options_of words) (λ o. HandsBack o answer)
+  -- with any other status no run is handed back
+  pub no_run : ¬ IsOutcome answer.status → answer.run ≡ None
   -- Usage comes only where the words aren't the command's, and the line that says so was written
   pub usage : answer.status ≡ status.TheVariants.Usage → (options_of words ≡ None) × Took before.sink after.sink usage_line
   -- and it comes there, unless the sink failed or there was no memory
@@ -97,25 +119,32 @@ pub record Serves (words : List (List ℕ)) (before after : Devices) (answer : A
 
 -- ---- its parts
 
--- the bytes were written and the status is the one that was wanted, or the sink failed and took a front of them
-abbrev pub IsFinished : Device → Device → List ℕ → Status → Status → Type 0
-IsFinished before after bytes wanted s =
-    ((s ≡ wanted) × Took before after bytes)
-    ⊎ ((s ≡ status.TheVariants.WriteFault) × Failed before after × TookFront before after bytes)
+-- the answer of an output that was written, and one that is a status alone
+abbrev pub answer_to : Output → Answer
+answer_to out = record { status = out.status; run = out.run }
 
--- the answer to a text was made, and written as far as the sink took it
-pub record IsGiven (o : Options) (before after : Device) (text : List ℕ) (s : Status) : Type 0 where
+abbrev pub bare : Status → Answer
+bare s = record { status = s; run = None }
+
+-- the output was written and the answer is its status and run, or the sink failed and took a front of its bytes
+abbrev pub IsFinished : Device → Device → Output → Answer → Type 0
+IsFinished before after out answer =
+    ((answer ≡ answer_to out) × Took before after out.bytes)
+    ⊎ ((answer ≡ bare status.TheVariants.WriteFault) × Failed before after × TookFront before after out.bytes)
+
+-- the output for a text was made, and written as far as the sink took it
+pub record IsGiven (o : Options) (before after : Device) (text : List ℕ) (answer : Answer) : Type 0 where
   pub out : Output
-  pub answer : IsAnswer o text out
-  pub finished : IsFinished before after out.bytes out.status s
+  pub is : IsAnswer o text out
+  pub finished : IsFinished before after out answer
 
 -- there was no memory, and nothing was written
-pub record IsStarved (before after : Device) (s : Status) : Type 0 where
-  pub memory : s ≡ status.TheVariants.Memory
+pub record IsStarved (before after : Device) (answer : Answer) : Type 0 where
+  pub memory : answer ≡ bare status.TheVariants.Memory
   pub nothing : TookNothing before after
 
-abbrev pub IsReplied : Options → Device → Device → List ℕ → Status → Type 0
-IsReplied o before after text s = IsGiven o before after text s ⊎ IsStarved before after s
+abbrev pub IsReplied : Options → Device → Device → List ℕ → Answer → Type 0
+IsReplied o before after text answer = IsGiven o before after text answer ⊎ IsStarved before after answer
 
 -- the text was generated, or it was read
 abbrev pub taken_by : Option ℕ → ℕ → Device → Device → List ℕ → Type 0
@@ -126,17 +155,17 @@ abbrev pub IsTaken : Options → Device → Device → List ℕ → Type 0
 IsTaken o before after text = taken_by (most_read o.mode) o.size before after text
 
 -- the text was taken and replied to
-pub record IsServed (o : Options) (before after : Devices) (s : Status) : Type 0 where
+pub record IsServed (o : Options) (before after : Devices) (answer : Answer) : Type 0 where
   pub text : List ℕ
   pub taken : IsTaken o before.source after.source text
-  pub reply : IsReplied o before.sink after.sink text s
+  pub reply : IsReplied o before.sink after.sink text answer
 
 -- the source failed, and nothing was written
-pub record IsUnread (before after : Devices) (s : Status) : Type 0 where
-  pub fault : s ≡ status.TheVariants.ReadFault
+pub record IsUnread (before after : Devices) (answer : Answer) : Type 0 where
+  pub fault : answer ≡ bare status.TheVariants.ReadFault
   pub failed : Failed before.source after.source
   pub nothing : TookNothing before.sink after.sink
 
 -- a call that was given options ended: their text was replied to, or there was none
-abbrev pub IsDoneBy : Options → Devices → Devices → Status → Type 0
-IsDoneBy o before after s = IsServed o before after s ⊎ (IsUnread before after s ⊎ IsStarved before.sink after.sink s)
+abbrev pub IsDoneBy : Options → Devices → Devices → Answer → Type 0
+IsDoneBy o before after answer = IsServed o before after answer ⊎ (IsUnread before after answer ⊎ IsStarved before.sink after.sink answer)

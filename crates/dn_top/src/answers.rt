@@ -1,5 +1,4 @@
 ghost use Rattle.std.specs.Prelude.{◌≡◌, ◌≢◌, ◌≤◌, Ok, IfOk, IfErr};
-ghost use Rattle.dn_base.specs.Status.{status_of};
 ghost use Rattle.rv_assembler.specs.declared.fault.SourceFault.TheVariants.{Memory as NoMemory};
 ghost use Rattle.region_table.specs.Program.{names_of};
 ghost use Rattle.rv_assembler.specs.Names.{AreDeclaredNames};
@@ -9,24 +8,19 @@ ghost use Rattle.run_report.specs.declared.refusal.Refusal.TheVariants.{Source a
 ghost use Rattle.run_report.specs.Refusal.{refusal_of};
 ghost use Rattle.run_report.specs.Summary.{checked_of as counts_of};
 ghost use Rattle.command_words.specs.Command.{IsWithinLimits};
-ghost use Rattle.dn_top.specs.Answers.{IsAnswer, IsFlatRun, IsListing, IsNoProgram, IsStop, IsUnfit, answer_and_grants, answered, done_in, refused_in, summed_up};
+ghost use Rattle.dn_top.specs.Answers.{IsAnswer, IsFlatRun, IsListing, IsNoProgram, IsStop, IsUnfit, answered, done_in, refused_in};
 
+use crate::output::{Output, ended};
+use crate::runs::{report_run, sum_up_run};
 use command_words::{Mode, Options};
 use dn_base::{Memory, Outcome, Sequence, Status};
 use effect_checker::{Checked, check};
 use flat_machine::least_run;
 use region_table::Program;
-use run_report::{Refusal, answer_text, checked_line, grant_text, refusal_line, summary};
+use run_report::{Refusal, answer_text, checked_line, grant_text, refusal_line};
 use rv_assembler::{SourceFault, assemble};
 use rv_listing::listing;
 use std::alloc::Global;
-
-/// A status, and all that is to be written.
-#[derive(Debug, Drop)]
-pub struct Output {
-    pub status: Status,
-    pub bytes: Sequence<u8>,
-}
 
 /// Why nothing is done with a text.
 #[derive(Debug, Drop)]
@@ -83,36 +77,15 @@ fn checked_of(alloc: Global, text: &[u8]) -> Result<Checked, Stop>
     }
 }
 
-/// The output that something ended so, with this text.
-fn ended(outcome: Outcome, text: Vec<u8>) -> Output
-    ensures { result ≡ answered (status_of outcome) text.items }
-{
-    Output {
-        status: Status::from(outcome),
-        bytes: Sequence::from_vec(text),
-    }
-}
-
 /// Runs a program on one flat memory, and prints its answer and the grants.
-fn run(alloc: Global, fuel: u32, checked: &Checked) -> Result<Output, Memory>
+fn run_flat(alloc: Global, fuel: u32, checked: &Checked) -> Result<Output, Memory>
     requires least { 1 ≤ fuel }
     requires most { fuel ≤ 32768 }
-    ensures { IfOk result (IsFlatRun checked.now fuel answer_and_grants) }
+    ensures { IfOk result (IsFlatRun checked.now fuel) }
 {
     let run = least_run(alloc, checked, fuel)?;
     let mut text = answer_text(alloc, &run.end.ending)?;
     text.extend_from_slice(grant_text(alloc, run.grants.as_slice())?.as_slice())?;
-    Ok(ended(run.end.ending.outcome, text))
-}
-
-/// Runs a program on one flat memory, and sums up.
-fn sum_up(alloc: Global, fuel: u32, checked: &Checked) -> Result<Output, Memory>
-    requires least { 1 ≤ fuel }
-    requires most { fuel ≤ 32768 }
-    ensures { IfOk result (IsFlatRun checked.now fuel summed_up) }
-{
-    let run = least_run(alloc, checked, fuel)?;
-    let text = summary(alloc, &run.end.ending)?;
     Ok(ended(run.end.ending.outcome, text))
 }
 
@@ -138,11 +111,11 @@ fn done_by(alloc: Global, options: &Options, text: &[u8]) -> Result<Output, Stop
     ensures stop { IfErr result (IsStop (refused_in options.now.mode text.now)) }
 {
     match options.mode {
-        Mode::Run => Ok(run(alloc, options.fuel, &checked_of(alloc, text)?)?),
-        Mode::Work => Ok(sum_up(alloc, options.fuel, &checked_of(alloc, text)?)?),
+        Mode::Run => Ok(report_run(alloc, options, checked_of(alloc, text)?)?),
+        Mode::Work => Ok(sum_up_run(alloc, options, checked_of(alloc, text)?)?),
         Mode::Check => Ok(count(alloc, checked_of(alloc, text)?.program())?),
         Mode::List => Ok(list(alloc, &program_of(alloc, text)?)?),
-        Mode::Flat => Ok(run(alloc, options.fuel, &checked_of(alloc, text)?)?),
+        Mode::Flat => Ok(run_flat(alloc, options.fuel, &checked_of(alloc, text)?)?),
     }
 }
 
@@ -159,6 +132,7 @@ pub(crate) fn output_of(alloc: Global, options: &Options, text: &[u8]) -> Result
         Err(Stop::Refused(line)) => Ok(Output {
             status: Status::SourceRefused,
             bytes: line,
+            run: None,
         }),
         Err(Stop::Memory) => Err(Memory),
     }

@@ -12,23 +12,30 @@ use std::thread::Threads;
 
 mod answers;
 mod laws;
+mod output;
 mod reading;
+mod runs;
 mod serving;
 #[cfg(test)]
 mod tests;
 mod writing;
 
 pub use command_words::{Mode, Options, WordsFault, read_words};
-pub use laws::an_outcome_has_its_cause;
+pub use dn_machine::RunRecord;
+pub use laws::{
+    an_outcome_has_its_cause, the_output_is_a_function_of_source_and_options,
+    without_locks_every_run_ends_alike,
+};
 pub use serving::Answer;
-use serving::{answer_options, refuse_words};
+use serving::{answer_options, refuse_words, status_only};
 
 /// Answers these command words and this source on one thread.
 ///
 /// `Usage` where the words aren't the command's. In the mode work the text is the generated one of the size that is asked
 /// for; in the others the source is read whole, or one byte past the most that a text may have. The text is taken as a
-/// program, which is checked in all modes but list; it is run on one flat memory by the least list of grants in the modes
-/// run, work and flat. The whole answer is made, and only then written and flushed. What refuses first decides.
+/// program, which is checked in all modes but list. In the modes run and work it is run on the multicore machine of the shape
+/// that is asked for, by the events that the seed picks, and the run is handed back; in the mode flat it is run on one flat
+/// memory by the least list of grants. The whole answer is made, and only then written and flushed. What refuses first decides.
 pub fn answer_words<S: Source, K: Sink>(
     alloc: Global,
     words: &[String],
@@ -42,15 +49,14 @@ pub fn answer_words<S: Source, K: Sink>(
     match read_words(alloc, words) {
         Ok(options) => answer_options(alloc, &options, source, sink),
         Err(WordsFault::Usage) => refuse_words(sink),
-        Err(WordsFault::Memory) => Answer {
-            status: Status::Memory,
-        },
+        Err(WordsFault::Memory) => status_only(Status::Memory),
     }
 }
 
 /// The whole program but its `main`: answers these command words and this source.
 ///
-/// Every run is made by one thread on one flat memory for now, so that the runtime and the gate aren't used.
+/// A run of the multicore machine is made by one host thread for now, whatever number of workers is asked for, so that the
+/// runtime and the gate aren't used.
 pub fn denovo_main<R: Threads + Wait + Sync, S: Source, K: Sink, G: Gate + Sync>(
     _rt: &R,
     alloc: Global,

@@ -1,0 +1,151 @@
+-- The run of an opened machine is the run that options ask for, and can be printed.
+use Rattle.std.proofs.Common.{◌≡◌, ℕ, suc, ◌<◌, ◌≤◌, List, [], ◌∷◌, ◌++◌, length, take, drop, Some, refl, sym, ap, subst, ◌∙◌, arith, length-append}
+use Rattle.std.specs.Option.{option_map}
+use Rattle.std.proofs.lemmas.List.{take-append-drop, length-map}
+use Rattle.std.proofs.lemmas.Grind.{flat_map-append}
+use Rattle.std.proofs.lemmas.List.FromFn.{length-map-range_with_len}
+use Rattle.dn_base.specs.declared.ids.Grant.{Grant}
+use Rattle.region_table.specs.Program.{ProgramParts, tasks_of, IsProgram}
+use Rattle.region_table.specs.Plan.{ArePlans}
+use Rattle.region_table.specs.declared.declared.Phase.{Phase}
+use Rattle.rv_core.specs.declared.ending.Ending.{Ending}
+use Rattle.message_net.specs.declared.event.Event.{Event}
+use Rattle.grant_log.proofs.TotalLemmas.{all_counted}
+use Rattle.registration_protocol.specs.Node.{Setting}
+use Rattle.flat_machine.specs.declared.ending.FlatEnd.{FlatEnd}
+use Rattle.flat_machine.specs.Step.{Started}
+use Rattle.flat_machine.specs.Phases.{all_tasks}
+use Rattle.flat_machine.specs.Ending.{flat_end, task_end}
+use Rattle.flat_machine.proofs.CauseLemmas.{run-ended}
+use Rattle.flat_machine.proofs.ReachedLaws.{reached-tasks}
+use Rattle.flat_machine.proofs.RunLemmas.{alone-only}
+use Rattle.machine_rules.specs.State.{State, opened}
+use Rattle.machine_rules.specs.Memory.{memory_of, word_value}
+use Rattle.machine_rules.specs.Next.{next}
+use Rattle.machine_rules.specs.Runs.{after, kinds_of, grants_of}
+use Rattle.machine_rules.proofs.RunsKept.{run-setting}
+use Rattle.machine_rules.proofs.OpenedFacts.{opened-setting}
+use Rattle.run_agreement.specs.Ends.{HasFlatEnd}
+use Rattle.dn_machine.specs.Kept.{Made, IsKept, IsOpened}
+use Rattle.dn_machine.specs.Run.{IsRecord, IsRunOf as IsSeedsRun}
+use Rattle.dn_machine.specs.declared.record.RunRecord.{RunRecord}
+use Rattle.command_words.specs.declared.options.Options.{Options}
+use Rattle.dn_top.specs.Runs.{shape_for, ending_alone, IsSettingFor, HasFlatRun, IsWithoutGrants, IsRunOf, IsPrintable}
+
+-- ---- the size of an ending
+
+front-less : (k : ℕ) (phases : List Phase) → length (tasks_of (take k phases)) ≤ length (tasks_of phases)
+front-less k phases =
+    let parts : tasks_of phases ≡ tasks_of (take k phases) ++ tasks_of (drop k phases) =
+    ap tasks_of (sym (take-append-drop k phases)) ∙ flat_map-append (λ (p : Phase). p.tasks) (take k phases) (drop k phases)
+    in
+    let long = ap length parts in
+    omega (arith, long, length-append (tasks_of (take k phases)) (tasks_of (drop k phases)))
+
+-- the flat machine's run has no more tasks than the program
+ended-tasks : (P : ProgramParts) (fuel : ℕ) (gs : List Grant) (e : FlatEnd) → flat_end P fuel gs ≡ Some e → length e.ending.tasks ≤ length (tasks_of P.phases)
+ended-tasks P fuel gs e is =
+    let last = run-ended P fuel gs e is in
+    let has = reached-tasks P fuel gs last.last last.leads in
+    let tasks = all_tasks last.last in
+    let shown : length e.ending.tasks ≡ length tasks = ap length last.tasks ∙ length-map tasks (task_end P fuel) in
+    let declared : length tasks ≡ length (tasks_of (take last.last.begun P.phases)) =
+    sym (length-map tasks (λ (r : Started). r.decl)) ∙ ap length has.all
+    in
+    omega (arith, shown, declared, front-less last.last.begun P.phases)
+
+-- a state shows as many words as the program has
+shown-words : (S : State) (events : List Event) → length (memory_of (after S events)) ≡ length S.setting.program.memory
+shown-words S events =
+    length-map-range_with_len (word_value (after S events)) 0 (length (after S events).setting.program.memory)
+    ∙ ap (λ (C : Setting). length C.program.memory) (run-setting S events)
+
+kinds-length : (S : State) (events : List Event) → length (kinds_of S events) ≡ length events
+kinds-length S [] = refl
+kinds-length S (e ∷ es) = ap suc (kinds-length (next S e) es)
+
+-- ---- a run without locks
+
+without-grants : (P : ProgramParts) (fuel : ℕ) (gs : List Grant) (e : FlatEnd) → length P.locks ≡ 0 → flat_end P fuel gs ≡ Some e → gs ≡ []
+without-grants P fuel [] e none is = refl
+without-grants P fuel (g ∷ gs) e none is = let no_run = alone-only P fuel g gs none in absurd cc
+
+-- ---- the run
+
+-- what the machine says of a run, said of the setting that it was opened in
+module _ (P : ProgramParts) (o : Options) (C : Setting) (r : RunRecord) where
+  -- the flat machine's run by the grants that the record has
+  has-flat_run : IsRecord (opened C) o.seed r → HasFlatEnd C r.events → HasFlatRun C r
+  has-flat_run is flat =
+      record {
+        end' = flat.end';
+        value = ap (λ (gs : List Grant). flat_end C.program C.fuel gs) is.granted ∙ flat.run;
+        loads = flat.loads;
+        ending = flat.ending ∙ sym is.ends;
+      }
+
+  -- without locks there is no grant, and one end
+  has-no_grants : IsSettingFor P o C → HasFlatRun C r → P.locks ≡ [] → IsWithoutGrants P o.fuel r
+  has-no_grants asked flat none =
+      let no_locks : length P.locks ≡ 0 = ap length none in
+      let value : flat_end P o.fuel r.grants ≡ Some flat.end' =
+      ap (λ (p : ProgramParts). flat_end p o.fuel r.grants) (sym asked.program)
+      ∙ ap (λ (fuel : ℕ). flat_end C.program fuel r.grants) (sym asked.fuel)
+      ∙ flat.value
+      in
+      let empty : r.grants ≡ [] = without-grants P o.fuel r.grants flat.end' no_locks value in
+      record {
+        grants = empty;
+        ending =
+            ap (λ (gs : List Grant). option_map (λ (e : FlatEnd). e.ending) (flat_end P o.fuel gs)) (sym empty)
+            ∙ ap (option_map (λ (e : FlatEnd). e.ending)) value
+            ∙ ap Some flat.ending;
+      }
+
+  run-of : IsSettingFor P o C → IsSeedsRun (opened C) o.seed r → HasFlatEnd C r.events → length r.counts.kinds ≡ 17 → IsRunOf P o r
+  run-of asked machine flat each =
+      let by_grants = has-flat_run machine.is_true flat in
+      record { setting = C; asked = asked; machine = machine; each_kind = each; flat = by_grants; lock_free = has-no_grants asked by_grants }
+
+  can-print : IsProgram C.program → IsRecord (opened C) o.seed r → HasFlatEnd C r.events → length r.counts.kinds ≡ 17 → length r.events < 18446744073709551616 → IsPrintable r
+  can-print program is flat kinds few =
+      let memory = ap (λ (e : Ending). length e.memory) is.ends ∙ shown-words (opened C) r.events ∙ ap (λ (D : Setting). length D.program.memory) (opened-setting C) in
+      let tasks = ap (λ (e : Ending). length e.tasks) (is.ends ∙ sym flat.ending) in
+      let most = ended-tasks C.program C.fuel (grants_of (opened C) r.events) flat.end' flat.run in
+      let all = all_counted (kinds_of (opened C) r.events) r.counts kinds is.counted ∙ kinds-length (opened C) r.events in
+      record {
+        words = omega (arith, memory, program.memory);
+        tasks = omega (arith, tasks, most, program.tasks);
+        events = omega (arith, all, few);
+      }
+
+-- ---- from what the calls of the machine say
+
+module _ (P : ProgramParts) (o : Options) (m : Made) (r : RunRecord) where
+  at-opened : (Holds : State → Type 0) → IsOpened P (shape_for P o) o.fuel m → Holds m.state → Holds (opened m.state.setting)
+  at-opened Holds at h = subst Holds at.state h
+
+  asked-for : IsOpened P (shape_for P o) o.fuel m → IsKept m.state m.made → IsSettingFor P o m.state.setting
+  asked-for at kept =
+      record {
+        program = at.program_is;
+        plans = subst (λ (p : ProgramParts). ArePlans p m.state.setting.plans) at.program_is kept.sound.machine.context.plans;
+        one_form = at.plans_are;
+        shape = at.shape_is;
+        fuel = at.fuel_is;
+      }
+
+  pub is-run_of : IsOpened P (shape_for P o) o.fuel m → IsKept m.state m.made → IsSeedsRun m.state o.seed r → length r.counts.kinds ≡ 17 → IsRunOf P o r
+  is-run_of at kept run each = run-of P o m.state.setting r (asked-for at kept) (at-opened (λ S. IsSeedsRun S o.seed r) at run) run.flat each
+
+  pub is-printable : IsOpened P (shape_for P o) o.fuel m → IsKept m.state m.made → IsRecord m.state o.seed r → HasFlatEnd m.state.setting r.events → length r.counts.kinds ≡ 17
+      → length r.events < 18446744073709551616 → IsPrintable r
+  is-printable at kept is flat kinds few =
+      can-print P o m.state.setting r kept.sound.machine.program (at-opened (λ S. IsRecord S o.seed r) at is) flat kinds few
+
+-- ---- two runs without locks
+
+pub ends-alike : (P : ProgramParts) (o p : Options) (r s : RunRecord) → IsRunOf P o r → IsRunOf P p s → P.locks ≡ [] → o.fuel ≡ p.fuel → r.ending ≡ s.ending
+ends-alike P o p r s first second none fuel =
+    let one : Some r.ending ≡ Some s.ending = sym (first.lock_free none).ending ∙ ap (ending_alone P) fuel ∙ (second.lock_free none).ending in
+    cc

@@ -1,0 +1,96 @@
+-- A program's run on the multicore machine: what is promised of it, and how it is printed.
+use Rattle.std.specs.Prelude.{◌≡◌, ℕ, ◌<◌, ◌≤◌, List, [], length, sum, Option, Some}
+use Rattle.std.specs.Option.{option_map}
+use Rattle.dn_base.specs.declared.ids.Shape.{Shape}
+use Rattle.dn_base.specs.Status.{status_of}
+use Rattle.region_table.specs.Program.{ProgramParts, cores_of}
+use Rattle.region_table.specs.Plan.{ArePlans}
+use Rattle.rv_core.specs.declared.ending.Ending.{Ending}
+use Rattle.registration_protocol.specs.Node.{Setting}
+use Rattle.flat_machine.specs.declared.ending.FlatEnd.{FlatEnd}
+use Rattle.flat_machine.specs.Ending.{flat_end}
+use Rattle.machine_rules.specs.State.{opened}
+use Rattle.machine_rules.specs.Runs.{all_loads}
+use Rattle.dn_machine.specs.Plans.{AreInOneForm}
+use Rattle.dn_machine.specs.Run.{IsRunOf as IsSeedsRun}
+use Rattle.dn_machine.specs.declared.record.RunRecord.{RunRecord}
+use Rattle.run_report.specs.Run.{report_of}
+use Rattle.run_report.specs.Summary.{summary_of}
+use Rattle.command_words.specs.declared.options.Options.{Options}
+use Rattle.dn_top.specs.declared.output.Output.{Output}
+
+-- ---- the machine that options ask for
+
+-- it has as many cores as the program needs, and the banks, sets and ways of the options
+abbrev pub shape_for : ProgramParts → Options → Shape
+shape_for P o = record { cores = cores_of P; banks = o.banks; sets = o.sets; ways = o.ways }
+
+-- what the machine is told: the program, its plans, that shape, and the fuel of the options; a program and options have one
+-- such setting
+pub record IsSettingFor (P : ProgramParts) (o : Options) (C : Setting) : Type 0 where
+  pub program : C.program ≡ P
+  pub plans : ArePlans P C.plans
+  -- each set of words of the plans is the one list of intervals that has its words
+  pub one_form : AreInOneForm C.plans
+  pub shape : C.shape ≡ shape_for P o
+  pub fuel : C.fuel ≡ o.fuel
+
+-- ---- one thread on one memory
+
+-- the flat machine's run by the grants of r has an end: its loads are those of r's events, task by task, and its ending, which
+-- is the memory, the ends of the tasks and the outcome, is that of r
+pub record HasFlatRun (C : Setting) (r : RunRecord) : Type 0 where
+  pub end' : FlatEnd
+  pub value : flat_end C.program C.fuel r.grants ≡ Some end'
+  pub loads : end'.loads ≡ all_loads (opened C) r.events
+  pub ending : end'.ending ≡ r.ending
+
+-- how the flat machine's run by no grants ends: nothing but the program and the fuel decides it
+abbrev pub ending_alone : ProgramParts → ℕ → Option Ending
+ending_alone P fuel = option_map (λ (e : FlatEnd). e.ending) (flat_end P fuel [])
+
+-- r has no grants, and ends as the flat machine's run by none
+pub record IsWithoutGrants (P : ProgramParts) (fuel : ℕ) (r : RunRecord) : Type 0 where
+  pub grants : r.grants ≡ []
+  pub ending : ending_alone P fuel ≡ Some r.ending
+
+-- ---- a run
+
+-- r is the run of the program P on the machine that the options ask for
+pub record IsRunOf (P : ProgramParts) (o : Options) (r : RunRecord) : Type 0 where
+  pub setting : Setting
+  pub asked : IsSettingFor P o setting
+  -- its events are those of the seed: a complete run of the opened machine, at rest behind it, coherent after each of them, whose
+  -- loads are fronts of one thread's; and its grants, counts and ending are read off them
+  pub machine : IsSeedsRun (opened setting) o.seed r
+  -- there is a count of each of the seventeen kinds of event
+  pub each_kind : length r.counts.kinds ≡ 17
+  -- one thread on one memory that takes the critical sections in the order of its grants loads the same and ends the same
+  pub flat : HasFlatRun setting r
+  -- without locks the program and the fuel alone decide how it ends
+  pub lock_free : P.locks ≡ [] → IsWithoutGrants P o.fuel r
+
+-- ---- its output
+
+-- the output that hands a run back with these words: its status is that of the outcome
+abbrev pub output_of_run : List ℕ → RunRecord → Output
+output_of_run bytes run = record { status = status_of run.ending.outcome; bytes = bytes; run = Some run }
+
+-- a run is printed as its answer, its grants and its counts, or summed up
+abbrev pub reported : RunRecord → List ℕ
+reported r = report_of r.ending r.grants r.counts
+
+abbrev pub summed_up : RunRecord → List ℕ
+summed_up r = summary_of r.ending
+
+-- the program was run: the output hands the run back, says it in these words, and has the status of its outcome
+pub record IsMachineRun (P : ProgramParts) (o : Options) (print : RunRecord → List ℕ) (out : Output) : Type 0 where
+  pub run : RunRecord
+  pub is : IsRunOf P o run
+  pub answer : out ≡ output_of_run (print run) run
+
+-- a run that has no more words, tasks and events than can be printed
+pub record IsPrintable (r : RunRecord) : Type 0 where
+  pub words : length r.ending.memory ≤ 65536
+  pub tasks : length r.ending.tasks ≤ 64
+  pub events : sum r.counts.kinds < 18446744073709551616

@@ -1,0 +1,86 @@
+ghost use Rattle.std.specs.Prelude.{◌≡◌, length, IfOk};
+ghost use Rattle.command_words.specs.Command.{IsWithinLimits};
+ghost use Rattle.dn_top.specs.Runs.{IsMachineRun, IsPrintable, IsRunOf, output_of_run, reported, shape_for, summed_up};
+
+use crate::output::Output;
+use command_words::Options;
+use dn_base::{Memory, Sequence, Shape, Status};
+use dn_machine::{Machine, RunRecord, a_machine_is_kept};
+use effect_checker::Checked;
+use grant_log::Counts;
+use region_table::Program;
+use run_report::{report, summary};
+use std::alloc::Global;
+
+/// The shape that the options ask for: as many cores as the program needs, and their banks, sets and ways.
+fn shape_of(options: &Options, program: &Program) -> Shape
+    ensures { result ≡ shape_for program.now options.now }
+{
+    Shape {
+        cores: program.cores(),
+        banks: options.banks,
+        sets: options.sets,
+        ways: options.ways,
+    }
+}
+
+/// There is a count of each of the seventeen kinds.
+fn has_each_kind(counts: &Counts)
+    ensures { length counts.now.kinds ≡ 17 }
+{
+    let _kinds = &counts.kinds;
+}
+
+/// Runs a checked program on the machine that the options ask for, by their seed.
+fn machine_run(alloc: Global, options: &Options, checked: Checked) -> Result<RunRecord, Memory>
+    requires { IsWithinLimits options.now }
+    ensures run { IfOk result (IsRunOf checked options.now) }
+    ensures printable { IfOk result IsPrintable }
+{
+    let shape = shape_of(options, checked.program());
+    let machine = Machine::start(alloc, checked, shape, options.fuel)?;
+    a_machine_is_kept(&machine);
+    let run = machine.run(alloc, options.seed)?;
+    let _events = run.events.len();
+    has_each_kind(&run.counts);
+    Ok(run)
+}
+
+/// The output that hands a run back, with this text.
+fn handed_back(text: Vec<u8>, run: RunRecord) -> Output
+    ensures { result ≡ output_of_run text.items run }
+{
+    Output {
+        status: Status::from(run.ending.outcome),
+        bytes: Sequence::from_vec(text),
+        run: Some(run),
+    }
+}
+
+/// Runs a program on the machine, and prints its answer, its grants and its counts.
+pub(crate) fn report_run(
+    alloc: Global,
+    options: &Options,
+    checked: Checked,
+) -> Result<Output, Memory>
+    requires { IsWithinLimits options.now }
+    ensures { IfOk result (IsMachineRun checked options.now reported) }
+{
+    let run = machine_run(alloc, options, checked)?;
+    let text = report(alloc, &run.ending, run.grants.as_slice(), &run.counts)?;
+    Ok(handed_back(text, run))
+}
+
+/// Runs a program on the machine, and sums up.
+pub(crate) fn sum_up_run(
+    alloc: Global,
+    options: &Options,
+    checked: Checked,
+) -> Result<Output, Memory>
+    requires { IsWithinLimits options.now }
+    ensures { IfOk result (IsMachineRun checked options.now summed_up) }
+{
+    let run = machine_run(alloc, options, checked)?;
+    let text = summary(alloc, &run.ending)?;
+    Ok(handed_back(text, run))
+}
