@@ -12,8 +12,12 @@ IsAsWanted case got = (case.exit ≡ got.exit) × StandIn case.output.items got.
 
 -- one more case agrees, and nothing is said of it
 abbrev pub Agrees : Report → Report → Type 0
-Agrees old new = (new.agree ≡ raised old.agree) × (new.differ ≡ old.differ) × (new.lines ≡ old.lines)
+Agrees old new = (new.agree ≡ raised old.agree) × (new.runs ≡ old.runs) × (new.differ ≡ old.differ) × (new.lines ≡ old.lines)
 
--- one more case differs
+-- one more run agrees with the flat machine, and nothing is said of it
+abbrev pub RunAgrees : Report → Report → Type 0
+RunAgrees old new = (new.agree ≡ old.agree) × (new.runs ≡ raised old.runs) × (new.differ ≡ old.differ) × (new.lines ≡ old.lines)
+
+-- one more case differs, or its run does
 abbrev pub Differs : Report → Report → Type 0
-Differs old new = (new.agree ≡ old.agree) × (new.differ ≡ raised old.differ)
+Differs old new = (new.agree ≡ old.agree) × (new.runs ≡ old.runs) × (new.differ ≡ raised old.differ)

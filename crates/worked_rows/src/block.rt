@@ -27,6 +27,16 @@ pub fn push_copies(
     Ok(())
 }
 
+/// Adds a line for each grant, which is given as its phase, core and lock with points between them.
+pub fn push_grants(alloc: Global, out: &mut Vec<u8>, grants: &str) -> Result<(), AllocError> {
+    for grant in grants.split_whitespace() {
+        let grant = grant.replace(alloc, ".", " ")?;
+        let line = format!(in alloc; "grant {}", grant.as_str())?;
+        push_line(out, line.as_str())?;
+    }
+    Ok(())
+}
+
 /// So many copies of these bytes.
 #[tactic(auto, using(crate::proofs::RepeatLemmas::repeat_more))]
 pub fn copies(alloc: Global, bytes: &[u8], count: u32) -> Result<Vec<u8>, AllocError>

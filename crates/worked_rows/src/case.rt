@@ -1,7 +1,9 @@
 ghost use Rattle.std.specs.Prelude.{◌<◌};
 
-use crate::block::{copies, push_copies, push_line};
+use crate::block::{copies, push_copies, push_grants, push_line};
+use crate::kinds::{counts, push_counts};
 use crate::numbers::{bytes, exit_code, number, numbers, positive};
+use crate::script::{ScriptLine, script_line};
 use crate::sections::is_silent;
 use crate::texts::Texts;
 use crate::trouble::{BadForm, Trouble};
@@ -26,6 +28,8 @@ pub struct Case {
     pub per_write: u32,
     /// The numbers of the writes and flushes that fail.
     pub failing_writes: Vec<u32>,
+    /// The events that the machine makes in place of a run, where they are given.
+    pub script: Option<Vec<ScriptLine>>,
     /// The exit code.
     pub exit: u8,
     /// The parts of what is written, between which any lines may stand.
@@ -40,6 +44,7 @@ enum Open {
     Nothing,
     Text,
     Output,
+    Script,
 }
 
 /// A case of which some lines were read.
@@ -51,6 +56,8 @@ pub struct Draft {
     open: Open,
     /// The part of the text or output that is open.
     part: Vec<u8>,
+    /// How many lines were taken.
+    lines: usize,
     alloc: Global,
 }
 
@@ -65,6 +72,7 @@ impl Case {
             room: 4_194_304,
             per_write: 4_096,
             failing_writes: Vec::new(alloc),
+            script: None,
             exit: 0,
             output: Vec::new(alloc),
         }
@@ -79,29 +87,46 @@ impl Draft {
             given: Vec::new(alloc),
             open: Open::Nothing,
             part: Vec::new(alloc),
+            lines: 0,
             alloc,
         }
     }
 
     /// Takes the next line.
     pub fn take(&mut self, texts: &Texts, line: &str) -> Result<(), Trouble> {
+        let place = self.lines;
+        self.lines = place.saturating_add(1);
         if is_silent(line) {
             return Ok(());
         }
         if let Some(content) = line.strip_prefix("  ") {
-            self.is_open()?;
-            push_line(&mut self.part, content)?;
-            return Ok(());
+            return self.take_content(place, content);
         }
         let (keyword, rest) = line.split_once(' ').unwrap_or((line, ""));
         match keyword {
-            "repeat" | "part" | "bytes" | "times" | "front" | "..." => self.add(keyword, rest),
+            "repeat" | "part" | "bytes" | "times" | "front" | "grants" | "counts" | "..." => {
+                self.add(keyword, rest)
+            }
             _ => {
                 self.close()?;
                 self.give(keyword)?;
                 self.set(texts, keyword, rest)
             }
         }
+    }
+
+    /// Takes a line of a text, an output or a script.
+    fn take_content(&mut self, place: usize, content: &str) -> Result<(), Trouble> {
+        match &mut self.case.script {
+            Some(script) if self.open == Open::Script => {
+                script.push(script_line(self.alloc, place, content)?)?;
+            }
+            _ => {
+                self.is_open()?;
+                push_line(&mut self.part, content)?;
+            }
+        }
+        Ok(())
     }
 
     /// Notes a keyword, which wasn't given before.
@@ -121,8 +146,8 @@ impl Draft {
     /// That a text or an output is open.
     fn is_open(&self) -> Result<(), Trouble> {
         match self.open {
-            Open::Nothing => Err(Trouble::Form(BadForm::NoBlock)),
-            _ => Ok(()),
+            Open::Text | Open::Output => Ok(()),
+            Open::Nothing | Open::Script => Err(Trouble::Form(BadForm::NoBlock)),
         }
     }
 
@@ -130,7 +155,7 @@ impl Draft {
     fn close(&mut self) -> Result<(), Trouble> {
         let part = mem::replace(&mut self.part, Vec::new(self.alloc));
         match self.open {
-            Open::Nothing => {}
+            Open::Nothing | Open::Script => {}
             Open::Text => self.case.text = part,
             Open::Output => self.case.output.push(Sequence::from_vec(part))?,
         }
@@ -153,6 +178,8 @@ impl Draft {
             }
             "times" => self.part = copies(self.alloc, self.part.as_slice(), number(rest)?)?,
             "front" => return self.cut(number(rest)?),
+            "grants" => push_grants(self.alloc, &mut self.part, rest)?,
+            "counts" => push_counts(self.alloc, &mut self.part, &counts(rest)?)?,
             _ => return self.leave_out(),
         }
         Ok(())
@@ -187,6 +214,11 @@ impl Draft {
             "output" => {
                 self.open = Open::Output;
                 self.begin_with(texts, rest)
+            }
+            "script" if rest.is_empty() => {
+                self.open = Open::Script;
+                self.case.script = Some(Vec::new(self.alloc));
+                Ok(())
             }
             _ => self.set_value(keyword, rest),
         }

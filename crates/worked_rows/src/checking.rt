@@ -1,20 +1,16 @@
 use crate::case::{Case, Draft};
+use crate::comparing::compare;
+use crate::playing::play;
 use crate::report::Report;
 use crate::rows::{filled, rows};
-use crate::running::run;
+use crate::running::{Got, run};
 use crate::sections::{Section, behind, is_silent, sections};
 use crate::texts::{Named, Texts};
-use crate::trouble::{BadForm, Trouble};
+use crate::trouble::{BadForm, Stop, Trouble};
 use dn_base::Memory;
+use dn_machine::RunRecord;
 use std::alloc::Global;
 use std::str;
-
-/// The line of a case at which it turned out that it can't be run, counted from 0, and why.
-#[derive(Clone, Copy)]
-struct Stop {
-    place: usize,
-    why: Trouble,
-}
 
 /// Runs the cases of all files whose names end in `.cases`.
 pub fn check_all(alloc: Global, files: &[Named]) -> Result<Report, Memory> {
@@ -132,24 +128,72 @@ fn check_case(
     texts: &Texts,
     report: &mut Report,
 ) -> Result<Vec<u8>, Memory> {
-    match read_case(alloc, lines, row, texts) {
-        Ok(case) => {
+    let case = match read_case(alloc, lines, row, texts) {
+        Ok(case) => case,
+        Err(stop) => {
+            add_stop(alloc, place, stop, report)?;
+            return Ok(Vec::new(alloc));
+        }
+    };
+    match answer(alloc, &case) {
+        Ok(got) => {
             let label = label(alloc, place, row)?;
-            let got = run(alloc, &case)?;
+            report.reach.add(got.bytes.as_slice());
             report.add(alloc, label.as_str(), &case, &got)?;
-            Ok(case.text)
+            if let Some(run) = &got.run {
+                check_run(alloc, label.as_str(), &case, run, report)?;
+            }
         }
-        Err(
-            Stop {
-                place: at,
-                why: Trouble::Form(why),
-            },
-        ) => {
-            let line = place.first.saturating_add(at).saturating_add(1);
+        Err(stop) => add_stop(alloc, place, stop, report)?,
+    }
+    Ok(case.text)
+}
+
+/// Compares the run of a case with the flat machine's by its grants.
+fn check_run(
+    alloc: Global,
+    label: &str,
+    case: &Case,
+    run: &RunRecord,
+    report: &mut Report,
+) -> Result<(), Memory> {
+    match compare(alloc, case, run) {
+        Ok(Some(comparison)) => report.add_run(alloc, label, comparison)?,
+        Ok(None) => {}
+        Err(Trouble::Form(why)) => report.add_bad(alloc, label, 0, why)?,
+        Err(Trouble::Memory) => return Err(Memory),
+    }
+    Ok(())
+}
+
+/// Runs the program on a case, or makes the events of its script.
+fn answer(alloc: Global, case: &Case) -> Result<Got, Stop> {
+    match &case.script {
+        Some(script) => play(alloc, case, script.as_slice()),
+        None => match run(alloc, case) {
+            Ok(got) => Ok(got),
+            Err(Memory) => Err(Stop {
+                place: 0,
+                why: Trouble::Memory,
+            }),
+        },
+    }
+}
+
+/// Notes that a case wasn't run to its end.
+fn add_stop(
+    alloc: Global,
+    place: &Place<'_>,
+    stop: Stop,
+    report: &mut Report,
+) -> Result<(), Memory> {
+    match stop.why {
+        Trouble::Form(why) => {
+            let line = place.first.saturating_add(stop.place).saturating_add(1);
             report.add_bad(alloc, place.file, line, why)?;
-            Ok(Vec::new(alloc))
+            Ok(())
         }
-        Err(_) => Err(Memory),
+        Trouble::Memory => Err(Memory),
     }
 }
 

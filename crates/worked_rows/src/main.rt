@@ -1,15 +1,22 @@
-//! Runs the program on each case of the files here, and says which answers aren't those that the case wants.
+//! Runs the program on each case of the files here, and says which answers aren't those that the case wants, which runs aren't
+//! the flat machine's by their grants, and in how many cases events of each kind came.
 #![tactic(auto)]
 
 mod agreement;
 mod block;
 mod case;
 mod checking;
+mod comparing;
 mod files;
+mod kinds;
 mod numbers;
+mod opening;
+mod playing;
+mod reach;
 mod report;
 mod rows;
 mod running;
+mod script;
 mod sections;
 mod texts;
 mod trouble;
@@ -39,7 +46,14 @@ fn main(rt: HostRuntime) -> io::Result<ExitCode> {
     print!(rt; "{}", report.lines.as_str())?;
     let agree = report.agree;
     println!(rt; "{agree} cases agree")?;
-    Ok(if report.differ == 0 {
+    let runs = report.runs;
+    println!(rt; "{runs} runs agree with the flat machine")?;
+    let Ok(reach) = report.reach.lines(alloc) else {
+        println!(rt; "there was no memory")?;
+        return Ok(ExitCode::FAILURE);
+    };
+    print!(rt; "{}", reach.as_str())?;
+    Ok(if report.differ == 0 && report.reach.is_whole() {
         ExitCode::SUCCESS
     } else {
         ExitCode::FAILURE

@@ -1,5 +1,7 @@
 use crate::agreement::stand_in;
 use crate::case::Case;
+use crate::comparing::Comparison;
+use crate::reach::Reach;
 use crate::running::Got;
 use crate::trouble::BadForm;
 use std::alloc::{AllocError, Global};
@@ -8,20 +10,27 @@ use std::alloc::{AllocError, Global};
 #[derive(Drop)]
 pub struct Report {
     pub agree: u64,
+    /// How many runs agree with the flat machine.
+    pub runs: u64,
     pub differ: u64,
     pub lines: String,
+    /// In how many cases events of each kind came.
+    pub reach: Reach,
 }
 
 impl Report {
-    ghost use Rattle.std.specs.Prelude.{OnOk};
-    ghost use Rattle.worked_rows.specs.Verdict.{IsAsWanted, Agrees, Differs};
+    ghost use Rattle.std.specs.Prelude.{◌≡◌, ◌≢◌, OnOk};
+    ghost use Rattle.worked_rows.specs.Verdict.{IsAsWanted, Agrees, Differs, RunAgrees};
+    ghost use Rattle.worked_rows.specs.declared.comparing.Comparison.TheVariants.{Agrees as AgreesWithFlat};
 
     /// The report on no case.
     pub fn new(alloc: Global) -> Report {
         Report {
             agree: 0,
+            runs: 0,
             differ: 0,
             lines: String::new(alloc),
+            reach: Reach::new(),
         }
     }
 
@@ -68,6 +77,31 @@ impl Report {
             let line = output_line(alloc, name, case, got)?;
             self.lines.push_str(line.as_str())?;
         }
+        Ok(())
+    }
+
+    /// Adds how the run of a case stands to the flat machine's.
+    pub fn add_run(
+        &mut self,
+        alloc: Global,
+        name: &str,
+        comparison: Comparison,
+    ) -> Result<(), AllocError>
+        ensures agrees { OnOk result (comparison ≡ AgreesWithFlat → RunAgrees self.old self.new) }
+        ensures differs { OnOk result (comparison ≢ AgreesWithFlat → Differs self.old self.new) }
+    {
+        let why = match comparison {
+            Comparison::Agrees => {
+                self.runs = self.runs.saturating_add(1);
+                return Ok(());
+            }
+            Comparison::NoFlatRun => "the flat machine has no run by the grants of this one",
+            Comparison::OtherEnding => "the flat machine ends otherwise by the grants",
+            Comparison::OtherLoads => "the flat machine's tasks load something else by the grants",
+        };
+        self.differ = self.differ.saturating_add(1);
+        let line = format!(in alloc; "{name}: {why}\n")?;
+        self.lines.push_str(line.as_str())?;
         Ok(())
     }
 }

@@ -1,5 +1,6 @@
 use crate::case::Case;
 use dn_base::{Memory, TextSource, VecSink};
+use dn_machine::RunRecord;
 use dn_top::answer_words;
 use std::alloc::Global;
 
@@ -8,6 +9,8 @@ use std::alloc::Global;
 pub struct Got {
     pub exit: u8,
     pub bytes: Vec<u8>,
+    /// The run of the multicore machine, where there was one.
+    pub run: Option<RunRecord>,
 }
 
 /// Runs the program on a case.
@@ -28,5 +31,6 @@ pub fn run(alloc: Global, case: &Case) -> Result<Got, Memory> {
     Ok(Got {
         exit: answer.status.code(),
         bytes: Vec::from_slice(alloc, sink.bytes())?,
+        run: answer.run,
     })
 }

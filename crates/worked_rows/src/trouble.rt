@@ -19,6 +19,13 @@ pub enum BadForm {
     NoExit,
     NoOutput,
     NoText,
+    NoKind,
+    NoEvent,
+    NoMachine,
+    NotNow,
+    NotOver,
+    OtherLoad,
+    OtherWord,
 }
 
 impl BadForm {
@@ -42,6 +49,14 @@ impl BadForm {
             BadForm::NoExit => "the case has no exit code",
             BadForm::NoOutput => "the case has no output",
             BadForm::NoText => "a case file is a text in UTF-8",
+            BadForm::NoKind => "there is no such kind of event",
+            BadForm::NoEvent => "a line of a script is an event, loads or word",
+            BadForm::NoMachine =>
+                "a script wants the command's words and the text of a checked program",
+            BadForm::NotNow => "this event may not come here",
+            BadForm::NotOver => "the script ends here, and the run doesn't",
+            BadForm::OtherLoad => "the event before it completed no such load",
+            BadForm::OtherWord => "the word has another value",
         }
     }
 }
@@ -53,6 +68,13 @@ pub enum Trouble {
     Form(BadForm),
     /// There was no memory.
     Memory,
+}
+
+/// The line of a case at which it turned out that it can't be run, counted from 0, and why.
+#[derive(Clone, Copy)]
+pub struct Stop {
+    pub place: usize,
+    pub why: Trouble,
 }
 
 impl From<Memory> for Trouble {

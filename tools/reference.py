@@ -1,0 +1,1573 @@
+#!/usr/bin/env python3
+"""A second program for the machine: what `denovo` has to write, computed without any of its code.
+
+It is written from docs/PROTOCOL.md, docs/LANGUAGE.md and the rules of the machine, in plain Python 3 with nothing but its
+standard library, and it is no part of the proved program: it stands here so that the outputs in crates/worked_rows/data have
+somewhere else to come from. It takes texts that assemble and check; it refuses none properly.
+
+    tools/reference.py [WORDS] < TEXT       what the program has to write, for the words of the modes run, work and flat
+    tools/reference.py script FILE [WORDS] < TEXT
+                                            the same for a script of events (crates/worked_rows/data/README.md has the form)
+    tools/reference.py trace [WORDS] < TEXT the events of a run, one a line, in the form of a script
+    tools/reference.py cases FOLDER [NAME]  runs the cases of the folder's files, of those modes and of scripts, and says which
+                                            outputs aren't the computed ones, and how many cases reached each kind of event and
+                                            each row of the tables of docs/PROTOCOL.md
+    tools/reference.py text SIZE            the text that the mode work runs for the size
+    tools/reference.py rows                 what a run of the small examples below has to come to, for the seeds 1 to 50
+"""
+import re
+import sys
+
+MASK = 0xFFFFFFFF
+# the rows of the tables of docs/PROTOCOL.md that a run can come to, by the actor
+ROWS = {
+    "core": "local, end, load of a copy, load of an own word, read of a missing word, store to an own word, store to a copy, "
+            "whole store to a missing word, store that a signature notes, acquire, release, eviction of a copy, "
+            "eviction of an own word, arrival, bad arrival, reply, acknowledgement, forward that takes a word, "
+            "forward that finds it elsewhere, read that is answered, read that is sent back, word that is given back, "
+            "grant that drops copies, grant that drops none, go that drops copies, go that drops none, halt",
+    "bank": "read at home, read that is forwarded, registration at home, registration that is forwarded, write-back that is "
+            "taken, late write-back, acquire of a free lock, acquire that waits, release to nobody, release to the next",
+    "keeper": "arrival that waits, last arrival that goes on, last arrival that halts",
+}
+ROWS = ["%s: %s" % (actor, row) for actor, rows in ROWS.items() for row in rows.split(", ")]
+reached_rows = set()
+
+
+def reach(row):
+    reached_rows.add(row)
+
+
+KINDS = ("instr evict arrive read-req read-fwd data-reply reg-req reg-fwd reg-ack write-back wb-ack acquire release grant "
+         "arrived go halt").split()
+
+
+def signed(value, bits=32):
+    value &= (1 << bits) - 1
+    return value - (1 << bits) if value >> (bits - 1) else value
+
+
+# ---------------------------------------------------------------- numbers of a seed
+
+class Pcg32:
+    """The generator PCG XSH RR 64/32, with the seed's 16 bytes filled from a number of 64 bits by the same output function."""
+
+    STEP = 6364136223846793005
+
+    def __init__(self, seed):
+        words = []
+        for _ in range(4):
+            seed = (seed * self.STEP + 11634580027462260723) & 0xFFFFFFFFFFFFFFFF
+            words.append(self.output(seed))
+        self.more = (words[3] << 32 | words[2]) | 1
+        self.state = ((words[1] << 32 | words[0]) + self.more) & 0xFFFFFFFFFFFFFFFF
+        self.advance()
+
+    @staticmethod
+    def output(state):
+        word = (((state >> 18) ^ state) >> 27) & MASK
+        turn = state >> 59
+        return (word >> turn | word << (32 - turn)) & MASK
+
+    def advance(self):
+        self.state = (self.state * self.STEP + self.more) & 0xFFFFFFFFFFFFFFFF
+
+    def next_u32(self):
+        word = self.output(self.state)
+        self.advance()
+        return word
+
+
+# ---------------------------------------------------------------- texts
+
+ABI = {"zero": 0, "ra": 1, "sp": 2, "gp": 3, "tp": 4, "fp": 8}
+ABI.update({"t%d" % n: 5 + n for n in range(3)})
+ABI.update({"t%d" % n: 25 + n for n in range(3, 7)})
+ABI.update({"s%d" % n: 8 + n for n in range(2)})
+ABI.update({"s%d" % n: 16 + n for n in range(2, 12)})
+ABI.update({"a%d" % n: 10 + n for n in range(8)})
+ABI.update({"x%d" % n: n for n in range(32)})
+
+BRANCHES = {"beq": 0, "bne": 1, "blt": 4, "bge": 5, "bltu": 6, "bgeu": 7}
+LOADS = {"lb": 0, "lh": 1, "lw": 2, "lbu": 4, "lhu": 5}
+STORES = {"sb": 0, "sh": 1, "sw": 2}
+SUMS = {"addi": 0, "slti": 2, "sltiu": 3, "xori": 4, "ori": 6, "andi": 7}
+SHIFTS = {"slli": (1, 0), "srli": (5, 0), "srai": (5, 32)}
+PLAIN = {"add": (0, 0), "sub": (0, 32), "sll": (1, 0), "slt": (2, 0), "sltu": (3, 0), "xor": (4, 0), "srl": (5, 0),
+         "sra": (5, 32), "or": (6, 0), "and": (7, 0)}
+
+
+class Task:
+    def __init__(self, core, entry, arg):
+        self.core, self.entry, self.arg = core, entry, arg & MASK
+        self.reads, self.writes = set(), set()
+        self.greads, self.gwrites = {}, {}
+
+
+class Program:
+    def __init__(self):
+        self.code, self.memory, self.regions, self.locks, self.phases = [], [], {}, [], []
+
+    def cores(self):
+        return max([1 + task.core for phase in self.phases for task in phase.values()], default=1)
+
+    def plans(self):
+        """What each phase may have written, and the words that each lock guards in it."""
+        plans = []
+        for phase in self.phases:
+            used, guarded = set(), [set() for _ in self.locks]
+            for task in phase.values():
+                used |= task.writes
+                for lock, words in task.gwrites.items():
+                    used |= words
+                    guarded[lock] |= words
+                for lock, words in task.greads.items():
+                    guarded[lock] |= words
+            written = set()
+            for start, length in self.regions.values():
+                region = set(range(start, start + length))
+                if region & used:
+                    written |= region
+            plans.append((written, guarded))
+        return plans
+
+
+class Unfit(Exception):
+    """The text isn't one that this program takes."""
+
+
+def number(token):
+    if not re.fullmatch(r"-?(0x[0-9a-fA-F]+|[0-9]+)", token):
+        raise Unfit("not a number: " + token)
+    return int(token, 16) if "x" in token else int(token)
+
+
+def is_number(token):
+    return token[0].isdigit() or token[0] == "-"
+
+
+def statements(text):
+    """(label or None, mnemonic or None, operands) of each line; an operand n(r) is the pair of both."""
+    for line in text.split("\n"):
+        tokens = re.findall(r"[A-Za-z_.][\w.]*|[0-9-][\w.]*|[,:()]", line.split("#")[0])
+        label = None
+        if len(tokens) >= 2 and tokens[1] == ":":
+            label, tokens = tokens[0], tokens[2:]
+        operands = []
+        rest = tokens[1:]
+        while rest:
+            if len(rest) >= 4 and rest[1] == "(" and rest[3] == ")":
+                operands.append((rest[0], rest[2]))
+                rest = rest[4:]
+            else:
+                operands.append(rest[0])
+                rest = rest[1:]
+            if rest and rest[0] != ",":
+                raise Unfit("no comma: " + line)
+            rest = rest[1:]
+        yield label, tokens[0] if tokens else None, operands
+
+
+def assemble(text):
+    program = Program()
+    labels, places, place, lines = {}, [], 0, list(statements(text))
+    for label, word, operands in lines:
+        if label is not None:
+            labels[label] = 0x1000 + 4 * place
+        places.append(place)
+        if word == ".region":
+            length = number(operands[1])
+            program.regions[operands[0]] = (len(program.memory), length)
+            program.memory += [0] * length
+        elif word == ".lock":
+            program.locks.append(operands[0])
+        elif word in ("li", "la"):
+            place += 2
+        elif word is not None and (not word.startswith(".") or word == ".raw"):
+            place += 1
+    family = []
+
+    def target(token):
+        return number(token) if is_number(token) else labels[token]
+
+    def offset(token, here):
+        return number(token) if is_number(token) else labels[token] - here
+
+    def constant(r, value):
+        high = ((value + 2048) & MASK) // 4096
+        program.code.append(high << 12 | r << 7 | 0x37)
+        program.code.append((value & 0xFFF) << 20 | r << 15 | r << 7 | 0x13)
+
+    def of_i(imm, a, f3, rd, opcode):
+        program.code.append((imm & 0xFFF) << 20 | a << 15 | f3 << 12 | rd << 7 | opcode)
+
+    def of_r(f7, b, a, f3, rd):
+        program.code.append(f7 << 25 | b << 20 | a << 15 | f3 << 12 | rd << 7 | 0x33)
+
+    def of_b(f3, a, b, imm):
+        program.code.append((imm >> 12 & 1) << 31 | (imm >> 5 & 63) << 25 | b << 20 | a << 15 | f3 << 12
+                            | (imm >> 1 & 15) << 8 | (imm >> 11 & 1) << 7 | 0x63)
+
+    def of_j(rd, imm):
+        program.code.append((imm >> 20 & 1) << 31 | (imm >> 1 & 0x3FF) << 21 | (imm >> 11 & 1) << 20
+                            | (imm >> 12 & 0xFF) << 12 | rd << 7 | 0x6F)
+
+    for (label, word, o), place in zip(lines, places):
+        here = 0x1000 + 4 * place
+        if word is None or word in (".region", ".lock"):
+            continue
+        if word == ".version":
+            if o != ["2"]:
+                raise Unfit("version")
+        elif word == ".word":
+            start, length = program.regions[o[0]]
+            if not 0 <= number(o[1]) < length:
+                raise Unfit("index")
+            program.memory[start + number(o[1])] = number(o[2]) & MASK
+        elif word == ".phase":
+            program.phases.append({})
+            family = []
+        elif word in (".task", ".forall"):
+            if word == ".task":
+                first, many, entry, arg, step = number(o[0]), 1, target(o[1]), number(o[2]), 0
+            else:
+                first, many, entry, arg, step = number(o[0]), number(o[1]), target(o[2]), number(o[3]), number(o[4])
+            family = [Task(first + i, entry, arg + i * step) for i in range(many)]
+            for task in family:
+                if task.core in program.phases[-1] or task.core > 15 or entry % 4:
+                    raise Unfit("core")
+                program.phases[-1][task.core] = task
+        elif word in (".reads", ".writes", ".greads", ".gwrites"):
+            lock = None
+            if word[1] == "g":
+                lock, o = program.locks.index(o[0]), o[1:]
+            start, length = program.regions[o[0]]
+            low, high = (number(o[1]), number(o[2])) if len(o) > 1 else (0, length)
+            step = number(o[3]) if len(o) > 3 else 0
+            for i, task in enumerate(family):
+                if not 0 <= low + i * step < high + i * step <= length:
+                    raise Unfit("interval")
+                words = set(range(start + low + i * step, start + high + i * step))
+                if lock is None:
+                    (task.reads if word == ".reads" else task.writes).update(words)
+                else:
+                    (task.greads if word == ".greads" else task.gwrites).setdefault(lock, set()).update(words)
+            if not family:
+                raise Unfit("effect without a task")
+        elif word == ".raw":
+            program.code.append(number(o[0]) & MASK)
+        elif word == "li":
+            constant(ABI[o[0]], number(o[1]))
+        elif word == "la":
+            name = o[1]
+            constant(ABI[o[0]], 0x10000000 + 4 * program.regions[name][0] if name in program.regions else labels[name])
+        elif word in ("lui", "auipc"):
+            program.code.append(number(o[1]) << 12 | ABI[o[0]] << 7 | (0x37 if word == "lui" else 0x17))
+        elif word == "jal":
+            of_j(ABI[o[0]], offset(o[1], here))
+        elif word == "j":
+            of_j(0, offset(o[0], here))
+        elif word == "jalr":
+            of_i(number(o[1][0]), ABI[o[1][1]], 0, ABI[o[0]], 0x67)
+        elif word == "jr":
+            of_i(0, ABI[o[0]], 0, 0, 0x67)
+        elif word == "ret":
+            of_i(0, 1, 0, 0, 0x67)
+        elif word in BRANCHES:
+            of_b(BRANCHES[word], ABI[o[0]], ABI[o[1]], offset(o[2], here))
+        elif word in ("beqz", "bnez"):
+            of_b(int(word == "bnez"), ABI[o[0]], 0, offset(o[1], here))
+        elif word in LOADS:
+            of_i(number(o[1][0]), ABI[o[1][1]], LOADS[word], ABI[o[0]], 0x03)
+        elif word in STORES:
+            imm = number(o[1][0])
+            program.code.append((imm >> 5 & 0x7F) << 25 | ABI[o[0]] << 20 | ABI[o[1][1]] << 15 | STORES[word] << 12
+                                | (imm & 31) << 7 | 0x23)
+        elif word in SUMS:
+            of_i(number(o[2]), ABI[o[1]], SUMS[word], ABI[o[0]], 0x13)
+        elif word in SHIFTS:
+            f3, f7 = SHIFTS[word]
+            of_i(f7 << 5 | number(o[2]), ABI[o[1]], f3, ABI[o[0]], 0x13)
+        elif word in PLAIN:
+            f3, f7 = PLAIN[word]
+            of_r(f7, ABI[o[2]], ABI[o[1]], f3, ABI[o[0]])
+        elif word == "fence":
+            program.code.append(0x0FF0000F)
+        elif word == "ecall":
+            program.code.append(0x73)
+        elif word == "ebreak":
+            program.code.append(0x100073)
+        elif word == "nop":
+            of_i(0, 0, 0, 0, 0x13)
+        elif word == "mv":
+            of_i(0, ABI[o[1]], 0, ABI[o[0]], 0x13)
+        elif word == "not":
+            of_i(-1, ABI[o[1]], 4, ABI[o[0]], 0x13)
+        elif word == "neg":
+            of_r(32, ABI[o[1]], 0, 0, ABI[o[0]])
+        elif word == "seqz":
+            of_i(1, ABI[o[1]], 3, ABI[o[0]], 0x13)
+        elif word == "snez":
+            of_r(0, ABI[o[1]], 0, 3, ABI[o[0]])
+        else:
+            raise Unfit("unknown word " + word)
+    check(program)
+    return program
+
+
+def check(program):
+    """No two tasks of a phase use a word that one of them writes, and a guarded word has one lock."""
+    for phase in program.phases:
+        guarded = {}
+        for task in phase.values():
+            for lists in (task.greads, task.gwrites):
+                for lock, words in lists.items():
+                    for word in words:
+                        if guarded.setdefault(word, lock) != lock:
+                            raise Unfit("two locks")
+        for a in phase.values():
+            if not guarded.keys().isdisjoint(a.reads | a.writes):
+                raise Unfit("guarded and plain")
+            for b in phase.values():
+                if a is not b and a.writes & (b.reads | b.writes):
+                    raise Unfit("conflict")
+
+
+def work_text(n):
+    c, w = 16 * n, 64 * n
+    out = [".region a, %d" % w, ".region b, %d" % w, ".phase"]
+    for core in range(4):
+        out += [".task %d, init, %d" % (core, core * c), ".writes a, %d, %d" % (core * c, core * c + c)]
+    for entry, source, to in (("first", "a", "b"), ("second", "b", "a")):
+        out.append(".phase")
+        for core in range(4):
+            out += [".task %d, %s, %d" % (core, entry, core * c), ".reads " + source,
+                    ".writes %s, %d, %d" % (to, core * c, core * c + c)]
+    code = """init:
+la t0, a
+slli t1, a0, 2
+add t0, t0, t1
+li t2, [C]
+slli t3, a0, 1
+add t3, t3, a0
+addi t3, t3, 1
+i1:
+sw t3, 0(t0)
+addi t3, t3, 3
+addi t0, t0, 4
+addi t2, t2, -1
+bnez t2, i1
+li a7, 0
+ecall
+first:
+la s0, a
+la s1, b
+j body
+second:
+la s0, b
+la s1, a
+body:
+li t2, [C]
+li t4, [W]
+mv t1, a0
+b1:
+slli t5, t1, 2
+add t6, s0, t5
+lw a1, 0(t6)
+addi t3, t1, 1
+bne t3, t4, b2
+mv t3, zero
+b2:
+slli a2, t3, 2
+add a2, s0, a2
+lw a3, 0(a2)
+add a1, a1, a3
+add t6, s1, t5
+sw a1, 0(t6)
+addi t1, t1, 1
+addi t2, t2, -1
+bnez t2, b1
+li a7, 0
+ecall
+"""
+    return "\n".join(out) + "\n" + code.replace("[C]", str(c)).replace("[W]", str(w))
+
+
+# ---------------------------------------------------------------- one task
+
+def decode(word):
+    """(name, ..) of a code word, or None."""
+    opcode, rd, f3, a, b, f7 = word & 127, word >> 7 & 31, word >> 12 & 7, word >> 15 & 31, word >> 20 & 31, word >> 25
+    imm = signed(word >> 20, 12)
+    if opcode == 0x37:
+        return "const", rd, word & 0xFFFFF000
+    if opcode == 0x17:
+        return "auipc", rd, word & 0xFFFFF000
+    if opcode == 0x6F:
+        return "jal", rd, signed((word >> 31) << 20 | (word >> 12 & 0xFF) << 12 | (word >> 20 & 1) << 11
+                                 | (word >> 21 & 0x3FF) << 1, 21)
+    if opcode == 0x67 and f3 == 0:
+        return "jalr", rd, a, imm
+    if opcode == 0x63 and f3 not in (2, 3):
+        return "branch", f3, a, b, signed((word >> 31) << 12 | (word >> 7 & 1) << 11 | (word >> 25 & 63) << 5
+                                          | (word >> 8 & 15) << 1, 13)
+    if opcode == 0x03 and f3 in (0, 1, 2, 4, 5):
+        return "load", f3, rd, a, imm
+    if opcode == 0x23 and f3 in (0, 1, 2):
+        return "store", f3, b, a, signed(f7 << 5 | rd, 12)
+    if opcode == 0x13:
+        if f3 == 1 and f7 == 0 or f3 == 5 and f7 in (0, 32):
+            return "alui", (f3, f7), rd, a, b
+        if f3 not in (1, 5):
+            return "alui", (f3, 0), rd, a, imm & MASK
+    if opcode == 0x33 and (f7 == 0 or f7 == 32 and f3 in (0, 5)):
+        return "alu", (f3, f7), rd, a, b
+    if opcode == 0x0F and f3 == 0:
+        return ("fence",)
+    if word == 0x73:
+        return ("ecall",)
+    if word == 0x100073:
+        return ("ebreak",)
+    return None
+
+
+def alu(op, a, b):
+    if op == (0, 0):
+        return a + b & MASK
+    if op == (0, 32):
+        return a - b & MASK
+    if op == (1, 0):
+        return a << (b & 31) & MASK
+    if op == (2, 0):
+        return int(signed(a) < signed(b))
+    if op == (3, 0):
+        return int(a < b)
+    if op == (4, 0):
+        return a ^ b
+    if op == (5, 0):
+        return a >> (b & 31)
+    if op == (5, 32):
+        return signed(a) >> (b & 31) & MASK
+    return a | b if op == (6, 0) else a & b
+
+
+def taken(f3, a, b):
+    if f3 >= 6:
+        is_less = a < b
+    elif f3 >= 4:
+        is_less = signed(a) < signed(b)
+    else:
+        return (a == b) != bool(f3)
+    return is_less != bool(f3 & 1)
+
+
+class TaskState:
+    """A task, its registers, and how far it is. `end` is None, or what the report says of its end."""
+
+    def __init__(self, program, decoded, decl, fuel):
+        self.program, self.decoded, self.decl, self.fuel = program, decoded, decl, fuel
+        self.regs, self.pc, self.held, self.retired, self.end = [0] * 32, decl.entry, set(), 0, None
+        self.regs[10] = decl.arg
+
+    def allowed(self, word, is_store):
+        decl = self.decl
+        if word in decl.writes or not is_store and word in decl.reads:
+            return True
+        return any(word in decl.gwrites.get(lock, ()) or not is_store and word in decl.greads.get(lock, ())
+                   for lock in self.held)
+
+    def need(self):
+        """What the next instruction needs: (kind, ..)."""
+        def trap(kind, value):
+            return "end", "trap %s pc 0x%08x value 0x%08x" % (kind, self.pc, value & MASK)
+        if self.retired == self.fuel:
+            return "end", "fuel"
+        if self.pc % 4 or not 0 <= self.pc - 0x1000 < 4 * len(self.decoded):
+            return trap("fetch", self.pc)
+        instr = self.decoded[(self.pc - 0x1000) // 4]
+        if instr is None:
+            return trap("illegal", self.program.code[(self.pc - 0x1000) // 4])
+        regs, name = self.regs, instr[0]
+        if name == "branch":
+            if taken(instr[1], regs[instr[2]], regs[instr[3]]) and (self.pc + instr[4]) % 4:
+                return trap("target", self.pc + instr[4])
+            return ("local",)
+        if name == "jal":
+            return trap("target", self.pc + instr[2]) if (self.pc + instr[2]) % 4 else ("local",)
+        if name == "jalr":
+            goal = regs[instr[2]] + instr[3] & MASK & ~1
+            return trap("target", goal) if goal % 4 else ("local",)
+        if name in ("load", "store"):
+            at = regs[instr[3]] + instr[4] & MASK
+            width = 1 << (instr[1] & 3)
+            if at % width:
+                return trap("misaligned", at)
+            word = (at - 0x10000000) // 4
+            if not 0 <= word < len(self.program.memory) or not self.allowed(word, name == "store"):
+                return trap("outside", at)
+            return (name, word) if name == "load" else (name, word, width == 4)
+        if name == "ebreak":
+            return trap("break", 0)
+        if name == "ecall":
+            call, lock = regs[17], regs[10]
+            if call > 2:
+                return trap("call", call)
+            if call == 0:
+                return trap("heldend", min(self.held)) if self.held else ("end", "finished")
+            if lock >= len(self.program.locks):
+                return trap("nolock", lock)
+            if call == 1:
+                return trap("held", lock) if lock in self.held else ("acquire", lock)
+            return ("release", lock) if lock in self.held else trap("nothold", lock)
+        return ("local",)
+
+    def write(self, rd, value):
+        if rd:
+            self.regs[rd] = value & MASK
+
+    def instr(self):
+        return self.decoded[(self.pc - 0x1000) // 4]
+
+    def retire(self, goal=None):
+        self.pc = (self.pc + 4 if goal is None else goal) & MASK
+        self.retired += 1
+
+    def local(self):
+        instr, regs, goal = self.instr(), self.regs, None
+        name = instr[0]
+        if name == "const":
+            self.write(instr[1], instr[2])
+        elif name == "auipc":
+            self.write(instr[1], self.pc + instr[2])
+        elif name == "jal":
+            goal = self.pc + instr[2]
+            self.write(instr[1], self.pc + 4)
+        elif name == "jalr":
+            goal = regs[instr[2]] + instr[3] & ~1
+            self.write(instr[1], self.pc + 4)
+        elif name == "branch":
+            if taken(instr[1], regs[instr[2]], regs[instr[3]]):
+                goal = self.pc + instr[4]
+        elif name == "alui":
+            self.write(instr[2], alu(instr[1], regs[instr[3]], instr[4]))
+        elif name == "alu":
+            self.write(instr[2], alu(instr[1], regs[instr[3]], regs[instr[4]]))
+        self.retire(goal)
+
+    def at(self):
+        instr = self.instr()
+        return (self.regs[instr[3]] + instr[4]) & 3
+
+    def loaded(self, value):
+        instr = self.instr()
+        bits = 8 << (instr[1] & 3)
+        part = value >> 8 * self.at() & ((1 << bits) - 1)
+        self.write(instr[2], part if instr[1] & 4 else signed(part, bits))
+        self.retire()
+
+    def merged(self, old):
+        instr = self.instr()
+        part = (1 << (8 << instr[1])) - 1
+        shift = 8 * self.at()
+        return old & ~(part << shift) & MASK | (self.regs[instr[2]] & part) << shift
+
+    def stop(self, end):
+        self.end = end
+        if end == "finished":
+            self.retired += 1
+
+
+# ---------------------------------------------------------------- signatures
+
+def hashes(word):
+    return 1 << word % 256 | 1 << (word * 2654435769 & MASK) // (1 << 24)
+
+
+def inserted(signature, word, phase):
+    bits, tag = signature
+    return (bits if tag == phase else 0) | hashes(word), phase
+
+
+def may_hold(signature, word, phase):
+    return signature[1] == phase and signature[0] & hashes(word) == hashes(word)
+
+
+def joined(a, b):
+    if a[1] == b[1]:
+        return a[0] | b[0], a[1]
+    return a if a[1] > b[1] else b
+
+
+# ---------------------------------------------------------------- the parts of the machine
+
+class Node:
+    """A core. Its cache is a dict for each set, the least recently used word first, with entries (state, value, flag):
+    V with the mark, R with whether it is pending, L."""
+
+    def __init__(self, machine, core):
+        self.machine, self.core = machine, core
+        self.cache = [{} for _ in range(machine.sets)]
+        self.has_arrived, self.is_halted = False, not machine.program.phases
+        self.pending = 0
+        self.begin(0)
+
+    def begin(self, phase):
+        machine = self.machine
+        self.phase, self.wait = phase, None
+        self.signatures = [(0, phase)] * len(machine.program.locks)
+        self.task = None
+        if phase < len(machine.program.phases):
+            decl = machine.program.phases[phase].get(self.core)
+            if decl:
+                self.task = TaskState(machine.program, machine.decoded, decl, machine.fuel)
+        self.know()
+
+    def know(self):
+        """Looks at the next instruction anew."""
+        self.next = self.task.need() if self.task and self.task.end is None else None
+
+    def of(self, word):
+        return self.cache[word % self.machine.sets]
+
+    def entry(self, word):
+        return self.of(word).get(word)
+
+    def room(self, word):
+        return len(self.of(word)) < self.machine.ways
+
+    def set(self, word, entry):
+        places = self.of(word)
+        places.pop(word, None)
+        places[word] = entry
+
+    def victim(self, word):
+        for other, entry in self.of(word).items():
+            if entry[0] == "V" or entry[0] == "R" and not entry[2]:
+                return other
+        return None
+
+    def may_instr(self):
+        if self.is_halted or self.has_arrived or self.next is None or self.wait and self.wait[0] != "filled":
+            return False
+        kind = self.next[0]
+        if kind == "release":
+            return self.pending == 0
+        if kind in ("load", "store"):
+            entry = self.entry(self.next[1])
+            return entry[0] in "VR" if entry else self.room(self.next[1])
+        return True
+
+    def may_evict(self, word):
+        if self.is_halted or self.has_arrived or self.next is None or self.wait or self.next[0] not in ("load", "store"):
+            return False
+        wanted = self.next[1]
+        if self.entry(wanted) or self.room(wanted) or word % self.machine.sets != wanted % self.machine.sets:
+            return False
+        entry = self.entry(word)
+        return entry is not None and (entry[0] == "V" or entry[0] == "R" and not entry[2])
+
+    def may_arrive(self):
+        return not self.is_halted and not self.has_arrived and self.next is None and self.pending == 0
+
+    def own(self):
+        if self.may_instr():
+            return "instr", self.core
+        if self.next is not None and self.next[0] in ("load", "store"):
+            word = self.victim(self.next[1])
+            if word is not None and self.may_evict(word):
+                return "evict", self.core, word
+        if self.may_arrive():
+            return "arrive", self.core
+        return None
+
+    def home(self, word):
+        return "bank", word % self.machine.banks
+
+    def instr(self):
+        """What is sent, as a list of (to, message), and the load that was seen."""
+        task, need, kind = self.task, self.next, self.next[0]
+        sent, seen = [], None
+        if kind in ("local", "end", "acquire", "release"):
+            reach("core: " + kind)
+        if kind == "local":
+            task.local()
+        elif kind == "end":
+            task.stop(need[1])
+        elif kind == "acquire":
+            sent = [(("bank", need[1] % self.machine.banks), ("acquire", need[1], self.core))]
+            self.wait = "locking", need[1]
+        elif kind == "release":
+            sent = [(("bank", need[1] % self.machine.banks), ("release", need[1], self.core, self.signatures[need[1]]))]
+            task.held.discard(need[1])
+            task.retire()
+        else:
+            word = need[1]
+            entry = self.entry(word)
+            if entry is None and (kind == "load" or not need[2]):
+                reach("core: read of a missing word")
+                sent = [(self.home(word), ("read-req", word, self.core))]
+                self.wait = "reading", word
+            elif kind == "load":
+                reach("core: load of a copy" if entry[0] == "V" else "core: load of an own word")
+                seen = word, entry[1]
+                is_plain = word in task.decl.reads or word in task.decl.writes
+                self.set(word, (entry[0], entry[1], True) if entry[0] == "V" and is_plain else entry)
+                task.loaded(entry[1])
+                self.wait = None
+            else:
+                value = task.merged(entry[1] if entry else 0)
+                reach("core: whole store to a missing word" if entry is None
+                      else "core: store to an own word" if entry[0] == "R" else "core: store to a copy")
+                if entry is not None and entry[0] == "R":
+                    self.set(word, ("R", value, entry[2]))
+                else:
+                    self.set(word, ("R", value, True))
+                    self.pending += 1
+                    sent = [(self.home(word), ("reg-req", word, self.core))]
+                for lock in task.held:
+                    if word in task.decl.gwrites.get(lock, ()):
+                        reach("core: store that a signature notes")
+                        self.signatures[lock] = inserted(self.signatures[lock], word, self.phase)
+                task.retire()
+                self.wait = None
+        self.know()
+        return sent, seen
+
+    def evict(self, word):
+        state, value, _ = self.entry(word)
+        reach("core: eviction of a copy" if state == "V" else "core: eviction of an own word")
+        if state == "V":
+            del self.of(word)[word]
+            return []
+        self.of(word)[word] = ("L", value, False)
+        return [(self.home(word), ("write-back", word, value, self.core))]
+
+    def arrive(self):
+        self.has_arrived = True
+        bad = self.task is not None and self.task.end != "finished"
+        reach("core: bad arrival" if bad else "core: arrival")
+        return [("keeper", ("arrived", self.core, bad))]
+
+    def receive(self, message):
+        """What is sent, and the grant that was handled."""
+        kind = message[0]
+        if kind == "go":
+            following = message[1]
+            if self.has_arrived and not self.is_halted and following == self.phase + 1 \
+                    and following < len(self.machine.program.phases):
+                written = self.machine.plans[self.phase][0]
+                before = sum(map(len, self.cache))
+                for places in self.cache:
+                    for word, entry in list(places.items()):
+                        if entry[0] == "V":
+                            if word in written and not entry[2]:
+                                del places[word]
+                            else:
+                                places[word] = ("V", entry[1], False)
+                reach("core: go that drops copies" if sum(map(len, self.cache)) < before else "core: go that drops none")
+                self.has_arrived = False
+                self.begin(following)
+            return [], None
+        if kind == "halt":
+            reach("core: halt")
+            self.is_halted = self.is_halted or self.has_arrived
+            return [], None
+        if kind == "grant":
+            lock, signature = message[1:]
+            if self.wait != ("locking", lock):
+                return [], None
+            guarded = self.machine.plans[self.phase][1][lock]
+            before = sum(map(len, self.cache))
+            for places in self.cache:
+                for word, entry in list(places.items()):
+                    if entry[0] == "V" and word in guarded and may_hold(signature, word, self.phase):
+                        del places[word]
+            reach("core: grant that drops copies" if sum(map(len, self.cache)) < before else "core: grant that drops none")
+            self.signatures[lock] = signature if signature[1] == self.phase else (0, self.phase)
+            self.task.held.add(lock)
+            self.task.retire()
+            self.wait = None
+            self.know()
+            return [], (self.phase, self.core, lock)
+        word = message[1]
+        entry = self.entry(word)
+        if kind == "data-reply":
+            if self.wait == ("reading", word) and entry is None and self.room(word):
+                reach("core: reply")
+                self.set(word, ("V", message[2], False))
+                self.wait = "filled", word
+            return [], None
+        if kind == "reg-ack":
+            if entry and entry[0] == "R" and entry[2]:
+                reach("core: acknowledgement")
+                self.of(word)[word] = ("R", entry[1], False)
+                self.pending -= 1
+            return [], None
+        if kind == "reg-fwd":
+            takes = entry and entry[0] == "R" and not entry[2]
+            reach("core: forward that takes a word" if takes else "core: forward that finds it elsewhere")
+            if takes:
+                del self.of(word)[word]
+            return [(("core", message[2]), ("reg-ack", word))], None
+        if kind == "read-fwd":
+            has = entry and entry[0] in "RL"
+            reach("core: read that is answered" if has else "core: read that is sent back")
+            if has:
+                return [(("core", message[2]), ("data-reply", word, entry[1]))], None
+            return [(self.home(word), ("read-req", word, message[2]))], None
+        if kind == "wb-ack" and entry and entry[0] == "L":
+            reach("core: word that is given back")
+            del self.of(word)[word]
+        return [], None
+
+    def shown(self):
+        """How the task stands, where it has ended or waits for a lock."""
+        if self.task is None:
+            return None
+        if self.task.end is not None:
+            return self.phase, self.core, self.task.end, self.task.retired
+        if self.wait and self.wait[0] == "locking":
+            return self.phase, self.core, "waits %d" % self.wait[1], self.task.retired
+        return None
+
+
+class Bank:
+    def __init__(self, number, banks, memory, locks):
+        self.words = {word: ("home", value) for word, value in enumerate(memory) if word % banks == number}
+        self.locks = {lock: [None, [], (0, 0)] for lock in range(locks) if lock % banks == number}
+
+    def handle(self, message):
+        kind, name = message[0], message[1]
+        if kind in ("acquire", "release"):
+            home = self.locks[name]
+            if kind == "acquire":
+                reach("bank: acquire of a free lock" if home[0] is None else "bank: acquire that waits")
+                if home[0] is None:
+                    home[0] = message[2]
+                    return [(("core", message[2]), ("grant", name, home[2]))]
+                if message[2] not in home[1]:
+                    home[1].append(message[2])
+                return []
+            if home[0] != message[2]:
+                return []
+            reach("bank: release to the next" if home[1] else "bank: release to nobody")
+            home[2] = joined(home[2], message[3])
+            home[0] = home[1].pop(0) if home[1] else None
+            return [] if home[0] is None else [(("core", home[0]), ("grant", name, home[2]))]
+        state, what = self.words[name]
+        if kind == "read-req":
+            reach("bank: read at home" if state == "home" else "bank: read that is forwarded")
+            if state == "home":
+                return [(("core", message[2]), ("data-reply", name, what))]
+            return [(("core", what), ("read-fwd", name, message[2]))]
+        if kind == "reg-req":
+            self.words[name] = "reg", message[2]
+            reach("bank: registration at home" if state == "home" else "bank: registration that is forwarded")
+            if state == "home" or what == message[2]:
+                return [(("core", message[2]), ("reg-ack", name))]
+            return [(("core", what), ("reg-fwd", name, message[2]))]
+        taken_back = (state, what) == ("reg", message[3])
+        reach("bank: write-back that is taken" if taken_back else "bank: late write-back")
+        if taken_back:
+            self.words[name] = "home", message[2]
+        return [(("core", message[3]), ("wb-ack", name))]
+
+
+class Keeper:
+    def __init__(self, cores, phases):
+        self.cores, self.phases = cores, phases
+        self.phase, self.there, self.bad, self.is_over = 0, set(), False, False
+
+    def handle(self, message):
+        core, bad = message[1:]
+        if self.is_over or core in self.there:
+            return []
+        self.there.add(core)
+        self.bad = self.bad or bad
+        if len(self.there) < self.cores:
+            reach("keeper: arrival that waits")
+            return []
+        reach("keeper: last arrival that halts" if self.bad or self.phase + 1 >= self.phases
+              else "keeper: last arrival that goes on")
+        if self.bad or self.phase + 1 >= self.phases:
+            self.is_over = True
+            letter = ("halt",)
+        else:
+            self.phase += 1
+            self.there = set()
+            letter = "go", self.phase
+        return [(("core", core), letter) for core in range(self.cores)]
+
+
+class Machine:
+    """The machine. A mail is (sender, number, to, message); an event is (instr, core), (evict, core, word), (arrive, core) or
+    (handle, sender, number)."""
+
+    def __init__(self, program, banks=4, sets=64, ways=4, fuel=32768):
+        self.program, self.banks, self.sets, self.ways, self.fuel = program, banks, sets, ways, fuel
+        self.plans = program.plans()
+        self.decoded = [decode(word) for word in program.code]
+        self.cores = program.cores()
+        self.nodes = [Node(self, core) for core in range(self.cores)]
+        self.homes = [Bank(bank, banks, program.memory, len(program.locks)) for bank in range(banks)]
+        self.keeper = Keeper(self.cores, len(program.phases))
+        self.pool, self.numbers = [], {}
+        self.ends, self.grants, self.loads = [], [], {}
+        self.counts = dict.fromkeys(KINDS, 0)
+        self.owns = [node.own() for node in self.nodes]
+
+    def enabled(self, event):
+        if event[0] == "handle":
+            return any(mail[:2] == event[1:] for mail in self.pool)
+        if event[1] >= self.cores:
+            return False
+        node = self.nodes[event[1]]
+        if event[0] == "instr":
+            return node.may_instr()
+        return node.may_arrive() if event[0] == "arrive" else node.may_evict(event[2])
+
+    def step(self, event, place=None):
+        """Makes an event, and answers the load that it saw and the grant that it handled."""
+        seen = grant = None
+        if event[0] == "handle":
+            if place is None:
+                place = next(i for i, mail in enumerate(self.pool) if mail[:2] == event[1:])
+            to, message = self.pool[place][2:]
+            last = self.pool.pop()
+            if place < len(self.pool):
+                self.pool[place] = last
+            kind, actor = message[0], to
+            if to == "keeper":
+                sent = self.keeper.handle(message)
+            elif to[0] == "bank":
+                sent = self.homes[to[1]].handle(message)
+            else:
+                sent, grant = self.nodes[to[1]].receive(message)
+                self.owns[to[1]] = self.nodes[to[1]].own()
+        else:
+            kind, actor, node = event[0], ("core", event[1]), self.nodes[event[1]]
+            if kind == "instr":
+                sent, seen = node.instr()
+            elif kind == "evict":
+                sent = node.evict(event[2])
+            else:
+                end = node.shown()
+                if end is not None:
+                    self.ends.append(end)
+                sent = node.arrive()
+            self.owns[event[1]] = node.own()
+            if seen is not None:
+                self.loads.setdefault((node.phase, node.core), []).append(seen)
+        for to, message in sent:
+            number = self.numbers.get(actor, 0)
+            self.numbers[actor] = number + 1
+            self.pool.append((actor, number, to, message))
+        self.counts[kind] += 1
+        if grant is not None:
+            self.grants.append(grant)
+        return seen, grant
+
+    def pick(self, draw):
+        own = [event for event in self.owns if event is not None]
+        many = len(own) + len(self.pool)
+        if not many:
+            return None, None
+        at = draw % many
+        if at < len(own):
+            return own[at], None
+        return ("handle",) + self.pool[at - len(own)][:2], at - len(own)
+
+    def run(self, seed, trace=None):
+        draws = Pcg32(seed)
+        while True:
+            event, place = self.pick(draws.next_u32())
+            if event is None:
+                return
+            if trace is not None:
+                trace(event)
+            self.step(event, place)
+
+    def word(self, word):
+        for node in self.nodes:
+            entry = node.entry(word)
+            if entry and entry[0] == "R" and entry[2]:
+                return entry[1]
+        state, what = self.homes[word % self.banks].words[word]
+        return what if state == "home" else self.nodes[what].entry(word)[1]
+
+    def ending(self):
+        ends = self.ends + [node.shown() for node in self.nodes
+                            if node.shown() and node.shown()[2].startswith("waits")]
+        return sorted(ends), [self.word(word) for word in range(len(self.program.memory))]
+
+
+def flat(program, fuel, grants=None):
+    """The run on one memory: by these grants, or by the least ones. The ending, the loads and the grants; None for a list of
+    grants that isn't a whole legal one."""
+    memory, decoded = list(program.memory), [decode(word) for word in program.code]
+    holders, ends, loads, used, rest = {}, [], {}, [], list(grants or [])
+    for number, phase in enumerate(program.phases):
+        tasks = {core: TaskState(program, decoded, phase[core], fuel) for core in sorted(phase)}
+
+        def go(task):
+            seen = loads.setdefault((number, task.decl.core), [])
+            while task.end is None:
+                need = task.need()
+                if need[0] == "local":
+                    task.local()
+                elif need[0] == "end":
+                    task.stop(need[1])
+                elif need[0] == "load":
+                    seen.append((need[1], memory[need[1]]))
+                    task.loaded(memory[need[1]])
+                elif need[0] == "store":
+                    memory[need[1]] = task.merged(memory[need[1]])
+                    task.retire()
+                elif need[0] == "release":
+                    task.held.discard(need[1])
+                    del holders[need[1]]
+                    task.retire()
+                else:
+                    return
+
+        for task in tasks.values():
+            go(task)
+        while True:
+            able = [core for core, task in tasks.items() if task.end is None and task.need()[1] not in holders]
+            if not able:
+                break
+            if grants is None:
+                core = able[0]
+            else:
+                if not rest:
+                    return None
+                if rest[0][0] != number or rest[0][1] not in able or tasks[rest[0][1]].need()[1] != rest[0][2]:
+                    return None
+                core = rest.pop(0)[1]
+            task = tasks[core]
+            lock = task.need()[1]
+            holders[lock] = core
+            task.held.add(lock)
+            task.retire()
+            used.append((number, core, lock))
+            go(task)
+        ends += [(number, core, "waits %d" % task.need()[1] if task.end is None else task.end, task.retired)
+                 for core, task in tasks.items()]
+        if any(task.end != "finished" for task in tasks.values()):
+            break
+    if rest:
+        return None
+    return (ends, memory), loads, used
+
+
+# ---------------------------------------------------------------- what is written
+
+def outcome(ends):
+    shown = [end[2].split()[0] for end in ends]
+    for word, name in (("waits", "stuck"), ("trap", "trapped"), ("fuel", "fuel")):
+        if word in shown:
+            return name
+    return "done"
+
+
+STATUS = {"done": 0, "trapped": 3, "fuel": 4, "stuck": 5}
+
+
+def answer_text(ending):
+    ends, memory = ending
+    out = ["outcome " + outcome(ends)]
+    out += ["task %d %d %s retired %d" % end for end in ends]
+    out.append("words %d" % len(memory))
+    out += ["word 0x%08x 0x%08x" % (0x10000000 + 4 * word, value) for word, value in enumerate(memory) if value]
+    return out
+
+
+def grant_text(grants):
+    return ["grant %d %d %d" % grant for grant in grants]
+
+
+def count_text(counts):
+    return ["count events %d" % sum(counts.values())] + ["count %s %d" % (kind, counts[kind]) for kind in KINDS]
+
+
+def run_text(machine):
+    return answer_text(machine.ending()) + grant_text(machine.grants) + count_text(machine.counts)
+
+
+def summary(ending):
+    ends, memory = ending
+    return ["outcome " + outcome(ends), "tasks %d" % len(ends), "retired %d" % sum(end[3] for end in ends),
+            "words %d" % len(memory), "sum 0x%08x" % (sum(memory) & MASK)]
+
+
+def options(words):
+    given = {"mode": "run", "seed": "1", "workers": "1", "banks": "4", "sets": "64", "ways": "4", "fuel": "32768", "size": "4"}
+    words = [piece for word in words for piece in word.split("=")]
+    while words:
+        if words[0][2:] not in given or len(words) < 2:
+            raise Unfit("words")
+        given[words[0][2:]] = words[1]
+        words = words[2:]
+    return {name: value if name == "mode" else int(value) for name, value in given.items()}
+
+
+def opened(program, o):
+    return Machine(program, o["banks"], o["sets"], o["ways"], o["fuel"])
+
+
+def agree_with_flat(machine):
+    """That the flat machine's run by the grants has the run's ending and loads."""
+    other = flat(machine.program, machine.fuel, machine.grants)
+    loads = {task: seen for task, seen in other[1].items() if seen}
+    assert machine.ending()[0] == other[0][0] and machine.ending()[1] == other[0][1] and machine.loads == loads
+
+
+def answer(words, text):
+    """The exit code and the lines of the program, for a text that assembles and checks, in the modes run, work and flat."""
+    o = options(words)
+    if o["mode"] == "work":
+        text = work_text(o["size"])
+    program = assemble(text)
+    if o["mode"] == "flat":
+        ending, _, used = flat(program, o["fuel"])
+        lines = answer_text(ending) + grant_text(used)
+    elif o["mode"] in ("run", "work"):
+        machine = opened(program, o)
+        machine.run(o["seed"])
+        agree_with_flat(machine)
+        ending = machine.ending()
+        lines = run_text(machine) if o["mode"] == "run" else summary(ending)
+    else:
+        raise Unfit("mode")
+    return STATUS[outcome(ending[0])], lines
+
+
+# ---------------------------------------------------------------- scripts
+
+def event_of(words):
+    """The event that the words of a line name."""
+    if words[0] == "handle":
+        actor = "keeper" if words[1] == "keeper" else (words[1], int(words[2]))
+        return "handle", actor, int(words[-1])
+    return (words[0],) + tuple(int(word) for word in words[1:])
+
+
+def event_line(event):
+    if event[0] != "handle":
+        return " ".join(str(part) for part in event)
+    return "handle %s %d" % (event[1] if event[1] == "keeper" else "%s %d" % event[1], event[2])
+
+
+def play(machine, lines):
+    seen = None
+    for line in lines:
+        words = line.split()
+        if words[0] == "loads":
+            good = seen == (int(words[1]), int(words[2]))
+        elif words[0] == "word":
+            good = machine.word(int(words[1])) == int(words[2])
+        else:
+            many, good = 1, True
+            if len(words) > 2 and words[-2] == "times":
+                many, words = int(words[-1]), words[:-2]
+            event = event_of(words)
+            for _ in range(many):
+                good = good and machine.enabled(event)
+                if good:
+                    seen = machine.step(event)[0]
+        if not good:
+            raise Unfit("script: " + line)
+    if machine.pick(0)[0] is not None:
+        raise Unfit("script: an event may come still")
+
+
+# ---------------------------------------------------------------- cases
+
+def sections(text):
+    """The cases of a file, each as a list of lines."""
+    cases, lines = [], None
+    for line in text.split("\n"):
+        if line.startswith("case "):
+            lines = []
+            cases.append(lines)
+        if lines is not None:
+            lines.append(line)
+    return cases
+
+
+def expanded(lines):
+    """The case, once for each of its rows: (number or None, lines)."""
+    for place, line in enumerate(lines):
+        if line == "each" or line.startswith("each "):
+            if line == "each":
+                rows = [[column.strip() for column in row[2:].split("|")] for row in lines[place + 1:] if row and row[0] != "#"]
+            else:
+                low, high = line[5:].split(" to ")
+                rows = [[str(n)] for n in range(int(low), int(high) + 1)]
+            for row in rows:
+                yield " / ".join(row), [re.sub(r"\$([1-9])", lambda m: row[int(m.group(1)) - 1], other)
+                                        for other in lines[:place]]
+            return
+    yield None, lines
+
+
+def read_case(lines, texts):
+    """The case's name, and what it gives. An output is a list of parts."""
+    case, block, given = {}, None, None
+    for line in lines:
+        if line == "" or line.startswith("#"):
+            continue
+        if line.startswith("  "):
+            given[-1] += line[2:].encode() + b"\n"
+            continue
+        word, _, rest = line.partition(" ")
+        if word in ("text", "output", "script"):
+            given = case[word] = [texts[rest[3:]] if rest else b""]
+        elif word == "repeat":
+            count, _, what = rest.partition(" ")
+            for n in range(int(count)):
+                given[-1] += what.replace("@", str(n)).encode() + b"\n"
+        elif word == "part":
+            given[-1] += rest.encode()
+        elif word == "bytes":
+            given[-1] += bytes(int(piece, 16) for piece in rest.split())
+        elif word == "times":
+            given[-1] *= int(rest)
+        elif word == "grants":
+            given[-1] += "".join("grant %s\n" % grant.replace(".", " ") for grant in rest.split()).encode()
+        elif word == "counts":
+            counts, named = dict.fromkeys(KINDS, 0), rest.split()
+            for kind, count in zip(named[::2], named[1::2]):
+                assert kind in counts
+                counts[kind] = int(count)
+            given[-1] += "".join(line + "\n" for line in count_text(counts)).encode()
+        elif word == "front":
+            given[-1] = given[-1][:int(rest)]
+        elif word == "...":
+            given.append(b"")
+        else:
+            case[word] = rest
+    return case
+
+
+def stand_in(parts, output):
+    """Whether the parts stand in the output, with any whole lines between them."""
+    if len(parts) == 1:
+        return output == parts[0]
+    if not output.startswith(parts[0]):
+        return False
+    rest = output[len(parts[0]):]
+    return any((at == 0 or rest[at - 1:at] == b"\n") and stand_in(parts[1:], rest[at:]) for at in range(len(rest) + 1))
+
+
+def run_cases(folder, only=None):
+    import os
+    texts, agree, runs, differ, left, reached = {}, 0, 0, 0, 0, dict.fromkeys(KINDS, 0)
+    rows_reached = dict.fromkeys(ROWS, 0)
+    for name in sorted(os.listdir(folder)):
+        with open(os.path.join(folder, name), "rb") as file:
+            texts[name] = file.read()
+    for name in sorted(name for name in texts if name.endswith(".cases")):
+        for lines in sections(texts[name].decode()):
+            title = lines[0][5:]
+            for row, filled in expanded(lines):
+                case = read_case(filled, texts)
+                texts[title] = case.get("text", [b""])[0]
+                if only and only != title:
+                    continue
+                text = case.get("text", [b""])[0].decode("utf-8", "replace")
+                words = case.get("words", "").split()
+                if case["exit"] not in ("0", "3", "4", "5", "7") or "check" in words or "list" in words \
+                        or case["output"][0].startswith(b"refus"):
+                    left += 1
+                    continue
+                reached_rows.clear()
+                try:
+                    if "script" in case:
+                        machine = opened(assemble(text), options(words))
+                        play(machine, case["script"][0].decode().splitlines())
+                        agree_with_flat(machine)
+                        status, out = STATUS[outcome(machine.ending()[0])], run_text(machine)
+                    else:
+                        status, out = answer(words, text)
+                except Exception as why:
+                    print("%s (%s): not run, %s: %s" % (title, row, type(why).__name__, why))
+                    differ += 1
+                    continue
+                output = "".join(line + "\n" for line in out).encode()
+                if case["exit"] == "7":
+                    good = len(case["output"]) == 1 and output.startswith(case["output"][0])
+                    output = output[:len(case["output"][0])]
+                else:
+                    good = str(status) == case["exit"] and stand_in(case["output"], output)
+                for row_reached in reached_rows:
+                    rows_reached[row_reached] += 1
+                for kind in KINDS:
+                    reached[kind] += bool(re.search(rb"^count %s [1-9]" % kind.encode(), output, re.M))
+                agree, differ = agree + good, differ + (not good)
+                runs += "script" in case or (case["exit"] != "7" and options(words)["mode"] == "run")
+                if not good:
+                    print("%s (%s): exit code %d, and the output is" % (title, row, status))
+                    print(output.decode(), end="")
+    print("%d cases agree, %d differ, and %d aren't for this program" % (agree, differ, left))
+    print("%d runs agree with the flat machine" % runs)
+    for kind in KINDS:
+        print("%s came in %d cases" % (kind, reached[kind]))
+    for row_reached in ROWS:
+        print("the row %s came in %d cases" % (row_reached, rows_reached[row_reached]))
+    return differ == 0 and (only is not None or all(rows_reached.values()))
+
+
+# ---------------------------------------------------------------- small examples
+
+STORE_FIVE = """.region m, 1
+.phase
+.task 0, go, 0
+.writes m
+go: lui t0, 0x10000
+ addi t1, x0, 5
+ sw t1, 0(t0)
+ addi a7, x0, 0
+ ecall
+"""
+SHARED = """.region s, 1
+.region o, 2
+.word s, 0, 7
+.phase
+.task 0, go, 0
+.reads s
+.writes o, 0, 1
+.task 1, go, 4
+.reads s
+.writes o, 1, 2
+go: la t0, s
+ lw t1, 0(t0)
+ la t2, o
+ add t2, t2, a0
+ sw t1, 0(t2)
+ li a7, 0
+ ecall
+"""
+STALE = """.region m, 4
+.region o, 1
+.phase
+.task 1, read, 0
+.reads m
+.writes o
+.phase
+.task 0, put, 9
+.writes m
+.task 1, stop, 0
+.phase
+.task 1, read, 0
+.reads m
+.writes o
+read: la t0, m
+ lw t1, 12(t0)
+ la t2, o
+ sw t1, 0(t2)
+stop: li a7, 0
+ ecall
+put: la t0, m
+ sw a0, 12(t0)
+ j stop
+"""
+IDLE = STALE.replace(".task 1, stop, 0\n", "")
+ONE_PLACE = """.region m, 2
+.phase
+.task 0, go, 5
+.writes m
+go: la t0, m
+ sw a0, 0(t0)
+ sw a0, 4(t0)
+ sw t0, 0(t0)
+ li a7, 0
+ ecall
+"""
+PART = """.region m, 1
+.word m, 0, 0x11223344
+.phase
+.task 0, go, 0
+.writes m
+go: la t0, m
+ li t1, 0xAA
+ sb t1, 1(t0)
+ ecall
+"""
+COUNTER = ".region c, 1\n.lock k\n.phase\n" + "".join(".task %d, go, 100\n.gwrites k, c\n" % n for n in range(4)) + """go: mv s0, a0
+ la t0, c
+l: li a0, 0
+ li a7, 1
+ ecall
+ lw t1, 0(t0)
+ addi t1, t1, 1
+ sw t1, 0(t0)
+ li a7, 2
+ ecall
+ addi s0, s0, -1
+ bnez s0, l
+ li a7, 0
+ ecall
+"""
+CROSSED = """.lock a
+.lock b
+.phase
+.task 0, go, 0
+.task 1, go, 1
+go: mv s0, a0
+ xori s1, a0, 1
+ li a7, 1
+ mv a0, s0
+ ecall
+ mv a0, s1
+ ecall
+ li a7, 2
+ ecall
+ mv a0, s0
+ ecall
+ li a7, 0
+ ecall
+"""
+TRAP = """.region m, 1
+.lock k
+.phase
+.task 0, bad, 0
+.task 1, ok, 0
+.phase
+.task 0, end, 0
+bad: li a7, 1
+ ecall
+ la t0, m
+ lw t1, 0(t0)
+ok: li a7, 1
+ ecall
+ li a7, 2
+ ecall
+end: li a7, 0
+ ecall
+"""
+MARKS = """.region m, 2
+.phase
+.task 0, rd, 0
+.reads m, 0, 1
+.task 1, wr, 9
+.writes m, 1, 2
+.phase
+.task 0, rd, 0
+.reads m, 0, 1
+rd: la t0, m
+ lw t1, 0(t0)
+stop: li a7, 0
+ ecall
+wr: la t0, m
+ sw a0, 4(t0)
+ j stop
+"""
+
+
+def finished(core, retired, phase=0):
+    return "task %d %d finished retired %d" % (phase, core, retired)
+
+
+def rows():
+    """The small examples by 50 seeds each: what a run has to write up to its counts, and the counts that aren't 0."""
+    def word(number, value):
+        return "word 0x%08x 0x%08x" % (0x10000000 + 4 * number, value)
+    stale = dict(instr=30, arrive=6, read_req=2, read_fwd=1, data_reply=2, reg_req=2, reg_ack=2, arrived=6, go=4, halt=2)
+    examples = [
+        ("store-five", STORE_FIVE, [], [finished(0, 5), "words 1", word(0, 5)],
+         dict(instr=5, arrive=1, reg_req=1, reg_ack=1, arrived=1, halt=1)),
+        ("no text", "", [], ["words 0"], {}),
+        ("shared reads", SHARED, [], [finished(0, 10), finished(1, 10), "words 3"] + [word(n, 7) for n in range(3)],
+         dict(instr=22, arrive=2, read_req=2, data_reply=2, reg_req=2, reg_ack=2, arrived=2, halt=2)),
+        ("stale copy", STALE, [], [finished(1, 9), finished(0, 7, 1), finished(1, 3, 1), finished(1, 9, 2), "words 5", word(3, 9),
+          word(4, 9)], stale),
+        ("idle core", IDLE, [], [finished(1, 9), finished(0, 7, 1), finished(1, 9, 2), "words 5", word(3, 9), word(4, 9)],
+         dict(stale, instr=27)),
+        ("one place", ONE_PLACE, ["--sets", "1", "--ways", "1"], [finished(0, 8), "words 2", word(0, 0x10000000), word(1, 5)],
+         dict(instr=8, evict=2, arrive=1, reg_req=3, reg_ack=3, write_back=2, wb_ack=2, arrived=1, halt=1)),
+        ("part of a word", PART, [], [finished(0, 6), "words 1", word(0, 0x1122aa44)],
+         dict(instr=7, arrive=1, read_req=1, data_reply=1, reg_req=1, reg_ack=1, arrived=1, halt=1)),
+        ("64 phases", ".phase\n" * 64, [], ["words 0"], dict(arrive=64, arrived=64, go=63, halt=1)),
+        ("marks", MARKS, [], [finished(0, 6), finished(1, 7), finished(0, 6, 1), "words 2", word(1, 9)],
+         dict(instr=20, arrive=4, read_req=1, data_reply=1, reg_req=1, reg_ack=1, arrived=4, go=2, halt=2)),
+        ("cut after 12 bytes", STORE_FIVE[:12], [], ["words 1"], {}),
+        ("cut after 20 bytes", STORE_FIVE[:20], [], ["words 1"], dict(arrive=1, arrived=1, halt=1)),
+    ]
+    good = Pcg32(1).next_u32() == 866585574
+    for name, text, words, wanted, counts in examples:
+        fine = 0
+        for seed in range(1, 51):
+            status, lines = answer(words + ["--seed", str(seed)], text)
+            whole = dict.fromkeys(KINDS, 0)
+            whole.update({kind.replace("_", "-"): many for kind, many in counts.items()})
+            fine += status == 0 and lines == ["outcome done"] + wanted + count_text(whole)
+        print("%s: %d of 50 seeds, %d events" % (name, fine, sum(counts.values())))
+        good = good and fine == 50
+    fine, ways = 0, {}
+    for seed in range(1, 51):
+        status, lines = answer(["--seed", str(seed)], COUNTER)
+        fine += status == 0 and lines[1:7] == [finished(core, 1306) for core in range(4)] + ["words 1", word(0, 400)] \
+            and len([line for line in lines if line.startswith("grant")]) == 400 and "count grant 400" in lines
+    print("counter under a lock: %d of 50 seeds" % fine)
+    good = good and fine == 50
+    fine = 0
+    for seed in range(1, 51):
+        status, lines = answer(["--seed", str(seed)], CROSSED)
+        granted = [line for line in lines if line.startswith("grant")]
+        if status == 5:
+            fine += lines[:4] == ["outcome stuck", "task 0 0 waits 1 retired 7", "task 0 1 waits 0 retired 7", "words 0"] \
+                and sorted(granted) == ["grant 0 0 0", "grant 0 1 1"]
+        else:
+            fine += status == 0 and lines[1:4] == [finished(0, 16), finished(1, 16), "words 0"] and len(granted) == 4
+        ways[status] = ways.get(status, 0) + 1
+    print("two locks crosswise: %d of 50 seeds, by exit code %s" % (fine, ways))
+    good = good and fine == 50
+    fine, ways = 0, {}
+    trap = "task 0 0 trap outside pc 0x00001014 value 0x10000000 retired 5"
+    for seed in range(1, 51):
+        status, lines = answer(["--seed", str(seed)], TRAP)
+        granted = [line for line in lines if line.startswith("grant")]
+        if granted[0] == "grant 0 0 0":
+            fine += status == 5 and lines[:4] == ["outcome stuck", trap, "task 0 1 waits 0 retired 2", "words 1"] and len(granted) == 1
+        else:
+            fine += status == 3 and lines[:4] == ["outcome trapped", trap, finished(1, 9), "words 1"]
+        ways[status] = ways.get(status, 0) + 1
+    print("trap under a lock: %d of 50 seeds, by exit code %s" % (fine, ways))
+    good = good and fine == 50
+    for size, retired, many, total in ((1, 2262, 128, 0x8f40), (4, 8598, 512, 0x8fd00)):
+        status, lines = answer(["--mode", "work", "--size", str(size)], "")
+        wanted = ["outcome done", "tasks 12", "retired %d" % retired, "words %d" % many, "sum 0x%08x" % total]
+        print("work of size %d: %s" % (size, lines == wanted))
+        good = good and lines == wanted
+    return good
+
+
+def main():
+    words = sys.argv[1:]
+    if words[:1] == ["rows"]:
+        return 0 if rows() else 1
+    if words[:1] == ["cases"]:
+        return 0 if run_cases(*words[1:3]) else 1
+    if words[:1] == ["text"]:
+        print(work_text(int(words[1])), end="")
+        return 0
+    if words[:1] == ["trace"]:
+        o = options(words[1:])
+        opened(assemble(sys.stdin.read()), o).run(o["seed"], lambda event: print(event_line(event)))
+        return 0
+    if words[:1] == ["script"]:
+        with open(words[1]) as file:
+            lines = [line.strip() for line in file if line.strip() and line[0] != "#"]
+        machine = opened(assemble(sys.stdin.read()), options(words[2:]))
+        play(machine, lines)
+        agree_with_flat(machine)
+        status, out = STATUS[outcome(machine.ending()[0])], run_text(machine)
+    else:
+        status, out = answer(words, sys.stdin.read())
+    print("".join(line + "\n" for line in out), end="")
+    return status
+
+
+if __name__ == "__main__":
+    sys.exit(main())
