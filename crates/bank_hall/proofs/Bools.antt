@@ -1,5 +1,5 @@
 -- The order in which a derived comparison looks at three fields.
-use Rattle.std.proofs.Common.{◌≡◌, Bool, true, false, ◌&&◌, refl, sym, subst, ◌∙◌, ap}
+use Rattle.std.proofs.Common.{◌≡◌, Bool, true, false, ◌&&◌, refl, ◌∙◌, ap}
 
 shuffled_at : (first a b : Bool) → ((first && a) && b) ≡ (a && (b && first))
 shuffled_at true true true = refl

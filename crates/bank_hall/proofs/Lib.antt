@@ -1,1 +1,6 @@
 mod Bools
+mod RowLemmas
+mod StartLemmas
+mod CloseLemmas
+mod HallLemmas
+mod HallStart

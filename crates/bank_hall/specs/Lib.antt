@@ -4,3 +4,5 @@ pub mod Banks
 pub mod Ports
 pub mod Note
 pub mod Keepers
+pub mod Rows
+pub mod Halls

@@ -1,6 +1,6 @@
 -- What a step of the keeper tells its caller.
-use Rattle.std.specs.Prelude.{◌≡◌, ℕ, ◌+◌, Option, Some, None}
-use Rattle.message_net.specs.declared.actor.Actor.TheVariants.{Core, Keeper}
+use Rattle.std.specs.Prelude.{ℕ, ◌+◌, Option, Some, None}
+use Rattle.message_net.specs.declared.actor.Actor.TheVariants.{Keeper}
 use Rattle.message_net.specs.declared.message.Message.{Message}
 use Rattle.message_net.specs.Mail.{mail_of}
 use Rattle.grant_log.specs.declared.log.Stamped.{Stamped}

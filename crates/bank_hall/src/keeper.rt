@@ -66,7 +66,8 @@ pub enum KeeperOut {
 
 /// The keeper of the barrier with its inbox, the number of its next mail, and its clock.
 ///
-/// It is spent where its clock or the picked mail's stamp is 2^63 or more, or its next mail's number 4,294,967,000 or more.
+/// It is spent once its clock has come to 2^63, or the stamp of the mail that is picked has, or its next mail would have the
+/// number 4,294,967,000.
 #[derive(Debug, Drop)]
 pub struct KeeperActor {
     keeper: Keeper,

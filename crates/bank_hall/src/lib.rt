@@ -6,13 +6,16 @@
 #![tactic(auto)]
 
 mod bank;
+mod hall;
 mod keeper;
 mod port;
 mod posted;
+mod row;
 #[cfg(test)]
 mod tests;
 
 pub use bank::{BankActor, BankIn, BankOut, Handled};
+pub use hall::{Hall, HallParts, Pass};
 pub use keeper::{KeeperActor, KeeperHandled, KeeperIn, KeeperOut};
 pub use port::{Port, PortIn, PortOut};
 pub use posted::Posted;

@@ -1,0 +1,323 @@
+ghost use Rattle.std.specs.Prelude.{◌≡◌, ◌<◌, ◌≤◌, ◌^◌, length, IfOk, IfErr, OnOk, OnErr};
+ghost use Rattle.message_net.specs.declared.actor.Actor.TheVariants.{Core, Bank as Home, Keeper};
+ghost use Rattle.turn_lock.specs.History.{entry};
+ghost use Rattle.bank_hall.specs.declared.bank.BankIn.TheVariants.{Step as BankStep};
+ghost use Rattle.bank_hall.specs.declared.bank.BankOut.TheVariants.{Stepped as BankStepped};
+ghost use Rattle.bank_hall.specs.declared.port.PortIn.TheVariants.{Take};
+ghost use Rattle.bank_hall.specs.declared.port.PortOut.TheVariants.{Taken};
+ghost use Rattle.bank_hall.specs.declared.keeper.KeeperIn.TheVariants.{Step as KeeperStep};
+ghost use Rattle.bank_hall.specs.declared.keeper.KeeperOut.TheVariants.{Stepped as KeeperStepped};
+ghost use Rattle.bank_hall.specs.Halls.{IsHallPass, HasActor, HasMadeCalls, BankCall, PortCall, KeeperCall, PostCall, number_of, bank_calls, port_calls, keeper_calls, post_calls, AreHallParts, IsOpenedHall, AreNewPasses, passes_of};
+
+use crate::bank::{BankActor, BankIn, BankOut, Handled};
+use crate::keeper::{KeeperActor, KeeperHandled, KeeperIn, KeeperOut};
+use crate::port::{Port, PortIn, PortOut};
+use crate::posted::{Posted, crosses};
+use crate::row::{Row, RowPass};
+use dn_base::{BankId, CoreId, Gate, Memory};
+use message_net::Actor;
+use std::alloc::Global;
+use std::marker::Model;
+use std::sync::Wait;
+
+/// The banks, the ports and the keeper of one run, each under a turn of its own. Any number of threads may call through a
+/// `&Hall`, each with a pass of its own.
+#[derive(Drop)]
+pub struct Hall {
+    pub(crate) banks: Row<BankActor>,
+    pub(crate) ports: Row<Port>,
+    pub(crate) keeper: Row<KeeperActor>,
+}
+
+impl Model for Hall {
+    ghost use Rattle.std.specs.Prelude.{◌≡◌, length};
+    ghost use Rattle.bank_hall.specs.Halls.{HallView};
+
+    ghost Value = { HallView };
+
+    ghost view = { λ h. record { banks = h.banks; ports = h.ports; keeper = h.keeper } };
+
+    ghost invariant = { λ h. length h.keeper ≡ 1 };
+}
+
+/// A caller's token of a hall: its number, and for each object the calls that it made and the history that it has seen.
+#[derive(Drop)]
+pub struct Pass {
+    pub(crate) banks: RowPass<BankActor>,
+    pub(crate) ports: RowPass<Port>,
+    pub(crate) keeper: RowPass<KeeperActor>,
+}
+
+impl Model for Pass {
+    ghost use Rattle.bank_hall.specs.Halls.{PassView};
+
+    ghost Value = { PassView };
+
+    ghost view = { λ p. record { banks = p.banks; ports = p.ports; keeper = p.keeper } };
+}
+
+/// What a hall shares, and what it gives back.
+#[derive(Drop)]
+pub struct HallParts {
+    pub banks: Vec<BankActor>,
+    pub ports: Vec<Port>,
+    pub keeper: KeeperActor,
+}
+
+/// The passes of all callers, each of them one pass of each turn.
+fn tied(
+    alloc: Global,
+    banks: Vec<RowPass<BankActor>>,
+    ports: Vec<RowPass<Port>>,
+    keepers: Vec<RowPass<KeeperActor>>,
+) -> Result<Vec<Pass>, Memory>
+    ensures { IfOk result (λ all. all.items ≡ passes_of banks.items ports.items keepers.items) }
+{
+    Ok(
+        banks
+            .into_iter()
+            .zip(ports)
+            .zip(keepers)
+            .map(|((banks, ports), keeper)| Pass {
+                banks,
+                ports,
+                keeper,
+            })
+            .collect(alloc)?,
+    )
+}
+
+impl Hall {
+    /// Shares 1 to 16 banks, 1 to 16 ports and the keeper among 1 to 17 callers, whose passes have the numbers from 0 on.
+    ///
+    /// The bank at place b has the number b, the keeper as many cores as there are ports, and each mail in an inbox goes to that
+    /// inbox's actor and has a stamp of at most 2^63.
+    ///
+    /// # Errors
+    /// `Memory` where there is no room; the parts are dropped.
+    pub fn start(alloc: Global, parts: HallParts, passes: u32) -> Result<(Hall, Vec<Pass>), Memory>
+        requires some { 1 ≤ passes }
+        requires few { passes ≤ 17 }
+        requires parts { AreHallParts parts.banks.items parts.ports.items parts.keeper }
+        ensures opened { IfOk result (λ r. IsOpenedHall parts.banks.items parts.ports.items parts.keeper passes r.0) }
+        ensures count { IfOk result (λ r. length r.1.items ≡ passes) }
+        ensures new { IfOk result (λ r. AreNewPasses r.0 0 r.1.items) }
+    {
+        let HallParts {
+            banks,
+            ports,
+            keeper,
+        } = parts;
+        let mut keepers = Vec::with_capacity(alloc, 1)?;
+        keepers.push_reserved(keeper);
+        let (banks, bank_passes) = Row::start(alloc, banks, passes)?;
+        let (ports, port_passes) = Row::start(alloc, ports, passes)?;
+        let (keeper, keeper_passes) = Row::start(alloc, keepers, passes)?;
+        let all = tied(alloc, bank_passes, port_passes, keeper_passes)?;
+        Ok((
+            Hall {
+                banks,
+                ports,
+                keeper,
+            },
+            all,
+        ))
+    }
+
+    /// Waits for the turn of a core's port, and takes the mail that the pick names. None exactly where, at the call's place in the
+    /// port's history, the inbox was empty or the picked mail's stamp 2^63 or more.
+    ///
+    /// # Errors
+    /// `Memory` where there is no room: nothing was taken, and the pass is as before.
+    pub fn take<R: Wait>(
+        &self,
+        rt: &R,
+        pass: &mut Pass,
+        core: CoreId,
+        pick: u32,
+    ) -> Result<Option<Posted>, Memory>
+        requires pass { IsHallPass self.now pass.old }
+        requires port { core.0 < length self.now.ports }
+        ensures pass { IsHallPass self.now pass.new × (number_of pass.new ≡ number_of pass.old) }
+        ensures call { IfOk result (λ taken. PortCall self.now core.0 (Take pick) (Taken taken) pass.old pass.new) }
+        ensures made { IfOk result (λ taken. HasMadeCalls pass.old pass.new (port_calls core.0 (entry (number_of pass.old) (Take pick) (Taken taken)))) }
+        ensures same { OnErr result (pass.new ≡ pass.old) }
+    {
+        let input = PortIn::Take { pick };
+        match self
+            .ports
+            .call(rt, &mut pass.ports, core.0 as usize, input, || ())
+        {
+            Ok(PortOut::Taken(posted)) => Ok(posted),
+            Ok(PortOut::Kept) => unreachable!(),
+            Err((memory, _input)) => Err(memory),
+        }
+    }
+
+    /// Waits for the turn of a bank, calls the gate within it, and handles the mail that the pick names. What the step told is
+    /// handed back with the mail that the bank sends, which the caller is to post. None exactly where, at the call's place in the
+    /// bank's history, the inbox was empty or the bank was spent.
+    ///
+    /// # Errors
+    /// `Memory` where there is no room: nothing was handled, and the pass is as before.
+    pub fn bank_step<R: Wait, G: Gate>(
+        &self,
+        rt: &R,
+        pass: &mut Pass,
+        worker: u32,
+        bank: BankId,
+        pick: u32,
+        gate: &G,
+    ) -> Result<Option<Handled>, Memory>
+        requires pass { IsHallPass self.now pass.old }
+        requires bank { bank.0 < length self.now.banks }
+        ensures pass { IsHallPass self.now pass.new × (number_of pass.new ≡ number_of pass.old) }
+        ensures call { IfOk result (λ handled. BankCall self.now bank.0 (BankStep pick) (BankStepped handled) pass.old pass.new) }
+        ensures made { IfOk result (λ handled. HasMadeCalls pass.old pass.new (bank_calls bank.0 (entry (number_of pass.old) (BankStep pick) (BankStepped handled)))) }
+        ensures same { OnErr result (pass.new ≡ pass.old) }
+    {
+        let input = BankIn::Step { pick };
+        let inside = || gate.at(worker, bank);
+        match self
+            .banks
+            .call(rt, &mut pass.banks, bank.0 as usize, input, inside)
+        {
+            Ok(BankOut::Stepped(handled)) => Ok(handled),
+            Ok(BankOut::Kept) => unreachable!(),
+            Err((memory, _input)) => Err(memory),
+        }
+    }
+
+    /// Waits for the turn of the keeper, and handles the mail that the pick names. What the step told is handed back; the caller is
+    /// to post its letters. None exactly where, at the call's place in the keeper's history, the inbox was empty or the keeper
+    /// was spent.
+    ///
+    /// # Errors
+    /// `Memory` where there is no room: nothing was handled, and the pass is as before.
+    pub fn keeper_step<R: Wait>(
+        &self,
+        rt: &R,
+        pass: &mut Pass,
+        pick: u32,
+    ) -> Result<Option<KeeperHandled>, Memory>
+        requires pass { IsHallPass self.now pass.old }
+        ensures pass { IsHallPass self.now pass.new × (number_of pass.new ≡ number_of pass.old) }
+        ensures call { IfOk result (λ handled. KeeperCall self.now (KeeperStep pick) (KeeperStepped handled) pass.old pass.new) }
+        ensures made { IfOk result (λ handled. HasMadeCalls pass.old pass.new (keeper_calls (entry (number_of pass.old) (KeeperStep pick) (KeeperStepped handled)))) }
+        ensures same { OnErr result (pass.new ≡ pass.old) }
+    {
+        let input = KeeperIn::Step { pick };
+        match self.keeper.call(rt, &mut pass.keeper, 0, input, || ()) {
+            Ok(KeeperOut::Stepped(handled)) => Ok(handled),
+            Ok(KeeperOut::Kept) => unreachable!(),
+            Err((memory, _input)) => Err(memory),
+        }
+    }
+
+    fn post_to_port<R: Wait>(
+        &self,
+        rt: &R,
+        pass: &mut Pass,
+        core: CoreId,
+        posted: Posted,
+    ) -> Result<(), (Memory, Posted)>
+        requires pass { IsHallPass self.now pass.old }
+        requires port { core.0 < length self.now.ports }
+        ensures pass { IsHallPass self.now pass.new × (number_of pass.new ≡ number_of pass.old) }
+        ensures call { OnOk result (PostCall self.now posted (Core core) pass.old pass.new) }
+        ensures made { OnOk result (HasMadeCalls pass.old pass.new (post_calls (number_of pass.old) posted (Core core))) }
+        ensures same { OnErr result (pass.new ≡ pass.old) }
+        ensures back { IfErr result (λ e. e.1 ≡ posted) }
+    {
+        let input = PortIn::Post(posted);
+        match self
+            .ports
+            .call(rt, &mut pass.ports, core.0 as usize, input, || ())
+        {
+            Ok(PortOut::Kept) => Ok(()),
+            Ok(PortOut::Taken(_)) => unreachable!(),
+            Err((memory, _input)) => Err((memory, posted)),
+        }
+    }
+
+    fn post_to_bank<R: Wait>(
+        &self,
+        rt: &R,
+        pass: &mut Pass,
+        bank: BankId,
+        posted: Posted,
+    ) -> Result<(), (Memory, Posted)>
+        requires pass { IsHallPass self.now pass.old }
+        requires bank { bank.0 < length self.now.banks }
+        ensures pass { IsHallPass self.now pass.new × (number_of pass.new ≡ number_of pass.old) }
+        ensures call { OnOk result (PostCall self.now posted (Home bank) pass.old pass.new) }
+        ensures made { OnOk result (HasMadeCalls pass.old pass.new (post_calls (number_of pass.old) posted (Home bank))) }
+        ensures same { OnErr result (pass.new ≡ pass.old) }
+        ensures back { IfErr result (λ e. e.1 ≡ posted) }
+    {
+        let input = BankIn::Post(posted);
+        match self
+            .banks
+            .call(rt, &mut pass.banks, bank.0 as usize, input, || ())
+        {
+            Ok(BankOut::Kept) => Ok(()),
+            Ok(BankOut::Stepped(_)) => unreachable!(),
+            Err((memory, _input)) => Err((memory, posted)),
+        }
+    }
+
+    fn post_to_keeper<R: Wait>(
+        &self,
+        rt: &R,
+        pass: &mut Pass,
+        posted: Posted,
+    ) -> Result<(), (Memory, Posted)>
+        requires pass { IsHallPass self.now pass.old }
+        ensures pass { IsHallPass self.now pass.new × (number_of pass.new ≡ number_of pass.old) }
+        ensures call { OnOk result (PostCall self.now posted Keeper pass.old pass.new) }
+        ensures made { OnOk result (HasMadeCalls pass.old pass.new (post_calls (number_of pass.old) posted Keeper)) }
+        ensures same { OnErr result (pass.new ≡ pass.old) }
+        ensures back { IfErr result (λ e. e.1 ≡ posted) }
+    {
+        let input = KeeperIn::Post(posted);
+        match self.keeper.call(rt, &mut pass.keeper, 0, input, || ()) {
+            Ok(KeeperOut::Kept) => Ok(()),
+            Ok(KeeperOut::Stepped(_)) => unreachable!(),
+            Err((memory, _input)) => Err((memory, posted)),
+        }
+    }
+
+    /// Waits for the turn of the actor that the mail goes to, and puts it into that actor's inbox, at the end.
+    ///
+    /// # Errors
+    /// `Memory` where there is no room: nothing was posted, the pass is as before, and the mail comes back.
+    pub fn post<R: Wait>(
+        &self,
+        rt: &R,
+        pass: &mut Pass,
+        posted: Posted,
+    ) -> Result<(), (Memory, Posted)>
+        requires pass { IsHallPass self.now pass.old }
+        requires actor { HasActor self.now posted.mail.to }
+        requires stamp { posted.stamp ≤ 2 ^ 63 }
+        ensures pass { IsHallPass self.now pass.new × (number_of pass.new ≡ number_of pass.old) }
+        ensures call { OnOk result (PostCall self.now posted posted.mail.to pass.old pass.new) }
+        ensures made { OnOk result (HasMadeCalls pass.old pass.new (post_calls (number_of pass.old) posted posted.mail.to)) }
+        ensures same { OnErr result (pass.new ≡ pass.old) }
+        ensures back { IfErr result (λ e. e.1 ≡ posted) }
+    {
+        match posted.mail.to {
+            Actor::Core(core) => self.post_to_port(rt, pass, core, posted),
+            Actor::Bank(bank) => self.post_to_bank(rt, pass, bank, posted),
+            Actor::Keeper => self.post_to_keeper(rt, pass, posted),
+        }
+    }
+}
+
+/// Shows that a value goes from thread to thread.
+fn may_be_sent<T: Send>(_value: &T) {}
+
+fn hall_crosses(hall: &Hall, pass: &Pass) {
+    crosses(hall);
+    may_be_sent(pass);
+}
