@@ -6,3 +6,5 @@ pub mod Note
 pub mod Keepers
 pub mod Rows
 pub mod Halls
+pub mod Closing
+pub mod Handlings

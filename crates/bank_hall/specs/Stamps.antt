@@ -11,9 +11,17 @@ use Rattle.bank_hall.specs.declared.posted.Posted.{Posted}
 abbrev pub is_early : Posted → Bool
 is_early p = nat_lt p.stamp (2 ^ 63)
 
--- whether an actor with this clock and this number for its next mail may handle a mail; where it may not, it is spent
+-- an actor with this clock and this number for its next mail that isn't spent
+abbrev pub goes_on : ℕ → ℕ → Bool
+goes_on clock next = nat_lt clock (2 ^ 63) && nat_lt next 4294967000
+
+-- whether a mail may be taken, by whether its actor goes on
+abbrev pub may_take : Bool → Posted → Bool
+may_take going p = going && is_early p
+
+-- whether an actor with this clock and this number for its next mail may handle a mail
 abbrev pub may_handle : ℕ → ℕ → Posted → Bool
-may_handle clock next p = nat_lt clock (2 ^ 63) && nat_lt next 4294967000 && is_early p
+may_handle clock next = may_take (goes_on clock next)
 
 -- the stamp of handling a mail: one more than the greater of the actor's clock and the mail's stamp
 abbrev pub stamp_after : ℕ → Posted → ℕ

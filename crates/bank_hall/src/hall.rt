@@ -1,4 +1,4 @@
-ghost use Rattle.std.specs.Prelude.{◌≡◌, ◌<◌, ◌≤◌, ◌^◌, length, IfOk, IfErr, OnOk, OnErr};
+ghost use Rattle.std.specs.Prelude.{◌≡◌, ◌<◌, ◌≤◌, ◌^◌, [], ◌∷◌, length, map, All, IfOk, IfErr, OnOk, OnErr};
 ghost use Rattle.message_net.specs.declared.actor.Actor.TheVariants.{Core, Bank as Home, Keeper};
 ghost use Rattle.turn_lock.specs.History.{entry};
 ghost use Rattle.bank_hall.specs.declared.bank.BankIn.TheVariants.{Step as BankStep};
@@ -7,7 +7,8 @@ ghost use Rattle.bank_hall.specs.declared.port.PortIn.TheVariants.{Take};
 ghost use Rattle.bank_hall.specs.declared.port.PortOut.TheVariants.{Taken};
 ghost use Rattle.bank_hall.specs.declared.keeper.KeeperIn.TheVariants.{Step as KeeperStep};
 ghost use Rattle.bank_hall.specs.declared.keeper.KeeperOut.TheVariants.{Stepped as KeeperStepped};
-ghost use Rattle.bank_hall.specs.Halls.{IsHallPass, HasActor, HasMadeCalls, BankCall, PortCall, KeeperCall, PostCall, number_of, bank_calls, port_calls, keeper_calls, post_calls, AreHallParts, IsOpenedHall, AreNewPasses, passes_of};
+ghost use Rattle.bank_hall.specs.Halls.{IsHallPass, HasActor, HasMadeCalls, BankCall, PortCall, KeeperCall, PostCall, number_of, bank_calls, port_calls, keeper_calls, post_calls, AreHallParts, IsOpenedHall, AreNewPasses, passes_of, bank_state, bank_answer, bank_next, port_inbox, port_answer, port_next, keeper_state, keeper_answer, keeper_next};
+ghost use Rattle.bank_hall.specs.Closing.{AreAllHallPasses, IsClosedRow, IsToldPass};
 
 use crate::bank::{BankActor, BankIn, BankOut, Handled};
 use crate::keeper::{KeeperActor, KeeperHandled, KeeperIn, KeeperOut};
@@ -19,6 +20,7 @@ use message_net::Actor;
 use std::alloc::Global;
 use std::marker::Model;
 use std::sync::Wait;
+use turn_lock::Entry;
 
 /// The banks, the ports and the keeper of one run, each under a turn of its own. Any number of threads may call through a
 /// `&Hall`, each with a pass of its own.
@@ -64,6 +66,17 @@ pub struct HallParts {
     pub keeper: KeeperActor,
 }
 
+/// What a hall was when it was closed: its parts, and of each of them all calls that were made of it, in their one order.
+#[derive(Drop)]
+pub struct HallEnd {
+    pub parts: HallParts,
+    /// Of the bank at each place.
+    pub banks: Vec<Vec<Entry<BankActor>>>,
+    /// Of the port at each place.
+    pub ports: Vec<Vec<Entry<Port>>>,
+    pub keeper: Vec<Entry<KeeperActor>>,
+}
+
 /// The passes of all callers, each of them one pass of each turn.
 fn tied(
     alloc: Global,
@@ -87,6 +100,51 @@ fn tied(
     )
 }
 
+/// A caller's passes of the banks, of the ports and of the keeper.
+#[derive(Drop)]
+struct Apart {
+    banks: Vec<RowPass<BankActor>>,
+    ports: Vec<RowPass<Port>>,
+    keeper: Vec<RowPass<KeeperActor>>,
+}
+
+/// The passes of the banks, of the ports and of the keeper, of all callers.
+fn untied(alloc: Global, mut passes: Vec<Pass>) -> Result<Apart, Memory>
+    ensures banks { IfOk result (λ all. all.banks.items ≡ map (λ p. p.banks) passes.items) }
+    ensures ports { IfOk result (λ all. all.ports.items ≡ map (λ p. p.ports) passes.items) }
+    ensures keeper { IfOk result (λ all. all.keeper.items ≡ map (λ p. p.keeper) passes.items) }
+{
+    let mut banks = Vec::new(alloc);
+    let mut ports = Vec::new(alloc);
+    let mut keeper = Vec::new(alloc);
+    while let Some(pass) = passes.pop() {
+        banks.insert(0, pass.banks)?;
+        ports.insert(0, pass.ports)?;
+        keeper.insert(0, pass.keeper)?;
+    }
+    Ok(Apart {
+        banks,
+        ports,
+        keeper,
+    })
+}
+
+/// The keeper and its history, of a row of one.
+fn only(
+    mut keepers: Vec<KeeperActor>,
+    mut histories: Vec<Vec<Entry<KeeperActor>>>,
+) -> (KeeperActor, Vec<Entry<KeeperActor>>)
+    requires one { length keepers.items ≡ 1 }
+    requires history { length histories.items ≡ 1 }
+    ensures keeper { keepers.items ≡ result.0 ∷ [] }
+    ensures history { map (λ h. h.items) histories.items ≡ result.1.items ∷ [] }
+{
+    match (keepers.pop(), histories.pop()) {
+        (Some(keeper), Some(history)) => (keeper, history),
+        _ => unreachable!(),
+    }
+}
+
 impl Hall {
     /// Shares 1 to 16 banks, 1 to 16 ports and the keeper among 1 to 17 callers, whose passes have the numbers from 0 on.
     ///
@@ -102,6 +160,7 @@ impl Hall {
         ensures opened { IfOk result (λ r. IsOpenedHall parts.banks.items parts.ports.items parts.keeper passes r.0) }
         ensures count { IfOk result (λ r. length r.1.items ≡ passes) }
         ensures new { IfOk result (λ r. AreNewPasses r.0 0 r.1.items) }
+        ensures all { IfOk result (λ r. AreAllHallPasses r.0 r.1.items) }
     {
         let HallParts {
             banks,
@@ -311,6 +370,42 @@ impl Hall {
             Actor::Bank(bank) => self.post_to_bank(rt, pass, bank, posted),
             Actor::Keeper => self.post_to_keeper(rt, pass, posted),
         }
+    }
+
+    /// Ends the sharing, with all passes of the hall: its parts, and of each bank, of each port and of the keeper all calls that
+    /// were made of it, in their one order. A single thread could have made them, and each pass made just those that have its
+    /// number, in its order.
+    ///
+    /// # Errors
+    /// `Memory` where there is no room; the hall and the passes are dropped.
+    pub fn close(self, alloc: Global, passes: Vec<Pass>) -> Result<HallEnd, Memory>
+        requires { AreAllHallPasses self passes.items }
+        ensures banks { IfOk result (λ end. IsClosedRow bank_state bank_answer bank_next self.banks (length passes.items) end.parts.banks.items (map (λ h. h.items) end.banks.items)) }
+        ensures ports { IfOk result (λ end. IsClosedRow port_inbox port_answer port_next self.ports (length passes.items) end.parts.ports.items (map (λ h. h.items) end.ports.items)) }
+        ensures keeper { IfOk result (λ end. IsClosedRow keeper_state keeper_answer keeper_next self.keeper (length passes.items) (end.parts.keeper ∷ []) (end.keeper.items ∷ [])) }
+        ensures told { IfOk result (λ end. All (IsToldPass (map (λ h. h.items) end.banks.items) (map (λ h. h.items) end.ports.items) end.keeper.items) passes.items) }
+    {
+        let Hall {
+            banks,
+            ports,
+            keeper,
+        } = self;
+        let callers = untied(alloc, passes)?;
+        let (banks, bank_calls) = banks.close(alloc, callers.banks)?;
+        let (ports, port_calls) = ports.close(alloc, callers.ports)?;
+        let (keepers, keeper_calls) = keeper.close(alloc, callers.keeper)?;
+        let (keeper, keeper_calls) = only(keepers, keeper_calls);
+        let parts = HallParts {
+            banks,
+            ports,
+            keeper,
+        };
+        Ok(HallEnd {
+            parts,
+            banks: bank_calls,
+            ports: port_calls,
+            keeper: keeper_calls,
+        })
     }
 }
 

@@ -3,7 +3,7 @@ ghost use Rattle.bank_hall.specs.Note.{letter_to};
 ghost use Rattle.bank_hall.specs.Keepers.{keeper_steps, keeper_call};
 ghost use Rattle.phase_barrier.specs.Letters.{letter_count};
 
-use crate::posted::{Posted, crosses, note, stamp_of, take_picked};
+use crate::posted::{Posted, crosses, goes_on, note, stamp_of, take_picked};
 use dn_base::{CoreId, Memory};
 use grant_log::Stamped;
 use message_net::{Actor, Outgoing};
@@ -13,7 +13,7 @@ use turn_lock::Object;
 
 /// What the keeper's step tells its caller: what was noted, the verdict, and the number of the letter to core 0. The letters to
 /// the cores, which the caller is to post, are numbered from there on.
-#[derive(Clone, Copy, Debug, PartialEq, Eq)]
+#[derive(Clone, Copy, Debug)]
 pub struct KeeperHandled {
     pub stamped: Stamped,
     pub verdict: Verdict,
@@ -57,7 +57,7 @@ pub enum KeeperIn {
 }
 
 /// What a call of the keeper answers: the mail is in the inbox, or what the step did.
-#[derive(Clone, Copy, Debug, PartialEq, Eq)]
+#[derive(Clone, Copy, Debug)]
 pub enum KeeperOut {
     Kept,
     /// None exactly where the inbox was empty or the keeper was spent; nothing changed then.
@@ -127,7 +127,8 @@ impl KeeperActor {
         ensures state { self.new.state ≡ (keeper_steps self.old.state pick).0 }
         ensures handled { result ≡ (keeper_steps self.old.state pick).1 }
     {
-        let posted = take_picked(&mut self.inbox, pick, self.clock, self.next)?;
+        let goes_on = goes_on(self.clock, self.next);
+        let posted = take_picked(&mut self.inbox, pick, goes_on)?;
         let stamp = stamp_of(self.clock, &posted);
         let first = self.next;
         let cores = self.keeper.cores();

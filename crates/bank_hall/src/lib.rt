@@ -8,6 +8,7 @@
 mod bank;
 mod hall;
 mod keeper;
+mod laws;
 mod port;
 mod posted;
 mod row;
@@ -15,7 +16,11 @@ mod row;
 mod tests;
 
 pub use bank::{BankActor, BankIn, BankOut, Handled};
-pub use hall::{Hall, HallParts, Pass};
+pub use hall::{Hall, HallEnd, HallParts, Pass};
 pub use keeper::{KeeperActor, KeeperHandled, KeeperIn, KeeperOut};
+pub use laws::{
+    a_bank_handles_its_mails, a_banks_stamps_rise, a_keeper_handles_its_mails,
+    a_port_loses_no_mail, the_keepers_stamps_rise,
+};
 pub use port::{Port, PortIn, PortOut};
-pub use posted::Posted;
+pub use posted::{Posted, goes_on, stamp_of};

@@ -85,7 +85,7 @@ impl Object for Port {
                 self.inbox.push_reserved(posted);
                 PortOut::Kept
             }
-            PortIn::Take { pick } => PortOut::Taken(take_picked(&mut self.inbox, pick, 0, 0)),
+            PortIn::Take { pick } => PortOut::Taken(take_picked(&mut self.inbox, pick, true)),
         }
     }
 }

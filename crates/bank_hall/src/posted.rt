@@ -1,5 +1,5 @@
-ghost use Rattle.std.specs.Prelude.{◌≡◌, ◌^◌, ◌<◌, IfSome, IfNone, length, slice_get, Some, None, vec_len, vec_capacity};
-ghost use Rattle.bank_hall.specs.Stamps.{may_handle, stamp_after, noted};
+ghost use Rattle.std.specs.Prelude.{◌≡◌, ◌^◌, ◌<◌, true, IfSome, IfNone, length, slice_get, Some, None, vec_len, vec_capacity};
+ghost use Rattle.bank_hall.specs.Stamps.{goes_on, may_take, stamp_after, noted};
 ghost use Rattle.bank_hall.specs.Inbox.{place_in, taken};
 
 use grant_log::Stamped;
@@ -18,11 +18,12 @@ const LAST_STAMP: u64 = 1 << 63;
 /// From this number for its next mail on an actor handles no mail.
 const LAST_NUMBER: u32 = 4_294_967_000;
 
-/// Whether an actor with this clock and this number for its next mail may handle a mail.
-pub(crate) fn can_handle(clock: u64, next: u32, posted: &Posted) -> bool
-    ensures { result ≡ may_handle clock next posted.now }
+/// Whether an actor with this clock and this number for its next mail isn't spent (this project's profile): both are below the
+/// numbers from which on it does nothing more.
+pub fn goes_on(clock: u64, next: u32) -> bool
+    ensures { result ≡ goes_on clock next }
 {
-    clock < LAST_STAMP && next < LAST_NUMBER && posted.stamp < LAST_STAMP
+    clock < LAST_STAMP && next < LAST_NUMBER
 }
 
 /// The place that a pick names; None in an empty inbox.
@@ -36,27 +37,22 @@ fn place_of(inbox: &[Posted], pick: u32) -> Option<usize>
     Some(pick as usize % inbox.len())
 }
 
-/// Takes the mail that the pick names out of the inbox, where there is one and an actor with this clock and this number for its
-/// next mail may handle it. The last mail moves into the free place.
-pub(crate) fn take_picked(
-    inbox: &mut Vec<Posted>,
-    pick: u32,
-    clock: u64,
-    next: u32,
-) -> Option<Posted>
-    ensures mail { result ≡ (taken (may_handle clock next) inbox.old.items pick).0 }
-    ensures rest { inbox.new.items ≡ (taken (may_handle clock next) inbox.old.items pick).1 }
-    ensures room { IfSome result (λ posted. (clock < 2 ^ 63) × (next < 4294967000) × (posted.stamp < 2 ^ 63)) }
+/// Takes the mail that the pick names out of the inbox, where there is one with a stamp below 2^63, and its actor goes on. The
+/// last mail moves into the free place.
+pub(crate) fn take_picked(inbox: &mut Vec<Posted>, pick: u32, goes_on: bool) -> Option<Posted>
+    ensures mail { result ≡ (taken (may_take goes_on) inbox.old.items pick).0 }
+    ensures rest { inbox.new.items ≡ (taken (may_take goes_on) inbox.old.items pick).1 }
+    ensures room { IfSome result (λ posted. (goes_on ≡ true) × (posted.stamp < 2 ^ 63)) }
 {
     let place = place_of(inbox.as_slice(), pick)?;
-    if !can_handle(clock, next, &inbox[place]) {
+    if !goes_on || inbox[place].stamp >= LAST_STAMP {
         return None;
     }
     Some(inbox.swap_remove(place))
 }
 
-/// The stamp of handling a mail, by the actor's clock.
-pub(crate) fn stamp_of(clock: u64, posted: &Posted) -> u64
+/// The stamp of handling a mail (this project's profile): one more than the greater of the actor's clock and the mail's stamp.
+pub fn stamp_of(clock: u64, posted: &Posted) -> u64
     requires clock { clock < 2 ^ 63 }
     requires stamp { posted.now.stamp < 2 ^ 63 }
     ensures { result ≡ stamp_after clock posted.now }

@@ -1,7 +1,8 @@
 ghost use Rattle.std.specs.Prelude.{ℕ, ◌+◌, ◌%◌, ◌^◌};
 
 use dn_base::Memory;
-use turn_lock::Object;
+use std::alloc::Global;
+use turn_lock::{Entry, Object};
 
 /// Adds its input to a total, and answers the total, modulo 2^64.
 #[derive(Drop)]
@@ -31,5 +32,34 @@ impl Object for Total {
     fn step(&mut self, input: u32) -> u64 {
         self.sum = self.sum.wrapping_add(u64::from(input));
         self.sum
+    }
+}
+
+/// The same with the history of its calls, for whoever keeps both under one lock.
+#[derive(Drop)]
+pub struct Noted {
+    pub total: Total,
+    pub history: Vec<Entry<Total>>,
+}
+
+impl Noted {
+    pub fn new(alloc: Global) -> Noted {
+        Noted {
+            total: Total { sum: 0 },
+            history: Vec::new(alloc),
+        }
+    }
+
+    /// One call, as a turn makes it.
+    pub fn call(&mut self, pass: u32, input: u32) -> Result<u64, Memory> {
+        self.total.reserve()?;
+        self.history.reserve(1)?;
+        let output = self.total.step(input);
+        self.history.push_reserved(Entry {
+            pass,
+            input,
+            output,
+        });
+        Ok(output)
     }
 }

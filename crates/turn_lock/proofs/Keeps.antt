@@ -1,5 +1,5 @@
 -- Each kind of step keeps the rule of a turn.
-use Rattle.std.proofs.Common.{◌≡◌, ℕ, zero, suc, ◌+◌, ◌-◌, ◌%◌, ◌^◌, ◌<◌, ◌≤◌, ◌≢◌, ◌⊎◌, cond, eqb, eq-eqb, ne_eqb, List, [], ◌∷◌, ◌++◌, length, map, set, filter, sym, refl, ap, ◌∙◌, subst, inl, inr, ⊎_elim, arith, length-append, length-set}
+use Rattle.std.proofs.Common.{◌≡◌, ℕ, zero, suc, ◌+◌, ◌-◌, ◌%◌, ◌^◌, ◌<◌, ◌≤◌, ◌≢◌, ◌⊎◌, cond, eqb, eq-eqb, ne_eqb, List, [], ◌∷◌, ◌++◌, length, map, set, filter, sym, refl, ap, ◌∙◌, subst, inl, inr, ⊎_elim, arith, length-append, length-set, append-nil}
 use Rattle.std.proofs.lemmas.List.{length-map}
 use Rattle.std.specs.List.{All}
 use Rattle.std.proofs.lemmas.List.Sums.{sum_by_push, sum_by-le-sum_by}
@@ -15,8 +15,8 @@ use Rattle.turn_lock.specs.declared.view.Stage.TheVariants.{Idle, Waiting, Insid
 use Rattle.turn_lock.specs.declared.view.View.{View}
 use Rattle.turn_lock.specs.History.{BeginsWith}
 use Rattle.turn_lock.specs.Standing.{ticket, in_line, passes_at, weight, standing, dealer, dealt, newcomer, gathered, spent}
-use Rattle.turn_lock.specs.Turns.{IsClaim, Lives, Stands, HasTicket, IsOut, Turns}
-use Rattle.turn_lock.proofs.Lists.{at_less, at_same, sum_set, sum_two, at_snoc_place, tail, at_tail, length-tail, all_but, begins_longer, others_same, none_of}
+use Rattle.turn_lock.specs.Turns.{IsClaim, Lives, Stands, HasTicket, IsOut, HasSeen, IsSeen, Turns}
+use Rattle.turn_lock.proofs.Lists.{at_less, at_same, sum_set, sum_two, at_snoc_place, at_behind, tail, at_tail, length-tail, all_but, begins_longer, others_same, none_of}
 
 in_line_le : {E : Type 0} (s : Stage E) (n : ℕ) → in_line s ≤ passes_at s n
 in_line_le Idle n = omega arith
@@ -48,6 +48,48 @@ module _ {X E : Type 0} where
   out_idle line log views id v w at idle (seat, u, t, first, here, inside) =
       let ne : seat ≢ id = λ is. let same : u ≡ v = at_same views id u v (subst (λ k. get_elem? views k ≡ some u) is here) at in let e : u.stage ≡ v.stage = ap (λ (u : View X E). u.stage) same in let bad : Inside t log ≡ Idle = sym inside ∙ (e ∙ idle) in absurd (cc) in
       (seat, u, t, first, set_else views id seat w ne ∙ here, inside)
+
+  -- what a pass has seen is still seen where its seat keeps its claims
+  seen_set : (log : List E) (views : List (View X E)) (id : ℕ) (v w : View X E) → get_elem? views id ≡ some v → w.stage ≢ Gone → ((i : ℕ) (c : Claim E) → get_elem? (v.own ∷ v.joined) i ≡ some c → get_elem? (w.own ∷ w.joined) i ≡ some c) → IsSeen log views → IsSeen log (set views id w)
+  seen_set log views id v w at live keeps s =
+      dite
+      (ℕ_discrete s.seat id)
+      (λ is. let same : s.view ≡ v = at_same views id s.view v (subst (λ k. get_elem? views k ≡ some s.view) is s.here) at in record {
+        seat = id;
+        view = w;
+        here = set_here views id w (at_less views id v at);
+        lives = live;
+        seen = let old = subst (HasSeen log) same s.seen in (old.0, old.1, keeps old.0 old.1 old.2, old.3);
+      })
+      (λ ne. record { seat = s.seat; view = s.view; here = set_else views id s.seat w ne ∙ s.here; lives = s.lives; seen = s.seen })
+
+  seen_longer : (log : List E) (views more : List (View X E)) → IsSeen log views → IsSeen log (views ++ more)
+  seen_longer log views more s = record { seat = s.seat; view = s.view; here = at_longer views more s.seat s.view s.here; lives = s.lives; seen = s.seen }
+
+  -- and where its claims go to another seat
+  seen_joined : (log : List E) (views : List (View X E)) (id other : ℕ) (v w : View X E) → get_elem? views id ≡ some v → other ≢ id → get_elem? views other ≡ some w → v.stage ≢ Gone → IsSeen log views → IsSeen log (set (set views id (gathered v w)) other spent)
+  seen_joined log views id other v w at ne at' live s =
+      let z : View X E = gathered v w in
+      let here : get_elem? (set (set views id z) other spent) id ≡ some z = set_else (set views id z) other id spent (λ is. ne (sym is)) ∙ set_here views id z (at_less views id v at) in
+      dite
+      (ℕ_discrete s.seat other)
+      (λ is. let same : s.view ≡ w = at_same views other s.view w (subst (λ k. get_elem? views k ≡ some s.view) is s.here) at' in record {
+        seat = id;
+        view = z;
+        here = here;
+        lives = live;
+        seen = let old = subst (HasSeen log) same s.seen in (length (v.own ∷ v.joined) + old.0, old.1, at_behind (v.own ∷ v.joined) (w.own ∷ w.joined) old.0 ∙ old.2, old.3);
+      })
+      (λ apart. dite
+      (ℕ_discrete s.seat id)
+      (λ is. let same : s.view ≡ v = at_same views id s.view v (subst (λ k. get_elem? views k ≡ some s.view) is s.here) at in record {
+        seat = id;
+        view = z;
+        here = here;
+        lives = live;
+        seen = let old = subst (HasSeen log) same s.seen in (old.0, old.1, at_longer (v.own ∷ v.joined) (w.own ∷ w.joined) old.0 old.1 old.2, old.3);
+      })
+      (λ else. record { seat = s.seat; view = s.view; here = set_else (set views id z) other s.seat spent apart ∙ (set_else views id s.seat z else ∙ s.here); lives = s.lives; seen = s.seen }))
 
 module _ {S E : Type 0} where
   stands_longer : (served : ℕ) (line more : List ℕ) (log : List E) (homes : List (Option S)) (seat : ℕ) (s : Stage E) → Stands served line log homes seat s → Stands served (line ++ more) log homes seat s
@@ -113,6 +155,7 @@ module _ {S X E : Type 0} (by : E → ℕ) (Good : X → List E → S → Type 0
             w
             (inr (record { opening = refl; own = l.0.own; joined = l.0.joined; deals = l.0.deals }, (length t.line, at_last t.line id (length t.line) refl, t.tickets)))
             (λ j u ne e. ⊎_elim (λ gone. inl gone) (λ b. inr (b.0, stands_longer served t.line (id ∷ []) t.log homes j u.stage b.1)) (t.seats j u e));
+        longest = seen_set t.log views id v w at (λ e. absurd (cc)) (λ i k h. h) t.longest;
         named = t.named;
         parts = omega (arith, t.parts);
       }
@@ -161,6 +204,7 @@ module _ {S X E : Type 0} (by : E → ℕ) (Good : X → List E → S → Type 0
             w
             (inr (record { opening = refl; own = l.0.own; joined = l.0.joined; deals = l.0.deals }, (first, own, refl, refl)))
             (λ j u ne e. ⊎_elim (λ gone. inl gone) (λ b. inr (b.0, stands_other served r.line r.log homes (none ∷ []) id j u.stage first ne b.1)) (r.seats j u e));
+        longest = seen_set r.log views id v w at (λ e. absurd (cc)) (λ i k h. h) r.longest;
         named = r.named;
         parts = omega (arith, r.parts);
       } in
@@ -181,9 +225,9 @@ module _ {S X E : Type 0} (by : E → ℕ) (Good : X → List E → S → Type 0
   }
 
   pub leaves : (id : ℕ) (c : Claim E) (n t drawn served : ℕ) (known more : List E) (y : S) (c' : Claim E) (homes : List (Option S)) (views : List (View X E)) → Turns by Good x passes drawn served homes views → get_elem? views id ≡ some (standing x c n (Inside t known)) → served < 2 ^ 64
-      → Good x (known ++ more) y → All (λ e. by e ≡ c.number) more → c'.number ≡ c.number → (BeginsWith known c.seen → filter (λ e. eqb (by e) c.number) known ≡ c.mine → BeginsWith (known ++ more) c'.seen × (filter (λ e. eqb (by e) c.number) (known ++ more) ≡ c'.mine))
+      → Good x (known ++ more) y → All (λ e. by e ≡ c.number) more → c'.number ≡ c.number → (BeginsWith known c.seen → filter (λ e. eqb (by e) c.number) known ≡ c.mine → BeginsWith (known ++ more) c'.seen × (filter (λ e. eqb (by e) c.number) (known ++ more) ≡ c'.mine)) → (c'.seen ≡ known ++ more) ⊎ ((c' ≡ c) × (more ≡ []))
       → (homes ≡ none ∷ []) × Turns by Good x passes drawn ((served + 1) % 2 ^ 64) (some y ∷ []) (set views id (standing x c' n Idle))
-  leaves id c n t drawn served known more y c' homes views r at fits good theirs number tells =
+  leaves id c n t drawn served known more y c' homes views r at fits good theirs number tells sees =
       let v : View X E = standing x c n (Inside t known) in
       let w : View X E = standing x c' n Idle in
       let l = lives drawn served homes views r id v at (λ e. absurd (cc)) in
@@ -247,6 +291,13 @@ module _ {S X E : Type 0} (by : E → ℕ) (Good : X → List E → S → Type 0
                 stands_next served r.line r.log (r.log ++ more) homes (some y ∷ []) id j u.stage first ne b.1,
               ))
               (r.seats j u e));
+          longest = ⊎_elim
+              (λ (all : c'.seen ≡ known ++ more). record { seat = id; view = w; here = set_here views id w (at_less views id v at); lives = λ e. absurd (cc); seen = (0, c', refl, all ∙ ap (λ k. k ++ more) knows) })
+              (λ old. subst
+              (λ k. IsSeen k (set views id w))
+              (sym (append-nil r.log) ∙ ap (λ k. r.log ++ k) (sym old.1))
+              (seen_set r.log views id v w at (λ e. absurd (cc)) (λ i k h. subst (λ o. get_elem? (o ∷ []) i ≡ some k) (sym old.0) h) r.longest))
+              sees;
           named = All-append (λ e. by e < length r.owners) r.log more r.named (All-weaker (λ e. by e ≡ c.number) (λ e. by e < length r.owners) (λ e is. omega arith) more theirs);
           parts = omega (arith, r.parts);
         },
@@ -336,6 +387,7 @@ module _ {S X E : Type 0} (by : E → ℕ) (Good : X → List E → S → Type 0
               tt,
             )))
             (at_snoc_place (set views id w) new u seat e);
+        longest = seen_longer r.log (set views id w) (new ∷ []) (seen_set r.log views id v w at (λ e. let bad : ◌≡◌ {A = Stage E} Gone Idle = sym e ∙ idle in absurd (cc)) (λ i k h. h) r.longest);
         named = All-weaker (λ e. by e < length r.owners) (λ e. by e < length (r.owners ++ length views ∷ [])) (λ e is. omega arith) r.log r.named;
         parts = omega (arith, r.parts);
       }
@@ -434,6 +486,7 @@ module _ {S X E : Type 0} (by : E → ℕ) (Good : X → List E → S → Type 0
             ))
             (r.seats j d else.1))
             (at_set views id j z d e));
+        longest = seen_joined r.log views id other v w at ne at' (λ e. let bad : ◌≡◌ {A = Stage E} Gone Idle = sym e ∙ idle in absurd (cc)) r.longest;
         named = All-weaker (λ e. by e < length r.owners) (λ e. by e < length owners') (λ e is. omega arith) r.log r.named;
         parts = omega (arith, r.parts);
       }
@@ -451,6 +504,7 @@ module _ {S X E : Type 0} (by : E → ℕ) (Good : X → List E → S → Type 0
         lined = λ i seat e. absurd (some-ne-none seat (sym e));
         slot = inl (y, refl, good);
         seats = one_seat d;
+        longest = record { seat = 0; view = d; here = refl; lives = λ e. absurd (cc); seen = (0, d.own, refl, refl) };
         named = All-nil _;
         parts = omega arith;
       }
@@ -469,7 +523,15 @@ module _ {S X E : Type 0} (by : E → ℕ) (Good : X → List E → S → Type 0
     pub good : Good x log value
     pub own : BeginsWith log v.own.seen × (filter (λ e. eqb (by e) v.own.number) log ≡ v.own.mine)
     pub joined : All (λ c. BeginsWith log c.seen × (filter (λ e. eqb (by e) c.number) log ≡ c.mine)) v.joined
+    pub longest : HasSeen log v
     pub named : All (λ e. by e < passes) log
+
+  -- a live seat stands for some pass
+  some_weight : (s : Stage E) (n : ℕ) → s ≢ Gone → 0 < passes_at s n
+  some_weight Idle n live = omega arith
+  some_weight (Waiting t) n live = omega arith
+  some_weight (Inside t known) n live = omega arith
+  some_weight Gone n live = absurd (live refl)
 
   -- where one idle seat stands for all passes, the object is at home
   pub settles : (id : ℕ) (v : View X E) (drawn served : ℕ) (homes : List (Option S)) (views : List (View X E)) → Turns by Good x passes drawn served homes views → get_elem? views id ≡ some v → v.stage ≡ Idle → weight v ≡ passes → Settled v homes
@@ -482,6 +544,12 @@ module _ {S X E : Type 0} (by : E → ℕ) (Good : X → List E → S → Type 0
         good = good;
         own = (l.0.own.seen, l.0.own.mine);
         joined = All-weaker (IsClaim by r.owners r.log id) (λ (c : Claim E). BeginsWith r.log c.seen × (filter (λ e. eqb (by e) c.number) r.log ≡ c.mine)) (λ c h. (h.seen, h.mine)) v.joined l.0.joined;
+        longest = let s = r.longest in dite
+            (ℕ_discrete s.seat id)
+            (λ is. subst (HasSeen r.log) (at_same views id s.view v (subst (λ k. get_elem? views k ≡ some s.view) is s.here) at) s.seen)
+            (λ apart.
+            let two = sum_two weight views s.seat id s.view v apart s.here at in
+            let some_pass = some_weight s.view.stage (s.view.spare + length s.view.joined) s.lives in absurd (omega (arith, r.parts)));
         named = All-weaker (λ e. by e < length r.owners) (λ e. by e < passes) (λ e is. omega (arith, r.given)) r.log r.named;
       } in
       ⊎_elim
@@ -489,5 +557,5 @@ module _ {S X E : Type 0} (by : E → ℕ) (Good : X → List E → S → Type 0
       (λ out. let o = out.1 in
       let apart : id ≢ o.0 = λ is. let same : v ≡ o.1 = at_same views id v o.1 at (subst (λ k. get_elem? views k ≡ some o.1) (sym is) o.4) in let bad : ◌≡◌ {A = Stage E} Idle (Inside o.2 r.log) = sym idle ∙ (ap (λ (u : View X E). u.stage) same ∙ o.5) in absurd (cc) in
       let two = sum_two weight views id o.0 v o.1 apart at o.4 in
-      let some_weight : weight o.1 ≡ 1 + (o.1.spare + length o.1.joined) = ap (λ k. passes_at k (o.1.spare + length o.1.joined)) o.5 in absurd (omega (arith, r.parts)))
+      let its_weight : weight o.1 ≡ 1 + (o.1.spare + length o.1.joined) = ap (λ k. passes_at k (o.1.spare + length o.1.joined)) o.5 in absurd (omega (arith, r.parts)))
       r.slot

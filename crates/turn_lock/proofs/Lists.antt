@@ -1,6 +1,6 @@
 -- Lists: sums of the weights of seats, calls of one pass, beginnings.
-use Rattle.std.proofs.Common.{◌≡◌, ℕ, zero, suc, ◌+◌, ◌<◌, ◌≤◌, ◌≢◌, ◌⊎◌, cond, eqb, eq-eqb, ne_eqb, List, [], ◌∷◌, ◌++◌, length, set, sum_by, filter, sym, refl, ap, subst, ◌∙◌, inl, inr, ⊎_elim, arith, append_assoc, append-nil}
-use Rattle.std.specs.List.{All}
+use Rattle.std.proofs.Common.{◌≡◌, ℕ, zero, suc, ◌+◌, ◌<◌, ◌≤◌, ◌≢◌, ◌⊎◌, cond, eqb, eq-eqb, ne_eqb, List, [], ◌∷◌, ◌++◌, length, get_or, set, sum_by, filter, sym, refl, ap, subst, ◌∙◌, inl, inr, ⊎_elim, arith, append_assoc, append-nil}
+use Rattle.std.specs.List.{All, Any}
 use Rattle.std.proofs.lemmas.List.Sums.{sum_by-cons}
 use Rattle.std.proofs.lemmas.List.Elements.{filter-append, All-head, All-tail}
 use mathlib.Core.Option.{some, some-injective, some-ne-none}
@@ -16,6 +16,14 @@ module _ {A : Type 0} where
 
   pub at_same : (l : List A) (i : ℕ) (a b : A) → get_elem? l i ≡ some a → get_elem? l i ≡ some b → a ≡ b
   at_same l i a b p q = some-injective a b (sym p ∙ q)
+
+  pub or_at : (l : List A) (i : ℕ) (a d : A) → get_elem? l i ≡ some a → get_or l i d ≡ a
+  or_at [] i a d e = absurd (some-ne-none a (sym e))
+  or_at (x ∷ xs) zero a d e = some-injective x a e
+  or_at (x ∷ xs) (suc i) a d e = or_at xs i a d e
+
+  pub any_at : (P : A → Type 0) (l : List A) (i : ℕ) (a : A) → get_elem? l i ≡ some a → P a → Any P l
+  any_at P l i a e p = (i, a, at_less l i a e, or_at l i a a e, p)
 
   -- the sum after a change at one place
   pub sum_set : (f : A → ℕ) (l : List A) (i : ℕ) (a b : A) → get_elem? l i ≡ some a → sum_by f (set l i b) + f a ≡ sum_by f l + f b
@@ -44,6 +52,12 @@ module _ {A : Type 0} where
   at_snoc_place [] a b (suc j) e = absurd (some-ne-none b (sym e))
   at_snoc_place (x ∷ xs) a b zero e = inl e
   at_snoc_place (x ∷ xs) a b (suc j) e = ⊎_elim (λ h. inl h) (λ h. inr (ap suc h.0, h.1)) (at_snoc_place xs a b j e)
+
+  -- what stands in the second of two lists stands behind the first
+  pub at_behind : (xs ys : List A) (i : ℕ) → get_elem? (xs ++ ys) (length xs + i) ≡ get_elem? ys i
+  at_behind [] ys i = let here : 0 + i ≡ i = omega arith in ap (get_elem? ys) here
+  at_behind (x ∷ xs) ys i =
+      let next : length (x ∷ xs) + i ≡ suc (length xs + i) = omega arith in ap (get_elem? (x ∷ (xs ++ ys))) next ∙ at_behind xs ys i
 
   pub tail : List A → List A
   tail [] = []

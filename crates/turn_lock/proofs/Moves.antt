@@ -1,5 +1,5 @@
 -- What the steps ask of the table, from the lemmas that they keep the rule.
-use Rattle.std.proofs.Common.{◌≡◌, ℕ, ◌+◌, ◌-◌, ◌%◌, ◌^◌, ◌<◌, ◌≤◌, eqb, List, [], ◌∷◌, ◌++◌, length, get_or, set, filter, sym, refl, ap, ◌∙◌, subst, arith, length-set, get_or-set_same, get_or-set_other, append-nil}
+use Rattle.std.proofs.Common.{◌≡◌, ℕ, ◌+◌, ◌-◌, ◌%◌, ◌^◌, ◌<◌, ◌≤◌, ◌⊎◌, inl, inr, eqb, List, [], ◌∷◌, ◌++◌, length, get_or, set, filter, sym, refl, ap, ◌∙◌, subst, arith, length-set, get_or-set_same, get_or-set_other, append-nil}
 use Rattle.std.proofs.lemmas.List.Elements.{All-nil}
 use Rattle.atomic_table.proofs.Lists.{set_again, set_else}
 use Rattle.std.specs.List.{All}
@@ -77,11 +77,11 @@ module _ {S X E : Type 0} (by : E → ℕ) (Good : X → List E → S → Type 0
 
   -- the slot is given back with a value for what the seat then knows
   hand_back : (id : ℕ) (c : Claim E) (n t : ℕ) (known more : List E) (y : S) (c' : Claim E) (then : ℕ → Me S (View X E) → Type 0)
-      → Good x (known ++ more) y → All (λ e. by e ≡ c.number) more → c'.number ≡ c.number → (BeginsWith known c.seen → filter (λ e. eqb (by e) c.number) known ≡ c.mine → BeginsWith (known ++ more) c'.seen × (filter (λ e. eqb (by e) c.number) (known ++ more) ≡ c'.mine))
+      → Good x (known ++ more) y → All (λ e. by e ≡ c.number) more → c'.number ≡ c.number → (BeginsWith known c.seen → filter (λ e. eqb (by e) c.number) known ≡ c.mine → BeginsWith (known ++ more) c'.seen × (filter (λ e. eqb (by e) c.number) (known ++ more) ≡ c'.mine)) → (c'.seen ≡ known ++ more) ⊎ ((c' ≡ c) × (more ≡ []))
       → ((found : ℕ) → then found (standing x c' n Idle, []))
       → Allows (Kept by Good x passes) slots id (standing x c n (Inside t known), (0, y) ∷ []) 1 (λ k. (k + 1) % 2 ^ 64) then
-  hand_back id c n t known more y c' then good theirs number tells told_of s k one at fits =
-      let l = leaves by Good x passes id c n t _ _ known more y c' s.homes s.views k.turns at fits good theirs number tells in (
+  hand_back id c n t known more y c' then good theirs number tells sees told_of s k one at fits =
+      let l = leaves by Good x passes id c n t _ _ known more y c' s.homes s.views k.turns at fits good theirs number tells sees in (
         standing x c' n Idle,
         gives,
         tt,
@@ -98,6 +98,7 @@ module _ {S X E : Type 0} (by : E → ℕ) (Good : X → List E → S → Type 0
       (All-nil _)
       refl
       (λ seen mine. (subst (λ l. BeginsWith l c.seen) (sym (append-nil known)) seen, subst (λ l. filter (λ e. eqb (by e) c.number) l ≡ c.mine) (sym (append-nil known)) mine))
+      (inr (refl, refl))
       (λ found. refl))
 
   pub pass_on : (history : S → List E) (id : ℕ) (c : Claim E) (n t : ℕ) (known more : List E) (y : S) (me : Me S (View X E)) (st : Step S) → me ≡ (standing x c n (Inside t known), (0, y) ∷ []) → history y ≡ known ++ more → Good x (history y) y → All (λ e. by e ≡ c.number) more
@@ -109,6 +110,7 @@ module _ {S X E : Type 0} (by : E → ℕ) (Good : X → List E → S → Type 0
       theirs
       refl
       (λ seen mine. (([], sym longer ∙ sym (append-nil (history y))), ap (filter (λ e. eqb (by e) c.number)) (sym longer)))
+      (inl longer)
       (λ found. refl))
 
   pub split : (id : ℕ) (v : View X E) → v.stage ≡ Idle → 0 < v.spare → Splits (Kept by Good x passes) id v (dealt v) (newcomer v)

@@ -1,5 +1,7 @@
 -- What holds of the seat that deals out the passes, and of the one that takes them in again.
-use Rattle.std.specs.Prelude.{◌≡◌, ℕ, ◌+◌, List, [], All, length}
+use Rattle.std.specs.Prelude.{◌≡◌, ℕ, ◌+◌, List, [], All, Any, length}
+use mathlib.Core.Option.{some}
+use lib.ListN.{get_elem?}
 use Rattle.atomic_table.specs.Table.{Me}
 use Rattle.turn_lock.specs.declared.entry.Entry.{Entry}
 use Rattle.turn_lock.specs.declared.view.Claim.{Claim}
@@ -8,6 +10,7 @@ use Rattle.turn_lock.specs.declared.view.View.{View}
 use Rattle.turn_lock.specs.History.{BeginsWith, calls_by}
 use Rattle.turn_lock.specs.Passes.{Token, IsTold}
 use Rattle.turn_lock.specs.Standing.{dealer}
+use Rattle.turn_lock.specs.Turns.{HasSeen}
 
 -- it may deal out so many more passes, the next with this number
 abbrev pub Deals : {S X E : Type 0} → X → ℕ → ℕ → Me S (View X E) → Type 0
@@ -18,10 +21,12 @@ module _ {O I U : Type 0} where
   abbrev pub IsTrueOf : List (Entry O I U) → Claim (Entry O I U) → Type 0
   IsTrueOf history c = BeginsWith history c.seen × (calls_by c.number history ≡ c.mine)
 
--- The seat has taken in all but `left` of `passes`, and where its claims are true of a history, that history is told by all passes once it is by those that are left
+-- The seat has taken in all but `left` of `passes`: what its claims and the passes that are left have seen, some pass has seen, and where its claims are true of a history, that history is told by all passes once it is by those that are left
 pub record Gathers {S O I U : Type 0} (passes left : List (Token O I U)) (me : Me S (View O (Entry O I U))) : Type 0 where
   pub slot : me.1 ≡ []
   pub stage : me.0.stage ≡ Idle
   pub spare : me.0.spare ≡ 0
   pub count : 1 + length me.0.joined + length left ≡ length passes
+  pub claims : (history : List (Entry O I U)) → HasSeen history me.0 → Any (λ p. p.seen ≡ history) passes
+  pub others : (history : List (Entry O I U)) (place : ℕ) (p : Token O I U) → get_elem? left place ≡ some p → p.seen ≡ history → Any (λ p. p.seen ≡ history) passes
   pub told : (history : List (Entry O I U)) → IsTrueOf history me.0.own → All (IsTrueOf history) me.0.joined → All (IsTold history) left → All (IsTold history) passes

@@ -26,3 +26,8 @@ module _ {O I U : Type 0} where
   abbrev pub Legal : {C : Type 0} → (C → I → U) → (C → I → C) → C → List (Entry O I U) → C → Type 0
   Legal answer next x [] y = x ≡ y
   Legal answer next x (e ∷ es) y = (e.output ≡ answer x e.input) × Legal answer next (next x e.input) es y
+
+  -- the history ends with this call, whose output is the answer of the content to which the calls before it lead from x
+  abbrev pub IsAnswered : {C : Type 0} → (C → I → U) → (C → I → C) → C → Entry O I U → List (Entry O I U) → Type 0
+  IsAnswered {C} answer next x call history =
+      (before : List (Entry O I U)) × (there : C) × (history ≡ before ++ call ∷ []) × Legal answer next x before there × (call.output ≡ answer there call.input)

@@ -1,7 +1,7 @@
 -- The rule of a turn, which holds between any two steps.
 -- Word 0 counts the tickets drawn and word 1 the turns passed on, modulo 2^64. The slot holds the object with its history.
 -- A call names its pass by `by`, and `Good x log y` says that the slot's value y is the object that began as x, with this history.
-use Rattle.std.specs.Prelude.{◌≡◌, ℕ, ◌+◌, ◌%◌, ◌^◌, ◌<◌, ◌≤◌, ◌⊎◌, ◌==◌, List, [], ◌∷◌, length, filter, sum_by, All, Some, slice_index}
+use Rattle.std.specs.Prelude.{◌≡◌, ◌≢◌, ℕ, ◌+◌, ◌%◌, ◌^◌, ◌<◌, ◌≤◌, ◌⊎◌, ◌==◌, List, [], ◌∷◌, length, filter, sum_by, All, Some, slice_index}
 use mathlib.Core.Option.{Option, some, none}
 use lib.ListN.{get_elem?}
 use Rattle.atomic_table.specs.Table.{State}
@@ -40,6 +40,18 @@ abbrev pub IsOut : {X E : Type 0} → List ℕ → List E → List (View X E) �
 IsOut {X} {E} line log views =
     (seat : ℕ) × (v : View X E) × (t : ℕ) × (get_elem? line 0 ≡ some seat) × (get_elem? views seat ≡ some v) × (v.stage ≡ Inside t log)
 
+-- this whole history is what one of a seat's claims has seen
+abbrev pub HasSeen : {X E : Type 0} → List E → View X E → Type 0
+HasSeen {X} {E} log v = (place : ℕ) × (c : Claim E) × (get_elem? (v.own ∷ v.joined) place ≡ some c) × (c.seen ≡ log)
+
+-- Some pass has seen this whole history, by a claim of a live seat
+pub record IsSeen {X E : Type 0} (log : List E) (views : List (View X E)) : Type 0 where
+  pub seat : ℕ
+  pub view : View X E
+  pub here : get_elem? views seat ≡ some view
+  pub lives : view.stage ≢ Gone
+  pub seen : HasSeen log view
+
 pub record Turns {S X E : Type 0} (by : E → ℕ) (Good : X → List E → S → Type 0) (x : X) (passes drawn served : ℕ) (homes : List (Option S)) (views : List (View X E)) : Type 0 where
   -- the longest history, the seats with a ticket in the order of their tickets, and the seat of each number given
   pub log : List E
@@ -55,6 +67,8 @@ pub record Turns {S X E : Type 0} (by : E → ℕ) (Good : X → List E → S �
   pub slot : ((y : S) × (homes ≡ some y ∷ []) × Good x log y) ⊎ ((homes ≡ none ∷ []) × IsOut line log views)
   -- a seat is live, or it was taken in by another
   pub seats : (seat : ℕ) (v : View X E) → get_elem? views seat ≡ some v → (v.stage ≡ Gone) ⊎ (Lives by x passes owners log seat v × Stands served line log homes seat v.stage)
+  -- no history is longer than what some pass has seen
+  pub longest : IsSeen log views
   -- each call is of a number that was given, and the live seats stand for all passes
   pub named : All (λ e. by e < length owners) log
   pub parts : sum_by weight views ≡ passes

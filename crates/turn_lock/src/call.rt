@@ -1,7 +1,7 @@
-ghost use Rattle.std.specs.Prelude.{◌≡◌, ◌++◌, ℕ, [], ◌∷◌, MatchBool, IfOk, IfErr, OnOk, OnErr};
+ghost use Rattle.std.specs.Prelude.{◌≡◌, ◌≢◌, ◌++◌, ℕ, [], ◌∷◌, IfOk, IfErr, OnOk, OnErr};
 ghost use Rattle.turn_lock.specs.declared.entry.Entry.{Entry as Call};
 ghost use Rattle.turn_lock.specs.declared.view.Stage.TheVariants.{Idle, Waiting};
-ghost use Rattle.turn_lock.specs.History.{BeginsWith, EndsWith, Legal, entry, calls_by, maker};
+ghost use Rattle.turn_lock.specs.History.{BeginsWith, EndsWith, IsAnswered, Legal, entry, calls_by, maker};
 ghost use Rattle.turn_lock.specs.Passes.{IsPassOf, IsSamePass};
 ghost use Rattle.turn_lock.specs.Slots.{Lies};
 ghost use Rattle.turn_lock.specs.Standing.{standing, claim};
@@ -9,22 +9,28 @@ ghost use Rattle.turn_lock.specs.Steps.{HasTurn};
 ghost use Rattle.turn_lock.specs.Calling.{IsIdle, IsWaiting, IsSameSeat, InHand};
 
 use crate::desk::Desk;
-use crate::entry::Entry;
 use crate::object::Object;
 use crate::pass::TurnPass;
 use crate::rule::{Chair, Draw, Leave, Look, PassOn};
 use crate::turn::Turn;
 use dn_base::Memory;
 use std::sync::Wait;
-use std::thread;
+use std::time::Duration;
+use std::{hint, thread};
 
 // Word 0 counts the tickets drawn, and word 1 the turns passed on.
 const DRAWN: usize = 0;
 
 const SERVED: usize = 1;
 
-// So many looks a caller takes before it lets others run.
-const LOOKS: u32 = 16;
+// So many looks the next in line takes at once, before it lets others run between two.
+const SPINS: u32 = 64;
+
+// After so many looks a caller that isn't the next in line sleeps between two.
+const YIELDS: u32 = 320;
+
+// So many microseconds it sleeps, where the turn isn't passed on before it falls asleep.
+const NAP: u64 = 20;
 
 impl<O: Object> Turn<O> {
     /// Waits for the turn, makes one call of the object, and passes the turn on. `inside` is called within the turn,
@@ -51,8 +57,8 @@ impl<O: Object> Turn<O> {
         ensures made { IfOk result (λ output. pass.new.made ≡ pass.old.made ++ entry pass.old.number input output ∷ []) }
         // and the history has those calls of this pass, in their order, and no others
         ensures own { OnOk result (calls_by pass.new.number pass.new.seen ≡ pass.new.made) }
-        // the answer is the object's, for some content
-        ensures answer { IfOk result (λ output. (content : O.Content) × (output ≡ O.answer content input)) }
+        // the answer is the object's, for the content to which the calls before this one lead
+        ensures answer { IfOk result (λ output. IsAnswered O.answer O.next (O.content self.now.opening) (entry pass.old.number input output) pass.new.seen) }
         ensures same { OnErr result (pass.new ≡ pass.old) }
         ensures back { IfErr result (λ e. e.1 ≡ input) }
     {
@@ -62,12 +68,7 @@ impl<O: Object> Turn<O> {
             return Err((Memory, input));
         }
         inside();
-        let output = desk.object.step(input);
-        desk.history.push_reserved(Entry {
-            pass: pass.number,
-            input,
-            output,
-        });
+        let output = desk.make(pass.number, input);
         pass.seen = desk.history.len() as u64;
         self.pass_on(&mut pass.seat, desk);
         Ok(output)
@@ -81,13 +82,30 @@ impl<O: Object> Turn<O> {
         self.table.shared.fetch_add::<Draw>(seat, DRAWN, 1)
     }
 
-    // Looks at the serving word, and says whether the turn has come. Where it has, the slot is with the seat.
-    fn look(&self, seat: &mut Chair<O>, ticket: u64) -> bool
+    // Looks at the serving word. Where it is the ticket, the turn has come, and the slot is with the seat.
+    fn look(&self, seat: &mut Chair<O>, ticket: u64) -> u64
         requires { (seat.old.table_id ≡ self.now.table) × IsWaiting self.now.opening ticket seat.old.me }
         ensures same { IsSameSeat seat.old seat.new }
-        ensures turn { MatchBool result (HasTurn maker (Lies O.content O.answer O.next) seat.old.me.0 ticket seat.new.me) (seat.new.me ≡ seat.old.me) }
+        ensures turn { result ≡ ticket → HasTurn maker (Lies O.content O.answer O.next) seat.old.me.0 ticket seat.new.me }
+        ensures wait { result ≢ ticket → seat.new.me ≡ seat.old.me }
     {
-        self.table.shared.load::<Look<O>>(seat, SERVED) == ticket
+        self.table.shared.load::<Look<O>>(seat, SERVED)
+    }
+
+    // Lets time pass between two looks. Only the next in line looks again at once, since its turn comes as soon as one
+    // call ends; who stands behind it lets others run, and sleeps where that has lasted.
+    fn pause<R: Wait>(&self, rt: &R, ticket: u64, served: u64, looks: u32) {
+        let is_next = ticket.wrapping_sub(served) == 1;
+        if is_next && looks < SPINS {
+            hint::spin_loop();
+        } else if is_next || looks < YIELDS {
+            thread::yield_now();
+        } else {
+            // the low half of the serving word is what a sleeper waits on
+            let low = (served & u64::from(u32::MAX)) as u32;
+            let nap = Duration::from_micros(NAP);
+            self.table.shared.park_timeout(rt, SERVED, low, nap);
+        }
     }
 
     // Draws a ticket, and looks until its turn has come.
@@ -97,16 +115,14 @@ impl<O: Object> Turn<O> {
         ensures turn { (ticket : ℕ) × HasTurn maker (Lies O.content O.answer O.next) seat.old.me.0 ticket seat.new.me }
     {
         let ticket = self.draw(seat);
-        let mut looks = 0;
+        let mut looks = 0_u32;
         for _ in rt.forever() {
-            if self.look(seat, ticket) {
+            let served = self.look(seat, ticket);
+            if served == ticket {
                 break;
             }
-            looks += 1;
-            if looks == LOOKS {
-                thread::yield_now();
-                looks = 0;
-            }
+            self.pause(rt, ticket, served, looks);
+            looks = looks.saturating_add(1);
         }
     }
 

@@ -1,7 +1,8 @@
-ghost use Rattle.std.specs.Prelude.{◌≡◌, ◌<◌, [], All, IfOk, IfErr, IsOk};
+ghost use Rattle.std.specs.Prelude.{◌≡◌, ◌<◌, [], All, Any, IfOk, IfErr, IsOk};
 ghost use Rattle.turn_lock.specs.declared.view.Stage.TheVariants.{Idle};
 ghost use Rattle.turn_lock.specs.Standing.{weight};
 ghost use Rattle.turn_lock.specs.History.{Legal};
+ghost use Rattle.turn_lock.specs.Turns.{HasSeen};
 ghost use Rattle.turn_lock.specs.Dealing.{Gathers, IsTrueOf};
 ghost use Rattle.turn_lock.specs.Passes.{AreAllPasses, IsTold};
 
@@ -28,6 +29,8 @@ impl<O: Object> Turn<O> {
         ensures legal { IfOk result (λ r. Legal O.answer O.next (O.content self.opening) r.1.items (O.content r.0)) }
         // each pass had seen a beginning of it, and the pass's calls in it are those that it made, in its order
         ensures told { IfOk result (λ r. All (IsTold r.1.items) passes.items) }
+        // some pass had seen all of it
+        ensures longest { IfOk result (λ r. Any (λ p. p.seen ≡ r.1.items) passes.items) }
         // and each call is of one of the passes
         ensures named { IfOk result (λ r. All (λ e. e.pass < self.passes) r.1.items) }
         ensures answered { IsOk result }
@@ -60,6 +63,7 @@ impl<O: Object> Turn<O> {
         requires { (seat.table_id ≡ self.table) × (seat.me.0.stage ≡ Idle) × (weight seat.me.0 ≡ self.passes) }
         ensures legal { Legal O.answer O.next (O.content self.opening) result.history.items (O.content result.object) }
         ensures told { IsTrueOf result.history.items seat.me.0.own × All (IsTrueOf result.history.items) seat.me.0.joined }
+        ensures longest { HasSeen result.history.items seat.me.0 }
         ensures named { All (λ e. e.pass < self.passes) result.history.items }
     {
         let Turn { table } = self;

@@ -5,6 +5,7 @@ use crate::{Entry, Object, Turn, TurnPass};
 use dn_base::Memory;
 use std::alloc::AllocError;
 use std::sync::Wait;
+use std::sync::atomic::{AtomicU64, Ordering};
 use std::test::Fail;
 use std::thread::{Threads, join};
 
@@ -234,5 +235,65 @@ fn a_refused_call_leaves_no_trace(rt: HostRuntime) -> Result<(), Fail> {
     let calls = history.as_slice();
     assert_eq!(rt; (object.total.sum, calls.len()), (11, 3));
     assert!(rt; calls.iter().all(|e| e.input != 3));
+    Ok(())
+}
+
+/// A total whose steps are counted where everybody sees the count.
+#[derive(Drop)]
+struct Counted<'a> {
+    total: Total,
+    steps: &'a AtomicU64,
+}
+
+impl<'a> Object for Counted<'a> {
+    type In = u32;
+
+    type Out = u64;
+
+    ghost Content = { ℕ };
+
+    ghost content = { λ c. c.total.sum };
+
+    ghost spare = { λ c. 1 };
+
+    ghost answer = { λ sum n. (sum + n) % 2 ^ 64 };
+
+    ghost next = { λ sum n. (sum + n) % 2 ^ 64 };
+
+    fn reserve(&mut self) -> Result<(), Memory> {
+        Ok(())
+    }
+
+    fn step(&mut self, input: u32) -> u64 {
+        self.steps.fetch_add(1, Ordering::SeqCst);
+        self.total.step(input)
+    }
+}
+
+// What is handed in is called before the object's step, so it sees the steps of the calls before. That it is called
+// once the object is in hand, and so within the turn, a refused call shows: it doesn't come there.
+#[test]
+fn what_is_handed_in_is_called_before_the_step(rt: HostRuntime) -> Result<(), Fail> {
+    let steps = AtomicU64::new(0);
+    let object = Counted {
+        total: Total { sum: 0 },
+        steps: &steps,
+    };
+    let (turn, mut passes) = Turn::start(rt.alloc(), object, 1)?;
+    let Some(mut pass) = passes.pop() else {
+        unreachable!()
+    };
+    let mut seen = [9; 3];
+    turn.call(&rt, &mut pass, 2, || {
+        seen[0] = steps.load(Ordering::SeqCst);
+    })?;
+    turn.call(&rt, &mut pass, 5, || {
+        seen[1] = steps.load(Ordering::SeqCst);
+    })?;
+    turn.call(&rt, &mut pass, 3, || {
+        seen[2] = steps.load(Ordering::SeqCst);
+    })?;
+    assert_eq!(rt; seen, [0, 1, 2]);
+    assert_eq!(rt; steps.load(Ordering::SeqCst), 3);
     Ok(())
 }

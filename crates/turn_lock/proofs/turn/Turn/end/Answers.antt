@@ -27,6 +27,12 @@ returns-clause-told g c =
     let handed = hands _ _ _ _ _ _ _ c.in-Some.desk ended c.in-Some.is in
     (handed.own, handed.joined)
 
+pub returns-clause-longest : goal.returns-clause-longest
+returns-clause-longest g c =
+    let passes = ap (λ (t : Sharing g.row.O.Denot). t.passes) c.self.view_is in
+    let ended = ends g.O.Object.content g.O.Object.answer g.O.Object.next _ _ _ _ _ _ c.take-slot.result c.close_with-closed.ensures.values.2 c.requires.1 (c.requires.2 ∙ sym passes) c.take-slot.ensures.value in
+    let handed = hands _ _ _ _ _ _ _ c.in-Some.desk ended c.in-Some.is in handed.longest
+
 pub returns-clause-named : goal.returns-clause-named
 returns-clause-named g c =
     let passes = ap (λ (t : Sharing g.row.O.Denot). t.passes) c.self.view_is in
