@@ -13,5 +13,6 @@ pub mod ScheduleLaws
 mod Noted
 mod Making
 mod EndLists
-mod LogLemmas
-mod RunLemmas
+pub mod LogLemmas
+pub mod RunLemmas
+pub mod OneSetting

@@ -13,6 +13,7 @@ use Rattle.registration_protocol.specs.OwnEvents.{may_instr, may_evict, may_arri
 use Rattle.machine_rules.specs.State.{State}
 use Rattle.dn_machine.specs.declared.picking.Choice.{Choice}
 use Rattle.dn_machine.specs.Pick.{known_events, handlings, candidates, picked, pick, chosen}
+use Rattle.dn_machine.specs.Actors.{actor_in}
 use Rattle.dn_machine.specs.Log.{own_core, core_of, core_in}
 use Rattle.dn_machine.specs.Content.{in_row}
 use Rattle.dn_machine.proofs.OwnRow.{known-row}
@@ -22,7 +23,7 @@ use Rattle.dn_machine.proofs.PickLaws.{known-own}
 
 -- an own event is its core's
 pub own-core-in : (S : State) (e : Event) (core : CoreId) → own_core e ≡ Some core → core_in S e ≡ own_core e
-unfolding core_in
+unfolding actor_in
 own-core-in S (Instr c) core is = refl
 own-core-in S (Evict c word) core is = refl
 own-core-in S (Arrive c) core is = refl
@@ -61,8 +62,8 @@ pub taken-there : (mails : List Mail) (place : ℕ) (m : Mail) (rest : List Mail
     → ((taken m.id mails).0 ≡ Some m) × (rest ≡ (taken m.id mails).1)
 taken-there mails place m rest distinct there left = let is = taken-of_id mails place m distinct there in (rw is refl, rw is left)
 
-pub handled-core : (S : State) (m : Mail) → (taken m.id S.mails).0 ≡ Some m → core_in S (Handle m.id) ≡ core_of m.to
-unfolding core_in
+pub handled-core : (S : State) (m : Mail) → (taken m.id S.mails).0 ≡ Some m → core_in S (Handle m.id) ≡ core_of (Some m.to)
+unfolding actor_in
 handled-core S m took = rw took refl
 
 -- ---- what is picked

@@ -22,8 +22,9 @@ use Rattle.rv_core.specs.declared.ending.EndShown.{EndShown}
 use Rattle.machine_rules.specs.State.{State}
 use Rattle.machine_rules.specs.Next.{next, does_instr, does_evict, does_arrive, core_gets, bank_handles, gets, handles}
 use Rattle.machine_rules.specs.Runs.{after, later, end_in_phase, last_end, ends_from}
+use Rattle.dn_machine.specs.Actors.{goes_to, actor_in}
 use Rattle.dn_machine.specs.Ends.{EndTable, place_of, with_end, AreLastEnds, end_at, end_in, noted_ends}
-use Rattle.dn_machine.specs.Log.{gets_it, core_of, core_in, end_there}
+use Rattle.dn_machine.specs.Log.{core_of, core_in, end_there}
 use Rattle.dn_machine.proofs.ListItems.{get-set, get-put}
 
 -- ---- how a task stood last, with one event more
@@ -88,17 +89,17 @@ bank-frame : (S : State) (from : Actor) (bank : ℕ) (message : Message) (core :
 bank-frame S from bank message core None = refl
 bank-frame S from bank message core (Some b) = refl
 
-gets-frame : (S : State) (to : Actor) (message : Message) (core : ℕ) → NotOf (core_of to) core → slice_get (gets S to message).nodes core ≡ slice_get S.nodes core
+gets-frame : (S : State) (to : Actor) (message : Message) (core : ℕ) → NotOf (core_of (Some to)) core → slice_get (gets S to message).nodes core ≡ slice_get S.nodes core
 gets-frame S (Core c) message core other = core-frame S c message core (slice_get S.nodes c.0) other
 gets-frame S (Bank b) message core other = bank-frame S (Bank b) b.0 message core (slice_get S.banks b.0)
 gets-frame S Keeper message core other = refl
 
-handles-frame : (S : State) (took : Option Mail × List Mail) (core : ℕ) → NotOf (gets_it took.0) core → slice_get (handles S took).nodes core ≡ slice_get S.nodes core
+handles-frame : (S : State) (took : Option Mail × List Mail) (core : ℕ) → NotOf (core_of (goes_to took.0)) core → slice_get (handles S took).nodes core ≡ slice_get S.nodes core
 handles-frame S (None, rest) core other = refl
 handles-frame S (Some m, rest) core other = gets-frame (record S { mails = rest }) m.to m.message core other
 
 pub next-frame : (S : State) (e : Event) (core : ℕ) → NotOf (core_in S e) core → slice_get (next S e).nodes core ≡ slice_get S.nodes core
-unfolding next core_in
+unfolding next actor_in
 next-frame S (Instr c) core other = instr-frame S c core (slice_get S.nodes c.0) other
 next-frame S (Evict c word) core other = evict-frame S c word core (slice_get S.nodes c.0) other
 next-frame S (Arrive c) core other = arrive-frame S c core (slice_get S.nodes c.0) other

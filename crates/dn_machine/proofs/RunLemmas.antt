@@ -13,7 +13,7 @@ use Rattle.grant_log.proofs.CountLemmas.{length-added}
 use Rattle.registration_protocol.specs.Node.{Setting}
 use Rattle.machine_rules.specs.State.{State, opened}
 use Rattle.machine_rules.specs.Next.{next}
-use Rattle.machine_rules.specs.Runs.{after, IsRun, memory_after, begun_in, ending_of_run}
+use Rattle.machine_rules.specs.Runs.{after, IsRun, IsCompleteRun, memory_after, begun_in, ending_of_run}
 use Rattle.machine_rules.specs.Memory.{memory_of}
 use Rattle.machine_rules.proofs.OpenedFacts.{opened-setting}
 use Rattle.machine_rules.proofs.RunsKept.{run-setting}
@@ -30,7 +30,7 @@ use Rattle.dn_machine.specs.declared.log.Happened.{Happened}
 use Rattle.dn_machine.specs.declared.log.Log.{Log}
 use Rattle.dn_machine.specs.declared.record.RunRecord.{RunRecord}
 use Rattle.dn_machine.specs.Ends.{EndTable, AreLastEnds, noted_ending}
-use Rattle.dn_machine.specs.Run.{IsRecord, OfEachFront, IsTrueAfter, AgreesAfter, IsRunOf}
+use Rattle.dn_machine.specs.Run.{IsRecord, OfEachFront, IsTrueAfter, AgreesAfter, IsRunOf, IsSeedsRunOf}
 use Rattle.dn_machine.specs.Kept.{IsKept}
 use Rattle.dn_machine.specs.Log.{HasCome, no_log, noted, IsLogOf, HasRun}
 use Rattle.dn_machine.specs.Pick.{pick}
@@ -106,7 +106,7 @@ take-item (y ∷ xs) (suc k) zero x there = there
 take-item (y ∷ xs) (suc k) (suc i) x there = take-item xs k i x there
 
 -- the ending that the noted ends and the last state tell is that of the run
-ending-true : (C : Setting) (T : State) (events : List Event) (table : EndTable) → IsProgram C.program → T ≡ after (opened C) events → AreLastEnds (opened C) events table
+pub ending-true : (C : Setting) (T : State) (events : List Event) (table : EndTable) → IsProgram C.program → T ≡ after (opened C) events → AreLastEnds (opened C) events table
     → noted_ending table T ≡ ending_of_run (opened C) events
 ending-true C T events table program leads are =
     rw leads
@@ -135,10 +135,9 @@ abbrev pub recorded : Log → Ending → RunRecord
 recorded log ending = record { events = log.events; grants = log.grants; counts = log.counts; ending = ending }
 
 pub record-true : (C : Setting) (seed : ℕ) (T : State) (log : Log) (ending : Ending) → IsProgram C.program → HasRun (opened C) seed T log → ending ≡ noted_ending log.ends T
-    → IsRecord (opened C) seed (recorded log ending)
+    → IsRecord (opened C) (recorded log ending)
 record-true C seed T log ending program run is =
     record {
-      scheduled = run.scheduled;
       granted = run.logged.granted;
       counted = run.logged.counted;
       ends = is ∙ ending-true C T log.events log.ends program run.leads run.logged.ends;
@@ -175,22 +174,27 @@ way-few C seed g T log ready way =
     run-ends C log.events ready
     (picked-run (opened C) 0 (generator_of seed) log.events (opened-sound C ready.context ready.program ready.checked) way.picked)
 
--- all that is promised of the record of a whole run
-pub run-of : (C : Setting) (seed : ℕ) (T : State) (log : Log) (ending : Ending) → IsReady C → HasRun (opened C) seed T log → ending ≡ noted_ending log.ends T
-    → IsRunOf (opened C) seed (recorded log ending)
-run-of C seed T log ending ready run is =
-    let complete = picked-complete (opened C) 0 (generator_of seed) log.events (opened-sound C ready.context ready.program ready.checked) run.scheduled in
+-- all that is promised of a complete run and its record
+pub complete-run-of : (C : Setting) (r : RunRecord) → IsReady C → IsCompleteRun (opened C) r.events → IsRecord (opened C) r → IsRunOf (opened C) r
+complete-run-of C r ready complete is =
     let same = opened-setting C in
     record {
       complete = complete;
-      rests = run-rests C log.events ready complete;
-      is_true = record-true C seed T log ending ready.program run is;
-      coherent = fronts-true C log.events ready complete.run;
-      agrees = subst (λ (x : Setting). OfEachFront (AgreesAfter x) log.events) (sym same) (fronts-agree C log.events ready complete.run);
-      flat = subst (λ (x : Setting). HasFlatEnd x log.events) (sym same) (end-agrees C log.events ready complete);
+      rests = run-rests C r.events ready complete;
+      is_true = is;
+      coherent = fronts-true C r.events ready complete.run;
+      agrees = subst (λ (x : Setting). OfEachFront (AgreesAfter x) r.events) (sym same) (fronts-agree C r.events ready complete.run);
+      flat = subst (λ (x : Setting). HasFlatEnd x r.events) (sym same) (end-agrees C r.events ready complete);
       few =
           record {
-            few = subst (λ (x : Setting). length log.events ≤ 12 * (retired_in (opened C) log.events + started_in (opened C) log.events) + 3 * (x.shape.cores * length x.program.phases)) (sym same) (run-few C log.events ready complete.run);
-            most = run-ends C log.events ready complete.run;
+            few = subst (λ (x : Setting). length r.events ≤ 12 * (retired_in (opened C) r.events + started_in (opened C) r.events) + 3 * (x.shape.cores * length x.program.phases)) (sym same) (run-few C r.events ready complete.run);
+            most = run-ends C r.events ready complete.run;
           };
     }
+
+-- all that is promised of the record of the run of a seed
+pub run-of : (C : Setting) (seed : ℕ) (T : State) (log : Log) (ending : Ending) → IsReady C → HasRun (opened C) seed T log → ending ≡ noted_ending log.ends T
+    → IsSeedsRunOf (opened C) seed (recorded log ending)
+run-of C seed T log ending ready run is =
+    let complete = picked-complete (opened C) 0 (generator_of seed) log.events (opened-sound C ready.context ready.program ready.checked) run.scheduled in
+    record { scheduled = run.scheduled; run = complete-run-of C (recorded log ending) ready complete (record-true C seed T log ending ready.program run is) }

@@ -8,3 +8,4 @@ pub mod Log
 pub mod Actors
 pub mod Parts
 pub mod Plans
+pub mod Settings

@@ -6,41 +6,35 @@ use Rattle.message_net.specs.declared.actor.Actor.{Actor}
 use Rattle.message_net.specs.declared.actor.Actor.TheVariants.{Core, Bank, Keeper}
 use Rattle.message_net.specs.declared.event.Event.{Event}
 use Rattle.message_net.specs.declared.event.Event.TheVariants.{Instr, Evict, Arrive, Handle}
-use Rattle.message_net.specs.declared.message.Mail.{Mail}
-use Rattle.message_net.specs.Pool.{taken}
 use Rattle.grant_log.specs.Counts.{no_counts, added, AreCounts}
 use Rattle.machine_rules.specs.State.{State}
 use Rattle.machine_rules.specs.Next.{next, told}
 use Rattle.machine_rules.specs.Runs.{after, grants_of, kinds_of}
 use Rattle.machine_rules.specs.Sound.{IsMachine}
 use Rattle.run_agreement.specs.Agreed.{listed}
+use Rattle.dn_machine.specs.Actors.{actor_in}
 use Rattle.dn_machine.specs.Ends.{end_at, no_ends, with_end, AreLastEnds}
 use Rattle.dn_machine.specs.Schedule.{IsScheduled}
 use Rattle.dn_machine.specs.declared.log.Happened.{Happened}
 use Rattle.dn_machine.specs.declared.log.Log.{Log}
 
--- the core whose event it is; None for the handling of a mail, and for an actor that is no core
+-- the core whose event it is; None for the handling of a mail
 abbrev pub own_core : Event → Option CoreId
 own_core (Instr core) = Some core
 own_core (Evict core word) = Some core
 own_core (Arrive core) = Some core
 own_core (Handle id) = None
 
-abbrev pub core_of : Actor → Option CoreId
-core_of (Core core) = Some core
-core_of (Bank bank) = None
-core_of Keeper = None
+-- the core that an actor is, if there is one and it is a core
+abbrev pub core_of : Option Actor → Option CoreId
+core_of (Some (Core core)) = Some core
+core_of (Some (Bank bank)) = None
+core_of (Some Keeper) = None
+core_of None = None
 
--- the core that an event changes: the one whose own event it is, or the one that gets the mail
-abbrev pub gets_it : Option Mail → Option CoreId
-gets_it None = None
-gets_it (Some m) = core_of m.to
-
-unfoldable pub core_in : State → Event → Option CoreId
-core_in S (Instr core) = Some core
-core_in S (Evict core word) = Some core
-core_in S (Arrive core) = Some core
-core_in S (Handle id) = gets_it (taken id S.mails).0
+-- the core that an event changes: the one that makes it
+abbrev pub core_in : State → Event → Option CoreId
+core_in S e = core_of (actor_in S e)
 
 -- how the task of that core stands in a state
 abbrev pub end_there : State → Option CoreId → Option TaskEnd

@@ -17,9 +17,8 @@ use Rattle.run_agreement.specs.Ends.{HasFlatEnd}
 use Rattle.dn_machine.specs.Schedule.{IsScheduled}
 use Rattle.dn_machine.specs.declared.record.RunRecord.{RunRecord}
 
--- a record of the run that a seed gives from a state on: its events, and what is read off them
-pub record IsRecord (S : State) (seed : ℕ) (r : RunRecord) : Type 0 where
-  pub scheduled : IsScheduled S seed r.events
+-- what a record tells is read off its events, which come from a state on
+pub record IsRecord (S : State) (r : RunRecord) : Type 0 where
   pub granted : r.grants ≡ grants_of S r.events
   pub counted : AreCounts (kinds_of S r.events) r.counts
   pub ends : r.ending ≡ ending_of_run S r.events
@@ -50,14 +49,14 @@ pub record HasFewEvents (S : State) (events : List Event) : Type 0 where
   pub few : length events ≤ 12 * (retired_in S events + started_in S events) + 3 * (S.setting.shape.cores * length S.setting.program.phases)
   pub most : length events ≤ 25169664
 
--- the record of the run of a seed from a state on, that of the opened machine of a setting
-pub record IsRunOf (S : State) (seed : ℕ) (r : RunRecord) : Type 0 where
+-- the record of a run from a state on, that of the opened machine of a setting, whoever picked its events
+pub record IsRunOf (S : State) (r : RunRecord) : Type 0 where
   -- each event may come in its turn, and after them none
   pub complete : IsCompleteRun S r.events
   -- then every node is halted, or each task that hasn't ended waits for a lock that another core's task holds
   pub rests : IsAtRest (after S r.events)
-  -- they are those of the seed, and what the record tells is read off them
-  pub is_true : IsRecord S seed r
+  -- what the record tells is read off its events
+  pub is_true : IsRecord S r
   -- after each of them the state is coherent, and shows the stores so far
   pub coherent : OfEachFront (IsTrueAfter S) r.events
   -- and the loads so far are fronts of the flat machine's by the grants so far
@@ -65,3 +64,8 @@ pub record IsRunOf (S : State) (seed : ℕ) (r : RunRecord) : Type 0 where
   -- at the end the loads and the ending are the flat machine's by the grants
   pub flat : HasFlatEnd S.setting r.events
   pub few : HasFewEvents S r.events
+
+-- the record of the run of a seed: the seed's words picked its events
+pub record IsSeedsRunOf (S : State) (seed : ℕ) (r : RunRecord) : Type 0 where
+  pub scheduled : IsScheduled S seed r.events
+  pub run : IsRunOf S r

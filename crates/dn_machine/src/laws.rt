@@ -1,12 +1,15 @@
-//! What a pick tells of a state, for whoever reasons about runs.
+//! What a pick tells of a state, and what a complete run comes to, for whoever reasons about runs.
 ghost use Rattle.std.specs.Prelude.{◌≡◌, ◌↔◌, ℕ, List, Some, None, true};
 ghost use Rattle.message_net.specs.declared.event.Event.{Event};
-ghost use Rattle.machine_rules.specs.State.{State};
+ghost use Rattle.registration_protocol.specs.Node.{Setting};
+ghost use Rattle.machine_rules.specs.State.{State, opened};
 ghost use Rattle.machine_rules.specs.Next.{enabled};
 ghost use Rattle.machine_rules.specs.Runs.{IsOver, IsCompleteRun};
-ghost use Rattle.machine_rules.specs.Sound.{IsMachine, IsSound};
+ghost use Rattle.machine_rules.specs.Sound.{IsMachine, IsReady, IsSound};
 ghost use Rattle.dn_machine.specs.Pick.{pick};
+ghost use Rattle.dn_machine.specs.Run.{IsRecord, IsRunOf};
 ghost use Rattle.dn_machine.specs.Schedule.{IsScheduled};
+ghost use Rattle.dn_machine.specs.declared.record.RunRecord.{RunRecord};
 
 /// A picked event may come, and none is picked exactly where no event may come.
 pub fn a_pick_is_an_event_that_may_come()
@@ -18,4 +21,10 @@ pub fn a_pick_is_an_event_that_may_come()
 pub fn a_seed_gives_one_complete_run()
     ensures complete { (S : State) (made seed : ℕ) (events : List Event) → IsSound S made → IsScheduled S seed events → IsCompleteRun S events }
     ensures one { (S : State) (seed : ℕ) (events others : List Event) → IsScheduled S seed events → IsScheduled S seed others → events ≡ others }
+{}
+
+/// Whoever picks the events, a complete run of the opened machine comes to all that is promised of runs, if the record tells what is
+/// read off its events.
+pub fn a_complete_run_keeps_the_promises_of_runs()
+    ensures { (C : Setting) (r : RunRecord) → IsReady C → IsCompleteRun (opened C) r.events → IsRecord (opened C) r → IsRunOf (opened C) r }
 {}

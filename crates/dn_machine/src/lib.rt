@@ -12,6 +12,7 @@ mod forms;
 mod laws;
 mod log;
 mod machine;
+mod noting;
 mod parts;
 mod picking;
 mod places;
@@ -23,7 +24,11 @@ mod starting;
 mod tests;
 mod words;
 
-pub use laws::{a_pick_is_an_event_that_may_come, a_seed_gives_one_complete_run};
+pub use laws::{
+    a_complete_run_keeps_the_promises_of_runs, a_pick_is_an_event_that_may_come,
+    a_seed_gives_one_complete_run,
+};
+pub use log::{Happened, Log};
 pub use machine::{Machine, a_machine_is_kept};
 pub use machine_rules::Stepped;
 pub use parts::{MachineParts, what_a_run_leaves_is_kept};

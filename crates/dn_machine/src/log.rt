@@ -17,20 +17,20 @@ use std::alloc::Global;
 /// An event that came: what it told, and how the task of the core that it changed stands, where it has ended or waits for a
 /// lock.
 #[derive(Clone, Copy, Debug)]
-pub(crate) struct Happened {
-    pub(crate) event: Event,
-    pub(crate) told: Stepped,
-    pub(crate) end: Option<TaskEnd>,
+pub struct Happened {
+    pub event: Event,
+    pub told: Stepped,
+    pub end: Option<TaskEnd>,
 }
 
 /// What a run notes of its events: these, the grants, how many events of each kind there were, and how each task stood when
 /// its node last had it, in a table with a place for each phase and each of sixteen cores.
 #[derive(Debug, Drop)]
-pub(crate) struct Log {
-    pub(crate) events: Sequence<Event>,
-    pub(crate) grants: Sequence<Grant>,
-    pub(crate) counts: Counts,
-    pub(crate) ends: Sequence<Option<TaskEnd>>,
+pub struct Log {
+    pub events: Sequence<Event>,
+    pub grants: Sequence<Grant>,
+    pub counts: Counts,
+    pub ends: Sequence<Option<TaskEnd>>,
 }
 
 /// How many cores a machine has at the most.
@@ -70,11 +70,11 @@ impl Log {
         })
     }
 
-    /// Notes an event.
+    /// Notes an event. Its kind's count is below the greatest of its type.
     ///
     /// # Errors
-    /// `Memory` where there is no room.
-    pub(crate) fn note(&mut self, happened: Happened) -> Result<(), Memory>
+    /// `Memory` where there is no room; the log is then of no more use.
+    pub fn note(&mut self, happened: Happened) -> Result<(), Memory>
         requires { count_of happened.told.kind self.old.counts < 18446744073709551615 }
         ensures { OnOk result (self.new ≡ noted happened self.old) }
     {

@@ -7,7 +7,7 @@ ghost use Rattle.machine_rules.specs.Runs.{IsOver};
 ghost use Rattle.dn_machine.specs.Ends.{end_at};
 ghost use Rattle.dn_machine.specs.Kept.{IsKept, IsOpened};
 ghost use Rattle.dn_machine.specs.Pick.{pick};
-ghost use Rattle.dn_machine.specs.Run.{IsRunOf};
+ghost use Rattle.dn_machine.specs.Run.{IsSeedsRunOf};
 
 use crate::content::Content;
 use crate::forms::plans_have_one_form;
@@ -181,7 +181,7 @@ impl Machine {
     /// `Memory` where there is no room for the mails or the record.
     pub fn run(self, alloc: Global, seed: u32) -> Result<RunRecord, Memory>
         requires { self.made ≡ 0 }
-        ensures { IfOk result (IsRunOf self.state seed) }
+        ensures { IfOk result (IsSeedsRunOf self.state seed) }
     {
         let Machine {
             checked,

@@ -13,7 +13,7 @@ ghost use Rattle.dn_machine.specs.Ends.{noted_ending};
 ghost use Rattle.dn_machine.specs.Kept.{IsKept};
 ghost use Rattle.dn_machine.specs.Log.{own_core, core_of, end_there, HasCome, no_log, HasRun};
 ghost use Rattle.dn_machine.specs.Pick.{pick};
-ghost use Rattle.dn_machine.specs.Run.{IsRunOf};
+ghost use Rattle.dn_machine.specs.Run.{IsSeedsRunOf};
 
 use crate::content::Content;
 use crate::draws::{draw, generator};
@@ -41,7 +41,7 @@ fn own_core(event: Event) -> Option<CoreId>
 
 /// The actor, where it is a core.
 fn core_of(actor: Actor) -> Option<CoreId>
-    ensures { result ≡ core_of actor }
+    ensures { result ≡ core_of (Some actor) }
 {
     match actor {
         Actor::Core(core) => Some(core),
@@ -202,7 +202,7 @@ pub(crate) fn run_opened(
     requires opened { state_of (setting context.now) content ≡ opened (setting context.now) }
     requires kept { IsKept (state_of (setting context.now) content) 0 }
     requires known { KnowsOwn (setting context.now) content }
-    ensures { IfOk result (IsRunOf (opened (setting context.now)) seed) }
+    ensures { IfOk result (IsSeedsRunOf (opened (setting context.now)) seed) }
 {
     let mut content = content;
     let program = context.program;

@@ -1,4 +1,4 @@
-//! A machine runs a task that stores 5, to its end. Which events there are follows from the rules by hand: one for each of the
+//! A machine runs a task that stores 5, to its end, and is split and joined on the way. Which events there are follows from the rules by hand: one for each of the
 //! five instructions, the request of the registration and its acknowledgement, the arrival, its message, and the halt.
 ghost use Rattle.std.specs.Prelude.{◌≡◌, ◌≤◌, length, IfOk};
 ghost use Rattle.region_table.specs.Program.{IsTask, IsPhase};
@@ -108,29 +108,10 @@ fn joined(machine: Machine) -> Result<Machine, Memory>
 }
 
 #[test]
-fn a_machine_runs_to_its_end(rt: HostRuntime) -> Result<(), Fail> {
-    let mut machine = machine(rt.alloc())?;
-    let first = Event::Instr(CoreId(0));
-    assert!(rt; machine.enabled(&first));
-    assert_eq!(rt; machine.word(WordId(0)), 0);
-    run(&mut machine)?;
-    assert_eq!(rt; machine.made(), 10);
-    assert_eq!(rt; machine.pick(0), None);
-    assert!(rt; !machine.enabled(&first));
-    assert_eq!(rt; machine.word(WordId(0)), 5);
-    let end = TaskEnd {
-        phase: PhaseId(0),
-        core: CoreId(0),
-        end: EndShown::Finished,
-        retired: 5,
-    };
-    assert_eq!(rt; machine.task_end(CoreId(0)), Some(end));
-    Ok(())
-}
-
-#[test]
 fn a_machine_goes_on_once_it_is_joined(rt: HostRuntime) -> Result<(), Fail> {
-    let mut machine = joined(machine(rt.alloc())?)?;
+    let fresh = machine(rt.alloc())?;
+    assert_eq!(rt; fresh.word(WordId(0)), 0);
+    let mut machine = joined(fresh)?;
     a_machine_is_kept(&machine);
     let sender = Actor::Core(CoreId(0));
     let request = Event::Handle(MailId { sender, number: 0 });
@@ -139,6 +120,15 @@ fn a_machine_goes_on_once_it_is_joined(rt: HostRuntime) -> Result<(), Fail> {
     assert_eq!(rt; machine.actor(&request), Actor::Bank(BankId(0)));
     run(&mut machine)?;
     assert_eq!(rt; machine.made(), 10);
+    assert_eq!(rt; machine.pick(0), None);
+    assert!(rt; !machine.enabled(&request));
     assert_eq!(rt; machine.word(WordId(0)), 5);
+    let end = TaskEnd {
+        phase: PhaseId(0),
+        core: CoreId(0),
+        end: EndShown::Finished,
+        retired: 5,
+    };
+    assert_eq!(rt; machine.task_end(CoreId(0)), Some(end));
     Ok(())
 }

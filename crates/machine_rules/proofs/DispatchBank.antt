@@ -93,6 +93,17 @@ home-is S M id bank message w b at = ap (word_in w) (ap (slice_get S.banks) (sym
 lock-is : (S : State) (M : ℕ → ℕ) (id : MailId) (bank : BankId) (message : Message) (l : ℕ) (b : BankParts) → AtBank S M id bank message l b → lock_at S l ≡ bank_lock b l
 lock-is S M id bank message l b at = ap (lock_in l) (ap (slice_get S.banks) (sym at.home) ∙ at.found)
 
+-- what becomes of the banks and of the mails in flight, by what the bank makes of its mail
+banks-now : (S : State) (M : ℕ → ℕ) (id : MailId) (bank : BankId) (message : Message) (w : ℕ) (b : BankParts) (r : BankParts × Option Outgoing) → AtBank S M id bank message w b
+    → bank_gets b message ≡ r → (i : ℕ) → slice_get (next S (Handle id)).banks i ≡ cond (bank.0 == i) (Some r.0) (slice_get S.banks i)
+banks-now S M id bank message w b r at row i =
+    subst (λ (x : BankParts × Option Outgoing). slice_get (next S (Handle id)).banks i ≡ cond (bank.0 == i) (Some x.0) (slice_get S.banks i)) row (at.step.banks i)
+
+banks-flown : (S : State) (M : ℕ → ℕ) (id : MailId) (bank : BankId) (message : Message) (w : ℕ) (b : BankParts) (r : BankParts × Option Outgoing) → AtBank S M id bank message w b
+    → bank_gets b message ≡ r → (p : Test) → flight (next S (Handle id)) p + passes p (at_bank bank message) ≡ flight S p + passes p r.1
+banks-flown S M id bank message w b r at row p =
+    subst (λ (x : BankParts × Option Outgoing). flight (next S (Handle id)) p + passes p (at_bank bank message) ≡ flight S p + passes p x.1) row (at.step.flown p)
+
 -- what becomes of every word and lock, from what becomes of the bank's
 word-step : (S : State) (M : ℕ → ℕ) (id : MailId) (bank : BankId) (message : Message) (w : ℕ) (b : BankParts) (content : BankWord) (r : BankParts × Option Outgoing) → AtBank S M id bank message w b
     → bank_gets b message ≡ r → ((v : ℕ) → bank_word r.0 v ≡ cond (w == v) (Some content) (bank_word b v)) → ((l : ℕ) → bank_lock r.0 l ≡ bank_lock b l)
@@ -104,14 +115,14 @@ word-step S M id bank message w b content r at row words locks =
       keeper = step.keeper;
       homes = homes;
       locks = lock_states;
-      flown = λ p. subst (λ (x : BankParts × Option Outgoing). flight (next S (Handle id)) p + passes p (at_bank bank message) ≡ flight S p + passes p x.1) row (step.flown p);
+      flown = banks-flown S M id bank message w b r at row;
     }
   where
     step : BankStep S (next S (Handle id)) bank.0 b message (at_bank bank message)
     step = at.step
 
     now : (i : ℕ) → slice_get (next S (Handle id)).banks i ≡ cond (bank.0 == i) (Some r.0) (slice_get S.banks i)
-    now i = subst (λ (x : BankParts × Option Outgoing). slice_get (next S (Handle id)).banks i ≡ cond (bank.0 == i) (Some x.0) (slice_get S.banks i)) row (step.banks i)
+    now = banks-now S M id bank message w b r at row
 
     homes : (v : ℕ) → home_at (next S (Handle id)) v ≡ cond (w == v) (Some content) (home_at S v)
     homes v = rw (step.setting) (by_test (bank.0 == v % S.setting.shape.banks) refl) where
@@ -141,14 +152,14 @@ lock-step S M id bank message l b state r at row words locks =
       keeper = step.keeper;
       homes = homes;
       locks = lock_states;
-      flown = λ p. subst (λ (x : BankParts × Option Outgoing). flight (next S (Handle id)) p + passes p (at_bank bank message) ≡ flight S p + passes p x.1) row (step.flown p);
+      flown = banks-flown S M id bank message l b r at row;
     }
   where
     step : BankStep S (next S (Handle id)) bank.0 b message (at_bank bank message)
     step = at.step
 
     now : (i : ℕ) → slice_get (next S (Handle id)).banks i ≡ cond (bank.0 == i) (Some r.0) (slice_get S.banks i)
-    now i = subst (λ (x : BankParts × Option Outgoing). slice_get (next S (Handle id)).banks i ≡ cond (bank.0 == i) (Some x.0) (slice_get S.banks i)) row (step.banks i)
+    now = banks-now S M id bank message l b r at row
 
     homes : (v : ℕ) → home_at (next S (Handle id)) v ≡ home_at S v
     homes v = rw (step.setting) (by_test (bank.0 == v % S.setting.shape.banks) refl) where

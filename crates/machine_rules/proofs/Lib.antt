@@ -77,6 +77,7 @@ mod SpendNodes
 mod SpendLeaves
 mod SpendBound
 mod PhasesOn
+mod PlainLeaves
 mod LastTasks
 pub mod NoPhases
 pub mod BoundRuns

@@ -3,7 +3,7 @@ use Rattle.registration_protocol.specs.Node.{Setting}
 use Rattle.registration_protocol.specs.Setting.{setting}
 use Rattle.machine_rules.specs.State.{State, opened}
 use Rattle.dn_machine.specs.Kept.{Made}
-use Rattle.dn_machine.specs.Run.{IsRunOf}
+use Rattle.dn_machine.specs.Run.{IsSeedsRunOf}
 use Rattle.dn_machine.proofs.machine.Machine.run.Goals as goal
 
 pub run_opened-requires-clause-opened : goal.run_opened-requires-clause-opened
@@ -23,4 +23,4 @@ returns c =
     let none : c.self.inside.made ≡ 0 = ap (λ (m : Made). m.made) c.self.view_is ∙ c.requires in
     let same : opened (setting c.context_of-context.result) ≡ c.args.self.state =
     ap opened c.context_of-context.ensures ∙ sym (c.self.invariant.0.first none) ∙ ap (λ (m : Made). m.state) c.self.view_is in
-    subst (λ (S : State). IfOk c.run_opened.result (IsRunOf S c.args.seed)) same c.run_opened.ensures
+    subst (λ (S : State). IfOk c.run_opened.result (IsSeedsRunOf S c.args.seed)) same c.run_opened.ensures
