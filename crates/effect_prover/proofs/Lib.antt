@@ -1,0 +1,13 @@
+pub mod RangeLemmas
+pub mod RowLemmas
+pub mod SuccessorLemmas
+pub mod FollowWords
+pub mod Follow
+pub mod FollowBranches
+pub mod FollowSteps
+pub mod SoundNeeds
+pub mod Sound
+pub mod JoinLemmas
+pub mod TableLemmas
+pub mod AnswerLemmas
+pub mod StretchLemmas

@@ -1,0 +1,13 @@
+use Rattle.std.proofs.Common.{ℕ, ◌≡◌, length, ap, ◌∙◌, subst, Decides}
+use Rattle.std.specs.Int.{w32}
+use Rattle.std.proofs.lemmas.Int.{to_z-of_z}
+use lib.IntN.{ℤ}
+use Rattle.effect_prover.specs.declared.range.Range.{Range}
+use Rattle.effect_prover.specs.Inside.{AreAllowed, addresses}
+use Rattle.effect_prover.specs.Stretch.{may_use}
+use Rattle.effect_prover.proofs.inside.access_is_inside.Goals as goal
+
+pub returns : goal.returns
+returns c =
+    subst (λ (x : Range). Decides c.are_allowed.result (AreAllowed (may_use c.args.access c.args.task.now c.args.row.now.held) (length c.args.program.now.memory) c.args.width x))
+    (c.addresses-range.ensures ∙ ap (λ (z : ℤ). addresses c.args.row.now c.args.base z) (to_z-of_z w32 c.args.offset c.ranges.offset)) c.are_allowed.ensures

@@ -1,0 +1,31 @@
+use Rattle.std.proofs.Common.{◌≡◌, ℕ, ◌<◌, List, length, Option, Some, None, sym, ◌∙◌, subst, arith}
+use Rattle.std.specs.List.{All}
+use Rattle.region_table.specs.declared.declared.TaskDecl.{TaskDecl}
+use Rattle.region_table.specs.declared.declared.Phase.{Phase}
+use Rattle.effect_prover.specs.declared.prover.Found.{Found}
+use Rattle.effect_prover.specs.Answer.{IsProvenTask, IsPhaseAnswer}
+use Rattle.effect_prover.proofs.AnswerLemmas.{phase-at, first-unbounded, phases-more, phases-all}
+use Rattle.effect_prover.proofs.prover.check_phases.Goals as goal
+
+pub returns-in-Some : goal.returns-in-Some
+returns-in-Some c =
+    let P = c.args.program.now in
+    let p : Phase = c.index-phases-number.result in
+    let n = c.loop-number.number in
+    let answer : IsPhaseAnswer P p.tasks c.in_ok-found.field-0 =
+    subst (λ (ts : List TaskDecl). IsPhaseAnswer P ts c.in_ok-found.field-0) c.as_slice.ensures c.in_ok-found.ensures in
+    first-unbounded P n p c.in-Some.found.core.0 c.in-Some.found.place c.address.result c.requires.program
+    (phase-at P c.args.phases.now n p c.requires.phases c.index-phases-number.is c.loop-number-test.true) c.address.ensures c.loop-number.invariant
+    (subst (IsPhaseAnswer P p.tasks) c.in-Some.is answer)
+
+pub loop-number-preserved : goal.loop-number-preserved
+loop-number-preserved c =
+    let P = c.args.program.now in
+    let p : Phase = c.index-phases-number.result in
+    let n = c.loop-number.number in
+    let answer : IsPhaseAnswer P p.tasks c.in_ok-found.field-0 =
+    subst (λ (ts : List TaskDecl). IsPhaseAnswer P ts c.in_ok-found.field-0) c.as_slice.ensures c.in_ok-found.ensures in
+    phases-more P c.args.phases.now n p c.requires.phases c.index-phases-number.is c.loop-number-test.true (subst (IsPhaseAnswer P p.tasks) c.in_default.is answer) c.loop-number.invariant
+
+pub returns : goal.returns
+returns c = phases-all c.args.program.now c.args.phases.now c.loop-number.number c.requires.phases c.loop-number-test.false c.loop-number.invariant

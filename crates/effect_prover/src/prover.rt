@@ -1,0 +1,155 @@
+//! The prover: each task's least table, and the first place of it that isn't inside.
+ghost use Rattle.std.specs.Prelude.{◌≡◌, ℕ, ◌<◌, Some, Decides, length, IfOk};
+ghost use Rattle.region_table.specs.Program.{IsProgram};
+ghost use Rattle.region_table.specs.Numbers.{HasWords};
+ghost use Rattle.effect_prover.specs.declared.row.Row.{Row};
+ghost use Rattle.effect_prover.specs.declared.proved.Proved.TheVariants.{Inside};
+ghost use Rattle.effect_prover.specs.Row.{IsRow};
+ghost use Rattle.effect_prover.specs.Table.{row_at};
+ghost use Rattle.effect_prover.specs.Inside.{IsInsideAt, IsFirstOutside};
+ghost use Rattle.effect_prover.specs.Sweep.{HasHeads};
+ghost use Rattle.effect_prover.specs.Answer.{IsAnswer, RunsInside, IsTaskAnswer, IsPhaseAnswer};
+
+use crate::inside::is_inside;
+use crate::laws::a_proven_program_runs_inside;
+use crate::proved::Proved;
+use crate::row::Row;
+use crate::sweep::{address, heads, instr_at, least_table};
+use dn_base::{CoreId, Memory, PhaseId};
+use effect_checker::Checked;
+use region_table::{Phase, Program, TaskDecl, a_program_has_words, a_program_is_well_formed};
+use std::alloc::Global;
+
+/// Whether what a word's row says of its instruction is inside.
+fn place_is_inside(program: &Program, task: &TaskDecl, rows: &[Option<Row>], place: usize) -> bool
+    requires program { IsProgram program.now }
+    requires words { length rows.now ≡ length program.now.code }
+    requires rows { (i : ℕ) (row : Row) → row_at rows.now i ≡ Some row → IsRow row }
+    requires within { place < length rows.now }
+    ensures { Decides result (IsInsideAt program.now task.now rows.now place) }
+{
+    let Some(row) = rows[place] else {
+        return true;
+    };
+    let Some(instr) = instr_at(program, place) else {
+        return true;
+    };
+    is_inside(program, task, &row, &instr)
+}
+
+/// The first word of a table that isn't inside.
+#[tactic(auto, using(crate::proofs::AnswerLemmas::answers))]
+fn first_outside(program: &Program, task: &TaskDecl, rows: &[Option<Row>]) -> Option<usize>
+    requires program { IsProgram program.now }
+    requires words { length rows.now ≡ length program.now.code }
+    requires rows { (i : ℕ) (row : Row) → row_at rows.now i ≡ Some row → IsRow row }
+    ensures { IsFirstOutside program.now task.now rows.now result }
+{
+    for place in 0..rows.len() {
+        if !place_is_inside(program, task, rows, place) {
+            return Some(place);
+        }
+    }
+    None
+}
+
+/// The first word of a task's least table that isn't inside. The table is given back.
+fn check_task(
+    alloc: Global,
+    program: &Program,
+    task: &TaskDecl,
+    heads: &[bool],
+) -> Result<Option<usize>, Memory>
+    requires program { IsProgram program.now }
+    requires heads { HasHeads program.now.code heads.now }
+    ensures { IfOk result (IsTaskAnswer program.now task.now) }
+{
+    let rows = least_table(alloc, program, task, heads)?;
+    Ok(first_outside(program, task, rows.as_slice()))
+}
+
+/// A word that isn't inside: the core whose task reaches it, and its place.
+#[derive(Clone, Copy, Debug, PartialEq, Eq)]
+struct Found {
+    core: CoreId,
+    place: usize,
+}
+
+/// The first of these tasks whose least table isn't inside, by its core, and the first such word of it.
+fn check_tasks(
+    alloc: Global,
+    program: &Program,
+    tasks: &[TaskDecl],
+    heads: &[bool],
+) -> Result<Option<Found>, Memory>
+    requires program { IsProgram program.now }
+    requires heads { HasHeads program.now.code heads.now }
+    ensures { IfOk result (IsPhaseAnswer program.now tasks.now) }
+{
+    for task in tasks {
+        if let Some(place) = check_task(alloc, program, task, heads)? {
+            return Ok(Some(Found {
+                core: task.core,
+                place,
+            }));
+        }
+    }
+    Ok(None)
+}
+
+/// The answer for a program, by its phases.
+fn check_phases(
+    alloc: Global,
+    program: &Program,
+    phases: &[Phase],
+    heads: &[bool],
+) -> Result<Proved, Memory>
+    requires program { IsProgram program.now }
+    requires phases { phases.now ≡ program.now.phases }
+    requires heads { HasHeads program.now.code heads.now }
+    ensures { IfOk result (IsAnswer program.now) }
+{
+    for (number, phase) in phases.iter().enumerate() {
+        if let Some(found) = check_tasks(alloc, program, phase.tasks.as_slice(), heads)? {
+            return Ok(Proved::Unbounded {
+                phase: PhaseId(number as u32),
+                core: found.core,
+                pc: address(found.place),
+            });
+        }
+    }
+    Ok(Proved::Inside)
+}
+
+/// The answer for a program, and what it says of every run.
+fn prove_program(alloc: Global, program: &Program) -> Result<Proved, Memory>
+    requires program { IsProgram program.now }
+    requires words { HasWords program.now }
+    ensures value { IfOk result (IsAnswer program.now) }
+    ensures sound { IfOk result (λ answer. answer ≡ Inside → RunsInside program.now) }
+{
+    a_proven_program_runs_inside();
+    let heads = heads(alloc, program)?;
+    check_phases(alloc, program, program.phases.as_slice(), heads.as_slice())
+}
+
+/// Whether every load and store that a task of the program can reach stays within what its task declares.
+///
+/// For each task it finds the least closed table (see `IsLeastTable`), and answers `Inside` exactly where no table reaches
+/// an instruction that isn't inside. A table is given back before the next is made. Tasks of one entry with different
+/// arguments have tables of their own.
+///
+/// # Errors
+/// `Memory` where there is no room for a table.
+pub fn prove(alloc: Global, checked: &Checked) -> Result<Proved, Memory>
+    // in the least table of every task every instruction is inside, or this is the least place that isn't
+    ensures value { IfOk result (IsAnswer checked.now) }
+
+    // after the answer Inside no run of the program ends a task by a trap outside
+    ensures sound { IfOk result (λ answer. answer ≡ Inside → RunsInside checked.now) }
+{
+    let program = checked.program();
+    a_program_is_well_formed(program);
+    a_program_has_words(program);
+    prove_program(alloc, program)
+}

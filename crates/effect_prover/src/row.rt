@@ -1,0 +1,78 @@
+//! What a table says of a task at one code word.
+ghost use Rattle.std.specs.Prelude.{◌≡◌, ◌<◌, Decides, length};
+ghost use Rattle.effect_prover.specs.Row.{range_of, with_range, start_row, IsRow};
+
+use crate::range::Range;
+use region_table::TaskDecl;
+use rv_isa::Reg;
+
+/// What is known of a task each time that it comes to a code word.
+#[derive(Clone, Copy, Debug, PartialEq, Eq)]
+pub struct Row {
+    /// The numbers that x0 to x31 can have. The first is 0.
+    pub ranges: [Range; 32],
+    /// Bit `l` is set where the task holds lock `l` for sure.
+    pub held: u32,
+}
+
+/// Register a0, which has a task's argument and the number of a lock.
+pub(crate) const A0: usize = 10;
+
+/// Register a7, which has the number of an ECALL.
+pub(crate) const A7: usize = 17;
+
+impl Row {
+    /// The row of a task at its start.
+    pub(crate) fn start(task: &TaskDecl) -> Row
+        ensures { result ≡ start_row task.now }
+    {
+        let mut ranges = [Range::one(0); 32];
+        ranges[A0] = Range::one(task.arg);
+        Row { ranges, held: 0 }
+    }
+
+    /// The range of a register.
+    pub(crate) fn range(&self, reg: Reg) -> Range
+        requires { IsRow self.now }
+        ensures { result ≡ range_of self.now reg }
+    {
+        self.ranges[reg.number() as usize]
+    }
+
+    /// The row with another range of a register; a write to x0 is dropped.
+    pub(crate) fn with(&self, reg: Reg, range: Range) -> Row
+        requires { IsRow self.now }
+        ensures { result ≡ with_range self.now reg range }
+    {
+        let mut row = *self;
+        let number = reg.number() as usize;
+        if number != 0 {
+            row.ranges[number] = range;
+        }
+        row
+    }
+
+    /// Whether the other row is the same.
+    pub(crate) fn is_same(&self, other: &Row) -> bool
+        requires first { length self.now.ranges ≡ 32 }
+        requires second { length other.now.ranges ≡ 32 }
+        ensures { Decides result (self.now ≡ other.now) }
+    {
+        for number in 0..32 {
+            if !self.ranges[number].is_same(other.ranges[number]) {
+                return false;
+            }
+        }
+        self.held == other.held
+    }
+
+    /// The row with other locks.
+    pub(crate) fn holding(&self, held: u32) -> Row
+        ensures { result ≡ record self.now { held = held } }
+    {
+        Row {
+            ranges: self.ranges,
+            held,
+        }
+    }
+}

@@ -1,0 +1,306 @@
+//! The sweep over the words of a table that reaches the least closed one.
+ghost use Rattle.std.specs.Prelude.{◌≡◌, ◌↔◌, ℕ, ◌+◌, ◌-◌, ◌*◌, ◌<◌, ◌≤◌, ◌^◌, true, false, Decides, Some, None, length, replicate, IfOk, IfSome, IfNone, option_copied};
+ghost use Rattle.region_table.specs.Program.{ProgramParts, IsProgram};
+ghost use Rattle.rv_isa.specs.Range.{Fits, HasRegisters};
+ghost use Rattle.effect_prover.specs.Row.{start_row, IsRow};
+ghost use Rattle.effect_prover.specs.Successors.{successors};
+ghost use Rattle.effect_prover.specs.declared.row.Row.{Row};
+ghost use Rattle.effect_prover.specs.Table.{row_at, address_at, instr_of, target_of, Covers, IsTable, IsLeastTable};
+ghost use Rattle.effect_prover.specs.Sweep.{HasHeads, IsJoinedTo, IsPut, IsTableUnder, IsSwept, IsGiven, AreMarked, room};
+
+use crate::row::Row;
+use crate::successors::Successors;
+use dn_base::Memory;
+use region_table::{Program, TaskDecl};
+use rv_isa::{Instr, decode};
+use std::alloc::Global;
+
+/// The address of code word 0, in bytes.
+const CODE: u32 = 0x1000;
+
+/// The address of a code word.
+pub(crate) fn address(place: usize) -> u32
+    requires { place < 16384 }
+    ensures { result ≡ address_at place }
+{
+    CODE + 4 * place as u32
+}
+
+/// The place of the code word at an address, among so many.
+fn place_of(address: u32, words: usize) -> Option<usize>
+    ensures some { IfSome result (λ place. (place < words) × (address ≡ address_at place)) }
+    ensures none { IfNone result ((i : ℕ) → i < words → address ≡ address_at i → ⊥) }
+{
+    if address < CODE || address % 4 != 0 {
+        return None;
+    }
+    let place = ((address - CODE) / 4) as usize;
+    if place < words { Some(place) } else { None }
+}
+
+/// The address at which a branch or JAL aims.
+fn target(pc: u32, instr: &Instr) -> Option<u32>
+    ensures { result ≡ target_of pc instr.now }
+{
+    match *instr {
+        Instr::Jal { offset, .. } | Instr::Branch { offset, .. } => {
+            Some(pc.wrapping_add(offset.cast_unsigned()))
+        }
+        _ => None,
+    }
+}
+
+/// The least row that contains a row and what a word has, if that is reached.
+fn joined_to(old: &Option<Row>, given: &Row, head: bool, argument: u32) -> Row
+    requires old { IfSome old.now IsRow }
+    requires given { IsRow given.now }
+    ensures { IsJoinedTo head argument old.now given.now result }
+{
+    match old {
+        Some(row) => row.joined(given, head, argument),
+        None => given.joined(given, head, argument),
+    }
+}
+
+/// Whether a word's row is this one.
+fn has_row(old: &Option<Row>, row: &Row) -> bool
+    requires old { IfSome old.now IsRow }
+    requires row { length row.now.ranges ≡ 32 }
+    ensures { Decides result (old.now ≡ Some row.now) }
+{
+    match old {
+        Some(old) => old.is_same(row),
+        None => false,
+    }
+}
+
+/// Joins a row to the row of a word, and says whether that grew.
+fn put(rows: &mut [Option<Row>], place: usize, given: &Row, head: bool, argument: u32) -> bool
+    requires within { place < length rows.old }
+    requires rows { (row : Row) → row_at rows.old place ≡ Some row → IsRow row }
+    requires given { IsRow given.now }
+    ensures { IsPut head argument rows.old place given.now rows.new result }
+{
+    let joined = joined_to(&rows[place], given, head, argument);
+    if has_row(&rows[place], &joined) {
+        return false;
+    }
+    rows[place] = Some(joined);
+    true
+}
+
+/// Gives a row to the word at an address, if there is one, and says where the sweep goes on: at that word, where its row
+/// grew and it comes before the cursor.
+#[tactic(auto, using(crate::proofs::TableLemmas::sweeping))]
+fn give(
+    program: &Program,
+    task: &TaskDecl,
+    heads: &[bool],
+    rows: &mut [Option<Row>],
+    pending: &mut [bool],
+    address: Option<u32>,
+    given: &Option<Row>,
+    cursor: usize,
+) -> usize
+    requires heads { HasHeads program.now.code heads.now }
+    requires shape { IsTable program.now task.now rows.old }
+    requires marks { length pending.old ≡ length rows.old }
+    requires given { IfSome given.now IsRow }
+    ensures { IsGiven program.now task.now rows.old pending.old address given.now cursor rows.new pending.new result }
+{
+    let (Some(address), Some(row)) = (address, given) else {
+        return cursor;
+    };
+    let Some(place) = place_of(address, rows.len()) else {
+        return cursor;
+    };
+    if !put(rows, place, row, heads[place], task.arg) {
+        return cursor;
+    }
+    pending[place] = true;
+    if place < cursor { place } else { cursor }
+}
+
+/// The instruction that a code word is, if it is one.
+#[tactic(auto, using(std::proofs::lemmas::Option::gets))]
+pub(crate) fn instr_at(program: &Program, place: usize) -> Option<Instr>
+    requires { place < length program.now.code }
+    ensures value { result ≡ instr_of program.now.code place }
+    ensures fitting { IfSome result (λ i. HasRegisters i × Fits i) }
+{
+    decode(program.code.as_slice()[place])
+}
+
+/// The successors of a code word that is reached with a row.
+fn successors_at(program: &Program, place: usize, row: &Row, instr: &Instr) -> Successors
+    requires program { IsProgram program.now }
+    requires within { place < length program.now.code }
+    requires row { IsRow row.now }
+    requires registers { HasRegisters instr.now }
+    requires fitting { Fits instr.now }
+    ensures value { result ≡ successors (length program.now.locks) (address_at place) row.now instr.now }
+    ensures next { IfSome result.next IsRow }
+    ensures target { IfSome result.target IsRow }
+{
+    row.successors(program.locks.len() as u32, address(place), instr)
+}
+
+/// Passes a word's row on to its successors, where that is pending, and says where the sweep goes on.
+fn pass(
+    program: &Program,
+    task: &TaskDecl,
+    heads: &[bool],
+    rows: &mut [Option<Row>],
+    pending: &mut [bool],
+    at: usize,
+) -> usize
+    requires program { IsProgram program.now }
+    requires heads { HasHeads program.now.code heads.now }
+    requires within { at < length program.now.code }
+    requires swept { IsSwept program.now task.now rows.old pending.old at }
+    ensures swept { IsSwept program.now task.now rows.new pending.new result }
+    ensures grows { IsTableUnder rows.old rows.new }
+    ensures next { result ≤ at + 1 }
+    ensures room_falls { room rows.new ≤ room rows.old }
+    ensures room_less { result ≤ at → room rows.new < room rows.old }
+{
+    if !pending[at] {
+        return at + 1;
+    }
+    pending[at] = false;
+    let (Some(row), Some(instr)) = (rows[at], instr_at(program, at)) else {
+        return at + 1;
+    };
+    let pc = address(at);
+    let next = successors_at(program, at, &row, &instr);
+    let cursor = give(
+        program,
+        task,
+        heads,
+        rows,
+        pending,
+        Some(pc + 4),
+        &next.next,
+        at + 1,
+    );
+    give(
+        program,
+        task,
+        heads,
+        rows,
+        pending,
+        target(pc, &instr),
+        &next.target,
+        cursor,
+    )
+}
+
+/// Sweeps the words from the task's entry on, upwards, and back where a row before grew, until no word is pending.
+fn sweep(
+    program: &Program,
+    task: &TaskDecl,
+    heads: &[bool],
+    rows: &mut [Option<Row>],
+    pending: &mut [bool],
+)
+    requires program { IsProgram program.now }
+    requires argument { task.now.arg < 2 ^ 32 }
+    requires heads { HasHeads program.now.code heads.now }
+    requires rows { rows.old ≡ replicate (length program.now.code) None }
+    requires pending { pending.old ≡ replicate (length program.now.code) false }
+    ensures { IsLeastTable program.now task.now rows.new }
+{
+    let words = rows.len();
+    let start = Some(Row::start(task));
+    let mut at = give(
+        program,
+        task,
+        heads,
+        rows,
+        pending,
+        Some(task.entry),
+        &start,
+        words,
+    );
+    while at < words {
+        at = pass(program, task, heads, rows, pending, at);
+    }
+}
+
+/// The least closed table of a task.
+///
+/// Its time grows with how often rows change, and where they change at a head, with the words from there on.
+///
+/// # Errors
+/// `Memory` where there is no room for the table.
+pub(crate) fn least_table(
+    alloc: Global,
+    program: &Program,
+    task: &TaskDecl,
+    heads: &[bool],
+) -> Result<Vec<Option<Row>>, Memory>
+    requires program { IsProgram program.now }
+    requires heads { HasHeads program.now.code heads.now }
+    ensures { IfOk result (λ rows. IsLeastTable program.now task.now rows.items) }
+{
+    let words = heads.len();
+    let _argument = task.arg;
+    let mut rows: Vec<Option<Row>> = vec![in alloc; None; words]?;
+    let mut pending: Vec<bool> = vec![in alloc; false; words]?;
+    sweep(
+        program,
+        task,
+        heads,
+        rows.as_mut_slice(),
+        pending.as_mut_slice(),
+    );
+    Ok(rows)
+}
+
+/// Marks the word at which a branch or JAL aims, where that is the same word or one before it.
+fn mark(program: &Program, heads: &mut [bool], place: usize)
+    requires program { IsProgram program.now }
+    requires words { length heads.old ≡ length program.now.code }
+    requires within { place < length program.now.code }
+    requires marked { AreMarked program.now.code place heads.old }
+    ensures words { length heads.new ≡ length heads.old }
+    ensures marked { AreMarked program.now.code (place + 1) heads.new }
+{
+    let Some(instr) = instr_at(program, place) else {
+        return;
+    };
+    let Some(aim) = target(address(place), &instr) else {
+        return;
+    };
+    let Some(head) = place_of(aim, heads.len()) else {
+        return;
+    };
+    if head <= place {
+        heads[head] = true;
+    }
+}
+
+/// Marks all heads.
+fn mark_all(program: &Program, heads: &mut [bool])
+    requires program { IsProgram program.now }
+    requires heads { heads.old ≡ replicate (length program.now.code) false }
+    ensures { HasHeads program.now.code heads.new }
+{
+    for place in 0..heads.len() {
+        mark(program, heads, place);
+    }
+}
+
+/// Which code words are heads.
+///
+/// # Errors
+/// `Memory` where there is no room for the marks.
+pub(crate) fn heads(alloc: Global, program: &Program) -> Result<Vec<bool>, Memory>
+    requires { IsProgram program.now }
+    ensures { IfOk result (λ heads. HasHeads program.now.code heads.items) }
+{
+    let words = program.code.len();
+    let mut heads: Vec<bool> = vec![in alloc; false; words]?;
+    mark_all(program, heads.as_mut_slice());
+    Ok(heads)
+}
