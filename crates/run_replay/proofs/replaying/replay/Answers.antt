@@ -1,0 +1,6 @@
+use Rattle.run_replay.proofs.UnderWay.{replay-of}
+use Rattle.run_replay.proofs.replaying.replay.Goals as goal
+
+pub returns : goal.returns
+returns c =
+    replay-of c.args.checked c.args.shape c.args.fuel c.args.events.now c.in_ok-machine.machine c.follow.result c.in_ok-machine.ensures c.a_machine_is_kept.ensures c.follow.ensures

@@ -1,0 +1,96 @@
+-- The document of a run: what of a machine and of a run it tells, and how that is written.
+use Rattle.std.specs.Prelude.{◌≡◌, ℕ, ◌<◌, ◌≤◌, ◌^◌, All, List, [], ◌++◌, length, codes, flat_map}
+use Rattle.message_net.specs.declared.actor.Actor.{Actor}
+use Rattle.message_net.specs.declared.actor.Actor.TheVariants.{Core, Bank, Keeper}
+use Rattle.message_net.specs.declared.actor.MailId.{MailId}
+use Rattle.message_net.specs.declared.event.Event.{Event}
+use Rattle.message_net.specs.declared.event.Event.TheVariants.{Instr, Evict, Arrive, Handle}
+use Rattle.text_pieces.specs.Pieces.{newline, space}
+use Rattle.run_replay.specs.declared.trace.TraceShape.{TraceShape}
+use Rattle.run_replay.specs.declared.trace.Trace.{Trace}
+use Rattle.run_replay.specs.Field.{field, IsFrom}
+
+-- ---- what may be told
+
+-- a machine has 1 to 16 banks, 1 to 256 sets and 1 to 16 ways, and a task the fuel for 1 to 32,768 instructions
+pub record IsTraceShape (s : TraceShape) : Type 0 where
+  pub banks : IsFrom 1 16 s.banks
+  pub sets : IsFrom 1 256 s.sets
+  pub ways : IsFrom 1 16 s.ways
+  pub fuel : IsFrom 1 32768 s.fuel
+
+-- an actor has a number below 16
+abbrev pub IsNamed : Actor → Type 0
+IsNamed (Core core) = core.0 < 16
+IsNamed (Bank bank) = bank.0 < 16
+IsNamed Keeper = Unit {0}
+
+-- a mail has a number below 2^32
+abbrev pub IsMail : MailId → Type 0
+IsMail id = IsNamed id.sender × (id.number < 2 ^ 32)
+
+-- cores have numbers below 16, and words below 65,536
+abbrev pub IsTold : Event → Type 0
+IsTold (Instr core) = core.0 < 16
+IsTold (Evict core word) = (core.0 < 16) × (word.0 < 65536)
+IsTold (Arrive core) = core.0 < 16
+IsTold (Handle id) = IsMail id
+
+-- what stands before the events: the machine, the source text of at most 1,048,576 bytes, and that there are at most 25,169,664 events
+pub record Head : Type 0 where
+  pub shape : TraceShape
+  pub text : List ℕ
+  pub count : ℕ
+
+pub record IsHead (h : Head) : Type 0 where
+  pub shape : IsTraceShape h.shape
+  pub text : length h.text ≤ 1048576
+  pub count : h.count ≤ 25169664
+
+abbrev pub head_of : Trace → Head
+head_of t = record { shape = t.shape; text = t.text; count = length t.events }
+
+pub record IsTrace (t : Trace) : Type 0 where
+  pub head : IsHead (head_of t)
+  pub events : All IsTold t.events
+
+-- ---- how it is written
+
+unfoldable pub shape_line : TraceShape → List ℕ
+shape_line s =
+    field (codes "banks ") space s.banks ++ field (codes "sets ") space s.sets ++ field (codes "ways ") space s.ways ++ field (codes "fuel ") newline s.fuel
+
+-- the line that says how many bytes the text has, the text, and a newline
+unfoldable pub source_part : List ℕ → List ℕ
+source_part text = field (codes "source ") newline (length text) ++ text ++ newline
+
+-- the first line: what the bytes are, and in which version
+unfoldable pub title : List ℕ
+title = codes "denovo-trace 1" ++ newline
+
+unfoldable pub head_text : Head → List ℕ
+head_text h = title ++ shape_line h.shape ++ source_part h.text ++ field (codes "events ") newline h.count
+
+-- the handling of a mail, by the mail's sender and number
+unfoldable pub mail_line : Actor → ℕ → List ℕ
+mail_line (Core core) number = field (codes "h c ") space core.0 ++ field [] newline number
+mail_line (Bank bank) number = field (codes "h b ") space bank.0 ++ field [] newline number
+mail_line Keeper number = field (codes "h k ") newline number
+
+unfoldable pub event_line : Event → List ℕ
+event_line (Instr core) = field (codes "i ") newline core.0
+event_line (Evict core word) = field (codes "e ") space core.0 ++ field [] newline word.0
+event_line (Arrive core) = field (codes "a ") newline core.0
+event_line (Handle id) = mail_line id.sender id.number
+
+-- the document of a trace: its head, and a line for each event
+abbrev pub event_lines : List Event → List ℕ
+event_lines events = flat_map event_line events
+
+abbrev pub document_of : Trace → List ℕ
+document_of t = head_text (head_of t) ++ event_lines t.events
+
+-- the bytes are the document of a trace that may be told
+pub record IsDocument (bytes : List ℕ) (t : Trace) : Type 0 where
+  pub told : IsTrace t
+  pub is : bytes ≡ document_of t

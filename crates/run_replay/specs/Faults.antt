@@ -1,0 +1,45 @@
+-- Why some bytes are no document.
+use Rattle.std.specs.Prelude.{◌≡◌, ℕ, ◌<◌, ◌≤◌, All, List, ◌++◌, length}
+use Rattle.message_net.specs.declared.event.Event.{Event}
+use Rattle.run_replay.specs.declared.trace.TraceFault.{TraceFault}
+use Rattle.run_replay.specs.declared.trace.TraceFault.TheVariants.{TooLarge, Head as NoHead, Line, Rest, Memory}
+use Rattle.run_replay.specs.Field.{NoneStands}
+use Rattle.run_replay.specs.Document.{IsTold, Head, IsHead, head_text, event_line, event_lines}
+
+-- a document has no more bytes than this
+abbrev pub most_bytes : ℕ
+most_bytes = 536870912
+
+-- the bytes, which are not too many, begin with a head and the lines of some events, and behind these stands the rest
+pub record BeginsWith (bytes : List ℕ) (h : Head) (events : List Event) (rest : List ℕ) : Type 0 where
+  pub within : length bytes ≤ most_bytes
+  pub head : IsHead h
+  pub told : All IsTold events
+  pub parts : bytes ≡ head_text h ++ (event_lines events ++ rest)
+
+-- the first event line that isn't there whole in its form is that of this number, from 0; the head announces it
+pub record IsBrokenAt (bytes : List ℕ) (number : ℕ) : Type 0 where
+  pub head : Head
+  pub before : List Event
+  pub rest : List ℕ
+  pub begins : BeginsWith bytes head before rest
+  pub place : length before ≡ number
+  pub announced : number < head.count
+  pub none : NoneStands IsTold event_line rest
+
+-- bytes stand behind the last of the announced event lines
+pub record GoesOn (bytes : List ℕ) : Type 0 where
+  pub head : Head
+  pub events : List Event
+  pub rest : List ℕ
+  pub begins : BeginsWith bytes head events rest
+  pub all : length events ≡ head.count
+  pub some : 0 < length rest
+
+-- the fault is true of the bytes; want of memory says nothing of them
+abbrev pub HasFault : List ℕ → TraceFault → Type 0
+HasFault bytes TooLarge = most_bytes < length bytes
+HasFault bytes NoHead = (length bytes ≤ most_bytes) × NoneStands IsHead head_text bytes
+HasFault bytes (Line number) = IsBrokenAt bytes number
+HasFault bytes Rest = GoesOn bytes
+HasFault bytes Memory = ⊥

@@ -1,0 +1,6 @@
+pub mod Field
+pub mod Document
+pub mod Faults
+pub mod Lines
+pub mod Refusal
+pub mod Replay

@@ -1,0 +1,81 @@
+ghost use Rattle.std.specs.Prelude.{◌≡◌, ℕ, List, [], length, IfSome, IfNone, IfOk, IfErr};
+ghost use Rattle.run_replay.specs.Field.{Stands, NoneStands};
+ghost use Rattle.run_replay.specs.Document.{event_line, IsMail, IsTold};
+ghost use Rattle.run_replay.specs.Lines.{StandTwo, mail_text, AreLines, FailsLines};
+
+use crate::field::field;
+use crate::trace::TraceFault;
+use dn_base::{BankId, CoreId, Sequence, WordId};
+use message_net::{Actor, Event, MailId};
+use std::alloc::Global;
+
+/// The number below 16 and the number of at most `most` that stand in front of some bytes behind a name, and end a line; and what
+/// stands behind them.
+fn two_numbers<'a>(bytes: &'a [u8], name: &[u8], most: u32) -> Option<(u32, u32, &'a [u8])>
+    ensures some { IfSome result (λ f. StandTwo name.now most bytes.now f.0 f.1 f.2.now) }
+    ensures none { IfNone result ((first second : ℕ) (rest : List ℕ) → StandTwo name.now most bytes.now first second rest → ⊥) }
+{
+    let (first, bytes) = field(bytes, name, 0, 15, b' ')?;
+    let (second, rest) = field(bytes, b"", 0, most, b'\n')?;
+    Some((first, second, rest))
+}
+
+/// The mail in the line of its handling, in front of some bytes, and what stands behind that.
+fn mail(bytes: &[u8]) -> Option<(MailId, &[u8])>
+    ensures some { IfSome result (λ f. Stands IsMail mail_text bytes.now f.0 f.1.now) }
+    ensures none { IfNone result (NoneStands IsMail mail_text bytes.now) }
+{
+    if let Some((core, number, rest)) = two_numbers(bytes, b"h c ", u32::MAX) {
+        let sender = Actor::Core(CoreId(core));
+        return Some((MailId { sender, number }, rest));
+    }
+    if let Some((bank, number, rest)) = two_numbers(bytes, b"h b ", u32::MAX) {
+        let sender = Actor::Bank(BankId(bank));
+        return Some((MailId { sender, number }, rest));
+    }
+    let (number, rest) = field(bytes, b"h k ", 0, u32::MAX, b'\n')?;
+    let sender = Actor::Keeper;
+    Some((MailId { sender, number }, rest))
+}
+
+/// The event whose line stands in front of some bytes, and what stands behind that.
+pub(crate) fn event(bytes: &[u8]) -> Option<(Event, &[u8])>
+    ensures some { IfSome result (λ f. Stands IsTold event_line bytes.now f.0 f.1.now) }
+    ensures none { IfNone result (NoneStands IsTold event_line bytes.now) }
+{
+    if let Some((core, rest)) = field(bytes, b"i ", 0, 15, b'\n') {
+        return Some((Event::Instr(CoreId(core)), rest));
+    }
+    if let Some((core, word, rest)) = two_numbers(bytes, b"e ", 65_535) {
+        return Some((Event::Evict(CoreId(core), WordId(word)), rest));
+    }
+    if let Some((core, rest)) = field(bytes, b"a ", 0, 15, b'\n') {
+        return Some((Event::Arrive(CoreId(core)), rest));
+    }
+    let (id, rest) = mail(bytes)?;
+    Some((Event::Handle(id), rest))
+}
+
+/// The events whose lines these bytes are, so many of them.
+///
+/// # Errors
+/// `Line` where a line isn't there whole in its form, `Rest` where bytes stand behind the lines, and `Memory`.
+pub(crate) fn events(alloc: Global, count: u32, bytes: &[u8]) -> Result<Sequence<Event>, TraceFault>
+    ensures count { IfOk result (λ events. length events ≡ count) }
+    ensures lines { IfOk result (λ events. AreLines bytes.now events []) }
+    ensures err { IfErr result (FailsLines bytes.now count) }
+{
+    let mut events = Sequence::new(alloc);
+    let mut rest = bytes;
+    for number in 0..count {
+        let Some((found, behind)) = event(rest) else {
+            return Err(TraceFault::Line { number });
+        };
+        events.push(found)?;
+        rest = behind;
+    }
+    if !rest.is_empty() {
+        return Err(TraceFault::Rest);
+    }
+    Ok(events)
+}

@@ -1,0 +1,71 @@
+ghost use Rattle.std.specs.Prelude.{◌≡◌, ◌≢◌, List, ℕ, ◌++◌, IfSome, IfNone};
+ghost use Rattle.run_replay.specs.Field.{Stands, NoneStands};
+ghost use Rattle.run_replay.specs.Document.{title, shape_line, source_part, head_text, IsTraceShape, IsHead};
+ghost use Rattle.run_replay.specs.Lines.{IsSource, told_by};
+
+use crate::field::{behind, field};
+use crate::trace::TraceShape;
+
+/// What stands before the events of a document, and the bytes behind it.
+#[derive(Clone, Copy)]
+pub(crate) struct Heading<'a> {
+    pub(crate) shape: TraceShape,
+    pub(crate) text: &'a [u8],
+    pub(crate) count: u32,
+    pub(crate) rest: &'a [u8],
+}
+
+/// What stands behind the first line of a document, if that is there.
+#[tactic(auto, unfolding(crate::specs::Document::title))]
+fn behind_title(bytes: &[u8]) -> Option<&[u8]>
+    ensures some { IfSome result (λ rest. bytes.now ≡ title ++ rest.now) }
+    ensures none { IfNone result ((rest : List ℕ) → bytes.now ≢ title ++ rest) }
+{
+    behind(bytes, b"denovo-trace 1\n")
+}
+
+/// The shape and fuel whose line stands in front of some bytes, and what stands behind it.
+fn shape(bytes: &[u8]) -> Option<(TraceShape, &[u8])>
+    ensures some { IfSome result (λ f. Stands IsTraceShape shape_line bytes.now f.0 f.1.now) }
+    ensures none { IfNone result (NoneStands IsTraceShape shape_line bytes.now) }
+{
+    let (banks, bytes) = field(bytes, b"banks ", 1, 16, b' ')?;
+    let (sets, bytes) = field(bytes, b"sets ", 1, 256, b' ')?;
+    let (ways, bytes) = field(bytes, b"ways ", 1, 16, b' ')?;
+    let (fuel, bytes) = field(bytes, b"fuel ", 1, 32_768, b'\n')?;
+    let shape = TraceShape {
+        banks,
+        sets,
+        ways,
+        fuel,
+    };
+    Some((shape, bytes))
+}
+
+/// The source text that stands in front of some bytes behind the number of its bytes, and what stands behind it.
+fn source(bytes: &[u8]) -> Option<(&[u8], &[u8])>
+    ensures some { IfSome result (λ f. Stands IsSource source_part bytes.now f.0.now f.1.now) }
+    ensures none { IfNone result (NoneStands IsSource source_part bytes.now) }
+{
+    let (count, bytes) = field(bytes, b"source ", 0, 1_048_576, b'\n')?;
+    let (text, bytes) = bytes.split_at_checked(count as usize)?;
+    let rest = behind(bytes, b"\n")?;
+    Some((text, rest))
+}
+
+/// What stands before the events of a document, and the bytes behind it.
+pub(crate) fn read_heading(bytes: &[u8]) -> Option<Heading<'_>>
+    ensures some { IfSome result (λ h. Stands IsHead head_text bytes.now (told_by h) h.rest.now) }
+    ensures none { IfNone result (NoneStands IsHead head_text bytes.now) }
+{
+    let bytes = behind_title(bytes)?;
+    let (shape, bytes) = shape(bytes)?;
+    let (text, bytes) = source(bytes)?;
+    let (count, rest) = field(bytes, b"events ", 0, 25_169_664, b'\n')?;
+    Some(Heading {
+        shape,
+        text,
+        count,
+        rest,
+    })
+}

@@ -1,0 +1,33 @@
+//! What the definitions come to, for whoever reasons about documents and replays.
+ghost use Rattle.std.specs.Prelude.{◌≡◌, ◌≤◌, List, length};
+ghost use Rattle.std.specs.List.{All};
+ghost use Rattle.message_net.specs.declared.event.Event.{Event};
+ghost use Rattle.registration_protocol.specs.Node.{Setting};
+ghost use Rattle.machine_rules.specs.Runs.{IsRun};
+ghost use Rattle.machine_rules.specs.Sound.{IsReady};
+ghost use Rattle.machine_rules.specs.State.{opened};
+ghost use Rattle.run_replay.specs.declared.trace.Trace.{Trace};
+ghost use Rattle.run_replay.specs.declared.replaying.Replayed.{Replayed};
+ghost use Rattle.run_replay.specs.Document.{IsTold, IsTrace, document_of};
+ghost use Rattle.run_replay.specs.Replay.{IsTrueOf};
+
+/// A document is that of one trace.
+pub fn a_document_is_of_one_trace()
+    ensures { (t u : Trace) → IsTrace t → IsTrace u → document_of t ≡ document_of u → t ≡ u }
+{}
+
+/// No document is larger than one may be.
+pub fn a_document_is_not_too_large()
+    ensures { (t : Trace) → IsTrace t → length (document_of t) ≤ 536870912 }
+{}
+
+/// Events have one replay on the machine of a setting. So they are complete, stopped at an event or unfinished exactly where the
+/// replay says so.
+pub fn events_have_one_replay()
+    ensures { (C : Setting) (events : List Event) (r s : Replayed) → IsTrueOf C events r → IsTrueOf C events s → r ≡ s }
+{}
+
+/// The events of a run of the opened machine are within the limits of a document.
+pub fn what_a_run_tells_fits_a_document()
+    ensures { (C : Setting) (events : List Event) → IsReady C → C.shape.cores ≤ 16 → IsRun (opened C) events → All IsTold events }
+{}

@@ -1,0 +1,25 @@
+//! A run of the machine as a document that anybody can check: it is written, read back, and its events are replayed one by one.
+//!
+//! A document has the machine's size, the source text of the program and the events of the run. Bytes are the document of one run
+//! at most. A replay makes the events on the machine of the program, each in its turn, and answers what a run by them tells.
+#![tactic(auto)]
+
+mod events;
+mod field;
+mod head;
+mod laws;
+mod reading;
+mod refusal;
+mod replaying;
+mod trace;
+mod writing;
+
+pub use laws::{
+    a_document_is_not_too_large, a_document_is_of_one_trace, events_have_one_replay,
+    what_a_run_tells_fits_a_document,
+};
+pub use reading::read_trace;
+pub use refusal::{TraceRefusal, trace_line};
+pub use replaying::{Replayed, replay};
+pub use trace::{Trace, TraceFault, TraceShape};
+pub use writing::trace_text;

@@ -1,0 +1,50 @@
+ghost use Rattle.std.specs.Prelude.{◌≡◌, ◌≢◌, ◌⊎◌, Ok, Err, IfOk, IfErr};
+ghost use Rattle.run_replay.specs.declared.trace.Trace.{Trace as TraceOf};
+ghost use Rattle.run_replay.specs.declared.trace.TraceFault.{TraceFault as FaultOf};
+ghost use Rattle.run_replay.specs.declared.trace.TraceFault.TheVariants.{Memory as NoMemory};
+ghost use Rattle.run_replay.specs.Document.{IsDocument};
+ghost use Rattle.run_replay.specs.Faults.{HasFault};
+
+use crate::events::events;
+use crate::head::read_heading;
+use crate::trace::{Trace, TraceFault};
+use dn_base::Sequence;
+use std::alloc::Global;
+
+/// The greatest number of bytes of a document.
+const MOST_BYTES: usize = 536_870_912;
+
+/// What a document tells of a run, or the fault of the bytes.
+fn read(alloc: Global, bytes: &[u8]) -> Result<Trace, TraceFault>
+    ensures ok { IfOk result (IsDocument bytes.now) }
+    ensures err { IfErr result (λ f. f ≢ NoMemory → HasFault bytes.now f) }
+{
+    if bytes.len() > MOST_BYTES {
+        return Err(TraceFault::TooLarge);
+    }
+    let Some(heading) = read_heading(bytes) else {
+        return Err(TraceFault::Head);
+    };
+    let events = events(alloc, heading.count, heading.rest)?;
+    let text = Vec::from_slice(alloc, heading.text)?;
+    Ok(Trace {
+        shape: heading.shape,
+        text: Sequence::from_vec(text),
+        events,
+    })
+}
+
+/// What a document tells of a run.
+///
+/// It takes memory in step with the bytes, whatever numbers these tell.
+///
+/// # Errors
+/// `TooLarge`, `Head`, `Line` or `Rest` exactly where that is the fault of the bytes, and `Memory` where there is no room.
+pub fn read_trace(alloc: Global, bytes: &[u8]) -> Result<Trace, TraceFault>
+    ensures ok { IfOk result (IsDocument bytes.now) }
+    ensures err { IfErr result (λ f. f ≢ NoMemory → HasFault bytes.now f) }
+    ensures read { (t : TraceOf) → IsDocument bytes.now t → (result ≡ Ok t) ⊎ (result ≡ Err NoMemory) }
+    ensures refused { (f : FaultOf) → HasFault bytes.now f → (result ≡ Err f) ⊎ (result ≡ Err NoMemory) }
+{
+    read(alloc, bytes)
+}

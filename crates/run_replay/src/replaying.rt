@@ -1,0 +1,143 @@
+ghost use Rattle.std.specs.Prelude.{◌≡◌, ◌+◌, ◌<◌, ◌≤◌, true, Some, length, IfOk, OnOk};
+ghost use Rattle.region_table.specs.Program.{cores_of};
+ghost use Rattle.machine_rules.specs.State.{opened};
+ghost use Rattle.machine_rules.specs.Next.{enabled};
+ghost use Rattle.dn_machine.specs.Kept.{IsKept};
+ghost use Rattle.dn_machine.specs.Log.{core_of, end_there, HasCome};
+ghost use Rattle.run_replay.specs.Replay.{IsTrueOf, IsReplayOf, IsFinished};
+
+use dn_base::{Grant, Memory, Sequence, Shape};
+use dn_machine::{Happened, Log, Machine, a_machine_is_kept};
+use effect_checker::Checked;
+use grant_log::Counts;
+use message_net::{Actor, Event};
+use rv_core::{Ending, TaskEnd};
+use std::alloc::Global;
+
+/// What a replay of events tells.
+#[derive(Debug, Drop)]
+pub enum Replayed {
+    /// The events are a complete run, with this ending, these grants in the order in which the cores handled them, and so many
+    /// events of each kind.
+    Complete {
+        ending: Ending,
+        grants: Sequence<Grant>,
+        counts: Counts,
+    },
+    /// The event of this number, from 0, is the first that may not come in its turn.
+    NotEnabled {
+        number: u32,
+    },
+    /// Each event may come in its turn, and after them another.
+    Incomplete,
+}
+
+/// How the task of an actor stands, where that is a core: None where it has none, and where it goes on and waits for no lock.
+fn task_end(machine: &Machine, actor: Actor) -> Option<TaskEnd>
+    ensures { result ≡ end_there machine.now.state (core_of (Some actor)) }
+{
+    match actor {
+        Actor::Core(core) => machine.task_end(core),
+        Actor::Bank(_) => None,
+        Actor::Keeper => None,
+    }
+}
+
+/// Makes an event, which may come.
+///
+/// # Errors
+/// `Memory` where there is no room for the mails.
+fn advance(machine: &mut Machine, event: Event) -> Result<Happened, Memory>
+    requires may { enabled machine.old.state event ≡ true }
+    requires made { machine.old.made < 4000000000 }
+    ensures event { IfOk result (λ h. h.event ≡ event) }
+    ensures came { IfOk result (HasCome machine.old.state machine.new.state) }
+    ensures made { OnOk result (machine.new.made ≡ machine.old.made + 1) }
+    ensures kept { OnOk result (IsKept machine.new.state machine.new.made) }
+{
+    let actor = machine.actor(&event);
+    let told = machine.step(event)?;
+    a_machine_is_kept(machine);
+    let end = task_end(machine, actor);
+    Ok(Happened { event, told, end })
+}
+
+/// What the events so far come to, where all of them came: a complete run, or none yet.
+fn finish(alloc: Global, machine: &Machine, log: Log) -> Result<Replayed, Memory>
+    ensures tells { IfOk result (IsFinished machine.now.state log) }
+    ensures kept { IsKept machine.now.state machine.now.made }
+{
+    a_machine_is_kept(machine);
+    if machine.pick(0).is_some() {
+        return Ok(Replayed::Incomplete);
+    }
+    let ending = machine.ending(alloc, &log)?;
+    let Log {
+        events: _,
+        grants,
+        counts,
+        ends: _,
+    } = log;
+    Ok(Replayed::Complete {
+        ending,
+        grants,
+        counts,
+    })
+}
+
+/// Replays events on a machine as a run begins.
+fn follow(alloc: Global, machine: Machine, events: &[Event]) -> Result<Replayed, Memory>
+    requires opened { machine.state ≡ opened machine.state.setting }
+    requires made { machine.made ≡ 0 }
+    requires few { length events.now ≤ 25169664 }
+    ensures { IfOk result (IsTrueOf machine.state.setting events.now) }
+{
+    let mut machine = machine;
+    let mut log = machine.log(alloc)?;
+    let mut number = 0;
+    for event in events {
+        if !machine.enabled(event) {
+            return Ok(Replayed::NotEnabled { number });
+        }
+        let happened = advance(&mut machine, *event)?;
+        log.note(happened)?;
+        number += 1;
+    }
+    finish(alloc, &machine, log)
+}
+
+/// Replays events on the machine of a checked program as a run begins: each in its turn, as long as it may come.
+///
+/// The answer is `Complete` exactly where the events are a complete run, and tells its ending, grants and counts; `NotEnabled`
+/// exactly where the event of that number is the first that may not come after those before it; and `Incomplete` exactly where each
+/// may come in its turn and then another one. A complete run ends as the flat machine's run by its grants.
+///
+/// The shape has the cores that the program needs, 1 to 16 banks, 1 to 256 sets and 1 to 16 ways, a task may retire `fuel`
+/// instructions, 1 to 32,768, and there are at most 25,169,664 events. The handling of a mail looks for it among
+/// those in flight, by its id.
+///
+/// # Errors
+/// `Memory` where there is no room for the machine, its mails or what is noted of the events.
+pub fn replay(
+    alloc: Global,
+    checked: Checked,
+    shape: Shape,
+    fuel: u32,
+    events: &[Event],
+) -> Result<Replayed, Memory>
+    requires cores { shape.cores ≡ cores_of checked }
+    requires some_banks { 1 ≤ shape.banks }
+    requires most_banks { shape.banks ≤ 16 }
+    requires some_sets { 1 ≤ shape.sets }
+    requires most_sets { shape.sets ≤ 256 }
+    requires some_ways { 1 ≤ shape.ways }
+    requires most_ways { shape.ways ≤ 16 }
+    requires some_fuel { 1 ≤ fuel }
+    requires most_fuel { fuel ≤ 32768 }
+    requires few { length events.now ≤ 25169664 }
+    ensures { IfOk result (IsReplayOf checked shape fuel events.now) }
+{
+    let machine = Machine::start(alloc, checked, shape, fuel)?;
+    a_machine_is_kept(&machine);
+    follow(alloc, machine, events)
+}

@@ -1,0 +1,122 @@
+ghost use Rattle.std.specs.Prelude.{◌≡◌, ◌≤◌, ◌++◌, length, IfOk, OnOk};
+ghost use Rattle.run_replay.specs.Field.{field};
+ghost use Rattle.run_replay.specs.Document.{title, shape_line, source_part, head_text, mail_line, event_line, event_lines, IsTrace, IsDocument};
+
+use crate::trace::TraceShape;
+use dn_base::Memory;
+use message_net::{Actor, Event, MailId};
+use std::alloc::Global;
+use text_pieces::{push, push_decimal};
+
+/// Adds a number in decimal digits between a name and an end.
+#[tactic(auto, unfolding(crate::specs::Field::field))]
+fn push_field(out: &mut Vec<u8>, name: &[u8], number: u32, end: &[u8]) -> Result<(), Memory>
+    ensures { OnOk result (out.new.items ≡ out.old.items ++ field name.now end.now number) }
+{
+    push(out, name)?;
+    push_decimal(out, number)?;
+    push(out, end)
+}
+
+#[tactic(auto, unfolding(crate::specs::Document::shape_line))]
+fn push_shape(out: &mut Vec<u8>, shape: TraceShape) -> Result<(), Memory>
+    ensures { OnOk result (out.new.items ≡ out.old.items ++ shape_line shape) }
+{
+    push_field(out, b"banks ", shape.banks, b" ")?;
+    push_field(out, b"sets ", shape.sets, b" ")?;
+    push_field(out, b"ways ", shape.ways, b" ")?;
+    push_field(out, b"fuel ", shape.fuel, b"\n")
+}
+
+#[tactic(auto, unfolding(crate::specs::Document::source_part))]
+fn push_source(out: &mut Vec<u8>, text: &[u8]) -> Result<(), Memory>
+    requires { length text.now ≤ 1048576 }
+    ensures { OnOk result (out.new.items ≡ out.old.items ++ source_part text.now) }
+{
+    push_field(out, b"source ", text.len() as u32, b"\n")?;
+    push(out, text)?;
+    push(out, b"\n")
+}
+
+#[tactic(auto, unfolding(crate::specs::Document::title))]
+fn push_title(out: &mut Vec<u8>) -> Result<(), Memory>
+    ensures { OnOk result (out.new.items ≡ out.old.items ++ title) }
+{
+    push(out, b"denovo-trace 1\n")
+}
+
+/// Adds what stands before so many events.
+#[tactic(auto, unfolding(crate::specs::Document::head_text))]
+fn push_head(out: &mut Vec<u8>, shape: TraceShape, text: &[u8], count: u32) -> Result<(), Memory>
+    requires { length text.now ≤ 1048576 }
+    ensures { OnOk result (out.new.items ≡ out.old.items ++ head_text (record { shape = shape; text = text.now; count = count })) }
+{
+    push_title(out)?;
+    push_shape(out, shape)?;
+    push_source(out, text)?;
+    push_field(out, b"events ", count, b"\n")
+}
+
+/// Adds the line of the handling of a mail.
+#[tactic(auto, unfolding(crate::specs::Document::mail_line))]
+fn push_mail(out: &mut Vec<u8>, id: MailId) -> Result<(), Memory>
+    ensures { OnOk result (out.new.items ≡ out.old.items ++ mail_line id.sender id.number) }
+{
+    match id.sender {
+        Actor::Core(core) => {
+            push_field(out, b"h c ", core.0, b" ")?;
+            push_field(out, b"", id.number, b"\n")
+        }
+        Actor::Bank(bank) => {
+            push_field(out, b"h b ", bank.0, b" ")?;
+            push_field(out, b"", id.number, b"\n")
+        }
+        Actor::Keeper => push_field(out, b"h k ", id.number, b"\n"),
+    }
+}
+
+#[tactic(auto, unfolding(crate::specs::Document::event_line))]
+fn push_event(out: &mut Vec<u8>, event: Event) -> Result<(), Memory>
+    ensures { OnOk result (out.new.items ≡ out.old.items ++ event_line event) }
+{
+    match event {
+        Event::Instr(core) => push_field(out, b"i ", core.0, b"\n"),
+        Event::Evict(core, word) => {
+            push_field(out, b"e ", core.0, b" ")?;
+            push_field(out, b"", word.0, b"\n")
+        }
+        Event::Arrive(core) => push_field(out, b"a ", core.0, b"\n"),
+        Event::Handle(id) => push_mail(out, id),
+    }
+}
+
+fn push_events(out: &mut Vec<u8>, events: &[Event]) -> Result<(), Memory>
+    ensures { OnOk result (out.new.items ≡ out.old.items ++ event_lines events.now) }
+{
+    for event in events {
+        push_event(out, *event)?;
+    }
+    Ok(())
+}
+
+/// The document of a run: its first lines tell the machine's size and its tasks' fuel, then comes the source text behind the number
+/// of its bytes, then the number of events and a line for each event in its turn. Numbers are decimal, without leading zeros.
+///
+/// What it tells is within the limits of `Trace`: cores and banks have numbers below 16, and words below 65,536.
+///
+/// # Errors
+/// `Memory` where there is no room for the document.
+pub fn trace_text(
+    alloc: Global,
+    text: &[u8],
+    shape: TraceShape,
+    events: &[Event],
+) -> Result<Vec<u8>, Memory>
+    requires { IsTrace (record { shape = shape; text = text.now; events = events.now }) }
+    ensures { IfOk result (λ document. IsDocument document.items (record { shape = shape; text = text.now; events = events.now })) }
+{
+    let mut out = Vec::new(alloc);
+    push_head(&mut out, shape, text, events.len() as u32)?;
+    push_events(&mut out, events)?;
+    Ok(out)
+}
