@@ -17,5 +17,5 @@ mod totals;
 pub use answer::answer_text;
 pub use grants::grant_text;
 pub use refusal::{Refusal, refusal_line};
-pub use run::report;
+pub use run::{event_name, report};
 pub use totals::{checked_line, summary};

@@ -36,7 +36,8 @@ fn kinds() -> [EventKind; 17]
     ]
 }
 
-fn event_name(kind: EventKind) -> &'static [u8]
+/// The word for a kind of event, as texts have it.
+pub fn event_name(kind: EventKind) -> &'static [u8]
     ensures { result.now ≡ event_word kind }
 {
     match kind {

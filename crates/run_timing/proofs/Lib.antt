@@ -1,0 +1,13 @@
+pub mod Longest
+pub mod WayBack
+pub mod Tracked
+pub mod Ways
+pub mod RowLemmas
+pub mod Moves
+pub mod OnRuns
+pub mod Timed
+pub mod IsLongest
+pub mod Started
+pub mod Growing
+pub mod OneChain
+pub mod OneTiming

@@ -1,0 +1,62 @@
+-- What the machine of a program is told as a run begins, and what the rows of a run tell.
+use Rattle.std.proofs.Common.{◌≡◌, ℕ, ◌+◌, ◌<◌, ◌≤◌, List, length, slice_get, get_or, Option, Some, None, refl, sym, ap, subst, ◌∙◌, arith}
+use Rattle.std.proofs.lemmas.Option.{slice_get-get_or}
+use Rattle.dn_base.specs.declared.ids.Shape.{Shape}
+use Rattle.region_table.specs.Program.{ProgramParts}
+use Rattle.region_table.specs.Plan.{ArePlans}
+use Rattle.message_net.specs.declared.event.Event.{Event}
+use Rattle.message_net.specs.declared.event.EventKind.{EventKind}
+use Rattle.message_net.specs.declared.event.EventKind.TheVariants.{Instr as InstrKind}
+use Rattle.registration_protocol.specs.Node.{Setting}
+use Rattle.machine_rules.specs.State.{State, opened}
+use Rattle.machine_rules.specs.Runs.{IsRun}
+use Rattle.machine_rules.specs.Sound.{IsReady}
+use Rattle.dn_machine.specs.Kept.{Made, IsKept, IsOpened}
+use Rattle.run_timing.specs.declared.rows.Rows.{Rows}
+use Rattle.run_timing.specs.declared.ticks.Ticks.{Ticks}
+use Rattle.run_timing.specs.declared.timing.Timing.{Timing}
+use Rattle.run_timing.specs.Depends.{kind_at}
+use Rattle.run_timing.specs.Longest.{IsLongest, IsTimingOf}
+use Rattle.run_timing.specs.Noted.{AreRowsOf}
+use Rattle.run_timing.specs.Rows.{finish_in, behind, IsLatest, IsWay}
+use Rattle.dn_machine.specs.Settings.{IsSettingOf, IsRunOn}
+use Rattle.run_timing.specs.Ticks.{AreWithinLimits, ticks_with, ticks_at}
+use Rattle.run_timing.proofs.IsLongest.{way-longest}
+
+pub ready-of : (S : State) (made : ℕ) → IsKept S made → IsReady S.setting
+ready-of S made kept = record { context = kept.sound.machine.context; program = kept.sound.machine.program; checked = kept.sound.machine.checked }
+
+pub setting-of : (P : ProgramParts) (machine : Shape) (most : ℕ) (m : Made) → IsOpened P machine most m → IsKept m.state m.made → IsSettingOf P machine most m.state.setting
+setting-of P machine most m opens kept =
+    record {
+      program = opens.program_is;
+      plans = subst (λ (x : ProgramParts). ArePlans x m.state.setting.plans) opens.program_is kept.sound.machine.context.plans;
+      one_form = opens.plans_are;
+      shape = opens.shape_is;
+      fuel = opens.fuel_is;
+    }
+
+pub run-of : (P : ProgramParts) (machine : Shape) (most : ℕ) (m : Made) (events : List Event) → IsOpened P machine most m → IsKept m.state m.made → IsRunOn P machine most events → IsRun m.state events
+run-of P machine most m events opens kept run =
+    subst (λ (S : State). IsRun S events) (sym opens.state) (run m.state.setting (setting-of P machine most m opens kept))
+
+-- every event takes some time
+pub some-time : (ticks : Ticks) (S : State) (events : List Event) (rows : Rows) → AreWithinLimits ticks → AreRowsOf ticks S events rows → (i : ℕ) → i < length rows.finishes → 1 ≤ finish_in rows i
+some-time ticks S events rows limits noted i within =
+    let below : i < length events = omega (arith, within, noted.finishes) in
+    let kind : EventKind = get_or rows.kinds i InstrKind in
+    let here : slice_get rows.kinds i ≡ Some kind = slice_get-get_or rows.kinds i InstrKind (omega (arith, below, noted.kinds)) in
+    let told : kind_at S events i ≡ Some kind = sym (noted.kind i below) ∙ here in
+    let takes = ap (ticks_with ticks) told in
+    omega (arith, (noted.row i below).finish, takes, (limits kind).0)
+
+pub timing-of : (P : ProgramParts) (machine : Shape) (most : ℕ) (m : Made) (events : List Event) (ticks : Ticks) (rows : Rows) (last : Option ℕ) (timing : Timing) → IsOpened P machine most m
+    → IsKept m.state m.made → length events ≤ 25169664 → AreRowsOf ticks m.state events rows → IsLatest (length rows.finishes) (finish_in rows) last → IsWay rows None last timing.links.items
+    → timing.total ≡ behind (finish_in rows) last → IsTimingOf P machine most events ticks timing
+timing-of P machine most m events ticks rows last timing opens kept few noted latest way total =
+    let found : IsLatest (length events) (finish_in rows) last = subst (λ (n : ℕ). IsLatest n (finish_in rows) last) noted.finishes latest in
+    record {
+      setting = m.state.setting;
+      told = setting-of P machine most m opens kept;
+      longest = subst (λ (S : State). IsLongest ticks S events timing) opens.state (way-longest ticks m.state events rows last timing few noted found way total);
+    }

@@ -1,0 +1,92 @@
+-- The way back from a number: what it finishes behind, what that finishes behind, and so on to one that depends on none.
+use Rattle.std.proofs.Common.{◌≡◌, ◌⊎◌, Bool, true, false, nat_lt, ℕ, zero, suc, ◌+◌, ◌<◌, ◌≤◌, List, [], ◌∷◌, length, take, slice_get, Option, Some, None, refl, ap, arith}
+use Rattle.std.proofs.lemmas.List.Sums.{sum_by-cons}
+use Rattle.std.proofs.lemmas.Bool.Decides.{nat_tests}
+use Rattle.std.proofs.lemmas.Option.{same_Some, none-some}
+use Rattle.run_timing.specs.Chains.{IsChainBehind, IsChain, cost, last_from, last_of}
+use Rattle.run_timing.specs.Rows.{behind, IsLatest}
+use Rattle.run_timing.proofs.Longest.{AreRows, chain-most}
+
+-- these numbers lead from what comes before the first of them to the end, each finishing behind the one before it
+abbrev pub Leads : ℕ → (ℕ → Option ℕ) → Option ℕ → Option ℕ → List ℕ → Type 0
+Leads n b before end' [] = before ≡ end'
+Leads n b before end' (i ∷ is) = (i < n) × (b i ≡ before) × Leads n b (Some i) end' is
+
+leads-behind : (Own Sender : ℕ → ℕ → Type 0) (n : ℕ) (ticks f : ℕ → ℕ) (b : ℕ → Option ℕ) → AreRows Own Sender n ticks f b
+    → (i : ℕ) (end' : Option ℕ) (is : List ℕ) → Leads n b (Some i) end' is → IsChainBehind (λ p j. Own p j ⊎ Sender p j) i is
+leads-behind Own Sender n ticks f b rows i end' [] leads = tt
+leads-behind Own Sender n ticks f b rows i end' (j ∷ js) leads =
+    ((rows.row j leads.0).depends i leads.1, leads-behind Own Sender n ticks f b rows j end' js leads.2)
+
+-- they are a chain
+pub leads-chain : (Own Sender : ℕ → ℕ → Type 0) (n : ℕ) (ticks f : ℕ → ℕ) (b : ℕ → Option ℕ) → AreRows Own Sender n ticks f b
+    → (before end' : Option ℕ) (is : List ℕ) → Leads n b before end' is → IsChain (λ p j. Own p j ⊎ Sender p j) n is
+leads-chain Own Sender n ticks f b rows before end' [] leads = tt
+leads-chain Own Sender n ticks f b rows before end' (i ∷ is) leads = (leads.0, leads-behind Own Sender n ticks f b rows i end' is leads.2)
+
+-- each finishes at the cost of the numbers up to it and with it
+pub leads-costs : (Own Sender : ℕ → ℕ → Type 0) (n : ℕ) (ticks f : ℕ → ℕ) (b : ℕ → Option ℕ) → AreRows Own Sender n ticks f b
+    → (before end' : Option ℕ) (is : List ℕ) (k i : ℕ) → Leads n b before end' is → slice_get is k ≡ Some i → f i ≡ behind f before + cost ticks (take (suc k) is)
+leads-costs Own Sender n ticks f b rows before end' [] k i leads here = absurd (none-some i here)
+leads-costs Own Sender n ticks f b rows before end' (j ∷ js) zero i leads here =
+    let same : j ≡ i = same_Some j i here in
+    rw (← same) (omega (arith, (rows.row j leads.0).finish, ap (behind f) leads.1, sum_by-cons ticks j []))
+leads-costs Own Sender n ticks f b rows before end' (j ∷ js) (suc k) i leads here =
+    omega (arith, leads-costs Own Sender n ticks f b rows (Some j) end' js k i leads.2 here, (rows.row j leads.0).finish, ap (behind f) leads.1, sum_by-cons ticks j (take (suc k) js))
+
+pub leads-total : (Own Sender : ℕ → ℕ → Type 0) (n : ℕ) (ticks f : ℕ → ℕ) (b : ℕ → Option ℕ) → AreRows Own Sender n ticks f b
+    → (before end' : Option ℕ) (is : List ℕ) → Leads n b before end' is → behind f before + cost ticks is ≡ behind f end'
+leads-total Own Sender n ticks f b rows before end' [] leads = omega (arith, ap (behind f) leads)
+leads-total Own Sender n ticks f b rows before end' (j ∷ js) leads =
+    omega (arith, leads-total Own Sender n ticks f b rows (Some j) end' js leads.2, (rows.row j leads.0).finish, ap (behind f) leads.1, sum_by-cons ticks j js)
+
+leads-last : (n : ℕ) (b : ℕ → Option ℕ) (i : ℕ) (end' : Option ℕ) (is : List ℕ) → Leads n b (Some i) end' is → Some (last_from i is) ≡ end'
+leads-last n b i end' [] leads = leads
+leads-last n b i end' (j ∷ js) leads = leads-last n b j end' js leads.2
+
+-- they end with the end
+pub leads-end : (n : ℕ) (b : ℕ → Option ℕ) (before : Option ℕ) (e i : ℕ) (is : List ℕ) → Leads n b before (Some e) is → last_of is ≡ Some i → i ≡ e
+leads-end n b before e i [] leads ends = absurd (none-some i ends)
+leads-end n b before e i (j ∷ js) leads ends = let last = leads-last n b j (Some e) js leads.2 in cc
+
+-- each finishes behind the one before it
+pub leads-next : (n : ℕ) (b : ℕ → Option ℕ) (before end' : Option ℕ) (is : List ℕ) (k i j : ℕ) → Leads n b before end' is → slice_get is k ≡ Some i → slice_get is (suc k) ≡ Some j → b j ≡ Some i
+leads-next n b before end' [] k i j leads here next = absurd (none-some i here)
+leads-next n b before end' (x ∷ []) k i j leads here next = absurd (none-some j next)
+leads-next n b before end' (x ∷ y ∷ ys) zero i j leads here next =
+    let first : x ≡ i = same_Some x i here in
+    let second : y ≡ j = same_Some y j next in
+    rw (← first, ← second) leads.2.1
+leads-next n b before end' (x ∷ y ∷ ys) (suc k) i j leads here next = leads-next n b (Some x) end' (y ∷ ys) k i j leads.2 here next
+
+pub leads-within : (n : ℕ) (b : ℕ → Option ℕ) (before end' : Option ℕ) (is : List ℕ) (k i : ℕ) → Leads n b before end' is → slice_get is k ≡ Some i → i < n
+leads-within n b before end' [] k i leads here = absurd (none-some i here)
+leads-within n b before end' (j ∷ js) zero i leads here = let same : j ≡ i = same_Some j i here in rw (← same) leads.0
+leads-within n b before end' (j ∷ js) (suc k) i leads here = leads-within n b (Some j) end' js k i leads.2 here
+
+-- ---- the way back from the number that finishes last
+
+pub latest-most : (n : ℕ) (f : ℕ → ℕ) (end' : Option ℕ) (i : ℕ) → IsLatest n f end' → i < n → f i ≤ behind f end'
+latest-most n f None i latest within = absurd (omega (arith, latest.none refl, within))
+latest-most n f (Some e) i latest within = latest.most e i refl within
+
+-- no chain costs more
+pub latest-longest : (Own Sender : ℕ → ℕ → Type 0) (n : ℕ) (ticks f : ℕ → ℕ) (b : ℕ → Option ℕ) → AreRows Own Sender n ticks f b
+    → (end' : Option ℕ) → IsLatest n f end' → (c : List ℕ) → IsChain (λ p j. Own p j ⊎ Sender p j) n c → cost ticks c ≤ behind f end'
+latest-longest Own Sender n ticks f b rows end' latest [] chain = omega arith
+latest-longest Own Sender n ticks f b rows end' latest (i ∷ is) chain =
+    let most = chain-most Own Sender n ticks f b rows (i ∷ is) (last_from i is) chain refl in
+    omega (arith, most.1, latest-most n f end' (last_from i is) latest most.0)
+
+-- one of the same cost ends no earlier
+pub latest-least : (Own Sender : ℕ → ℕ → Type 0) (n : ℕ) (ticks f : ℕ → ℕ) (b : ℕ → Option ℕ) → AreRows Own Sender n ticks f b
+    → (e : ℕ) → IsLatest n f (Some e) → (c : List ℕ) (j : ℕ) → IsChain (λ p k. Own p k ⊎ Sender p k) n c → cost ticks c ≡ f e → last_of c ≡ Some j → e ≤ j
+latest-least Own Sender n ticks f b rows e latest c j chain same ends = by_test (nat_lt j e) refl where
+  most : (j < n) × (cost ticks c ≤ f j)
+  most = chain-most Own Sender n ticks f b rows c j chain ends
+
+  by_test : (t : Bool) → nat_lt j e ≡ t → e ≤ j
+  by_test true is =
+      let less : j < e = grind (arith, nat_tests, is) in
+      absurd (omega (arith, most.1, same, latest.first e j refl less))
+  by_test false is = grind (arith, nat_tests, is)

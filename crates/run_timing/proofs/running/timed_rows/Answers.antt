@@ -1,0 +1,119 @@
+use Rattle.std.proofs.Common.{◌≡◌, ◌<◌, ◌≤◌, ℕ, length, get_or, slice_get, Some, refl, subst, arith}
+use Rattle.std.proofs.lemmas.Option.{slice_get-get_or}
+use Rattle.message_net.specs.declared.event.Event.{Event}
+use Rattle.message_net.specs.declared.event.Event.TheVariants.{Instr}
+use Rattle.machine_rules.specs.State.{State, opened}
+use Rattle.machine_rules.specs.Runs.{IsRun}
+use Rattle.machine_rules.specs.Sound.{IsReady}
+use Rattle.run_timing.specs.Rows.{finish_in}
+use Rattle.run_timing.specs.Tracks.{last_at, sender_in}
+use Rattle.run_timing.proofs.Growing.{can-note, before-within, run-none, run-more, run-end}
+use Rattle.run_timing.proofs.Started.{ready-of}
+use Rattle.run_timing.proofs.Timed.{at-event}
+use Rattle.run_timing.proofs.running.timed_rows.Goals as goal
+
+pub actor-actor-requires : goal.actor-actor-requires
+actor-actor-requires c =
+    let C = c.args.machine.state.setting in
+    let E = c.args.events.now in
+    let n = c.loop-event.event-index in
+    let e : Event = get_or E n (Instr (record { 0 = 0 })) in
+    let ready : IsReady C = ready-of c.args.machine.state c.args.machine.made c.a_machine_is_kept.ensures in
+    let run : IsRun (opened C) E = subst (λ (S : State). IsRun S E) c.requires.opened c.requires.run in
+    let here : slice_get E n ≡ Some e = slice_get-get_or E n (Instr (record { 0 = 0 })) c.loop-event-test.true in
+    let now = at-event c.args.ticks.now C E n c.loop-event.machine.state c.loop-event.machine.made c.loop-event.tracks.last c.loop-event.tracks.senders.items c.loop-event.rows e ready run c.loop-event.invariant.timed here in
+    now.may
+
+pub before-before-requires : goal.before-before-requires
+before-before-requires c =
+    let C = c.args.machine.state.setting in
+    let E = c.args.events.now in
+    let n = c.loop-event.event-index in
+    let e : Event = get_or E n (Instr (record { 0 = 0 })) in
+    let ready : IsReady C = ready-of c.args.machine.state c.args.machine.made c.a_machine_is_kept.ensures in
+    let run : IsRun (opened C) E = subst (λ (S : State). IsRun S E) c.requires.opened c.requires.run in
+    let here : slice_get E n ≡ Some e = slice_get-get_or E n (Instr (record { 0 = 0 })) c.loop-event-test.true in
+    let can = can-note c.args.ticks.now C c.args.shape E n c.loop-event.machine.state c.loop-event.machine.made c.loop-event.tracks.last c.loop-event.tracks.senders.items c.loop-event.rows e c.actor-actor.result c.place-place.result c.requires.shape ready run c.requires.few c.loop-event.invariant.timed c.loop-event-test.true here c.actor-actor.ensures c.place-place.ensures in
+    record { place = can.last_within; own = can.own; sender = can.sender }
+
+pub make-requires : goal.make-requires
+make-requires c =
+    let C = c.args.machine.state.setting in
+    let E = c.args.events.now in
+    let n = c.loop-event.event-index in
+    let e : Event = get_or E n (Instr (record { 0 = 0 })) in
+    let ready : IsReady C = ready-of c.args.machine.state c.args.machine.made c.a_machine_is_kept.ensures in
+    let run : IsRun (opened C) E = subst (λ (S : State). IsRun S E) c.requires.opened c.requires.run in
+    let here : slice_get E n ≡ Some e = slice_get-get_or E n (Instr (record { 0 = 0 })) c.loop-event-test.true in
+    let now = at-event c.args.ticks.now C E n c.loop-event.machine.state c.loop-event.machine.made c.loop-event.tracks.last c.loop-event.tracks.senders.items c.loop-event.rows e ready run c.loop-event.invariant.timed here in
+    record {
+      may = now.may;
+      made = omega (arith, c.loop-event.invariant.timed.counts, c.loop-event-test.true, c.requires.few);
+      there = now.there c.actor-actor.result c.actor-actor.ensures;
+      still = now.still;
+      grows = now.grows c.actor-actor.result c.actor-actor.ensures;
+    }
+
+pub note-requires : goal.note-requires
+note-requires c =
+    let C = c.args.machine.state.setting in
+    let E = c.args.events.now in
+    let n = c.loop-event.event-index in
+    let e : Event = get_or E n (Instr (record { 0 = 0 })) in
+    let ready : IsReady C = ready-of c.args.machine.state c.args.machine.made c.a_machine_is_kept.ensures in
+    let run : IsRun (opened C) E = subst (λ (S : State). IsRun S E) c.requires.opened c.requires.run in
+    let here : slice_get E n ≡ Some e = slice_get-get_or E n (Instr (record { 0 = 0 })) c.loop-event-test.true in
+    let can = can-note c.args.ticks.now C c.args.shape E n c.loop-event.machine.state c.loop-event.machine.made c.loop-event.tracks.last c.loop-event.tracks.senders.items c.loop-event.rows e c.actor-actor.result c.place-place.result c.requires.shape ready run c.requires.few c.loop-event.invariant.timed c.loop-event-test.true here c.actor-actor.ensures c.place-place.ensures in
+    record { last = can.last_within; senders = can.senders_within }
+
+pub note_row-requires : goal.note_row-requires
+note_row-requires c =
+    let C = c.args.machine.state.setting in
+    let E = c.args.events.now in
+    let n = c.loop-event.event-index in
+    let e : Event = get_or E n (Instr (record { 0 = 0 })) in
+    let ready : IsReady C = ready-of c.args.machine.state c.args.machine.made c.a_machine_is_kept.ensures in
+    let run : IsRun (opened C) E = subst (λ (S : State). IsRun S E) c.requires.opened c.requires.run in
+    let here : slice_get E n ≡ Some e = slice_get-get_or E n (Instr (record { 0 = 0 })) c.loop-event-test.true in
+    let can = can-note c.args.ticks.now C c.args.shape E n c.loop-event.machine.state c.loop-event.machine.made c.loop-event.tracks.last c.loop-event.tracks.senders.items c.loop-event.rows e c.actor-actor.result c.place-place.result c.requires.shape ready run c.requires.few c.loop-event.invariant.timed c.loop-event-test.true here c.actor-actor.ensures c.place-place.ensures in
+    record {
+      before =
+          before-within (finish_in c.loop-event.rows) (last_at c.loop-event.tracks.last c.place-place.result) (sender_in c.args.shape.cores c.args.shape.banks c.loop-event.tracks.senders.items e) c.before-before.result
+          (length c.loop-event.rows.finishes) c.before-before.ensures can.own can.sender;
+      small = can.small;
+      ticks = c.requires.ticks;
+    }
+
+pub loop-event-init : goal.loop-event-init
+loop-event-init c =
+    record {
+      timed =
+          run-none c.args.ticks.now c.args.machine.state.setting c.args.shape c.args.events.now c.args.machine.state c.args.machine.made c.in_ok-tracks.tracks.last c.in_ok-tracks.tracks.senders.items c.new-rows.result
+          c.requires.shape c.requires.opened c.requires.made c.in_ok-tracks.ensures.last c.in_ok-tracks.ensures.senders c.new-rows.ensures;
+      number = refl;
+    }
+
+pub loop-event-preserved : goal.loop-event-preserved
+loop-event-preserved c =
+    let C = c.args.machine.state.setting in
+    let E = c.args.events.now in
+    let n = c.loop-event.event-index in
+    let e : Event = get_or E n (Instr (record { 0 = 0 })) in
+    let ready : IsReady C = ready-of c.args.machine.state c.args.machine.made c.a_machine_is_kept.ensures in
+    let run : IsRun (opened C) E = subst (λ (S : State). IsRun S E) c.requires.opened c.requires.run in
+    let here : slice_get E n ≡ Some e = slice_get-get_or E n (Instr (record { 0 = 0 })) c.loop-event-test.true in
+    record {
+      timed =
+          run-more c.args.ticks.now C c.args.shape E n c.loop-event.machine.state c.make.new.machine.state c.loop-event.machine.made c.make.new.machine.made c.loop-event.tracks.last c.note.new.self.last
+          c.loop-event.tracks.senders.items c.note.new.self.senders.items c.loop-event.rows c.note_row.new.rows e c.actor-actor.result c.place-place.result c.in_ok-happened.happened.sent c.loop-event.number
+          c.before-before.result c.in_ok-happened.happened.kind c.requires.shape ready run c.loop-event.invariant.timed here c.actor-actor.ensures c.requires.ticks c.place-place.ensures c.loop-event.invariant.number
+          c.before-before.ensures c.in_ok-happened.ensures.kind c.in_ok-happened.ensures.sent c.in_ok-happened.ensures.state c.in_ok-happened.ensures.made c.in_ok-note.ensures.last c.in_ok-note.ensures.senders
+          c.in_ok-note_row.ensures;
+      number = omega (arith, c.loop-event.invariant.number);
+    }
+
+pub returns : goal.returns
+returns c =
+    let all : c.loop-event.event-index ≡ length c.args.events.now = omega (arith, c.loop-event-test.false, c.loop-event.auto.event-index-end) in
+    run-end c.args.ticks.now c.args.machine.state.setting c.args.events.now c.loop-event.event-index c.args.machine.state c.loop-event.machine.state c.loop-event.machine.made c.loop-event.tracks.last
+    c.loop-event.tracks.senders.items c.loop-event.rows c.requires.opened all c.loop-event.invariant.timed

@@ -1,0 +1,58 @@
+-- The longest chain of a run's events.
+use Rattle.std.specs.Prelude.{◌≡◌, ℕ, ◌+◌, ◌<◌, ◌≤◌, List, length, map, take, slice_get, Some}
+use Rattle.dn_base.specs.declared.ids.Shape.{Shape}
+use Rattle.message_net.specs.declared.event.Event.{Event}
+use Rattle.region_table.specs.Program.{ProgramParts}
+use Rattle.registration_protocol.specs.Node.{Setting}
+use Rattle.machine_rules.specs.State.{State, opened}
+use Rattle.run_timing.specs.declared.ticks.Ticks.{Ticks}
+use Rattle.run_timing.specs.declared.timing.Link.{Link}
+use Rattle.run_timing.specs.declared.timing.Timing.{Timing}
+use Rattle.run_timing.specs.Chains.{IsChain, cost, last_of, IsFinish}
+use Rattle.run_timing.specs.Depends.{kind_at, IsOwnBefore, IsSender, DependsOn}
+use Rattle.dn_machine.specs.Settings.{IsSettingOf}
+use Rattle.run_timing.specs.Ticks.{ticks_at}
+
+-- a chain of a run's events: a list of their numbers, in which each event depends on the one before it
+abbrev pub IsEventChain : State → List Event → List ℕ → Type 0
+IsEventChain S events chain = IsChain (DependsOn S events) (length events) chain
+
+-- what it takes: the ticks of its events
+abbrev pub time_of : Ticks → State → List Event → List ℕ → ℕ
+time_of ticks S events chain = cost (ticks_at ticks S events) chain
+
+-- an event finishes at the greatest time of a chain that ends with it
+abbrev pub FinishesAt : Ticks → State → List Event → ℕ → ℕ → Type 0
+FinishesAt ticks S events i finish = IsFinish (DependsOn S events) (length events) (ticks_at ticks S events) i finish
+
+-- the numbers of the links' events
+abbrev pub numbers_in : List Link → List ℕ
+numbers_in links = map (λ (link : Link). link.event) links
+
+-- what a link tells of its event: its kind, and when it finishes
+pub record IsLinkOf (ticks : Ticks) (S : State) (events : List Event) (link : Link) : Type 0 where
+  pub kind : kind_at S events link.event ≡ Some link.kind
+  pub finish : FinishesAt ticks S events link.event link.finish
+
+-- the links are the longest chain of the events that come from state S on, and tell when each of its events finishes
+pub record IsLongest (ticks : Ticks) (S : State) (events : List Event) (timing : Timing) : Type 0 where
+  -- the links' events are a chain that takes the total, and none takes longer
+  pub chain : IsEventChain S events (numbers_in timing.links.items)
+  pub takes : time_of ticks S events (numbers_in timing.links.items) ≡ timing.total
+  pub longest : (other : List ℕ) → IsEventChain S events other → time_of ticks S events other ≤ timing.total
+  -- a link's finish is the time of the links up to it and with it, and its event finishes then
+  pub finishes : (k : ℕ) (link : Link) → slice_get timing.links.items k ≡ Some link → link.finish ≡ time_of ticks S events (take (k + 1) (numbers_in timing.links.items))
+  pub links : (k : ℕ) (link : Link) → slice_get timing.links.items k ≡ Some link → IsLinkOf ticks S events link
+  -- of all chains that take as long the links' ends with the least event
+  pub least : (other : List ℕ) (i j : ℕ) → IsEventChain S events other → time_of ticks S events other ≡ timing.total → last_of (numbers_in timing.links.items) ≡ Some i
+      → last_of other ≡ Some j → i ≤ j
+  -- where the event before it of its own actor and the sender of its mail finish alike, the link before a link is its own actor's
+  pub own : (k : ℕ) (before link : Link) (i j finish : ℕ) → slice_get timing.links.items k ≡ Some before → slice_get timing.links.items (k + 1) ≡ Some link
+      → IsOwnBefore S events i link.event → IsSender S events j link.event → FinishesAt ticks S events i finish → FinishesAt ticks S events j finish → before.event ≡ i
+  pub bound : timing.total < 35184372088832
+
+-- the timing of a run of the opened machine of this program, shape and fuel
+pub record IsTimingOf (P : ProgramParts) (machine : Shape) (most : ℕ) (events : List Event) (ticks : Ticks) (timing : Timing) : Type 0 where
+  pub setting : Setting
+  pub told : IsSettingOf P machine most setting
+  pub longest : IsLongest ticks (opened setting) events timing

@@ -1,0 +1,74 @@
+-- What is noted of each event: when it finishes, the event behind which it does, and its kind.
+use Rattle.std.specs.Prelude.{◌≡◌, ◌⊎◌, ℕ, ◌+◌, ◌*◌, ◌<◌, ◌≤◌, nat_lt, List, [], ◌∷◌, ◌++◌, length, slice_get, slice_index, slice_index_or, Option, Some, None, if◌then◌else◌}
+use Rattle.message_net.specs.declared.event.EventKind.{EventKind}
+use Rattle.run_timing.specs.declared.rows.Rows.{Rows}
+use Rattle.run_timing.specs.declared.timing.Link.{Link}
+
+-- when an event finishes, and behind which event it does
+abbrev pub finish_in : Rows → ℕ → ℕ
+finish_in rows i = slice_index rows.finishes i
+
+abbrev pub before_in : Rows → ℕ → Option ℕ
+before_in rows i = slice_index_or rows.befores i None
+
+-- when an event finishes, if there is one; without one it is at the beginning
+abbrev pub behind : (ℕ → ℕ) → Option ℕ → ℕ
+behind f None = 0
+behind f (Some p) = f p
+
+-- of two events the one that finishes later, and the first where both finish alike
+abbrev pub later : (ℕ → ℕ) → Option ℕ → Option ℕ → Option ℕ
+later f None sender = sender
+later f (Some o) None = Some o
+later f (Some o) (Some s) = if nat_lt (f o) (f s) then Some s else Some o
+
+-- one more event, of this kind and so many ticks, behind another
+abbrev pub with_row : EventKind → ℕ → Option ℕ → Rows → Rows
+with_row kind ticks before rows =
+    record {
+      finishes = rows.finishes ++ (behind (finish_in rows) before + ticks) ∷ [];
+      befores = rows.befores ++ before ∷ [];
+      kinds = rows.kinds ++ kind ∷ [];
+    }
+
+-- each event has all three, and an earlier event before it if any
+pub record AreInStep (rows : Rows) : Type 0 where
+  pub befores : length rows.befores ≡ length rows.finishes
+  pub kinds : length rows.kinds ≡ length rows.finishes
+  pub earlier : (i p : ℕ) → before_in rows i ≡ Some p → p < i
+
+-- a link tells what is noted of its event, which finishes behind this one
+pub record IsLinkIn (rows : Rows) (before : Option ℕ) (link : Link) : Type 0 where
+  pub within : link.event < length rows.finishes
+  pub before_is : before_in rows link.event ≡ before
+  pub finish : link.finish ≡ finish_in rows link.event
+  pub kind : slice_get rows.kinds link.event ≡ Some link.kind
+
+-- the links lead from an event to the last one, each behind the one before it
+abbrev pub IsWay : Rows → Option ℕ → Option ℕ → List Link → Type 0
+IsWay rows before last [] = before ≡ last
+IsWay rows before last (link ∷ links) = IsLinkIn rows before link × IsWay rows (Some link.event) last links
+
+-- none of the first n events finishes after the latest one, those before it finish before it, and there is one where there are events
+pub record IsLatest (n : ℕ) (f : ℕ → ℕ) (latest : Option ℕ) : Type 0 where
+  pub none : latest ≡ None → n ≡ 0
+  pub within : (e : ℕ) → latest ≡ Some e → e < n
+  pub most : (e i : ℕ) → latest ≡ Some e → i < n → f i ≤ f e
+  pub first : (e i : ℕ) → latest ≡ Some e → i < e → f i < f e
+
+-- event number i finishes behind the one of those that it depends on which finishes last; where the one of its own actor and the
+-- sender of its mail finish alike, behind the own
+pub record IsRow (Own Sender : ℕ → ℕ → Type 0) (ticks f : ℕ → ℕ) (before : Option ℕ) (i : ℕ) : Type 0 where
+  pub finish : f i ≡ ticks i + behind f before
+  pub depends : (p : ℕ) → before ≡ Some p → Own p i ⊎ Sender p i
+  pub latest : (p : ℕ) → Own p i ⊎ Sender p i → f p ≤ behind f before
+  pub own : (o s : ℕ) → Own o i → Sender s i → f o ≡ f s → before ≡ Some o
+
+-- what is noted of the first n events is right: their kinds, when they finish, and behind which events they do
+pub record AreNoted (Own Sender : ℕ → ℕ → Type 0) (ticks : ℕ → ℕ) (kinds_are : ℕ → Option EventKind) (n : ℕ) (rows : Rows) : Type 0 where
+  pub finishes : length rows.finishes ≡ n
+  pub befores : length rows.befores ≡ n
+  pub kinds : length rows.kinds ≡ n
+  pub row : (i : ℕ) → i < n → IsRow Own Sender ticks (finish_in rows) (before_in rows i) i
+  pub kind : (i : ℕ) → i < n → slice_get rows.kinds i ≡ kinds_are i
+  pub small : (i : ℕ) → i < n → finish_in rows i ≤ 1000000 * (i + 1)

@@ -1,0 +1,21 @@
+//! How long a run of the machine takes when an event of each kind takes a stated number of ticks, and which chain of events,
+//! each of which depends on the one before it, makes it so long.
+#![tactic(auto)]
+
+mod laws;
+mod making;
+mod noting;
+mod rows;
+mod running;
+mod text;
+mod ticks;
+mod time;
+mod timing;
+mod tracks;
+mod way;
+
+pub use laws::a_run_has_one_timing;
+pub use text::time_text;
+pub use ticks::Ticks;
+pub use time::time_run;
+pub use timing::{Link, Timing};

@@ -1,0 +1,116 @@
+ghost use Rattle.std.specs.Prelude.{◌≡◌, ◌+◌, ◌<◌, ◌≤◌, ℕ, [], Some, length, OnOk, slice_get};
+ghost use Rattle.run_timing.specs.Rows.{AreInStep, IsLatest, IsLinkIn, before_in, behind, finish_in, later, with_row};
+
+use crate::timing::Link;
+use dn_base::{Memory, Sequence};
+use message_net::EventKind;
+use std::alloc::Global;
+
+/// What is noted of each event of a run: when it finishes, the event behind which it does, and its kind.
+#[derive(Debug, Drop)]
+pub(crate) struct Rows {
+    pub(crate) finishes: Sequence<u64>,
+    pub(crate) befores: Sequence<Option<u32>>,
+    pub(crate) kinds: Sequence<EventKind>,
+}
+
+impl Rows {
+    /// The rows of no event.
+    pub(crate) fn new(alloc: Global) -> Rows
+        ensures { result ≡ record { finishes = []; befores = []; kinds = [] } }
+    {
+        Rows {
+            finishes: Sequence::new(alloc),
+            befores: Sequence::new(alloc),
+            kinds: Sequence::new(alloc),
+        }
+    }
+
+    /// When an event finishes, and 0 where there is none.
+    pub(crate) fn finish(&self, event: Option<u32>) -> u64
+        requires { (i : ℕ) → event ≡ Some i → i < length self.now.finishes }
+        ensures { result ≡ behind (finish_in self.now) event }
+    {
+        match event {
+            Some(event) => self.finishes.as_slice()[event as usize],
+            None => 0,
+        }
+    }
+
+    /// Of an event and a second one the one that finishes later; the first where both finish alike.
+    pub(crate) fn later(&self, first: Option<u32>, second: Option<u32>) -> Option<u32>
+        requires first { (i : ℕ) → first ≡ Some i → i < length self.now.finishes }
+        requires second { (i : ℕ) → second ≡ Some i → i < length self.now.finishes }
+        ensures { result ≡ later (finish_in self.now) first second }
+    {
+        match (first, second) {
+            (Some(_), Some(_)) => {
+                if self.finish(first) < self.finish(second) {
+                    second
+                } else {
+                    first
+                }
+            }
+            (Some(_), None) => first,
+            (None, _) => second,
+        }
+    }
+
+    /// Notes one more event, of this kind and so many ticks, behind another.
+    ///
+    /// # Errors
+    /// `Memory` where there is no room.
+    pub(crate) fn add(
+        &mut self,
+        kind: EventKind,
+        ticks: u32,
+        before: Option<u32>,
+    ) -> Result<(), Memory>
+        requires before { (i : ℕ) → before ≡ Some i → i < length self.old.finishes }
+        requires fits { behind (finish_in self.old) before + ticks < 18446744073709551616 }
+        ensures { OnOk result (self.new ≡ with_row kind ticks before self.old) }
+    {
+        let finish = self.finish(before) + ticks as u64;
+        self.finishes.push(finish)?;
+        self.befores.push(before)?;
+        self.kinds.push(kind)
+    }
+
+    /// The event that finishes last, the first of them where several do; None where there is no event.
+    pub(crate) fn latest(&self) -> Option<u32>
+        requires few { length self.now.finishes ≤ 25169664 }
+        requires some { (i : ℕ) → i < length self.now.finishes → 1 ≤ finish_in self.now i }
+        ensures { IsLatest (length self.now.finishes) (finish_in self.now) result }
+    {
+        let mut latest = None;
+        for (event, finish) in self.finishes.as_slice().iter().enumerate() {
+            if self.finish(latest) < *finish {
+                latest = Some(event as u32);
+            }
+        }
+        latest
+    }
+
+    /// What is told of an event.
+    pub(crate) fn link(&self, event: u32) -> Link
+        requires rows { AreInStep self.now }
+        requires within { event < length self.now.finishes }
+        ensures event { result.event ≡ event }
+        ensures link { IsLinkIn self.now (before_in self.now event) result }
+    {
+        Link {
+            event,
+            kind: self.kinds.as_slice()[event as usize],
+            finish: self.finishes.as_slice()[event as usize],
+        }
+    }
+
+    /// The event behind which an event finishes.
+    pub(crate) fn before(&self, event: u32) -> Option<u32>
+        requires rows { AreInStep self.now }
+        requires within { event < length self.now.finishes }
+        ensures { result ≡ before_in self.now event }
+    {
+        self.befores.as_slice()[event as usize]
+    }
+}

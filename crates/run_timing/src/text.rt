@@ -1,0 +1,64 @@
+ghost use Rattle.std.specs.Prelude.{◌≡◌, ◌++◌, flat_map, IfOk, OnOk};
+ghost use Rattle.run_timing.specs.Text.{chain_line, link_line, time_line, timing_of};
+
+use crate::timing::{Link, Timing};
+use dn_base::Memory;
+use run_report::event_name;
+use std::alloc::Global;
+use text_pieces::{push, push_decimal, push_long};
+
+#[tactic(auto, unfolding(crate::specs::Text::time_line))]
+fn push_total(out: &mut Vec<u8>, total: u64) -> Result<(), Memory>
+    ensures { OnOk result (out.new.items ≡ out.old.items ++ time_line total) }
+{
+    push(out, b"time ")?;
+    push_long(out, total)?;
+    push(out, b"\n")
+}
+
+#[tactic(auto, unfolding(crate::specs::Text::chain_line))]
+fn push_count(out: &mut Vec<u8>, links: u64) -> Result<(), Memory>
+    ensures { OnOk result (out.new.items ≡ out.old.items ++ chain_line links) }
+{
+    push(out, b"chain ")?;
+    push_long(out, links)?;
+    push(out, b"\n")
+}
+
+#[tactic(auto, unfolding(crate::specs::Text::link_line))]
+fn push_link(out: &mut Vec<u8>, link: Link) -> Result<(), Memory>
+    ensures { OnOk result (out.new.items ≡ out.old.items ++ link_line link) }
+{
+    push(out, b"link ")?;
+    push_decimal(out, link.event)?;
+    push(out, b" ")?;
+    push(out, event_name(link.kind))?;
+    push(out, b" ")?;
+    push_long(out, link.finish)?;
+    push(out, b"\n")
+}
+
+fn push_links(out: &mut Vec<u8>, links: &[Link]) -> Result<(), Memory>
+    ensures { OnOk result (out.new.items ≡ out.old.items ++ flat_map link_line links.now) }
+{
+    for link in links {
+        push_link(out, *link)?;
+    }
+    Ok(())
+}
+
+/// The timing as it is printed: how many ticks the run takes, how many links the chain has, and a line for each link in their
+/// order with the number of its event, the event's kind and when it finishes.
+///
+/// # Errors
+/// `Memory` where there is no room for the text.
+#[tactic(auto, unfolding(crate::specs::Text::timing_of))]
+pub fn time_text(alloc: Global, timing: &Timing) -> Result<Vec<u8>, Memory>
+    ensures { IfOk result (λ text. text.items ≡ timing_of timing.now) }
+{
+    let mut out = Vec::new(alloc);
+    push_total(&mut out, timing.total)?;
+    push_count(&mut out, timing.links.len() as u64)?;
+    push_links(&mut out, timing.links.as_slice())?;
+    Ok(out)
+}

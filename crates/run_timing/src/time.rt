@@ -1,0 +1,60 @@
+ghost use Rattle.std.specs.Prelude.{◌≡◌, ◌≤◌, length, IfOk};
+ghost use Rattle.region_table.specs.Program.{cores_of};
+ghost use Rattle.run_timing.specs.Longest.{IsTimingOf};
+ghost use Rattle.dn_machine.specs.Settings.{IsRunOn};
+ghost use Rattle.run_timing.specs.Ticks.{AreWithinLimits};
+
+use crate::running::timed_rows;
+use crate::ticks::Ticks;
+use crate::timing::Timing;
+use crate::way::way_to;
+use dn_base::{Memory, Shape};
+use dn_machine::{Machine, a_machine_is_kept};
+use effect_checker::Checked;
+use message_net::Event;
+use std::alloc::Global;
+
+/// How long a run takes, and the longest chain of its events, each of which depends on the one before it: that is the event
+/// before it of its own actor, or the one that sent the mail that it handles.
+///
+/// The events are a run of the opened machine of the checked program, this shape and this fuel, and at most 25,169,664. The shape
+/// has the cores that the program needs, 1 to 16 banks, 1 to 256 sets and 1 to 16 ways, and a task may retire `fuel`
+/// instructions, 1 to 32,768. An event of each kind takes 1 to 1,000,000 ticks.
+///
+/// Of the chains that take longest the links are one that ends with the least event, and where two events before a link finish alike
+/// it comes behind the one of its own actor.
+///
+/// # Errors
+/// `Memory` where there is no room for the machine, for what is noted of each event, or for the links.
+pub fn time_run(
+    alloc: Global,
+    checked: Checked,
+    shape: Shape,
+    fuel: u32,
+    events: &[Event],
+    ticks: &Ticks,
+) -> Result<Timing, Memory>
+    requires cores { shape.cores ≡ cores_of checked }
+    requires some_banks { 1 ≤ shape.banks }
+    requires most_banks { shape.banks ≤ 16 }
+    requires some_sets { 1 ≤ shape.sets }
+    requires most_sets { shape.sets ≤ 256 }
+    requires some_ways { 1 ≤ shape.ways }
+    requires most_ways { shape.ways ≤ 16 }
+    requires some_fuel { 1 ≤ fuel }
+    requires most_fuel { fuel ≤ 32768 }
+    requires run { IsRunOn checked shape fuel events.now }
+    requires few { length events.now ≤ 25169664 }
+    requires ticks { AreWithinLimits ticks.now }
+    ensures { IfOk result (IsTimingOf checked shape fuel events.now ticks.now) }
+{
+    let machine = Machine::start(alloc, checked, shape, fuel)?;
+    a_machine_is_kept(&machine);
+    let rows = timed_rows(alloc, machine, shape, events, ticks)?;
+    let last = rows.latest();
+    let links = way_to(alloc, &rows, last)?;
+    Ok(Timing {
+        total: rows.finish(last),
+        links,
+    })
+}

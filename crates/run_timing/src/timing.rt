@@ -1,0 +1,17 @@
+use message_net::EventKind;
+
+/// An event of the longest chain: its number among the run's events from 0, its kind, and the ticks from the run's beginning to
+/// its end.
+#[derive(Clone, Copy, Debug, PartialEq, Eq)]
+pub struct Link {
+    pub event: u32,
+    pub kind: EventKind,
+    pub finish: u64,
+}
+
+/// How many ticks a run takes, and the chain of dependent events that takes them.
+#[derive(Debug, Drop)]
+pub struct Timing {
+    pub total: u64,
+    pub links: Vec<Link>,
+}

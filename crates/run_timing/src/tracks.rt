@@ -1,0 +1,96 @@
+ghost use Rattle.std.specs.Prelude.{◌≡◌, ◌<◌, ◌≤◌, ◌++◌, ℕ, List, [], length, replicate, slice_get, slice_set, IfOk, OnOk, Some, None};
+ghost use Rattle.run_timing.specs.Tracks.{last_at, noted_last, noted_mails, row_at};
+
+use dn_base::{Memory, Sequence};
+use std::alloc::Global;
+
+/// What is noted of the events so far: by the place of an actor the last of its events, and by that and the number of a mail
+/// among those that the actor has sent the event that sent it.
+#[derive(Debug, Drop)]
+pub(crate) struct Tracks {
+    pub(crate) last: Sequence<Option<u32>>,
+    pub(crate) senders: Vec<Sequence<u32>>,
+}
+
+/// So many rows without mails.
+fn empty_rows(alloc: Global, actors: usize) -> Result<Vec<Sequence<u32>>, Memory>
+    ensures { IfOk result (λ rows. rows.items ≡ replicate actors []) }
+{
+    let mut rows = Vec::new(alloc);
+    for _actor in 0..actors {
+        rows.push(Sequence::new(alloc))?;
+    }
+    Ok(rows)
+}
+
+/// Adds so many mails that an event sent.
+fn push_mails(row: &mut Sequence<u32>, count: u32, event: u32) -> Result<(), Memory>
+    ensures { OnOk result (row.new ≡ row.old ++ replicate count event) }
+{
+    for _mail in 0..count {
+        row.push(event)?;
+    }
+    Ok(())
+}
+
+/// The same in the row at a place.
+fn push_at(
+    rows: &mut Vec<Sequence<u32>>,
+    place: usize,
+    count: u32,
+    event: u32,
+) -> Result<(), Memory>
+    requires { place < length rows.old.items }
+    ensures { OnOk result (rows.new.items ≡ noted_mails place count event rows.old.items) }
+{
+    let row = &mut rows[place];
+    push_mails(row, count, event)
+}
+
+impl Tracks {
+    /// What is noted of no event, for so many actors.
+    ///
+    /// # Errors
+    /// `Memory` where there is no room.
+    pub(crate) fn new(alloc: Global, actors: usize) -> Result<Tracks, Memory>
+        ensures last { IfOk result (λ tracks. tracks.last ≡ replicate actors None) }
+        ensures senders { IfOk result (λ tracks. tracks.senders.items ≡ replicate actors []) }
+    {
+        Ok(Tracks {
+            last: Sequence::from_vec(vec![in alloc; None; actors]?),
+            senders: empty_rows(alloc, actors)?,
+        })
+    }
+
+    /// The last event of the actor at a place; None where it has made none.
+    pub(crate) fn last_event(&self, place: usize) -> Option<u32>
+        requires { place < length self.now.last }
+        ensures { result ≡ last_at self.now.last place }
+    {
+        self.last.as_slice()[place]
+    }
+
+    /// The event that sent the mail with this number of the actor at a place.
+    pub(crate) fn sender(&self, place: usize, number: u32) -> Option<u32>
+        ensures { result ≡ slice_get (row_at self.now.senders.items place) number }
+    {
+        match self.senders.as_slice().get(place) {
+            Some(row) => row.get(number as usize).copied(),
+            None => None,
+        }
+    }
+
+    /// Notes that an event of the actor at a place came, and sent so many mails.
+    ///
+    /// # Errors
+    /// `Memory` where there is no room.
+    pub(crate) fn note(&mut self, place: usize, count: u32, event: u32) -> Result<(), Memory>
+        requires last { place < length self.old.last }
+        requires senders { place < length self.old.senders.items }
+        ensures last { OnOk result (self.new.last ≡ noted_last place event self.old.last) }
+        ensures senders { OnOk result (self.new.senders.items ≡ noted_mails place count event self.old.senders.items) }
+    {
+        self.last.set(place, Some(event));
+        push_at(&mut self.senders, place, count, event)
+    }
+}
