@@ -1,0 +1,106 @@
+-- Calls after others, and the calls of several acts.
+use Rattle.std.proofs.Common.{◌≡◌, ℕ, zero, suc, ◌+◌, List, [], ◌∷◌, ◌++◌, length, filter_map, Option, Some, None, refl, sym, ap, ◌∙◌, subst, arith}
+use Rattle.std.specs.List.{cons_option, range_with_len}
+use Rattle.std.specs.Option.{option_to_list}
+use Rattle.std.proofs.lemmas.List.{append_assoc, append-nil, length-append}
+use Rattle.std.proofs.lemmas.List.Elements.{filter_map-append}
+use Rattle.dn_base.specs.declared.ids.Shape.{Shape}
+use Rattle.registration_protocol.specs.Node.{Setting}
+use Rattle.bank_hall.specs.declared.posted.Posted.{Posted}
+use Rattle.bank_hall.specs.Note.{KeeperNote, letter_to}
+use Rattle.bank_hall.specs.Rows.{made_of}
+use Rattle.bank_hall.specs.Halls.{PassView, Calls, HasMadeCalls, number_of}
+use Rattle.round_rules.specs.Acts.{Act, no_calls, and_then, try_calls, posting, postings, sent_by, done_in, act_calls, calls_in, events_in}
+use Rattle.round_rules.proofs.Appended.{calls-follow}
+use Rattle.host_workers.specs.Work.{HasActed}
+
+-- the calls of each object are first those and then these
+pub record Splits (whole first more : Calls) : Type 0 where
+  pub banks : (b : ℕ) → whole.banks b ≡ first.banks b ++ more.banks b
+  pub ports : (c : ℕ) → whole.ports c ≡ first.ports c ++ more.ports c
+  pub keeper : whole.keeper ≡ first.keeper ++ more.keeper
+
+pub splits-both : (first more : Calls) → Splits (and_then first more) first more
+splits-both first more = record { banks = λ b. refl; ports = λ c. refl; keeper = refl }
+
+splits-first : (whole : Calls) → Splits whole no_calls whole
+splits-first whole = record { banks = λ b. refl; ports = λ c. refl; keeper = refl }
+
+pub splits-last : (whole : Calls) → Splits whole whole no_calls
+splits-last whole = record {
+  banks = λ b. sym (append-nil (whole.banks b));
+  ports = λ c. sym (append-nil (whole.ports c));
+  keeper = sym (append-nil whole.keeper);
+}
+
+splits-cons : (head whole first more : Calls) → Splits whole first more → Splits (and_then head whole) (and_then head first) more
+splits-cons head whole first more s = record {
+  banks = λ b. ap (λ l. head.banks b ++ l) (s.banks b) ∙ sym (append_assoc (head.banks b) (first.banks b) (more.banks b));
+  ports = λ c. ap (λ l. head.ports c ++ l) (s.ports c) ∙ sym (append_assoc (head.ports c) (first.ports c) (more.ports c));
+  keeper = ap (λ l. head.keeper ++ l) s.keeper ∙ sym (append_assoc head.keeper first.keeper more.keeper);
+}
+
+pub posts-split : (shape : Shape) (number : ℕ) (xs ys : List Posted) → Splits (postings shape number (xs ++ ys)) (postings shape number xs) (postings shape number ys)
+posts-split shape number [] ys = splits-first (postings shape number ys)
+posts-split shape number (x ∷ xs) ys = splits-cons (posting shape number x) _ _ _ (posts-split shape number xs ys)
+
+-- no call, and calls after others
+pub made-none : (p : PassView) → HasMadeCalls p p no_calls
+made-none p = record {
+  banks = λ b. sym (append-nil (made_of p.banks b));
+  ports = λ c. sym (append-nil (made_of p.ports c));
+  keeper = sym (append-nil (made_of p.keeper 0));
+}
+
+pub made-split : (a b c : PassView) (whole first more : Calls) → Splits whole first more → HasMadeCalls a b first → HasMadeCalls b c more → HasMadeCalls a c whole
+made-split a b c whole first more s one two = record {
+  banks = λ i. two.banks i ∙ (ap (λ l. l ++ more.banks i) (one.banks i) ∙ (append_assoc (made_of a.banks i) (first.banks i) (more.banks i) ∙ ap (λ l. made_of a.banks i ++ l) (sym (s.banks i))));
+  ports = λ i. two.ports i ∙ (ap (λ l. l ++ more.ports i) (one.ports i) ∙ (append_assoc (made_of a.ports i) (first.ports i) (more.ports i) ∙ ap (λ l. made_of a.ports i ++ l) (sym (s.ports i))));
+  keeper = two.keeper ∙ (ap (λ l. l ++ more.keeper) one.keeper ∙ (append_assoc (made_of a.keeper 0) first.keeper more.keeper ∙ ap (λ l. made_of a.keeper 0 ++ l) (sym s.keeper)));
+}
+
+-- the same calls, with no call behind them
+pub made-alone : (a b : PassView) (calls : Calls) → HasMadeCalls a b calls → HasMadeCalls a b (and_then calls no_calls)
+made-alone a b calls one = made-split a b b (and_then calls no_calls) calls no_calls (splits-both calls no_calls) one (made-none b)
+
+-- no act
+pub acted-none : (C : Setting) (p : PassView) → HasActed C p p [] 0
+acted-none C p = record { calls = made-none p; counted = refl }
+
+-- one act: its take or step, and then the posts of what its event sent
+pub acted-one : (C : Setting) (a b c : PassView) (act : Act) (count : ℕ) → HasMadeCalls a b (try_calls (number_of a) act) → number_of b ≡ number_of a
+    → HasMadeCalls b c (postings C.shape (number_of b) (sent_by (done_in C.shape act))) → count ≡ length (events_in C.shape (act ∷ [])) → HasActed C a c (act ∷ []) count
+acted-one C a b c act count tries same posts counted = record {
+  calls = made-alone a c (act_calls C.shape (number_of a) act) (made-split a b c (act_calls C.shape (number_of a) act) (try_calls (number_of a) act) (postings C.shape (number_of a) (sent_by (done_in C.shape act))) (splits-both _ _) tries (subst (λ n. HasMadeCalls b c (postings C.shape n (sent_by (done_in C.shape act)))) same posts));
+  counted = counted;
+}
+
+-- acts after others
+pub acted-both : (C : Setting) (a b c : PassView) (xs ys : List Act) (m n : ℕ) → HasActed C a b xs m → number_of b ≡ number_of a → HasActed C b c ys n → HasActed C a c (xs ++ ys) (m + n)
+acted-both C a b c xs ys m n one same two = record {
+  calls = calls-follow C.shape (number_of a) xs ys a b c one.calls (subst (λ k. HasMadeCalls b c (calls_in C.shape k ys)) same two.calls);
+  counted = ap (λ k. k + n) one.counted ∙ (ap (λ k. length (events_in C.shape xs) + k) two.counted ∙ (sym (length-append (events_in C.shape xs) (events_in C.shape ys)) ∙ ap length (sym (filter_map-append (done_in C.shape) xs ys))));
+}
+
+range-more : (from n : ℕ) → range_with_len from (suc n) ≡ range_with_len from n ++ (from + n) ∷ []
+range-more from zero = ap (λ k. k ∷ []) (omega arith)
+range-more from (suc n) = ap (λ l. from ∷ l) (range-more (from + 1) n ∙ ap (λ k. range_with_len (from + 1) n ++ k ∷ []) (omega arith))
+
+range-next : (n : ℕ) → range_with_len 0 (n + 1) ≡ range_with_len 0 n ++ n ∷ []
+range-next n = let e : 0 + n ≡ n = omega arith in let s : n + 1 ≡ suc n = omega arith in ap (range_with_len 0) s ∙ range-more 0 n ∙ ap (λ k. range_with_len 0 n ++ k ∷ []) e
+
+listed-cons : {Y : Type 0} (o : Option Y) → option_to_list o ≡ cons_option o []
+listed-cons None = refl
+listed-cons (Some y) = refl
+
+-- the keeper's letter to one core more was posted
+pub letters-more : (a b c : PassView) (shape : Shape) (note : KeeperNote) (core : ℕ)
+    → HasMadeCalls a b (postings shape (number_of a) (filter_map (letter_to note) (range_with_len 0 core))) → number_of b ≡ number_of a
+    → HasMadeCalls b c (postings shape (number_of b) (option_to_list (letter_to note core)))
+    → HasMadeCalls a c (postings shape (number_of a) (filter_map (letter_to note) (range_with_len 0 (core + 1))))
+letters-more a b c shape note core had same one =
+    let first = filter_map (letter_to note) (range_with_len 0 core) in
+    let all : filter_map (letter_to note) (range_with_len 0 (core + 1)) ≡ first ++ option_to_list (letter_to note core) =
+    ap (filter_map (letter_to note)) (range-next core) ∙ (filter_map-append (letter_to note) (range_with_len 0 core) (core ∷ []) ∙ ap (λ (l : List Posted). first ++ l) (sym (listed-cons (letter_to note core)))) in
+    subst (λ l. HasMadeCalls a c (postings shape (number_of a) l)) (sym all)
+    (made-split a b c _ _ _ (posts-split shape (number_of a) first (option_to_list (letter_to note core))) had (subst (λ k. HasMadeCalls b c (postings shape k (option_to_list (letter_to note core)))) same one))

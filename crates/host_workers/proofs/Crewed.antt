@@ -1,0 +1,308 @@
+-- A pass of a worker, from what was done for its cores, its banks and the keeper.
+use Rattle.std.proofs.Common.{◌≡◌, ◌≢◌, ℕ, zero, suc, ◌+◌, ◌<◌, Bool, true, false, if◌then◌else◌, List, [], ◌∷◌, ◌++◌, length, map, get_or, filter, filter_map, Option, Some, None, All, Contains, slice_get, refl, sym, ap, ◌∙◌, subst, arith}
+use Rattle.std.specs.Prelude.{AllPairs}
+use Rattle.std.specs.Option.{option_map, is_some}
+use Rattle.std.proofs.lemmas.List.{append_assoc, append-nil, length-map}
+use Rattle.std.proofs.lemmas.List.Elements.{filter-append, filter_map-append, All-append, All-cons, Contains-append_left, Contains-append_right}
+use Rattle.std.proofs.lemmas.Option.{slice_get_within, get_or_from_slice_get, slice_get-map, slice_get-get_or}
+use Rattle.std.proofs.Math.ListN.{get_or-map}
+use Rattle.dn_base.specs.declared.ids.CoreId.{CoreId}
+use Rattle.dn_base.specs.declared.ids.BankId.{BankId}
+use Rattle.grant_log.specs.declared.log.Stamped.{Stamped}
+use Rattle.message_net.specs.declared.actor.Actor.{Actor}
+use Rattle.message_net.specs.declared.actor.Actor.TheVariants.{Core, Bank, Keeper}
+use Rattle.registration_protocol.specs.Node.{Setting}
+use Rattle.bank_hall.specs.Halls.{PassView, number_of}
+use Rattle.round_rules.specs.Acts.{Act, actor_of, is_act_of, tried_in, events_in, note_of}
+use Rattle.round_rules.specs.Passes.{own_acts, tries_of}
+use Rattle.round_rules.specs.Steps.{Done}
+use Rattle.message_net.specs.declared.event.Event.{Event}
+use Rattle.host_workers.specs.declared.crew.BankLog.{BankLog}
+use Rattle.host_workers.specs.declared.crew.Crew.{Crew}
+use Rattle.host_workers.specs.declared.owned.Owned.{Owned}
+use Rattle.host_workers.specs.Crews.{held_of, core_of, bank_of, goes_on, keeper_log, IsOwned, IsCrew}
+use Rattle.host_workers.specs.Work.{AreOf, IsServed, IsStepped, IsKept, HasDone, HaveDone, Each, joined}
+use Rattle.host_workers.specs.Pass.{actors_of, tries_by, IsActOf, IsKeptOf, HasMore, HasWorked}
+use Rattle.host_workers.proofs.Calls.{acted-both}
+use Rattle.host_workers.proofs.Filters.{filter-own, filter-other, gone-by, turn-by}
+use Rattle.host_workers.proofs.Worked.{none-of, own-of, all-among}
+
+abbrev core_actor : Owned → Actor
+core_actor o = Core o.core
+
+abbrev bank_actor : BankLog → Actor
+bank_actor b = Bank b.bank
+
+abbrev core_number : Actor → ℕ
+core_number (Core core) = core.0
+core_number _ = 0
+
+abbrev bank_number : Actor → ℕ
+bank_number (Bank bank) = bank.0
+bank_number _ = 0
+
+abbrev in_group : ℕ → Actor → Type 0
+in_group zero (Core core) = Unit {0}
+in_group (suc zero) (Bank bank) = Unit {0}
+in_group (suc (suc n)) Keeper = Unit {0}
+in_group _ _ = ⊥
+
+core-bank : (core : CoreId) (bank : BankId) → Core core ≢ Bank bank
+core-bank core bank e = subst (in_group 0) e tt
+
+core-keeper : (core : CoreId) → Core core ≢ Keeper
+core-keeper core e = subst (in_group 0) e tt
+
+bank-core : (bank : BankId) (core : CoreId) → Bank bank ≢ Core core
+bank-core bank core e = subst (in_group 1) e tt
+
+bank-keeper : (bank : BankId) → Bank bank ≢ Keeper
+bank-keeper bank e = subst (in_group 1) e tt
+
+keeper-core : (core : CoreId) → Keeper ≢ Core core
+keeper-core core e = subst (in_group 2) e tt
+
+keeper-bank : (bank : BankId) → Keeper ≢ Bank bank
+keeper-bank bank e = subst (in_group 2) e tt
+
+served-are : (C : Setting) (o p : Owned) (acts : List Act) → IsServed C o p acts → AreOf (core_actor o) acts
+served-are C o p acts s = s.own
+
+stepped-are : (C : Setting) (b d : BankLog) (acts : List Act) → IsStepped C b d acts → AreOf (bank_actor b) acts
+stepped-are C b d acts s = subst (AreOf (Bank b.bank)) (sym s.acts_are) (refl, tt)
+
+cores-apart : (cores : List Owned) → AllPairs (λ (a b : Owned). a.core.0 < b.core.0) cores → AllPairs (λ x y. core_actor x ≢ core_actor y) cores
+cores-apart cores rise = λ i j d before within e. let r = rise i j d before within in let n = ap core_number e in absurd (omega (arith, r, n))
+
+banks-apart : (banks : List BankLog) → AllPairs (λ (a b : BankLog). a.bank.0 < b.bank.0) banks → AllPairs (λ x y. bank_actor x ≢ bank_actor y) banks
+banks-apart banks rise = λ i j d before within e. let r = rise i j d before within in let n = ap bank_number e in absurd (omega (arith, r, n))
+
+-- whom a turn tries
+own-tries : (core : CoreId) (goes : Bool) (e : Option Event) (done : Done) → filter_map tried_in (own_acts core goes e done) ≡ []
+own-tries core true (Some e) done = refl
+own-tries core true None done = refl
+own-tries core false (Some e) done = refl
+own-tries core false None done = refl
+
+served-tries : (C : Setting) (o p : Owned) (acts : List Act) → IsServed C o p acts → filter_map tried_in acts ≡ (if goes_on o then Core o.core ∷ [] else [])
+served-tries C o p acts s = by (goes_on o) refl where
+  by : (b : Bool) → goes_on o ≡ b → filter_map tried_in acts ≡ (if b then Core o.core ∷ [] else [])
+  by true e = let t = s.turn e in ap (filter_map tried_in) t.acts_are ∙ ap (λ l. Core o.core ∷ l) (own-tries o.core _ _ t.done)
+  by false e = ap (filter_map tried_in) (s.stays e)
+
+cores-tries : (C : Setting) (olds nows : List Owned) (parts : List (List Act)) → Each (IsServed C) olds nows parts → filter_map tried_in (joined parts) ≡ map Core (map core_of (filter goes_on olds))
+cores-tries C [] [] [] each = refl
+cores-tries C (o ∷ olds) (n ∷ nows) (part ∷ parts) each =
+    filter_map-append tried_in part (joined parts) ∙ (rw (served-tries C o n part each.0, cores-tries C olds nows parts each.1) (with-first (goes_on o) (filter goes_on olds))) where
+      with-first : (b : Bool) (rest : List Owned) → (if b then Core o.core ∷ [] else []) ++ map Core (map core_of rest) ≡ map Core (map core_of (if b then o ∷ rest else rest))
+      with-first true rest = refl
+      with-first false rest = refl
+cores-tries C [] [] (part ∷ parts) each = absurd each
+cores-tries C [] (n ∷ nows) parts each = absurd each
+cores-tries C (o ∷ olds) [] parts each = absurd each
+cores-tries C (o ∷ olds) (n ∷ nows) [] each = absurd each
+
+banks-tries : (C : Setting) (olds nows : List BankLog) (parts : List (List Act)) → Each (IsStepped C) olds nows parts → filter_map tried_in (joined parts) ≡ map Bank (map bank_of olds)
+banks-tries C [] [] [] each = refl
+banks-tries C (o ∷ olds) (n ∷ nows) (part ∷ parts) each =
+    let here : filter_map tried_in part ≡ Bank o.bank ∷ [] = ap (filter_map tried_in) each.0.acts_are in
+    filter_map-append tried_in part (joined parts) ∙ (rw (here, banks-tries C olds nows parts each.1) refl)
+banks-tries C [] [] (part ∷ parts) each = absurd each
+banks-tries C [] (n ∷ nows) parts each = absurd each
+banks-tries C (o ∷ olds) [] parts each = absurd each
+banks-tries C (o ∷ olds) (n ∷ nows) [] each = absurd each
+
+abbrev keeper_if : Bool → List Actor
+keeper_if true = Keeper ∷ []
+keeper_if false = []
+
+kept-tries : (C : Setting) (x y : Option (List Stamped)) (acts : List Act) → IsKept C x y acts → filter_map tried_in acts ≡ keeper_if (is_some x)
+kept-tries C None None acts k = ap (filter_map tried_in) k
+kept-tries C (Some x) (Some y) acts k = ap (filter_map tried_in) k.acts_are
+kept-tries C None (Some y) acts k = absurd k
+kept-tries C (Some x) None acts k = absurd k
+
+kept-are : (C : Setting) (x y : Option (List Stamped)) (acts : List Act) → IsKept C x y acts → AreOf Keeper acts
+kept-are C None None acts k = subst (AreOf Keeper) (sym k) tt
+kept-are C (Some x) (Some y) acts k = subst (AreOf Keeper) (sym k.acts_are) (refl, tt)
+kept-are C None (Some y) acts k = absurd k
+kept-are C (Some x) None acts k = absurd k
+
+kept-more : (C : Setting) (x y : Option (List Stamped)) (acts : List Act) → IsKept C x y acts → HasMore (map note_of (events_in C.shape acts)) x y
+kept-more C None None acts k = tt
+kept-more C (Some x) (Some y) acts k = k.log
+kept-more C None (Some y) acts k = absurd k
+kept-more C (Some x) None acts k = absurd k
+
+kept-of : (C : Setting) (x y : Option (List Stamped)) (acts own : List Act) → IsKept C x y own → filter (is_act_of Keeper) acts ≡ own → IsKeptOf acts (is_some x)
+kept-of C None None acts own k is = is ∙ k
+kept-of C (Some x) (Some y) acts own k is = (k.pick, k.note, is ∙ k.acts_are)
+kept-of C None (Some y) acts own k is = absurd k
+kept-of C (Some x) None acts own k is = absurd k
+
+kept-among : (C : Setting) (all : List Actor) (x y : Option (List Stamped)) (acts : List Act) → IsKept C x y acts → (is_some x ≡ true → Contains all Keeper) → All (λ act. Contains all (actor_of act)) acts
+kept-among C all None None acts k has = subst (All (λ act. Contains all (actor_of act))) (sym k) (λ i d within. absurd (omega (arith, within)))
+kept-among C all (Some x) (Some y) acts k has = subst (All (λ act. Contains all (actor_of act))) (sym k.acts_are) (All-cons (λ act. Contains all (actor_of act)) _ [] (has refl) (λ i d within. absurd (omega (arith, within))))
+kept-among C all None (Some y) acts k has = absurd k
+kept-among C all (Some x) None acts k has = absurd k
+
+pub is_some-map : {X Y : Type 0} (f : X → Y) (o : Option X) → is_some (option_map f o) ≡ is_some o
+is_some-map f None = refl
+is_some-map f (Some x) = refl
+
+tries-are : (cores : List CoreId) (banks : List BankId) (keeper : Bool) → (map Core cores ++ map Bank banks) ++ keeper_if keeper ≡ tries_of cores banks keeper
+tries-are cores banks true = append_assoc (map Core cores) (map Bank banks) (Keeper ∷ [])
+tries-are cores banks false = append-nil (map Core cores ++ map Bank banks)
+
+module _ {A B : Type 0} (Does : A → A → List Act → Type 0) (f : A → B) (keeps : (a b : A) (acts : List Act) → Does a b acts → f b ≡ f a) where
+  each-map : (olds nows : List A) (parts : List (List Act)) → Each Does olds nows parts → map f nows ≡ map f olds
+  each-map [] [] [] each = refl
+  each-map (o ∷ olds) (n ∷ nows) (part ∷ parts) each = rw (keeps o n part each.0, each-map olds nows parts each.1) refl
+  each-map [] [] (part ∷ parts) each = absurd each
+  each-map [] (n ∷ nows) parts each = absurd each
+  each-map (o ∷ olds) [] parts each = absurd each
+  each-map (o ∷ olds) (n ∷ nows) [] each = absurd each
+
+module _ {A : Type 0} (Does : A → A → List Act → Type 0) (P : A → Type 0) (keeps : (a b : A) (acts : List Act) → P a → Does a b acts → P b) where
+  each-all : (olds nows : List A) (parts : List (List Act)) → Each Does olds nows parts → All P olds → All P nows
+  each-all [] [] [] each all = all
+  each-all (o ∷ olds) (n ∷ nows) (part ∷ parts) each all =
+      All-cons P n nows (keeps o n part (all 0 o (omega arith)) each.0) (each-all olds nows parts each.1 (λ k d within. all (suc k) d (omega (arith, within))))
+  each-all [] [] (part ∷ parts) each all = absurd each
+  each-all [] (n ∷ nows) parts each all = absurd each
+  each-all (o ∷ olds) [] parts each all = absurd each
+  each-all (o ∷ olds) (n ∷ nows) [] each all = absurd each
+
+-- an element's value is among the values of all
+map-has : {A B : Type 0} (f : A → B) (xs : List A) (i : ℕ) (x : A) → slice_get xs i ≡ Some x → Contains (map f xs) (f x)
+map-has f xs i x at =
+    let there : slice_get (map f xs) i ≡ Some (f x) = slice_get-map f xs i ∙ ap (option_map f) at in
+    (i, slice_get_within (map f xs) i (f x) there, get_or_from_slice_get (map f xs) i (f x) (f x) there)
+
+map_map-has : {A B D : Type 0} (g : B → D) (f : A → B) (xs : List A) (i : ℕ) (x : A) → slice_get xs i ≡ Some x → Contains (map g (map f xs)) (g (f x))
+map_map-has g f xs i x at = map-has g (map f xs) i (f x) (slice_get-map f xs i ∙ ap (option_map f) at)
+
+rises : {A B : Type 0} (f : A → B) (number : B → ℕ) (olds nows : List A) → map f nows ≡ map f olds → AllPairs (λ a b. number (f a) < number (f b)) olds → AllPairs (λ a b. number (f a) < number (f b)) nows
+rises f number olds nows same rise = λ i j d before within.
+    let long : length nows ≡ length olds = sym (length-map nows f) ∙ (ap length same ∙ length-map olds f) in
+    let at = λ (k : ℕ). sym (get_or-map f nows k d) ∙ (ap (λ l. get_or l k (f d)) same ∙ get_or-map f olds k d) in
+    let r = rise i j d before (omega (arith, within, long)) in
+    let one = ap number (at i) in
+    let two = ap number (at j) in
+    omega (arith, r, one, two)
+
+module _ (C : Setting) (a b c d : PassView) (had has : Crew) (m n k : ℕ)
+    (crew : IsCrew C had)
+    (served : HaveDone (IsServed C) C a b had.cores.items has.cores.items m)
+    (stepped : HaveDone (IsStepped C) C b c had.banks.items has.banks.items n)
+    (kept : HasDone (IsKept C) C c d (keeper_log had) (keeper_log has) k) where
+  abbrev all_acts : List Act
+  all_acts = (joined served.parts ++ joined stepped.parts) ++ kept.acts
+
+  split : (actor : Actor) → filter (is_act_of actor) all_acts ≡ (filter (is_act_of actor) (joined served.parts) ++ filter (is_act_of actor) (joined stepped.parts)) ++ filter (is_act_of actor) kept.acts
+  split actor = filter-append (is_act_of actor) (joined served.parts ++ joined stepped.parts) kept.acts ∙ ap (λ l. l ++ filter (is_act_of actor) kept.acts) (filter-append (is_act_of actor) (joined served.parts) (joined stepped.parts))
+
+  of-core : (i : ℕ) (o p : Owned) → slice_get had.cores.items i ≡ Some o → slice_get has.cores.items i ≡ Some p → (own : List Act) × (filter (is_act_of (Core o.core)) all_acts ≡ own) × IsServed C o p own
+  of-core i o p at now =
+      let found = own-of core_actor (IsServed C) (served-are C) had.cores.items has.cores.items served.parts served.each (cores-apart had.cores.items crew.cores_rise) i o p at now in
+      let no-bank = none-of bank_actor (IsStepped C) (stepped-are C) (Core o.core) had.banks.items has.banks.items stepped.parts stepped.each (λ j q there. core-bank o.core q.bank) in
+      let no-keeper = filter-other (Core o.core) Keeper kept.acts (core-keeper o.core) (kept-are C (keeper_log had) (keeper_log has) kept.acts kept.does) in
+      (found.0, split (Core o.core) ∙ (rw (found.1, no-bank, no-keeper) (append-nil (found.0 ++ []) ∙ append-nil found.0)), found.2)
+
+  of-bank : (i : ℕ) (o p : BankLog) → slice_get had.banks.items i ≡ Some o → slice_get has.banks.items i ≡ Some p → (own : List Act) × (filter (is_act_of (Bank o.bank)) all_acts ≡ own) × IsStepped C o p own
+  of-bank i o p at now =
+      let found = own-of bank_actor (IsStepped C) (stepped-are C) had.banks.items has.banks.items stepped.parts stepped.each (banks-apart had.banks.items crew.banks_rise) i o p at now in
+      let no-core = none-of core_actor (IsServed C) (served-are C) (Bank o.bank) had.cores.items has.cores.items served.parts served.each (λ j q there. bank-core o.bank q.core) in
+      let no-keeper = filter-other (Bank o.bank) Keeper kept.acts (bank-keeper o.bank) (kept-are C (keeper_log had) (keeper_log has) kept.acts kept.does) in
+      (found.0, split (Bank o.bank) ∙ (rw (found.1, no-core, no-keeper) (append-nil found.0)), found.2)
+
+  of-keeper : filter (is_act_of Keeper) all_acts ≡ kept.acts
+  of-keeper =
+      let no-core = none-of core_actor (IsServed C) (served-are C) Keeper had.cores.items has.cores.items served.parts served.each (λ j q there. keeper-core q.core) in
+      let no-bank = none-of bank_actor (IsStepped C) (stepped-are C) Keeper had.banks.items has.banks.items stepped.parts stepped.each (λ j q there. keeper-bank q.bank) in
+      let own = filter-own Keeper kept.acts (kept-are C (keeper_log had) (keeper_log has) kept.acts kept.does) in
+      split Keeper ∙ (rw (no-core, no-bank, own) refl)
+
+  tried : filter_map tried_in all_acts ≡ tries_by had
+  tried =
+      let keeper = kept-tries C (keeper_log had) (keeper_log has) kept.acts kept.does ∙ ap keeper_if (is_some-map _ had.keeper) in
+      filter_map-append tried_in (joined served.parts ++ joined stepped.parts) kept.acts
+      ∙ (ap (λ l. l ++ filter_map tried_in kept.acts) (filter_map-append tried_in (joined served.parts) (joined stepped.parts))
+      ∙ (rw (cores-tries C had.cores.items has.cores.items served.parts served.each, banks-tries C had.banks.items has.banks.items stepped.parts stepped.each, keeper) (tries-are (map core_of (filter goes_on had.cores.items)) (map bank_of had.banks.items) (is_some had.keeper))))
+
+  actors-are : (map Core (map core_of had.cores.items) ++ map Bank (map bank_of had.banks.items)) ++ keeper_if (is_some had.keeper) ≡ actors_of had
+  actors-are = tries-are (map core_of had.cores.items) (map bank_of had.banks.items) (is_some had.keeper)
+
+  core-among : (i : ℕ) (o : Owned) → slice_get had.cores.items i ≡ Some o → Contains (actors_of had) (Core o.core)
+  core-among i o at = subst (λ l. Contains l (Core o.core)) actors-are (Contains-append_left _ (keeper_if (is_some had.keeper)) (Core o.core) (Contains-append_left (map Core (map core_of had.cores.items)) (map Bank (map bank_of had.banks.items)) (Core o.core) (map_map-has Core core_of had.cores.items i o at)))
+
+  bank-among : (i : ℕ) (o : BankLog) → slice_get had.banks.items i ≡ Some o → Contains (actors_of had) (Bank o.bank)
+  bank-among i o at = subst (λ l. Contains l (Bank o.bank)) actors-are (Contains-append_left _ (keeper_if (is_some had.keeper)) (Bank o.bank) (Contains-append_right (map Core (map core_of had.cores.items)) (map Bank (map bank_of had.banks.items)) (Bank o.bank) (map_map-has Bank bank_of had.banks.items i o at)))
+
+  keeper-among : is_some (keeper_log had) ≡ true → Contains (actors_of had) Keeper
+  keeper-among e =
+      let there : is_some had.keeper ≡ true = sym (is_some-map _ had.keeper) ∙ e in
+      let one : Contains (keeper_if (is_some had.keeper)) Keeper = subst (λ t. Contains (keeper_if t) Keeper) (sym there) (0, omega arith, refl) in
+      subst (λ l. Contains l Keeper) actors-are (Contains-append_right (map Core (map core_of had.cores.items) ++ map Bank (map bank_of had.banks.items)) (keeper_if (is_some had.keeper)) Keeper one)
+
+  own-acts : All (IsActOf had) all_acts
+  own-acts =
+      All-append (IsActOf had) (joined served.parts ++ joined stepped.parts) kept.acts
+      (All-append (IsActOf had) (joined served.parts) (joined stepped.parts)
+      (all-among core_actor (IsServed C) (served-are C) (actors_of had) had.cores.items has.cores.items served.parts served.each core-among)
+      (all-among bank_actor (IsStepped C) (stepped-are C) (actors_of had) had.banks.items has.banks.items stepped.parts stepped.each bank-among))
+      (kept-among C (actors_of had) (keeper_log had) (keeper_log has) kept.acts kept.does keeper-among)
+
+  same-cores : map core_of has.cores.items ≡ map core_of had.cores.items
+  same-cores = each-map (IsServed C) core_of (λ o p acts s. s.core) had.cores.items has.cores.items served.parts served.each
+
+  same-banks : map bank_of has.banks.items ≡ map bank_of had.banks.items
+  same-banks = each-map (IsStepped C) bank_of (λ o p acts s. s.bank) had.banks.items has.banks.items stepped.parts stepped.each
+
+  long : length has.cores.items ≡ length had.cores.items
+  long = sym (length-map has.cores.items core_of) ∙ (ap length same-cores ∙ length-map had.cores.items core_of)
+
+  -- the core stands in its place still
+  has-core : (i : ℕ) (o : Owned) → slice_get had.cores.items i ≡ Some o → (p : Owned) × (slice_get has.cores.items i ≡ Some p)
+  has-core i o at = (get_or has.cores.items i o, slice_get-get_or has.cores.items i o (omega (arith, long, slice_get_within had.cores.items i o at)))
+
+  long-banks : length has.banks.items ≡ length had.banks.items
+  long-banks = sym (length-map has.banks.items bank_of) ∙ (ap length same-banks ∙ length-map had.banks.items bank_of)
+
+  -- so does the bank
+  has-bank : (i : ℕ) (o : BankLog) → slice_get had.banks.items i ≡ Some o → (p : BankLog) × (slice_get has.banks.items i ≡ Some p)
+  has-bank i o at = (get_or has.banks.items i o, slice_get-get_or has.banks.items i o (omega (arith, long-banks, slice_get_within had.banks.items i o at)))
+
+  pub worked : number_of b ≡ number_of a → number_of c ≡ number_of b → has.worker ≡ had.worker → HasWorked C a d had has ((m + n) + k)
+  worked same-b same-c worker =
+      let acted = acted-both C a c d (joined served.parts ++ joined stepped.parts) kept.acts (m + n) k (acted-both C a b c (joined served.parts) (joined stepped.parts) m n served.acted same-b stepped.acted) (same-c ∙ same-b) kept.acted in record {
+        acts = all_acts;
+        work = record {
+          calls = acted.calls;
+          own = own-acts;
+          same = record { worker = worker; cores = same-cores; banks = same-banks };
+          cores = λ i o p at now. let mine = of-core i o p at now in gone-by C o.core all_acts mine.0 (held_of o) (held_of p) mine.1 mine.2.own mine.2.moved;
+          banks = λ i o p at now. let mine = of-bank i o p at now in mine.2.log ∙ ap (λ l. o.log.items ++ map note_of (events_in C.shape l)) (sym mine.1);
+          keeper = subst (λ l. HasMore (map note_of (events_in C.shape l)) (keeper_log had) (keeper_log has)) (sym of-keeper) (kept-more C (keeper_log had) (keeper_log has) kept.acts kept.does);
+        };
+        passed = record { calls = acted.calls; tried = tried; counted = acted.counted };
+        is_pass = record {
+          turns = λ i o at.
+              let there = has-core i o at in
+              let mine = of-core i o there.0 at there.1 in
+              record { turn = λ e. turn-by C o.core all_acts mine.0 (held_of o) mine.1 (mine.2.turn e); stays = λ e. mine.1 ∙ mine.2.stays e };
+          steps = λ i o at.
+              let there = has-bank i o at in
+              let mine = of-bank i o there.0 at there.1 in
+              record { pick = mine.2.pick; handled = mine.2.handled; acts_are = mine.1 ∙ mine.2.acts_are };
+          kept = subst (IsKeptOf all_acts) (is_some-map _ had.keeper) (kept-of C (keeper_log had) (keeper_log has) all_acts kept.acts kept.does of-keeper);
+        };
+      }
+
+  pub crew-kept : IsCrew C has
+  crew-kept = record {
+    cores = each-all (IsServed C) (IsOwned C) (λ o p acts owned s. record { inside = subst (λ (core : CoreId). core.0 < C.shape.cores) (sym s.core) owned.inside; fits = s.fits }) had.cores.items has.cores.items served.parts served.each crew.cores;
+    cores_rise = rises core_of (λ (core : CoreId). core.0) had.cores.items has.cores.items same-cores crew.cores_rise;
+    banks = each-all (IsStepped C) (λ (o : BankLog). o.bank.0 < C.shape.banks) (λ o p acts inside s. subst (λ (bank : BankId). bank.0 < C.shape.banks) (sym s.bank) inside) had.banks.items has.banks.items stepped.parts stepped.each crew.banks;
+    banks_rise = rises bank_of (λ (bank : BankId). bank.0) had.banks.items has.banks.items same-banks crew.banks_rise;
+  }

@@ -1,0 +1,10 @@
+pub mod Calls
+pub mod Cores
+pub mod Moves
+pub mod Stamping
+pub mod Served
+pub mod Turning
+pub mod Filters
+pub mod Worked
+pub mod Crewed
+pub mod Passing

@@ -1,0 +1,21 @@
+use Rattle.std.proofs.Common.{IfSome, sym, refl, ◌∙◌, subst}
+use Rattle.std.specs.Option.{option_to_list}
+use Rattle.bank_hall.specs.Halls.{HasMadeCalls, number_of}
+use Rattle.round_rules.specs.Acts.{postings}
+use Rattle.host_workers.specs.Deeds.{IsEarly}
+use Rattle.host_workers.proofs.Calls.{made-none, letters-more}
+use Rattle.host_workers.proofs.Stamping.{letter-early}
+use Rattle.host_workers.proofs.emitting.emit_letters.Goals as goal
+
+pub loop-core-init : goal.loop-core-init
+loop-core-init g c = record { pass = (c.requires.pass, refl); made = made-none c.args.pass.now }
+
+pub loop-core-preserved : goal.loop-core-preserved
+loop-core-preserved g c =
+    let had = c.loop-core.invariant in record {
+      pass = (c.in_ok-emit.ensures.pass.0, c.in_ok-emit.ensures.pass.1 ∙ had.pass.1);
+      made = letters-more c.args.pass.now c.loop-core.pass c.emit.new.pass c.args.shape c.args.handled.now c.loop-core.core had.made had.pass.1 (subst (λ o. HasMadeCalls c.loop-core.pass c.emit.new.pass (postings c.args.shape (number_of c.loop-core.pass) (option_to_list o))) c.letter.ensures c.in_ok-emit.ensures.made);
+    }
+
+pub emit-requires-clause-early : goal.emit-requires-clause-early
+emit-requires-clause-early g c = subst (λ o. IfSome o IsEarly) (sym c.letter.ensures) (letter-early c.args.handled.now c.loop-core.core c.requires.early)

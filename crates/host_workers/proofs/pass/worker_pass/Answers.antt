@@ -1,0 +1,31 @@
+use Rattle.std.proofs.Common.{refl, arith}
+use Rattle.registration_protocol.specs.Setting.{setting}
+use Rattle.host_workers.specs.declared.crew.BankLog.{BankLog}
+use Rattle.host_workers.specs.declared.owned.Owned.{Owned}
+use Rattle.host_workers.proofs.Cores.{few-cores}
+use Rattle.host_workers.proofs.Worked.{rising-few}
+use Rattle.host_workers.proofs.Crewed.{worked, crew-kept}
+use Rattle.host_workers.proofs.pass.worker_pass.Goals as goal
+
+pub serve_cores-requires-clause-most : goal.serve_cores-requires-clause-most
+serve_cores-requires-clause-most g c =
+    let C = setting c.args.context.now in
+    let few = rising-few (λ (o : Owned). o.core.0) c.args.crew.now.cores.items 0 C.shape.cores c.requires.crew.cores_rise (λ k d within. omega arith) (λ k d within. (c.requires.crew.cores k d within).inside) in
+    let most = few-cores C.program c.a_program_is_well_formed.ensures in
+    omega (arith, few, most, c.requires.may.context.cores)
+
+pub step_banks-requires-clause-most : goal.step_banks-requires-clause-most
+step_banks-requires-clause-most g c =
+    let C = setting c.args.context.now in
+    let few = rising-few (λ (b : BankLog). b.bank.0) c.args.crew.now.banks.items 0 C.shape.banks c.requires.crew.banks_rise (λ k d within. omega arith) c.requires.crew.banks in
+    omega (arith, few, c.requires.may.context.most_banks)
+
+pub returns-clause-crew : goal.returns-clause-crew
+returns-clause-crew g c =
+    crew-kept (setting c.args.context.now) c.args.pass.now c.serve_cores.new.pass c.step_banks.new.pass c.keep.new.pass c.args.crew.now _ c.in_ok-served.served c.in_ok-stepped.stepped c.in_ok-kept.kept
+    c.requires.crew c.in_ok-served.ensures.served c.in_ok-stepped.ensures.stepped c.in_ok-kept.ensures.stepped
+
+pub returns-clause-worked : goal.returns-clause-worked
+returns-clause-worked g c =
+    worked (setting c.args.context.now) c.args.pass.now c.serve_cores.new.pass c.step_banks.new.pass c.keep.new.pass c.args.crew.now _ c.in_ok-served.served c.in_ok-stepped.stepped c.in_ok-kept.kept
+    c.requires.crew c.in_ok-served.ensures.served c.in_ok-stepped.ensures.stepped c.in_ok-kept.ensures.stepped c.in_ok-served.ensures.pass.1 c.in_ok-stepped.ensures.pass.1 refl

@@ -1,0 +1,22 @@
+use Rattle.std.proofs.Common.{sym, ◌∙◌, subst}
+use Rattle.registration_protocol.specs.Setting.{setting}
+use Rattle.dn_base.specs.declared.ids.CoreId.{CoreId}
+use Rattle.round_rules.specs.Passes.{Held}
+use Rattle.host_workers.specs.Crews.{held_of}
+use Rattle.host_workers.specs.Work.{HasTaken, HasMadeOwn}
+use Rattle.host_workers.proofs.Turning.{serves, stays}
+use Rattle.host_workers.proofs.serving.serve_core.Goals as goal
+
+pub returns-then-not-goes_on-clause-served : goal.returns-then-not-goes_on-clause-served
+returns-then-not-goes_on-clause-served g c =
+    stays (setting c.args.context.now) c.args.owned.now c.args.pass.now c.requires.owned.fits (sym c.goes_on.ensures ∙ c.if-not-goes_on.true)
+
+pub returns-clause-served : goal.returns-clause-served
+returns-clause-served g c =
+    let same = c.reserve.ensures.core in
+    let same-too = c.take_mail.ensures.core ∙ same in
+    let taken = subst (λ (core : CoreId). HasTaken (setting c.args.context.now) core c.draw-pick.result c.args.pass.now c.take_mail.new.pass (held_of c.args.owned.now) (held_of c.take_mail.new.owned) c.in_ok-handled.handled) same
+    (subst (λ (h : Held). HasTaken (setting c.args.context.now) c.reserve.new.self.core c.draw-pick.result c.args.pass.now c.take_mail.new.pass h (held_of c.take_mail.new.owned) c.in_ok-handled.handled) c.reserve.ensures.held c.in_ok-handled.ensures.taken) in
+    let own = subst (λ (core : CoreId). HasMadeOwn (setting c.args.context.now) core c.take_mail.new.pass c.make_own.new.pass (held_of c.take_mail.new.owned) (held_of c.make_own.new.owned) c.in_ok-own.own) same-too c.in_ok-own.ensures.made in
+    serves (setting c.args.context.now) c.args.owned.now c.make_own.new.owned c.draw-pick.result c.args.pass.now c.take_mail.new.pass c.make_own.new.pass (held_of c.take_mail.new.owned) c.in_ok-handled.handled c.in_ok-own.own
+    (c.make_own.ensures.core ∙ same-too) c.in_ok-own.ensures.fits (sym c.goes_on.ensures ∙ c.if-not-goes_on.false) taken c.in_ok-handled.ensures.pass.1 own

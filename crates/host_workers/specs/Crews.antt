@@ -1,0 +1,43 @@
+-- What a worker owns, as the rules of rounds see it.
+use Rattle.std.specs.Prelude.{◌<◌, Bool, List, All, AllPairs, Option}
+use Rattle.std.specs.Option.{option_map}
+use Rattle.dn_base.specs.declared.ids.BankId.{BankId}
+use Rattle.dn_base.specs.declared.ids.CoreId.{CoreId}
+use Rattle.grant_log.specs.declared.log.Stamped.{Stamped}
+use Rattle.registration_protocol.specs.Fit.{Fits}
+use Rattle.registration_protocol.specs.Node.{Setting}
+use Rattle.bank_hall.specs.Stamps.{goes_on as may_go}
+use Rattle.round_rules.specs.Passes.{Held}
+use Rattle.host_workers.specs.declared.crew.BankLog.{BankLog}
+use Rattle.host_workers.specs.declared.crew.Crew.{Crew}
+use Rattle.host_workers.specs.declared.owned.Owned.{Owned}
+
+-- an owned core but for its number
+abbrev pub held_of : Owned → Held
+held_of o = record { node = o.node; clock = o.clock; next = o.next; log = o.log.items; ends = o.ends.items }
+
+abbrev pub core_of : Owned → CoreId
+core_of o = o.core
+
+abbrev pub bank_of : BankLog → BankId
+bank_of b = b.bank
+
+-- whether the worker goes on with an owned core
+abbrev pub goes_on : Owned → Bool
+goes_on o = may_go o.clock o.next
+
+-- an owned core is one of the machine's, and its node fits
+pub record IsOwned (C : Setting) (o : Owned) : Type 0 where
+  pub inside : o.core.0 < C.shape.cores
+  pub fits : Fits C o.node
+
+-- the cores and the banks are the machine's, each in rising order
+pub record IsCrew (C : Setting) (crew : Crew) : Type 0 where
+  pub cores : All (IsOwned C) crew.cores.items
+  pub cores_rise : AllPairs (λ (a b : Owned). a.core.0 < b.core.0) crew.cores.items
+  pub banks : All (λ (b : BankLog). b.bank.0 < C.shape.banks) crew.banks.items
+  pub banks_rise : AllPairs (λ (a b : BankLog). a.bank.0 < b.bank.0) crew.banks.items
+
+-- what was noted of the keeper's events, if the worker has it
+abbrev pub keeper_log : Crew → Option (List Stamped)
+keeper_log crew = option_map (λ log. log.items) crew.keeper

@@ -1,0 +1,4 @@
+pub mod Crews
+pub mod Deeds
+pub mod Work
+pub mod Pass

@@ -1,0 +1,87 @@
+-- One pass of a worker over the hall.
+use Rattle.std.specs.Prelude.{◌≡◌, ℕ, true, false, List, [], ◌++◌, map, filter, slice_get, All, Contains, Option, Some, None, ◌∷◌, Bool}
+use Rattle.std.specs.Option.{is_some}
+use Rattle.grant_log.specs.declared.log.Stamped.{Stamped}
+use Rattle.message_net.specs.declared.actor.Actor.{Actor}
+use Rattle.message_net.specs.declared.actor.Actor.TheVariants.{Core, Bank, Keeper}
+use Rattle.registration_protocol.specs.Node.{Setting}
+use Rattle.bank_hall.specs.declared.bank.Handled.{Handled}
+use Rattle.bank_hall.specs.Note.{KeeperNote}
+use Rattle.bank_hall.specs.Halls.{PassView, HasMadeCalls, number_of}
+use Rattle.round_rules.specs.Acts.{Act, Stepped, Kept, actor_of, is_act_of, notes_by, calls_in}
+use Rattle.round_rules.specs.Passes.{HasGone, HasPassed, IsCorePass, tries_of}
+use Rattle.host_workers.specs.declared.crew.BankLog.{BankLog}
+use Rattle.host_workers.specs.declared.crew.Crew.{Crew}
+use Rattle.host_workers.specs.declared.owned.Owned.{Owned}
+use Rattle.host_workers.specs.Crews.{held_of, core_of, bank_of, goes_on, keeper_log}
+
+-- the actors of a crew, and those that the worker tries in a pass
+abbrev pub actors_of : Crew → List Actor
+actors_of crew = tries_of (map core_of crew.cores.items) (map bank_of crew.banks.items) (is_some crew.keeper)
+
+abbrev pub tries_by : Crew → List Actor
+tries_by crew = tries_of (map core_of (filter goes_on crew.cores.items)) (map bank_of crew.banks.items) (is_some crew.keeper)
+
+-- an act of an actor of the crew
+abbrev pub IsActOf : Crew → Act → Type 0
+IsActOf crew act = Contains (actors_of crew) (actor_of act)
+
+-- the crew has the same worker, cores and banks
+pub record IsSameCrew (had has : Crew) : Type 0 where
+  pub worker : has.worker ≡ had.worker
+  pub cores : map core_of has.cores.items ≡ map core_of had.cores.items
+  pub banks : map bank_of has.banks.items ≡ map bank_of had.banks.items
+
+-- the acts of a core are a take and its own event where the worker goes on with it, and else there are none
+pub record IsTurnOf (C : Setting) (acts : List Act) (had : Owned) : Type 0 where
+  pub turn : goes_on had ≡ true → IsCorePass C acts had.core (held_of had)
+  pub stays : goes_on had ≡ false → filter (is_act_of (Core had.core)) acts ≡ []
+
+-- the acts of a bank are one step
+pub record IsStepOf (acts : List Act) (had : BankLog) : Type 0 where
+  pub pick : ℕ
+  pub handled : Option Handled
+  pub acts_are : filter (is_act_of (Bank had.bank)) acts ≡ Stepped had.bank pick handled ∷ []
+
+-- so are those of the keeper, if the worker has it
+abbrev pub IsKeptOf : List Act → Bool → Type 0
+IsKeptOf acts false = filter (is_act_of Keeper) acts ≡ []
+IsKeptOf acts true = (pick : ℕ) × (answer : Option KeeperNote) × (filter (is_act_of Keeper) acts ≡ Kept pick answer ∷ [])
+
+-- the acts of one pass of a worker: the turn of each of its cores, a step of each of its banks and, if it has it, one of the
+-- keeper
+pub record IsPassOf (C : Setting) (acts : List Act) (had : Crew) : Type 0 where
+  pub turns : (i : ℕ) (o : Owned) → slice_get had.cores.items i ≡ Some o → IsTurnOf C acts o
+  pub steps : (i : ℕ) (b : BankLog) → slice_get had.banks.items i ≡ Some b → IsStepOf acts b
+  pub kept : IsKeptOf acts (is_some had.keeper)
+
+-- what the keeper's log, if there is one, has more
+abbrev pub HasMore : List Stamped → Option (List Stamped) → Option (List Stamped) → Type 0
+HasMore notes None None = Unit {0}
+HasMore notes (Some had) (Some has) = has ≡ had ++ notes
+HasMore notes _ _ = ⊥
+
+-- A worker's acts, each of an actor of its crew. The hall's pass made their calls and no other, each core went by its acts, and
+-- each log has the notes of its actor's events more
+pub record IsWork (C : Setting) (old new : PassView) (had has : Crew) (acts : List Act) : Type 0 where
+  pub calls : HasMadeCalls old new (calls_in C.shape (number_of old) acts)
+  pub own : All (IsActOf had) acts
+  pub same : IsSameCrew had has
+  pub cores : (i : ℕ) (o p : Owned) → slice_get had.cores.items i ≡ Some o → slice_get has.cores.items i ≡ Some p → HasGone C acts o.core (held_of o) (held_of p)
+  pub banks : (i : ℕ) (b d : BankLog) → slice_get had.banks.items i ≡ Some b → slice_get has.banks.items i ≡ Some d
+      → d.log.items ≡ b.log.items ++ notes_by C.shape (Bank b.bank) acts
+  pub keeper : HasMore (notes_by C.shape Keeper acts) (keeper_log had) (keeper_log has)
+
+-- one pass of a worker, of which so many events came
+pub record HasWorked (C : Setting) (old new : PassView) (had has : Crew) (count : ℕ) : Type 0 where
+  pub acts : List Act
+  pub work : IsWork C old new had has acts
+  pub passed : HasPassed C old new (tries_by had) acts count
+  pub is_pass : IsPassOf C acts had
+
+-- one or more passes of a worker, the first of which was made with the crew as it was
+pub record HasWorkedOn (C : Setting) (old new : PassView) (had has : Crew) : Type 0 where
+  pub first : List Act
+  pub rest : List Act
+  pub work : IsWork C old new had has (first ++ rest)
+  pub begun : IsPassOf C first had

@@ -1,0 +1,115 @@
+-- What a worker does in one pass.
+use Rattle.std.specs.Prelude.{◌≡◌, ℕ, true, false, ⊤, List, [], ◌∷◌, ◌++◌, length, map, flat_map, filter_map, Option, Some, None}
+use Rattle.std.specs.List.{AllByRecursion}
+use Rattle.dn_base.specs.declared.ids.CoreId.{CoreId}
+use Rattle.grant_log.specs.declared.log.Stamped.{Stamped}
+use Rattle.message_net.specs.declared.actor.Actor.{Actor}
+use Rattle.message_net.specs.declared.actor.Actor.TheVariants.{Core}
+use Rattle.registration_protocol.specs.Node.{Setting}
+use Rattle.registration_protocol.specs.Fit.{IsContext, Fits}
+use Rattle.registration_protocol.specs.OwnEvents.{own_event}
+use Rattle.bank_hall.specs.declared.bank.Handled.{Handled}
+use Rattle.bank_hall.specs.declared.posted.Posted.{Posted}
+use Rattle.bank_hall.specs.Note.{KeeperNote}
+use Rattle.bank_hall.specs.Halls.{HallView, PassView, IsHallPass, HasMadeCalls, number_of}
+use Rattle.round_rules.specs.Acts.{Act, Took, Stepped, Kept, actor_of, core_step, events_in, note_of, calls_in}
+use Rattle.round_rules.specs.Steps.{Done}
+use Rattle.bank_hall.specs.Stamps.{goes_on as may_go}
+use Rattle.round_rules.specs.Passes.{Held, own_acts, taken_steps}
+use Rattle.host_workers.specs.declared.crew.BankLog.{BankLog}
+use Rattle.host_workers.specs.declared.owned.Owned.{Owned}
+use Rattle.host_workers.specs.Crews.{held_of, goes_on}
+use Rattle.host_workers.specs.Deeds.{HasMoved, own_steps}
+
+-- a worker may act on the hall: the pass is the hall's, which has the ports and banks of the setting
+pub record MayAct (C : Setting) (hall : HallView) (pass : PassView) : Type 0 where
+  pub context : IsContext C
+  pub pass_is : IsHallPass hall pass
+  pub ports : length hall.ports ≡ C.shape.cores
+  pub banks : length hall.banks ≡ C.shape.banks
+
+-- it is a pass of the hall still, with the same number
+abbrev pub IsStill : HallView → PassView → PassView → Type 0
+IsStill hall old new = IsHallPass hall new × (number_of new ≡ number_of old)
+
+-- the hall's pass made the calls of these acts, of which so many events came
+pub record HasActed (C : Setting) (old new : PassView) (acts : List Act) (count : ℕ) : Type 0 where
+  pub calls : HasMadeCalls old new (calls_in C.shape (number_of old) acts)
+  pub counted : count ≡ length (events_in C.shape acts)
+
+-- a take from the core's port was made, and the mail handled that it gave
+pub record HasTaken (C : Setting) (core : CoreId) (pick : ℕ) (old new : PassView) (had has : Held) (count : ℕ) : Type 0 where
+  pub taken : Option (Posted × Done)
+  pub moved : HasMoved C core (taken_steps taken) had has
+  pub acted : HasActed C old new (Took core pick taken ∷ []) count
+
+-- the core's own event was made, where the worker goes on with the core and the node has one
+pub record HasMadeOwn (C : Setting) (core : CoreId) (old new : PassView) (had has : Held) (count : ℕ) : Type 0 where
+  pub done : Done
+  pub moved : HasMoved C core (own_steps (may_go had.clock had.next) (own_event C had.node) done) had has
+  pub acted : HasActed C old new (own_acts core (may_go had.clock had.next) (own_event C had.node) done) count
+
+-- each act is of one actor
+abbrev pub AreOf : Actor → List Act → Type 0
+AreOf a acts = AllByRecursion (λ (act : Act). actor_of act ≡ a) acts
+
+-- the acts of a core with which the worker goes on: a take, and then the core's own event
+pub record IsTurn (C : Setting) (core : CoreId) (had : Held) (acts : List Act) : Type 0 where
+  pub pick : ℕ
+  pub taken : Option (Posted × Done)
+  pub done : Done
+  pub between : Held
+  pub handled : HasMoved C core (taken_steps taken) had between
+  pub acts_are : acts ≡ Took core pick taken ∷ own_acts core (may_go between.clock between.next) (own_event C between.node) done
+
+-- a core was served by these acts: it has its turn, or nothing is done where the worker doesn't go on with it
+pub record IsServed (C : Setting) (had has : Owned) (acts : List Act) : Type 0 where
+  pub core : has.core ≡ had.core
+  pub fits : Fits C has.node
+  pub own : AreOf (Core had.core) acts
+  pub moved : HasMoved C had.core (filter_map core_step acts) (held_of had) (held_of has)
+  pub turn : goes_on had ≡ true → IsTurn C had.core (held_of had) acts
+  pub stays : goes_on had ≡ false → acts ≡ []
+
+-- a bank was stepped by these acts
+pub record IsStepped (C : Setting) (had has : BankLog) (acts : List Act) : Type 0 where
+  pub bank : has.bank ≡ had.bank
+  pub pick : ℕ
+  pub handled : Option Handled
+  pub acts_are : acts ≡ Stepped had.bank pick handled ∷ []
+  pub log : has.log.items ≡ had.log.items ++ map note_of (events_in C.shape acts)
+
+-- the keeper was stepped by these acts
+pub record IsKeeperStep (C : Setting) (had has : List Stamped) (acts : List Act) : Type 0 where
+  pub pick : ℕ
+  pub note : Option KeeperNote
+  pub acts_are : acts ≡ Kept pick note ∷ []
+  pub log : has ≡ had ++ map note_of (events_in C.shape acts)
+
+-- the keeper was stepped, if the worker has it
+abbrev pub IsKept : Setting → Option (List Stamped) → Option (List Stamped) → List Act → Type 0
+IsKept C None None acts = acts ≡ []
+IsKept C (Some had) (Some has) acts = IsKeeperStep C had has acts
+IsKept C _ _ acts = ⊥
+
+-- all acts, one list after the other
+abbrev pub joined : List (List Act) → List Act
+joined parts = flat_map (λ (acts : List Act). acts) parts
+
+module _ {A : Type 0} where
+  -- something was done by some acts
+  pub record HasDone (Does : A → A → List Act → Type 0) (C : Setting) (old new : PassView) (had has : A) (count : ℕ) : Type 0 where
+    pub acts : List Act
+    pub acted : HasActed C old new acts count
+    pub does : Does had has acts
+
+  -- the same to each of several, each by acts of its own
+  abbrev pub Each : (A → A → List Act → Type 0) → List A → List A → List (List Act) → Type 0
+  Each Does [] [] [] = ⊤
+  Each Does (x ∷ xs) (y ∷ ys) (acts ∷ rest) = Does x y acts × Each Does xs ys rest
+  Each Does _ _ _ = ⊥
+
+  pub record HaveDone (Does : A → A → List Act → Type 0) (C : Setting) (old new : PassView) (had has : List A) (count : ℕ) : Type 0 where
+    pub parts : List (List Act)
+    pub acted : HasActed C old new (joined parts) count
+    pub each : Each Does had has parts

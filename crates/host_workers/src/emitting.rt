@@ -1,0 +1,76 @@
+ghost use Rattle.std.specs.Prelude.{◌≡◌, ◌^◌, ◌≤◌, length, OnOk, IfSome, option_to_list};
+ghost use Rattle.bank_hall.specs.Halls.{IsHallPass, HasMadeCalls, number_of};
+ghost use Rattle.round_rules.specs.Acts.{posting, postings, keeper_done};
+ghost use Rattle.host_workers.specs.Deeds.{IsEarly};
+
+use crate::stamps::has_actor;
+use bank_hall::{Hall, KeeperHandled, Pass, Posted};
+use dn_base::{CoreId, Memory, Shape};
+use std::sync::Wait;
+
+/// Posts a mail, if it goes to an actor of the hall.
+fn deliver<R: Wait>(
+    rt: &R,
+    hall: &Hall,
+    pass: &mut Pass,
+    shape: Shape,
+    posted: Posted,
+) -> Result<(), Memory>
+    requires pass { IsHallPass hall.now pass.old }
+    requires ports { length hall.now.ports ≡ shape.cores }
+    requires banks { length hall.now.banks ≡ shape.banks }
+    requires early { IsEarly posted }
+    ensures pass { IsHallPass hall.now pass.new × (number_of pass.new ≡ number_of pass.old) }
+    ensures made { OnOk result (HasMadeCalls pass.old pass.new (posting shape (number_of pass.old) posted)) }
+{
+    if !has_actor(shape, posted.mail.to) {
+        return Ok(());
+    }
+    match hall.post(rt, pass, posted) {
+        Ok(()) => Ok(()),
+        Err((memory, _posted)) => Err(memory),
+    }
+}
+
+/// Posts the mail that an event sends, if it sends one to an actor of the hall.
+pub(crate) fn emit<R: Wait>(
+    rt: &R,
+    hall: &Hall,
+    pass: &mut Pass,
+    shape: Shape,
+    sent: Option<Posted>,
+) -> Result<(), Memory>
+    requires pass { IsHallPass hall.now pass.old }
+    requires ports { length hall.now.ports ≡ shape.cores }
+    requires banks { length hall.now.banks ≡ shape.banks }
+    requires early { IfSome sent IsEarly }
+    ensures pass { IsHallPass hall.now pass.new × (number_of pass.new ≡ number_of pass.old) }
+    ensures made { OnOk result (HasMadeCalls pass.old pass.new (postings shape (number_of pass.old) (option_to_list sent))) }
+{
+    match sent {
+        Some(posted) => deliver(rt, hall, pass, shape, posted),
+        None => Ok(()),
+    }
+}
+
+/// Posts the keeper's letter to each core, if its verdict has letters.
+pub(crate) fn emit_letters<R: Wait>(
+    rt: &R,
+    hall: &Hall,
+    pass: &mut Pass,
+    shape: Shape,
+    handled: &KeeperHandled,
+) -> Result<(), Memory>
+    requires pass { IsHallPass hall.now pass.old }
+    requires ports { length hall.now.ports ≡ shape.cores }
+    requires banks { length hall.now.banks ≡ shape.banks }
+    requires cores { shape.cores ≤ 16 }
+    requires early { handled.now.stamped.stamp ≤ 2 ^ 63 }
+    ensures pass { IsHallPass hall.now pass.new × (number_of pass.new ≡ number_of pass.old) }
+    ensures made { OnOk result (HasMadeCalls pass.old pass.new (postings shape (number_of pass.old) (keeper_done shape.cores handled.now).sent)) }
+{
+    for core in 0..shape.cores {
+        emit(rt, hall, pass, shape, handled.letter(CoreId(core)))?;
+    }
+    Ok(())
+}

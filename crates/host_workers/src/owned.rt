@@ -1,0 +1,152 @@
+ghost use Rattle.std.specs.Prelude.{◌≡◌, ◌+◌, ◌^◌, ◌<◌, ◌≤◌, [], ◌∷◌, ◌++◌, length, map, true, Some, IfOk, OnOk, IfSome, option_to_list};
+ghost use Rattle.message_net.specs.declared.actor.Actor.TheVariants.{Core as OfCore};
+ghost use Rattle.message_net.specs.Mail.{mails_of};
+ghost use Rattle.registration_protocol.specs.Fit.{IsContext, Fits};
+ghost use Rattle.registration_protocol.specs.OwnEvents.{own_event};
+ghost use Rattle.registration_protocol.specs.Setting.{setting};
+ghost use Rattle.round_rules.specs.Members.{Handles, Makes};
+ghost use Rattle.round_rules.specs.Steps.{with_stamp};
+ghost use Rattle.round_rules.specs.Passes.{seen_at};
+ghost use Rattle.host_workers.specs.Crews.{held_of, goes_on};
+ghost use Rattle.host_workers.specs.Deeds.{HasMoved, IsNoted, IsEarly, step_by};
+
+use crate::deeds::{NodeCame, act, receive};
+use crate::stamps::own_kind;
+use bank_hall::{Posted, goes_on, stamp_of};
+use dn_base::{CoreId, Memory};
+use grant_log::Stamped;
+use message_net::{Actor, Event, EventKind, Outgoing};
+use registration_protocol::{Context, Node};
+use round_rules::EndSeen;
+use rv_core::TaskEnd;
+
+/// A core that a worker owns: its node, its clock, the number of its next mail, what it noted of its events, and the ends of the
+/// tasks with which it arrived.
+#[derive(Drop)]
+pub struct Owned {
+    pub core: CoreId,
+    pub node: Node,
+    pub clock: u64,
+    pub next: u32,
+    pub log: Vec<Stamped>,
+    pub ends: Vec<EndSeen>,
+}
+
+/// The mail that a core sends with its next number and a stamp, if it sends one.
+fn letter(core: CoreId, next: u32, stamp: u64, sent: Option<Outgoing>) -> Option<Posted>
+    ensures mail { option_to_list result ≡ map (with_stamp stamp) (mails_of (OfCore core) next (option_to_list sent)) }
+    ensures stamp { IfSome result (λ posted. posted.stamp ≡ stamp) }
+{
+    Some(Posted {
+        mail: sent?.mail(Actor::Core(core), next),
+        stamp,
+    })
+}
+
+/// Adds how a task had ended, if it had.
+fn push_end(ends: &mut Vec<EndSeen>, stamp: u64, end: Option<TaskEnd>) -> Result<(), Memory>
+    ensures { OnOk result (ends.new.items ≡ ends.old.items ++ option_to_list (seen_at stamp end)) }
+{
+    if let Some(end) = end {
+        ends.push(EndSeen { stamp, end })?;
+    }
+    Ok(())
+}
+
+impl Owned {
+    /// Whether the worker goes on with the core: its clock and the number of its next mail are below their limits.
+    pub(crate) fn goes_on(&self) -> bool
+        ensures { result ≡ goes_on self.now }
+    {
+        goes_on(self.clock, self.next)
+    }
+
+    /// Makes room for what one pass notes, so that no mail is taken that can't be noted.
+    pub(crate) fn reserve(&mut self) -> Result<(), Memory>
+        ensures held { held_of self.new ≡ held_of self.old }
+        ensures core { self.new.core ≡ self.old.core }
+    {
+        self.log.reserve(2)?;
+        self.ends.reserve(1)?;
+        Ok(())
+    }
+
+    /// Notes an event with its stamp and with what came of it. The answer is the mail that the core sends, if it sends one.
+    fn note(
+        &mut self,
+        stamp: u64,
+        event: Event,
+        kind: EventKind,
+        came: NodeCame,
+    ) -> Result<Option<Posted>, Memory>
+        requires next { self.old.next < 4294967000 }
+        ensures noted { IfOk result (IsNoted self.old.core stamp event kind came (held_of self.old) (held_of self.new)) }
+        ensures core { self.new.core ≡ self.old.core }
+        ensures stamp { IfOk result (λ sent. IfSome sent (λ posted. posted.stamp ≡ stamp)) }
+    {
+        self.log.push(Stamped {
+            stamp,
+            actor: Actor::Core(self.core),
+            event,
+            kind,
+            granted: came.granted,
+        })?;
+        push_end(&mut self.ends, stamp, came.end)?;
+        let sent = letter(self.core, self.next, stamp, came.sent);
+        self.clock = stamp;
+        if sent.is_some() {
+            self.next += 1;
+        }
+        Ok(sent)
+    }
+
+    /// The core handles a mail. The answer is the mail that it sends then, if it sends one.
+    ///
+    /// # Errors
+    /// `Memory` where there is no room to note it.
+    pub(crate) fn handle(
+        &mut self,
+        context: &Context<'_>,
+        posted: Posted,
+    ) -> Result<Option<Posted>, Memory>
+        requires context { IsContext (setting context.now) }
+        requires fits { Fits (setting context.now) self.old.node }
+        requires goes { goes_on self.old ≡ true }
+        requires early { posted.stamp < 2 ^ 63 }
+        ensures moved { OnOk result (HasMoved (setting context.now) self.old.core (step_by (setting context.now) self.old.core (held_of self.old) (Handles posted) ∷ []) (held_of self.old) (held_of self.new)) }
+        ensures sent { IfOk result (λ sent. option_to_list sent ≡ (step_by (setting context.now) self.old.core (held_of self.old) (Handles posted)).done.sent) }
+        ensures early { IfOk result (λ sent. IfSome sent IsEarly) }
+        ensures core { self.new.core ≡ self.old.core }
+        ensures fits { OnOk result (Fits (setting context.now) self.new.node) }
+    {
+        let stamp = stamp_of(self.clock, &posted);
+        let came = receive(&mut self.node, context, &posted);
+        let kind = posted.mail.message.kind();
+        self.note(stamp, Event::Handle(posted.mail.id), kind, came)
+    }
+
+    /// The core makes its own event. The answer is the mail that it sends then, if it sends one.
+    ///
+    /// # Errors
+    /// `Memory` where there is no room to note it.
+    pub(crate) fn make(
+        &mut self,
+        context: &Context<'_>,
+        event: Event,
+    ) -> Result<Option<Posted>, Memory>
+        requires context { IsContext (setting context.now) }
+        requires fits { Fits (setting context.now) self.old.node }
+        requires goes { goes_on self.old ≡ true }
+        requires own { own_event (setting context.now) self.old.node ≡ Some event }
+        ensures moved { OnOk result (HasMoved (setting context.now) self.old.core (step_by (setting context.now) self.old.core (held_of self.old) (Makes event) ∷ []) (held_of self.old) (held_of self.new)) }
+        ensures sent { IfOk result (λ sent. option_to_list sent ≡ (step_by (setting context.now) self.old.core (held_of self.old) (Makes event)).done.sent) }
+        ensures early { IfOk result (λ sent. IfSome sent IsEarly) }
+        ensures core { self.new.core ≡ self.old.core }
+        ensures fits { OnOk result (Fits (setting context.now) self.new.node) }
+    {
+        let stamp = self.clock + 1;
+        let kind = own_kind(&event);
+        let came = act(&mut self.node, context, event);
+        self.note(stamp, event, kind, came)
+    }
+}

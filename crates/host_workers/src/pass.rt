@@ -1,0 +1,56 @@
+ghost use Rattle.std.specs.Prelude.{IfOk, OnOk};
+ghost use Rattle.registration_protocol.specs.Setting.{setting};
+ghost use Rattle.host_workers.specs.Crews.{IsCrew};
+ghost use Rattle.host_workers.specs.Pass.{HasWorked};
+ghost use Rattle.host_workers.specs.Work.{MayAct, IsStill};
+
+use crate::crew::Crew;
+use crate::serving::serve_cores;
+use crate::stepping::{keep, step_banks};
+use bank_hall::{Hall, Pass};
+use dn_base::{Gate, Memory};
+use rand_pcg::Pcg32;
+use region_table::a_program_is_well_formed;
+use registration_protocol::Context;
+use std::sync::Wait;
+
+/// One pass of a worker over the hall: each core that it owns has its turn, a take whose mail the core handles and then the core's
+/// own event; each bank that it owns makes a step; and so does the keeper, if it is the worker's. Each mail that an event sends is
+/// posted at once. The worker doesn't go on with a core whose clock is at 2^63 or whose next mail would have the number
+/// 4,294,967,000.
+///
+/// The answer is the number of events that the pass made.
+///
+/// # Errors
+/// `Memory` where there is no room: the pass and the crew hold what was made until then.
+pub fn worker_pass<R: Wait, G: Gate>(
+    rt: &R,
+    hall: &Hall,
+    pass: &mut Pass,
+    context: &Context<'_>,
+    crew: &mut Crew,
+    draws: &mut Pcg32,
+    gate: &G,
+) -> Result<u32, Memory>
+    requires may { MayAct (setting context.now) hall.now pass.old }
+    requires crew { IsCrew (setting context.now) crew.old }
+    ensures pass { IsStill hall.now pass.old pass.new }
+    ensures crew { OnOk result (IsCrew (setting context.now) crew.new) }
+    ensures worked { IfOk result (HasWorked (setting context.now) pass.old pass.new crew.old crew.new) }
+{
+    a_program_is_well_formed(context.program);
+    let served = serve_cores(rt, hall, pass, context, &mut crew.cores, draws)?;
+    let worker = crew.worker;
+    let stepped = step_banks(
+        rt,
+        hall,
+        pass,
+        context,
+        worker,
+        &mut crew.banks,
+        draws,
+        gate,
+    )?;
+    let kept = keep(rt, hall, pass, context, &mut crew.keeper, draws)?;
+    Ok(served + stepped + kept)
+}

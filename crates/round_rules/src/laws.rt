@@ -1,0 +1,47 @@
+//! What holds of rounds, for whoever lets workers make them.
+ghost use Rattle.std.specs.Prelude.{◌≡◌, ℕ, ◌≤◌, List, ◌++◌};
+ghost use Rattle.dn_base.specs.declared.ids.CoreId.{CoreId};
+ghost use Rattle.dn_base.specs.declared.ids.Shape.{Shape};
+ghost use Rattle.message_net.specs.declared.actor.Actor.{Actor};
+ghost use Rattle.registration_protocol.specs.Node.{Setting};
+ghost use Rattle.machine_rules.specs.State.{State};
+ghost use Rattle.bank_hall.specs.Halls.{PassView, HasMadeCalls};
+ghost use Rattle.round_rules.specs.Acts.{Act, notes_by, calls_in};
+ghost use Rattle.round_rules.specs.Passes.{Held, HasGone};
+ghost use Rattle.round_rules.specs.Rounds.{Round, IsReached, IsJoined, IsRoundOf};
+ghost use Rattle.round_rules.specs.Beginnings.{HaveBegun, AllHaveActed};
+ghost use Rattle.round_rules.specs.Unspent.{AreUnspent};
+ghost use Rattle.round_rules.specs.Owners.{AreOwners};
+
+/// What the workers of a round leave is what one run of the machine leaves: that of the events that they noted, in the order of
+/// their stamps.
+pub fn a_round_is_a_run()
+    ensures { (C : Setting) (S T : State) (r : Round) → IsReached C S → IsJoined C S T r → IsRoundOf C S T r }
+{}
+
+/// The acts of two passes of a worker, one after the other, make the calls of both, lead each core as both do, and note what both
+/// note.
+pub fn passes_follow_one_another()
+    ensures calls { (shape : Shape) (number : ℕ) (first more : List Act) (old between new : PassView) → HasMadeCalls old between (calls_in shape number first)
+        → HasMadeCalls between new (calls_in shape number more) → HasMadeCalls old new (calls_in shape number (first ++ more)) }
+    ensures cores { (C : Setting) (first more : List Act) (core : CoreId) (old between new : Held) → HasGone C first core old between
+        → HasGone C more core between new → HasGone C (first ++ more) core old new }
+    ensures notes { (shape : Shape) (a : Actor) (first more : List Act) → notes_by shape a (first ++ more) ≡ notes_by shape a first ++ notes_by shape a more }
+{}
+
+/// Where every worker makes at least one pass, a round has an event of each actor to which a mail was in flight as it began, and
+/// of each core whose node had an event of its own.
+pub fn whoever_has_something_to_do_acts()
+    ensures { (C : Setting) (S T : State) (r : Round) → IsReached C S → C.shape.cores ≤ 16 → IsJoined C S T r → HaveBegun C S r → AllHaveActed C S r }
+{}
+
+/// In a round no object of the hall is spent: a step or a take gives nothing only where the inbox is empty.
+pub fn no_object_is_spent()
+    ensures { (C : Setting) (S T : State) (r : Round) → IsReached C S → C.shape.cores ≤ 16 → IsJoined C S T r → AreUnspent C S r }
+{}
+
+/// Each step of a bank, each take from a core's port and each step of the keeper is, in the histories of a round, a call of the
+/// worker that owns it.
+pub fn steps_are_of_owners()
+    ensures { (C : Setting) (S T : State) (r : Round) → IsJoined C S T r → AreOwners r }
+{}
