@@ -5,7 +5,7 @@ It is written from docs/PROTOCOL.md, docs/LANGUAGE.md and the rules of the machi
 standard library, and it is no part of the proved program: it stands here so that the outputs in crates/worked_rows/data have
 somewhere else to come from. It takes texts that assemble and check; it refuses none properly.
 
-    tools/reference.py [WORDS] < TEXT       what the program has to write, for the words of the modes run, work and flat
+    tools/reference.py [WORDS] < TEXT       what the program has to write, for the words of all modes but check and list
     tools/reference.py script FILE [WORDS] < TEXT
                                             the same for a script of events (crates/worked_rows/data/README.md has the form)
     tools/reference.py trace [WORDS] < TEXT the events of a run, one a line, in the form of a script
@@ -1060,6 +1060,267 @@ def flat(program, fuel, grants=None):
     return (ends, memory), loads, used
 
 
+# ---------------------------------------------------------------- the prover of effects
+
+EVERY = 0, MASK
+
+
+def in_one_stretch(least, greatest):
+    """The numbers of 32 bits that whole numbers from one to another are, where they keep their order."""
+    return (least & MASK, greatest & MASK) if least >> 32 == greatest >> 32 else EVERY
+
+
+def ranged(op, a, b, offset=None):
+    """The range of an operation's result. An immediate comes as its 32 bits in b, and with its sign as the offset."""
+    if a[0] == a[1] and b[0] == b[1]:
+        return (alu(op, a[0], b[0]),) * 2
+    if op == (0, 0):
+        return in_one_stretch(a[0] + (b[0] if offset is None else offset), a[1] + (b[1] if offset is None else offset))
+    if op == (0, 32):
+        return in_one_stretch(a[0] - b[1], a[1] - b[0])
+    if op == (7, 0):
+        return 0, min(a[1], b[1])
+    if op == (1, 0) and offset is not None:
+        n = offset & 31
+        return (a[0] << n, a[1] << n) if a[1] << n <= MASK else EVERY
+    if op == (5, 0) and offset is not None:
+        return a[0] >> (offset & 31), a[1] >> (offset & 31)
+    return (0, 1) if op in ((2, 0), (3, 0)) else EVERY
+
+
+class Table:
+    """The least closed table of a task: for each code word that it reaches, the ranges of its registers and its locks."""
+
+    def __init__(self, program, decl):
+        self.program, self.decl = program, decl
+        self.decoded = [decode(word) for word in program.code]
+        self.heads = {place for at, instr in enumerate(self.decoded)
+                      for place in [self.place(self.goal(at, instr))] if place is not None and place <= at}
+        self.rows, todo = {}, []
+        ranges = [(0, 0)] * 32
+        ranges[10] = decl.arg, decl.arg
+        self.give(self.place(decl.entry), (ranges, frozenset()), todo)
+        while todo:
+            at = todo.pop()
+            for place, row in self.successors(at):
+                self.give(place, row, todo)
+
+    def place(self, address):
+        if address is None or address % 4 or not 0 <= address - 0x1000 < 4 * len(self.decoded):
+            return None
+        return (address - 0x1000) // 4
+
+    def goal(self, at, instr):
+        if instr and instr[0] == "jal":
+            return 0x1000 + 4 * at + instr[2] & MASK
+        if instr and instr[0] == "branch":
+            return 0x1000 + 4 * at + instr[4] & MASK
+        return None
+
+    def widened(self, r):
+        """The least range with ends of a head that has the numbers of r."""
+        if r[0] == r[1]:
+            return r
+        ends = sorted({0, self.decl.arg, (1 << 31) - 1, 1 << 31, MASK})
+        return max(end for end in ends if end <= r[0]), min(end for end in ends if end >= r[1])
+
+    def give(self, place, row, todo):
+        if place is None:
+            return
+        ranges, held = row
+        old = self.rows.get(place)
+        if old:
+            ranges = [(min(a[0], b[0]), max(a[1], b[1])) for a, b in zip(old[0], ranges)]
+            held = held & old[1]
+        if place in self.heads:
+            ranges = [self.widened(r) for r in ranges]
+        if (ranges, held) != old:
+            self.rows[place] = ranges, held
+            todo.append(place)
+
+    def successors(self, at):
+        """The places that an instruction goes on to, each with what it gives."""
+        ranges, held = self.rows[at]
+        instr, pc = self.decoded[at], 0x1000 + 4 * at
+        name, following, goal = instr and instr[0], at + 1, self.place(self.goal(at, instr))
+
+        def with_range(rd, r):
+            return [r if rd and i == rd else old for i, old in enumerate(ranges)], held
+        if name in ("const", "auipc"):
+            return [(self.behind(following), with_range(instr[1], ((instr[2] + (pc if name == "auipc" else 0)) & MASK,) * 2))]
+        if name == "jal":
+            return [(goal, with_range(instr[1], (pc + 4, pc + 4)))]
+        if name == "load":
+            r = {4: (0, 255), 5: (0, 65535)}.get(instr[1], EVERY)
+            return [(self.behind(following), with_range(instr[2], r))]
+        if name in ("store", "fence"):
+            return [(self.behind(following), (ranges, held))]
+        if name == "alui":
+            r = ranged(instr[1], ranges[instr[3]], (instr[4],) * 2, signed(instr[4]))
+            return [(self.behind(following), with_range(instr[2], r))]
+        if name == "alu":
+            return [(self.behind(following), with_range(instr[2], ranged(instr[1], ranges[instr[3]], ranges[instr[4]])))]
+        if name == "ecall":
+            call, lock = ranges[17], ranges[10]
+            if call[0] != call[1]:
+                return [(self.behind(following), (ranges, frozenset()))]
+            if call[0] == 1:
+                more = {lock[0]} if lock[0] == lock[1] < len(self.program.locks) else set()
+                return [(self.behind(following), (ranges, held | more))]
+            if call[0] == 2:
+                return [(self.behind(following), (ranges, held - {lock[0]} if lock[0] == lock[1] else frozenset()))]
+            return []
+        if name == "branch":
+            return [(place, (self.narrowed(ranges, instr[2], instr[3], pair), held))
+                    for place, pair in self.ways(instr, ranges, self.behind(following), goal) if pair]
+        return []
+
+    def behind(self, place):
+        return place if place < len(self.decoded) else None
+
+    def narrowed(self, ranges, a, b, pair):
+        return [(0, 0) if i == 0 else pair[1] if i == b and b != a else pair[0] if i == a else r for i, r in enumerate(ranges)]
+
+    def ways(self, instr, ranges, following, goal):
+        """The next word and the target, each with the two registers' ranges there, or None where it isn't a successor."""
+        test, a, b = instr[1], ranges[instr[2]], ranges[instr[3]]
+        if instr[2] == instr[3]:
+            return [(goal if taken(test, 0, 0) else following, (a, a))]
+
+        def pair(x, y):
+            return (x, y) if x[0] <= x[1] and y[0] <= y[1] else None
+        if test in (0, 1):
+            same = max(a[0], b[0]), min(a[1], b[1])
+            equal, other = pair(same, same), None if a[0] == a[1] == b[0] == b[1] else (a, b)
+            return [(following, other), (goal, equal)] if test == 0 else [(following, equal), (goal, other)]
+        if test in (4, 5) and max(a[1], b[1]) >= 1 << 31:
+            return [(following, (a, b)), (goal, (a, b))]
+        less = pair((a[0], min(a[1], b[1] - 1)), (max(b[0], a[0] + 1), b[1]))
+        not_less = pair((max(a[0], b[0]), a[1]), (b[0], min(b[1], a[1])))
+        return [(following, less), (goal, not_less)] if test & 1 else [(following, not_less), (goal, less)]
+
+    def is_inside(self, at):
+        ranges, held = self.rows[at]
+        instr = self.decoded[at]
+        name = instr and instr[0]
+        if name not in ("load", "store"):
+            return name != "jalr"
+        low, high = ranged((0, 0), ranges[instr[3]], (instr[4] & MASK,) * 2, instr[4])
+        width, decl, is_store = 1 << (instr[1] & 3), self.decl, name == "store"
+        allowed = set(decl.writes) if is_store else decl.reads | decl.writes
+        for lock in held:
+            allowed |= decl.gwrites.get(lock, set())
+            if not is_store:
+                allowed |= decl.greads.get(lock, set())
+        first, last = low + -low % width, high - high % width
+        if first > last:
+            return True
+        words = range((first - 0x10000000) // 4, (last - 0x10000000) // 4 + 1)
+        return first >= 0x10000000 and words[-1] < len(self.program.memory) and all(word in allowed for word in words)
+
+
+def proved(program):
+    for number, phase in enumerate(program.phases):
+        for core in sorted(phase):
+            table = Table(program, phase[core])
+            for at in sorted(table.rows):
+                if not table.is_inside(at):
+                    return ["unbounded %d %d 0x%08x" % (number, core, 0x1000 + 4 * at)]
+    return ["proved inside"]
+
+
+# ---------------------------------------------------------------- how long a run takes
+
+def slowest(behind, ticks):
+    """The greatest cost of a chain, by a search over all chains: behind[i] has the events on which event i depends."""
+    def costs(i):
+        return max([0] + [costs(j) for j in behind[i]]) + ticks[i]
+    return max([0] + [costs(i) for i in range(len(behind))])
+
+
+def timing(machine, seed, ticks, search=False):
+    """The longest chain of the events of a run: an event depends on the one before it of its actor, and on its mail's sender."""
+    finish, before, kinds, last, sender, both = [], [], [], {}, {}, []
+
+    def see(event):
+        if event[0] == "handle":
+            mail = next(mail for mail in machine.pool if mail[:2] == event[1:])
+            actor, kind = mail[2], mail[3][0]
+        else:
+            actor, kind = ("core", event[1]), event[0]
+        at = len(finish)
+        own, sent = last.get(actor), sender.get(event[1:]) if event[0] == "handle" else None
+        behind = own
+        if sent is not None and (own is None or finish[sent] > finish[own]):
+            behind = sent
+        both.append([i for i in (own, sent) if i is not None])
+        kinds.append(kind)
+        before.append(behind)
+        finish.append(ticks[kind] + (finish[behind] if behind is not None else 0))
+        last[actor] = at
+        seen.append((actor, at))
+
+    seen, numbers = [], {}
+
+    def trace(event):
+        note_sent()
+        see(event)
+
+    def note_sent():
+        if seen:
+            actor, at = seen[-1]
+            for number in range(numbers.get(actor, 0), machine.numbers.get(actor, 0)):
+                sender[actor, number] = at
+            numbers[actor] = machine.numbers.get(actor, 0)
+    machine.run(seed, trace)
+    chain, total = [], max(finish, default=0)
+    at = finish.index(total) if finish else None
+    while at is not None:
+        chain.append(at)
+        at = before[at]
+    assert not search or total == slowest(both, [ticks[kind] for kind in kinds])
+    return ["time %d" % total, "chain %d" % len(chain)] + [
+        "link %d %s %d" % (at, kinds[at], finish[at]) for at in reversed(chain)]
+
+
+# ---------------------------------------------------------------- the document of a run
+
+def document(text, o, events):
+    def line(event):
+        if event[0] != "handle":
+            return " ".join([event[0][0]] + [str(part) for part in event[1:]])
+        actor = "k" if event[1] == "keeper" else "%s %d" % (event[1][0][0], event[1][1])
+        return "h %s %d" % (actor, event[2])
+    head = ["denovo-trace 1", "banks %d sets %d ways %d fuel %d" % (o["banks"], o["sets"], o["ways"], o["fuel"]),
+            "source %d" % len(text.encode()), text, "events %d" % len(events)]
+    return head + [line(event) for event in events]
+
+
+def replayed(document_text):
+    """The exit code and the lines of the replay of a document that is whole."""
+    lines = document_text.split("\n")
+    sizes = [int(word) for word in lines[1].split()[1::2]]
+    start = len("\n".join(lines[:3])) + 1
+    length = int(lines[2].split()[1])
+    text, rest = document_text[start:start + length], document_text[start + length + 1:].split("\n")
+    machine = Machine(assemble(text), *sizes)
+    for number, line in enumerate(rest[1:-1]):
+        words = line.split()
+        name = {"i": "instr", "e": "evict", "a": "arrive", "h": "handle"}[words[0]]
+        if name == "handle":
+            actor = "keeper" if words[1] == "k" else ({"c": "core", "b": "bank"}[words[1]], int(words[2]))
+            event = name, actor, int(words[-1])
+        else:
+            event = (name,) + tuple(int(word) for word in words[1:])
+        if not machine.enabled(event):
+            return 2, ["refused trace not-enabled %d" % number]
+        machine.step(event)
+    if machine.pick(0)[0] is not None:
+        return 2, ["refused trace incomplete"]
+    agree_with_flat(machine)
+    return STATUS[outcome(machine.ending()[0])], run_text(machine)
+
+
 # ---------------------------------------------------------------- what is written
 
 def outcome(ends):
@@ -1101,7 +1362,8 @@ def summary(ending):
 
 
 def options(words):
-    given = {"mode": "run", "seed": "1", "workers": "1", "banks": "4", "sets": "64", "ways": "4", "fuel": "32768", "size": "4"}
+    given = {"mode": "run", "seed": "1", "workers": "1", "banks": "4", "sets": "64", "ways": "4", "fuel": "32768", "size": "4",
+             "tick-core": "1", "tick-bank": "10", "tick-mail": "5"}
     words = [piece for word in words for piece in word.split("=")]
     while words:
         if words[0][2:] not in given or len(words) < 2:
@@ -1123,20 +1385,33 @@ def agree_with_flat(machine):
 
 
 def answer(words, text):
-    """The exit code and the lines of the program, for a text that assembles and checks, in the modes run, work and flat."""
+    """The exit code and the lines of the program, for a text that assembles and checks, in all modes but check and list."""
     o = options(words)
     if o["mode"] == "work":
         text = work_text(o["size"])
+    if o["mode"] == "replay":
+        return replayed(text)
     program = assemble(text)
+    if o["mode"] == "prove":
+        return 0, proved(program)
     if o["mode"] == "flat":
         ending, _, used = flat(program, o["fuel"])
         lines = answer_text(ending) + grant_text(used)
-    elif o["mode"] in ("run", "work"):
+    elif o["mode"] == "time":
         machine = opened(program, o)
-        machine.run(o["seed"])
+        ticks = dict.fromkeys(KINDS, o["tick-mail"])
+        ticks.update(dict.fromkeys(("instr", "evict", "arrive"), o["tick-core"]))
+        ticks.update(dict.fromkeys(("read-req", "reg-req", "write-back", "acquire", "release"), o["tick-bank"]))
+        chain = timing(machine, o["seed"], ticks, machine.program.code and len(machine.program.code) < 32)
+        ending = machine.ending()
+        lines = summary(ending) + chain
+    elif o["mode"] in ("run", "work", "trace"):
+        machine, events = opened(program, o), []
+        machine.run(o["seed"], events.append)
         agree_with_flat(machine)
         ending = machine.ending()
-        lines = run_text(machine) if o["mode"] == "run" else summary(ending)
+        lines = {"run": lambda: run_text(machine), "work": lambda: summary(ending),
+                 "trace": lambda: document(text, o, events)}[o["mode"]]()
     else:
         raise Unfit("mode")
     return STATUS[outcome(ending[0])], lines

@@ -25,10 +25,10 @@ number_rule name default = record (text_rule name default) { parser = Some (pars
 abbrev pub bare : App → App
 bare = on_top (λ s. record s { no_binary_name = true; disable_help_flag = true; disable_version_flag = true })
 
--- the command `denovo` with its eight options
+-- the command `denovo` with its eleven options
 unfoldable pub command : App
 command =
-    with_rule (with_rule (with_rule (with_rule (with_rule (with_rule (with_rule (with_rule (bare (new_app (codes "denovo")))
+    with_rule (with_rule (with_rule (with_rule (with_rule (with_rule (with_rule (with_rule (with_rule (with_rule (with_rule (bare (new_app (codes "denovo")))
     (text_rule (codes "mode") (codes "run")))
     (number_rule (codes "seed") (codes "1")))
     (number_rule (codes "workers") (codes "1")))
@@ -36,7 +36,10 @@ command =
     (number_rule (codes "sets") (codes "64")))
     (number_rule (codes "ways") (codes "4")))
     (number_rule (codes "fuel") (codes "32768")))
-    (number_rule (codes "size") (codes "4"))
+    (number_rule (codes "size") (codes "4")))
+    (number_rule (codes "tick-core") (codes "1")))
+    (number_rule (codes "tick-bank") (codes "10")))
+    (number_rule (codes "tick-mail") (codes "5"))
 
 -- what is wrong with these words as words of the command, and the values that they give its options
 unfoldable pub faults_in : List Text → Kinds
@@ -53,6 +56,8 @@ mode_named text =
     else if bytes_eq text (codes "check") then Some mode.TheVariants.Check
     else if bytes_eq text (codes "list") then Some mode.TheVariants.List
     else if bytes_eq text (codes "flat") then Some mode.TheVariants.Flat
+    else if bytes_eq text (codes "time") then Some mode.TheVariants.Time
+    else if bytes_eq text (codes "prove") then Some mode.TheVariants.Prove
     else None
 
 -- the value of an option among the command's values: the mode, or a number from low to high
@@ -62,7 +67,7 @@ mode_in rows = option_and_then mode_named (first_of (codes "mode") rows)
 abbrev pub number_in : List Row → Text → ℕ → ℕ → Option ℕ
 number_in rows name low high = option_and_then (if_within low high) (option_and_then number_in_text (one_of name rows))
 
--- the options that the command's values give, where the mode is one of the five and each number is in its range
+-- the options that the command's values give, where the mode is one of the seven and each number is in its range
 unfoldable pub options_from : List Row → Option Options
 options_from rows =
     option_and_then (λ (mode : Mode).
@@ -73,7 +78,13 @@ options_from rows =
     option_and_then (λ (ways : ℕ).
     option_and_then (λ (fuel : ℕ).
     option_and_then (λ (size : ℕ).
-    Some (record { mode = mode; seed = seed; workers = workers; banks = banks; sets = sets; ways = ways; fuel = fuel; size = size }))
+    option_and_then (λ (tick_core : ℕ).
+    option_and_then (λ (tick_bank : ℕ).
+    option_and_then (λ (tick_mail : ℕ).
+    Some (record { mode = mode; seed = seed; workers = workers; banks = banks; sets = sets; ways = ways; fuel = fuel; size = size; tick_core = tick_core; tick_bank = tick_bank; tick_mail = tick_mail }))
+    (number_in rows (codes "tick-mail") 1 1000000))
+    (number_in rows (codes "tick-bank") 1 1000000))
+    (number_in rows (codes "tick-core") 1 1000000))
     (number_in rows (codes "size") 1 128))
     (number_in rows (codes "fuel") 1 32768))
     (number_in rows (codes "ways") 1 16))
@@ -99,3 +110,6 @@ pub record IsWithinLimits (o : Options) : Type 0 where
   pub ways : IsInRange 1 16 o.ways
   pub fuel : IsInRange 1 32768 o.fuel
   pub size : IsInRange 1 128 o.size
+  pub tick_core : IsInRange 1 1000000 o.tick_core
+  pub tick_bank : IsInRange 1 1000000 o.tick_bank
+  pub tick_mail : IsInRange 1 1000000 o.tick_mail

@@ -45,7 +45,7 @@ fn with_option<'a>(command: Command<'a>, option: Arg<'a>) -> Result<Command<'a>,
     command.arg(option)
 }
 
-/// The command with its eight options.
+/// The command with its eleven options.
 #[tactic(auto, unfolding(crate::specs::Command::command))]
 fn denovo<'a>(alloc: Global) -> Result<Command<'a>, AllocError>
     ensures { IfOk result (λ made. app_of made ≡ command) }
@@ -58,6 +58,9 @@ fn denovo<'a>(alloc: Global) -> Result<Command<'a>, AllocError>
     let made = with_option(made, number_option(alloc, "ways", "4"))?;
     let made = with_option(made, number_option(alloc, "fuel", "32768"))?;
     let made = with_option(made, number_option(alloc, "size", "4"))?;
+    let made = with_option(made, number_option(alloc, "tick-core", "1"))?;
+    let made = with_option(made, number_option(alloc, "tick-bank", "10"))?;
+    let made = with_option(made, number_option(alloc, "tick-mail", "5"))?;
     Ok(made)
 }
 

@@ -16,6 +16,10 @@ pub enum Mode {
     List,
     /// Runs the program of the text on one flat memory, and prints its answer and the grants of locks.
     Flat,
+    /// Runs the program of the text on the cores, and prints a summary and the longest chain of dependent events.
+    Time,
+    /// Says whether any run of the program of the text may reach outside its declared effects.
+    Prove,
 }
 
 /// What the command's words ask for. A mode leaves options unused that it has no use for.
@@ -36,6 +40,12 @@ pub struct Options {
     pub fuel: u32,
     /// The size of the generated text, from 1 to 128.
     pub size: u32,
+    /// Ticks of a core's own event, from 1 to 1,000,000.
+    pub tick_core: u32,
+    /// Ticks of a bank's event, from 1 to 1,000,000.
+    pub tick_bank: u32,
+    /// Ticks of each other event, from 1 to 1,000,000.
+    pub tick_mail: u32,
 }
 
 /// Why words are refused.

@@ -20,6 +20,8 @@ fn named(text: &str) -> Option<Mode>
         "check" => Some(Mode::Check),
         "list" => Some(Mode::List),
         "flat" => Some(Mode::Flat),
+        "time" => Some(Mode::Time),
+        "prove" => Some(Mode::Prove),
         _ => None,
     }
 }
@@ -59,7 +61,7 @@ fn number(matches: &ArgMatches<'_>, name: &str, low: u32, high: u32) -> Option<u
     }
 }
 
-/// The options that the values give, where the mode is one of the five and each number is in its range.
+/// The options that the values give, where the mode is one of the seven and each number is in its range.
 #[tactic(auto, unfolding(crate::specs::Command::options_from))]
 fn options(matches: &ArgMatches<'_>) -> Option<Options>
     ensures value { result ≡ options_from (rows_of (found_of matches.now)) }
@@ -74,14 +76,17 @@ fn options(matches: &ArgMatches<'_>) -> Option<Options>
         ways: number(matches, "ways", 1, 16)?,
         fuel: number(matches, "fuel", 1, 32_768)?,
         size: number(matches, "size", 1, 128)?,
+        tick_core: number(matches, "tick-core", 1, 1_000_000)?,
+        tick_bank: number(matches, "tick-bank", 1, 1_000_000)?,
+        tick_mail: number(matches, "tick-mail", 1, 1_000_000)?,
     })
 }
 
 /// What the command's words ask for; the program's own name isn't among them.
 ///
-/// The command has the options `--mode`, `--seed`, `--workers`, `--banks`, `--sets`, `--ways`, `--fuel` and `--size`, each with
-/// one value, and no other words; `Options` has their ranges. An option may be written as `--seed 7` or `--seed=7`, and
-/// stands once at most; what isn't given is run, 1, 1, 4, 64, 4, 32768 and 4.
+/// The command has the options `--mode`, `--seed`, `--workers`, `--banks`, `--sets`, `--ways`, `--fuel`, `--size`, `--tick-core`,
+/// `--tick-bank` and `--tick-mail`, each with one value, and no other words; `Options` has their ranges. An option may be
+/// written as `--seed 7` or `--seed=7`, and stands once at most; what isn't given is run, 1, 1, 4, 64, 4, 32768, 4, 1, 10 and 5.
 ///
 /// # Errors
 /// `Usage` where the words aren't the command's, `Memory` where there is no room to read them.

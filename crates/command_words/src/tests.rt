@@ -21,6 +21,9 @@ const DEFAULTS: Options = Options {
     ways: 4,
     fuel: 32_768,
     size: 4,
+    tick_core: 1,
+    tick_bank: 10,
+    tick_mail: 5,
 };
 
 #[test]

@@ -99,6 +99,12 @@ answers-read mode.TheVariants.List o before after text t most e is read =
 answers-read mode.TheVariants.Flat o before after text t most e is read =
     let a = are-alike before after text t is (let m : most ≡ 1048577 = cc in rw m at read) in
     record { done = λ out. checked-alike text t _ a.same; refused = λ line. unfit-alike text t line a.same; read = λ out h. a.whole h.program h.is }
+answers-read mode.TheVariants.Time o before after text t most e is read =
+    let a = are-alike before after text t is (let m : most ≡ 1048577 = cc in rw m at read) in
+    record { done = λ out. checked-alike text t _ a.same; refused = λ line. unfit-alike text t line a.same; read = λ out h. a.whole h.program h.is }
+answers-read mode.TheVariants.Prove o before after text t most e is read =
+    let a = are-alike before after text t is (let m : most ≡ 1048577 = cc in rw m at read) in
+    record { done = λ out. checked-alike text t _ a.same; refused = λ line. unfit-alike text t line a.same; read = λ out h. a.whole h.program h.is }
 
 -- the text that was taken is answered as the text that the options are about
 pub taken-alike : (o : Options) (before after : Device) (text : List ℕ) → IsTaken o before after text → IfSome (text_for o before) (λ t. AnswersAlike o.mode o before after text t)

@@ -27,10 +27,10 @@ use Rattle.machine_rules.proofs.RunsKept.{run-setting}
 use Rattle.machine_rules.proofs.OpenedFacts.{opened-setting}
 use Rattle.run_agreement.specs.Ends.{HasFlatEnd}
 use Rattle.dn_machine.specs.Kept.{Made, IsKept, IsOpened}
-use Rattle.dn_machine.specs.Run.{IsRecord, IsRunOf as IsSeedsRun}
+use Rattle.dn_machine.specs.Run.{IsRecord, IsRunOf as IsMachinesRun, IsSeedsRunOf}
 use Rattle.dn_machine.specs.declared.record.RunRecord.{RunRecord}
 use Rattle.command_words.specs.declared.options.Options.{Options}
-use Rattle.dn_top.specs.Runs.{shape_for, ending_alone, IsSettingFor, HasFlatRun, IsWithoutGrants, IsRunOf, IsPrintable}
+use Rattle.dn_top.specs.Runs.{shape_for, ending_alone, IsSettingFor, HasFlatRun, IsWithoutGrants, IsRunOf, IsSeedsRun, IsPrintable}
 
 -- ---- the size of an ending
 
@@ -75,7 +75,7 @@ without-grants P fuel (g ∷ gs) e none is = let no_run = alone-only P fuel g gs
 -- what the machine says of a run, said of the setting that it was opened in
 module _ (P : ProgramParts) (o : Options) (C : Setting) (r : RunRecord) where
   -- the flat machine's run by the grants that the record has
-  has-flat_run : IsRecord (opened C) o.seed r → HasFlatEnd C r.events → HasFlatRun C r
+  has-flat_run : IsRecord (opened C) r → HasFlatEnd C r.events → HasFlatRun C r
   has-flat_run is flat =
       record {
         end' = flat.end';
@@ -102,12 +102,12 @@ module _ (P : ProgramParts) (o : Options) (C : Setting) (r : RunRecord) where
             ∙ ap Some flat.ending;
       }
 
-  run-of : IsSettingFor P o C → IsSeedsRun (opened C) o.seed r → HasFlatEnd C r.events → length r.counts.kinds ≡ 17 → IsRunOf P o r
+  run-of : IsSettingFor P o C → IsMachinesRun (opened C) r → HasFlatEnd C r.events → length r.counts.kinds ≡ 17 → IsRunOf P o r
   run-of asked machine flat each =
       let by_grants = has-flat_run machine.is_true flat in
       record { setting = C; asked = asked; machine = machine; each_kind = each; flat = by_grants; lock_free = has-no_grants asked by_grants }
 
-  can-print : IsProgram C.program → IsRecord (opened C) o.seed r → HasFlatEnd C r.events → length r.counts.kinds ≡ 17 → length r.events < 18446744073709551616 → IsPrintable r
+  can-print : IsProgram C.program → IsRecord (opened C) r → HasFlatEnd C r.events → length r.counts.kinds ≡ 17 → length r.events < 18446744073709551616 → IsPrintable r
   can-print program is flat kinds few =
       let memory = ap (λ (e : Ending). length e.memory) is.ends ∙ shown-words (opened C) r.events ∙ ap (λ (D : Setting). length D.program.memory) (opened-setting C) in
       let tasks = ap (λ (e : Ending). length e.tasks) (is.ends ∙ sym flat.ending) in
@@ -135,13 +135,16 @@ module _ (P : ProgramParts) (o : Options) (m : Made) (r : RunRecord) where
         fuel = at.fuel_is;
       }
 
-  pub is-run_of : IsOpened P (shape_for P o) o.fuel m → IsKept m.state m.made → IsSeedsRun m.state o.seed r → length r.counts.kinds ≡ 17 → IsRunOf P o r
-  is-run_of at kept run each = run-of P o m.state.setting r (asked-for at kept) (at-opened (λ S. IsSeedsRun S o.seed r) at run) run.flat each
+  pub is-run_of : IsOpened P (shape_for P o) o.fuel m → IsKept m.state m.made → IsSeedsRunOf m.state o.seed r → length r.counts.kinds ≡ 17 → IsSeedsRun P o r
+  unfolding run-of
+  is-run_of at kept run each =
+      let there : IsSeedsRunOf (opened m.state.setting) o.seed r = at-opened (λ S. IsSeedsRunOf S o.seed r) at run in
+      record { run = run-of P o m.state.setting r (asked-for at kept) there.run run.run.flat each; scheduled = there.scheduled }
 
-  pub is-printable : IsOpened P (shape_for P o) o.fuel m → IsKept m.state m.made → IsRecord m.state o.seed r → HasFlatEnd m.state.setting r.events → length r.counts.kinds ≡ 17
+  pub is-printable : IsOpened P (shape_for P o) o.fuel m → IsKept m.state m.made → IsRecord m.state r → HasFlatEnd m.state.setting r.events → length r.counts.kinds ≡ 17
       → length r.events < 18446744073709551616 → IsPrintable r
   is-printable at kept is flat kinds few =
-      can-print P o m.state.setting r kept.sound.machine.program (at-opened (λ S. IsRecord S o.seed r) at is) flat kinds few
+      can-print P o m.state.setting r kept.sound.machine.program (at-opened (λ S. IsRecord S r) at is) flat kinds few
 
 -- ---- two runs without locks
 

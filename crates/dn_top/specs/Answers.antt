@@ -13,6 +13,9 @@ use Rattle.rv_listing.specs.Listing.{listed_lines, listed}
 use Rattle.effect_checker.specs.declared.fault.CheckFault.{CheckFault}
 use Rattle.effect_checker.specs.Checked.{IsChecked}
 use Rattle.effect_checker.specs.Faults.{IsLeastFault}
+use Rattle.effect_prover.specs.declared.proved.Proved.{Proved}
+use Rattle.effect_prover.specs.declared.proved.Proved.TheVariants.{Inside}
+use Rattle.effect_prover.specs.Answer.{IsAnswer as IsProversAnswer, RunsInside, proved_text}
 use Rattle.flat_machine.specs.declared.ending.FlatEnd.{FlatEnd}
 use Rattle.flat_machine.specs.Grants.{IsLeast}
 use Rattle.flat_machine.specs.Ending.{flat_end}
@@ -27,7 +30,7 @@ use Rattle.command_words.specs.declared.options.Options.{Options}
 use Rattle.dn_top.specs.declared.output.Output.{Output}
 use Rattle.dn_top.specs.declared.answers.Stop.{Stop}
 use Rattle.dn_top.specs.declared.answers.Stop as stop
-use Rattle.dn_top.specs.Runs.{IsMachineRun, reported, summed_up}
+use Rattle.dn_top.specs.Runs.{IsMachineRun, IsTimedRun, reported, summed_up}
 
 -- ---- a text, its program and its check
 
@@ -84,6 +87,13 @@ pub record IsListing (program : ProgramParts) (out : Output) : Type 0 where
   pub answer : out ≡ answered status.TheVariants.Done (listed program)
   pub again : IsWithinLimits (listed_lines program) → source (listed program) ≡ Ok program
 
+-- what the prover says of the program's effects; where it says that they are kept, no run ends a task by a trap outside
+pub record IsProof (program : ProgramParts) (out : Output) : Type 0 where
+  pub proved : Proved
+  pub right : IsProversAnswer program proved
+  pub sound : proved ≡ Inside → RunsInside program
+  pub answer : out ≡ answered status.TheVariants.Done (proved_text proved)
+
 -- ---- a row for each mode
 
 -- what each mode does with a text
@@ -93,6 +103,8 @@ done_in mode.TheVariants.Work o text out = HasChecked text (λ P. IsMachineRun P
 done_in mode.TheVariants.Check o text out = HasChecked text (λ P. out ≡ answered status.TheVariants.Done (checked_of P))
 done_in mode.TheVariants.List o text out = HasProgram text (λ P. IsListing P out)
 done_in mode.TheVariants.Flat o text out = HasChecked text (λ P. IsFlatRun P o.fuel out)
+done_in mode.TheVariants.Time o text out = HasChecked text (λ P. IsTimedRun P o out)
+done_in mode.TheVariants.Prove o text out = HasChecked text (λ P. IsProof P out)
 
 -- which texts each mode refuses, and with which line
 abbrev pub refused_in : Mode → List ℕ → List ℕ → Type 0
@@ -101,6 +113,8 @@ refused_in mode.TheVariants.Work text line = IsUnfit text line
 refused_in mode.TheVariants.Check text line = IsUnfit text line
 refused_in mode.TheVariants.List text line = IsNoProgram text line
 refused_in mode.TheVariants.Flat text line = IsUnfit text line
+refused_in mode.TheVariants.Time text line = IsUnfit text line
+refused_in mode.TheVariants.Prove text line = IsUnfit text line
 
 -- how many bytes each mode reads at most: one more than its text may have; None where it generates its text
 abbrev pub most_read : Mode → Option ℕ
@@ -109,6 +123,8 @@ most_read mode.TheVariants.Work = None
 most_read mode.TheVariants.Check = Some 1048577
 most_read mode.TheVariants.List = Some 1048577
 most_read mode.TheVariants.Flat = Some 1048577
+most_read mode.TheVariants.Time = Some 1048577
+most_read mode.TheVariants.Prove = Some 1048577
 
 -- whether a mode runs the multicore machine, and so hands a run back
 abbrev pub makes_run : Mode → Bool
@@ -117,6 +133,8 @@ makes_run mode.TheVariants.Work = true
 makes_run mode.TheVariants.Check = false
 makes_run mode.TheVariants.List = false
 makes_run mode.TheVariants.Flat = false
+makes_run mode.TheVariants.Time = true
+makes_run mode.TheVariants.Prove = false
 
 -- ---- answers
 

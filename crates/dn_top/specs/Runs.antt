@@ -1,21 +1,28 @@
 -- A program's run on the multicore machine: what is promised of it, and how it is printed.
-use Rattle.std.specs.Prelude.{◌≡◌, ℕ, ◌<◌, ◌≤◌, List, [], length, sum, Option, Some}
+use Rattle.std.specs.Prelude.{◌≡◌, ℕ, ◌<◌, ◌≤◌, List, [], ◌++◌, length, map, sum, Option, Some}
 use Rattle.std.specs.Option.{option_map}
 use Rattle.dn_base.specs.declared.ids.Shape.{Shape}
 use Rattle.dn_base.specs.Status.{status_of}
 use Rattle.region_table.specs.Program.{ProgramParts, cores_of}
-use Rattle.region_table.specs.Plan.{ArePlans}
 use Rattle.rv_core.specs.declared.ending.Ending.{Ending}
 use Rattle.registration_protocol.specs.Node.{Setting}
 use Rattle.flat_machine.specs.declared.ending.FlatEnd.{FlatEnd}
 use Rattle.flat_machine.specs.Ending.{flat_end}
 use Rattle.machine_rules.specs.State.{opened}
 use Rattle.machine_rules.specs.Runs.{all_loads}
-use Rattle.dn_machine.specs.Plans.{AreInOneForm}
-use Rattle.dn_machine.specs.Run.{IsRunOf as IsSeedsRun}
+use Rattle.dn_machine.specs.Settings.{IsSettingOf}
+use Rattle.dn_machine.specs.Run.{IsRunOf as IsMachinesRun}
+use Rattle.dn_machine.specs.Schedule.{IsScheduled}
 use Rattle.dn_machine.specs.declared.record.RunRecord.{RunRecord}
-use Rattle.run_report.specs.Run.{report_of}
+use Rattle.message_net.specs.declared.event.EventKind as kind
+use Rattle.message_net.specs.declared.event.EventKind.{EventKind}
+use Rattle.run_report.specs.Run.{all_kinds, report_of}
 use Rattle.run_report.specs.Summary.{summary_of}
+use Rattle.run_timing.specs.declared.ticks.Ticks.{Ticks}
+use Rattle.run_timing.specs.declared.timing.Timing.{Timing}
+use Rattle.run_timing.specs.Ticks.{AreWithinLimits}
+use Rattle.run_timing.specs.Longest.{IsTimingOf}
+use Rattle.run_timing.specs.Text.{timing_of}
 use Rattle.command_words.specs.declared.options.Options.{Options}
 use Rattle.dn_top.specs.declared.output.Output.{Output}
 
@@ -25,15 +32,9 @@ use Rattle.dn_top.specs.declared.output.Output.{Output}
 abbrev pub shape_for : ProgramParts → Options → Shape
 shape_for P o = record { cores = cores_of P; banks = o.banks; sets = o.sets; ways = o.ways }
 
--- what the machine is told: the program, its plans, that shape, and the fuel of the options; a program and options have one
--- such setting
-pub record IsSettingFor (P : ProgramParts) (o : Options) (C : Setting) : Type 0 where
-  pub program : C.program ≡ P
-  pub plans : ArePlans P C.plans
-  -- each set of words of the plans is the one list of intervals that has its words
-  pub one_form : AreInOneForm C.plans
-  pub shape : C.shape ≡ shape_for P o
-  pub fuel : C.fuel ≡ o.fuel
+-- what the machine is told; a program and options have one such setting
+abbrev pub IsSettingFor : ProgramParts → Options → Setting → Type 0
+IsSettingFor P o C = IsSettingOf P (shape_for P o) o.fuel C
 
 -- ---- one thread on one memory
 
@@ -56,19 +57,24 @@ pub record IsWithoutGrants (P : ProgramParts) (fuel : ℕ) (r : RunRecord) : Typ
 
 -- ---- a run
 
--- r is the run of the program P on the machine that the options ask for
+-- r is a run of the program P on the machine that the options ask for
 pub record IsRunOf (P : ProgramParts) (o : Options) (r : RunRecord) : Type 0 where
   pub setting : Setting
   pub asked : IsSettingFor P o setting
-  -- its events are those of the seed: a complete run of the opened machine, at rest behind it, coherent after each of them, whose
-  -- loads are fronts of one thread's; and its grants, counts and ending are read off them
-  pub machine : IsSeedsRun (opened setting) o.seed r
+  -- its events are a complete run of the opened machine, at rest behind it, coherent after each of them, whose loads are fronts
+  -- of one thread's; and its grants, counts and ending are read off them
+  pub machine : IsMachinesRun (opened setting) r
   -- there is a count of each of the seventeen kinds of event
   pub each_kind : length r.counts.kinds ≡ 17
   -- one thread on one memory that takes the critical sections in the order of its grants loads the same and ends the same
   pub flat : HasFlatRun setting r
   -- without locks the program and the fuel alone decide how it ends
   pub lock_free : P.locks ≡ [] → IsWithoutGrants P o.fuel r
+
+-- it is the one of the options' seed, whose words picked its events
+pub record IsSeedsRun (P : ProgramParts) (o : Options) (r : RunRecord) : Type 0 where
+  pub run : IsRunOf P o r
+  pub scheduled : IsScheduled (opened run.setting) o.seed r.events
 
 -- ---- its output
 
@@ -86,8 +92,35 @@ summed_up r = summary_of r.ending
 -- the program was run: the output hands the run back, says it in these words, and has the status of its outcome
 pub record IsMachineRun (P : ProgramParts) (o : Options) (print : RunRecord → List ℕ) (out : Output) : Type 0 where
   pub run : RunRecord
-  pub is : IsRunOf P o run
+  pub is : IsSeedsRun P o run
   pub answer : out ≡ output_of_run (print run) run
+
+-- ---- its timing
+
+-- the ticks that options give to the kinds of event: those of a core's own, those that a bank handles, and all others
+abbrev pub ticks_of : Options → EventKind → ℕ
+ticks_of o kind.TheVariants.Instr = o.tick_core
+ticks_of o kind.TheVariants.Evict = o.tick_core
+ticks_of o kind.TheVariants.Arrive = o.tick_core
+ticks_of o kind.TheVariants.ReadReq = o.tick_bank
+ticks_of o kind.TheVariants.RegReq = o.tick_bank
+ticks_of o kind.TheVariants.WriteBack = o.tick_bank
+ticks_of o kind.TheVariants.Acquire = o.tick_bank
+ticks_of o kind.TheVariants.Release = o.tick_bank
+ticks_of o _ = o.tick_mail
+
+abbrev pub ticks_for : Options → Ticks
+ticks_for o = record { kinds = map (ticks_of o) all_kinds }
+
+-- the program was run and timed: the output hands the run back, sums it up, and then tells its longest chain of events
+pub record IsTimedRun (P : ProgramParts) (o : Options) (out : Output) : Type 0 where
+  pub run : RunRecord
+  pub is : IsSeedsRun P o run
+  -- an event of each kind takes 1 to 1,000,000 ticks
+  pub limits : AreWithinLimits (ticks_for o)
+  pub timing : Timing
+  pub times : IsTimingOf P (shape_for P o) o.fuel run.events (ticks_for o) timing
+  pub answer : out ≡ output_of_run (summed_up run ++ timing_of timing) run
 
 -- a run that has no more words, tasks and events than can be printed
 pub record IsPrintable (r : RunRecord) : Type 0 where

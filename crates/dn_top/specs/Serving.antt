@@ -93,7 +93,7 @@ most_asked words = option_and_then (λ (o : Options). most_read o.mode) (options
 pub record Serves (words : List (List ℕ)) (before after : Devices) (answer : Answer) : Type 0 where
   -- an outcome comes only where what the words ask for was done with the text, and all of the answer was written
   pub done : IsOutcome answer.status → ForText words before.source (λ o text. HasDone o before after text answer)
-  -- there a run is handed back exactly in the modes run and work, also where the source doesn't tell its text
+  -- there a run is handed back exactly in the modes that make one, also where the source doesn't tell its text
   pub handed_back : IsOutcome answer.status → IfSome (options_of words) (λ o. HandsBack o answer)
   -- with any other status no run is handed back
   pub no_run : ¬ IsOutcome answer.status → answer.run ≡ None

@@ -8,13 +8,14 @@ ghost use Rattle.run_report.specs.declared.refusal.Refusal.TheVariants.{Source a
 ghost use Rattle.run_report.specs.Refusal.{refusal_of};
 ghost use Rattle.run_report.specs.Summary.{checked_of as counts_of};
 ghost use Rattle.command_words.specs.Command.{IsWithinLimits};
-ghost use Rattle.dn_top.specs.Answers.{IsAnswer, IsFlatRun, IsListing, IsNoProgram, IsStop, IsUnfit, answered, done_in, refused_in};
+ghost use Rattle.dn_top.specs.Answers.{IsAnswer, IsFlatRun, IsListing, IsNoProgram, IsProof, IsStop, IsUnfit, answered, done_in, refused_in};
 
 use crate::output::{Output, ended};
-use crate::runs::{report_run, sum_up_run};
+use crate::runs::{report_run, sum_up_run, time_run_of};
 use command_words::{Mode, Options};
 use dn_base::{Memory, Outcome, Sequence, Status};
 use effect_checker::{Checked, check};
+use effect_prover::{prove, prove_text};
 use flat_machine::least_run;
 use region_table::Program;
 use run_report::{Refusal, answer_text, checked_line, grant_text, refusal_line};
@@ -104,6 +105,14 @@ fn list(alloc: Global, program: &Program) -> Result<Output, Memory>
     Ok(ended(Outcome::Done, listing(alloc, program)?))
 }
 
+/// Says whether any run of a program may reach outside its effects.
+fn prove_effects(alloc: Global, checked: &Checked) -> Result<Output, Memory>
+    ensures { IfOk result (IsProof checked.now) }
+{
+    let proved = prove(alloc, checked)?;
+    Ok(ended(Outcome::Done, prove_text(alloc, &proved)?))
+}
+
 /// What each mode does with a text.
 fn done_by(alloc: Global, options: &Options, text: &[u8]) -> Result<Output, Stop>
     requires { IsWithinLimits options.now }
@@ -116,6 +125,11 @@ fn done_by(alloc: Global, options: &Options, text: &[u8]) -> Result<Output, Stop
         Mode::Check => Ok(count(alloc, checked_of(alloc, text)?.program())?),
         Mode::List => Ok(list(alloc, &program_of(alloc, text)?)?),
         Mode::Flat => Ok(run_flat(alloc, options.fuel, &checked_of(alloc, text)?)?),
+        Mode::Time => {
+            let again = checked_of(alloc, text)?;
+            Ok(time_run_of(alloc, options, checked_of(alloc, text)?, again)?)
+        }
+        Mode::Prove => Ok(prove_effects(alloc, &checked_of(alloc, text)?)?),
     }
 }
 

@@ -9,7 +9,7 @@ ghost use Rattle.command_words.specs.declared.options.Options.{Options};
 ghost use Rattle.dn_top.specs.declared.output.Output.{Output};
 ghost use Rattle.dn_top.specs.Answers.{IsAnswer};
 ghost use Rattle.dn_top.specs.Laws.{Call, GaveOneOutput, IsAnswered, IsCaused};
-ghost use Rattle.dn_top.specs.Runs.{IsRunOf};
+ghost use Rattle.dn_top.specs.Runs.{IsRunOf, IsSeedsRun};
 
 /// A run that is out of fuel or stuck is so because of its tasks.
 pub fn an_outcome_has_its_cause()
@@ -26,7 +26,7 @@ pub fn without_locks_every_run_ends_alike()
 /// counts and its ending; a text and options have one answer, with its bytes, its status and its run; and two calls with the same
 /// options about one text, each of which ends with the exit code of an outcome or of a refusal, write and hand back the same.
 pub fn the_output_is_a_function_of_source_and_options()
-    ensures run { (P : ProgramParts) (o : Options) (r s : RunRecord) → IsRunOf P o r → IsRunOf P o s → r ≡ s }
+    ensures run { (P : ProgramParts) (o : Options) (r s : RunRecord) → IsSeedsRun P o r → IsSeedsRun P o s → r ≡ s }
     ensures answer { (o : Options) (text : List ℕ) (out other : Output) → IsAnswer o text out → IsAnswer o text other → out ≡ other }
     ensures call { (o : Options) (text : List ℕ) (c d : Call) → IsAnswered o text c → IsAnswered o text d → GaveOneOutput c d }
 {}

@@ -33,9 +33,10 @@ use serving::{answer_options, refuse_words, status_only};
 ///
 /// `Usage` where the words aren't the command's. In the mode work the text is the generated one of the size that is asked
 /// for; in the others the source is read whole, or one byte past the most that a text may have. The text is taken as a
-/// program, which is checked in all modes but list. In the modes run and work it is run on the multicore machine of the shape
-/// that is asked for, by the events that the seed picks, and the run is handed back; in the mode flat it is run on one flat
-/// memory by the least list of grants. The whole answer is made, and only then written and flushed. What refuses first decides.
+/// program, which is checked in all modes but list. In the modes run, work and time it is run on the multicore machine of the
+/// shape that is asked for, by the events that the seed picks, and the run is handed back; in the mode flat it is run on one flat
+/// memory by the least list of grants; in the mode prove its effects are proved from the text alone. The whole answer is made, and
+/// only then written and flushed. What refuses first decides.
 pub fn answer_words<S: Source, K: Sink>(
     alloc: Global,
     words: &[String],

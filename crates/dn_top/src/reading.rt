@@ -49,6 +49,8 @@ fn most_of(mode: Mode) -> Option<usize>
         Mode::Check => Some(MOST_BYTES + 1),
         Mode::List => Some(MOST_BYTES + 1),
         Mode::Flat => Some(MOST_BYTES + 1),
+        Mode::Time => Some(MOST_BYTES + 1),
+        Mode::Prove => Some(MOST_BYTES + 1),
     }
 }
 

@@ -1,6 +1,8 @@
-ghost use Rattle.std.specs.Prelude.{◌≡◌, length, IfOk};
+ghost use Rattle.std.specs.Prelude.{◌≡◌, ◌≤◌, ◌++◌, length, IfOk};
 ghost use Rattle.command_words.specs.Command.{IsWithinLimits};
-ghost use Rattle.dn_top.specs.Runs.{IsMachineRun, IsPrintable, IsRunOf, output_of_run, reported, shape_for, summed_up};
+ghost use Rattle.run_report.specs.Summary.{summary_of};
+ghost use Rattle.run_timing.specs.Text.{timing_of};
+ghost use Rattle.dn_top.specs.Runs.{IsMachineRun, IsPrintable, IsSeedsRun, IsTimedRun, output_of_run, reported, shape_for, summed_up, ticks_for};
 
 use crate::output::Output;
 use command_words::Options;
@@ -10,6 +12,8 @@ use effect_checker::Checked;
 use grant_log::Counts;
 use region_table::Program;
 use run_report::{report, summary};
+use run_timing::{Ticks, Timing, time_run, time_text};
+use rv_core::Ending;
 use std::alloc::Global;
 
 /// The shape that the options ask for: as many cores as the program needs, and their banks, sets and ways.
@@ -34,7 +38,7 @@ fn has_each_kind(counts: &Counts)
 /// Runs a checked program on the machine that the options ask for, by their seed.
 fn machine_run(alloc: Global, options: &Options, checked: Checked) -> Result<RunRecord, Memory>
     requires { IsWithinLimits options.now }
-    ensures run { IfOk result (IsRunOf checked options.now) }
+    ensures run { IfOk result (IsSeedsRun checked options.now) }
     ensures printable { IfOk result IsPrintable }
 {
     let shape = shape_of(options, checked.program());
@@ -82,5 +86,57 @@ pub(crate) fn sum_up_run(
 {
     let run = machine_run(alloc, options, checked)?;
     let text = summary(alloc, &run.ending)?;
+    Ok(handed_back(text, run))
+}
+
+/// The ticks that the options give to each kind of event.
+#[tactic(auto, unfolding(run_report::specs::Run::all_kinds))]
+fn ticks_of(options: &Options) -> Ticks
+    ensures value { result ≡ ticks_for options.now }
+{
+    let (core, bank, mail) = (options.tick_core, options.tick_bank, options.tick_mail);
+    Ticks {
+        kinds: [
+            core, core, core, bank, mail, mail, bank, mail, mail, bank, mail, bank, bank, mail,
+            mail, mail, mail,
+        ],
+    }
+}
+
+/// Sums up how a run ended, and then tells its timing.
+fn timed_text(alloc: Global, ending: &Ending, timing: &Timing) -> Result<Vec<u8>, Memory>
+    requires words { length ending.now.memory ≤ 65536 }
+    requires tasks { length ending.now.tasks ≤ 64 }
+    ensures { IfOk result (λ text. text.items ≡ summary_of ending.now ++ timing_of timing.now) }
+{
+    let mut text = summary(alloc, ending)?;
+    text.extend_from_slice(time_text(alloc, timing)?.as_slice())?;
+    Ok(text)
+}
+
+/// Runs a program on the machine, sums up, and tells the longest chain of the run's events. The program is handed in twice, as
+/// the run and the timing use up one each.
+pub(crate) fn time_run_of(
+    alloc: Global,
+    options: &Options,
+    checked: Checked,
+    again: Checked,
+) -> Result<Output, Memory>
+    requires limits { IsWithinLimits options.now }
+    requires same { again ≡ checked }
+    ensures { IfOk result (IsTimedRun checked options.now) }
+{
+    let shape = shape_of(options, again.program());
+    let run = machine_run(alloc, options, checked)?;
+    let events = run.events.as_slice();
+    let timing = time_run(
+        alloc,
+        again,
+        shape,
+        options.fuel,
+        events,
+        &ticks_of(options),
+    )?;
+    let text = timed_text(alloc, &run.ending, &timing)?;
     Ok(handed_back(text, run))
 }

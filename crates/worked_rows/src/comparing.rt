@@ -5,7 +5,7 @@ ghost use Rattle.worked_rows.specs.Compared.{load_of};
 use crate::case::Case;
 use crate::opening::{open, options_of, program};
 use crate::playing::make;
-use crate::trouble::Trouble;
+use crate::trouble::{BadForm, Trouble};
 use command_words::{Mode, Options};
 use dn_base::{CoreId, LoadSeen, Memory, PhaseId};
 use dn_machine::{Machine, RunRecord};
@@ -46,13 +46,15 @@ struct Replay {
 }
 
 impl Replay {
-    /// Makes an event, which may come.
+    /// Makes an event.
+    ///
+    /// # Errors
+    /// `NotNow` where it may not come.
     fn come(&mut self, event: Event) -> Result<(), Trouble> {
-        let actor = if self.machine.enabled(&event) {
-            self.machine.actor(&event)
-        } else {
-            Actor::Keeper
-        };
+        if !self.machine.enabled(&event) {
+            return Err(Trouble::Form(BadForm::NotNow));
+        }
+        let actor = self.machine.actor(&event);
         let stepped = make(&mut self.machine, event)?;
         match actor {
             Actor::Core(core) => self.note(core, stepped),

@@ -24,4 +24,4 @@ returns-clause-printable c =
     let at = at_shape c.args.checked c.program.result.now c.args.options.now c.shape_of-shape.result m c.in_ok-machine.ensures c.shape_of-shape.ensures c.program.ensures.value in
     let told = c.in_ok-run.ensures in
     let few : length c.in_ok-run.run'.events < 18446744073709551616 = omega (arith, c.len-events.type_inv, c.len-events.ensures) in
-    is-printable c.args.checked c.args.options.now m c.in_ok-run.run' at c.a_machine_is_kept.ensures told.is_true told.flat c.has_each_kind.ensures few
+    is-printable c.args.checked c.args.options.now m c.in_ok-run.run' at c.a_machine_is_kept.ensures told.run.is_true told.run.flat c.has_each_kind.ensures few
