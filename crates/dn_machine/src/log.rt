@@ -1,4 +1,4 @@
-ghost use Rattle.std.specs.Prelude.{◌≡◌, ◌+◌, ◌*◌, ◌<◌, ◌≤◌, ◌++◌, length, slice_get, OnOk, IfOk};
+ghost use Rattle.std.specs.Prelude.{◌≡◌, ◌+◌, ◌*◌, ◌<◌, ◌≤◌, ◌++◌, length, slice_get, Some, OnOk, IfOk};
 ghost use Rattle.std.specs.List.{filter_map};
 ghost use Rattle.grant_log.specs.Counts.{count_of};
 ghost use Rattle.dn_machine.specs.Ends.{no_ends, with_end, end_in, place_of, noted_ends};
@@ -87,8 +87,15 @@ impl Log {
         Ok(())
     }
 
+    /// Notes how a task stands, in its place.
+    pub fn note_end(&mut self, end: TaskEnd)
+        ensures { self.new ≡ record self.old { ends = with_end (Some end) self.old.ends } }
+    {
+        note_end(&mut self.ends, Some(end));
+    }
+
     /// The record of the run, with its ending.
-    pub(crate) fn record(self, ending: Ending) -> RunRecord
+    pub fn record(self, ending: Ending) -> RunRecord
         ensures { result ≡ record { events = self.events; grants = self.grants; counts = self.counts; ending = ending } }
     {
         RunRecord {
