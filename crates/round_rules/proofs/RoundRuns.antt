@@ -245,7 +245,7 @@ module _ (C : Setting) (S T : State) (r : Round) (reached : IsReached C S) (join
   tells : AreTold C S r (map step_done steps)
   tells = record {
     notes = sym (noted steps) ∙ woven.notes;
-    cores = λ core below. filter-map (done_by (Core core)) step_done steps ∙ (ap (map step_done) (woven.each (Core core)) ∙ (part (Core core)).told (grind (arith, nat_tests, below)));
+    parts = λ a within. filter-map (done_by a) step_done steps ∙ (ap (map step_done) (woven.each a) ∙ (part a).told within);
     ends = filter_map-map end_in step_done steps ∙ subst (λ es. filter_map step_end steps ≡ read_off end_told S es) events comes.told;
   }
 

@@ -178,11 +178,10 @@ end_in d = d.end
 abbrev pub done_by : Actor → Done → Bool
 done_by a d = of_actor a d.stamped
 
--- what is told of the events in their order: each core's part is what its worker saw of it
+-- what is told of the events in their order: each actor's part is what its worker saw of it
 pub record AreTold (C : Setting) (S : State) (r : Round) (told : List Done) : Type 0 where
   pub notes : map note_of told ≡ r.merged
-  pub cores : (core : CoreId) → core.0 < C.shape.cores
-      → filter (done_by (Core core)) told ≡ events_by C.shape (Core core) (r.work (owner r.workers (Core core)))
+  pub parts : (a : Actor) → IsIn C a → filter (done_by a) told ≡ events_by C.shape a (r.work (owner r.workers a))
   pub ends : filter_map end_in told ≡ read_off end_told S (events_of r.merged)
 
 -- The round is a run of the machine. Its events may come one after the other from S on, and lead to T but for the order of
