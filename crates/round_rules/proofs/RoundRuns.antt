@@ -5,13 +5,11 @@ use Rattle.std.specs.List.{range_with_len}
 use Rattle.std.proofs.lemmas.List.Sorted.{sum_by-IsPermutation}
 use Rattle.std.proofs.lemmas.List.Elements.{All-nil, All-cons, All-map}
 use Rattle.message_net.specs.declared.actor.Actor.{Actor}
-use Rattle.message_net.specs.declared.actor.Actor.TheVariants.{Core}
 use Rattle.message_net.specs.declared.event.Event.{Event}
 use Rattle.message_net.specs.declared.message.Mail.{Mail}
 use Rattle.message_net.specs.Id.{same_actor}
 use Rattle.message_net.specs.Mail.{has_actor}
 use Rattle.message_net.proofs.PoolLemmas.{same_actor-true, same_actor-refl}
-use Rattle.std.proofs.lemmas.Bool.Decides.{nat_tests}
 use Rattle.grant_log.specs.declared.log.Stamped.{Stamped}
 use Rattle.grant_log.specs.Log.{grants_in}
 use Rattle.registration_protocol.specs.Node.{Setting}
