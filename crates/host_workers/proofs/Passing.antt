@@ -24,7 +24,7 @@ more-both xs ys (Some a) None c one two = absurd one
 more-both xs ys None None (Some c) one two = absurd two
 more-both xs ys (Some a) (Some b) None one two = absurd two
 
-more-same : (xs : List Stamped) (a b : Option (List Stamped)) → HasMore xs a b → is_some b ≡ is_some a
+pub more-same : (xs : List Stamped) (a b : Option (List Stamped)) → HasMore xs a b → is_some b ≡ is_some a
 more-same xs None None one = refl
 more-same xs (Some a) (Some b) one = refl
 more-same xs None (Some b) one = absurd one
@@ -49,7 +49,7 @@ module _ {X : Type 0} where
   none-some x e = subst is_none e tt
 
 -- where the values of two lists are the same, each place of one is a place of the other
-stands-too : {A B : Type 0} (f : A → B) (xs ys : List A) → map f ys ≡ map f xs → (i : ℕ) (x : A) → slice_get xs i ≡ Some x → (y : A) × (slice_get ys i ≡ Some y) × (f y ≡ f x)
+pub stands-too : {A B : Type 0} (f : A → B) (xs ys : List A) → map f ys ≡ map f xs → (i : ℕ) (x : A) → slice_get xs i ≡ Some x → (y : A) × (slice_get ys i ≡ Some y) × (f y ≡ f x)
 stands-too {A} f xs ys same i x at = by (slice_get ys i) refl (sym (slice_get-map f ys i) ∙ (ap (λ l. slice_get l i) same ∙ (slice_get-map f xs i ∙ ap (option_map f) at))) where
   by : (o : Option A) → slice_get ys i ≡ o → option_map f o ≡ Some (f x) → (y : A) × (slice_get ys i ≡ Some y) × (f y ≡ f x)
   by None e is = absurd (none-some (f x) is)

@@ -2,3 +2,10 @@ pub mod Crews
 pub mod Deeds
 pub mod Work
 pub mod Pass
+pub mod Rosters
+pub mod Inboxes
+pub mod Ends
+pub mod Opening
+pub mod Finishing
+pub mod MadeRounds
+pub mod RoundOf

@@ -1,8 +1,9 @@
-ghost use Rattle.std.specs.Prelude.{IfOk};
+ghost use Rattle.std.specs.Prelude.{◌≡◌, map, All, IfOk, Ok};
 ghost use Rattle.registration_protocol.specs.Setting.{setting};
 ghost use Rattle.host_workers.specs.Crews.{IsCrew};
 ghost use Rattle.host_workers.specs.Pass.{HasWorkedOn};
 ghost use Rattle.host_workers.specs.Work.{MayAct, IsStill};
+ghost use Rattle.host_workers.specs.Finishing.{IsReadyJob, HasDoneJob, HaveDoneJobs};
 
 use crate::crew::Crew;
 use crate::pass::worker_pass;
@@ -10,8 +11,9 @@ use bank_hall::{Hall, Pass};
 use dn_base::{Gate, Memory};
 use rand_pcg::Pcg32;
 use registration_protocol::Context;
+use std::alloc::Global;
 use std::sync::Wait;
-use std::thread;
+use std::thread::{self, Threads};
 
 /// The most passes of a worker in a round.
 const MOST_PASSES: u32 = 4_096;
@@ -62,4 +64,44 @@ pub(crate) fn work<R: Wait, G: Gate>(
         }
     }
     Ok(Job { pass, crew, draws })
+}
+
+/// The jobs that all workers have done, where none had no room.
+///
+/// # Errors
+/// `Memory` where a worker had no room, or there is none for the list.
+fn all_done(alloc: Global, mut dones: Vec<Result<Job, Memory>>) -> Result<Vec<Job>, Memory>
+    ensures { IfOk result (λ jobs. dones.items ≡ map Ok jobs.items) }
+{
+    let mut jobs = Vec::new(alloc);
+    while let Some(done) = dones.pop() {
+        jobs.insert(0, done?)?;
+    }
+    Ok(jobs)
+}
+
+/// The passes of all workers in a round, each on a thread of its own where one can be made.
+///
+/// # Errors
+/// `Memory` where there is no room for what a worker notes or sends; all workers have ended their round by then.
+pub(crate) fn work_all<R: Threads + Wait + Sync, G: Gate + Sync>(
+    rt: &R,
+    alloc: Global,
+    hall: &Hall,
+    context: &Context<'_>,
+    jobs: Vec<Job>,
+    gate: &G,
+) -> Result<Vec<Job>, Memory>
+    requires { All (IsReadyJob (setting context.now) hall.now) jobs.items }
+    ensures { IfOk result (λ dones. HaveDoneJobs (setting context.now) hall.now jobs.items dones.items) }
+{
+    let dones = thread::map_vec(
+        rt,
+        jobs,
+        &|job: Job| -> Result<Job, Memory>
+            requires { IsReadyJob (setting context.now) hall.now job }
+            ensures { IfOk result (HasDoneJob (setting context.entry.now) hall.entry.now job) }
+        { work(rt, hall, context, job, gate) },
+    )?;
+    all_done(alloc, dones)
 }

@@ -348,3 +348,9 @@ mail-handled S p place h here = by_actor p.mail.to refl where
 pub handle-moves : (C : Setting) (S : State) (p : Posted) (place : ℕ) → IsReached C S → slice_get S.mails place ≡ Some p.mail → Moves C S p.mail.to (Handles p)
 handle-moves C S p place reached here =
     subst (λ (D : Setting). Moves D S p.mail.to (Handles p)) (reached-setting C S reached) (mail-handled S p place (holds C S reached) here)
+
+-- every mail in flight goes to an actor of the machine
+pub reached-inside : (C : Setting) (S : State) → IsReached C S → All (λ (m : Mail). IsIn C m.to) S.mails
+reached-inside C S reached =
+    let h = holds C S reached in
+    subst (λ (D : Setting). All (λ (m : Mail). IsIn D m.to) S.mails) (reached-setting C S reached) (all-inside S.setting S.mails h.inv.machine.context.some_banks h.inv.addressed)

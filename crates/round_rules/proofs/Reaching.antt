@@ -49,7 +49,7 @@ reached-few C S es reached run =
     let whole : IsRun (opened C) (reached.before ++ es) = run-append (opened C) reached.before es reached.run (subst (λ (U : State). IsRun U es) reached.leads run) in
     omega (arith, run-ends C (reached.before ++ es) reached.ready whole, length-append reached.before es)
 
-most-rounds : (S : State) → IsMachine S → S.keeper.phase ≤ length S.setting.program.phases → rounds S ≤ 65
+pub most-rounds : (S : State) → IsMachine S → S.keeper.phase ≤ length S.setting.program.phases → rounds S ≤ 65
 most-rounds S machine within = by_all (all_arrived S.keeper) where
   by_all : (b : Bool) → S.keeper.phase + bit b ≤ 65
   by_all true = omega (arith, within, machine.program.phases)

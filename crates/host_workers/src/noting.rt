@@ -1,0 +1,58 @@
+//! How the log of a run notes a round, and how the tasks stand in the last state.
+ghost use Rattle.std.specs.Prelude.{◌≡◌, ◌+◌, ◌≤◌, List, length, OnOk};
+ghost use Rattle.message_net.specs.declared.event.EventKind.{EventKind};
+ghost use Rattle.host_workers.specs.Ends.{with_ends, last_ends};
+ghost use Rattle.host_workers.specs.RoundOf.{IsTallied, HasNoted};
+
+use dn_base::{CoreId, Memory};
+use dn_machine::{Happened, Log, Machine, Stepped};
+use grant_log::Stamped;
+use rv_core::TaskEnd;
+
+/// How many cores a machine has at the most.
+const MOST_CORES: u32 = 16;
+
+/// Notes the events of a round.
+///
+/// # Errors
+/// `Memory` where there is no room; the log is then of no more use.
+pub(crate) fn note_events(log: &mut Log, merged: &[Stamped]) -> Result<(), Memory>
+    requires counted { (kinds : List EventKind) × IsTallied kinds log.old }
+    requires few { length log.old.events + length merged.now ≤ 25169664 }
+    ensures { OnOk result (HasNoted merged.now log.old log.new) }
+{
+    for entry in merged {
+        let told = Stepped {
+            kind: entry.kind,
+            seen: None,
+            granted: entry.granted,
+        };
+        log.note(Happened {
+            event: entry.event,
+            told,
+            end: None,
+        })?;
+    }
+    Ok(())
+}
+
+/// Notes the ends of the tasks that arrived in a round.
+pub(crate) fn note_ends(log: &mut Log, ends: &[TaskEnd])
+    ensures { log.new ≡ record log.old { ends = with_ends ends.now log.old.ends } }
+{
+    for end in ends {
+        log.note_end(*end);
+    }
+}
+
+/// Notes how the tasks stand in a machine's state.
+pub(crate) fn note_last(log: &mut Log, machine: &Machine)
+    requires { length machine.now.state.nodes ≤ 16 }
+    ensures { log.new ≡ record log.old { ends = with_ends (last_ends machine.now.state) log.old.ends } }
+{
+    for core in 0..MOST_CORES {
+        if let Some(end) = machine.task_end(CoreId(core)) {
+            log.note_end(end);
+        }
+    }
+}

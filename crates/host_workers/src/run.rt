@@ -1,0 +1,94 @@
+//! A whole run of a machine by workers, in rounds.
+ghost use Rattle.std.specs.Prelude.{◌≡◌, ◌≢◌, ◌<◌, ◌≤◌, true, length, None, IfOk};
+ghost use Rattle.message_net.specs.declared.event.Event.{Event as EventOf};
+ghost use Rattle.machine_rules.specs.State.{opened};
+ghost use Rattle.machine_rules.specs.Next.{enabled};
+ghost use Rattle.machine_rules.specs.Runs.{IsOver};
+ghost use Rattle.dn_machine.specs.Run.{IsRunOf};
+ghost use Rattle.host_workers.specs.RoundOf.{IsRunSoFar};
+
+use crate::noting::{note_ends, note_events, note_last};
+use crate::round::{Round, run_round};
+use dn_base::{Gate, Memory};
+use dn_machine::{Log, Machine, RunRecord, a_machine_is_kept};
+use std::alloc::Global;
+use std::sync::Wait;
+use std::thread::Threads;
+
+/// Makes one round more, and notes it.
+///
+/// # Errors
+/// `Memory` where there is no room; the log is then of no more use.
+fn go_on<R: Threads + Wait + Sync, G: Gate + Sync>(
+    rt: &R,
+    alloc: Global,
+    machine: Machine,
+    workers: u32,
+    seed: u32,
+    gate: &G,
+    log: &mut Log,
+) -> Result<Machine, Memory>
+    requires some { 1 ≤ workers }
+    requires few { workers ≤ 16 }
+    requires far { IsRunSoFar machine.state.setting machine log.old }
+    requires comes { (e : EventOf) × (enabled machine.state e ≡ true) }
+    ensures far { IfOk result (λ m. IsRunSoFar machine.state.setting m log.new) }
+    ensures more { IfOk result (λ m. length log.old.events < length log.new.events) }
+    ensures setting { IfOk result (λ m. m.state.setting ≡ machine.state.setting) }
+{
+    let Round {
+        machine: left,
+        merged,
+        ends,
+        banks: _,
+        ports: _,
+        keeper: _,
+    } = run_round(rt, alloc, machine, workers, seed, gate)?;
+    note_events(log, merged.as_slice())?;
+    note_ends(log, ends.as_slice());
+    Ok(left)
+}
+
+/// The record of the run whose rounds a log tells, by the machine after it.
+///
+/// # Errors
+/// `Memory` where there is no room for the record.
+fn recorded(alloc: Global, machine: Machine, mut log: Log) -> Result<RunRecord, Memory>
+    requires far { IsRunSoFar machine.state.setting machine log }
+    requires over { IsOver machine.state }
+    ensures { IfOk result (IsRunOf (opened machine.state.setting)) }
+{
+    a_machine_is_kept(&machine);
+    note_last(&mut log, &machine);
+    let ending = machine.ending(alloc, &log)?;
+    Ok(log.record(ending))
+}
+
+/// The whole run of a machine by 1 to 16 workers, in rounds: where an event may come after a round, there is another one, with a
+/// seed that is 1 higher modulo 2^32. The machine is one as a run begins.
+///
+/// # Errors
+/// `Memory` where there is no room.
+pub fn run_workers<R: Threads + Wait + Sync, G: Gate + Sync>(
+    rt: &R,
+    alloc: Global,
+    machine: Machine,
+    workers: u32,
+    seed: u32,
+    gate: &G,
+) -> Result<RunRecord, Memory>
+    requires some { 1 ≤ workers }
+    requires few { workers ≤ 16 }
+    requires made { machine.made ≡ 0 }
+    ensures { IfOk result (IsRunOf machine.state) }
+{
+    a_machine_is_kept(&machine);
+    let mut log = machine.log(alloc)?;
+    let mut current = machine;
+    let mut next_seed = seed;
+    'rounds: while let Some(_event) = current.pick(0) {
+        current = go_on(rt, alloc, current, workers, next_seed, gate, &mut log)?;
+        next_seed = next_seed.wrapping_add(1);
+    }
+    recorded(alloc, current, log)
+}
