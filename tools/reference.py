@@ -1296,22 +1296,62 @@ def document(text, o, events):
     return head + [line(event) for event in events]
 
 
-def replayed(document_text):
-    """The exit code and the lines of the replay of a document that is whole."""
-    lines = document_text.split("\n")
-    sizes = [int(word) for word in lines[1].split()[1::2]]
-    start = len("\n".join(lines[:3])) + 1
-    length = int(lines[2].split()[1])
-    text, rest = document_text[start:start + length], document_text[start + length + 1:].split("\n")
-    machine = Machine(assemble(text), *sizes)
-    for number, line in enumerate(rest[1:-1]):
-        words = line.split()
-        name = {"i": "instr", "e": "evict", "a": "arrive", "h": "handle"}[words[0]]
-        if name == "handle":
-            actor = "keeper" if words[1] == "k" else ({"c": "core", "b": "bank"}[words[1]], int(words[2]))
-            event = name, actor, int(words[-1])
-        else:
-            event = (name,) + tuple(int(word) for word in words[1:])
+NUMBER = rb"(0|[1-9][0-9]*)"
+HEAD = re.compile(rb"denovo-trace 1\nbanks N sets N ways N fuel N\nsource N\n".replace(b"N", NUMBER))
+COUNT = re.compile(rb"\nevents N\n".replace(b"N", NUMBER))
+EVENT = re.compile(rb"(i|a) N\n|(e) N N\n|h (c|b) N N\n|h (k) N\n".replace(b"N", NUMBER))
+
+
+def told_event(data, at):
+    """The event whose line begins there, and where the next line begins; or None."""
+    found = EVENT.match(data, at)
+    if not found:
+        return None
+    parts = [part.decode() for part in found.groups() if part is not None]
+    kind, numbers = parts[0], [int(part) for part in parts[1:]]
+    most = {"i": [15], "a": [15], "e": [15, 65535], "c": [15, 2 ** 32 - 1], "b": [15, 2 ** 32 - 1], "k": [2 ** 32 - 1]}[kind]
+    if any(number > limit for number, limit in zip(numbers, most)):
+        return None
+    if kind in "iae":
+        event = ({"i": "instr", "a": "arrive", "e": "evict"}[kind],) + tuple(numbers)
+    else:
+        event = "handle", "keeper" if kind == "k" else ({"c": "core", "b": "bank"}[kind], numbers[0]), numbers[-1]
+    return event, found.end()
+
+
+def read_document(data):
+    """What a document tells: the sizes, the text and the events; or, as a string, what is wrong with the bytes."""
+    if len(data) > 536870912:
+        return "too-large"
+    head = HEAD.match(data)
+    if not head:
+        return "head"
+    *sizes, length = (int(group) for group in head.groups())
+    limits = [(1, 16), (1, 256), (1, 16), (1, 32768)]
+    if length > 1048576 or any(not low <= size <= high for size, (low, high) in zip(sizes, limits)):
+        return "head"
+    text = data[head.end():head.end() + length]
+    count = COUNT.match(data, head.end() + length)
+    if not count or int(count.group(1)) > 25169664:
+        return "head"
+    events, at = [], count.end()
+    for number in range(int(count.group(1))):
+        told = told_event(data, at)
+        if told is None:
+            return "event %d" % number
+        events.append(told[0])
+        at = told[1]
+    return "rest" if at < len(data) else (sizes, text, events)
+
+
+def replayed(data):
+    """The exit code and the lines of the mode replay for these bytes; a text that they tell assembles and checks."""
+    told = read_document(data)
+    if isinstance(told, str):
+        return 2, ["refused trace " + told]
+    sizes, text, events = told
+    machine = Machine(assemble(text.decode("utf-8", "replace")), *sizes)
+    for number, event in enumerate(events):
         if not machine.enabled(event):
             return 2, ["refused trace not-enabled %d" % number]
         machine.step(event)
@@ -1390,7 +1430,7 @@ def answer(words, text):
     if o["mode"] == "work":
         text = work_text(o["size"])
     if o["mode"] == "replay":
-        return replayed(text)
+        return replayed(text.encode())
     program = assemble(text)
     if o["mode"] == "prove":
         return 0, proved(program)
@@ -1552,8 +1592,8 @@ def run_cases(folder, only=None):
                     continue
                 text = case.get("text", [b""])[0].decode("utf-8", "replace")
                 words = case.get("words", "").split()
-                if case["exit"] not in ("0", "3", "4", "5", "7") or "check" in words or "list" in words \
-                        or case["output"][0].startswith(b"refus"):
+                refused = case["exit"] not in ("0", "3", "4", "5", "7") or case["output"][0].startswith(b"refus")
+                if "check" in words or "list" in words or refused and not case["output"][0].startswith(b"refused trace "):
                     left += 1
                     continue
                 reached_rows.clear()
@@ -1564,7 +1604,7 @@ def run_cases(folder, only=None):
                         agree_with_flat(machine)
                         status, out = STATUS[outcome(machine.ending()[0])], run_text(machine)
                     else:
-                        status, out = answer(words, text)
+                        status, out = replayed(case["text"][0]) if "replay" in words else answer(words, text)
                 except Exception as why:
                     print("%s (%s): not run, %s: %s" % (title, row, type(why).__name__, why))
                     differ += 1

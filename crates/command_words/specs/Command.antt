@@ -56,6 +56,8 @@ mode_named text =
     else if bytes_eq text (codes "check") then Some mode.TheVariants.Check
     else if bytes_eq text (codes "list") then Some mode.TheVariants.List
     else if bytes_eq text (codes "flat") then Some mode.TheVariants.Flat
+    else if bytes_eq text (codes "trace") then Some mode.TheVariants.Trace
+    else if bytes_eq text (codes "replay") then Some mode.TheVariants.Replay
     else if bytes_eq text (codes "time") then Some mode.TheVariants.Time
     else if bytes_eq text (codes "prove") then Some mode.TheVariants.Prove
     else None
@@ -67,7 +69,7 @@ mode_in rows = option_and_then mode_named (first_of (codes "mode") rows)
 abbrev pub number_in : List Row → Text → ℕ → ℕ → Option ℕ
 number_in rows name low high = option_and_then (if_within low high) (option_and_then number_in_text (one_of name rows))
 
--- the options that the command's values give, where the mode is one of the seven and each number is in its range
+-- the options that the command's values give, where the mode is one of the nine and each number is in its range
 unfoldable pub options_from : List Row → Option Options
 options_from rows =
     option_and_then (λ (mode : Mode).

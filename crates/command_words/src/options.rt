@@ -16,6 +16,10 @@ pub enum Mode {
     List,
     /// Runs the program of the text on one flat memory, and prints its answer and the grants of locks.
     Flat,
+    /// Runs the program of the text on the cores, and prints the document of the run: the text, the machine's size and the events.
+    Trace,
+    /// Takes the text as the document of a run, makes its events once more, and prints the answer and the run's record.
+    Replay,
     /// Runs the program of the text on the cores, and prints a summary and the longest chain of dependent events.
     Time,
     /// Says whether any run of the program of the text may reach outside its declared effects.

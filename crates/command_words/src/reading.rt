@@ -20,6 +20,8 @@ fn named(text: &str) -> Option<Mode>
         "check" => Some(Mode::Check),
         "list" => Some(Mode::List),
         "flat" => Some(Mode::Flat),
+        "trace" => Some(Mode::Trace),
+        "replay" => Some(Mode::Replay),
         "time" => Some(Mode::Time),
         "prove" => Some(Mode::Prove),
         _ => None,
@@ -61,7 +63,7 @@ fn number(matches: &ArgMatches<'_>, name: &str, low: u32, high: u32) -> Option<u
     }
 }
 
-/// The options that the values give, where the mode is one of the seven and each number is in its range.
+/// The options that the values give, where the mode is one of the nine and each number is in its range.
 #[tactic(auto, unfolding(crate::specs::Command::options_from))]
 fn options(matches: &ArgMatches<'_>) -> Option<Options>
     ensures value { result ≡ options_from (rows_of (found_of matches.now)) }

@@ -47,3 +47,29 @@ fn each_option_has_one_value(rt: HostRuntime) -> Result<(), Fail> {
     assert_eq!(rt; read(rt.alloc(), &["x"])?, Err(WordsFault::Usage));
     Ok(())
 }
+
+#[test]
+fn each_mode_has_a_name(rt: HostRuntime) -> Result<(), Fail> {
+    let modes = [
+        ("run", Mode::Run),
+        ("work", Mode::Work),
+        ("check", Mode::Check),
+        ("list", Mode::List),
+        ("flat", Mode::Flat),
+        ("trace", Mode::Trace),
+        ("replay", Mode::Replay),
+        ("time", Mode::Time),
+        ("prove", Mode::Prove),
+    ];
+    for (name, mode) in modes {
+        assert_eq!(rt;
+            read(rt.alloc(), &["--mode", name])?,
+            Ok(Options { mode, ..DEFAULTS })
+        );
+    }
+    assert_eq!(rt;
+        read(rt.alloc(), &["--mode", "walk"])?,
+        Err(WordsFault::Usage)
+    );
+    Ok(())
+}

@@ -140,10 +140,10 @@ module _ (o : Options) (before after : Devices) (answer : Answer) where
       let w = written o before.sink after.sink served.text answer served.reply (outcome-other answer.status is) in
       let there : IsOutcome w.out.status = (is.0, sym w.ends ∙ is.1) in
       let done = answer-done o served.text w.out w.is there in
-      let run : IfSome w.out.run (IsRunWith o answer.status) = subst (λ (s : Status). IfSome w.out.run (IsRunWith o s)) (sym w.ends) (done-run o.mode o served.text w.out done) in
+      let run : IfSome w.out.run (IsRunWith o.mode o answer.status) = subst (λ (s : Status). IfSome w.out.run (IsRunWith o.mode o s)) (sym w.ends) (done-run o.mode o served.text w.out done) in
       record {
         comes = ap is_some w.run ∙ done-comes o.mode o served.text w.out done;
-        run = subst (λ (r : Option RunRecord). IfSome r (IsRunWith o answer.status)) (sym w.run) run;
+        run = subst (λ (r : Option RunRecord). IfSome r (IsRunWith o.mode o answer.status)) (sym w.run) run;
       }
 
   refused-clause : IsDoneBy o before after answer → answer.status ≡ status.TheVariants.SourceRefused → IfSome (text_for o before.source) (λ t. HasRefused o before after t)

@@ -1,17 +1,24 @@
 -- What is answered to as much of a text as is read is what is answered to the text.
-use Rattle.std.proofs.Common.{◌≡◌, inl, inr, ℕ, ◌<◌, ◌≤◌, nat_lt, Bool, true, false, List, [], ◌++◌, length, Option, Some, None, IfSome, Ok, Err, refl, sym, ap, subst, ◌∙◌, arith, length-append, append-nil}
+use Rattle.std.proofs.Common.{◌≡◌, ◌⊎◌, inl, inr, ℕ, ◌<◌, ◌≤◌, nat_lt, Bool, true, false, List, [], ◌++◌, length, Option, Some, None, IfSome, Ok, Err, refl, sym, ap, subst, ◌∙◌, arith, length-append, append-nil}
 use Rattle.std.proofs.lemmas.Bool.Decides.{nat_tests}
 use Rattle.std.specs.Io.KnownBytes.{Consumes, IsAtEnd}
 use Rattle.rv_assembler.specs.declared.fault.SourceFault as fault
 use Rattle.rv_assembler.specs.Source.{source}
 use Rattle.region_table.specs.Program.{ProgramParts}
+use Rattle.run_replay.specs.declared.trace.TraceFault.{TraceFault}
+use Rattle.run_replay.specs.declared.trace.TraceFault.TheVariants.{TooLarge}
+use Rattle.run_replay.specs.declared.refusal.TraceRefusal.TheVariants.{Fault}
+use Rattle.run_replay.specs.Faults.{HasFault}
+use Rattle.run_replay.specs.Refusal.{refusal_text}
+use Rattle.run_replay.proofs.Single.{one-fault}
 use Rattle.command_words.specs.declared.options.Mode.{Mode}
 use Rattle.command_words.specs.declared.options.Mode as mode
 use Rattle.command_words.specs.declared.options.Options.{Options}
 use Rattle.dn_top.specs.declared.output.Output.{Output}
-use Rattle.dn_top.specs.Answers.{HasProgram, HasChecked, IsNoProgram, IsUnfit, done_in, refused_in, most_read}
+use Rattle.dn_top.specs.Answers.{HasProgram, HasChecked, IsNoProgram, IsUnfit, IsReplayed, IsRefusedDocument, done_in, refused_in, most_read}
 use Rattle.dn_top.specs.Outside.{Device, IsRead}
 use Rattle.dn_top.specs.Serving.{text_by, text_for, read_by, taken_by, IsTaken}
+use Rattle.dn_top.proofs.OneReplay.{no-fault_of_document}
 
 -- ---- texts that are too large
 
@@ -19,7 +26,7 @@ source-large : (x : List ℕ) → 1048576 < length x → source x ≡ Err fault.
 source-large x more = let test : nat_lt 1048576 (length x) ≡ true = grind (arith, nat_tests) in rw test
 
 -- a text with a program isn't too large
-source-small : (x : List ℕ) (P : ProgramParts) → source x ≡ Ok P → length x ≤ 1048576
+pub source-small : (x : List ℕ) (P : ProgramParts) → source x ≡ Ok P → length x ≤ 1048576
 source-small x P e = by_test (nat_lt 1048576 (length x)) refl
   where
     by_test : (b : Bool) → nat_lt 1048576 (length x) ≡ b → length x ≤ 1048576
@@ -48,9 +55,17 @@ same_source t text (Some rest) bytes whole = by_test (nat_lt (length text) 10485
         let counted = ap length bytes in
         source-large text (omega arith) ∙ sym (source-large t (omega (arith, length-append text rest)))
 
--- both texts have the same program or the same fault, and where there is a program the source was read to its end
+-- what was read of a text that isn't too large is the text
+same_text : (t text : List ℕ) (left : Option (List ℕ)) → Consumes (Some t) left text → (length text < 1048577 → IsAtEnd left) → length text ≤ 1048576 → text ≡ t
+same_text t text None bytes whole less = absurd bytes
+same_text t text (Some rest) bytes whole less =
+    let ends : rest ≡ [] = whole (omega (arith, less)) in
+    sym (bytes ∙ ap (λ r. text ++ r) ends ∙ append-nil text)
+
+-- both texts have the same program or the same fault, and where there is a program they are one, and the source was read to its end
 record AreAlike (after : Device) (text t : List ℕ) : Type 0 where
   same : source text ≡ source t
+  equal : (P : ProgramParts) → source text ≡ Ok P → text ≡ t
   whole : (P : ProgramParts) → source t ≡ Ok P → after.bytes ≡ Some []
 
 are-alike : (before after : Device) (text t : List ℕ) → before.bytes ≡ Some t → IsRead before after 1048577 text → AreAlike after text t
@@ -58,6 +73,7 @@ are-alike before after text t is read =
     let bytes : Consumes (Some t) after.bytes text = subst (λ (x : Option (List ℕ)). Consumes x after.bytes text) is read.bytes in
     record {
       same = same_source t text after.bytes bytes read.whole;
+      equal = λ P e. same_text t text after.bytes bytes read.whole (source-small text P e);
       whole = λ P e. left_none t text after.bytes bytes read.whole (source-small t P e);
     }
 
@@ -75,6 +91,48 @@ no_program-alike text t line e h = record { fault = h.fault; is = sym e ∙ h.is
 unfit-alike : (text t line : List ℕ) → source text ≡ source t → IsUnfit text line → IsUnfit t line
 unfit-alike text t line e (inl h) = inl (no_program-alike text t line e h)
 unfit-alike text t line e (inr h) = inr (program-alike text t _ e h)
+
+-- ---- documents
+
+-- the document was read whole, or it is too large, as is what was read of it
+abbrev IsReadDocument : Option (List ℕ) → List ℕ → List ℕ → Type 0
+IsReadDocument left text t = ((text ≡ t) × (left ≡ Some [])) ⊎ (HasFault text TooLarge × HasFault t TooLarge)
+
+read-document : (t text : List ℕ) (left : Option (List ℕ)) → Consumes (Some t) left text → (length text < 536870913 → IsAtEnd left) → IsReadDocument left text t
+read-document t text None bytes whole = absurd bytes
+read-document t text (Some rest) bytes whole = by_test (nat_lt (length text) 536870913) refl
+  where
+    by_test : (b : Bool) → nat_lt (length text) 536870913 ≡ b → IsReadDocument (Some rest) text t
+    by_test true test =
+        let ends : rest ≡ [] = whole (grind (arith, nat_tests)) in
+        inl (sym (bytes ∙ ap (λ r. text ++ r) ends ∙ append-nil text), ap Some ends)
+    by_test false test =
+        let long : 536870913 ≤ length text = grind (arith, nat_tests) in
+        let counted = ap length bytes in
+        inr (omega (arith, long), omega (arith, long, counted, length-append text rest))
+
+-- what is too large is no document, and refused by one line
+replayed-small : (x : List ℕ) (out : Output) → HasFault x TooLarge → IsReplayed x out → ⊥
+replayed-small x out large is = no-fault_of_document x is.trace TooLarge is.is large
+
+large-line : (x line : List ℕ) → HasFault x TooLarge → IsRefusedDocument x line → line ≡ refusal_text (Fault TooLarge)
+large-line x line large (inl was) = was.says ∙ ap (λ (f : TraceFault). refusal_text (Fault f)) (one-fault x was.fault TooLarge was.is large)
+large-line x line large (inr was) = absurd (no-fault_of_document x was.trace TooLarge was.is large)
+
+large-refused : (x line : List ℕ) → HasFault x TooLarge → line ≡ refusal_text (Fault TooLarge) → IsRefusedDocument x line
+large-refused x line large says = inl (record { fault = TooLarge; is = large; says = says })
+
+document-done : (left : Option (List ℕ)) (text t : List ℕ) (out : Output) → IsReadDocument left text t → IsReplayed text out → IsReplayed t out
+document-done left text t out (inl (same, ends)) is = subst (λ (x : List ℕ). IsReplayed x out) same is
+document-done left text t out (inr (large, more)) is = absurd (replayed-small text out large is)
+
+document-refused : (left : Option (List ℕ)) (text t line : List ℕ) → IsReadDocument left text t → IsRefusedDocument text line → IsRefusedDocument t line
+document-refused left text t line (inl (same, ends)) was = subst (λ (x : List ℕ). IsRefusedDocument x line) same was
+document-refused left text t line (inr (large, more)) was = large-refused t line more (large-line text line large was)
+
+document-read : (left : Option (List ℕ)) (text t : List ℕ) (out : Output) → IsReadDocument left text t → IsReplayed t out → left ≡ Some []
+document-read left text t out (inl (same, ends)) is = ends
+document-read left text t out (inr (large, more)) is = absurd (replayed-small t out more is)
 
 -- ---- by the mode
 
@@ -99,6 +157,14 @@ answers-read mode.TheVariants.List o before after text t most e is read =
 answers-read mode.TheVariants.Flat o before after text t most e is read =
     let a = are-alike before after text t is (let m : most ≡ 1048577 = cc in rw m at read) in
     record { done = λ out. checked-alike text t _ a.same; refused = λ line. unfit-alike text t line a.same; read = λ out h. a.whole h.program h.is }
+answers-read mode.TheVariants.Trace o before after text t most e is read =
+    let a = are-alike before after text t is (let m : most ≡ 1048577 = cc in rw m at read) in
+    record { done = λ out h. subst (λ (x : List ℕ). done_in mode.TheVariants.Trace o x out) (a.equal h.program h.is) h; refused = λ line. unfit-alike text t line a.same; read = λ out h. a.whole h.program h.is }
+answers-read mode.TheVariants.Replay o before after text t most e is read =
+    let whole : IsRead before after 536870913 text = (let m : most ≡ 536870913 = cc in rw m at read) in
+    let bytes : Consumes (Some t) after.bytes text = subst (λ (x : Option (List ℕ)). Consumes x after.bytes text) is whole.bytes in
+    let a = read-document t text after.bytes bytes whole.whole in
+    record { done = λ out. document-done after.bytes text t out a; refused = λ line. document-refused after.bytes text t line a; read = λ out. document-read after.bytes text t out a }
 answers-read mode.TheVariants.Time o before after text t most e is read =
     let a = are-alike before after text t is (let m : most ≡ 1048577 = cc in rw m at read) in
     record { done = λ out. checked-alike text t _ a.same; refused = λ line. unfit-alike text t line a.same; read = λ out h. a.whole h.program h.is }

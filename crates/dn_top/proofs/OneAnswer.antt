@@ -33,9 +33,11 @@ use Rattle.command_words.specs.declared.options.Options.{Options}
 use Rattle.dn_top.specs.declared.output.Output.{Output}
 use Rattle.dn_top.specs.Answers.{HasProgram, HasChecked, IsNoProgram, IsInConflict, IsUnfit, IsFlatRun, IsListing, IsProof, answered, done_in, refused_in, IsAnswer}
 use Rattle.dn_top.specs.Runs.{IsMachineRun, IsTimedRun, reported, summed_up}
+use Rattle.dn_top.specs.Documents.{IsTracedRun}
 use Rattle.dn_top.proofs.OneProgram.{program-or_fault, no_program-one, unfit-one, program-one, checked-one, checked-fit}
 use Rattle.dn_top.proofs.OneRun.{one-output, timed-one}
 use Rattle.dn_top.proofs.OneProof.{one-proof}
+use Rattle.dn_top.proofs.OneReplay.{traced-one, replayed-one, refused_document-one, replayed-or_refused}
 
 -- ---- by the mode
 
@@ -61,6 +63,8 @@ done-one mode.TheVariants.Check o text out other is also =
     checked-one text (λ P x. x ≡ answered status.TheVariants.Done (checked_of P)) out other (λ P a b. a ∙ sym b) is also
 done-one mode.TheVariants.List o text out other is also = program-one text IsListing out other (λ P a b. a.answer ∙ sym b.answer) is also
 done-one mode.TheVariants.Flat o text out other is also = checked-one text (λ P x. IsFlatRun P o.fuel x) out other (λ P. flat_run-one P o.fuel out other) is also
+done-one mode.TheVariants.Trace o text out other is also = checked-one text (λ P x. IsTracedRun P o text x) out other (λ P. traced-one P o text out other) is also
+done-one mode.TheVariants.Replay o text out other is also = replayed-one text out other is also
 done-one mode.TheVariants.Time o text out other is also = checked-one text (λ P x. IsTimedRun P o x) out other (λ P. timed-one P o out other) is also
 done-one mode.TheVariants.Prove o text out other is also = checked-one text IsProof out other (λ P. one-proof P out other) is also
 
@@ -70,6 +74,8 @@ refused-one mode.TheVariants.Work text l k is also = unfit-one text l k is also
 refused-one mode.TheVariants.Check text l k is also = unfit-one text l k is also
 refused-one mode.TheVariants.List text l k is also = no_program-one text l k is also
 refused-one mode.TheVariants.Flat text l k is also = unfit-one text l k is also
+refused-one mode.TheVariants.Trace text l k is also = unfit-one text l k is also
+refused-one mode.TheVariants.Replay text l k is also = refused_document-one text l k is also
 refused-one mode.TheVariants.Time text l k is also = unfit-one text l k is also
 refused-one mode.TheVariants.Prove text l k is also = unfit-one text l k is also
 
@@ -79,6 +85,8 @@ done-or_refused mode.TheVariants.Work o text line out is was = checked-fit text 
 done-or_refused mode.TheVariants.Check o text line out is was = checked-fit text line _ is was
 done-or_refused mode.TheVariants.List o text line out is was = program-or_fault text is.program was.fault is.is was.is
 done-or_refused mode.TheVariants.Flat o text line out is was = checked-fit text line _ is was
+done-or_refused mode.TheVariants.Trace o text line out is was = checked-fit text line _ is was
+done-or_refused mode.TheVariants.Replay o text line out is was = replayed-or_refused text line out is was
 done-or_refused mode.TheVariants.Time o text line out is was = checked-fit text line _ is was
 done-or_refused mode.TheVariants.Prove o text line out is was = checked-fit text line _ is was
 

@@ -1,10 +1,12 @@
--- The run of an opened machine is the run that options ask for, and can be printed.
+-- The run of an opened machine is a run of its program, that of the options where these ask for it, and can be printed.
 use Rattle.std.proofs.Common.{◌≡◌, ℕ, suc, ◌<◌, ◌≤◌, List, [], ◌∷◌, ◌++◌, length, take, drop, Some, refl, sym, ap, subst, ◌∙◌, arith, length-append}
+use Rattle.std.specs.List.{All}
 use Rattle.std.specs.Option.{option_map}
 use Rattle.std.proofs.lemmas.List.{take-append-drop, length-map}
 use Rattle.std.proofs.lemmas.Grind.{flat_map-append}
 use Rattle.std.proofs.lemmas.List.FromFn.{length-map-range_with_len}
 use Rattle.dn_base.specs.declared.ids.Grant.{Grant}
+use Rattle.dn_base.specs.declared.ids.Shape.{Shape}
 use Rattle.region_table.specs.Program.{ProgramParts, tasks_of, IsProgram}
 use Rattle.region_table.specs.Plan.{ArePlans}
 use Rattle.region_table.specs.declared.declared.Phase.{Phase}
@@ -22,15 +24,19 @@ use Rattle.flat_machine.proofs.RunLemmas.{alone-only}
 use Rattle.machine_rules.specs.State.{State, opened}
 use Rattle.machine_rules.specs.Memory.{memory_of, word_value}
 use Rattle.machine_rules.specs.Next.{next}
-use Rattle.machine_rules.specs.Runs.{after, kinds_of, grants_of}
+use Rattle.machine_rules.specs.Runs.{after, kinds_of, grants_of, IsRun}
 use Rattle.machine_rules.proofs.RunsKept.{run-setting}
 use Rattle.machine_rules.proofs.OpenedFacts.{opened-setting}
 use Rattle.run_agreement.specs.Ends.{HasFlatEnd}
 use Rattle.dn_machine.specs.Kept.{Made, IsKept, IsOpened}
+use Rattle.dn_machine.specs.Settings.{IsSettingOf}
 use Rattle.dn_machine.specs.Run.{IsRecord, IsRunOf as IsMachinesRun, IsSeedsRunOf}
 use Rattle.dn_machine.specs.declared.record.RunRecord.{RunRecord}
+use Rattle.dn_machine.proofs.RunLemmas.{ready-of}
+use Rattle.run_replay.specs.Document.{IsTold}
+use Rattle.run_replay.proofs.ToldRuns.{run-told}
 use Rattle.command_words.specs.declared.options.Options.{Options}
-use Rattle.dn_top.specs.Runs.{shape_for, ending_alone, IsSettingFor, HasFlatRun, IsWithoutGrants, IsRunOf, IsSeedsRun, IsPrintable}
+use Rattle.dn_top.specs.Runs.{shape_for, ending_alone, HasFlatRun, IsWithoutGrants, IsRunOf, IsSeedsRun, IsPrintable}
 
 -- ---- the size of an ending
 
@@ -73,7 +79,7 @@ without-grants P fuel (g ∷ gs) e none is = let no_run = alone-only P fuel g gs
 -- ---- the run
 
 -- what the machine says of a run, said of the setting that it was opened in
-module _ (P : ProgramParts) (o : Options) (C : Setting) (r : RunRecord) where
+module _ (P : ProgramParts) (s : Shape) (fuel : ℕ) (C : Setting) (r : RunRecord) where
   -- the flat machine's run by the grants that the record has
   has-flat_run : IsRecord (opened C) r → HasFlatEnd C r.events → HasFlatRun C r
   has-flat_run is flat =
@@ -85,29 +91,29 @@ module _ (P : ProgramParts) (o : Options) (C : Setting) (r : RunRecord) where
       }
 
   -- without locks there is no grant, and one end
-  has-no_grants : IsSettingFor P o C → HasFlatRun C r → P.locks ≡ [] → IsWithoutGrants P o.fuel r
+  has-no_grants : IsSettingOf P s fuel C → HasFlatRun C r → P.locks ≡ [] → IsWithoutGrants P fuel r
   has-no_grants asked flat none =
       let no_locks : length P.locks ≡ 0 = ap length none in
-      let value : flat_end P o.fuel r.grants ≡ Some flat.end' =
-      ap (λ (p : ProgramParts). flat_end p o.fuel r.grants) (sym asked.program)
-      ∙ ap (λ (fuel : ℕ). flat_end C.program fuel r.grants) (sym asked.fuel)
+      let value : flat_end P fuel r.grants ≡ Some flat.end' =
+      ap (λ (p : ProgramParts). flat_end p fuel r.grants) (sym asked.program)
+      ∙ ap (λ (n : ℕ). flat_end C.program n r.grants) (sym asked.fuel)
       ∙ flat.value
       in
-      let empty : r.grants ≡ [] = without-grants P o.fuel r.grants flat.end' no_locks value in
+      let empty : r.grants ≡ [] = without-grants P fuel r.grants flat.end' no_locks value in
       record {
         grants = empty;
         ending =
-            ap (λ (gs : List Grant). option_map (λ (e : FlatEnd). e.ending) (flat_end P o.fuel gs)) (sym empty)
+            ap (λ (gs : List Grant). option_map (λ (e : FlatEnd). e.ending) (flat_end P fuel gs)) (sym empty)
             ∙ ap (option_map (λ (e : FlatEnd). e.ending)) value
             ∙ ap Some flat.ending;
       }
 
-  run-of : IsSettingFor P o C → IsMachinesRun (opened C) r → HasFlatEnd C r.events → length r.counts.kinds ≡ 17 → IsRunOf P o r
+  pub run-of : IsSettingOf P s fuel C → IsMachinesRun (opened C) r → HasFlatEnd C r.events → length r.counts.kinds ≡ 17 → IsRunOf P s fuel r
   run-of asked machine flat each =
       let by_grants = has-flat_run machine.is_true flat in
       record { setting = C; asked = asked; machine = machine; each_kind = each; flat = by_grants; lock_free = has-no_grants asked by_grants }
 
-  can-print : IsProgram C.program → IsRecord (opened C) r → HasFlatEnd C r.events → length r.counts.kinds ≡ 17 → length r.events < 18446744073709551616 → IsPrintable r
+  pub can-print : IsProgram C.program → IsRecord (opened C) r → HasFlatEnd C r.events → length r.counts.kinds ≡ 17 → length r.events < 18446744073709551616 → IsPrintable r
   can-print program is flat kinds few =
       let memory = ap (λ (e : Ending). length e.memory) is.ends ∙ shown-words (opened C) r.events ∙ ap (λ (D : Setting). length D.program.memory) (opened-setting C) in
       let tasks = ap (λ (e : Ending). length e.tasks) (is.ends ∙ sym flat.ending) in
@@ -125,7 +131,7 @@ module _ (P : ProgramParts) (o : Options) (m : Made) (r : RunRecord) where
   at-opened : (Holds : State → Type 0) → IsOpened P (shape_for P o) o.fuel m → Holds m.state → Holds (opened m.state.setting)
   at-opened Holds at h = subst Holds at.state h
 
-  asked-for : IsOpened P (shape_for P o) o.fuel m → IsKept m.state m.made → IsSettingFor P o m.state.setting
+  asked-for : IsOpened P (shape_for P o) o.fuel m → IsKept m.state m.made → IsSettingOf P (shape_for P o) o.fuel m.state.setting
   asked-for at kept =
       record {
         program = at.program_is;
@@ -139,16 +145,21 @@ module _ (P : ProgramParts) (o : Options) (m : Made) (r : RunRecord) where
   unfolding run-of
   is-run_of at kept run each =
       let there : IsSeedsRunOf (opened m.state.setting) o.seed r = at-opened (λ S. IsSeedsRunOf S o.seed r) at run in
-      record { run = run-of P o m.state.setting r (asked-for at kept) there.run run.run.flat each; scheduled = there.scheduled }
+      record { run = run-of P (shape_for P o) o.fuel m.state.setting r (asked-for at kept) there.run run.run.flat each; scheduled = there.scheduled }
 
   pub is-printable : IsOpened P (shape_for P o) o.fuel m → IsKept m.state m.made → IsRecord m.state r → HasFlatEnd m.state.setting r.events → length r.counts.kinds ≡ 17
       → length r.events < 18446744073709551616 → IsPrintable r
   is-printable at kept is flat kinds few =
-      can-print P o m.state.setting r kept.sound.machine.program (at-opened (λ S. IsRecord S r) at is) flat kinds few
+      can-print P (shape_for P o) o.fuel m.state.setting r kept.sound.machine.program (at-opened (λ S. IsRecord S r) at is) flat kinds few
+
+  -- the events are within the limits of a document
+  pub all-told : IsOpened P (shape_for P o) o.fuel m → IsKept m.state m.made → IsRun m.state r.events → All IsTold r.events
+  all-told at kept run =
+      run-told m.state.setting r.events (ready-of m.state m.made kept.sound) kept.most (at-opened (λ S. IsRun S r.events) at run)
 
 -- ---- two runs without locks
 
-pub ends-alike : (P : ProgramParts) (o p : Options) (r s : RunRecord) → IsRunOf P o r → IsRunOf P p s → P.locks ≡ [] → o.fuel ≡ p.fuel → r.ending ≡ s.ending
-ends-alike P o p r s first second none fuel =
-    let one : Some r.ending ≡ Some s.ending = sym (first.lock_free none).ending ∙ ap (ending_alone P) fuel ∙ (second.lock_free none).ending in
+pub ends-alike : (P : ProgramParts) (machine other : Shape) (fuel : ℕ) (r s : RunRecord) → IsRunOf P machine fuel r → IsRunOf P other fuel s → P.locks ≡ [] → r.ending ≡ s.ending
+ends-alike P machine other fuel r s first second none =
+    let one : Some r.ending ≡ Some s.ending = sym (first.lock_free none).ending ∙ (second.lock_free none).ending in
     cc

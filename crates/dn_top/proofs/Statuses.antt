@@ -55,6 +55,8 @@ done_outcome mode.TheVariants.Work o text out h = (h.holds.run.ending.outcome, s
 done_outcome mode.TheVariants.Check o text out h = (outcome.TheVariants.Done, status_in out _ h.holds)
 done_outcome mode.TheVariants.List o text out h = (outcome.TheVariants.Done, status_in out _ h.holds.answer)
 done_outcome mode.TheVariants.Flat o text out h = (h.holds.end.ending.outcome, status_in out _ h.holds.answer)
+done_outcome mode.TheVariants.Trace o text out h = (h.holds.run.ending.outcome, status_in out _ h.holds.answer)
+done_outcome mode.TheVariants.Replay o text out h = (h.holds.holds.run.ending.outcome, status_in out _ h.holds.holds.answer)
 done_outcome mode.TheVariants.Time o text out h = (h.holds.run.ending.outcome, status_in out _ h.holds.answer)
 done_outcome mode.TheVariants.Prove o text out h = (outcome.TheVariants.Done, status_in out _ h.holds.answer)
 
@@ -70,24 +72,31 @@ done-comes mode.TheVariants.Work o text out h = ap (λ (x : Output). is_some x.r
 done-comes mode.TheVariants.Check o text out h = ap (λ (x : Output). is_some x.run) h.holds
 done-comes mode.TheVariants.List o text out h = ap (λ (x : Output). is_some x.run) h.holds.answer
 done-comes mode.TheVariants.Flat o text out h = ap (λ (x : Output). is_some x.run) h.holds.answer
+done-comes mode.TheVariants.Trace o text out h = ap (λ (x : Output). is_some x.run) h.holds.answer
+done-comes mode.TheVariants.Replay o text out h = ap (λ (x : Output). is_some x.run) h.holds.holds.answer
 done-comes mode.TheVariants.Time o text out h = ap (λ (x : Output). is_some x.run) h.holds.answer
 done-comes mode.TheVariants.Prove o text out h = ap (λ (x : Output). is_some x.run) h.holds.answer
 
--- the run is one that the options ask for
-abbrev RunsWell : Options → Output → Type 0
-RunsWell o out = IfSome out.run (IsRunWith o out.status)
+-- the run is one that the mode makes
+abbrev RunsWell : Mode → Options → Output → Type 0
+RunsWell m o out = IfSome out.run (IsRunWith m o out.status)
 
-pub done-run : (m : Mode) (o : Options) (text : List ℕ) (out : Output) → done_in m o text out → IfSome out.run (IsRunWith o out.status)
+pub done-run : (m : Mode) (o : Options) (text : List ℕ) (out : Output) → done_in m o text out → IfSome out.run (IsRunWith m o out.status)
 done-run mode.TheVariants.Run o text out h =
-    subst (RunsWell o) (sym h.holds.answer) (record { program = h.program; checked = h.checked; run = h.holds.is.run; ends = refl })
+    subst (RunsWell mode.TheVariants.Run o) (sym h.holds.answer) (record { program = h.program; checked = h.checked; run = h.holds.is.run; ends = refl })
 done-run mode.TheVariants.Work o text out h =
-    subst (RunsWell o) (sym h.holds.answer) (record { program = h.program; checked = h.checked; run = h.holds.is.run; ends = refl })
-done-run mode.TheVariants.Check o text out h = subst (RunsWell o) (sym h.holds) tt
-done-run mode.TheVariants.List o text out h = subst (RunsWell o) (sym h.holds.answer) tt
-done-run mode.TheVariants.Flat o text out h = subst (RunsWell o) (sym h.holds.answer) tt
+    subst (RunsWell mode.TheVariants.Work o) (sym h.holds.answer) (record { program = h.program; checked = h.checked; run = h.holds.is.run; ends = refl })
+done-run mode.TheVariants.Check o text out h = subst (RunsWell mode.TheVariants.Check o) (sym h.holds) tt
+done-run mode.TheVariants.List o text out h = subst (RunsWell mode.TheVariants.List o) (sym h.holds.answer) tt
+done-run mode.TheVariants.Flat o text out h = subst (RunsWell mode.TheVariants.Flat o) (sym h.holds.answer) tt
+done-run mode.TheVariants.Trace o text out h =
+    subst (RunsWell mode.TheVariants.Trace o) (sym h.holds.answer) (record { program = h.program; checked = h.checked; run = h.holds.is.run; ends = refl })
+done-run mode.TheVariants.Replay o text out h =
+    subst (RunsWell mode.TheVariants.Replay o) (sym h.holds.holds.answer)
+    (record { program = h.holds.program; checked = h.holds.checked; run = (h.trace.shape, h.is.told.head.shape, h.holds.holds.is); ends = refl })
 done-run mode.TheVariants.Time o text out h =
-    subst (RunsWell o) (sym h.holds.answer) (record { program = h.program; checked = h.checked; run = h.holds.is.run; ends = refl })
-done-run mode.TheVariants.Prove o text out h = subst (RunsWell o) (sym h.holds.answer) tt
+    subst (RunsWell mode.TheVariants.Time o) (sym h.holds.answer) (record { program = h.program; checked = h.checked; run = h.holds.is.run; ends = refl })
+done-run mode.TheVariants.Prove o text out h = subst (RunsWell mode.TheVariants.Prove o) (sym h.holds.answer) tt
 
 -- an answer with another status hands no run back
 pub answer-no_run : (o : Options) (text : List ℕ) (out : Output) → IsAnswer o text out → (IsOutcome out.status → ⊥) → out.run ≡ None

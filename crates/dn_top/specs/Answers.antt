@@ -28,9 +28,10 @@ use Rattle.command_words.specs.declared.options.Mode.{Mode}
 use Rattle.command_words.specs.declared.options.Mode as mode
 use Rattle.command_words.specs.declared.options.Options.{Options}
 use Rattle.dn_top.specs.declared.output.Output.{Output}
-use Rattle.dn_top.specs.declared.answers.Stop.{Stop}
-use Rattle.dn_top.specs.declared.answers.Stop as stop
+use Rattle.dn_top.specs.declared.programs.Stop.{Stop}
+use Rattle.dn_top.specs.declared.programs.Stop as stop
 use Rattle.dn_top.specs.Runs.{IsMachineRun, IsTimedRun, reported, summed_up}
+use Rattle.dn_top.specs.Documents.{IsTracedRun, HasTrace, IsNoDocument, IsReplayedRun, IsNoRun}
 
 -- ---- a text, its program and its check
 
@@ -94,6 +95,17 @@ pub record IsProof (program : ProgramParts) (out : Output) : Type 0 where
   pub sound : proved ≡ Inside → RunsInside program
   pub answer : out ≡ answered status.TheVariants.Done (proved_text proved)
 
+-- ---- what is done with a document
+
+-- the document's text has a checked program, and its events are a complete run, which is reported
+abbrev pub IsReplayed : List ℕ → Output → Type 0
+IsReplayed document out = HasTrace document (λ t. HasChecked t.text (λ P. IsReplayedRun P t out))
+
+-- the bytes are no document, or its text has no program that could be run, or its events are no complete run; the line says why
+abbrev pub IsRefusedDocument : List ℕ → List ℕ → Type 0
+IsRefusedDocument document line =
+    IsNoDocument document line ⊎ HasTrace document (λ t. IsUnfit t.text line ⊎ HasChecked t.text (λ P. IsNoRun P t line))
+
 -- ---- a row for each mode
 
 -- what each mode does with a text
@@ -103,6 +115,8 @@ done_in mode.TheVariants.Work o text out = HasChecked text (λ P. IsMachineRun P
 done_in mode.TheVariants.Check o text out = HasChecked text (λ P. out ≡ answered status.TheVariants.Done (checked_of P))
 done_in mode.TheVariants.List o text out = HasProgram text (λ P. IsListing P out)
 done_in mode.TheVariants.Flat o text out = HasChecked text (λ P. IsFlatRun P o.fuel out)
+done_in mode.TheVariants.Trace o text out = HasChecked text (λ P. IsTracedRun P o text out)
+done_in mode.TheVariants.Replay o text out = IsReplayed text out
 done_in mode.TheVariants.Time o text out = HasChecked text (λ P. IsTimedRun P o out)
 done_in mode.TheVariants.Prove o text out = HasChecked text (λ P. IsProof P out)
 
@@ -113,16 +127,20 @@ refused_in mode.TheVariants.Work text line = IsUnfit text line
 refused_in mode.TheVariants.Check text line = IsUnfit text line
 refused_in mode.TheVariants.List text line = IsNoProgram text line
 refused_in mode.TheVariants.Flat text line = IsUnfit text line
+refused_in mode.TheVariants.Trace text line = IsUnfit text line
+refused_in mode.TheVariants.Replay text line = IsRefusedDocument text line
 refused_in mode.TheVariants.Time text line = IsUnfit text line
 refused_in mode.TheVariants.Prove text line = IsUnfit text line
 
--- how many bytes each mode reads at most: one more than its text may have; None where it generates its text
+-- how many bytes each mode reads at most: one more than its text or its document may have; None where it generates its text
 abbrev pub most_read : Mode → Option ℕ
 most_read mode.TheVariants.Run = Some 1048577
 most_read mode.TheVariants.Work = None
 most_read mode.TheVariants.Check = Some 1048577
 most_read mode.TheVariants.List = Some 1048577
 most_read mode.TheVariants.Flat = Some 1048577
+most_read mode.TheVariants.Trace = Some 1048577
+most_read mode.TheVariants.Replay = Some 536870913
 most_read mode.TheVariants.Time = Some 1048577
 most_read mode.TheVariants.Prove = Some 1048577
 
@@ -133,6 +151,8 @@ makes_run mode.TheVariants.Work = true
 makes_run mode.TheVariants.Check = false
 makes_run mode.TheVariants.List = false
 makes_run mode.TheVariants.Flat = false
+makes_run mode.TheVariants.Trace = true
+makes_run mode.TheVariants.Replay = true
 makes_run mode.TheVariants.Time = true
 makes_run mode.TheVariants.Prove = false
 

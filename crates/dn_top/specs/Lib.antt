@@ -1,4 +1,5 @@
 pub mod Answers
+pub mod Documents
 pub mod Laws
 pub mod Outside
 pub mod Runs

@@ -32,10 +32,6 @@ use Rattle.dn_top.specs.declared.output.Output.{Output}
 abbrev pub shape_for : ProgramParts → Options → Shape
 shape_for P o = record { cores = cores_of P; banks = o.banks; sets = o.sets; ways = o.ways }
 
--- what the machine is told; a program and options have one such setting
-abbrev pub IsSettingFor : ProgramParts → Options → Setting → Type 0
-IsSettingFor P o C = IsSettingOf P (shape_for P o) o.fuel C
-
 -- ---- one thread on one memory
 
 -- the flat machine's run by the grants of r has an end: its loads are those of r's events, task by task, and its ending, which
@@ -57,10 +53,11 @@ pub record IsWithoutGrants (P : ProgramParts) (fuel : ℕ) (r : RunRecord) : Typ
 
 -- ---- a run
 
--- r is a run of the program P on the machine that the options ask for
-pub record IsRunOf (P : ProgramParts) (o : Options) (r : RunRecord) : Type 0 where
+-- r is a run of the program P on the machine of this shape, whose tasks have so much fuel
+pub record IsRunOf (P : ProgramParts) (shape : Shape) (fuel : ℕ) (r : RunRecord) : Type 0 where
+  -- what the machine is told; a program, a shape and fuel have one such setting
   pub setting : Setting
-  pub asked : IsSettingFor P o setting
+  pub asked : IsSettingOf P shape fuel setting
   -- its events are a complete run of the opened machine, at rest behind it, coherent after each of them, whose loads are fronts
   -- of one thread's; and its grants, counts and ending are read off them
   pub machine : IsMachinesRun (opened setting) r
@@ -69,11 +66,11 @@ pub record IsRunOf (P : ProgramParts) (o : Options) (r : RunRecord) : Type 0 whe
   -- one thread on one memory that takes the critical sections in the order of its grants loads the same and ends the same
   pub flat : HasFlatRun setting r
   -- without locks the program and the fuel alone decide how it ends
-  pub lock_free : P.locks ≡ [] → IsWithoutGrants P o.fuel r
+  pub lock_free : P.locks ≡ [] → IsWithoutGrants P fuel r
 
--- it is the one of the options' seed, whose words picked its events
+-- it is a run on the machine that the options ask for, and the one of their seed, whose words picked its events
 pub record IsSeedsRun (P : ProgramParts) (o : Options) (r : RunRecord) : Type 0 where
-  pub run : IsRunOf P o r
+  pub run : IsRunOf P (shape_for P o) o.fuel r
   pub scheduled : IsScheduled (opened run.setting) o.seed r.events
 
 -- ---- its output

@@ -2,17 +2,23 @@
 use Rattle.std.specs.Prelude.{◌≡◌, ◌⊎◌, ℕ, List, [], Option, Some, None, IfSome, is_some, option_and_then}
 use Rattle.dn_base.specs.declared.status.Status.{Status}
 use Rattle.dn_base.specs.declared.status.Status as status
+use Rattle.dn_base.specs.declared.ids.Shape.{Shape}
 use Rattle.dn_base.specs.Status.{status_of}
 use Rattle.region_table.specs.Program.{ProgramParts}
 use Rattle.effect_checker.specs.Checked.{IsChecked}
 use Rattle.dn_machine.specs.declared.record.RunRecord.{RunRecord}
+use Rattle.run_replay.specs.declared.trace.TraceShape.{TraceShape}
+use Rattle.run_replay.specs.Document.{IsTraceShape}
 use Rattle.work_gen.specs.Work.{work_of}
+use Rattle.command_words.specs.declared.options.Mode.{Mode}
+use Rattle.command_words.specs.declared.options.Mode as mode
 use Rattle.command_words.specs.declared.options.Options.{Options}
 use Rattle.command_words.specs.Command.{options_of}
 use Rattle.dn_top.specs.declared.output.Output.{Output}
 use Rattle.dn_top.specs.declared.serving.Answer.{Answer}
 use Rattle.dn_top.specs.Answers.{most_read, makes_run, IsDone, IsRefusal, IsAnswer, IsOutcome, usage_line}
-use Rattle.dn_top.specs.Runs.{IsRunOf}
+use Rattle.dn_top.specs.Runs.{shape_for, IsRunOf}
+use Rattle.dn_top.specs.Documents.{shape_told}
 use Rattle.dn_top.specs.Outside.{Device, Devices, Failed, IsUntouched, IsRead, Took, TookNothing, TookFront}
 
 -- ---- the text of a call
@@ -71,17 +77,22 @@ abbrev pub has_stopped : Option Options → Devices → Devices → Type 0
 has_stopped None before after = TookFront before.sink after.sink usage_line
 has_stopped (Some o) before after = IfSome (text_for o before.source) (HasFailed o before after)
 
--- r is a run of a checked program on the machine that the options ask for, and the status is that of its outcome
-pub record IsRunWith (o : Options) (s : Status) (r : RunRecord) : Type 0 where
+-- r is a run of the program on the machine that the options ask for; in the mode replay a document tells how large it is
+abbrev pub is_run_in : Mode → ProgramParts → Options → RunRecord → Type 0
+is_run_in mode.TheVariants.Replay P o r = (s : TraceShape) × IsTraceShape s × IsRunOf P (shape_told P s) s.fuel r
+is_run_in m P o r = IsRunOf P (shape_for P o) o.fuel r
+
+-- r is a run of a checked program, and the status is that of its outcome
+pub record IsRunWith (m : Mode) (o : Options) (s : Status) (r : RunRecord) : Type 0 where
   pub program : ProgramParts
   pub checked : IsChecked program
-  pub run : IsRunOf program o r
+  pub run : is_run_in m program o r
   pub ends : s ≡ status_of r.ending.outcome
 
--- of an outcome's status: a run is handed back exactly in the modes that make one, and it is one that the options ask for
+-- of an outcome's status: a run is handed back exactly in the modes that make one, and it is one that the mode makes
 pub record HandsBack (o : Options) (answer : Answer) : Type 0 where
   pub comes : is_some answer.run ≡ makes_run o.mode
-  pub run : IfSome answer.run (IsRunWith o answer.status)
+  pub run : IfSome answer.run (IsRunWith o.mode o answer.status)
 
 -- how many bytes words have the program read at most: None where they are refused or their mode generates its text
 abbrev pub most_asked : List (List ℕ) → Option ℕ

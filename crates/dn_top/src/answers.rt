@@ -1,82 +1,23 @@
-ghost use Rattle.std.specs.Prelude.{◌≡◌, ◌≢◌, ◌≤◌, Ok, IfOk, IfErr};
-ghost use Rattle.rv_assembler.specs.declared.fault.SourceFault.TheVariants.{Memory as NoMemory};
+ghost use Rattle.std.specs.Prelude.{◌≡◌, ◌≤◌, IfOk, IfErr};
 ghost use Rattle.region_table.specs.Program.{names_of};
 ghost use Rattle.rv_assembler.specs.Names.{AreDeclaredNames};
-ghost use Rattle.rv_assembler.specs.Source.{source};
-ghost use Rattle.effect_checker.specs.Checked.{IsChecked};
-ghost use Rattle.run_report.specs.declared.refusal.Refusal.TheVariants.{Source as OfSource};
-ghost use Rattle.run_report.specs.Refusal.{refusal_of};
 ghost use Rattle.run_report.specs.Summary.{checked_of as counts_of};
 ghost use Rattle.command_words.specs.Command.{IsWithinLimits};
-ghost use Rattle.dn_top.specs.Answers.{IsAnswer, IsFlatRun, IsListing, IsNoProgram, IsProof, IsStop, IsUnfit, answered, done_in, refused_in};
+ghost use Rattle.dn_top.specs.Answers.{IsAnswer, IsFlatRun, IsListing, IsProof, IsStop, answered, done_in, refused_in};
 
+use crate::documents::{replay_document, trace_run};
 use crate::output::{Output, ended};
+use crate::programs::{Stop, checked_of, program_of};
 use crate::runs::{report_run, sum_up_run, time_run_of};
 use command_words::{Mode, Options};
-use dn_base::{Memory, Outcome, Sequence, Status};
-use effect_checker::{Checked, check};
+use dn_base::{Memory, Outcome, Status};
+use effect_checker::Checked;
 use effect_prover::{prove, prove_text};
 use flat_machine::least_run;
 use region_table::Program;
-use run_report::{Refusal, answer_text, checked_line, grant_text, refusal_line};
-use rv_assembler::{SourceFault, assemble};
+use run_report::{answer_text, checked_line, grant_text};
 use rv_listing::listing;
 use std::alloc::Global;
-
-/// Why nothing is done with a text.
-#[derive(Debug, Drop)]
-enum Stop {
-    /// It is refused with this line.
-    Refused(Sequence<u8>),
-    /// There is no memory.
-    Memory,
-}
-
-impl From<Memory> for Stop {
-    ghost use Rattle.dn_top.specs.declared.answers.Stop.TheVariants.{Memory as NoRoom};
-
-    ghost from_gives = { λ _ stop. stop ≡ NoRoom };
-
-    fn from(_memory: Memory) -> Stop {
-        Stop::Memory
-    }
-}
-
-/// The refusal of a text.
-fn refusal(alloc: Global, why: &Refusal) -> Stop
-    requires { why.now ≢ OfSource NoMemory }
-    ensures { IsStop (λ line. line ≡ refusal_of why.now) result }
-{
-    match refusal_line(alloc, why) {
-        Ok(line) => Stop::Refused(Sequence::from_vec(line)),
-        Err(_) => Stop::Memory,
-    }
-}
-
-/// The program of a text.
-fn program_of(alloc: Global, text: &[u8]) -> Result<Program, Stop>
-    ensures ok { IfOk result (λ program. source text.now ≡ Ok program) }
-    ensures names { IfOk result (λ program. AreDeclaredNames (names_of program)) }
-    ensures stop { IfErr result (IsStop (IsNoProgram text.now)) }
-{
-    match assemble(alloc, text) {
-        Ok(program) => Ok(program),
-        Err(SourceFault::Memory) => Err(Stop::Memory),
-        Err(fault) => Err(refusal(alloc, &Refusal::Source(fault))),
-    }
-}
-
-/// The program of a text, checked.
-fn checked_of(alloc: Global, text: &[u8]) -> Result<Checked, Stop>
-    ensures ok { IfOk result (λ program. source text.now ≡ Ok program) }
-    ensures checked { IfOk result IsChecked }
-    ensures stop { IfErr result (IsStop (IsUnfit text.now)) }
-{
-    match check(program_of(alloc, text)?) {
-        Ok(checked) => Ok(checked),
-        Err(fault) => Err(refusal(alloc, &Refusal::Check(fault))),
-    }
-}
 
 /// Runs a program on one flat memory, and prints its answer and the grants.
 fn run_flat(alloc: Global, fuel: u32, checked: &Checked) -> Result<Output, Memory>
@@ -125,6 +66,8 @@ fn done_by(alloc: Global, options: &Options, text: &[u8]) -> Result<Output, Stop
         Mode::Check => Ok(count(alloc, checked_of(alloc, text)?.program())?),
         Mode::List => Ok(list(alloc, &program_of(alloc, text)?)?),
         Mode::Flat => Ok(run_flat(alloc, options.fuel, &checked_of(alloc, text)?)?),
+        Mode::Trace => Ok(trace_run(alloc, options, text, checked_of(alloc, text)?)?),
+        Mode::Replay => replay_document(alloc, text),
         Mode::Time => {
             let again = checked_of(alloc, text)?;
             Ok(time_run_of(alloc, options, checked_of(alloc, text)?, again)?)

@@ -1,13 +1,15 @@
 //! What holds of every run, as laws: functions that do nothing, whose contracts say it.
 ghost use Rattle.std.specs.Prelude.{◌≡◌, ℕ, List, [], Some};
 ghost use Rattle.dn_base.specs.declared.ids.Grant.{Grant};
+ghost use Rattle.dn_base.specs.declared.ids.Shape.{Shape};
 ghost use Rattle.region_table.specs.Program.{ProgramParts};
 ghost use Rattle.flat_machine.specs.declared.ending.FlatEnd.{FlatEnd};
 ghost use Rattle.flat_machine.specs.Ending.{flat_end};
 ghost use Rattle.dn_machine.specs.declared.record.RunRecord.{RunRecord};
+ghost use Rattle.command_words.specs.declared.options.Mode.TheVariants.{Replay, Run, Trace};
 ghost use Rattle.command_words.specs.declared.options.Options.{Options};
 ghost use Rattle.dn_top.specs.declared.output.Output.{Output};
-ghost use Rattle.dn_top.specs.Answers.{IsAnswer};
+ghost use Rattle.dn_top.specs.Answers.{IsAnswer, done_in};
 ghost use Rattle.dn_top.specs.Laws.{Call, GaveOneOutput, IsAnswered, IsCaused};
 ghost use Rattle.dn_top.specs.Runs.{IsRunOf, IsSeedsRun};
 
@@ -17,9 +19,16 @@ pub fn an_outcome_has_its_cause()
         → flat_end P fuel grants ≡ Some end → IsCaused P fuel grants end.ending }
 {}
 
-/// Without locks every run of a program ends alike, whatever the seed, the shape of the machine and the number of workers.
+/// Without locks every run of a program ends alike, whatever the shape of the machine and whoever picked the events.
 pub fn without_locks_every_run_ends_alike()
-    ensures { (P : ProgramParts) (o p : Options) (r s : RunRecord) → IsRunOf P o r → IsRunOf P p s → P.locks ≡ [] → o.fuel ≡ p.fuel → r.ending ≡ s.ending }
+    ensures { (P : ProgramParts) (machine other : Shape) (fuel : ℕ) (r s : RunRecord) → IsRunOf P machine fuel r → IsRunOf P other fuel s → P.locks ≡ [] → r.ending ≡ s.ending }
+{}
+
+/// What the mode trace writes of a text is answered by the mode replay as the mode run answers the text: with its bytes, its
+/// status and its run.
+pub fn a_trace_replays_as_its_run()
+    ensures { (o p : Options) (text : List ℕ) (document answer : Output) → done_in Trace o text document → done_in Run o text answer
+        → done_in Replay p document.bytes answer }
 {}
 
 /// The output is a function of the source and the options: a program and options have one run, with its events, its grants, its

@@ -11,8 +11,10 @@ use std::sync::Wait;
 use std::thread::Threads;
 
 mod answers;
+mod documents;
 mod laws;
 mod output;
+mod programs;
 mod reading;
 mod runs;
 mod serving;
@@ -23,8 +25,8 @@ mod writing;
 pub use command_words::{Mode, Options, WordsFault, read_words};
 pub use dn_machine::RunRecord;
 pub use laws::{
-    an_outcome_has_its_cause, the_output_is_a_function_of_source_and_options,
-    without_locks_every_run_ends_alike,
+    a_trace_replays_as_its_run, an_outcome_has_its_cause,
+    the_output_is_a_function_of_source_and_options, without_locks_every_run_ends_alike,
 };
 pub use serving::Answer;
 use serving::{answer_options, refuse_words, status_only};
@@ -32,11 +34,13 @@ use serving::{answer_options, refuse_words, status_only};
 /// Answers these command words and this source on one thread.
 ///
 /// `Usage` where the words aren't the command's. In the mode work the text is the generated one of the size that is asked
-/// for; in the others the source is read whole, or one byte past the most that a text may have. The text is taken as a
-/// program, which is checked in all modes but list. In the modes run, work and time it is run on the multicore machine of the
-/// shape that is asked for, by the events that the seed picks, and the run is handed back; in the mode flat it is run on one flat
-/// memory by the least list of grants; in the mode prove its effects are proved from the text alone. The whole answer is made, and
-/// only then written and flushed. What refuses first decides.
+/// for; in the others the source is read whole, or one byte past the most that a text, or in the mode replay a document, may
+/// have. The text is taken as a program, which is checked in all modes but list. In the modes run, work, trace and time it is run
+/// on the multicore machine of the shape that is asked for, by the events that the seed picks, and the run is handed back; in the
+/// mode flat it is run on one flat memory by the least list of grants; in the mode prove its effects are proved from the text
+/// alone. In the mode replay the source is the document of a run, as the mode trace writes it: its text is taken as the program,
+/// and its events are made on the machine of its size, and that run is handed back where it is complete. The whole answer is
+/// made, and only then written and flushed. What refuses first decides.
 pub fn answer_words<S: Source, K: Sink>(
     alloc: Global,
     words: &[String],

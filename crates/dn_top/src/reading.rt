@@ -14,6 +14,9 @@ use work_gen::work;
 /// A text has at most this many bytes.
 const MOST_BYTES: usize = 1_048_576;
 
+/// The document of a run has at most this many bytes.
+const MOST_OF_DOCUMENT: usize = 536_870_912;
+
 /// Why there is no text.
 #[derive(Clone, Copy, Debug, PartialEq, Eq)]
 pub(crate) enum ReadError {
@@ -39,7 +42,7 @@ impl From<Memory> for ReadError {
     }
 }
 
-/// How many bytes each mode reads at most, one more than its text may have; `None` where it generates its text.
+/// How many bytes each mode reads at most, one more than its text or document may have; `None` where it generates its text.
 fn most_of(mode: Mode) -> Option<usize>
     ensures { result ≡ most_read mode }
 {
@@ -49,6 +52,8 @@ fn most_of(mode: Mode) -> Option<usize>
         Mode::Check => Some(MOST_BYTES + 1),
         Mode::List => Some(MOST_BYTES + 1),
         Mode::Flat => Some(MOST_BYTES + 1),
+        Mode::Trace => Some(MOST_BYTES + 1),
+        Mode::Replay => Some(MOST_OF_DOCUMENT + 1),
         Mode::Time => Some(MOST_BYTES + 1),
         Mode::Prove => Some(MOST_BYTES + 1),
     }

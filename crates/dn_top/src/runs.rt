@@ -1,6 +1,7 @@
-ghost use Rattle.std.specs.Prelude.{◌≡◌, ◌≤◌, ◌++◌, length, IfOk};
+ghost use Rattle.std.specs.Prelude.{◌≡◌, ◌≤◌, ◌++◌, All, length, IfOk};
 ghost use Rattle.command_words.specs.Command.{IsWithinLimits};
 ghost use Rattle.run_report.specs.Summary.{summary_of};
+ghost use Rattle.run_replay.specs.Document.{IsTold};
 ghost use Rattle.run_timing.specs.Text.{timing_of};
 ghost use Rattle.dn_top.specs.Runs.{IsMachineRun, IsPrintable, IsSeedsRun, IsTimedRun, output_of_run, reported, shape_for, summed_up, ticks_for};
 
@@ -36,9 +37,14 @@ fn has_each_kind(counts: &Counts)
 }
 
 /// Runs a checked program on the machine that the options ask for, by their seed.
-fn machine_run(alloc: Global, options: &Options, checked: Checked) -> Result<RunRecord, Memory>
+pub(crate) fn machine_run(
+    alloc: Global,
+    options: &Options,
+    checked: Checked,
+) -> Result<RunRecord, Memory>
     requires { IsWithinLimits options.now }
     ensures run { IfOk result (IsSeedsRun checked options.now) }
+    ensures told { IfOk result (λ run. All IsTold run.events) }
     ensures printable { IfOk result IsPrintable }
 {
     let shape = shape_of(options, checked.program());
@@ -51,7 +57,7 @@ fn machine_run(alloc: Global, options: &Options, checked: Checked) -> Result<Run
 }
 
 /// The output that hands a run back, with this text.
-fn handed_back(text: Vec<u8>, run: RunRecord) -> Output
+pub(crate) fn handed_back(text: Vec<u8>, run: RunRecord) -> Output
     ensures { result ≡ output_of_run text.items run }
 {
     Output {
@@ -59,6 +65,15 @@ fn handed_back(text: Vec<u8>, run: RunRecord) -> Output
         bytes: Sequence::from_vec(text),
         run: Some(run),
     }
+}
+
+/// Prints a run's answer, its grants and its counts, and hands it back.
+pub(crate) fn reported_run(alloc: Global, run: RunRecord) -> Result<Output, Memory>
+    requires { IsPrintable run }
+    ensures { IfOk result (λ out. out ≡ output_of_run (reported run) run) }
+{
+    let text = report(alloc, &run.ending, run.grants.as_slice(), &run.counts)?;
+    Ok(handed_back(text, run))
 }
 
 /// Runs a program on the machine, and prints its answer, its grants and its counts.
@@ -70,9 +85,7 @@ pub(crate) fn report_run(
     requires { IsWithinLimits options.now }
     ensures { IfOk result (IsMachineRun checked options.now reported) }
 {
-    let run = machine_run(alloc, options, checked)?;
-    let text = report(alloc, &run.ending, run.grants.as_slice(), &run.counts)?;
-    Ok(handed_back(text, run))
+    reported_run(alloc, machine_run(alloc, options, checked)?)
 }
 
 /// Runs a program on the machine, and sums up.

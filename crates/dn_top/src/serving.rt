@@ -18,8 +18,8 @@ use std::alloc::Global;
 pub struct Answer {
     /// How it ended.
     pub status: Status,
-    /// The run of the multicore machine: there is one exactly in the modes run, work and time, where the status is an
-    /// outcome.
+    /// The run of the multicore machine: there is one exactly in the modes run, work, trace, replay and time, where the
+    /// status is an outcome.
     pub run: Option<RunRecord>,
 }
 

@@ -1,5 +1,6 @@
-use crate::{answer_words, denovo_main};
-use dn_base::{OpenGate, TextSource, VecSink};
+use crate::{Answer, answer_words, denovo_main};
+use dn_base::{OpenGate, Status, TextSource, VecSink};
+use std::alloc::Global;
 use std::test::Fail;
 
 /// One data word, in which a task stores 5.
@@ -32,5 +33,55 @@ fn words_are_answered_on_one_thread(rt: HostRuntime) -> Result<(), Fail> {
     let answer = answer_words(alloc, &words, &mut source, &mut sink);
     assert_eq!(rt; answer.status.code(), 0);
     assert_eq!(rt; sink.bytes(), "checked 1 1 1\n".as_bytes());
+    Ok(())
+}
+
+/// Four tasks each add 1 to a word under a lock, a hundred times.
+const COUNTER: &str =
+    ".region c, 1\n.lock k\n.phase\n.task 0, go, 100\n.gwrites k, c\n.task 1, go, 100\n.gwrites k, c\n.task 2, go, 100\n.gwrites k, c\n.task 3, go, 100\n.gwrites k, c\ngo: mv s0, a0\n la t0, c\nl: li a0, 0\n li a7, 1\n ecall\n lw t1, 0(t0)\n addi t1, t1, 1\n sw t1, 0(t0)\n li a7, 2\n ecall\n addi s0, s0, -1\n bnez s0, l\n li a7, 0\n ecall\n";
+
+/// The program's answer to these words and this text, and what it writes.
+fn written(alloc: Global, words: &[&str], text: &[u8]) -> Result<(Answer, Vec<u8>), Fail> {
+    let mut owned = Vec::new(alloc);
+    for word in words {
+        owned.push(word.to_string(alloc)?)?;
+    }
+    let mut source = TextSource::new(alloc, text, 4096, &[])?;
+    let mut sink = VecSink::new(alloc, 1_048_576, 4096, &[])?;
+    let answer = answer_words(alloc, owned.as_slice(), &mut source, &mut sink);
+    Ok((answer, Vec::from_slice(alloc, sink.bytes())?))
+}
+
+#[test]
+fn the_traces_of_twenty_runs_replay_as_the_runs(rt: HostRuntime) -> Result<(), Fail> {
+    let alloc = rt.alloc();
+    let text = COUNTER.as_bytes();
+    for seed in 1..21_u32 {
+        let seed = seed.to_string(alloc)?;
+        let (run, report) = written(alloc, &["--seed", seed.as_str()], text)?;
+        assert_eq!(rt; run.status, Status::Done);
+        let words = ["--mode", "trace", "--seed", seed.as_str()];
+        let (traced, trace) = written(alloc, &words, text)?;
+        assert_eq!(rt; traced.status, Status::Done);
+        let (replayed, again) = written(alloc, &["--mode", "replay"], trace.as_slice())?;
+        assert_eq!(rt; replayed.status, Status::Done);
+        assert_eq!(rt; again.as_slice(), report.as_slice());
+    }
+    Ok(())
+}
+
+#[test]
+fn a_trace_replays_whatever_the_number_of_workers(rt: HostRuntime) -> Result<(), Fail> {
+    let alloc = rt.alloc();
+    for workers in ["1", "4"] {
+        let words = ["--mode", "trace", "--workers", workers];
+        let (_, trace) = written(alloc, &words, COUNTER.as_bytes())?;
+        let (replayed, _) = written(alloc, &["--mode", "replay"], trace.as_slice())?;
+        assert_eq!(rt; replayed.status, Status::Done);
+        assert!(rt;
+            matches!(&replayed.run, Some(run)
+            if run.grants.len() == 400 && run.ending.memory.as_slice() == [400])
+        );
+    }
     Ok(())
 }

@@ -4,7 +4,7 @@ use Rattle.region_table.specs.Program.{ProgramParts}
 use Rattle.dn_machine.specs.Kept.{Made, IsOpened}
 use Rattle.command_words.specs.declared.options.Options.{Options}
 use Rattle.dn_top.specs.Runs.{shape_for}
-use Rattle.dn_top.proofs.RunOf.{is-run_of, is-printable}
+use Rattle.dn_top.proofs.RunOf.{is-run_of, is-printable, all-told}
 use Rattle.dn_top.proofs.runs.machine_run.Goals as goal
 
 -- the machine was opened in the shape of the checked program
@@ -17,6 +17,12 @@ returns-clause-run c =
     let at = at_shape c.args.checked c.program.result.now c.args.options.now c.shape_of-shape.result m c.in_ok-machine.ensures c.shape_of-shape.ensures c.program.ensures.value in
     let told = c.in_ok-run.ensures in
     is-run_of c.args.checked c.args.options.now m c.in_ok-run.run' at c.a_machine_is_kept.ensures told c.has_each_kind.ensures
+
+pub returns-clause-told : goal.returns-clause-told
+returns-clause-told c =
+    let m = c.in_ok-machine.machine in
+    let at = at_shape c.args.checked c.program.result.now c.args.options.now c.shape_of-shape.result m c.in_ok-machine.ensures c.shape_of-shape.ensures c.program.ensures.value in
+    all-told c.args.checked c.args.options.now m c.in_ok-run.run' at c.a_machine_is_kept.ensures c.in_ok-run.ensures.run.complete.run
 
 pub returns-clause-printable : goal.returns-clause-printable
 returns-clause-printable c =

@@ -1,0 +1,22 @@
+use Rattle.std.proofs.Common.{◌≡◌, List, ap, ◌∙◌}
+use Rattle.dn_top.specs.Runs.{output_of_run}
+use Rattle.dn_top.proofs.TracedRun.{trace-told, told-at, document-at}
+use Rattle.dn_top.proofs.documents.trace_run.Goals as goal
+
+pub trace_text-requires : goal.trace_text-requires
+trace_text-requires c =
+    told-at c.args.options.now c.args.text.now c.in_ok-run.run' c.sizes_of.result c.as_slice.result.now c.sizes_of.ensures c.as_slice.ensures
+    (trace-told c.args.checked c.args.options.now c.args.text.now c.in_ok-run.run' c.requires.limits c.requires.program c.in_ok-run.ensures.run c.in_ok-run.ensures.told)
+
+pub returns : goal.returns
+returns c =
+    record {
+      run = c.in_ok-run.run';
+      is = c.in_ok-run.ensures.run;
+      told =
+          trace-told c.args.checked c.args.options.now c.args.text.now c.in_ok-run.run' c.requires.limits c.requires.program c.in_ok-run.ensures.run c.in_ok-run.ensures.told;
+      answer =
+          c.handed_back.ensures
+          ∙ ap (λ (bytes : List _). output_of_run bytes c.in_ok-run.run')
+            (document-at c.args.options.now c.args.text.now c.in_ok-run.run' c.sizes_of.result c.as_slice.result.now _ c.sizes_of.ensures c.as_slice.ensures c.in_ok-document.ensures.is);
+    }

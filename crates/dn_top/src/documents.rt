@@ -1,0 +1,128 @@
+ghost use Rattle.std.specs.Prelude.{◌≡◌, ◌≢◌, Ok, IfOk, IfErr};
+ghost use Rattle.rv_assembler.specs.Source.{source};
+ghost use Rattle.run_replay.specs.declared.trace.TraceFault.TheVariants.{Memory as NoMemory};
+ghost use Rattle.run_replay.specs.declared.refusal.TraceRefusal.TheVariants.{Fault as OfFault};
+ghost use Rattle.run_replay.specs.Document.{IsDocument, IsTrace};
+ghost use Rattle.run_replay.specs.Refusal.{refusal_text};
+ghost use Rattle.command_words.specs.Command.{IsWithinLimits};
+ghost use Rattle.dn_top.specs.Answers.{IsRefusedDocument, IsReplayed, IsStop};
+ghost use Rattle.dn_top.specs.Documents.{IsNoDocument, IsNoRun, IsReplayedRun, IsTracedRun, shape_told, sizes_of};
+
+use crate::output::Output;
+use crate::programs::{Stop, checked_of};
+use crate::runs::{handed_back, machine_run, reported_run};
+use command_words::Options;
+use dn_base::{Memory, Sequence, Shape};
+use dn_machine::RunRecord;
+use effect_checker::Checked;
+use region_table::{Program, a_program_is_well_formed};
+use run_replay::{
+    Replayed, Trace, TraceFault, TraceRefusal, TraceShape, read_trace, replay, trace_line,
+    trace_text,
+};
+use std::alloc::Global;
+
+/// The machine's size and the fuel that the options ask for, as a document tells them.
+fn sizes_of(options: &Options) -> TraceShape
+    ensures { result ≡ sizes_of options.now }
+{
+    TraceShape {
+        banks: options.banks,
+        sets: options.sets,
+        ways: options.ways,
+        fuel: options.fuel,
+    }
+}
+
+/// Runs the program of a text on the machine, and writes the document of the run.
+pub(crate) fn trace_run(
+    alloc: Global,
+    options: &Options,
+    text: &[u8],
+    checked: Checked,
+) -> Result<Output, Memory>
+    requires limits { IsWithinLimits options.now }
+    requires program { source text.now ≡ Ok checked }
+    ensures { IfOk result (IsTracedRun checked options.now text.now) }
+{
+    let run = machine_run(alloc, options, checked)?;
+    let document = trace_text(alloc, text, sizes_of(options), run.events.as_slice())?;
+    Ok(handed_back(document, run))
+}
+
+/// The refusal of a document.
+fn refusal(alloc: Global, why: &TraceRefusal) -> Stop
+    requires { why.now ≢ OfFault NoMemory }
+    ensures { IsStop (λ line. line ≡ refusal_text why.now) result }
+{
+    match trace_line(alloc, why) {
+        Ok(line) => Stop::Refused(Sequence::from_vec(line)),
+        Err(_) => Stop::Memory,
+    }
+}
+
+/// What a document tells.
+fn trace_in(alloc: Global, document: &[u8]) -> Result<Trace, Stop>
+    ensures ok { IfOk result (IsDocument document.now) }
+    ensures stop { IfErr result (IsStop (IsNoDocument document.now)) }
+{
+    match read_trace(alloc, document) {
+        Ok(trace) => Ok(trace),
+        Err(TraceFault::Memory) => Err(Stop::Memory),
+        Err(fault) => Err(refusal(alloc, &TraceRefusal::Fault(fault))),
+    }
+}
+
+/// The machine of a program, in the size that a document tells.
+fn shape_told(sizes: TraceShape, program: &Program) -> Shape
+    ensures { result ≡ shape_told program.now sizes }
+{
+    Shape {
+        cores: program.cores(),
+        banks: sizes.banks,
+        sets: sizes.sets,
+        ways: sizes.ways,
+    }
+}
+
+/// Makes the events of a document once more, and reports the run.
+fn run_again(alloc: Global, trace: Trace, checked: Checked) -> Result<Output, Stop>
+    requires { IsTrace trace }
+    ensures ok { IfOk result (IsReplayedRun checked trace) }
+    ensures stop { IfErr result (IsStop (IsNoRun checked trace)) }
+{
+    let program = checked.program();
+    a_program_is_well_formed(program);
+    let shape = shape_told(trace.shape, program);
+    let events = trace.events.as_slice();
+    match replay(alloc, checked, shape, trace.shape.fuel, events)? {
+        Replayed::Complete {
+            ending,
+            grants,
+            counts,
+        } => Ok(reported_run(
+            alloc,
+            RunRecord {
+                events: trace.events,
+                grants,
+                counts,
+                ending,
+            },
+        )?),
+        Replayed::NotEnabled { number } => {
+            Err(refusal(alloc, &TraceRefusal::NotEnabled { number }))
+        }
+        Replayed::Incomplete => Err(refusal(alloc, &TraceRefusal::Incomplete)),
+    }
+}
+
+/// Takes a document, and makes its run once more: the first that is wrong refuses it, of the bytes, of the text that they tell,
+/// and of the events.
+pub(crate) fn replay_document(alloc: Global, document: &[u8]) -> Result<Output, Stop>
+    ensures ok { IfOk result (IsReplayed document.now) }
+    ensures stop { IfErr result (IsStop (IsRefusedDocument document.now)) }
+{
+    let trace = trace_in(alloc, document)?;
+    let checked = checked_of(alloc, trace.text.as_slice())?;
+    run_again(alloc, trace, checked)
+}
