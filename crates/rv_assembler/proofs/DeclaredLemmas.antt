@@ -34,10 +34,11 @@ use Rattle.rv_assembler.specs.Operand.{bytes_of, token_at}
 use Rattle.rv_assembler.specs.Shape as shape
 use Rattle.rv_assembler.specs.Shape.{Shape, memory_rows, operation_rows, short_rows, directive_rows, later_rows, is_colon, is_plain, piece_fits, fits, has_word, is_row, kind_in, knows_word, or_else, kind_for}
 use Rattle.rv_assembler.specs.Reading.{statement_for, statement_of, statement_in, said, labelled, read_tokens, read_line, reading_of, version_line}
-use Rattle.rv_assembler.specs.Draft.{no_draft, after}
-use Rattle.rv_assembler.specs.Program.{program_of}
-use Rattle.rv_assembler.specs.Source as source_of
-use Rattle.rv_assembler.specs.Source.{fault_of, unless_fault, total, program_in, draft_of, source}
+use Rattle.rv_assembler.specs.Adding.{no_draft, after, fault_of, unless_fault, total, program_in, draft_of}
+use Rattle.rv_assembler.specs.Finishing.{program_of}
+use Rattle.rv_assembler.specs.Adding as adding
+use Rattle.rv_assembler.specs.Source.{source}
+use Rattle.rv_assembler.proofs.AgreeLemmas.{source-added}
 
 -- ---- a token
 
@@ -254,7 +255,7 @@ draft-named text d is =
     let all : All (ReadingGood text) (map (reading_of version text) ls) =
     All-map (ReadingGood text) (reading_of version text) ls
     (All-weaker (λ (l : Line). All (IsPart text) l.tokens) (λ (l : Line). ReadingGood text (reading_of version text l)) (reading-named version text) ls (AreParts-lines_of text)) in
-    total-named (nat_lt 0 version) text (source_of.names_of text) no_draft d (map (reading_of version text) ls) all
+    total-named (nat_lt 0 version) text (adding.names_of text) no_draft d (map (reading_of version text) ls) all
     (record { regions = All-nil (λ (r : Region). IsDeclared r.name); locks = All-nil IsDeclared }) is
 
 program-named : (d : Draft) → HasGoodNames d → AreDeclaredNames (names_of (program_of d))
@@ -262,7 +263,7 @@ program-named d h = All-append IsDeclared (map (λ (r : Region). r.name) d.regio
 
 -- the names of a text's program are names that a text may declare
 pub source-declared : (text : List ℕ) (P : ProgramParts) → source text ≡ Ok P → AreDeclaredNames (names_of P)
-source-declared text P is = by_size (nat_lt 1048576 (length text)) is
+source-declared text P is = by_size (nat_lt 1048576 (length text)) (sym (source-added text) ∙ is)
   where
     by_draft : (r : Result Draft SourceFault) → draft_of text ≡ r → program_in r ≡ Ok P → AreDeclaredNames (names_of P)
     by_draft (Ok d) e f = let same : program_of d ≡ P = cc in subst (λ (p : ProgramParts). AreDeclaredNames (names_of p)) same (program-named d (draft-named text d e))

@@ -1,5 +1,5 @@
 -- No line makes a text too large.
-use Rattle.std.proofs.Common.{◌≡◌, ◌<◌, ◌≤◌, ℕ, Bool, true, false, not, ◌&&◌, List, [], ◌∷◌, map, length, Option, Some, None, Result, Ok, Err, refl, sym, ◌∙◌, ap, nat_lt, nat_eq, cond, ⊎_elim}
+use Rattle.std.proofs.Common.{◌≡◌, ◌<◌, ◌≤◌, ℕ, Bool, true, false, not, ◌&&◌, List, [], ◌∷◌, map, length, Option, Some, None, Result, Ok, Err, refl, sym, ◌∙◌, ap, nat_lt, nat_eq, ⊎_elim}
 use Rattle.std.proofs.lemmas.Bool.{cond_both, cases_lt, le-ltb}
 use Rattle.src_text.specs.declared.line.Line.{Line}
 use Rattle.src_text.specs.declared.line.LineFault.{LineFault}
@@ -16,13 +16,14 @@ use Rattle.rv_assembler.specs.declared.names.Meaning.{Meaning}
 use Rattle.rv_assembler.specs.declared.draft.Draft.{Draft}
 use Rattle.rv_assembler.specs.Operand.{bytes_of}
 use Rattle.rv_assembler.specs.Shape.{is_name, is_colon, is_plain, knows_word, kind_for}
-use Rattle.rv_assembler.specs.Reading.{statement_of, statement_in, said, labelled, read_tokens, fault_at, read_line, reading_of, version_line}
+use Rattle.rv_assembler.specs.Reading.{statement_of, statement_in, said, labelled, read_tokens, read_line, reading_of, version_line}
 use Rattle.rv_assembler.specs.Meaning.{first_of}
 use Rattle.src_text.specs.Line.{lines_of}
-use Rattle.rv_assembler.specs.Draft.{no_draft, after}
-use Rattle.rv_assembler.specs.Fault.{out_of_range, doubled, unknown, misplaced, early_fault, over_limit}
-use Rattle.rv_assembler.specs.Source.{limit_fault, fault_of, unless_fault, total, total_of, program_in, names_of, draft_of, source}
+use Rattle.rv_assembler.specs.Adding.{no_draft, after, fault_of, unless_fault, total, total_of, program_in, names_of, draft_of, added}
+use Rattle.rv_assembler.specs.Fault.{out_of_range, doubled, unknown, misplaced, early_fault, over_limit, limit_fault}
+use Rattle.rv_assembler.specs.Source.{source}
 use Rattle.region_table.specs.Program.{ProgramParts}
+use Rattle.rv_assembler.proofs.AgreeLemmas.{source-added}
 
 abbrev is_large : SourceFault → Bool
 is_large fault.TheVariants.TooLarge = true
@@ -115,14 +116,17 @@ program-small : (r : Result Draft SourceFault) → error_large r ≡ false → e
 program-small (Ok d) e = refl
 program-small (Err f) e = e
 
-pub too-large : (text : List ℕ) → source text ≡ Err fault.TheVariants.TooLarge → 1048576 < length text
-too-large text e =
+added-large : (text : List ℕ) → added text ≡ Err fault.TheVariants.TooLarge → 1048576 < length text
+added-large text e =
     ⊎_elim
     (λ (l : 1048576 < length text). l)
     (λ (l : length text ≤ 1048576).
-    let small : source text ≡ program_in (draft_of text) = rw (le-ltb 1048576 (length text) l) refl in
-    let not_large : error_large (source text) ≡ false = ap (λ (r : Result ProgramParts SourceFault). error_large r) small ∙ program-small (draft_of text) (total-small (version_line text (lines_of text)) text (names_of text) (lines_of text) no_draft) in
-    let large : error_large (source text) ≡ true = ap (λ (r : Result ProgramParts SourceFault). error_large r) e in
+    let small : added text ≡ program_in (draft_of text) = rw (le-ltb 1048576 (length text) l) refl in
+    let not_large : error_large (added text) ≡ false = ap (λ (r : Result ProgramParts SourceFault). error_large r) small ∙ program-small (draft_of text) (total-small (version_line text (lines_of text)) text (names_of text) (lines_of text) no_draft) in
+    let large : error_large (added text) ≡ true = ap (λ (r : Result ProgramParts SourceFault). error_large r) e in
     let no : true ≡ false = sym large ∙ not_large in
     absurd cc)
     (cases_lt 1048576 (length text))
+
+pub too-large : (text : List ℕ) → source text ≡ Err fault.TheVariants.TooLarge → 1048576 < length text
+too-large text e = added-large text (sym (source-added text) ∙ e)

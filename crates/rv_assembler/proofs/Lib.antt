@@ -5,5 +5,14 @@ pub mod TaskLemmas
 pub mod SoundLemmas
 pub mod NameLemmas
 pub mod SourceLemmas
+pub mod RangeLemmas
+pub mod TableLemmas
+pub mod WrappedTables
+pub mod AddLemmas
+pub mod DeclarationLemmas
+pub mod CountLemmas
+pub mod MemoryLemmas
+pub mod UseLemmas
+pub mod AgreeLemmas
 pub mod LargeLemmas
 pub mod DeclaredLemmas

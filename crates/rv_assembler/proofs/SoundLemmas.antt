@@ -19,9 +19,9 @@ use Rattle.rv_assembler.specs.declared.draft.Draft.{Draft}
 use Rattle.rv_assembler.specs.Number.{wrapped, more, is_length}
 use Rattle.rv_assembler.specs.Operand.{bytes_of}
 use Rattle.rv_assembler.specs.Meaning.{length_of}
-use Rattle.rv_assembler.specs.Draft.{no_draft, after}
+use Rattle.rv_assembler.specs.Adding.{no_draft, after}
 use Rattle.rv_assembler.specs.Fault.{out_of_range, region_doubled, lock_doubled, name_doubled, label_of_doubled, doubled, unknown, misplaced, most_regions, over_limit, early_fault}
-use Rattle.rv_assembler.specs.Program.{stored, program_of}
+use Rattle.rv_assembler.specs.Finishing.{stored, program_of}
 use Rattle.rv_assembler.specs.Whole.{IsWhole}
 use Rattle.rv_assembler.proofs.PhaseLemmas.{phases-well}
 use Rattle.rv_assembler.proofs.TaskLemmas.{tasks-within}
@@ -45,11 +45,11 @@ pub record Sound (names : List ℕ → Option Meaning) (d : Draft) : Type 0 wher
 pub sound-none : (names : List ℕ → Option Meaning) → Sound names no_draft
 sound-none names = record { region_count = refl; lock_count = refl; tiled = refl; regions = tt; locks = tt }
 
-not-false : (b : Bool) → not b ≡ false → b ≡ true
+pub not-false : (b : Bool) → not b ≡ false → b ≡ true
 not-false true e = refl
 not-false false e = absurd cc
 
-or-none : (a b : Bool) → (a || b) ≡ false → (a ≡ false) × (b ≡ false)
+pub or-none : (a b : Bool) → (a || b) ≡ false → (a ≡ false) × (b ≡ false)
 or-none true b e = absurd cc
 or-none false b e = (refl, e)
 
@@ -122,7 +122,7 @@ names-distinct names k (r ∷ rs) ls a b =
     (All-append (λ (p : List ℕ). r.name ≢ p) (region_names rs) ls (no-later names (k + 1) rs r.name k a.1 a.0 (omega arith)) (no-lock names 0 ls r.name k b a.0))
     (names-distinct names (k + 1) rs ls a.1 b)
 
-length-words : (z : ℤ) → is_length z ≡ true → (0 < wrapped z) × (wrapped z ≤ 65536)
+pub length-words : (z : ℤ) → is_length z ≡ true → (0 < wrapped z) × (wrapped z ≤ 65536)
 length-words (pos n) e =
     let p = and_parts (int_le (pos 1) (pos n)) (int_le (pos n) (pos 65536)) e in
     let low : 1 ≤ n = leb-true 1 n p.0 in
@@ -167,7 +167,7 @@ sound-statement text names d statement.TheVariants.Phase h o n w r l = record { 
 sound-statement text names d (statement.TheVariants.Tasks f) h o n w r l = record { region_count = h.region_count; lock_count = h.lock_count; tiled = h.tiled; regions = h.regions; locks = h.locks }
 sound-statement text names d (statement.TheVariants.Uses e) h o n w r l = record { region_count = h.region_count; lock_count = h.lock_count; tiled = h.tiled; regions = h.regions; locks = h.locks }
 
-first-none : {X : Type 0} (a b c e : Bool) (w x y z : X) → (if a then Some w else (if b then Some x else (if c then Some y else (if e then Some z else None)))) ≡ None → (a ≡ false) × (b ≡ false)
+pub first-none : {X : Type 0} (a b c e : Bool) (w x y z : X) → (if a then Some w else (if b then Some x else (if c then Some y else (if e then Some z else None)))) ≡ None → (a ≡ false) × (b ≡ false)
 first-none true b c e w x y z h = absurd cc
 first-none false true c e w x y z h = absurd cc
 first-none false false c e w x y z h = (refl, refl)

@@ -11,10 +11,9 @@ use Rattle.rv_assembler.specs.declared.draft.Draft.{Draft}
 use Rattle.src_text.specs.declared.line.Line.{Line}
 use Rattle.src_text.specs.Line.{lines_of}
 use Rattle.rv_assembler.specs.Reading.{version_line, reading_of}
-use Rattle.rv_assembler.specs.Meaning.{no_count, meaning_in}
-use Rattle.rv_assembler.specs.Draft.{no_draft, after}
+use Rattle.rv_assembler.specs.Gathering.{no_count, meaning_in}
+use Rattle.rv_assembler.specs.Adding.{no_draft, after, total, total_of, draft_of}
 use Rattle.rv_assembler.specs.Fault.{early_fault, over_limit}
-use Rattle.rv_assembler.specs.Source.{total, total_of, draft_of}
 
 pub total-early : (version_2 : Bool) (text : List ℕ) (names : List ℕ → Option Meaning) (d : Draft) (s : Saying) (rs : List Reading) (f : SourceFault) → early_fault text names d s ≡ Some f → total version_2 text names d (Good s ∷ rs) ≡ Err f
 total-early version_2 text names d s rs f e = rw e refl

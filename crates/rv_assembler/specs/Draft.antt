@@ -1,11 +1,8 @@
--- What the lines of a text add up to, line by line.
-use Rattle.std.specs.Prelude.{ℕ, zero, suc, ◌+◌, ◌/◌, ◌%◌, ◌^◌, ℤ, Bool, List, [], ◌∷◌, ◌++◌, Option, Some, None, option_map, if◌then◌else◌}
+-- What a statement declares: first values, tasks, and which words they use.
+use Rattle.std.specs.Prelude.{ℕ, zero, suc, ◌+◌, ◌/◌, ◌%◌, ◌^◌, ℤ, Bool, List, [], ◌∷◌, Option, Some, None, option_map, if◌then◌else◌}
 use Rattle.src_text.specs.declared.token.Token.{Token}
 use Rattle.src_text.specs.declared.token.TokenKind as token
 use Rattle.src_text.specs.declared.token.TokenKind.{TokenKind}
-use Rattle.rv_assembler.specs.declared.statement.Statement.{Statement}
-use Rattle.rv_assembler.specs.declared.statement.Statement as statement
-use Rattle.rv_assembler.specs.declared.statement.Family.{Family}
 use Rattle.rv_assembler.specs.declared.statement.Effect.{Effect}
 use Rattle.rv_assembler.specs.declared.statement.Extent.{Extent}
 use Rattle.rv_assembler.specs.declared.statement.Extent as extent
@@ -17,18 +14,13 @@ use Rattle.rv_assembler.specs.declared.draft.Usage.{Usage}
 use Rattle.rv_assembler.specs.declared.draft.Usage.TheVariants.{Reads, Writes, GuardedReads, GuardedWrites}
 use Rattle.rv_assembler.specs.declared.draft.Claim.{Claim}
 use Rattle.rv_assembler.specs.declared.draft.Cores.{Cores}
-use Rattle.rv_assembler.specs.declared.draft.Draft.{Draft}
 use Rattle.rv_assembler.specs.declared.draft.Place.{Place}
 use Rattle.rv_assembler.specs.Number.{wrapped, more}
 use Rattle.rv_assembler.specs.Operand.{bytes_of}
-use Rattle.rv_assembler.specs.Meaning.{no_count, counted}
-use Rattle.rv_assembler.specs.Emission.{emission, words_in, label_place}
+use Rattle.rv_assembler.specs.Emission.{label_place}
 
 abbrev pub no_cores : Cores
 no_cores = record { first = 0; count = 0 }
-
-abbrev pub no_draft : Draft
-no_draft = record { code = []; regions = []; locks = []; values = []; tasks = []; claims = []; phases = 0; family = no_cores; count = no_count }
 
 -- the region and the lock that a name means
 abbrev pub region_place : Option Meaning → Option Place
@@ -105,29 +97,3 @@ claims_for phase family None u e = []
 abbrev pub values_for : Option Place → ℤ → ℕ → List FirstValue
 values_for None index value = []
 values_for (Some p) index value = record { word = (p.start + wrapped index) % 2 ^ 32; value = value } ∷ []
-
--- a family of tasks becomes the current one
-abbrev pub with_tasks : Draft → ℕ → Family → Draft
-with_tasks d entry f =
-    record d {
-      tasks = d.tasks ++ members (record { phase = d.phases; core = wrapped f.core; entry = entry; arg = f.arg }) f.step (wrapped f.count);
-      family = record { first = wrapped f.core; count = wrapped f.count };
-    }
-
--- what a statement adds, but for the count
-abbrev pub extended : List ℕ → (List ℕ → Option Meaning) → Draft → Statement → Draft
-extended text names d statement.TheVariants.Nothing = d
-extended text names d (statement.TheVariants.Instruction k) = record d { code = d.code ++ words_in (emission text names d.count.code k) }
-extended text names d (statement.TheVariants.Region name len) =
-    record d { regions = d.regions ++ record { name = bytes_of text name; start = d.count.words; len = wrapped len } ∷ [] }
-extended text names d (statement.TheVariants.Word region index value) =
-    record d { values = d.values ++ values_for (region_place (names (bytes_of text region))) index value }
-extended text names d (statement.TheVariants.Lock name) = record d { locks = d.locks ++ bytes_of text name ∷ [] }
-extended text names d statement.TheVariants.Phase = record d { phases = more d.phases 1; family = no_cores }
-extended text names d (statement.TheVariants.Tasks f) = with_tasks d (entry_of text names f.entry) f
-extended text names d (statement.TheVariants.Uses e) =
-    record d { claims = d.claims ++ claims_for d.phases d.family (region_place (names (bytes_of text e.region))) (usage_of text names e) e.extent }
-
--- what there is behind a statement
-abbrev pub after : List ℕ → (List ℕ → Option Meaning) → Draft → Statement → Draft
-after text names d s = record (extended text names d s) { count = counted d.count s }

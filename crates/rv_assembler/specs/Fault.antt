@@ -155,3 +155,6 @@ early_fault text names d s =
     else (if unknown text names d.count.code s.statement then Some (fault.TheVariants.UnknownName s.line)
     else (if misplaced d s.statement then Some (fault.TheVariants.Misplaced s.line)
     else None)))
+
+abbrev pub limit_fault : Bool → Draft → ℕ → Option SourceFault
+limit_fault version_2 d line = if over_limit version_2 d then Some (fault.TheVariants.Limit line) else None

@@ -1,5 +1,5 @@
 -- Numbers of statements: their ranges, and what stands for them in 32 bits.
-use Rattle.std.specs.Prelude.{ℕ, ◌+◌, ◌-◌, ◌%◌, ◌^◌, min, ℤ, pos, neg_ℤ, int_le, int_lt, Bool, ◌&&◌, ◌==◌, if◌then◌else◌}
+use Rattle.std.specs.Prelude.{ℕ, ◌+◌, ◌-◌, ◌%◌, ◌^◌, min, ℤ, pos, negsuc, neg_ℤ, int_le, int_lt, Bool, ◌&&◌, ◌==◌, if◌then◌else◌}
 use Rattle.std.specs.Int.{w64, cast_unsigned}
 use Rattle.rv_isa.specs.Word.{bits, pattern}
 use Rattle.rv_isa.specs.Table.{is_shift, has_immediate}
@@ -8,6 +8,11 @@ use Rattle.rv_isa.specs.declared.instr.AluOp.{AluOp}
 -- a number modulo 2^32
 abbrev pub wrapped : ℤ → ℕ
 wrapped z = cast_unsigned w64 z % 2 ^ 32
+
+-- a number that isn't below 0, as a count
+abbrev pub count_of : ℤ → ℕ
+count_of (pos n) = n
+count_of (negsuc n) = 0
 
 -- a count after some more; counts stand still at the greatest number of 32 bits, far above every limit
 abbrev pub more : ℕ → ℕ → ℕ

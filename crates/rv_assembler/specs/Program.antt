@@ -1,6 +1,6 @@
--- The program that the lines of a text add up to.
-use Rattle.std.specs.Prelude.{ℕ, ◌*◌, ◌%◌, ◌^◌, Bool, true, false, ◌&&◌, nat_lt, nat_le, ◌==◌, List, [], ◌∷◌, length, map, replicate, slice_set, Option, Some, None, option_map, find, filter, filter_map, if◌then◌else◌}
-use Rattle.std.specs.List.{range_with_len}
+-- The program that the tables of a text say.
+use Rattle.std.specs.Prelude.{ℕ, ◌*◌, ◌%◌, ◌^◌, Bool, true, false, ◌&&◌, nat_lt, nat_le, ◌==◌, List, length, map, Option, Some, None, option_map, unwrap_or, find, filter, filter_map, if◌then◌else◌}
+use Rattle.std.specs.List.{range_with_len, last_or}
 use Rattle.region_table.specs.declared.interval.Interval.{Interval}
 use Rattle.region_table.specs.declared.declared.Effects.{Effects}
 use Rattle.region_table.specs.declared.declared.TaskDecl.{TaskDecl}
@@ -15,10 +15,12 @@ use Rattle.rv_assembler.specs.declared.draft.Draft.{Draft}
 use Rattle.rv_assembler.specs.Fault.{is_task}
 use Rattle.rv_assembler.specs.Union.{united}
 
--- the memory with its first values; a later one wins
-abbrev pub stored : List ℕ → List FirstValue → List ℕ
-stored memory [] = memory
-stored memory (v ∷ vs) = stored (slice_set memory v.word v.value) vs
+-- the first value of a word: that of the last `.word` that names it, or 0
+abbrev pub value_for : ℕ → FirstValue → Option ℕ
+value_for word v = if v.word == word then Some v.value else None
+
+abbrev pub first_value : List FirstValue → ℕ → ℕ
+first_value values word = unwrap_or (last_or None (filter_map (value_for word) values)) 0
 
 abbrev pub same_usage : Usage → Usage → Bool
 same_usage Reads Reads = true
@@ -68,11 +70,12 @@ task_at words locks claims tasks phase core = option_map (task_of words locks cl
 abbrev pub phase_of : ℕ → ℕ → List Claim → List Start → ℕ → Phase
 phase_of words locks claims tasks phase = record { tasks = filter_map (task_at words locks claims tasks phase) (range_with_len 0 16) }
 
+-- the code, the data words with their first values, the regions, the locks, and the phases, which are numbered from 1
 abbrev pub program_of : Draft → ProgramParts
 program_of d =
     record {
       code = d.code;
-      memory = stored (replicate d.count.words 0) d.values;
+      memory = map (first_value d.values) (range_with_len 0 d.count.words);
       regions = d.regions;
       locks = d.locks;
       phases = map (phase_of d.count.words (length d.locks) d.claims d.tasks) (range_with_len 1 d.phases);

@@ -1,7 +1,6 @@
 -- The meaning of a source text: a program, or its first fault.
-use Rattle.std.specs.Prelude.{ℕ, Bool, nat_lt, List, [], ◌∷◌, length, map, Option, Some, None, Result, Ok, Err, if◌then◌else◌}
+use Rattle.std.specs.Prelude.{ℕ, Bool, nat_lt, List, [], ◌∷◌, ◌++◌, length, map, filter_map, Option, Some, None, Result, Ok, Err, if◌then◌else◌}
 use Rattle.region_table.specs.Program.{ProgramParts}
-use Rattle.src_text.specs.declared.line.Line.{Line}
 use Rattle.src_text.specs.Line.{lines_of}
 use Rattle.rv_assembler.specs.declared.fault.SourceFault.{SourceFault}
 use Rattle.rv_assembler.specs.declared.fault.SourceFault as fault
@@ -9,47 +8,51 @@ use Rattle.rv_assembler.specs.declared.reading.Saying.{Saying}
 use Rattle.rv_assembler.specs.declared.reading.Reading.{Reading}
 use Rattle.rv_assembler.specs.declared.reading.Reading.TheVariants.{Bad, Good}
 use Rattle.rv_assembler.specs.declared.names.Meaning.{Meaning}
-use Rattle.rv_assembler.specs.declared.draft.Draft.{Draft}
 use Rattle.rv_assembler.specs.Reading.{version_line, reading_of}
-use Rattle.rv_assembler.specs.Meaning.{first_of, no_count, meaning_in}
-use Rattle.rv_assembler.specs.Draft.{no_draft, after}
-use Rattle.rv_assembler.specs.Fault.{early_fault, over_limit}
+use Rattle.rv_assembler.specs.Meaning.{first_of}
+use Rattle.rv_assembler.specs.Placed.{Placed, placed}
+use Rattle.rv_assembler.specs.Declarations.{meaning_of}
+use Rattle.rv_assembler.specs.Tables.{tables}
+use Rattle.rv_assembler.specs.Fault.{early_fault, limit_fault}
 use Rattle.rv_assembler.specs.Program.{program_of}
 
-abbrev pub limit_fault : Bool → Draft → ℕ → Option SourceFault
-limit_fault version_2 d line = if over_limit version_2 d then Some (fault.TheVariants.Limit line) else None
+-- the lines of good form
+abbrev pub good : Reading → Option Saying
+good (Bad f) = None
+good (Good s) = Some s
 
--- the first fault of a line of good form
-abbrev pub fault_of : Bool → List ℕ → (List ℕ → Option Meaning) → Draft → Saying → Option SourceFault
-fault_of version_2 text names d s = first_of (early_fault text names d s) (limit_fault version_2 (after text names d s.statement) s.line)
+abbrev pub sayings : List Reading → List Saying
+sayings rs = filter_map good rs
 
-abbrev pub unless_fault : Option SourceFault → Result Draft SourceFault → Result Draft SourceFault
-unless_fault (Some f) r = Err f
-unless_fault None r = r
+-- the first fault of a line, by the lines of good form before it
+abbrev pub line_fault : Bool → List ℕ → (List ℕ → Option Meaning) → List Saying → Reading → Option SourceFault
+line_fault version_2 text names before (Bad f) = Some f
+line_fault version_2 text names before (Good s) =
+    first_of (early_fault text names (tables text names before) s) (limit_fault version_2 (tables text names (before ++ s ∷ [])) s.line)
 
--- line by line: the first line with a fault decides, and else all lines add up
-abbrev pub total : Bool → List ℕ → (List ℕ → Option Meaning) → Draft → List Reading → Result Draft SourceFault
-total version_2 text names d [] = Ok d
-total version_2 text names d (Bad f ∷ rs) = Err f
-total version_2 text names d (Good s ∷ rs) =
-    unless_fault (fault_of version_2 text names d s) (total version_2 text names (after text names d s.statement) rs)
+abbrev pub fault_at : Bool → List ℕ → (List ℕ → Option Meaning) → Placed Reading → Option SourceFault
+fault_at version_2 text names p = line_fault version_2 text names (sayings p.before) p.here
 
--- the same for lines, by what each says
-abbrev pub total_of : ℕ → List ℕ → (List ℕ → Option Meaning) → Draft → List Line → Result Draft SourceFault
-total_of version text names d ls = total (nat_lt 0 version) text names d (map (reading_of version text) ls)
+-- the first faults of the lines that have one
+abbrev pub faults : Bool → List ℕ → (List ℕ → Option Meaning) → List Reading → List SourceFault
+faults version_2 text names rs = filter_map (fault_at version_2 text names) (placed rs)
 
-abbrev pub program_in : Result Draft SourceFault → Result ProgramParts SourceFault
-program_in (Ok d) = Ok (program_of d)
-program_in (Err f) = Err f
+-- the first fault, or else the program
+abbrev pub decided : List SourceFault → ProgramParts → Result ProgramParts SourceFault
+decided [] p = Ok p
+decided (f ∷ fs) p = Err f
 
--- the names of a text are those of all its lines of good form
-abbrev pub names_of : List ℕ → List ℕ → Option Meaning
-names_of text = let ls = lines_of text in meaning_in text no_count (map (reading_of (version_line text ls) text) ls)
+-- what the lines of a text say, where names mean what the first line that declares them says
+abbrev pub said_by : Bool → List ℕ → List Reading → Result ProgramParts SourceFault
+said_by version_2 text rs =
+    let names = meaning_of text (sayings rs) in decided (faults version_2 text names rs) (program_of (tables text names (sayings rs)))
 
--- what the lines of a text add up to
-abbrev pub draft_of : List ℕ → Result Draft SourceFault
-draft_of text = let ls = lines_of text in total_of (version_line text ls) text (names_of text) no_draft ls
+-- what the lines of a text say
+abbrev pub readings : List ℕ → List Reading
+readings text = let ls = lines_of text in map (reading_of (version_line text ls) text) ls
 
--- the program of a text, or its first fault
+-- the program of a text, or its first fault; the version line has the number 0 where the text is of version 1
 abbrev pub source : List ℕ → Result ProgramParts SourceFault
-source text = if nat_lt 1048576 (length text) then Err fault.TheVariants.TooLarge else program_in (draft_of text)
+source text =
+    if nat_lt 1048576 (length text) then Err fault.TheVariants.TooLarge
+    else said_by (nat_lt 0 (version_line text (lines_of text))) text (readings text)

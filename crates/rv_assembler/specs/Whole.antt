@@ -2,7 +2,7 @@
 use Rattle.std.specs.Prelude.{◌≤◌, length}
 use Rattle.region_table.specs.Program.{IsProgram}
 use Rattle.rv_assembler.specs.declared.draft.Draft.{Draft}
-use Rattle.rv_assembler.specs.Program.{program_of}
+use Rattle.rv_assembler.specs.Finishing.{program_of}
 
 -- the lines are within the limits, and add up to a well-formed program
 pub record IsWhole (d : Draft) : Type 0 where

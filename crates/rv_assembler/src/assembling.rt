@@ -4,9 +4,9 @@ ghost use Rattle.region_table.specs.Program.{IsProgram};
 ghost use Rattle.rv_assembler.specs.Lookup.{looked};
 ghost use Rattle.rv_assembler.specs.declared.fault.SourceFault as fault;
 ghost use Rattle.rv_assembler.specs.declared.fault.SourceFault.TheVariants.{TooLarge, Memory as NoMemory};
-ghost use Rattle.rv_assembler.specs.Draft.{no_draft};
+ghost use Rattle.rv_assembler.specs.Adding.{no_draft, total_of, draft_of, added};
 ghost use Rattle.rv_assembler.specs.Whole.{IsWhole};
-ghost use Rattle.rv_assembler.specs.Source.{total_of, draft_of, source};
+ghost use Rattle.rv_assembler.specs.Source.{source};
 
 use crate::draft::Draft;
 use crate::fault::SourceFault;
@@ -65,6 +65,19 @@ fn draft_in(alloc: Global, text: &[u8]) -> Result<Draft, SourceFault>
     add_up(alloc, version, text, &names, lines)
 }
 
+/// The program that the lines of a text add up to, or else the text's first fault.
+fn program_by_lines(alloc: Global, text: &[u8]) -> Result<Program, SourceFault>
+    ensures ok { IfOk result (λ program. added text.now ≡ Ok program) }
+    ensures err { IfErr result (λ f. f ≢ NoMemory → added text.now ≡ Err f) }
+    ensures large { 1048576 < length text.now → result ≡ Err TooLarge }
+{
+    if MOST_BYTES < text.len() {
+        return Err(SourceFault::TooLarge);
+    }
+    let draft = draft_in(alloc, text)?;
+    Ok(finish(alloc, draft)?)
+}
+
 /// The program of a source text, or else the text's first fault.
 ///
 /// The text is read line by line. Each line may declare a label and give one statement: an instruction of RV32I or a
@@ -80,9 +93,5 @@ pub fn assemble(alloc: Global, text: &[u8]) -> Result<Program, SourceFault>
     ensures err { IfErr result (λ f. f ≢ NoMemory → source text.now ≡ Err f) }
     ensures large { 1048576 < length text.now → result ≡ Err TooLarge }
 {
-    if MOST_BYTES < text.len() {
-        return Err(SourceFault::TooLarge);
-    }
-    let draft = draft_in(alloc, text)?;
-    Ok(finish(alloc, draft)?)
+    program_by_lines(alloc, text)
 }

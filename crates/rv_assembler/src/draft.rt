@@ -4,7 +4,8 @@ ghost use Rattle.rv_assembler.specs.Lookup.{looked};
 ghost use Rattle.rv_assembler.specs.Emission.{words_in, emission};
 ghost use Rattle.rv_assembler.specs.Operand.{bytes_of};
 ghost use Rattle.rv_assembler.specs.Number.{wrapped, more};
-ghost use Rattle.rv_assembler.specs.Draft.{no_draft, region_place, lock_number, entry_of, members, usage_of, first_word, past_word, step_of, claimed, claims_for, values_for, with_tasks, extended, after};
+ghost use Rattle.rv_assembler.specs.Adding.{no_draft, with_tasks, extended, after};
+ghost use Rattle.rv_assembler.specs.Draft.{region_place, lock_number, entry_of, members, usage_of, first_word, past_word, step_of, claimed, claims_for, values_for};
 
 use crate::emission::{Emission, emit};
 use crate::names::{Count, Meaning, NO_COUNT, Names, counted, meaning_of};

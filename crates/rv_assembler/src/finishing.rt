@@ -5,7 +5,8 @@ ghost use Rattle.std.specs.List.{All, range_with_len};
 ghost use Rattle.region_table.specs.declared.interval.Interval.{Interval};
 ghost use Rattle.region_table.specs.Program.{IsProgram};
 ghost use Rattle.rv_assembler.specs.Fault.{is_task};
-ghost use Rattle.rv_assembler.specs.Program.{stored, same_usage, is_claim_of, interval_of, words_of, read_under, written_under, effects_of, task_of, task_at, phase_of, program_of};
+ghost use Rattle.rv_assembler.specs.Program.{same_usage, is_claim_of, interval_of, words_of, read_under, written_under, effects_of, task_of, task_at, phase_of};
+ghost use Rattle.rv_assembler.specs.Finishing.{stored, program_of};
 
 use crate::draft::{Claim, Draft, FirstValue, Start, Usage};
 use crate::uniting::united;

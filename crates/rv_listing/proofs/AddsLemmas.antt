@@ -3,9 +3,9 @@ use Rattle.std.proofs.Common.{◌≡◌, ℕ, ◌+◌, ◌<◌, ◌≤◌, Bool,
 use Rattle.src_text.specs.Line.{numbered}
 use Rattle.src_text.specs.declared.line.Line.{Line}
 use Rattle.rv_assembler.specs.Vocabulary.{Statement, Reading, Meaning, Draft, Count, reading_good, statement_nothing}
-use Rattle.rv_assembler.specs.Meaning.{meaning_in}
+use Rattle.rv_assembler.specs.Gathering.{meaning_in}
 use Rattle.rv_assembler.specs.Reading.{reading_of, read_line}
-use Rattle.rv_assembler.specs.Source.{total}
+use Rattle.rv_assembler.specs.Adding.{total}
 use Rattle.rv_listing.specs.Listing.{text_of}
 use Rattle.rv_listing.proofs.ReadLemmas.{SaidFrom, sayings, tokens_at, line-read, other-line}
 use Rattle.rv_listing.proofs.KindLemmas.{IsSaid}

@@ -5,12 +5,12 @@ use Rattle.std.specs.List.{flat_map, range_with_len}
 use Rattle.src_text.specs.Line.{numbered}
 use Rattle.region_table.specs.Program.{ProgramParts, AreTiled}
 use Rattle.rv_assembler.specs.Vocabulary.{Statement, Reading, Meaning, Draft, Count, Start, Claim, FirstValue}
-use Rattle.rv_assembler.specs.Meaning.{no_count, meaning_in}
+use Rattle.rv_assembler.specs.Gathering.{no_count, meaning_in}
 use Rattle.rv_assembler.specs.Reading.{reading_of}
-use Rattle.rv_assembler.specs.Draft.{no_draft}
+use Rattle.rv_assembler.specs.Adding.{no_draft, total}
 use Rattle.rv_assembler.specs.Fault.{most_regions}
-use Rattle.rv_assembler.specs.Program.{stored, phase_of, program_of}
-use Rattle.rv_assembler.specs.Source.{total}
+use Rattle.rv_assembler.specs.Program.{phase_of}
+use Rattle.rv_assembler.specs.Finishing.{stored, program_of}
 use Rattle.rv_listing.specs.Instruction.{code_line}
 use Rattle.rv_listing.specs.Listing.{text_of, region_line, region_values, lock_line, phase_lines}
 use Rattle.rv_listing.specs.Law.{AreCodeWords}

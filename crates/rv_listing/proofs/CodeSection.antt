@@ -10,10 +10,9 @@ use Rattle.rv_assembler.specs.Vocabulary.{Code, Draft, Emission, Meaning, Statem
 use Rattle.rv_assembler.specs.Number.{more}
 use Rattle.rv_assembler.specs.Meaning.{size_of}
 use Rattle.rv_assembler.specs.Emission.{emission, words_in}
-use Rattle.rv_assembler.specs.Draft.{after}
+use Rattle.rv_assembler.specs.Adding.{after, total}
 use Rattle.rv_assembler.specs.Fault.{is_far, is_lost, early_fault, most_regions, over_limit}
-use Rattle.rv_assembler.specs.Program.{program_of}
-use Rattle.rv_assembler.specs.Source.{total}
+use Rattle.rv_assembler.specs.Finishing.{program_of}
 use Rattle.rv_assembler.proofs.SourceLemmas.{total-more}
 use Rattle.rv_listing.specs.Instruction.{code_line}
 use Rattle.rv_listing.specs.Listing.{text_of}

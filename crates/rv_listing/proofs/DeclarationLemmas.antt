@@ -7,9 +7,10 @@ use Rattle.region_table.specs.Program.{AreTiled}
 use Rattle.rv_assembler.specs.Vocabulary.{Statement, Reading, Meaning, Draft, Count, statement_lock, meaning_region, meaning_lock}
 use Rattle.rv_assembler.specs.Number.{more, wrapped}
 use Rattle.rv_assembler.specs.Operand.{bytes_of}
-use Rattle.rv_assembler.specs.Meaning.{length_of, counted, meaning_in}
+use Rattle.rv_assembler.specs.Meaning.{length_of}
+use Rattle.rv_assembler.specs.Gathering.{counted, meaning_in}
 use Rattle.rv_assembler.specs.Fault.{most_regions}
-use Rattle.rv_assembler.specs.Source.{total}
+use Rattle.rv_assembler.specs.Adding.{total}
 use Rattle.rv_listing.proofs.CodeLemmas.{wrapped-pos}
 use Rattle.rv_listing.proofs.ReadLemmas.{sayings}
 use Rattle.rv_listing.proofs.RegionSection.{length-pos, region_statement, add_region, add_lock, IsWithin, total-region, total-lock}

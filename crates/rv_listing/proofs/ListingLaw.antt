@@ -12,11 +12,12 @@ use Rattle.rv_assembler.specs.declared.fault.SourceFault.{SourceFault}
 use Rattle.rv_assembler.specs.declared.fault.SourceFault as fault
 use Rattle.rv_assembler.specs.Vocabulary.{Statement, Draft}
 use Rattle.rv_assembler.specs.Operand.{bytes_of}
-use Rattle.rv_assembler.specs.Meaning.{no_count, meaning_in}
+use Rattle.rv_assembler.specs.Gathering.{no_count, meaning_in}
 use Rattle.rv_assembler.specs.Reading.{reading_of, is_version_of, version_line}
-use Rattle.rv_assembler.specs.Draft.{no_draft}
-use Rattle.rv_assembler.specs.Program.{program_of}
-use Rattle.rv_assembler.specs.Source.{total, program_in, draft_of, source}
+use Rattle.rv_assembler.specs.Adding.{no_draft, total, program_in, draft_of}
+use Rattle.rv_assembler.specs.Finishing.{program_of}
+use Rattle.rv_assembler.specs.Source.{source}
+use Rattle.rv_assembler.proofs.AgreeLemmas.{source-added}
 use Rattle.rv_listing.specs.Statement.{statement}
 use Rattle.rv_listing.specs.Listing.{text_of, listed_lines, listed}
 use Rattle.rv_listing.specs.Law.{IsWithinLimits, AreDeclaredNames, HasWords}
@@ -45,7 +46,8 @@ source-by : (lines : List (List ℕ)) (d : Draft) (p : ProgramParts) → length 
 source-by lines d p l e f =
     let text = text_of lines in
     let small : ltb 1048576 (length text) ≡ false = le-ltb 1048576 (length text) l in
-    ap (λ (b : Bool). cond b (Err fault.TheVariants.TooLarge) (program_in (draft_of text))) small
+    source-added text
+    ∙ ap (λ (b : Bool). cond b (Err fault.TheVariants.TooLarge) (program_in (draft_of text))) small
     ∙ ap program_in e
     ∙ ap (λ (x : ProgramParts). Ok x) f
 

@@ -7,7 +7,7 @@ use Rattle.std.proofs.lemmas.List.{length-drop}
 use Rattle.region_table.specs.declared.declared.Region.{Region}
 use Rattle.region_table.specs.Program.{AreTiled}
 use Rattle.rv_assembler.specs.Vocabulary.{FirstValue}
-use Rattle.rv_assembler.specs.Program.{stored}
+use Rattle.rv_assembler.specs.Finishing.{stored}
 
 abbrev pub first_value : ℕ → ℕ → FirstValue
 first_value w x = record { word = w; value = x }

@@ -7,7 +7,8 @@ use Rattle.src_text.specs.declared.token.Token.{Token}
 use Rattle.region_table.specs.declared.declared.Region.{Region}
 use Rattle.rv_assembler.specs.Vocabulary.{Statement, Reading, Count, statement_lock, meaning_region, meaning_lock}
 use Rattle.rv_assembler.specs.Operand.{bytes_of}
-use Rattle.rv_assembler.specs.Meaning.{first_of, counted, meaning_in}
+use Rattle.rv_assembler.specs.Meaning.{first_of}
+use Rattle.rv_assembler.specs.Gathering.{counted, meaning_in}
 use Rattle.rv_listing.proofs.ReadLemmas.{sayings}
 use Rattle.rv_listing.proofs.RegionSection.{region_statement}
 

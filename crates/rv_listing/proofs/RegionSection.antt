@@ -12,9 +12,8 @@ use Rattle.rv_assembler.specs.Vocabulary.{Statement, Reading, Meaning, Draft, st
 use Rattle.rv_assembler.specs.Number.{more, wrapped, is_length}
 use Rattle.rv_assembler.specs.Operand.{bytes_of}
 use Rattle.rv_assembler.specs.Meaning.{length_of}
-use Rattle.rv_assembler.specs.Draft.{after}
+use Rattle.rv_assembler.specs.Adding.{after, total}
 use Rattle.rv_assembler.specs.Fault.{region_doubled, lock_doubled, early_fault, most_regions, over_limit}
-use Rattle.rv_assembler.specs.Source.{total}
 use Rattle.rv_assembler.proofs.SourceLemmas.{total-more}
 use Rattle.rv_listing.proofs.CodeLemmas.{wrapped-pos}
 use Rattle.rv_listing.proofs.ReadLemmas.{sayings}

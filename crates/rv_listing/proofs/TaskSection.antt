@@ -8,9 +8,9 @@ use Rattle.rv_assembler.specs.declared.fault.SourceFault.{SourceFault}
 use Rattle.rv_assembler.specs.declared.fault.SourceFault as fault
 use Rattle.rv_assembler.specs.Vocabulary.{Reading, Meaning, Draft, Start, Cores, Family, statement_tasks}
 use Rattle.rv_assembler.specs.Number.{wrapped}
-use Rattle.rv_assembler.specs.Draft.{members, after}
+use Rattle.rv_assembler.specs.Draft.{members}
+use Rattle.rv_assembler.specs.Adding.{after, total}
 use Rattle.rv_assembler.specs.Fault.{entry_far, are_cores, has_task, taken, early_fault, over_limit}
-use Rattle.rv_assembler.specs.Source.{total}
 use Rattle.rv_assembler.proofs.SourceLemmas.{total-more}
 use Rattle.rv_listing.specs.Statement.{hexadecimal}
 use Rattle.rv_listing.proofs.TokenLemmas.{token}

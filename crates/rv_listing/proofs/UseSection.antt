@@ -8,9 +8,9 @@ use Rattle.rv_assembler.specs.declared.fault.SourceFault as fault
 use Rattle.rv_assembler.specs.Vocabulary.{Reading, Meaning, Draft, Claim, Usage, Effect, Cores, statement_phase, statement_uses, extent_part, meaning_region}
 use Rattle.rv_assembler.specs.Number.{more, wrapped, is_interval}
 use Rattle.rv_assembler.specs.Operand.{bytes_of}
-use Rattle.rv_assembler.specs.Draft.{no_cores, region_place, usage_of, claims_for, after}
+use Rattle.rv_assembler.specs.Draft.{no_cores, region_place, usage_of, claims_for}
+use Rattle.rv_assembler.specs.Adding.{after, total}
 use Rattle.rv_assembler.specs.Fault.{lock_lost, extent_far, early_fault, over_limit}
-use Rattle.rv_assembler.specs.Source.{total}
 use Rattle.rv_assembler.proofs.SourceLemmas.{total-more}
 use Rattle.rv_listing.proofs.CodeLemmas.{wrapped-pos}
 use Rattle.rv_listing.proofs.ReadLemmas.{sayings}

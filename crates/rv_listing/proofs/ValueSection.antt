@@ -9,9 +9,9 @@ use Rattle.rv_assembler.specs.declared.fault.SourceFault as fault
 use Rattle.rv_assembler.specs.Vocabulary.{Statement, Reading, Meaning, Draft, statement_word, meaning_region}
 use Rattle.rv_assembler.specs.Number.{wrapped}
 use Rattle.rv_assembler.specs.Operand.{bytes_of}
-use Rattle.rv_assembler.specs.Draft.{region_place, values_for, after}
+use Rattle.rv_assembler.specs.Draft.{region_place, values_for}
+use Rattle.rv_assembler.specs.Adding.{after, total}
 use Rattle.rv_assembler.specs.Fault.{word_far, early_fault, over_limit}
-use Rattle.rv_assembler.specs.Source.{total}
 use Rattle.rv_assembler.proofs.SourceLemmas.{total-more}
 use Rattle.rv_listing.proofs.CodeLemmas.{wrapped-pos}
 use Rattle.rv_listing.proofs.ReadLemmas.{sayings}

@@ -1,7 +1,6 @@
 use Rattle.std.proofs.Common.{◌≡◌, drop}
 use Rattle.rv_assembler.specs.Lookup.{looked}
-use Rattle.rv_assembler.specs.Draft.{no_draft}
-use Rattle.rv_assembler.specs.Source.{total_of}
+use Rattle.rv_assembler.specs.Adding.{no_draft, total_of}
 use Rattle.rv_assembler.proofs.SoundLemmas.{Sound, IsWithin}
 use Rattle.rv_assembler.proofs.assembling.add_up.Given as goal
 

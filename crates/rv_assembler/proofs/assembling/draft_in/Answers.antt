@@ -3,8 +3,7 @@ use Rattle.rv_assembler.specs.declared.fault.SourceFault.{SourceFault}
 use Rattle.rv_assembler.specs.declared.fault.SourceFault.TheVariants.{Memory}
 use Rattle.rv_assembler.specs.declared.draft.Draft.{Draft}
 use Rattle.rv_assembler.specs.Lookup.{looked}
-use Rattle.rv_assembler.specs.Draft.{no_draft}
-use Rattle.rv_assembler.specs.Source.{total_of, draft_of}
+use Rattle.rv_assembler.specs.Adding.{no_draft, total_of, draft_of}
 use Rattle.rv_assembler.proofs.SourceLemmas.{draft-from}
 use Rattle.rv_assembler.proofs.assembling.draft_in.Goals as goal
 

@@ -1,5 +1,5 @@
 use Rattle.std.proofs.Common.{◌≡◌, replicate, drop}
-use Rattle.rv_assembler.specs.Program.{stored}
+use Rattle.rv_assembler.specs.Finishing.{stored}
 use Rattle.rv_assembler.proofs.finishing.first_memory.Given as goal
 
 abbrev pub invariant-loop-value : goal.invariant-loop-value

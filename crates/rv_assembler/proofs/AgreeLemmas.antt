@@ -1,0 +1,80 @@
+-- Adding up the lines one by one gives what the text means.
+use Rattle.std.proofs.Common.{◌≡◌, ℕ, ◌+◌, ◌≤◌, Bool, cond, nat_lt, List, [], ◌∷◌, ◌++◌, map, length, Option, Some, None, Result, Ok, Err, refl, sym, ap, ◌∙◌, append_assoc, append-nil, length-append, arith}
+use Rattle.std.specs.List.{filter_map, cons_option}
+use Rattle.std.proofs.lemmas.List.Elements.{filter_map-append}
+use Rattle.region_table.specs.Program.{ProgramParts}
+use Rattle.src_text.specs.Line.{lines_of}
+use Rattle.rv_assembler.specs.declared.fault.SourceFault.{SourceFault}
+use Rattle.rv_assembler.specs.declared.fault.SourceFault as fault
+use Rattle.rv_assembler.specs.declared.reading.Saying.{Saying}
+use Rattle.rv_assembler.specs.declared.reading.Reading.{Reading}
+use Rattle.rv_assembler.specs.declared.reading.Reading.TheVariants.{Bad, Good}
+use Rattle.rv_assembler.specs.declared.names.Meaning.{Meaning}
+use Rattle.rv_assembler.specs.declared.draft.Draft.{Draft}
+use Rattle.rv_assembler.specs.Reading.{version_line, reading_of}
+use Rattle.rv_assembler.specs.Meaning.{first_of}
+use Rattle.rv_assembler.specs.Gathering.{no_count, meaning_in}
+use Rattle.rv_assembler.specs.Adding.{no_draft, after, unless_fault, total, program_in, added}
+use Rattle.rv_assembler.specs.Fault.{early_fault, limit_fault}
+use Rattle.rv_assembler.specs.Finishing.{program_of}
+use Rattle.rv_assembler.specs.Placed.{placed_behind}
+use Rattle.rv_assembler.specs.Counts.{data_words}
+use Rattle.rv_assembler.specs.Declarations.{meaning_of}
+use Rattle.rv_assembler.specs.Source.{good, sayings, line_fault, fault_at, faults, decided, said_by, source}
+use Rattle.rv_assembler.proofs.SoundLemmas.{within}
+use Rattle.rv_assembler.proofs.WrappedTables.{wrapped_tables}
+use Rattle.rv_assembler.proofs.UseLemmas.{within-limits, in-range, same-program}
+use Rattle.rv_assembler.proofs.MemoryLemmas.{finished}
+use Rattle.rv_assembler.proofs.AddLemmas.{tables-more}
+use Rattle.rv_assembler.proofs.DeclarationLemmas.{gathered}
+use Rattle.rv_assembler.proofs.CountLemmas.{few-lines}
+
+-- the first fault decides, or else the lines behind it
+first-decides : (o : Option SourceFault) (r : Result Draft SourceFault) (fs : List SourceFault) (p : ProgramParts) → (o ≡ None → program_in r ≡ decided fs p) → program_in (unless_fault o r) ≡ decided (cons_option o fs) p
+first-decides None r fs p h = h refl
+first-decides (Some f) r fs p h = refl
+
+-- the same where a line's last fault is looked for behind the others
+then-decides : (a b c : Option SourceFault) (r : Result Draft SourceFault) (fs : List SourceFault) (p : ProgramParts) → (a ≡ None → b ≡ c) → (a ≡ None → c ≡ None → program_in r ≡ decided fs p)
+    → program_in (unless_fault (first_of a b) r) ≡ decided (cons_option (first_of a c) fs) p
+then-decides None b c r fs p same h = ap (λ (o : Option SourceFault). program_in (unless_fault o r)) (same refl) ∙ first-decides c r fs p (h refl)
+then-decides (Some f) b c r fs p same h = refl
+
+agree-from : (v : Bool) (text : List ℕ) (names : List ℕ → Option Meaning) (rs done : List Reading) (before : List Saying) → sayings done ≡ before → length before + length (sayings rs) ≤ 65536 → data_words before ≤ 65536
+    → program_in (total v text names (wrapped_tables text names before) rs)
+    ≡ decided (filter_map (fault_at v text names) (placed_behind done rs)) (program_of (wrapped_tables text names (before ++ sayings rs)))
+agree-from v text names [] done before same few small = ap (λ (ss : List Saying). Ok (program_of (wrapped_tables text names ss))) (sym (append-nil before))
+agree-from v text names (Bad f ∷ rs) done before same few small = refl
+agree-from v text names (Good s ∷ rs) done before same few small =
+    let now : List Saying = before ++ s ∷ [] in
+    let early : Option SourceFault = early_fault text names (wrapped_tables text names before) s in
+    let adds : Draft = after text names (wrapped_tables text names before) s.statement in
+    let more : early ≡ None → adds ≡ wrapped_tables text names now = λ none. sym (tables-more text names before s.line s.label s.statement (omega arith) small (in-range text names (wrapped_tables text names before) s none)) in
+    let later = placed_behind (done ++ Good s ∷ []) rs in
+    let whole : List Saying = before ++ s ∷ sayings rs in
+    let longer : length now ≡ length before + 1 = length-append before (s ∷ []) in
+    then-decides early (limit_fault v adds s.line) (limit_fault v (wrapped_tables text names now) s.line) (total v text names adds rs) (filter_map (fault_at v text names) later) (program_of (wrapped_tables text names whole))
+    (λ none. ap (λ (d : Draft). limit_fault v d s.line) (more none))
+    (λ none limit.
+    let words : data_words now ≤ 65536 = (within v (wrapped_tables text names now) (within-limits v (wrapped_tables text names now) s.line limit)).words in
+    let said : sayings (done ++ Good s ∷ []) ≡ now = filter_map-append good done (Good s ∷ []) ∙ ap (λ (ss : List Saying). ss ++ s ∷ []) same in
+    ap (λ (d : Draft). program_in (total v text names d rs)) (more none)
+    ∙ agree-from v text names rs (done ++ Good s ∷ []) now said (omega (arith, longer)) words
+    ∙ ap (λ (ss : List Saying). decided (filter_map (fault_at v text names) later) (program_of (wrapped_tables text names ss))) (append_assoc before (s ∷ []) (sayings rs)))
+    ∙ ap (λ (ss : List Saying). decided (cons_option (line_fault v text names ss (Good s)) (filter_map (fault_at v text names) later)) (program_of (wrapped_tables text names whole))) (sym same)
+
+agree : (v : Bool) (text : List ℕ) (rs : List Reading) → length (sayings rs) ≤ 65536 → program_in (total v text (meaning_in text no_count rs) no_draft rs) ≡ said_by v text rs
+agree v text rs few =
+    let same : meaning_in text no_count rs ≡ meaning_of text (sayings rs) = λ i q. gathered text rs q few i in
+    ap (λ (names : List ℕ → Option Meaning). program_in (total v text names no_draft rs)) same
+    ∙ agree-from v text (meaning_of text (sayings rs)) rs [] [] refl (omega arith) (omega arith)
+    ∙ ap (λ (p : ProgramParts). decided (faults v text (meaning_of text (sayings rs)) rs) p) (finished (wrapped_tables text (meaning_of text (sayings rs)) (sayings rs)))
+    ∙ same-program v text rs
+
+-- a text means what its lines add up to
+pub source-added : (text : List ℕ) → source text ≡ added text
+source-added text =
+    let ls = lines_of text in
+    let version = version_line text ls in
+    ap (λ (r : Result ProgramParts SourceFault). cond (nat_lt 1048576 (length text)) (Err fault.TheVariants.TooLarge) r)
+    (sym (agree (nat_lt 0 version) text (map (reading_of version text) ls) (few-lines text)))

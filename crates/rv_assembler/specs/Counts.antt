@@ -1,0 +1,66 @@
+-- How much the statements of some lines are together.
+use Rattle.std.specs.Prelude.{ℕ, ℤ, if◌then◌else◌, Bool, true, false, List, Option, Some, None, filter_map, sum_by, count_by, unwrap_or}
+use Rattle.std.specs.List.{last_or}
+use Rattle.rv_assembler.specs.declared.statement.Statement.{Statement}
+use Rattle.rv_assembler.specs.declared.statement.Statement as statement
+use Rattle.rv_assembler.specs.declared.reading.Saying.{Saying}
+use Rattle.rv_assembler.specs.declared.names.Count.{Count}
+use Rattle.rv_assembler.specs.declared.draft.Cores.{Cores}
+use Rattle.rv_assembler.specs.Number.{count_of, is_length}
+use Rattle.rv_assembler.specs.Meaning.{size_of}
+use Rattle.rv_assembler.specs.Draft.{no_cores}
+
+-- how many words a region has; none where its number is out of its range
+abbrev pub region_words : ℤ → ℕ
+region_words len = if is_length len then count_of len else 0
+
+-- how many code words and data words a statement is
+abbrev pub code_size : Statement → ℕ
+code_size (statement.TheVariants.Instruction k) = size_of k
+code_size _ = 0
+
+abbrev pub data_size : Statement → ℕ
+data_size (statement.TheVariants.Region name len) = region_words len
+data_size _ = 0
+
+abbrev pub is_region : Statement → Bool
+is_region (statement.TheVariants.Region name len) = true
+is_region _ = false
+
+abbrev pub is_lock : Statement → Bool
+is_lock (statement.TheVariants.Lock name) = true
+is_lock _ = false
+
+abbrev pub is_phase : Statement → Bool
+is_phase statement.TheVariants.Phase = true
+is_phase _ = false
+
+-- the code words of some lines, and their data words, which are the lengths of their regions together
+abbrev pub code_words : List Saying → ℕ
+code_words ss = sum_by (λ (s : Saying). code_size s.statement) ss
+
+abbrev pub data_words : List Saying → ℕ
+data_words ss = sum_by (λ (s : Saying). data_size s.statement) ss
+
+-- their regions, locks and phases
+abbrev pub regions_in : List Saying → ℕ
+regions_in ss = count_by (λ (s : Saying). is_region s.statement) ss
+
+abbrev pub locks_in : List Saying → ℕ
+locks_in ss = count_by (λ (s : Saying). is_lock s.statement) ss
+
+abbrev pub phases_in : List Saying → ℕ
+phases_in ss = count_by (λ (s : Saying). is_phase s.statement) ss
+
+abbrev pub counts_in : List Saying → Count
+counts_in ss = record { code = code_words ss; words = data_words ss; regions = regions_in ss; locks = locks_in ss }
+
+-- the cores of the tasks that a statement makes the current ones: a phase begins with none
+abbrev pub opened : Statement → Option Cores
+opened statement.TheVariants.Phase = Some no_cores
+opened (statement.TheVariants.Tasks f) = Some (record { first = count_of f.core; count = count_of f.count })
+opened _ = None
+
+-- the cores of the current tasks behind some lines: those of the last `.task` or `.forall` of the last phase
+abbrev pub family_in : List Saying → Cores
+family_in ss = unwrap_or (last_or None (filter_map (λ (s : Saying). opened s.statement) ss)) no_cores
