@@ -1,3 +1,5 @@
+ghost use Rattle.std.specs.Prelude.{◌≡◌};
+
 use crate::{
     BankActor, BankIn, BankOut, Handled, KeeperActor, KeeperIn, KeeperOut, Port, PortIn, PortOut,
     Posted,
@@ -19,11 +21,13 @@ fn call<O: Object>(object: &mut O, input: O::In) -> Result<O::Out, Memory> {
     Ok(object.step(input))
 }
 
-fn id(sender: Actor, number: u32) -> MailId {
+pub(crate) fn id(sender: Actor, number: u32) -> MailId {
     MailId { sender, number }
 }
 
-fn posted(from: MailId, to: Actor, message: Message, stamp: u64) -> Posted {
+pub(crate) fn posted(from: MailId, to: Actor, message: Message, stamp: u64) -> Posted
+    ensures { (result.mail.to ≡ to) × (result.stamp ≡ stamp) }
+{
     Posted {
         mail: Mail {
             id: from,
