@@ -19,6 +19,8 @@ mod run;
 mod serving;
 mod stamps;
 mod stepping;
+#[cfg(test)]
+mod tests;
 mod working;
 
 pub use crew::{BankLog, Crew};

@@ -28,7 +28,7 @@ returns-in_ok-reported_run-in-Complete-clause-ok c =
       replay = complete;
       is =
           run-again c.args.checked c.args.trace
-              (record { events = c.args.trace.events; grants = c.in-Complete.grants; counts = c.in-Complete.counts; ending = c.in-Complete.ending })
-              refl complete;
+          (record { events = c.args.trace.events; grants = c.in-Complete.grants; counts = c.in-Complete.counts; ending = c.in-Complete.ending })
+          refl complete;
       answer = c.in_ok-reported_run-in-Complete.ensures;
     }

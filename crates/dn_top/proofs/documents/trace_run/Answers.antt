@@ -18,5 +18,5 @@ returns c =
       answer =
           c.handed_back.ensures
           ∙ ap (λ (bytes : List _). output_of_run bytes c.in_ok-run.run')
-            (document-at c.args.options.now c.args.text.now c.in_ok-run.run' c.sizes_of.result c.as_slice.result.now _ c.sizes_of.ensures c.as_slice.ensures c.in_ok-document.ensures.is);
+          (document-at c.args.options.now c.args.text.now c.in_ok-run.run' c.sizes_of.result c.as_slice.result.now _ c.sizes_of.ensures c.as_slice.ensures c.in_ok-document.ensures.is);
     }
