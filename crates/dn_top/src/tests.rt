@@ -80,7 +80,7 @@ fn a_trace_replays_whatever_the_number_of_workers(rt: HostRuntime) -> Result<(),
         assert_eq!(rt; replayed.status, Status::Done);
         assert!(rt;
             matches!(&replayed.run, Some(run)
-            if run.grants.len() == 400 && run.ending.memory.as_slice() == [400])
+            if run.grants.len() == 400 && run.ending.memory.as_slice() == [400].as_slice())
         );
     }
     Ok(())
