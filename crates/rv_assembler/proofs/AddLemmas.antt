@@ -1,5 +1,5 @@
 -- What a statement adds to the tables of the lines before it.
-use Rattle.std.proofs.Common.{◌≡◌, ℕ, ◌+◌, ◌≤◌, List, [], ◌∷◌, length, Option, refl, ap, ◌∙◌, sum_by, flat_map, false, arith, ◌++◌}
+use Rattle.std.proofs.Common.{◌≡◌, ℕ, ◌+◌, ◌≤◌, List, [], ◌∷◌, length, Option, refl, ap, ◌∙◌, sum_by, flat_map, false, not, arith, ◌++◌}
 use Rattle.std.proofs.lemmas.List.Sums.{sum_by_push, count_by-le-length}
 use Rattle.src_text.specs.declared.token.Token.{Token}
 use Rattle.region_table.specs.declared.declared.Region.{Region}
@@ -10,18 +10,21 @@ use Rattle.rv_assembler.specs.declared.statement.Statement.{Statement}
 use Rattle.rv_assembler.specs.declared.statement.Statement as statement
 use Rattle.rv_assembler.specs.declared.reading.Saying.{Saying}
 use Rattle.rv_assembler.specs.declared.names.Meaning.{Meaning}
-use Rattle.rv_assembler.specs.Number.{count_of, wrapped, more, is_length}
-use Rattle.rv_assembler.specs.Meaning.{size_of, length_of}
-use Rattle.rv_assembler.specs.Draft.{no_cores, entry_of, members}
-use Rattle.rv_assembler.specs.Counts.{code_size, data_size, is_region, is_lock, is_phase, code_words, data_words, regions_in, locks_in, phases_in, family_in}
+use Rattle.rv_assembler.specs.Number.{count_of, wrapped, is_length}
+use Rattle.rv_assembler.specs.Gathering.{more}
+use Rattle.rv_assembler.specs.Meaning.{size_of}
+use Rattle.rv_assembler.specs.Named.{no_cores, entry_of}
+use Rattle.rv_assembler.specs.Drafting.{wrapped_entry, members}
+use Rattle.rv_assembler.specs.Counts.{region_words, code_size, data_size, is_region, is_lock, is_phase, code_words, data_words, regions_in, locks_in, phases_in, family_in}
 use Rattle.rv_assembler.specs.Placed.{placed}
 use Rattle.rv_assembler.specs.Rows.{starts}
-use Rattle.rv_assembler.specs.Fault.{out_of_range}
+use Rattle.rv_assembler.specs.Fault.{are_cores, entry_far, out_of_range}
 use Rattle.rv_assembler.specs.Tables.{code_at, region_at, lock_at, task_at}
 use Rattle.rv_assembler.specs.Adding.{after}
-use Rattle.rv_assembler.proofs.SoundLemmas.{not-false}
+use Rattle.rv_assembler.proofs.SoundLemmas.{not-false, or-none, length-counted}
 use Rattle.rv_assembler.proofs.WrappedTables.{wrapped_value_at, wrapped_claim_at, wrapped_tables}
-use Rattle.rv_assembler.proofs.RangeLemmas.{length-counted, region-words, family-cores, members-same}
+use Rattle.rv_assembler.proofs.RangeLemmas.{family-cores, members-same}
+use Rattle.rv_assembler.proofs.NearLemmas.{IsNear, entry-same}
 use Rattle.rv_assembler.proofs.TableLemmas.{tally, table-more, table-same, sum-same, family-same, family-new, counts-same, two-at_most, code-bound, length-at_most}
 
 abbrev code_of : Saying → ℕ
@@ -39,15 +42,15 @@ lock_of s = tally (is_lock s.statement)
 abbrev phase_of : Saying → ℕ
 phase_of s = tally (is_phase s.statement)
 
-module _ (text : List ℕ) (names : List ℕ → Option Meaning) (ss : List Saying) (line : ℕ) (label : Option Token) where
+module _ (text : List ℕ) (names : List ℕ → Option Meaning) (near : (q : List ℕ) → IsNear (names q)) (ss : List Saying) (line : ℕ) (label : Option Token) where
   abbrev said : Statement → Saying
   said st = record { line = line; label = label; statement = st }
 
   abbrev region : Token → ℕ → Region
   region name len = record { name = bytes_of text name; start = data_words ss; len = len }
 
-  abbrev first_task : Family → ℕ → Start
-  first_task f core = record { phase = phases_in ss; core = core; entry = entry_of text names f.entry; arg = f.arg }
+  abbrev first_task : Family → ℕ → ℕ → Start
+  first_task f entry core = record { phase = phases_in ss; core = core; entry = entry; arg = f.arg }
 
   pub tables-more : (st : Statement) → length ss ≤ 65536 → data_words ss ≤ 65536 → out_of_range text names (wrapped_tables text names ss) st ≡ false
       → wrapped_tables text names (ss ++ said st ∷ []) ≡ after text names (wrapped_tables text names ss) st
@@ -90,8 +93,8 @@ module _ (text : List ℕ) (names : List ℕ → Option Meaning) (ss : List Sayi
       let s = said (statement.TheVariants.Region name len) in
       let size = length-at_most len in
       let most : regions_in ss ≤ length ss = count_by-le-length (λ (s : Saying). is_region s.statement) ss in
-      let pushed : sum_by data_of (ss ++ s ∷ []) ≡ data_words ss + length_of len = sum_by_push data_of ss s ∙ ap (λ (n : ℕ). data_words ss + n) (region-words len) in
-      let grown : sum_by data_of (ss ++ s ∷ []) ≡ more (data_words ss) (length_of len) = omega arith in
+      let pushed : sum_by data_of (ss ++ s ∷ []) ≡ data_words ss + region_words len = sum_by_push data_of ss s in
+      let grown : sum_by data_of (ss ++ s ∷ []) ≡ more (data_words ss) (region_words len) = omega arith in
       let counted : sum_by region_of (ss ++ s ∷ []) ≡ regions_in ss + 1 = sum_by_push region_of ss s in
       let one : sum_by region_of (ss ++ s ∷ []) ≡ more (regions_in ss) 1 = omega arith in
       let done : List Region = flat_map (region_at text) (placed ss) in
@@ -167,10 +170,14 @@ module _ (text : List ℕ) (names : List ℕ → Option Meaning) (ss : List Sayi
       let s = said (statement.TheVariants.Tasks f) in
       let few_cores = family-cores f fits in
       let done : List Start = flat_map (task_at text names) (placed ss) in
-      let cores : starts (first_task f (count_of f.core)) f.step (count_of f.count) ≡ starts (first_task f (wrapped f.core)) f.step (wrapped f.count) =
-      ap (λ (c : ℕ). starts (first_task f c) f.step (count_of f.count)) few_cores.core ∙ ap (λ (n : ℕ). starts (first_task f (wrapped f.core)) f.step n) few_cores.count in
-      let grown : flat_map (task_at text names) (placed (ss ++ s ∷ [])) ≡ done ++ members (first_task f (wrapped f.core)) f.step (wrapped f.count) =
-      table-more (task_at text names) ss s ∙ ap (λ (ts : List Start). done ++ ts) (cores ∙ members-same (first_task f (wrapped f.core)) f.step (wrapped f.count) few_cores.few) in
+      let entry = wrapped_entry text names f.entry in
+      let same : entry_of text names f.entry ≡ entry = entry-same text names near f.entry (or-none (not (are_cores f)) (entry_far f.entry.kind) fits).1 in
+      let cores : starts (first_task f (entry_of text names f.entry) (count_of f.core)) f.step (count_of f.count) ≡ starts (first_task f entry (wrapped f.core)) f.step (wrapped f.count) =
+      ap (λ (e : ℕ). starts (first_task f e (count_of f.core)) f.step (count_of f.count)) same
+      ∙ ap (λ (c : ℕ). starts (first_task f entry c) f.step (count_of f.count)) few_cores.core
+      ∙ ap (λ (n : ℕ). starts (first_task f entry (wrapped f.core)) f.step n) few_cores.count in
+      let grown : flat_map (task_at text names) (placed (ss ++ s ∷ [])) ≡ done ++ members (first_task f entry (wrapped f.core)) f.step (wrapped f.count) =
+      table-more (task_at text names) ss s ∙ ap (λ (ts : List Start). done ++ ts) (cores ∙ members-same (first_task f entry (wrapped f.core)) f.step (wrapped f.count) few_cores.few) in
       let family : family_in (ss ++ s ∷ []) ≡ record { first = wrapped f.core; count = wrapped f.count } =
       family-new ss s (record { first = count_of f.core; count = count_of f.count }) refl ∙ (λ i. record { first = few_cores.core i; count = few_cores.count i }) in
       λ i. record {

@@ -20,13 +20,13 @@ use Rattle.rv_assembler.specs.Finishing.{program_of}
 use Rattle.rv_assembler.specs.Placed.{placed_behind}
 use Rattle.rv_assembler.specs.Counts.{data_words}
 use Rattle.rv_assembler.specs.Declarations.{meaning_of}
-use Rattle.rv_assembler.specs.Source.{good, sayings, line_fault, fault_at, faults, decided, said_by, source}
+use Rattle.rv_assembler.specs.Source.{good, sayings, line_fault, fault_at, decided, said_by, source}
 use Rattle.rv_assembler.proofs.SoundLemmas.{within}
 use Rattle.rv_assembler.proofs.WrappedTables.{wrapped_tables}
 use Rattle.rv_assembler.proofs.UseLemmas.{within-limits, in-range, same-program}
-use Rattle.rv_assembler.proofs.MemoryLemmas.{finished}
 use Rattle.rv_assembler.proofs.AddLemmas.{tables-more}
 use Rattle.rv_assembler.proofs.DeclarationLemmas.{gathered}
+use Rattle.rv_assembler.proofs.NearLemmas.{IsNear, near-all}
 use Rattle.rv_assembler.proofs.CountLemmas.{few-lines}
 
 -- the first fault decides, or else the lines behind it
@@ -40,16 +40,16 @@ then-decides : (a b c : Option SourceFault) (r : Result Draft SourceFault) (fs :
 then-decides None b c r fs p same h = ap (λ (o : Option SourceFault). program_in (unless_fault o r)) (same refl) ∙ first-decides c r fs p (h refl)
 then-decides (Some f) b c r fs p same h = refl
 
-agree-from : (v : Bool) (text : List ℕ) (names : List ℕ → Option Meaning) (rs done : List Reading) (before : List Saying) → sayings done ≡ before → length before + length (sayings rs) ≤ 65536 → data_words before ≤ 65536
+agree-from : (v : Bool) (text : List ℕ) (names : List ℕ → Option Meaning) → ((q : List ℕ) → IsNear (names q)) → (rs done : List Reading) (before : List Saying) → sayings done ≡ before → length before + length (sayings rs) ≤ 65536 → data_words before ≤ 65536
     → program_in (total v text names (wrapped_tables text names before) rs)
     ≡ decided (filter_map (fault_at v text names) (placed_behind done rs)) (program_of (wrapped_tables text names (before ++ sayings rs)))
-agree-from v text names [] done before same few small = ap (λ (ss : List Saying). Ok (program_of (wrapped_tables text names ss))) (sym (append-nil before))
-agree-from v text names (Bad f ∷ rs) done before same few small = refl
-agree-from v text names (Good s ∷ rs) done before same few small =
+agree-from v text names near [] done before same few small = ap (λ (ss : List Saying). Ok (program_of (wrapped_tables text names ss))) (sym (append-nil before))
+agree-from v text names near (Bad f ∷ rs) done before same few small = refl
+agree-from v text names near (Good s ∷ rs) done before same few small =
     let now : List Saying = before ++ s ∷ [] in
     let early : Option SourceFault = early_fault text names (wrapped_tables text names before) s in
     let adds : Draft = after text names (wrapped_tables text names before) s.statement in
-    let more : early ≡ None → adds ≡ wrapped_tables text names now = λ none. sym (tables-more text names before s.line s.label s.statement (omega arith) small (in-range text names (wrapped_tables text names before) s none)) in
+    let more : early ≡ None → adds ≡ wrapped_tables text names now = λ none. sym (tables-more text names near before s.line s.label s.statement (omega arith) small (in-range text names (wrapped_tables text names before) s none)) in
     let later = placed_behind (done ++ Good s ∷ []) rs in
     let whole : List Saying = before ++ s ∷ sayings rs in
     let longer : length now ≡ length before + 1 = length-append before (s ∷ []) in
@@ -59,7 +59,7 @@ agree-from v text names (Good s ∷ rs) done before same few small =
     let words : data_words now ≤ 65536 = (within v (wrapped_tables text names now) (within-limits v (wrapped_tables text names now) s.line limit)).words in
     let said : sayings (done ++ Good s ∷ []) ≡ now = filter_map-append good done (Good s ∷ []) ∙ ap (λ (ss : List Saying). ss ++ s ∷ []) same in
     ap (λ (d : Draft). program_in (total v text names d rs)) (more none)
-    ∙ agree-from v text names rs (done ++ Good s ∷ []) now said (omega (arith, longer)) words
+    ∙ agree-from v text names near rs (done ++ Good s ∷ []) now said (omega (arith, longer)) words
     ∙ ap (λ (ss : List Saying). decided (filter_map (fault_at v text names) later) (program_of (wrapped_tables text names ss))) (append_assoc before (s ∷ []) (sayings rs)))
     ∙ ap (λ (ss : List Saying). decided (cons_option (line_fault v text names ss (Good s)) (filter_map (fault_at v text names) later)) (program_of (wrapped_tables text names whole))) (sym same)
 
@@ -67,8 +67,7 @@ agree : (v : Bool) (text : List ℕ) (rs : List Reading) → length (sayings rs)
 agree v text rs few =
     let same : meaning_in text no_count rs ≡ meaning_of text (sayings rs) = λ i q. gathered text rs q few i in
     ap (λ (names : List ℕ → Option Meaning). program_in (total v text names no_draft rs)) same
-    ∙ agree-from v text (meaning_of text (sayings rs)) rs [] [] refl (omega arith) (omega arith)
-    ∙ ap (λ (p : ProgramParts). decided (faults v text (meaning_of text (sayings rs)) rs) p) (finished (wrapped_tables text (meaning_of text (sayings rs)) (sayings rs)))
+    ∙ agree-from v text (meaning_of text (sayings rs)) (λ q. near-all text (sayings rs) q few) rs [] [] refl (omega arith) (omega arith)
     ∙ same-program v text rs
 
 -- a text means what its lines add up to

@@ -10,15 +10,13 @@ use Rattle.rv_assembler.specs.declared.reading.Reading.TheVariants.{Bad, Good}
 use Rattle.rv_assembler.specs.declared.names.Meaning.{Meaning}
 use Rattle.rv_assembler.specs.declared.names.Meaning as meaning
 use Rattle.rv_assembler.specs.declared.names.Count.{Count}
-use Rattle.rv_assembler.specs.Number.{more}
 use Rattle.rv_assembler.specs.Operand.{bytes_of}
-use Rattle.rv_assembler.specs.Meaning.{first_of, size_of, length_of}
-use Rattle.rv_assembler.specs.Gathering.{no_count, counted, label_of_means, name_means, meaning_in}
+use Rattle.rv_assembler.specs.Meaning.{first_of, size_of}
+use Rattle.rv_assembler.specs.Gathering.{more, no_count, counted, label_of_means, name_means, meaning_in}
 use Rattle.rv_assembler.specs.Placed.{placed_behind}
-use Rattle.rv_assembler.specs.Counts.{code_size, data_size, is_region, is_lock, code_words, data_words, regions_in, locks_in}
+use Rattle.rv_assembler.specs.Counts.{region_words, code_size, data_size, is_region, is_lock, code_words, data_words, regions_in, locks_in}
 use Rattle.rv_assembler.specs.Declarations.{Declaration, label_by, named_by, declared_at, meaning_among, meaning_of}
 use Rattle.rv_assembler.specs.Source.{sayings}
-use Rattle.rv_assembler.proofs.RangeLemmas.{region-words}
 use Rattle.rv_assembler.proofs.TableLemmas.{tally, place, code-bound, data-bound, sum-same}
 
 pub found-append : (ds es : List Declaration) (q : List ℕ) → meaning_among (ds ++ es) q ≡ first_of (meaning_among ds q) (meaning_among es q)
@@ -98,7 +96,7 @@ module _ (before : List Saying) (line : ℕ) (label : Option Token) (c : Count) 
       let st = statement.TheVariants.Region name len in
       record {
         code = code-same st refl;
-        words = capped-more (data_words before) (length_of len) _ c.words h.words (sum_by_push (λ (s : Saying). data_size s.statement) before (said st) ∙ ap (λ (n : ℕ). data_words before + n) (region-words len));
+        words = capped-more (data_words before) (region_words len) _ c.words h.words (sum_by_push (λ (s : Saying). data_size s.statement) before (said st));
         regions = capped-more (regions_in before) 1 _ c.regions h.regions (sum_by_push (λ (s : Saying). tally (is_region s.statement)) before (said st));
         locks = locks-same st refl;
       }

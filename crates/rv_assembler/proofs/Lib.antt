@@ -8,9 +8,11 @@ pub mod SourceLemmas
 pub mod RangeLemmas
 pub mod TableLemmas
 pub mod WrappedTables
-pub mod AddLemmas
 pub mod DeclarationLemmas
+pub mod NearLemmas
+pub mod AddLemmas
 pub mod CountLemmas
+pub mod KeptLemmas
 pub mod MemoryLemmas
 pub mod UseLemmas
 pub mod AgreeLemmas

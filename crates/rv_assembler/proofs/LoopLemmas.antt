@@ -1,14 +1,11 @@
 -- One turn of a loop that goes so many times.
-use Rattle.std.proofs.Common.{◌≡◌, ℕ, zero, suc, ◌+◌, ◌-◌, ◌<◌, Bool, true, false, ◌&&◌, ℤ, ◌+ℤ◌, List, [], ◌∷◌, ◌++◌, map, refl, sym, ◌∙◌, append_assoc, arith}
+use Rattle.std.proofs.Common.{◌≡◌, ℕ, zero, suc, ◌+◌, ◌-◌, ◌<◌, Bool, true, ◌&&◌, ℤ, ◌+ℤ◌, List, [], ◌∷◌, ◌++◌, map, refl, sym, ◌∙◌, append_assoc, arith}
 use Rattle.std.specs.List.{range_with_len}
 use Rattle.rv_assembler.specs.declared.draft.Start.{Start}
 use Rattle.rv_assembler.specs.declared.draft.Claim.{Claim}
-use Rattle.rv_assembler.specs.Number.{more, is_interval}
-use Rattle.rv_assembler.specs.Draft.{next_task, members, next_claim, claimed}
-use Rattle.rv_assembler.specs.Fault.{has_task, taken, stepped_fits}
-
-pub taken_step : (tasks : List Start) (p core n k : ℕ) (b : Bool) → n ≡ suc k → has_task p core tasks ≡ false → taken tasks p core n ≡ b → taken tasks p (more core 1) k ≡ b
-taken_step tasks p core n k b e f t = let s : taken tasks p core (suc k) ≡ b = rw e at t in rw f at s
+use Rattle.rv_assembler.specs.Number.{is_interval}
+use Rattle.rv_assembler.specs.Drafting.{next_task, members, next_claim, claimed}
+use Rattle.rv_assembler.specs.Fault.{stepped_fits}
 
 pub stepped_more : (len step lo hi : ℤ) (n : ℕ) → 0 < n → stepped_fits len step lo hi n ≡ (is_interval lo hi len && stepped_fits len step (lo +ℤ step) (hi +ℤ step) (n - 1))
 stepped_more len step lo hi zero l = absurd (omega arith)

@@ -1,15 +1,16 @@
 -- Storing the first values one by one gives each word that of the last line that names it.
 use Rattle.std.proofs.Common.{◌≡◌, ℕ, ◌<◌, Bool, true, false, cond, eqb, List, [], ◌∷◌, length, map, replicate, set, get_or, Option, Some, None, filter_map, unwrap_or, sym, ap, ◌∙◌, ⊎_elim, arith, eq-eqb, eqb-true, length-set, get_or-set_other}
-use Rattle.std.specs.List.{range_with_len, last_or, cons_option}
+use Rattle.std.specs.List.{All, range_with_len, last_or, cons_option}
 use Rattle.std.proofs.lemmas.Bool.{cases_Bool}
 use Rattle.std.proofs.lemmas.List.{length-replicate, get_or-replicate}
 use Rattle.std.proofs.lemmas.List.FromFn.{fill_by_all}
 use Rattle.std.proofs.lemmas.Grind.{get_or-set_at}
 use Rattle.rv_assembler.specs.declared.draft.FirstValue.{FirstValue}
 use Rattle.rv_assembler.specs.declared.draft.Draft.{Draft}
-use Rattle.rv_assembler.specs.Program.{value_for, first_value, phase_of}
-use Rattle.rv_assembler.specs.Program as program
+use Rattle.rv_assembler.specs.Program.{value_for, first_value}
 use Rattle.rv_assembler.specs.Finishing.{stored, program_of}
+use Rattle.rv_assembler.specs.Program as program
+use Rattle.rv_assembler.proofs.KeptLemmas.{IsInMemory, phase-same}
 
 -- the value of a word: what was there, unless a first value names the word
 abbrev value_after : Option ℕ → List FirstValue → ℕ → ℕ
@@ -39,13 +40,13 @@ first-values words vs =
     fill_by_all (first_value vs) (stored (replicate words 0) vs) words 0 (length-stored vs (replicate words 0) ∙ long)
     (λ w l. stored-at vs (replicate words 0) w None (omega (arith, long)) (get_or-replicate words w 0 0 l))
 
--- so both ways from the tables give one program
-pub finished : (d : Draft) → program_of d ≡ program.program_of d
-finished d =
+-- so both ways from the tables give one program, where claims are of words of the memory
+pub finished : (d : Draft) → All (IsInMemory d.count.words) d.claims → program_of d ≡ program.program_of d
+finished d held =
     λ i. record {
       code = d.code;
       memory = first-values d.count.words d.values i;
       regions = d.regions;
       locks = d.locks;
-      phases = map (phase_of d.count.words (length d.locks) d.claims d.tasks) (range_with_len 1 d.phases);
+      phases = map (λ (p : ℕ). phase-same d.count.words (length d.locks) d.claims held d.tasks p i) (range_with_len 1 d.phases);
     }

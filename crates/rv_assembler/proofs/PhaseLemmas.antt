@@ -1,10 +1,10 @@
 -- The phases of a program are well formed by the way in which they are made.
-use Rattle.std.proofs.Common.{◌≡◌, ℕ, zero, suc, ◌+◌, ◌*◌, ◌%◌, ◌^◌, ◌<◌, ◌≤◌, ◌&&◌, true, false, ltb, leb, eqb, List, [], ◌∷◌, get_or, map, filter, find, filter_map, option_map, Option, Some, None, IfSome, ◌∙◌, arith, ⊎_elim}
+use Rattle.std.proofs.Common.{◌≡◌, ℕ, zero, suc, ◌+◌, ◌%◌, ◌<◌, ◌≤◌, ◌&&◌, true, false, ltb, leb, eqb, List, [], ◌∷◌, get_or, map, filter, find, filter_map, option_map, Option, Some, None, IfSome, ◌∙◌, arith, ⊎_elim}
 use Rattle.std.specs.List.{All, AllPairs, range_with_len, cons_option}
 use Rattle.std.proofs.lemmas.Bool.{cases_Bool, and_parts, ltb-true, leb-true}
 use Rattle.std.proofs.lemmas.List.{length-map}
 use Rattle.std.proofs.lemmas.List.FromFn.{length-range_with_len}
-use Rattle.std.proofs.lemmas.List.Elements.{All-nil, All-cons}
+use Rattle.std.proofs.lemmas.List.Elements.{All-nil, All-cons, All-head, All-tail}
 use Rattle.std.proofs.lemmas.List.Kept.{AllPairs-cons}
 use borrow.Author.Tests.{eqb-true}
 use Rattle.region_table.specs.declared.declared.TaskDecl.{TaskDecl}
@@ -13,8 +13,8 @@ use Rattle.rv_assembler.specs.declared.draft.Start.{Start}
 use Rattle.rv_assembler.specs.declared.draft.Usage.{Usage}
 use Rattle.rv_assembler.specs.declared.draft.Usage.TheVariants.{Reads, Writes, GuardedReads, GuardedWrites}
 use Rattle.rv_assembler.specs.declared.draft.Claim.{Claim}
-use Rattle.rv_assembler.specs.Fault.{is_task}
-use Rattle.rv_assembler.specs.Program.{same_usage, is_claim_of, interval_of, words_of, read_under, written_under, effects_of, task_of, task_at, phase_of}
+use Rattle.rv_assembler.specs.Program.{same_usage, is_claim_of, is_task}
+use Rattle.rv_assembler.specs.Finishing.{interval_of, words_of, read_under, written_under, effects_of, task_of, task_at, phase_of}
 use Rattle.rv_assembler.proofs.UnionLemmas.{IsSome, united-within}
 
 -- a core has the greater number
@@ -68,34 +68,35 @@ effects-well words locks claims = record {
   writes_by_lock = length-map (range_with_len 0 locks) (written_under words claims) ∙ length-range_with_len 0 locks;
 }
 
-whole_words : (n : ℕ) → n * 4 % 2 ^ 32 % 4 ≡ 0
-whole_words n = omega arith
+-- the entry is the address of a word
+abbrev pub IsAligned : Start → Type 0
+IsAligned t = t.entry % 4 ≡ 0
 
-task-well : (words locks : ℕ) (claims : List Claim) (t : Start) → t.core < 16 → IsTask words locks (task_of words locks claims t)
-task-well words locks claims t h = record {
+task-well : (words locks : ℕ) (claims : List Claim) (t : Start) → t.core < 16 → IsAligned t → IsTask words locks (task_of words locks claims t)
+task-well words locks claims t h a = record {
   core = h;
-  entry = whole_words t.entry;
+  entry = a;
   effects = effects-well words locks (filter (is_claim_of t) claims);
 }
 
-found-core : (p c : ℕ) (tasks : List Start) → IfSome (find (is_task p c) tasks) (λ t. t.core ≡ c)
-found-core p c [] = tt
-found-core p c (t ∷ ts) =
+found-core : (p c : ℕ) (tasks : List Start) → All IsAligned tasks → IfSome (find (is_task p c) tasks) (λ t. (t.core ≡ c) × IsAligned t)
+found-core p c [] all = tt
+found-core p c (t ∷ ts) all =
     ⊎_elim
-    (λ (e : (eqb t.phase p && eqb t.core c) ≡ true). rw e (eqb-true t.core c (and_parts (eqb t.phase p) (eqb t.core c) e).1))
-    (λ (e : (eqb t.phase p && eqb t.core c) ≡ false). rw e (found-core p c ts))
+    (λ (e : (eqb t.phase p && eqb t.core c) ≡ true). rw e (eqb-true t.core c (and_parts (eqb t.phase p) (eqb t.core c) e).1, All-head IsAligned t ts all))
+    (λ (e : (eqb t.phase p && eqb t.core c) ≡ false). rw e (found-core p c ts (All-tail IsAligned t ts all)))
     (cases_Bool (eqb t.phase p && eqb t.core c))
 
 -- a task of a core, well formed
 abbrev pub IsOn : ℕ → ℕ → ℕ → TaskDecl → Type 0
 IsOn words locks c t = IsTask words locks t × (t.core.0 ≡ c)
 
-pub task-found : (words locks : ℕ) (claims : List Claim) (tasks : List Start) (p c : ℕ) → c < 16 → IfSome (task_at words locks claims tasks p c) (IsOn words locks c)
-task-found words locks claims tasks p c l =
+pub task-found : (words locks : ℕ) (claims : List Claim) (tasks : List Start) (p c : ℕ) → All IsAligned tasks → c < 16 → IfSome (task_at words locks claims tasks p c) (IsOn words locks c)
+task-found words locks claims tasks p c all l =
     if_some-map (IsOn words locks c) (task_of words locks claims) (find (is_task p c) tasks)
-    (if_some-weaker (λ (t : Start). t.core ≡ c) (λ (t : Start). IsOn words locks c (task_of words locks claims t)) (find (is_task p c) tasks)
-    (λ t e. (task-well words locks claims t (omega arith), e))
-    (found-core p c tasks))
+    (if_some-weaker (λ (t : Start). (t.core ≡ c) × IsAligned t) (λ (t : Start). IsOn words locks c (task_of words locks claims t)) (find (is_task p c) tasks)
+    (λ t e. let same = e.0 in (task-well words locks claims t (omega arith) e.1, same))
+    (found-core p c tasks all))
 
 module _ (words locks : ℕ) (f : ℕ → Option TaskDecl) (h : (c : ℕ) → c < 16 → IfSome (f c) (IsOn words locks c)) where
   filled : (a n : ℕ) → a + n ≤ 16 → All (IsTask words locks) (filter_map f (range_with_len a n))
@@ -125,7 +126,7 @@ module _ (words locks : ℕ) (f : ℕ → Option TaskDecl) (h : (c : ℕ) → c 
   pub phase-filled : IsPhase words locks (record { tasks = filter_map f (range_with_len 0 16) })
   phase-filled = record { tasks = filled 0 16 (omega arith); rising = rising 0 16 (omega arith) }
 
-pub phases-well : (words locks : ℕ) (claims : List Claim) (tasks : List Start) (ps : List ℕ) → All (IsPhase words locks) (map (phase_of words locks claims tasks) ps)
-phases-well words locks claims tasks ps =
+pub phases-well : (words locks : ℕ) (claims : List Claim) (tasks : List Start) (ps : List ℕ) → All IsAligned tasks → All (IsPhase words locks) (map (phase_of words locks claims tasks) ps)
+phases-well words locks claims tasks ps all =
     all-map (IsPhase words locks) (phase_of words locks claims tasks) ps
-    (λ p. phase-filled words locks (task_at words locks claims tasks p) (λ c l. task-found words locks claims tasks p c l))
+    (λ p. phase-filled words locks (task_at words locks claims tasks p) (λ c l. task-found words locks claims tasks p c all l))

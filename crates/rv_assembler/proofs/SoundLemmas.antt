@@ -1,5 +1,5 @@
 -- What the lines add up to is a well-formed program, as long as no line has a fault.
-use Rattle.std.proofs.Common.{if◌then◌else◌, ◌≡◌, ◌≢◌, ℕ, ◌+◌, ◌<◌, ◌≤◌, ◌||◌, not, Bool, true, false, eqb, ltb, ℤ, pos, negsuc, int_le, List, [], ◌∷◌, ◌++◌, length, map, replicate, set, Option, Some, None, refl, sym, ◌∙◌, ap, arith, length-append}
+use Rattle.std.proofs.Common.{if◌then◌else◌, ◌≡◌, ◌≢◌, ℕ, zero, suc, ◌+◌, ◌%◌, ◌<◌, ◌≤◌, ◌||◌, not, Bool, true, false, eqb, ltb, ℤ, pos, negsuc, int_le, List, [], ◌∷◌, ◌++◌, length, map, replicate, set, Option, Some, None, refl, sym, ◌∙◌, ap, arith, length-append}
 use Rattle.std.specs.List.{All, AllPairs, range_with_len}
 use Rattle.std.proofs.lemmas.Bool.{and_parts, ltb-false, leb-true}
 use Rattle.std.proofs.lemmas.List.{length-map, length-set, length-replicate}
@@ -16,14 +16,20 @@ use Rattle.rv_assembler.specs.declared.names.Meaning.{Meaning}
 use Rattle.rv_assembler.specs.declared.names.Meaning as meaning
 use Rattle.rv_assembler.specs.declared.draft.FirstValue.{FirstValue}
 use Rattle.rv_assembler.specs.declared.draft.Draft.{Draft}
-use Rattle.rv_assembler.specs.Number.{wrapped, more, is_length}
+use Rattle.rv_assembler.specs.declared.draft.Start.{Start}
+use Rattle.rv_assembler.specs.Number.{count_of, wrapped, is_within, is_length}
+use Rattle.rv_assembler.specs.Counts.{region_words}
+use Rattle.rv_assembler.specs.Emission.{label_place}
+use Rattle.rv_assembler.specs.Gathering.{more}
+use Rattle.rv_assembler.specs.Drafting.{wrapped_entry_at, wrapped_entry_by, wrapped_entry, next_task, members}
 use Rattle.rv_assembler.specs.Operand.{bytes_of}
-use Rattle.rv_assembler.specs.Meaning.{length_of}
+use Rattle.src_text.specs.declared.token.TokenKind.{TokenKind}
+use Rattle.src_text.specs.declared.token.TokenKind as token
 use Rattle.rv_assembler.specs.Adding.{no_draft, after}
-use Rattle.rv_assembler.specs.Fault.{out_of_range, region_doubled, lock_doubled, name_doubled, label_of_doubled, doubled, unknown, misplaced, most_regions, over_limit, early_fault}
+use Rattle.rv_assembler.specs.Fault.{is_address, entry_far, are_cores, out_of_range, region_doubled, lock_doubled, name_doubled, label_of_doubled, doubled, unknown, misplaced, most_regions, over_limit, early_fault}
 use Rattle.rv_assembler.specs.Finishing.{stored, program_of}
 use Rattle.rv_assembler.specs.Whole.{IsWhole}
-use Rattle.rv_assembler.proofs.PhaseLemmas.{phases-well}
+use Rattle.rv_assembler.proofs.PhaseLemmas.{IsAligned, phases-well}
 use Rattle.rv_assembler.proofs.TaskLemmas.{tasks-within}
 
 -- the name of each region means the region of its number, from a number on
@@ -41,9 +47,10 @@ pub record Sound (names : List ℕ → Option Meaning) (d : Draft) : Type 0 wher
   pub tiled : AreTiled 0 d.regions d.count.words
   pub regions : AreRegions names 0 d.regions
   pub locks : AreLocks names 0 d.locks
+  pub aligned : All IsAligned d.tasks
 
 pub sound-none : (names : List ℕ → Option Meaning) → Sound names no_draft
-sound-none names = record { region_count = refl; lock_count = refl; tiled = refl; regions = tt; locks = tt }
+sound-none names = record { region_count = refl; lock_count = refl; tiled = refl; regions = tt; locks = tt; aligned = All-nil IsAligned }
 
 pub not-false : (b : Bool) → not b ≡ false → b ≡ true
 not-false true e = refl
@@ -133,17 +140,51 @@ length-words (negsuc n) e =
     let f : false ≡ true = p.0 in
     absurd cc
 
+pub length-counted : (z : ℤ) → is_length z ≡ true → count_of z ≡ wrapped z
+length-counted (pos n) e =
+    let p = and_parts (int_le (pos 1) (pos n)) (int_le (pos n) (pos 65536)) e in
+    let high : n ≤ 65536 = leb-true n 65536 p.1 in
+    omega arith
+length-counted (negsuc n) e =
+    let p = and_parts (int_le (pos 1) (negsuc n)) (int_le (negsuc n) (pos 65536)) e in
+    let f : false ≡ true = p.0 in
+    absurd cc
+
+-- the entries of tasks are addresses of words
+place-aligned : (o : Option ℕ) → wrapped_entry_at o % 4 ≡ 0
+place-aligned (Some place) = omega arith
+place-aligned None = omega arith
+
+number-aligned : (n : ℤ) → is_address n ≡ true → wrapped n % 4 ≡ 0
+number-aligned (pos n) e =
+    let p = and_parts (is_within (pos 0) (pos 0x1_0000_0000) (pos n)) (eqb (n % 4) 0) e in
+    let whole : n % 4 ≡ 0 = eqb-true (n % 4) 0 p.1 in
+    omega arith
+number-aligned (negsuc n) e = let no : false ≡ true = e in absurd cc
+
+kind-aligned : (names : List ℕ → Option Meaning) (name : List ℕ) (k : TokenKind) → entry_far k ≡ false → wrapped_entry_by names name k % 4 ≡ 0
+kind-aligned names name (token.TheVariants.Number n) e = number-aligned n (not-false (is_address n) e)
+kind-aligned names name token.TheVariants.Name e = place-aligned (label_place (names name))
+kind-aligned names name token.TheVariants.Comma e = place-aligned (label_place (names name))
+kind-aligned names name token.TheVariants.Colon e = place-aligned (label_place (names name))
+kind-aligned names name token.TheVariants.Left e = place-aligned (label_place (names name))
+kind-aligned names name token.TheVariants.Right e = place-aligned (label_place (names name))
+
+members-aligned : (t : Start) (step n : ℕ) → IsAligned t → All IsAligned (members t step n)
+members-aligned t step zero a = All-nil IsAligned
+members-aligned t step (suc n) a = All-cons IsAligned t (members (next_task t step) step n) a (members-aligned (next_task t step) step n a)
+
 sound-statement : (text : List ℕ) (names : List ℕ → Option Meaning) (d : Draft) (s : Statement) → Sound names d → out_of_range text names d s ≡ false → name_doubled text names d.count s ≡ false
     → d.count.words ≤ 65536 → length d.regions ≤ 4096 → length d.locks ≤ 32 → Sound names (after text names d s)
-sound-statement text names d statement.TheVariants.Nothing h o n w r l = record { region_count = h.region_count; lock_count = h.lock_count; tiled = h.tiled; regions = h.regions; locks = h.locks }
-sound-statement text names d (statement.TheVariants.Instruction k) h o n w r l = record { region_count = h.region_count; lock_count = h.lock_count; tiled = h.tiled; regions = h.regions; locks = h.locks }
+sound-statement text names d statement.TheVariants.Nothing h o n w r l = record { region_count = h.region_count; lock_count = h.lock_count; tiled = h.tiled; regions = h.regions; locks = h.locks; aligned = h.aligned }
+sound-statement text names d (statement.TheVariants.Instruction k) h o n w r l = record { region_count = h.region_count; lock_count = h.lock_count; tiled = h.tiled; regions = h.regions; locks = h.locks; aligned = h.aligned }
 sound-statement text names d (statement.TheVariants.Region name len) h o n w r l =
     let m : is_length len ≡ true = not-false (is_length len) o in
     let b = length-words len m in
     let region : Region = record { name = bytes_of text name; start = d.count.words; len = wrapped len } in
-    let e : length_of len ≡ wrapped len = rw m refl in
+    let e : region_words len ≡ wrapped len = rw m (length-counted len m) in
     let rc : length d.regions ≡ d.count.regions = h.region_count in
-    let words : more d.count.words (length_of len) ≡ d.count.words + wrapped len = rw e (let low = b.0 in let high = b.1 in omega arith) in
+    let words : more d.count.words (region_words len) ≡ d.count.words + wrapped len = rw e (let low = b.0 in let high = b.1 in omega arith) in
     let appended : length (d.regions ++ region ∷ []) ≡ length d.regions + 1 = length-append d.regions (region ∷ []) in
     record {
       region_count = appended ∙ (omega arith);
@@ -151,8 +192,9 @@ sound-statement text names d (statement.TheVariants.Region name len) h o n w r l
       tiled = rw words (tiled-push 0 d.regions region d.count.words h.tiled refl b.0);
       regions = regions-push names 0 d.regions region d.count.regions (omega arith) h.regions n;
       locks = h.locks;
+      aligned = h.aligned;
     }
-sound-statement text names d (statement.TheVariants.Word region index value) h o n w r l = record { region_count = h.region_count; lock_count = h.lock_count; tiled = h.tiled; regions = h.regions; locks = h.locks }
+sound-statement text names d (statement.TheVariants.Word region index value) h o n w r l = record { region_count = h.region_count; lock_count = h.lock_count; tiled = h.tiled; regions = h.regions; locks = h.locks; aligned = h.aligned }
 sound-statement text names d (statement.TheVariants.Lock name) h o n w r l =
     let lc : length d.locks ≡ d.count.locks = h.lock_count in
     let appended : length (d.locks ++ bytes_of text name ∷ []) ≡ length d.locks + 1 = length-append d.locks (bytes_of text name ∷ []) in
@@ -162,10 +204,21 @@ sound-statement text names d (statement.TheVariants.Lock name) h o n w r l =
       tiled = h.tiled;
       regions = h.regions;
       locks = locks-push names 0 d.locks (bytes_of text name) d.count.locks (omega arith) h.locks n;
+      aligned = h.aligned;
     }
-sound-statement text names d statement.TheVariants.Phase h o n w r l = record { region_count = h.region_count; lock_count = h.lock_count; tiled = h.tiled; regions = h.regions; locks = h.locks }
-sound-statement text names d (statement.TheVariants.Tasks f) h o n w r l = record { region_count = h.region_count; lock_count = h.lock_count; tiled = h.tiled; regions = h.regions; locks = h.locks }
-sound-statement text names d (statement.TheVariants.Uses e) h o n w r l = record { region_count = h.region_count; lock_count = h.lock_count; tiled = h.tiled; regions = h.regions; locks = h.locks }
+sound-statement text names d statement.TheVariants.Phase h o n w r l = record { region_count = h.region_count; lock_count = h.lock_count; tiled = h.tiled; regions = h.regions; locks = h.locks; aligned = h.aligned }
+sound-statement text names d (statement.TheVariants.Tasks f) h o n w r l =
+    let first : Start = record { phase = d.phases; core = wrapped f.core; entry = wrapped_entry text names f.entry; arg = f.arg } in
+    let entry : IsAligned first = kind-aligned names (bytes_of text f.entry) f.entry.kind (or-none (not (are_cores f)) (entry_far f.entry.kind) o).1 in
+    record {
+      region_count = h.region_count;
+      lock_count = h.lock_count;
+      tiled = h.tiled;
+      regions = h.regions;
+      locks = h.locks;
+      aligned = All-append IsAligned d.tasks (members first f.step (wrapped f.count)) h.aligned (members-aligned first f.step (wrapped f.count) entry);
+    }
+sound-statement text names d (statement.TheVariants.Uses e) h o n w r l = record { region_count = h.region_count; lock_count = h.lock_count; tiled = h.tiled; regions = h.regions; locks = h.locks; aligned = h.aligned }
 
 pub first-none : {X : Type 0} (a b c e : Bool) (w x y z : X) → (if a then Some w else (if b then Some x else (if c then Some y else (if e then Some z else None)))) ≡ None → (a ≡ false) × (b ≡ false)
 first-none true b c e w x y z h = absurd cc
@@ -235,6 +288,6 @@ whole names d h w =
         tasks = let few = w.tasks in omega arith;
         tiled = rw memory h.tiled;
         names = names-distinct names 0 d.regions d.locks h.regions h.locks;
-        each_phase = rw memory (phases-well d.count.words (length d.locks) d.claims d.tasks (range_with_len 1 d.phases));
+        each_phase = rw memory (phases-well d.count.words (length d.locks) d.claims d.tasks (range_with_len 1 d.phases) h.aligned);
       };
     }

@@ -11,13 +11,12 @@ use Rattle.rv_assembler.specs.declared.statement.Statement.{Statement}
 use Rattle.rv_assembler.specs.declared.statement.Statement as statement
 use Rattle.rv_assembler.specs.declared.reading.Saying.{Saying}
 use Rattle.rv_assembler.specs.declared.draft.Cores.{Cores}
-use Rattle.rv_assembler.specs.Number.{wrapped, is_length}
-use Rattle.rv_assembler.specs.Meaning.{size_of, length_of}
-use Rattle.rv_assembler.specs.Draft.{no_cores}
+use Rattle.rv_assembler.specs.Number.{count_of, is_length}
+use Rattle.rv_assembler.specs.Meaning.{size_of}
+use Rattle.rv_assembler.specs.Named.{no_cores}
 use Rattle.rv_assembler.specs.Placed.{Placed, placed_behind, placed}
-use Rattle.rv_assembler.specs.Counts.{code_size, data_size, is_region, is_lock, code_words, data_words, counts_in, opened, family_in}
-use Rattle.rv_assembler.proofs.SoundLemmas.{length-words}
-use Rattle.rv_assembler.proofs.RangeLemmas.{region-words}
+use Rattle.rv_assembler.specs.Counts.{region_words, code_size, data_size, is_region, is_lock, code_words, data_words, counts_in, opened, family_in}
+use Rattle.rv_assembler.proofs.SoundLemmas.{length-words, length-counted}
 
 module _ {X : Type 0} where
   abbrev pub place : List X → X → Placed X
@@ -84,11 +83,12 @@ code-at_most : (s : Statement) → code_size s ≤ 2
 code-at_most (statement.TheVariants.Instruction k) = two-at_most k
 code-at_most _ = omega arith
 
-pub length-at_most : (len : ℤ) → length_of len ≤ 65536
-length-at_most len = cond_both (is_length len) (wrapped len) 0 (λ (n : ℕ). n ≤ 65536) (λ e. (length-words len e).1) (λ e. omega arith)
+pub length-at_most : (len : ℤ) → region_words len ≤ 65536
+length-at_most len =
+    cond_both (is_length len) (count_of len) 0 (λ (n : ℕ). n ≤ 65536) (λ e. let same = length-counted len e in let l = (length-words len e).1 in omega arith) (λ e. omega arith)
 
 data-at_most : (s : Statement) → data_size s ≤ 65536
-data-at_most (statement.TheVariants.Region name len) = let e = region-words len in let l = length-at_most len in omega arith
+data-at_most (statement.TheVariants.Region name len) = length-at_most len
 data-at_most _ = omega arith
 
 pub code-bound : (ss : List Saying) → code_words ss ≤ 2 * length ss

@@ -6,8 +6,8 @@ use borrow.Author.Tests.{eqb-true}
 use Rattle.region_table.specs.Program.{tasks_of}
 use Rattle.rv_assembler.specs.declared.draft.Start.{Start}
 use Rattle.rv_assembler.specs.declared.draft.Claim.{Claim}
-use Rattle.rv_assembler.specs.Fault.{is_task}
-use Rattle.rv_assembler.specs.Program.{task_of, task_at, phase_of}
+use Rattle.rv_assembler.specs.Program.{is_task}
+use Rattle.rv_assembler.specs.Finishing.{task_of, task_at, phase_of}
 
 grows : {X : Type 0} (o : Option X) (xs : List X) → length xs ≤ length (cons_option o xs)
 grows None xs = omega arith

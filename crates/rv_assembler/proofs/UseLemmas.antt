@@ -1,8 +1,8 @@
 -- In a text without a fault, first values and uses of words are the same modulo 2^32.
 use Rattle.std.proofs.Common.{◌≡◌, ℕ, zero, suc, ◌+◌, ◌%◌, ◌^◌, ◌<◌, ◌≤◌, Bool, true, false, cond, ◌&&◌, ltb, leb, ltb-true, leb-true, lt-ltb, le-leb, ℤ, pos, negsuc, ◌+ℤ◌, int_le, int_lt, List, [], ◌∷◌, ◌++◌, Option, Some, None, Ok, flat_map, bytes_eq, refl, sym, ap, subst, ◌∙◌, append_assoc, append-nil, arith}
-use Rattle.std.specs.List.{filter_map, cons_option}
+use Rattle.std.specs.List.{All, filter_map, cons_option}
 use Rattle.std.proofs.lemmas.Bool.{and_parts, and_from, cond_both}
-use Rattle.std.proofs.lemmas.List.Elements.{filter_map-append}
+use Rattle.std.proofs.lemmas.List.Elements.{filter_map-append, All-nil, All-cons, All-append}
 use Rattle.std.proofs.lemmas.List.Sums.{sum_by_push, sum_by-append}
 use Rattle.region_table.specs.Program.{ProgramParts}
 use Rattle.src_text.specs.declared.token.Token.{Token}
@@ -23,10 +23,12 @@ use Rattle.rv_assembler.specs.declared.draft.Claim.{Claim}
 use Rattle.rv_assembler.specs.declared.draft.Cores.{Cores}
 use Rattle.rv_assembler.specs.declared.draft.Place.{Place}
 use Rattle.rv_assembler.specs.declared.draft.Draft.{Draft}
-use Rattle.rv_assembler.specs.Number.{count_of, wrapped, more, is_length, is_interval}
+use Rattle.rv_assembler.specs.Number.{count_of, wrapped, is_length, is_interval}
+use Rattle.rv_assembler.specs.Gathering.{more}
 use Rattle.rv_assembler.specs.Operand.{bytes_of}
 use Rattle.rv_assembler.specs.Meaning.{first_of}
-use Rattle.rv_assembler.specs.Draft.{no_cores, region_place, usage_of, next_claim, claimed, claims_for, values_for}
+use Rattle.rv_assembler.specs.Named.{no_cores, region_place, usage_of}
+use Rattle.rv_assembler.specs.Drafting.{next_claim, claimed, claims_for, values_for}
 use Rattle.rv_assembler.specs.Rows.{first_values, uses_from, uses_of}
 use Rattle.rv_assembler.specs.Fault.{stepped_fits, extent_far, word_far, out_of_range, doubled, unknown, misplaced, early_fault, over_limit, limit_fault}
 use Rattle.rv_assembler.specs.Placed.{placed_behind}
@@ -34,18 +36,22 @@ use Rattle.rv_assembler.specs.Counts.{region_words, data_size, code_words, data_
 use Rattle.rv_assembler.specs.Declarations.{Declaration, label_by, named_by, declared_at, meaning_among, meaning_of}
 use Rattle.rv_assembler.specs.Tables.{value_by, claim_by, value_at, claim_at, tables}
 use Rattle.rv_assembler.specs.Program.{program_of}
+use Rattle.rv_assembler.specs.Finishing as finishing
 use Rattle.rv_assembler.specs.Source.{good, sayings, line_fault, fault_at, faults, decided}
 use Rattle.rv_assembler.proofs.SoundLemmas.{not-false, first-none, within}
 use Rattle.rv_assembler.proofs.TableLemmas.{place, family-same, family-new}
 use Rattle.rv_assembler.proofs.DeclarationLemmas.{found-append, found-one}
 use Rattle.rv_assembler.proofs.WrappedTables.{wrapped_value_by, wrapped_claim_by, wrapped_value_at, wrapped_claim_at, wrapped_tables}
 use Rattle.rv_assembler.proofs.RangeLemmas.{moved, family-cores}
+use Rattle.rv_assembler.proofs.KeptLemmas.{IsInMemory}
+use Rattle.rv_assembler.proofs.MemoryLemmas.{finished}
 
 -- ---- one statement
 
 record Inside (lo hi len : ℤ) : Type 0 where
   low : int_le (pos 0) lo ≡ true
   high : int_le (pos 0) hi ≡ true
+  order : count_of lo < count_of hi
   first : count_of lo ≤ count_of len
   last : count_of hi ≤ count_of len
 
@@ -62,7 +68,7 @@ inside-interval lo hi len e =
     by_signs (pos a) (pos b) (pos c) x y z =
         let l : a < b = ltb-true a b y in
         let m : b ≤ c = leb-true b c z in
-        record { low = le-leb 0 a (omega arith); high = le-leb 0 b (omega arith); first = omega arith; last = omega arith }
+        record { low = le-leb 0 a (omega arith); high = le-leb 0 b (omega arith); order = l; first = omega arith; last = omega arith }
 
 moved-on : (start : ℕ) (z step : ℤ) (a : ℕ) → a ≡ start + count_of z → int_le (pos 0) z ≡ true → start + count_of z ≤ 65536 → int_le (pos 0) (z +ℤ step) ≡ true → start + count_of (z +ℤ step) ≤ 65536
     → (a + wrapped step) % 2 ^ 32 ≡ start + count_of (z +ℤ step)
@@ -100,9 +106,10 @@ claimed-flat (suc n) c start a b d e f g k =
     λ i. record { phase = c.phase; core = c.core; usage = c.usage; lo = d i; hi = e i } ∷ rest i
 
 -- a region in the memory
-record IsRegion (start : ℕ) (len : ℤ) : Type 0 where
+record IsRegion (words start : ℕ) (len : ℤ) : Type 0 where
   sized : is_length len ≡ true
-  reach : start + count_of len ≤ 65536
+  reach : start + count_of len ≤ words
+  few : words ≤ 65536
 
 flat-uses : (phase : ℕ) (family : Cores) (u : Usage) (start : ℕ) (len lo hi : ℤ) (first past : ℕ) → start + count_of len ≤ 65536 → family.first + family.count ≤ 16 → is_interval lo hi len ≡ true
     → (int_le (pos 0) lo ≡ true → count_of lo ≤ 65536 → first ≡ start + count_of lo) → (int_le (pos 0) hi ≡ true → count_of hi ≤ 65536 → past ≡ start + count_of hi)
@@ -137,35 +144,39 @@ whole-interval (negsuc n) e =
 abbrev first_claim : ℕ → Cores → Place → Usage → ℤ → ℤ → Claim
 first_claim phase family p u lo hi = record { phase = phase; core = family.first; usage = u; lo = (p.start + wrapped lo) % 2 ^ 32; hi = (p.start + wrapped hi) % 2 ^ 32 }
 
-stepped-uses : (phase : ℕ) (family : Cores) (p : Place) (u : Usage) (lo hi step : ℤ) → IsRegion p.start p.len → (n : ℕ) → family.first + n ≤ 16 → stepped_fits p.len step lo hi n ≡ true
+stepped-uses : (words phase : ℕ) (family : Cores) (p : Place) (u : Usage) (lo hi step : ℤ) → IsRegion words p.start p.len → (n : ℕ) → family.first + n ≤ 16 → stepped_fits p.len step lo hi n ≡ true
     → claimed (first_claim phase family p u lo hi) (wrapped step) n ≡ uses_from phase family.first u p.start lo hi step n
-stepped-uses phase family p u lo hi step r zero k e = refl
-stepped-uses phase family p u lo hi step r (suc n) k e =
+stepped-uses words phase family p u lo hi step r zero k e = refl
+stepped-uses words phase family p u lo hi step r (suc n) k e =
     let q = and_parts (is_interval lo hi p.len) (stepped_fits p.len step (lo +ℤ step) (hi +ℤ step) n) e in
     let here = inside-interval lo hi p.len q.0 in
     let f = here.first in
     let g = here.last in
     let l = r.reach in
-    claimed-stepped p.start p.len step r.reach (suc n) (first_claim phase family p u lo hi) lo hi (counted-small p.start lo (omega arith) here.low (omega arith)) (counted-small p.start hi (omega arith) here.high (omega arith)) k e
+    let m = r.few in
+    claimed-stepped p.start p.len step (omega arith) (suc n) (first_claim phase family p u lo hi) lo hi (counted-small p.start lo (omega arith) here.low (omega arith)) (counted-small p.start hi (omega arith) here.high (omega arith)) k e
 
-uses-same : (phase : ℕ) (family : Cores) (p : Place) (u : Usage) (e : Extent) → IsRegion p.start p.len → family.first + family.count ≤ 16 → extent_far (Some p) e family.count ≡ false
+uses-same : (words phase : ℕ) (family : Cores) (p : Place) (u : Usage) (e : Extent) → IsRegion words p.start p.len → family.first + family.count ≤ 16 → extent_far (Some p) e family.count ≡ false
     → claims_for phase family (Some p) (Some u) e ≡ uses_of phase family (Some p) (Some u) e
-uses-same phase family p u extent.TheVariants.Whole r k e =
+uses-same words phase family p u extent.TheVariants.Whole r k e =
     let l = r.reach in
-    flat-uses phase family u p.start p.len (pos 0) p.len p.start ((p.start + wrapped p.len) % 2 ^ 32) r.reach k (whole-interval p.len r.sized) (λ a b. omega arith) (counted-small p.start p.len (omega arith))
-uses-same phase family p u (extent.TheVariants.Part lo hi) r k e =
+    let m = r.few in
+    flat-uses phase family u p.start p.len (pos 0) p.len p.start ((p.start + wrapped p.len) % 2 ^ 32) (omega arith) k (whole-interval p.len r.sized) (λ a b. omega arith) (counted-small p.start p.len (omega arith))
+uses-same words phase family p u (extent.TheVariants.Part lo hi) r k e =
     let l = r.reach in
-    flat-uses phase family u p.start p.len lo hi ((p.start + wrapped lo) % 2 ^ 32) ((p.start + wrapped hi) % 2 ^ 32) r.reach k (not-false (is_interval lo hi p.len) e) (counted-small p.start lo (omega arith)) (counted-small p.start hi (omega arith))
-uses-same phase family p u (extent.TheVariants.Stepped lo hi step) r k e =
-    stepped-uses phase family p u lo hi step r family.count k (not-false (stepped_fits p.len step lo hi family.count) e)
+    let m = r.few in
+    flat-uses phase family u p.start p.len lo hi ((p.start + wrapped lo) % 2 ^ 32) ((p.start + wrapped hi) % 2 ^ 32) (omega arith) k (not-false (is_interval lo hi p.len) e) (counted-small p.start lo (omega arith)) (counted-small p.start hi (omega arith))
+uses-same words phase family p u (extent.TheVariants.Stepped lo hi step) r k e =
+    stepped-uses words phase family p u lo hi step r family.count k (not-false (stepped_fits p.len step lo hi family.count) e)
 
 abbrev value_row : ℕ → ℕ → List FirstValue
 value_row word value = record { word = word; value = value } ∷ []
 
-word-same : (p : Place) (i : ℤ) (v : ℕ) → IsRegion p.start p.len → word_far (Some p) i ≡ false → values_for (Some p) i v ≡ first_values (Some p) i v
-word-same p i v r e =
+word-same : (words : ℕ) (p : Place) (i : ℤ) (v : ℕ) → IsRegion words p.start p.len → word_far (Some p) i ≡ false → values_for (Some p) i v ≡ first_values (Some p) i v
+word-same words p i v r e =
     let q = and_parts (int_le (pos 0) i) (int_lt i p.len) (not-false (int_le (pos 0) i && int_lt i p.len) e) in
     let l = r.reach in
+    let m = r.few in
     ap (λ (w : ℕ). value_row w v) (counted-small p.start i (omega arith) q.0 (let b = below i p.len q.0 q.1 in omega arith))
   where
     below : (i len : ℤ) → int_le (pos 0) i ≡ true → int_lt i len ≡ true → count_of i ≤ count_of len
@@ -182,69 +193,98 @@ saying line label st = record { line = line; label = label; statement = st }
 
 -- ---- names
 
-abbrev IsInside : Option Meaning → Type 0
-IsInside None = Unit {0}
-IsInside (Some (meaning.TheVariants.Label line at)) = Unit {0}
-IsInside (Some (meaning.TheVariants.Region number start len)) = IsRegion start len
-IsInside (Some (meaning.TheVariants.Lock number)) = Unit {0}
+abbrev IsInside : ℕ → Option Meaning → Type 0
+IsInside words None = Unit {0}
+IsInside words (Some (meaning.TheVariants.Label line at)) = Unit {0}
+IsInside words (Some (meaning.TheVariants.Region number start len)) = IsRegion words start len
+IsInside words (Some (meaning.TheVariants.Lock number)) = Unit {0}
 
-abbrev IsPlaceInside : Option Place → Type 0
-IsPlaceInside None = Unit {0}
-IsPlaceInside (Some p) = IsRegion p.start p.len
+abbrev IsPlaceInside : ℕ → Option Place → Type 0
+IsPlaceInside words None = Unit {0}
+IsPlaceInside words (Some p) = IsRegion words p.start p.len
 
-place-inside : (m : Option Meaning) → IsInside m → IsPlaceInside (region_place m)
-place-inside None h = tt
-place-inside (Some (meaning.TheVariants.Label line at)) h = tt
-place-inside (Some (meaning.TheVariants.Region number start len)) h = record { sized = h.sized; reach = h.reach }
-place-inside (Some (meaning.TheVariants.Lock number)) h = tt
+place-inside : (words : ℕ) (m : Option Meaning) → IsInside words m → IsPlaceInside words (region_place m)
+place-inside words None h = tt
+place-inside words (Some (meaning.TheVariants.Label line at)) h = tt
+place-inside words (Some (meaning.TheVariants.Region number start len)) h = record { sized = h.sized; reach = h.reach; few = h.few }
+place-inside words (Some (meaning.TheVariants.Lock number)) h = tt
 
-inside-first : (a b : Option Meaning) → IsInside a → IsInside b → IsInside (first_of a b)
-inside-first None b h k = k
-inside-first (Some m) b h k = h
+inside-first : (words : ℕ) (a b : Option Meaning) → IsInside words a → IsInside words b → IsInside words (first_of a b)
+inside-first words None b h k = k
+inside-first words (Some m) b h k = h
 
-module _ (text : List ℕ) (names : List ℕ → Option Meaning) where
-  -- each statement is in its range
-  abbrev AreClean : List Saying → List Saying → Type 0
-  AreClean before [] = Unit {0}
-  AreClean before (s ∷ ss) = (out_of_range text names (tables text names before) s.statement ≡ false) × AreClean (before ++ s ∷ []) ss
+-- ---- claims of words of the memory
 
-  inside-label : (before : List Saying) (line : ℕ) (label : Option Token) (q : List ℕ) → IsInside (meaning_among (label_by text before line label) q)
+flat-held : (words phase start : ℕ) (u : Usage) (n core a b : ℕ) → a < b → start + b ≤ words → All (IsInMemory words) (uses_from phase core u start (pos a) (pos b) (pos 0) n)
+flat-held words phase start u zero core a b l m = All-nil (IsInMemory words)
+flat-held words phase start u (suc n) core a b l m =
+    All-cons (IsInMemory words) _ (uses_from phase (core + 1) u start (pos (a + 0)) (pos (b + 0)) (pos 0) n) (omega arith, omega arith) (flat-held words phase start u n (core + 1) (a + 0) (b + 0) (omega arith) (omega arith))
+
+plain-held : (words phase start : ℕ) (u : Usage) (n core : ℕ) (lo hi len : ℤ) → is_interval lo hi len ≡ true → start + count_of len ≤ words → All (IsInMemory words) (uses_from phase core u start lo hi (pos 0) n)
+plain-held words phase start u n core lo hi len e m = by_signs lo hi (inside-interval lo hi len e)
+  where
+    by_signs : (lo hi : ℤ) → Inside lo hi len → All (IsInMemory words) (uses_from phase core u start lo hi (pos 0) n)
+    by_signs (negsuc x) hi i = let no : false ≡ true = i.low in absurd cc
+    by_signs (pos x) (negsuc y) i = let no : false ≡ true = i.high in absurd cc
+    by_signs (pos x) (pos y) i = let l = i.order in let g = i.last in flat-held words phase start u n core x y (omega arith) (omega arith)
+
+stepped-held : (words phase start : ℕ) (u : Usage) (len step : ℤ) → start + count_of len ≤ words → (n core : ℕ) (lo hi : ℤ) → stepped_fits len step lo hi n ≡ true → All (IsInMemory words) (uses_from phase core u start lo hi step n)
+stepped-held words phase start u len step m zero core lo hi e = All-nil (IsInMemory words)
+stepped-held words phase start u len step m (suc n) core lo hi e =
+    let p = and_parts (is_interval lo hi len) (stepped_fits len step (lo +ℤ step) (hi +ℤ step) n) e in
+    let here = inside-interval lo hi len p.0 in
+    let o = here.order in
+    let g = here.last in
+    All-cons (IsInMemory words) _ (uses_from phase (core + 1) u start (lo +ℤ step) (hi +ℤ step) step n) (omega arith, omega arith) (stepped-held words phase start u len step m n (core + 1) (lo +ℤ step) (hi +ℤ step) p.1)
+
+uses-held : (words phase : ℕ) (family : Cores) (p : Place) (u : Usage) (e : Extent) → IsRegion words p.start p.len → extent_far (Some p) e family.count ≡ false → All (IsInMemory words) (uses_of phase family (Some p) (Some u) e)
+uses-held words phase family p u extent.TheVariants.Whole r e = plain-held words phase p.start u family.count family.first (pos 0) p.len p.len (whole-interval p.len r.sized) r.reach
+uses-held words phase family p u (extent.TheVariants.Part lo hi) r e = plain-held words phase p.start u family.count family.first lo hi p.len (not-false (is_interval lo hi p.len) e) r.reach
+uses-held words phase family p u (extent.TheVariants.Stepped lo hi step) r e = stepped-held words phase p.start u p.len step r.reach family.count family.first lo hi (not-false (stepped_fits p.len step lo hi family.count) e)
+
+-- each statement is in its range
+abbrev AreClean : List ℕ → (List ℕ → Option Meaning) → List Saying → List Saying → Type 0
+AreClean text names before [] = Unit {0}
+AreClean text names before (s ∷ ss) = (out_of_range text names (tables text names before) s.statement ≡ false) × AreClean text names (before ++ s ∷ []) ss
+
+module _ (text : List ℕ) (names : List ℕ → Option Meaning) (words : ℕ) (few : words ≤ 65536) where
+  inside-label : (before : List Saying) (line : ℕ) (label : Option Token) (q : List ℕ) → IsInside words (meaning_among (label_by text before line label) q)
   inside-label before line None q = tt
   inside-label before line (Some t) q =
       let d : Declaration = record { name = bytes_of text t; meaning = meaning.TheVariants.Label line (code_words before) } in
-      subst IsInside (sym (found-one d q)) (cond_both (bytes_eq d.name q) (Some d.meaning) None IsInside (λ e. tt) (λ e. tt))
+      subst (IsInside words) (sym (found-one d q)) (cond_both (bytes_eq d.name q) (Some d.meaning) None (IsInside words) (λ e. tt) (λ e. tt))
 
-  inside-name : (before : List Saying) (st : Statement) (q : List ℕ) → out_of_range text names (tables text names before) st ≡ false → data_words before + data_size st ≤ 65536 → IsInside (meaning_among (named_by text before st) q)
+  inside-name : (before : List Saying) (st : Statement) (q : List ℕ) → out_of_range text names (tables text names before) st ≡ false → data_words before + data_size st ≤ words → IsInside words (meaning_among (named_by text before st) q)
   inside-name before statement.TheVariants.Nothing q e l = tt
   inside-name before (statement.TheVariants.Instruction k) q e l = tt
   inside-name before (statement.TheVariants.Region name len) q e l =
       let is : is_length len ≡ true = not-false (is_length len) e in
       let size : region_words len ≡ count_of len = ap (λ (b : Bool). cond b (count_of len) 0) is in
       let d : Declaration = record { name = bytes_of text name; meaning = meaning.TheVariants.Region (regions_in before) (data_words before) len } in
-      subst IsInside (sym (found-one d q)) (cond_both (bytes_eq d.name q) (Some d.meaning) None IsInside (λ e. record { sized = is; reach = omega arith }) (λ e. tt))
+      subst (IsInside words) (sym (found-one d q)) (cond_both (bytes_eq d.name q) (Some d.meaning) None (IsInside words) (λ e. record { sized = is; reach = omega arith; few = few }) (λ e. tt))
   inside-name before (statement.TheVariants.Word region index value) q e l = tt
   inside-name before (statement.TheVariants.Lock name) q e l =
       let d : Declaration = record { name = bytes_of text name; meaning = meaning.TheVariants.Lock (locks_in before) } in
-      subst IsInside (sym (found-one d q)) (cond_both (bytes_eq d.name q) (Some d.meaning) None IsInside (λ e. tt) (λ e. tt))
+      subst (IsInside words) (sym (found-one d q)) (cond_both (bytes_eq d.name q) (Some d.meaning) None (IsInside words) (λ e. tt) (λ e. tt))
   inside-name before statement.TheVariants.Phase q e l = tt
   inside-name before (statement.TheVariants.Tasks f) q e l = tt
   inside-name before (statement.TheVariants.Uses u) q e l = tt
 
-  inside-all : (ss before : List Saying) (q : List ℕ) → AreClean before ss → data_words (before ++ ss) ≤ 65536 → IsInside (meaning_among (flat_map (declared_at text) (placed_behind before ss)) q)
+  inside-all : (ss before : List Saying) (q : List ℕ) → AreClean text names before ss → data_words (before ++ ss) ≤ words → IsInside words (meaning_among (flat_map (declared_at text) (placed_behind before ss)) q)
   inside-all [] before q h l = tt
   inside-all (s ∷ ss) before q h l =
       let now : List Saying = before ++ s ∷ [] in
       let all : data_words (now ++ ss) ≡ data_words (before ++ s ∷ ss) = ap data_words (append_assoc before (s ∷ []) ss) in
       let parts : data_words (now ++ ss) ≡ data_words now + data_words ss = sum_by-append (λ (s : Saying). data_size s.statement) now ss in
       let here : data_words now ≡ data_words before + data_size s.statement = sum_by_push (λ (s : Saying). data_size s.statement) before s in
-      let mine : IsInside (meaning_among (declared_at text (place before s)) q) =
-      subst IsInside (sym (found-append (label_by text before s.line s.label) (named_by text before s.statement) q))
-      (inside-first (meaning_among (label_by text before s.line s.label) q) (meaning_among (named_by text before s.statement) q) (inside-label before s.line s.label q) (inside-name before s.statement q h.0 (omega arith))) in
-      subst IsInside (sym (found-append (declared_at text (place before s)) (flat_map (declared_at text) (placed_behind now ss)) q))
-      (inside-first (meaning_among (declared_at text (place before s)) q) (meaning_among (flat_map (declared_at text) (placed_behind now ss)) q) mine (inside-all ss now q h.1 (omega arith)))
+      let mine : IsInside words (meaning_among (declared_at text (place before s)) q) =
+      subst (IsInside words) (sym (found-append (label_by text before s.line s.label) (named_by text before s.statement) q))
+      (inside-first words (meaning_among (label_by text before s.line s.label) q) (meaning_among (named_by text before s.statement) q) (inside-label before s.line s.label q) (inside-name before s.statement q h.0 (omega arith))) in
+      subst (IsInside words) (sym (found-append (declared_at text (place before s)) (flat_map (declared_at text) (placed_behind now ss)) q))
+      (inside-first words (meaning_among (declared_at text (place before s)) q) (meaning_among (flat_map (declared_at text) (placed_behind now ss)) q) mine (inside-all ss now q h.1 (omega arith)))
 
   -- ---- all statements
-  module _ (inside : (q : List ℕ) → IsInside (names q)) where
+  module _ (inside : (q : List ℕ) → IsInside words (names q)) where
     claim-here : (st : Statement) (phase : ℕ) (family : Cores) (d : Draft) → family.first + family.count ≤ 16 → family.count ≡ d.family.count → out_of_range text names d st ≡ false → wrapped_claim_by text names phase family st ≡ claim_by text names phase family st
     claim-here statement.TheVariants.Nothing phase family d k c e = refl
     claim-here (statement.TheVariants.Instruction i) phase family d k c e = refl
@@ -254,23 +294,45 @@ module _ (text : List ℕ) (names : List ℕ → Option Meaning) where
     claim-here statement.TheVariants.Phase phase family d k c e = refl
     claim-here (statement.TheVariants.Tasks f) phase family d k c e = refl
     claim-here (statement.TheVariants.Uses u) phase family d k c e =
-        by_place (region_place (names (bytes_of text u.region))) (usage_of text names u) (place-inside (names (bytes_of text u.region)) (inside (bytes_of text u.region))) (ap (λ (n : ℕ). extent_far (region_place (names (bytes_of text u.region))) u.extent n) c ∙ e)
+        by_place (region_place (names (bytes_of text u.region))) (usage_of text names u) (place-inside words (names (bytes_of text u.region)) (inside (bytes_of text u.region))) (ap (λ (n : ℕ). extent_far (region_place (names (bytes_of text u.region))) u.extent n) c ∙ e)
       where
-        by_place : (o : Option Place) (w : Option Usage) → IsPlaceInside o → extent_far o u.extent family.count ≡ false → claims_for phase family o w u.extent ≡ uses_of phase family o w u.extent
+        by_place : (o : Option Place) (w : Option Usage) → IsPlaceInside words o → extent_far o u.extent family.count ≡ false → claims_for phase family o w u.extent ≡ uses_of phase family o w u.extent
         by_place None w h f = refl
         by_place (Some p) None h f = refl
-        by_place (Some p) (Some w) h f = uses-same phase family p w u.extent h k f
+        by_place (Some p) (Some w) h f = uses-same words phase family p w u.extent h k f
+
+    claim-held : (st : Statement) (phase : ℕ) (family : Cores) (d : Draft) → family.count ≡ d.family.count → out_of_range text names d st ≡ false → All (IsInMemory words) (claim_by text names phase family st)
+    claim-held statement.TheVariants.Nothing phase family d c e = All-nil (IsInMemory words)
+    claim-held (statement.TheVariants.Instruction i) phase family d c e = All-nil (IsInMemory words)
+    claim-held (statement.TheVariants.Region name len) phase family d c e = All-nil (IsInMemory words)
+    claim-held (statement.TheVariants.Word region index value) phase family d c e = All-nil (IsInMemory words)
+    claim-held (statement.TheVariants.Lock name) phase family d c e = All-nil (IsInMemory words)
+    claim-held statement.TheVariants.Phase phase family d c e = All-nil (IsInMemory words)
+    claim-held (statement.TheVariants.Tasks f) phase family d c e = All-nil (IsInMemory words)
+    claim-held (statement.TheVariants.Uses u) phase family d c e =
+        by_place (region_place (names (bytes_of text u.region))) (usage_of text names u) (place-inside words (names (bytes_of text u.region)) (inside (bytes_of text u.region))) (ap (λ (n : ℕ). extent_far (region_place (names (bytes_of text u.region))) u.extent n) c ∙ e)
+      where
+        by_place : (o : Option Place) (w : Option Usage) → IsPlaceInside words o → extent_far o u.extent family.count ≡ false → All (IsInMemory words) (uses_of phase family o w u.extent)
+        by_place None w h f = All-nil (IsInMemory words)
+        by_place (Some p) None h f = All-nil (IsInMemory words)
+        by_place (Some p) (Some w) h f = uses-held words phase family p w u.extent h f
+
+    claims-held : (ss before : List Saying) → AreClean text names before ss → All (IsInMemory words) (flat_map (claim_at text names) (placed_behind before ss))
+    claims-held [] before h = All-nil (IsInMemory words)
+    claims-held (s ∷ ss) before h =
+        All-append (IsInMemory words) (claim_by text names (phases_in before) (family_in before) s.statement) (flat_map (claim_at text names) (placed_behind (before ++ s ∷ []) ss))
+        (claim-held s.statement (phases_in before) (family_in before) (tables text names before) refl h.0) (claims-held ss (before ++ s ∷ []) h.1)
 
     value-here : (st : Statement) (d : Draft) → out_of_range text names d st ≡ false → wrapped_value_by text names st ≡ value_by text names st
     value-here statement.TheVariants.Nothing d e = refl
     value-here (statement.TheVariants.Instruction i) d e = refl
     value-here (statement.TheVariants.Region name len) d e = refl
     value-here (statement.TheVariants.Word region index value) d e =
-        by_place (region_place (names (bytes_of text region))) (place-inside (names (bytes_of text region)) (inside (bytes_of text region))) e
+        by_place (region_place (names (bytes_of text region))) (place-inside words (names (bytes_of text region)) (inside (bytes_of text region))) e
       where
-        by_place : (o : Option Place) → IsPlaceInside o → word_far o index ≡ false → values_for o index value ≡ first_values o index value
+        by_place : (o : Option Place) → IsPlaceInside words o → word_far o index ≡ false → values_for o index value ≡ first_values o index value
         by_place None h f = refl
-        by_place (Some p) h f = word-same p index value h f
+        by_place (Some p) h f = word-same words p index value h f
     value-here (statement.TheVariants.Lock name) d e = refl
     value-here statement.TheVariants.Phase d e = refl
     value-here (statement.TheVariants.Tasks f) d e = refl
@@ -291,7 +353,7 @@ module _ (text : List ℕ) (names : List ℕ → Option Meaning) where
         subst Few (sym (family-new before (saying line label (statement.TheVariants.Tasks f)) (record { first = count_of f.core; count = count_of f.count }) refl)) (omega arith)
     few-more before line label d k (statement.TheVariants.Uses u) e = subst Few (sym (family-same before (saying line label (statement.TheVariants.Uses u)) refl)) k
 
-    claims-same : (ss before : List Saying) → AreClean before ss → Few (family_in before)
+    claims-same : (ss before : List Saying) → AreClean text names before ss → Few (family_in before)
         → flat_map (wrapped_claim_at text names) (placed_behind before ss) ≡ flat_map (claim_at text names) (placed_behind before ss)
     claims-same [] before h k = refl
     claims-same (s ∷ ss) before h k =
@@ -299,7 +361,7 @@ module _ (text : List ℕ) (names : List ℕ → Option Meaning) where
         let rest = claims-same ss (before ++ s ∷ []) h.1 (few-more before s.line s.label (tables text names before) k s.statement h.0) in
         λ i. here i ++ rest i
 
-    values-same : (ss before : List Saying) → AreClean before ss → flat_map (wrapped_value_at text names) (placed_behind before ss) ≡ flat_map (value_at text names) (placed_behind before ss)
+    values-same : (ss before : List Saying) → AreClean text names before ss → flat_map (wrapped_value_at text names) (placed_behind before ss) ≡ flat_map (value_at text names) (placed_behind before ss)
     values-same [] before h = refl
     values-same (s ∷ ss) before h =
         let here = value-here s.statement (tables text names before) h.0 in
@@ -344,21 +406,23 @@ clean-from v text names (Good s ∷ rs) done before same small e =
     ((in-range text names (tables text names before) s none.0, rest.0), omega arith)
 
 clean-program : (v : Bool) (text : List ℕ) (rs : List Reading) → faults v text (meaning_of text (sayings rs)) rs ≡ []
-    → program_of (wrapped_tables text (meaning_of text (sayings rs)) (sayings rs)) ≡ program_of (tables text (meaning_of text (sayings rs)) (sayings rs))
+    → finishing.program_of (wrapped_tables text (meaning_of text (sayings rs)) (sayings rs)) ≡ program_of (tables text (meaning_of text (sayings rs)) (sayings rs))
 clean-program v text rs e =
     let names : List ℕ → Option Meaning = meaning_of text (sayings rs) in
+    let words = data_words (sayings rs) in
     let clean = clean-from v text names rs [] [] refl (omega arith) e in
-    let inside : (q : List ℕ) → IsInside (names q) = λ q. inside-all text names (sayings rs) [] q clean.0 clean.1 in
-    let values = values-same text names inside (sayings rs) [] clean.0 in
-    let claims = claims-same text names inside (sayings rs) [] clean.0 (omega arith) in
-    λ i. program_of (record (tables text names (sayings rs)) { values = values i; claims = claims i })
+    let inside : (q : List ℕ) → IsInside words (names q) = λ q. inside-all text names words clean.1 (sayings rs) [] q clean.0 (omega arith) in
+    let values = values-same text names words clean.1 inside (sayings rs) [] clean.0 in
+    let claims = claims-same text names words clean.1 inside (sayings rs) [] clean.0 (omega arith) in
+    (λ i. finishing.program_of (record (tables text names (sayings rs)) { values = values i; claims = claims i }))
+    ∙ finished (tables text names (sayings rs)) (claims-held text names words clean.1 inside (sayings rs) [] clean.0)
 
 pub same-program : (v : Bool) (text : List ℕ) (rs : List Reading)
-    → decided (faults v text (meaning_of text (sayings rs)) rs) (program_of (wrapped_tables text (meaning_of text (sayings rs)) (sayings rs)))
+    → decided (faults v text (meaning_of text (sayings rs)) rs) (finishing.program_of (wrapped_tables text (meaning_of text (sayings rs)) (sayings rs)))
     ≡ decided (faults v text (meaning_of text (sayings rs)) rs) (program_of (tables text (meaning_of text (sayings rs)) (sayings rs)))
 same-program v text rs = by_faults (faults v text (meaning_of text (sayings rs)) rs) refl
   where
     by_faults : (fs : List SourceFault) → faults v text (meaning_of text (sayings rs)) rs ≡ fs
-        → decided fs (program_of (wrapped_tables text (meaning_of text (sayings rs)) (sayings rs))) ≡ decided fs (program_of (tables text (meaning_of text (sayings rs)) (sayings rs)))
+        → decided fs (finishing.program_of (wrapped_tables text (meaning_of text (sayings rs)) (sayings rs))) ≡ decided fs (program_of (tables text (meaning_of text (sayings rs)) (sayings rs)))
     by_faults [] e = ap (λ (p : ProgramParts). Ok p) (clean-program v text rs e)
     by_faults (f ∷ fs) e = refl

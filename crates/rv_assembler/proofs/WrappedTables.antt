@@ -9,7 +9,8 @@ use Rattle.rv_assembler.specs.declared.draft.Claim.{Claim}
 use Rattle.rv_assembler.specs.declared.draft.Cores.{Cores}
 use Rattle.rv_assembler.specs.declared.draft.Draft.{Draft}
 use Rattle.rv_assembler.specs.Operand.{bytes_of}
-use Rattle.rv_assembler.specs.Draft.{region_place, usage_of, claims_for, values_for}
+use Rattle.rv_assembler.specs.Named.{region_place, usage_of}
+use Rattle.rv_assembler.specs.Drafting.{claims_for, values_for}
 use Rattle.rv_assembler.specs.Placed.{Placed, placed}
 use Rattle.rv_assembler.specs.Counts.{phases_in, family_in}
 use Rattle.rv_assembler.specs.Tables.{tables}

@@ -14,13 +14,14 @@ use Rattle.rv_assembler.specs.declared.reading.Reading.{Reading}
 use Rattle.rv_assembler.specs.declared.reading.Reading.TheVariants.{Bad, Good}
 use Rattle.rv_assembler.specs.declared.names.Meaning.{Meaning}
 use Rattle.rv_assembler.specs.declared.draft.Draft.{Draft}
-use Rattle.rv_assembler.specs.Number.{wrapped, more}
+use Rattle.rv_assembler.specs.Number.{wrapped}
 use Rattle.rv_assembler.specs.Operand.{bytes_of}
 use Rattle.rv_assembler.specs.Reading.{version_line, reading_of}
 use Rattle.rv_assembler.specs.Meaning.{first_of}
-use Rattle.rv_assembler.specs.Gathering.{no_count, counted, meaning_in}
+use Rattle.rv_assembler.specs.Gathering.{more, no_count, counted, meaning_in}
 use Rattle.rv_assembler.specs.Emission.{emission, words_in}
-use Rattle.rv_assembler.specs.Draft.{no_cores, region_place, entry_of, members, usage_of, claims_for, values_for}
+use Rattle.rv_assembler.specs.Named.{no_cores, region_place, usage_of}
+use Rattle.rv_assembler.specs.Drafting.{wrapped_entry, members, claims_for, values_for}
 use Rattle.rv_assembler.specs.Fault.{early_fault, limit_fault}
 use Rattle.rv_assembler.specs.Finishing.{program_of}
 
@@ -45,7 +46,7 @@ extended text names d (statement.TheVariants.Word region index value) =
     record d { values = d.values ++ values_for (region_place (names (bytes_of text region))) index value }
 extended text names d (statement.TheVariants.Lock name) = record d { locks = d.locks ++ bytes_of text name ∷ [] }
 extended text names d statement.TheVariants.Phase = record d { phases = more d.phases 1; family = no_cores }
-extended text names d (statement.TheVariants.Tasks f) = with_tasks d (entry_of text names f.entry) f
+extended text names d (statement.TheVariants.Tasks f) = with_tasks d (wrapped_entry text names f.entry) f
 extended text names d (statement.TheVariants.Uses e) =
     record d { claims = d.claims ++ claims_for d.phases d.family (region_place (names (bytes_of text e.region))) (usage_of text names e) e.extent }
 

@@ -8,7 +8,7 @@ use Rattle.rv_assembler.specs.declared.names.Count.{Count}
 use Rattle.rv_assembler.specs.declared.draft.Cores.{Cores}
 use Rattle.rv_assembler.specs.Number.{count_of, is_length}
 use Rattle.rv_assembler.specs.Meaning.{size_of}
-use Rattle.rv_assembler.specs.Draft.{no_cores}
+use Rattle.rv_assembler.specs.Named.{no_cores}
 
 -- how many words a region has; none where its number is out of its range
 abbrev pub region_words : ℤ → ℕ

@@ -16,7 +16,7 @@ use Rattle.rv_assembler.specs.declared.emission.Emission.{Emission}
 use Rattle.rv_assembler.specs.declared.emission.Emission.TheVariants.{One, Two, OutOfRange, Unknown}
 use Rattle.rv_assembler.specs.declared.names.Meaning.{Meaning}
 use Rattle.rv_assembler.specs.declared.names.Meaning as meaning
-use Rattle.rv_assembler.specs.Number.{wrapped, is_upper, is_immediate, is_jump, is_branch, is_operand}
+use Rattle.rv_assembler.specs.Number.{count_of, wrapped, is_upper, is_immediate, is_jump, is_branch, is_operand}
 use Rattle.rv_assembler.specs.Operand.{bytes_of}
 
 -- the word of an instruction, if its numbers are in the ranges of its row
@@ -29,7 +29,7 @@ upper_instr true rd n = instr.TheVariants.Auipc rd n
 upper_instr false rd n = instr.TheVariants.Lui rd n
 
 abbrev pub upper : Bool → ℕ → ℤ → Emission
-upper adds_pc rd z = one_if (is_upper z) (upper_instr adds_pc rd (wrapped z))
+upper adds_pc rd z = one_if (is_upper z) (upper_instr adds_pc rd (count_of z))
 
 abbrev pub jump : ℕ → Option ℤ → Emission
 jump rd None = Unknown
@@ -42,7 +42,8 @@ branch c a b (Some z) = one_if (is_branch z) (instr.TheVariants.Branch c a b z)
 abbrev pub store : Width → ℕ → ℕ → ℤ → Emission
 store width src base z = one_if (is_stored width && is_immediate z) (instr.TheVariants.Store width src base z)
 
--- a value is loaded by LUI and ADDI; ADDI adds the low twelve bits with their sign, so 2048 is carried
+-- A value modulo 2^32 is loaded by LUI and ADDI. ADDI adds the low twelve bits with their sign, so 2048 is carried. The sum is
+-- taken modulo 2^32, as the RISC-V unprivileged manual has it for both instructions.
 abbrev pub high : ℕ → ℕ
 high v = (v + 2048) % 2 ^ 32 / 4096
 
@@ -54,10 +55,10 @@ loaded rd v = Two (encoded (instr.TheVariants.Lui rd (high v))) (encoded (instr.
 
 -- the addresses of a code word and of a data word
 abbrev pub label_address : ℕ → ℕ
-label_address place = (place * 4 % 2 ^ 32 + 0x1000) % 2 ^ 32
+label_address place = 0x1000 + 4 * place
 
 abbrev pub region_address : ℕ → ℕ
-region_address word = (word * 4 % 2 ^ 32 + 0x10000000) % 2 ^ 32
+region_address word = 0x10000000 + 4 * word
 
 abbrev pub loaded_address : ℕ → Option Meaning → Emission
 loaded_address rd (Some (meaning.TheVariants.Label line place)) = loaded rd (label_address place)

@@ -1,5 +1,5 @@
 -- The faults of a line of good form, each as a test.
-use Rattle.std.specs.Prelude.{ℕ, zero, suc, ◌+◌, ◌%◌, ℤ, pos, ◌+ℤ◌, int_le, int_lt, Bool, true, false, not, ◌&&◌, ◌||◌, nat_lt, nat_le, ◌==◌, List, length, Option, Some, None, is_none, if◌then◌else◌}
+use Rattle.std.specs.Prelude.{ℕ, zero, suc, ◌%◌, ℤ, pos, ◌+ℤ◌, int_le, int_lt, Bool, true, false, not, ◌&&◌, ◌||◌, nat_lt, ◌==◌, List, length, Option, Some, None, is_none, if◌then◌else◌}
 use Rattle.std.specs.List.{list_any}
 use Rattle.src_text.specs.declared.token.Token.{Token}
 use Rattle.src_text.specs.declared.token.TokenKind as token
@@ -21,10 +21,10 @@ use Rattle.rv_assembler.specs.declared.emission.Emission.TheVariants.{OutOfRange
 use Rattle.rv_assembler.specs.declared.draft.Start.{Start}
 use Rattle.rv_assembler.specs.declared.draft.Draft.{Draft}
 use Rattle.rv_assembler.specs.declared.draft.Place.{Place}
-use Rattle.rv_assembler.specs.Number.{wrapped, more, is_length, is_interval}
+use Rattle.rv_assembler.specs.Number.{count_of, is_within, is_length, is_interval}
 use Rattle.rv_assembler.specs.Operand.{bytes_of}
 use Rattle.rv_assembler.specs.Emission.{emission, label_place}
-use Rattle.rv_assembler.specs.Draft.{region_place, lock_number}
+use Rattle.rv_assembler.specs.Named.{region_place, lock_number}
 
 abbrev pub is_far : Emission → Bool
 is_far OutOfRange = true
@@ -50,16 +50,17 @@ abbrev pub word_far : Option Place → ℤ → Bool
 word_far None i = false
 word_far (Some p) i = not (int_le (pos 0) i && int_lt i p.len)
 
--- an address of an entry is a multiple of 4
+-- the address of an entry has 32 bits, and is a multiple of 4
+abbrev pub is_address : ℤ → Bool
+is_address n = is_within (pos 0) (pos 0x1_0000_0000) n && count_of n % 4 == 0
+
 abbrev pub entry_far : TokenKind → Bool
-entry_far (token.TheVariants.Number n) = not (int_le (pos 0) n && wrapped n % 4 == 0)
+entry_far (token.TheVariants.Number n) = not (is_address n)
 entry_far _ = false
 
 -- the cores of a family are some of 0 to 15
 abbrev pub are_cores : Family → Bool
-are_cores f =
-    int_le (pos 0) f.core && int_le f.core (pos 15) && int_le (pos 1) f.count && int_le f.count (pos 16)
-    && nat_le (wrapped f.core + wrapped f.count) 16
+are_cores f = int_le (pos 0) f.core && int_le (pos 1) f.count && int_le (f.core +ℤ f.count) (pos 16)
 
 abbrev pub family_far : Family → Bool
 family_far f = not (are_cores f) || entry_far f.entry.kind
@@ -121,20 +122,16 @@ unknown text names here (statement.TheVariants.Tasks f) = entry_lost text names 
 unknown text names here (statement.TheVariants.Uses e) = effect_lost text names e
 unknown text names here _ = false
 
-abbrev pub is_task : ℕ → ℕ → Start → Bool
-is_task phase core t = t.phase == phase && t.core == core
+-- whether it is a task of the phase on one of the family's cores
+abbrev pub is_on : ℕ → Family → Start → Bool
+is_on phase f t = t.phase == phase && is_within f.core (f.core +ℤ f.count) (pos t.core)
 
-abbrev pub has_task : ℕ → ℕ → List Start → Bool
-has_task phase core tasks = list_any (is_task phase core) tasks
-
--- whether one of the cores from the first on has a task in the phase
-abbrev pub taken : List Start → ℕ → ℕ → ℕ → Bool
-taken tasks phase core zero = false
-taken tasks phase core (suc n) = has_task phase core tasks || taken tasks phase (more core 1) n
+abbrev pub taken : List Start → ℕ → Family → Bool
+taken tasks phase f = list_any (is_on phase f) tasks
 
 -- Misplaced: tasks before any phase or on a core that has one in this phase, or an effect without a current task
 abbrev pub misplaced : Draft → Statement → Bool
-misplaced d (statement.TheVariants.Tasks f) = d.phases == 0 || taken d.tasks d.phases (wrapped f.core) (wrapped f.count)
+misplaced d (statement.TheVariants.Tasks f) = d.phases == 0 || taken d.tasks d.phases f
 misplaced d (statement.TheVariants.Uses e) = d.family.count == 0
 misplaced d _ = false
 

@@ -1,16 +1,63 @@
--- The assembler's way from the tables to the program: the first values are stored one by one. Program defines the program;
--- this gives the same.
-use Rattle.std.specs.Prelude.{ℕ, List, [], ◌∷◌, length, map, replicate, slice_set}
+-- The assembler's way from the tables to the program: the first values are stored one by one, and claims count where they are of
+-- words of the memory. Program defines the program; for the tables of a text without a fault this gives the same.
+use Rattle.std.specs.Prelude.{ℕ, ◌&&◌, nat_lt, nat_le, List, [], ◌∷◌, length, map, replicate, slice_set, Option, Some, None, option_map, find, filter, filter_map, if◌then◌else◌}
 use Rattle.std.specs.List.{range_with_len}
+use Rattle.region_table.specs.declared.interval.Interval.{Interval}
+use Rattle.region_table.specs.declared.declared.Effects.{Effects}
+use Rattle.region_table.specs.declared.declared.TaskDecl.{TaskDecl}
+use Rattle.region_table.specs.declared.declared.Phase.{Phase}
 use Rattle.region_table.specs.Program.{ProgramParts}
 use Rattle.rv_assembler.specs.declared.draft.FirstValue.{FirstValue}
+use Rattle.rv_assembler.specs.declared.draft.Start.{Start}
+use Rattle.rv_assembler.specs.declared.draft.Usage.{Usage}
+use Rattle.rv_assembler.specs.declared.draft.Usage.TheVariants.{Reads, Writes, GuardedReads, GuardedWrites}
+use Rattle.rv_assembler.specs.declared.draft.Claim.{Claim}
 use Rattle.rv_assembler.specs.declared.draft.Draft.{Draft}
-use Rattle.rv_assembler.specs.Program.{phase_of}
+use Rattle.rv_assembler.specs.Union.{united}
+use Rattle.rv_assembler.specs.Program.{same_usage, is_claim_of, is_task}
 
 -- the memory with its first values; a later one wins
 abbrev pub stored : List ℕ → List FirstValue → List ℕ
 stored memory [] = memory
 stored memory (v ∷ vs) = stored (slice_set memory v.word v.value) vs
+
+-- the words of a claim of this usage, if they are words of the memory
+abbrev pub interval_of : ℕ → Usage → Claim → Option Interval
+interval_of words usage c =
+    if same_usage c.usage usage && (nat_lt c.lo c.hi && nat_le c.hi words) then Some (record { lo = c.lo; hi = c.hi }) else None
+
+-- the words that claims of this usage have
+abbrev pub words_of : ℕ → List Claim → Usage → List Interval
+words_of words claims usage = united (filter_map (interval_of words usage) claims)
+
+-- the words that claims have while their tasks hold a lock
+abbrev pub read_under : ℕ → List Claim → ℕ → List Interval
+read_under words claims lock = words_of words claims (GuardedReads lock)
+
+abbrev pub written_under : ℕ → List Claim → ℕ → List Interval
+written_under words claims lock = words_of words claims (GuardedWrites lock)
+
+-- the effects of a task by its claims
+abbrev pub effects_of : ℕ → ℕ → List Claim → Effects
+effects_of words locks claims =
+    record {
+      reads = words_of words claims Reads;
+      writes = words_of words claims Writes;
+      guarded_reads = map (read_under words claims) (range_with_len 0 locks);
+      guarded_writes = map (written_under words claims) (range_with_len 0 locks);
+    }
+
+abbrev pub task_of : ℕ → ℕ → List Claim → Start → TaskDecl
+task_of words locks claims t =
+    record { core = record { 0 = t.core }; entry = t.entry; arg = t.arg; effects = effects_of words locks (filter (is_claim_of t) claims) }
+
+-- the task of a core in a phase, if there is one
+abbrev pub task_at : ℕ → ℕ → List Claim → List Start → ℕ → ℕ → Option TaskDecl
+task_at words locks claims tasks phase core = option_map (task_of words locks claims) (find (is_task phase core) tasks)
+
+-- the tasks of a phase, by their cores
+abbrev pub phase_of : ℕ → ℕ → List Claim → List Start → ℕ → Phase
+phase_of words locks claims tasks phase = record { tasks = filter_map (task_at words locks claims tasks phase) (range_with_len 0 16) }
 
 abbrev pub program_of : Draft → ProgramParts
 program_of d =

@@ -1,6 +1,6 @@
 -- The assembler's way to the names of a text: line by line, with counts of what is declared so far. The counts stand still
--- at the greatest number of 32 bits. What names mean is defined in Names; this gives the same.
-use Rattle.std.specs.Prelude.{ℕ, List, [], ◌∷◌, Option, Some, None, if◌then◌else◌, bytes_eq}
+-- at the greatest number of 32 bits. What names mean is defined in Declarations; this gives the same.
+use Rattle.std.specs.Prelude.{ℕ, ◌+◌, ◌-◌, ◌^◌, min, List, [], ◌∷◌, Option, Some, None, if◌then◌else◌, bytes_eq}
 use Rattle.src_text.specs.declared.token.Token.{Token}
 use Rattle.rv_assembler.specs.declared.statement.Statement.{Statement}
 use Rattle.rv_assembler.specs.declared.statement.Statement as statement
@@ -10,9 +10,13 @@ use Rattle.rv_assembler.specs.declared.reading.Reading.TheVariants.{Bad, Good}
 use Rattle.rv_assembler.specs.declared.names.Meaning.{Meaning}
 use Rattle.rv_assembler.specs.declared.names.Meaning as meaning
 use Rattle.rv_assembler.specs.declared.names.Count.{Count}
-use Rattle.rv_assembler.specs.Number.{more}
 use Rattle.rv_assembler.specs.Operand.{bytes_of}
-use Rattle.rv_assembler.specs.Meaning.{first_of, size_of, length_of}
+use Rattle.rv_assembler.specs.Meaning.{first_of, size_of}
+use Rattle.rv_assembler.specs.Counts.{region_words}
+
+-- a count after some more; counts stand still at the greatest number of 32 bits, far above every limit
+abbrev pub more : ℕ → ℕ → ℕ
+more count by = min (count + by) (2 ^ 32 - 1)
 
 abbrev pub no_count : Count
 no_count = record { code = 0; words = 0; regions = 0; locks = 0 }
@@ -20,7 +24,7 @@ no_count = record { code = 0; words = 0; regions = 0; locks = 0 }
 -- how much is declared behind a statement
 abbrev pub counted : Count → Statement → Count
 counted c (statement.TheVariants.Instruction k) = record { code = more c.code (size_of k); words = c.words; regions = c.regions; locks = c.locks }
-counted c (statement.TheVariants.Region name len) = record { code = c.code; words = more c.words (length_of len); regions = more c.regions 1; locks = c.locks }
+counted c (statement.TheVariants.Region name len) = record { code = c.code; words = more c.words (region_words len); regions = more c.regions 1; locks = c.locks }
 counted c (statement.TheVariants.Lock name) = record { code = c.code; words = c.words; regions = c.regions; locks = more c.locks 1 }
 counted c _ = c
 

@@ -1,4 +1,3 @@
-pub mod Vocabulary
 pub mod Number
 pub mod Operand
 pub mod Shape
@@ -7,7 +6,7 @@ pub mod Reading
 pub mod Meaning
 pub mod Placed
 pub mod Emission
-pub mod Draft
+pub mod Named
 pub mod Rows
 pub mod Counts
 pub mod Declarations
@@ -17,6 +16,7 @@ pub mod Program
 pub mod Tables
 pub mod Source
 pub mod Gathering
+pub mod Drafting
 pub mod Finishing
 pub mod Adding
 pub mod Lookup

@@ -1,22 +1,18 @@
--- Numbers of statements: their ranges, and what stands for them in 32 bits.
-use Rattle.std.specs.Prelude.{ℕ, ◌+◌, ◌-◌, ◌%◌, ◌^◌, min, ℤ, pos, negsuc, neg_ℤ, int_le, int_lt, Bool, ◌&&◌, ◌==◌, if◌then◌else◌}
-use Rattle.std.specs.Int.{w64, cast_unsigned}
+-- Numbers of statements, and their ranges.
+use Rattle.std.specs.Prelude.{ℕ, ◌-◌, ◌%◌, ◌^◌, ℤ, pos, negsuc, neg_ℤ, int_le, int_lt, Bool, ◌&&◌, ◌==◌, if◌then◌else◌}
 use Rattle.rv_isa.specs.Word.{bits, pattern}
 use Rattle.rv_isa.specs.Table.{is_shift, has_immediate}
 use Rattle.rv_isa.specs.declared.instr.AluOp.{AluOp}
 
 -- a number modulo 2^32
 abbrev pub wrapped : ℤ → ℕ
-wrapped z = cast_unsigned w64 z % 2 ^ 32
+wrapped (pos n) = n % 2 ^ 32
+wrapped (negsuc n) = 2 ^ 32 - 1 - n % 2 ^ 32
 
 -- a number that isn't below 0, as a count
 abbrev pub count_of : ℤ → ℕ
 count_of (pos n) = n
 count_of (negsuc n) = 0
-
--- a count after some more; counts stand still at the greatest number of 32 bits, far above every limit
-abbrev pub more : ℕ → ℕ → ℕ
-more count by = min (count + by) (2 ^ 32 - 1)
 
 abbrev pub is_within : ℤ → ℤ → ℤ → Bool
 is_within low below z = int_le low z && int_lt z below

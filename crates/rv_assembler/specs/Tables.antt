@@ -13,7 +13,7 @@ use Rattle.rv_assembler.specs.declared.draft.Draft.{Draft}
 use Rattle.rv_assembler.specs.Number.{count_of}
 use Rattle.rv_assembler.specs.Operand.{bytes_of}
 use Rattle.rv_assembler.specs.Emission.{emission, words_in}
-use Rattle.rv_assembler.specs.Draft.{region_place, entry_of, usage_of}
+use Rattle.rv_assembler.specs.Named.{region_place, entry_of, usage_of}
 use Rattle.rv_assembler.specs.Rows.{first_values, starts, uses_of}
 use Rattle.rv_assembler.specs.Placed.{Placed, placed}
 use Rattle.rv_assembler.specs.Counts.{code_words, data_words, phases_in, counts_in, family_in}

@@ -3,11 +3,13 @@ ghost use Rattle.std.specs.Prelude.{◌≡◌, ℕ, ◌-◌, ◌++◌, ◌∷◌
 ghost use Rattle.rv_assembler.specs.Lookup.{looked};
 ghost use Rattle.rv_assembler.specs.Emission.{words_in, emission};
 ghost use Rattle.rv_assembler.specs.Operand.{bytes_of};
-ghost use Rattle.rv_assembler.specs.Number.{wrapped, more};
+ghost use Rattle.rv_assembler.specs.Number.{wrapped};
+ghost use Rattle.rv_assembler.specs.Gathering.{more};
 ghost use Rattle.rv_assembler.specs.Adding.{no_draft, with_tasks, extended, after};
-ghost use Rattle.rv_assembler.specs.Draft.{region_place, lock_number, entry_of, members, usage_of, first_word, past_word, step_of, claimed, claims_for, values_for};
+ghost use Rattle.rv_assembler.specs.Named.{region_place, lock_number, usage_of};
+ghost use Rattle.rv_assembler.specs.Drafting.{wrapped_entry, members, first_word, past_word, step_of, claimed, claims_for, values_for};
 
-use crate::emission::{Emission, emit};
+use crate::emission::{Emission, emit, label_address};
 use crate::names::{Count, Meaning, NO_COUNT, Names, counted, meaning_of};
 use crate::number::{more, wrapped};
 use crate::operand::bytes;
@@ -19,14 +21,14 @@ use std::alloc::Global;
 
 /// The first value of a data word.
 #[derive(Clone, Copy)]
-pub(crate) struct FirstValue {
+pub struct FirstValue {
     pub word: u32,
     pub value: u32,
 }
 
-/// A task of a phase, which are numbered from 1. Its entry is counted in code words from address 0.
+/// A task of a phase, which are numbered from 1.
 #[derive(Clone, Copy)]
-pub(crate) struct Start {
+pub struct Start {
     pub phase: u32,
     pub core: u32,
     pub entry: u32,
@@ -35,7 +37,7 @@ pub(crate) struct Start {
 
 /// How a task uses words.
 #[derive(Clone, Copy)]
-pub(crate) enum Usage {
+pub enum Usage {
     Reads,
     Writes,
     /// While it holds the lock of this number.
@@ -45,7 +47,7 @@ pub(crate) enum Usage {
 
 /// Words that the task of a phase and a core uses, from `lo` to before `hi`.
 #[derive(Clone, Copy)]
-pub(crate) struct Claim {
+pub struct Claim {
     pub phase: u32,
     pub core: u32,
     pub usage: Usage,
@@ -55,7 +57,7 @@ pub(crate) struct Claim {
 
 /// The cores of the current tasks: `count` from `first` on.
 #[derive(Clone, Copy)]
-pub(crate) struct Cores {
+pub struct Cores {
     pub first: u32,
     pub count: u32,
 }
@@ -64,7 +66,7 @@ const NO_CORES: Cores = Cores { first: 0, count: 0 };
 
 /// What the lines so far add up to.
 #[derive(Drop)]
-pub(crate) struct Draft {
+pub struct Draft {
     pub code: Sequence<u32>,
     pub regions: Sequence<Region>,
     pub locks: Sequence<Name>,
@@ -78,7 +80,7 @@ pub(crate) struct Draft {
 
 /// The region that a name means: its first word and its length.
 #[derive(Clone, Copy)]
-pub(crate) struct Place {
+pub struct Place {
     pub start: u32,
     pub len: i64,
 }
@@ -116,15 +118,15 @@ pub(crate) fn lock_named<'a>(text: &'a [u8], names: &Names<'a>, name: Token) -> 
     lock_number(meaning_of(text, names, name))
 }
 
-/// The entry of a task, counted in code words from address 0.
+/// The address of a task's entry, modulo 2^32; 0 where the label isn't declared.
 fn entry<'a>(text: &'a [u8], names: &Names<'a>, target: Token) -> u32
-    ensures { result ≡ entry_of text.now (looked names.now) target }
+    ensures { result ≡ wrapped_entry text.now (looked names.now) target }
 {
     if let TokenKind::Number(number) = target.kind {
-        return wrapped(number) / 4;
+        return wrapped(number);
     }
     match meaning_of(text, names, target) {
-        Some(Meaning::Label { place, .. }) => more(place, 0x400),
+        Some(Meaning::Label { place, .. }) => label_address(place),
         _ => 0,
     }
 }

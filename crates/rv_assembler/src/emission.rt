@@ -17,7 +17,7 @@ use src_text::{Token, TokenKind};
 
 /// The code words of a statement, or why it has none.
 #[derive(Clone, Copy)]
-pub(crate) enum Emission {
+pub enum Emission {
     One(u32),
     Two(u32, u32),
     /// A number is outside the range of its row.
@@ -163,16 +163,16 @@ fn loaded(rd: Reg, value: u32) -> Emission
     Emission::Two(encode(&first), encode(&second))
 }
 
-/// The address of the code word of this number.
+/// The address of the code word of this number, modulo 2^32.
 pub(crate) fn label_address(place: u32) -> u32
-    ensures { result ≡ label_address place }
+    ensures { result ≡ label_address place % 2 ^ 32 }
 {
     place.wrapping_mul(4).wrapping_add(0x1000)
 }
 
-/// The address of the data word of this number.
+/// The address of the data word of this number, modulo 2^32.
 fn region_address(word: u32) -> u32
-    ensures { result ≡ region_address word }
+    ensures { result ≡ region_address word % 2 ^ 32 }
 {
     word.wrapping_mul(4).wrapping_add(0x1000_0000)
 }

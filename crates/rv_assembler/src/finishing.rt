@@ -1,12 +1,11 @@
 //! From what the lines of a text add up to, to the program.
-ghost use Rattle.std.specs.Prelude.{◌≡◌, ℕ, ◌*◌, ◌%◌, ◌^◌, ◌<◌, ◌≤◌, length, IfOk, List, map, filter, filter_map, replicate, slice_set, [], ◌∷◌, ◌++◌, OnOk, option_map, find};
+ghost use Rattle.std.specs.Prelude.{◌≡◌, ℕ, ◌<◌, ◌≤◌, length, IfOk, List, map, filter, filter_map, replicate, slice_set, [], ◌∷◌, ◌++◌, OnOk, option_map, find};
 ghost use Rattle.std.specs.Option.{option_to_list};
 ghost use Rattle.std.specs.List.{All, range_with_len};
 ghost use Rattle.region_table.specs.declared.interval.Interval.{Interval};
 ghost use Rattle.region_table.specs.Program.{IsProgram};
-ghost use Rattle.rv_assembler.specs.Fault.{is_task};
-ghost use Rattle.rv_assembler.specs.Program.{same_usage, is_claim_of, interval_of, words_of, read_under, written_under, effects_of, task_of, task_at, phase_of};
-ghost use Rattle.rv_assembler.specs.Finishing.{stored, program_of};
+ghost use Rattle.rv_assembler.specs.Program.{same_usage, is_claim_of, is_task};
+ghost use Rattle.rv_assembler.specs.Finishing.{interval_of, words_of, read_under, written_under, effects_of, task_of, task_at, phase_of, stored, program_of};
 
 use crate::draft::{Claim, Draft, FirstValue, Start, Usage};
 use crate::uniting::united;
@@ -168,7 +167,7 @@ fn declared(
     let own = claims_of(alloc, claims, task)?;
     Ok(TaskDecl {
         core: CoreId(task.core),
-        entry: task.entry.wrapping_mul(4),
+        entry: task.entry,
         arg: task.arg,
         effects: effects_in(alloc, words, locks, own.as_slice())?,
     })

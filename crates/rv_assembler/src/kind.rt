@@ -2,7 +2,7 @@ use rv_isa::{AluOp, Cond, Width};
 
 /// What a token of a statement may be.
 #[derive(Clone, Copy)]
-pub(crate) enum Piece {
+pub enum Piece {
     /// The name of a register.
     Register,
     Number,
@@ -17,7 +17,7 @@ pub(crate) enum Piece {
 
 /// The mnemonics, and the directive `.raw`.
 #[derive(Clone, Copy)]
-pub(crate) enum Mnemonic {
+pub enum Mnemonic {
     Lui,
     Auipc,
     Jal,
@@ -47,7 +47,7 @@ pub(crate) enum Mnemonic {
 
 /// How the words of an effect are given.
 #[derive(Clone, Copy)]
-pub(crate) enum Form {
+pub enum Form {
     Whole,
     Part,
     Stepped,
@@ -55,7 +55,7 @@ pub(crate) enum Form {
 
 /// The other directives.
 #[derive(Clone, Copy)]
-pub(crate) enum Directive {
+pub enum Directive {
     Region,
     Word,
     Lock,
@@ -68,7 +68,7 @@ pub(crate) enum Directive {
 
 /// What a statement is by its first word and the shape of its operands.
 #[derive(Clone, Copy)]
-pub(crate) enum Kind {
+pub enum Kind {
     Code(Mnemonic),
     Table(Directive),
 }

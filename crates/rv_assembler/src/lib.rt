@@ -21,6 +21,3 @@ mod uniting;
 pub use assembling::assemble;
 pub use fault::SourceFault;
 pub use laws::{lines_of_good_form_are_few, names_may_be_declared, only_long_texts_are_too_large};
-
-#[cfg(test)]
-mod tests;

@@ -3,7 +3,8 @@ ghost use Rattle.std.specs.Prelude.{◌≡◌, ℕ, List, Option, Some, None, by
 ghost use Rattle.rv_assembler.specs.Lookup.{looked};
 ghost use Rattle.rv_assembler.specs.Operand.{bytes_of};
 ghost use Rattle.rv_assembler.specs.Reading.{reading_of};
-ghost use Rattle.rv_assembler.specs.Meaning.{first_of, size_of, length_of};
+ghost use Rattle.rv_assembler.specs.Meaning.{first_of, size_of};
+ghost use Rattle.rv_assembler.specs.Counts.{region_words};
 ghost use Rattle.rv_assembler.specs.Gathering.{no_count, counted, count_after, label_means, name_means, declared_by, meaning_in};
 
 use crate::number::{is_length, more, wrapped};
@@ -17,7 +18,7 @@ use std::collections::BTreeMap;
 
 /// What a name means, by the line that declares it.
 #[derive(Clone, Copy)]
-pub(crate) enum Meaning {
+pub enum Meaning {
     /// The label of a line, which stands before the code word of this number.
     Label { line: u32, place: u32 },
     /// The region of this number, with its first word and how many words it is declared to have.
@@ -28,7 +29,7 @@ pub(crate) enum Meaning {
 
 /// How much the lines so far declare: code words, data words, regions and locks.
 #[derive(Clone, Copy)]
-pub(crate) struct Count {
+pub struct Count {
     pub code: u32,
     pub words: u32,
     pub regions: u32,
@@ -55,7 +56,7 @@ fn size(code: Code) -> u32
 
 /// How many data words a region has; none where its length is out of range.
 fn length(len: i64) -> u32
-    ensures { result ≡ length_of len }
+    ensures { result ≡ region_words len }
 {
     if is_length(len) { wrapped(len) } else { 0 }
 }

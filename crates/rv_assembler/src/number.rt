@@ -2,7 +2,8 @@
 ghost use Rattle.std.specs.Prelude.{◌≡◌, IsTrue, ℤ, pos, neg_ℤ, ◌≤ℤ◌, ◌<ℤ◌};
 ghost use Rattle.rv_isa.specs.Range.{IsSigned, IsOffset, IsOperand};
 ghost use Rattle.rv_isa.specs.Table.{is_shift, has_immediate};
-ghost use Rattle.rv_assembler.specs.Number.{wrapped, more, is_upper, is_even, is_immediate, is_jump, is_branch, is_operand, is_length, is_interval};
+ghost use Rattle.rv_assembler.specs.Number.{wrapped, is_upper, is_even, is_immediate, is_jump, is_branch, is_operand, is_length, is_interval};
+ghost use Rattle.rv_assembler.specs.Gathering.{more};
 
 use rv_isa::AluOp;
 

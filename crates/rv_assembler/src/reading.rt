@@ -13,7 +13,7 @@ use src_text::{Line, LineFault, Token, TokenKind};
 
 /// What a line of good form says, and its number.
 #[derive(Clone, Copy)]
-pub(crate) struct Saying {
+pub struct Saying {
     pub line: u32,
     pub label: Option<Token>,
     pub statement: Statement,
@@ -21,7 +21,7 @@ pub(crate) struct Saying {
 
 /// A line of good form, or what is wrong with its form.
 #[derive(Clone, Copy)]
-pub(crate) enum Reading {
+pub enum Reading {
     Bad(SourceFault),
     Good(Saying),
 }

@@ -3,7 +3,7 @@ use src_text::Token;
 
 /// A statement that gives code words. A target is a number, the offset in bytes, or the name of a label.
 #[derive(Clone, Copy)]
-pub(crate) enum Code {
+pub enum Code {
     /// LUI, or AUIPC where the program counter is added.
     Upper {
         adds_pc: bool,
@@ -71,7 +71,7 @@ pub(crate) enum Code {
 /// Tasks of the current phase, on `count` cores from `core` on: their entry, an address or the name of a label, the
 /// argument of the first, and by how much each next one has more.
 #[derive(Clone, Copy)]
-pub(crate) struct Family {
+pub struct Family {
     pub core: i64,
     pub count: i64,
     pub entry: Token,
@@ -81,7 +81,7 @@ pub(crate) struct Family {
 
 /// Which words of a region a task uses.
 #[derive(Clone, Copy)]
-pub(crate) enum Extent {
+pub enum Extent {
     /// All.
     Whole,
     /// Those from `lo` to before `hi`.
@@ -92,7 +92,7 @@ pub(crate) enum Extent {
 
 /// Words of a region that the current tasks use, by reading or by writing too, under a lock or without one.
 #[derive(Clone, Copy)]
-pub(crate) struct Effect {
+pub struct Effect {
     pub writes: bool,
     pub lock: Option<Token>,
     pub region: Token,
@@ -101,7 +101,7 @@ pub(crate) struct Effect {
 
 /// What a line says behind its label.
 #[derive(Clone, Copy)]
-pub(crate) enum Statement {
+pub enum Statement {
     Nothing,
     Instruction(Code),
     Region {

@@ -1,16 +1,17 @@
 //! The faults of a line that has none by its form.
 ghost use Rattle.std.specs.Prelude.{◌≡◌, ℕ, ◌-◌, ◌+◌, ◌<◌, ◌≤◌, List, Option, is_none, IsTrue, ℤ, pos, neg_ℤ, ◌+ℤ◌, ◌≤ℤ◌};
 ghost use Rattle.rv_assembler.specs.Lookup.{looked};
-ghost use Rattle.rv_assembler.specs.Fault.{is_far, is_lost, stepped_fits, extent_far, family_far, entry_far, word_far, out_of_range, label_doubled, region_doubled, lock_doubled, name_doubled, doubled, entry_lost, effect_lost, unknown, has_task, taken, misplaced, most_regions, over_limit, early_fault};
+ghost use Rattle.rv_assembler.specs.Number.{is_within};
+ghost use Rattle.rv_assembler.specs.Fault.{is_far, is_lost, stepped_fits, extent_far, family_far, is_address, entry_far, are_cores, word_far, out_of_range, label_doubled, region_doubled, lock_doubled, name_doubled, doubled, entry_lost, effect_lost, unknown, is_on, taken, misplaced, most_regions, over_limit, early_fault};
 ghost use Rattle.rv_assembler.specs.Operand.{bytes_of};
 ghost use Rattle.rv_assembler.specs.Emission.{emission, label_place};
-ghost use Rattle.rv_assembler.specs.Draft.{region_place, lock_number};
+ghost use Rattle.rv_assembler.specs.Named.{region_place, lock_number};
 
 use crate::draft::{Draft, Place, Start, lock_named, region_named};
 use crate::emission::{Emission, emit};
 use crate::fault::SourceFault;
 use crate::names::{Count, Meaning, Names, meaning_of};
-use crate::number::{is_interval, is_length, more, wrapped};
+use crate::number::{is_interval, is_length, wrapped};
 use crate::reading::Saying;
 use crate::statement::{Effect, Extent, Family, Statement};
 use src_text::{Token, TokenKind};
@@ -77,26 +78,37 @@ fn word_far(place: Option<Place>, index: i64) -> bool
     }
 }
 
-/// Whether the address of an entry is negative or no multiple of 4.
+/// Whether a number is the address of a word.
+fn is_address(number: i64) -> bool
+    ensures { result ≡ is_address number }
+{
+    0 <= number && number < 0x1_0000_0000 && wrapped(number) % 4 == 0
+}
+
+/// Whether an entry is a number that is no address of a word.
 fn entry_far(entry: Token) -> bool
     ensures { result ≡ entry_far entry.kind }
 {
     match entry.kind {
-        TokenKind::Number(number) => !(0 <= number && wrapped(number) % 4 == 0),
+        TokenKind::Number(number) => !is_address(number),
         _ => false,
     }
+}
+
+/// Whether a family of tasks is on some of the cores 0 to 15.
+fn are_cores(family: Family) -> bool
+    ensures { result ≡ are_cores family }
+{
+    0 <= family.core
+        && 1 <= family.count
+        && i128::from(family.core) + i128::from(family.count) <= 16
 }
 
 /// Whether a family of tasks is on other cores than 0 to 15, or has a bad entry.
 fn family_far(family: Family) -> bool
     ensures { result ≡ family_far family }
 {
-    let on_cores = 0 <= family.core
-        && family.core <= 15
-        && 1 <= family.count
-        && family.count <= 16
-        && u64::from(wrapped(family.core)) + u64::from(wrapped(family.count)) <= 16;
-    !on_cores || entry_far(family.entry)
+    !are_cores(family) || entry_far(family.entry)
 }
 
 /// Whether a number is outside its range, or a label too far.
@@ -227,27 +239,20 @@ fn unknown<'a>(text: &'a [u8], names: &Names<'a>, here: u32, statement: &Stateme
     }
 }
 
-/// Whether a core has a task in a phase.
-fn has_task(tasks: &[Start], phase: u32, core: u32) -> bool
-    ensures { result ≡ has_task phase core tasks.now }
+/// Whether it is a task of the phase on one of the family's cores.
+fn is_on(phase: u32, family: Family, task: Start) -> bool
+    ensures { result ≡ is_on phase family task }
 {
-    tasks
-        .iter()
-        .any(|task| task.phase == phase && task.core == core)
+    let core = i128::from(task.core);
+    let first = i128::from(family.core);
+    task.phase == phase && first <= core && core < first + i128::from(family.count)
 }
 
-/// Whether one of `count` cores from `first` on has a task in a phase.
-fn taken(tasks: &[Start], phase: u32, first: u32, count: u32) -> bool
-    ensures { result ≡ taken tasks.now phase first count }
+/// Whether one of the family's cores has a task in the phase.
+fn taken(tasks: &[Start], phase: u32, family: Family) -> bool
+    ensures { result ≡ taken tasks.now phase family }
 {
-    let mut core = first;
-    for _done in 0..count {
-        if has_task(tasks, phase, core) {
-            return true;
-        }
-        core = more(core, 1);
-    }
-    false
+    tasks.iter().any(|task| is_on(phase, family, *task))
 }
 
 /// Whether the statement may not stand here.
@@ -256,13 +261,7 @@ fn misplaced(draft: &Draft, statement: &Statement) -> bool
 {
     match *statement {
         Statement::Tasks(family) => {
-            draft.phases == 0
-                || taken(
-                    draft.tasks.as_slice(),
-                    draft.phases,
-                    wrapped(family.core),
-                    wrapped(family.count),
-                )
+            draft.phases == 0 || taken(draft.tasks.as_slice(), draft.phases, family)
         }
         Statement::Uses(_) => draft.family.count == 0,
         _ => false,

@@ -2,7 +2,13 @@
 use Rattle.std.proofs.Common.{◌≡◌, ℕ, ◌+◌, ◌<◌, ◌≤◌, Bool, cond, ltb, List, [], ◌∷◌, ◌++◌, length, map, Option, None, refl, ap, ◌∙◌, append_assoc, length-append, arith}
 use Rattle.src_text.specs.Line.{numbered}
 use Rattle.src_text.specs.declared.line.Line.{Line}
-use Rattle.rv_assembler.specs.Vocabulary.{Statement, Reading, Meaning, Draft, Count, reading_good, statement_nothing}
+use Rattle.rv_assembler.specs.declared.statement.Statement.{Statement}
+use Rattle.rv_assembler.specs.declared.reading.Reading.{Reading}
+use Rattle.rv_assembler.specs.declared.names.Meaning.{Meaning}
+use Rattle.rv_assembler.specs.declared.draft.Draft.{Draft}
+use Rattle.rv_assembler.specs.declared.names.Count.{Count}
+use Rattle.rv_assembler.specs.declared.reading.Reading as in_reading
+use Rattle.rv_assembler.specs.declared.statement.Statement as in_statement
 use Rattle.rv_assembler.specs.Gathering.{meaning_in}
 use Rattle.rv_assembler.specs.Reading.{reading_of, read_line}
 use Rattle.rv_assembler.specs.Adding.{total}
@@ -15,7 +21,7 @@ pub sayings-append : (n : ℕ) (ss ts : List Statement) → sayings n (ss ++ ts)
 sayings-append n [] ts = let e : n ≡ n + 0 = omega arith in ap (λ (k : ℕ). sayings k ts) e
 sayings-append n (s ∷ ss) ts =
     let e : n + 1 + length ss ≡ n + length (s ∷ ss) = omega arith in
-    ap (λ (rs : List Reading). reading_good (record { line = n; label = None; statement = s }) ∷ rs) (sayings-append (n + 1) ss ts ∙ ap (λ (k : ℕ). sayings (n + 1) ss ++ sayings k ts) e)
+    ap (λ (rs : List Reading). in_reading.TheVariants.Good (record { line = n; label = None; statement = s }) ∷ rs) (sayings-append (n + 1) ss ts ∙ ap (λ (k : ℕ). sayings (n + 1) ss ++ sayings k ts) e)
 
 abbrev pub size : List (List ℕ) → ℕ
 size ls = length (text_of ls)
@@ -44,9 +50,9 @@ front-readings text version number place (x ∷ a) (s ∷ ss) b l few h =
     let rest = map (reading_of version text) (numbered (number + 1) (place + (length x + 1)) (a ++ b)) in
     let e : number + 1 + length a ≡ number + length (x ∷ a) = omega arith in
     let f : place + (length x + 1) + size a ≡ place + size (x ∷ a) = (let g = size-cons x a in omega arith) in
-    let first : Reading = reading_good (record { line = number; label = None; statement = s }) in
+    let first : Reading = in_reading.TheVariants.Good (record { line = number; label = None; statement = s }) in
     ap (λ (y : Line). reading_of version text y ∷ rest) (line-read number place x h.0 h.1 (omega arith))
-    ∙ ap (λ (b' : Bool). cond b' (reading_good (record { line = number; label = None; statement = statement_nothing })) (read_line (ltb 0 version) text number (tokens_at place x) None) ∷ rest) (other-line version number l)
+    ∙ ap (λ (b' : Bool). cond b' (in_reading.TheVariants.Good (record { line = number; label = None; statement = in_statement.TheVariants.Nothing })) (read_line (ltb 0 version) text number (tokens_at place x) None) ∷ rest) (other-line version number l)
     ∙ ap (λ (r : Reading). r ∷ rest) (h.2.read (ltb 0 version) number)
     ∙ ap (λ (rs : List Reading). first ∷ rs) (front-readings text version (number + 1) (place + (length x + 1)) a ss b (omega arith) (omega arith) h.3
     ∙ ap (λ (n : ℕ). sayings (number + 1) ss ++ map (reading_of version text) (numbered n (place + (length x + 1) + size a) b)) e

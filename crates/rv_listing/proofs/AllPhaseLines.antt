@@ -6,8 +6,9 @@ use Rattle.region_table.specs.declared.declared.Region.{Region}
 use Rattle.region_table.specs.declared.declared.TaskDecl.{TaskDecl}
 use Rattle.region_table.specs.declared.declared.Phase.{Phase}
 use Rattle.region_table.specs.Program.{AreTiled}
-use Rattle.rv_assembler.specs.Vocabulary.{Meaning, Draft, statement_phase}
-use Rattle.rv_assembler.specs.Fault.{has_task}
+use Rattle.rv_assembler.specs.declared.names.Meaning.{Meaning}
+use Rattle.rv_assembler.specs.declared.draft.Draft.{Draft}
+use Rattle.rv_assembler.specs.declared.statement.Statement as in_statement
 use Rattle.rv_listing.specs.Statement.{statement}
 use Rattle.rv_listing.specs.Listing.{text_of, task_lines, phase_lines}
 use Rattle.rv_listing.proofs.TokenLemmas.{statement-good}
@@ -16,7 +17,7 @@ use Rattle.rv_listing.proofs.CodeSection.{AreShort}
 use Rattle.rv_listing.proofs.DirectiveLemmas.{nm, phase-said}
 use Rattle.rv_listing.proofs.DeclarationLemmas.{KnowRegions, KnowLocks}
 use Rattle.rv_listing.proofs.RegionSection.{IsWithin}
-use Rattle.rv_listing.proofs.TaskSection.{start_in}
+use Rattle.rv_listing.proofs.TaskSection.{has_task, start_in}
 use Rattle.rv_listing.proofs.UseSection.{add_phase, total-phase}
 use Rattle.rv_listing.proofs.SetLines.{AreNamed}
 use Rattle.rv_listing.proofs.ValueLines.{behind-line, behind-lines, behind-size}
@@ -101,7 +102,7 @@ module _ (v : Bool) (text : List ℕ) (names : List ℕ → Option Meaning) (rs 
       let line = statement (codes ".phase") [] in
       let lines = flat_map (task_lines rs ls) ph.tasks in
       let k = length ph.tasks + m in
-      let x = adds-one v text names place line statement_phase (λ d. IsAt v d q k) add_phase (statement-good (nm (codes ".phase")) [] phase-kind.op tt) short.0 (phase-said text before (10 ∷ (text_of lines ++ rest)) place s (behind-line text before line lines rest e))
+      let x = adds-one v text names place line in_statement.TheVariants.Phase (λ d. IsAt v d q k) add_phase (statement-good (nm (codes ".phase")) [] phase-kind.op tt) short.0 (phase-said text before (10 ∷ (text_of lines ++ rest)) place s (behind-line text before line lines rest e))
       (λ d c left h. let w = h.within in let p = w.phases in total-phase v text names d c left p (at-phase v d q k l h).within) (λ c y z left. refl) in
       let y = tasks-add v text names rs end tiled most named known ls declared locks ph.tasks 0 (before ++ (line ++ 10 ∷ [])) rest (place + size (line ∷ [])) r n (behind-size before line place s) (behind-lines text before line lines rest e) short.1 in
       adds-as v text names place (line ∷ lines) (λ d. IsAt v d q k × IsReady v (add_phase d) 0 (length ph.tasks)) (λ d. IsAt v d q k) (λ d. add_tasks_of rs (length ls) (add_phase d) ph.tasks) (λ d. add_tasks_of rs (length ls) (add_phase d) ph.tasks)

@@ -4,13 +4,19 @@ use Rattle.std.specs.Prelude.{Ok}
 use Rattle.std.specs.List.{flat_map, range_with_len}
 use Rattle.src_text.specs.Line.{numbered}
 use Rattle.region_table.specs.Program.{ProgramParts, AreTiled}
-use Rattle.rv_assembler.specs.Vocabulary.{Statement, Reading, Meaning, Draft, Count, Start, Claim, FirstValue}
+use Rattle.rv_assembler.specs.declared.statement.Statement.{Statement}
+use Rattle.rv_assembler.specs.declared.reading.Reading.{Reading}
+use Rattle.rv_assembler.specs.declared.names.Meaning.{Meaning}
+use Rattle.rv_assembler.specs.declared.draft.Draft.{Draft}
+use Rattle.rv_assembler.specs.declared.names.Count.{Count}
+use Rattle.rv_assembler.specs.declared.draft.Start.{Start}
+use Rattle.rv_assembler.specs.declared.draft.Claim.{Claim}
+use Rattle.rv_assembler.specs.declared.draft.FirstValue.{FirstValue}
 use Rattle.rv_assembler.specs.Gathering.{no_count, meaning_in}
 use Rattle.rv_assembler.specs.Reading.{reading_of}
 use Rattle.rv_assembler.specs.Adding.{no_draft, total}
 use Rattle.rv_assembler.specs.Fault.{most_regions}
-use Rattle.rv_assembler.specs.Program.{phase_of}
-use Rattle.rv_assembler.specs.Finishing.{stored, program_of}
+use Rattle.rv_assembler.specs.Finishing.{phase_of, stored, program_of}
 use Rattle.rv_listing.specs.Instruction.{code_line}
 use Rattle.rv_listing.specs.Listing.{text_of, region_line, region_values, lock_line, phase_lines}
 use Rattle.rv_listing.specs.Law.{AreCodeWords}

@@ -1,5 +1,5 @@
 -- Whose the claims of a listing are, and its tasks and phases made of them again.
-use Rattle.std.proofs.Common.{◌≡◌, ℕ, zero, suc, ◌+◌, ◌*◌, ◌/◌, ◌%◌, ◌^◌, ◌<◌, ◌≤◌, Bool, true, false, cond, eqb, ◌&&◌, List, [], ◌∷◌, ◌++◌, length, map, filter, find, filter_map, option_map, Option, Some, None, refl, sym, ap, ◌∙◌, append_assoc, arith}
+use Rattle.std.proofs.Common.{◌≡◌, ℕ, zero, suc, ◌+◌, ◌<◌, ◌≤◌, Bool, true, false, cond, eqb, ◌&&◌, List, [], ◌∷◌, ◌++◌, length, map, filter, find, filter_map, option_map, Option, Some, None, refl, sym, ap, ◌∙◌, append_assoc, arith}
 use Rattle.std.specs.List.{range_with_len, cons_option}
 use Rattle.std.proofs.lemmas.Bool.Decides.{nat_tests}
 use Rattle.region_table.specs.declared.interval.Interval.{Interval}
@@ -8,9 +8,12 @@ use Rattle.region_table.specs.declared.declared.Effects.{Effects}
 use Rattle.region_table.specs.declared.declared.TaskDecl.{TaskDecl}
 use Rattle.region_table.specs.declared.declared.Phase.{Phase}
 use Rattle.region_table.specs.Program.{AreTiled, IsTask}
-use Rattle.rv_assembler.specs.Vocabulary.{Usage, Start, Claim, usage_reads, usage_writes, usage_guarded_reads, usage_guarded_writes}
-use Rattle.rv_assembler.specs.Fault.{is_task}
-use Rattle.rv_assembler.specs.Program.{is_claim_of, effects_of, task_of, task_at, phase_of}
+use Rattle.rv_assembler.specs.declared.draft.Usage.{Usage}
+use Rattle.rv_assembler.specs.declared.draft.Start.{Start}
+use Rattle.rv_assembler.specs.declared.draft.Claim.{Claim}
+use Rattle.rv_assembler.specs.declared.draft.Usage as in_usage
+use Rattle.rv_assembler.specs.Program.{is_task, is_claim_of}
+use Rattle.rv_assembler.specs.Finishing.{effects_of, task_of, task_at, phase_of}
 use Rattle.rv_listing.specs.Law.{AreCanonical}
 use Rattle.rv_listing.proofs.CutSetLemmas.{cut_set}
 use Rattle.rv_listing.proofs.EffectLemmas.{claims_with}
@@ -25,19 +28,19 @@ module _ (b : Bool) (s : Start) (p core : ℕ) (own : (eqb p s.phase && eqb core
   guarded-are : (rs : List Region) (e : Effects) (k n : ℕ) → Are b s (guarded_claims rs p core e k n)
   guarded-are rs e k zero = tt
   guarded-are rs e k (suc n) =
-      let reads = claims_with p core (usage_guarded_reads k) (cut_set rs (set_at e.guarded_reads k)) in
-      let writes = claims_with p core (usage_guarded_writes k) (cut_set rs (set_at e.guarded_writes k)) in
+      let reads = claims_with p core (in_usage.TheVariants.GuardedReads k) (cut_set rs (set_at e.guarded_reads k)) in
+      let writes = claims_with p core (in_usage.TheVariants.GuardedWrites k) (cut_set rs (set_at e.guarded_writes k)) in
       let rest = guarded_claims rs p core e (k + 1) n in
-      Are-append b s reads (writes ++ rest) (with-are (usage_guarded_reads k) (cut_set rs (set_at e.guarded_reads k)))
-      (Are-append b s writes rest (with-are (usage_guarded_writes k) (cut_set rs (set_at e.guarded_writes k))) (guarded-are rs e (k + 1) n))
+      Are-append b s reads (writes ++ rest) (with-are (in_usage.TheVariants.GuardedReads k) (cut_set rs (set_at e.guarded_reads k)))
+      (Are-append b s writes rest (with-are (in_usage.TheVariants.GuardedWrites k) (cut_set rs (set_at e.guarded_writes k))) (guarded-are rs e (k + 1) n))
 
   -- the claims of a task are all of that task
   pub task-are : (rs : List Region) (e : Effects) (locks : ℕ) → Are b s (task_claims rs p core e locks)
   task-are rs e locks =
-      let reads = claims_with p core usage_reads (cut_set rs e.reads) in
-      let writes = claims_with p core usage_writes (cut_set rs e.writes) in
+      let reads = claims_with p core in_usage.TheVariants.Reads (cut_set rs e.reads) in
+      let writes = claims_with p core in_usage.TheVariants.Writes (cut_set rs e.writes) in
       let rest = guarded_claims rs p core e 0 locks in
-      Are-append b s reads (writes ++ rest) (with-are usage_reads (cut_set rs e.reads)) (Are-append b s writes rest (with-are usage_writes (cut_set rs e.writes)) (guarded-are rs e 0 locks))
+      Are-append b s reads (writes ++ rest) (with-are in_usage.TheVariants.Reads (cut_set rs e.reads)) (Are-append b s writes rest (with-are in_usage.TheVariants.Writes (cut_set rs e.writes)) (guarded-are rs e 0 locks))
 
 -- what the tasks of a phase and of all phases from one on claim, and where they start
 abbrev pub claims_of_tasks : List Region → ℕ → ℕ → List TaskDecl → List Claim
@@ -98,15 +101,12 @@ module _ (rs : List Region) (locks : ℕ) where
 -- tasks of a program
 abbrev pub AreTasks : ℕ → ℕ → List TaskDecl → Type 0
 AreTasks words locks [] = Unit {0}
-AreTasks words locks (t ∷ ts) = IsTask words locks t × (t.entry < 2 ^ 32) × AreCanonical t.effects × AreTasks words locks ts
+AreTasks words locks (t ∷ ts) = IsTask words locks t × AreCanonical t.effects × AreTasks words locks ts
 
 -- phases of a program
 abbrev pub ArePhasesOf : ℕ → ℕ → List Phase → Type 0
 ArePhasesOf words locks [] = Unit {0}
 ArePhasesOf words locks (ph ∷ phs) = RiseFrom 0 16 ph.tasks × AreTasks words locks ph.tasks × ArePhasesOf words locks phs
-
-entry-again : (e : ℕ) → e % 4 ≡ 0 → e < 2 ^ 32 → e / 4 * 4 % 2 ^ 32 ≡ e
-entry-again e h l = omega arith
 
 -- no task is one of a phase
 abbrev pub NoStart : ℕ → List Start → Type 0
@@ -158,12 +158,11 @@ module _ (rs : List Region) (words locks : ℕ) (tiled : AreTiled 0 rs words) wh
       (Are-append false s others behind (later-tasks rs locks s p (t.core.0 + 1) 16 ts (omega arith) r.2) (hh s refl)) in
       let task : IsTask words locks t = h.0 in
       let one : task_of words locks claims s ≡ t =
-      ap (λ (cs : List Claim). let q : TaskDecl = record { core = record { 0 = t.core.0 }; entry = t.entry / 4 * 4 % 2 ^ 32; arg = t.arg; effects = effects_of words locks cs } in q) kept
-      ∙ ap (λ (x : Effects). let q : TaskDecl = record { core = record { 0 = t.core.0 }; entry = t.entry / 4 * 4 % 2 ^ 32; arg = t.arg; effects = x } in q) (effects-again rs words locks p t.core.0 t.effects tiled task.effects h.2)
-      ∙ ap (λ (x : ℕ). let q : TaskDecl = record { core = record { 0 = t.core.0 }; entry = x; arg = t.arg; effects = t.effects } in q) (entry-again t.entry task.entry h.1) in
+      ap (λ (cs : List Claim). let q : TaskDecl = record { core = record { 0 = t.core.0 }; entry = t.entry; arg = t.arg; effects = effects_of words locks cs } in q) kept
+      ∙ ap (λ (x : Effects). let q : TaskDecl = record { core = record { 0 = t.core.0 }; entry = t.entry; arg = t.arg; effects = x } in q) (effects-again rs words locks p t.core.0 t.effects tiled task.effects h.1) in
       let again : claims ≡ (before ++ own) ++ (others ++ behind) = e ∙ ap (λ (l : List Claim). before ++ l) (append_assoc own others behind) ∙ sym (append_assoc before own (others ++ behind)) in
       let next = tasks-again p claims ts (t.core.0 + 1) (before ++ own) behind again
-      (λ z q l. Are-append false z before own (hb z q (omega (arith, r.0))) (task-are false z p t.core.0 (past-core p z.phase z.core t.core.0 (omega arith)) rs t.effects locks)) hh r.2 h.3 in
+      (λ z q l. Are-append false z before own (hb z q (omega (arith, r.0))) (task-are false z p t.core.0 (past-core p z.phase z.core t.core.0 (omega arith)) rs t.effects locks)) hh r.2 h.2 in
       ap (λ (x : TaskDecl). x ∷ map (task_of words locks claims) (starts_of p ts)) one ∙ ap (λ (xs : List TaskDecl). t ∷ xs) next
 
   phase-again : (ph : Phase) (p : ℕ) (a b : List Start) (claims : List Claim) → NoStart p a → NoStart p b → RiseFrom 0 16 ph.tasks → map (task_of words locks claims) (starts_of p ph.tasks) ≡ ph.tasks

@@ -21,7 +21,14 @@ use Rattle.src_text.specs.Lexeme.{lexemes_after, token_of}
 use Rattle.src_text.specs.Register.{register_of}
 use Rattle.src_text.specs.declared.token.Token.{Token}
 use Rattle.src_text.specs.declared.token.TokenKind.TheVariants.{Name, Number, Comma, Left, Right}
-use Rattle.rv_assembler.specs.Vocabulary.{Code, Kind, Meaning, Piece, emission_one, kind_code, mnemonic_auipc, mnemonic_branch, mnemonic_ebreak, mnemonic_ecall, mnemonic_fence, mnemonic_jal, mnemonic_jalr, mnemonic_load, mnemonic_lui, mnemonic_op, mnemonic_op_imm, mnemonic_raw, mnemonic_store, statement_instruction}
+use Rattle.rv_assembler.specs.declared.statement.Code.{Code}
+use Rattle.rv_assembler.specs.declared.kind.Kind.{Kind}
+use Rattle.rv_assembler.specs.declared.names.Meaning.{Meaning}
+use Rattle.rv_assembler.specs.declared.kind.Piece.{Piece}
+use Rattle.rv_assembler.specs.declared.emission.Emission as in_emission
+use Rattle.rv_assembler.specs.declared.kind.Kind as in_kind
+use Rattle.rv_assembler.specs.declared.kind.Mnemonic as in_mnemonic
+use Rattle.rv_assembler.specs.declared.statement.Statement as in_statement
 use Rattle.rv_assembler.specs.Number.{wrapped, is_within, is_even, is_upper, is_immediate, is_jump, is_branch, is_operand}
 use Rattle.rv_assembler.specs.Operand.{bytes_of, register_number}
 use Rattle.rv_assembler.specs.Shape.{is_colon, fits, none, n, r_n, r_t, r_r_t, r_r_n, r_r_r, r_at}
@@ -124,8 +131,8 @@ simple text before rest place w ps k os h ops e s nc fit =
 -- the line gives this code word, whatever the names are and wherever it stands
 pub record GivesWord (text : List ℕ) (ts : List Token) (w : ℕ) : Type 0 where
   pub code : Code
-  pub said : IsSaid text ts (statement_instruction code)
-  pub emits : (names : List ℕ → Option Meaning) (here : ℕ) → emission text names here code ≡ emission_one w
+  pub said : IsSaid text ts (in_statement.TheVariants.Instruction code)
+  pub emits : (names : List ℕ → Option Meaning) (here : ℕ) → emission text names here code ≡ in_emission.TheVariants.One w
   pub size : size_of code ≡ 1
 
 some-1 : (x : Bool) → x ≡ true → (x && true) ≡ true
@@ -141,8 +148,8 @@ some-3 : (x y z : Bool) → x ≡ true → y ≡ true → z ≡ true → (x && (
 some-3 x y z e f g = rw (e, f, g) refl
 
 -- an instruction's word, by its parts
-one-true : (b : Bool) (i : Instr) (w : ℕ) → b ≡ true → encoded i ≡ w → one_if b i ≡ emission_one w
-one-true b i w e f = ap (λ (t : Bool). one_if t i) e ∙ ap (λ (x : ℕ). emission_one x) f
+one-true : (b : Bool) (i : Instr) (w : ℕ) → b ≡ true → encoded i ≡ w → one_if b i ≡ in_emission.TheVariants.One w
+one-true b i w e f = ap (λ (t : Bool). one_if t i) e ∙ ap (λ (x : ℕ). in_emission.TheVariants.One x) f
 
 lui-same : (x d n m : ℕ) → x ≡ d → n ≡ m → encoded (instr.TheVariants.Lui x n) ≡ encoded (instr.TheVariants.Lui d m)
 lui-same x d n m e f = ap (λ (y : ℕ). encoded (instr.TheVariants.Lui y n)) e ∙ ap (λ (y : ℕ). encoded (instr.TheVariants.Lui d y)) f
@@ -227,9 +234,9 @@ module _ (text before rest : List ℕ) (place : ℕ) (s : place ≡ length befor
       let read = statement-read text before (record { kind = Name; bytes = codes "lui" }) os rest place e s in
       let ts = op_tokens (place + length (codes "lui")) os in
       record {
-        code = code_for text ts (mnemonic_lui);
-        said = simple text before rest place (codes "lui") r_n (kind_code (mnemonic_lui)) os lui-kind (reg-op d l, (num-op (pos imm) (omega arith), tt)) e s refl (some-1 _ (reg-some _ d l read.1.0));
-        emits = λ names here. one-true _ _ _ (upper-true imm m) (lui-same _ d _ imm (reg-number _ d l read.1.0) (wrapped-pos imm (omega arith)));
+        code = code_for text ts (in_mnemonic.TheVariants.Lui);
+        said = simple text before rest place (codes "lui") r_n (in_kind.TheVariants.Code (in_mnemonic.TheVariants.Lui)) os lui-kind (reg-op d l, (num-op (pos imm) (omega arith), tt)) e s refl (some-1 _ (reg-some _ d l read.1.0));
+        emits = λ names here. one-true _ _ _ (upper-true imm m) (lui-same _ d _ imm (reg-number _ d l read.1.0) refl);
         size = refl;
       }
 
@@ -239,9 +246,9 @@ module _ (text before rest : List ℕ) (place : ℕ) (s : place ≡ length befor
       let read = statement-read text before (record { kind = Name; bytes = codes "auipc" }) os rest place e s in
       let ts = op_tokens (place + length (codes "auipc")) os in
       record {
-        code = code_for text ts (mnemonic_auipc);
-        said = simple text before rest place (codes "auipc") r_n (kind_code (mnemonic_auipc)) os auipc-kind (reg-op d l, (num-op (pos imm) (omega arith), tt)) e s refl (some-1 _ (reg-some _ d l read.1.0));
-        emits = λ names here. one-true _ _ _ (upper-true imm m) (auipc-same _ d _ imm (reg-number _ d l read.1.0) (wrapped-pos imm (omega arith)));
+        code = code_for text ts (in_mnemonic.TheVariants.Auipc);
+        said = simple text before rest place (codes "auipc") r_n (in_kind.TheVariants.Code (in_mnemonic.TheVariants.Auipc)) os auipc-kind (reg-op d l, (num-op (pos imm) (omega arith), tt)) e s refl (some-1 _ (reg-some _ d l read.1.0));
+        emits = λ names here. one-true _ _ _ (upper-true imm m) (auipc-same _ d _ imm (reg-number _ d l read.1.0) refl);
         size = refl;
       }
 
@@ -251,8 +258,8 @@ module _ (text before rest : List ℕ) (place : ℕ) (s : place ≡ length befor
       let read = statement-read text before (record { kind = Name; bytes = codes "jal" }) os rest place e s in
       let ts = op_tokens (place + length (codes "jal")) os in
       record {
-        code = code_for text ts (mnemonic_jal);
-        said = simple text before rest place (codes "jal") r_t (kind_code (mnemonic_jal)) os jal-kind (reg-op d l, (num-op z (held-within z 0x100000 m.within.low m.within.high (omega arith)), tt)) e s refl (some-1 _ (reg-some _ d l read.1.0));
+        code = code_for text ts (in_mnemonic.TheVariants.Jal);
+        said = simple text before rest place (codes "jal") r_t (in_kind.TheVariants.Code (in_mnemonic.TheVariants.Jal)) os jal-kind (reg-op d l, (num-op z (held-within z 0x100000 m.within.low m.within.high (omega arith)), tt)) e s refl (some-1 _ (reg-some _ d l read.1.0));
         emits = λ names here. one-true _ _ _ (jump-true z m) (jal-same _ d z (reg-number _ d l read.1.0));
         size = refl;
       }
@@ -263,8 +270,8 @@ module _ (text before rest : List ℕ) (place : ℕ) (s : place ≡ length befor
       let read = statement-read text before (record { kind = Name; bytes = branch_word c }) os rest place e s in
       let ts = op_tokens (place + length (branch_word c)) os in
       record {
-        code = code_for text ts (mnemonic_branch c);
-        said = simple text before rest place (branch_word c) r_r_t (kind_code (mnemonic_branch c)) os (branch-kind c) (reg-op a l, (reg-op b k, (num-op z (held-within z 4096 m.within.low m.within.high (omega arith)), tt))) e s refl (some-2 _ _ (reg-some _ a l read.1.0) (reg-some _ b k read.1.1.0));
+        code = code_for text ts (in_mnemonic.TheVariants.Branch c);
+        said = simple text before rest place (branch_word c) r_r_t (in_kind.TheVariants.Code (in_mnemonic.TheVariants.Branch c)) os (branch-kind c) (reg-op a l, (reg-op b k, (num-op z (held-within z 4096 m.within.low m.within.high (omega arith)), tt))) e s refl (some-2 _ _ (reg-some _ a l read.1.0) (reg-some _ b k read.1.1.0));
         emits = λ names here. one-true _ _ _ (branch-true z m) (branch-same c _ a _ b z (reg-number _ a l read.1.0) (reg-number _ b k read.1.1.0));
         size = refl;
       }
@@ -275,8 +282,8 @@ module _ (text before rest : List ℕ) (place : ℕ) (s : place ≡ length befor
       let read = statement-read text before (record { kind = Name; bytes = immediate_word o }) os rest place e s in
       let ts = op_tokens (place + length (immediate_word o)) os in
       record {
-        code = code_for text ts (mnemonic_op_imm o);
-        said = simple text before rest place (immediate_word o) r_r_n (kind_code (mnemonic_op_imm o)) os (immediate-kind o h) (reg-op d l, (reg-op a k, (num-op z (held-operand (is_shift o) z m), tt))) e s refl (some-2 _ _ (reg-some _ d l read.1.0) (reg-some _ a k read.1.1.0));
+        code = code_for text ts (in_mnemonic.TheVariants.OpImm o);
+        said = simple text before rest place (immediate_word o) r_r_n (in_kind.TheVariants.Code (in_mnemonic.TheVariants.OpImm o)) os (immediate-kind o h) (reg-op d l, (reg-op a k, (num-op z (held-operand (is_shift o) z m), tt))) e s refl (some-2 _ _ (reg-some _ d l read.1.0) (reg-some _ a k read.1.1.0));
         emits = λ names here. one-true _ _ _ (operand-true o z h m) (immediate-same o _ d _ a z (reg-number _ d l read.1.0) (reg-number _ a k read.1.1.0));
         size = refl;
       }
@@ -287,9 +294,9 @@ module _ (text before rest : List ℕ) (place : ℕ) (s : place ≡ length befor
       let read = statement-read text before (record { kind = Name; bytes = operation_word o }) os rest place e s in
       let ts = op_tokens (place + length (operation_word o)) os in
       record {
-        code = code_for text ts (mnemonic_op o);
-        said = simple text before rest place (operation_word o) r_r_r (kind_code (mnemonic_op o)) os (operation-kind o) (reg-op d l, (reg-op a k, (reg-op b m, tt))) e s refl (some-3 _ _ _ (reg-some _ d l read.1.0) (reg-some _ a k read.1.1.0) (reg-some _ b m read.1.1.1.0));
-        emits = λ names here. ap (λ (x : ℕ). emission_one x) (operation-same o _ d _ a _ b (reg-number _ d l read.1.0) (reg-number _ a k read.1.1.0) (reg-number _ b m read.1.1.1.0));
+        code = code_for text ts (in_mnemonic.TheVariants.Op o);
+        said = simple text before rest place (operation_word o) r_r_r (in_kind.TheVariants.Code (in_mnemonic.TheVariants.Op o)) os (operation-kind o) (reg-op d l, (reg-op a k, (reg-op b m, tt))) e s refl (some-3 _ _ _ (reg-some _ d l read.1.0) (reg-some _ a k read.1.1.0) (reg-some _ b m read.1.1.1.0));
+        emits = λ names here. ap (λ (x : ℕ). in_emission.TheVariants.One x) (operation-same o _ d _ a _ b (reg-number _ d l read.1.0) (reg-number _ a k read.1.1.0) (reg-number _ b m read.1.1.1.0));
         size = refl;
       }
 
@@ -299,8 +306,8 @@ module _ (text before rest : List ℕ) (place : ℕ) (s : place ≡ length befor
       let read = statement-read text before (record { kind = Name; bytes = codes "fence" }) os rest place e s in
       let ts = op_tokens (place + length (codes "fence")) os in
       record {
-        code = code_for text ts (mnemonic_fence);
-        said = simple text before rest place (codes "fence") none (kind_code (mnemonic_fence)) os fence-kind tt e s tt (refl);
+        code = code_for text ts (in_mnemonic.TheVariants.Fence);
+        said = simple text before rest place (codes "fence") none (in_kind.TheVariants.Code (in_mnemonic.TheVariants.Fence)) os fence-kind tt e s tt (refl);
         emits = λ names here. refl;
         size = refl;
       }
@@ -311,8 +318,8 @@ module _ (text before rest : List ℕ) (place : ℕ) (s : place ≡ length befor
       let read = statement-read text before (record { kind = Name; bytes = codes "ecall" }) os rest place e s in
       let ts = op_tokens (place + length (codes "ecall")) os in
       record {
-        code = code_for text ts (mnemonic_ecall);
-        said = simple text before rest place (codes "ecall") none (kind_code (mnemonic_ecall)) os ecall-kind tt e s tt (refl);
+        code = code_for text ts (in_mnemonic.TheVariants.Ecall);
+        said = simple text before rest place (codes "ecall") none (in_kind.TheVariants.Code (in_mnemonic.TheVariants.Ecall)) os ecall-kind tt e s tt (refl);
         emits = λ names here. refl;
         size = refl;
       }
@@ -323,8 +330,8 @@ module _ (text before rest : List ℕ) (place : ℕ) (s : place ≡ length befor
       let read = statement-read text before (record { kind = Name; bytes = codes "ebreak" }) os rest place e s in
       let ts = op_tokens (place + length (codes "ebreak")) os in
       record {
-        code = code_for text ts (mnemonic_ebreak);
-        said = simple text before rest place (codes "ebreak") none (kind_code (mnemonic_ebreak)) os ebreak-kind tt e s tt (refl);
+        code = code_for text ts (in_mnemonic.TheVariants.Ebreak);
+        said = simple text before rest place (codes "ebreak") none (in_kind.TheVariants.Code (in_mnemonic.TheVariants.Ebreak)) os ebreak-kind tt e s tt (refl);
         emits = λ names here. refl;
         size = refl;
       }
@@ -334,9 +341,9 @@ module _ (text before rest : List ℕ) (place : ℕ) (s : place ≡ length befor
       let os : List Op = hex w ∷ [] in
       let ts = op_tokens (place + length (codes ".raw")) os in
       record {
-        code = code_for text ts mnemonic_raw;
-        said = simple text before rest place (codes ".raw") n (kind_code mnemonic_raw) os raw-kind (hex-op w l, tt) e s refl refl;
-        emits = λ names here. ap (λ (x : ℕ). emission_one x) (wrapped-pos w l);
+        code = code_for text ts in_mnemonic.TheVariants.Raw;
+        said = simple text before rest place (codes ".raw") n (in_kind.TheVariants.Code in_mnemonic.TheVariants.Raw) os raw-kind (hex-op w l, tt) e s refl refl;
+        emits = λ names here. ap (λ (x : ℕ). in_emission.TheVariants.One x) (wrapped-pos w l);
         size = refl;
       }
 
@@ -345,8 +352,8 @@ module _ (text before rest : List ℕ) (place : ℕ) (s : place ≡ length befor
       let read = access-read text before rest place (codes "jalr") (reg d) (num z) (reg b) e s in
       let ts = access_rest (place + length (codes "jalr")) (reg d) (num z) (reg b) in
       record {
-        code = code_for text ts (mnemonic_jalr);
-        said = at-address text before rest place (codes "jalr") (kind_code (mnemonic_jalr)) (reg d) (num z) (reg b) jalr-kind (reg-op d l) (num-op z (held-immediate z m)) (reg-op b k) read refl (some-2 _ _ (reg-some _ d l read.first) (reg-some _ b k read.base));
+        code = code_for text ts (in_mnemonic.TheVariants.Jalr);
+        said = at-address text before rest place (codes "jalr") (in_kind.TheVariants.Code (in_mnemonic.TheVariants.Jalr)) (reg d) (num z) (reg b) jalr-kind (reg-op d l) (num-op z (held-immediate z m)) (reg-op b k) read refl (some-2 _ _ (reg-some _ d l read.first) (reg-some _ b k read.base));
         emits = λ names here. one-true _ _ _ (immediate-true z m) (jalr-same _ d _ b z (reg-number _ d l read.first) (reg-number _ b k read.base));
         size = refl;
       }
@@ -356,8 +363,8 @@ module _ (text before rest : List ℕ) (place : ℕ) (s : place ≡ length befor
       let read = access-read text before rest place (load_word w) (reg d) (num z) (reg b) e s in
       let ts = access_rest (place + length (load_word w)) (reg d) (num z) (reg b) in
       record {
-        code = code_for text ts (mnemonic_load w);
-        said = at-address text before rest place (load_word w) (kind_code (mnemonic_load w)) (reg d) (num z) (reg b) (load-kind w) (reg-op d l) (num-op z (held-immediate z m)) (reg-op b k) read refl (some-2 _ _ (reg-some _ d l read.first) (reg-some _ b k read.base));
+        code = code_for text ts (in_mnemonic.TheVariants.Load w);
+        said = at-address text before rest place (load_word w) (in_kind.TheVariants.Code (in_mnemonic.TheVariants.Load w)) (reg d) (num z) (reg b) (load-kind w) (reg-op d l) (num-op z (held-immediate z m)) (reg-op b k) read refl (some-2 _ _ (reg-some _ d l read.first) (reg-some _ b k read.base));
         emits = λ names here. one-true _ _ _ (immediate-true z m) (load-same w _ d _ b z (reg-number _ d l read.first) (reg-number _ b k read.base));
         size = refl;
       }
@@ -367,8 +374,8 @@ module _ (text before rest : List ℕ) (place : ℕ) (s : place ≡ length befor
       let read = access-read text before rest place (store_word w) (reg a) (num z) (reg b) e s in
       let ts = access_rest (place + length (store_word w)) (reg a) (num z) (reg b) in
       record {
-        code = code_for text ts (mnemonic_store w);
-        said = at-address text before rest place (store_word w) (kind_code (mnemonic_store w)) (reg a) (num z) (reg b) (store-kind w h) (reg-op a l) (num-op z (held-immediate z m)) (reg-op b k) read refl (some-2 _ _ (reg-some _ a l read.first) (reg-some _ b k read.base));
+        code = code_for text ts (in_mnemonic.TheVariants.Store w);
+        said = at-address text before rest place (store_word w) (in_kind.TheVariants.Code (in_mnemonic.TheVariants.Store w)) (reg a) (num z) (reg b) (store-kind w h) (reg-op a l) (num-op z (held-immediate z m)) (reg-op b k) read refl (some-2 _ _ (reg-some _ a l read.first) (reg-some _ b k read.base));
         emits = λ names here. one-true _ _ _ (and-both (is_stored w) (is_immediate z) h (immediate-true z m)) (store-same w _ a _ b z (reg-number _ a l read.first) (reg-number _ b k read.base));
         size = refl;
       }

@@ -6,8 +6,14 @@ use Rattle.std.proofs.lemmas.Bool.{le-ltb}
 use Rattle.std.proofs.lemmas.List.Elements.{All-head, All-tail}
 use Rattle.rv_assembler.specs.declared.fault.SourceFault.{SourceFault}
 use Rattle.rv_assembler.specs.declared.fault.SourceFault as fault
-use Rattle.rv_assembler.specs.Vocabulary.{Code, Draft, Emission, Meaning, Statement, emission_one, statement_instruction}
-use Rattle.rv_assembler.specs.Number.{more}
+use Rattle.rv_assembler.specs.declared.statement.Code.{Code}
+use Rattle.rv_assembler.specs.declared.draft.Draft.{Draft}
+use Rattle.rv_assembler.specs.declared.emission.Emission.{Emission}
+use Rattle.rv_assembler.specs.declared.names.Meaning.{Meaning}
+use Rattle.rv_assembler.specs.declared.statement.Statement.{Statement}
+use Rattle.rv_assembler.specs.declared.emission.Emission as in_emission
+use Rattle.rv_assembler.specs.declared.statement.Statement as in_statement
+use Rattle.rv_assembler.specs.Gathering.{more}
 use Rattle.rv_assembler.specs.Meaning.{size_of}
 use Rattle.rv_assembler.specs.Emission.{emission, words_in}
 use Rattle.rv_assembler.specs.Adding.{after, total}
@@ -26,10 +32,10 @@ GiveWords text [] [] = Unit {0}
 GiveWords text [] (w ∷ ws) = ⊥
 GiveWords text (k ∷ ks) [] = ⊥
 GiveWords text (k ∷ ks) (w ∷ ws) =
-    ((names : List ℕ → Option Meaning) (here : ℕ) → emission text names here k ≡ emission_one w) × (size_of k ≡ 1) × GiveWords text ks ws
+    ((names : List ℕ → Option Meaning) (here : ℕ) → emission text names here k ≡ in_emission.TheVariants.One w) × (size_of k ≡ 1) × GiveWords text ks ws
 
 abbrev pub instructions : List Code → List Statement
-instructions ks = map (λ (k : Code). statement_instruction k) ks
+instructions ks = map (λ (k : Code). in_statement.TheVariants.Instruction k) ks
 
 abbrev pub AreShort : List (List ℕ) → Type 0
 AreShort [] = Unit {0}
@@ -71,11 +77,11 @@ other_limits v d =
     ltb 65536 d.count.words || (ltb (most_regions v) (length d.regions) || (ltb 32 (length d.locks) || (ltb 64 d.phases || ltb 64 (length d.tasks))))
 
 module _ (v : Bool) (text : List ℕ) (names : List ℕ → Option Meaning) where
-  word-fault : (d : Draft) (n : ℕ) (k : Code) (w : ℕ) → emission text names d.count.code k ≡ emission_one w → early_fault text names d (record { line = n; label = None; statement = statement_instruction k }) ≡ None
+  word-fault : (d : Draft) (n : ℕ) (k : Code) (w : ℕ) → emission text names d.count.code k ≡ in_emission.TheVariants.One w → early_fault text names d (record { line = n; label = None; statement = in_statement.TheVariants.Instruction k }) ≡ None
   word-fault d n k w e =
       ap (λ (x : Emission). cond (is_far x) (Some (fault.TheVariants.OutOfRange n)) (cond (is_lost x) (Some (fault.TheVariants.UnknownName n)) None)) e
 
-  after-word : (d : Draft) (k : Code) (w : ℕ) → emission text names d.count.code k ≡ emission_one w → size_of k ≡ 1 → d.count.code + 1 ≤ 16384 → after text names d (statement_instruction k) ≡ add_word d w
+  after-word : (d : Draft) (k : Code) (w : ℕ) → emission text names d.count.code k ≡ in_emission.TheVariants.One w → size_of k ≡ 1 → d.count.code + 1 ≤ 16384 → after text names d (in_statement.TheVariants.Instruction k) ≡ add_word d w
   after-word d k w e s l =
       let n : more d.count.code (size_of k) ≡ d.count.code + 1 = ap (λ (x : ℕ). more d.count.code x) s ∙ (let m : min (d.count.code + 1) (2 ^ 32 - 1) ≡ d.count.code + 1 = omega arith in m) in
       ap (λ (x : Emission). record d { code = d.code ++ words_in x; count = record { code = more d.count.code (size_of k); words = d.count.words; regions = d.count.regions; locks = d.count.locks } }) e
@@ -87,7 +93,7 @@ module _ (v : Bool) (text : List ℕ) (names : List ℕ → Option Meaning) wher
   total-code d n [] (w ∷ ws) g l c o = absurd g
   total-code d n (k ∷ ks) [] g l c o = absurd g
   total-code d n (k ∷ ks) (w ∷ ws) g l c o =
-      let s : Statement = statement_instruction k in
+      let s : Statement = in_statement.TheVariants.Instruction k in
       let e = g.0 names d.count.code in
       let long : length (d.code ++ w ∷ []) ≡ length d.code + 1 = length-append d.code (w ∷ []) in
       let a : after text names d s ≡ add_word d w = after-word d k w e g.1 (omega arith) in

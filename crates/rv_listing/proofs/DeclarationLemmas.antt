@@ -4,14 +4,19 @@ use Rattle.std.specs.Prelude.{ℤ, pos}
 use Rattle.src_text.specs.declared.token.Token.{Token}
 use Rattle.region_table.specs.declared.declared.Region.{Region}
 use Rattle.region_table.specs.Program.{AreTiled}
-use Rattle.rv_assembler.specs.Vocabulary.{Statement, Reading, Meaning, Draft, Count, statement_lock, meaning_region, meaning_lock}
-use Rattle.rv_assembler.specs.Number.{more, wrapped}
+use Rattle.rv_assembler.specs.declared.statement.Statement.{Statement}
+use Rattle.rv_assembler.specs.declared.reading.Reading.{Reading}
+use Rattle.rv_assembler.specs.declared.names.Meaning.{Meaning}
+use Rattle.rv_assembler.specs.declared.draft.Draft.{Draft}
+use Rattle.rv_assembler.specs.declared.names.Count.{Count}
+use Rattle.rv_assembler.specs.declared.statement.Statement as in_statement
+use Rattle.rv_assembler.specs.declared.names.Meaning as in_meaning
+use Rattle.rv_assembler.specs.Gathering.{more}
 use Rattle.rv_assembler.specs.Operand.{bytes_of}
-use Rattle.rv_assembler.specs.Meaning.{length_of}
+use Rattle.rv_assembler.specs.Counts.{region_words}
 use Rattle.rv_assembler.specs.Gathering.{counted, meaning_in}
 use Rattle.rv_assembler.specs.Fault.{most_regions}
 use Rattle.rv_assembler.specs.Adding.{total}
-use Rattle.rv_listing.proofs.CodeLemmas.{wrapped-pos}
 use Rattle.rv_listing.proofs.ReadLemmas.{sayings}
 use Rattle.rv_listing.proofs.RegionSection.{length-pos, region_statement, add_region, add_lock, IsWithin, total-region, total-lock}
 use Rattle.rv_listing.proofs.NameSection.{Differs, region-other, region-same, lock-other, lock-same}
@@ -31,7 +36,7 @@ RegionsNamed text (t ∷ ts) (r ∷ rs) = (bytes_of text t ≡ r.name) × Region
 -- the names mean these regions, numbered from one on
 abbrev pub KnowRegions : (List ℕ → Option Meaning) → ℕ → List Region → Type 0
 KnowRegions names k [] = Unit {0}
-KnowRegions names k (r ∷ rs) = (names r.name ≡ Some (meaning_region k r.start (pos r.len))) × KnowRegions names (k + 1) rs
+KnowRegions names k (r ∷ rs) = (names r.name ≡ Some (in_meaning.TheVariants.Region k r.start (pos r.len))) × KnowRegions names (k + 1) rs
 
 abbrev pub add_regions : Draft → List Region → Draft
 add_regions d [] = d
@@ -81,15 +86,14 @@ know-same f g first k (r ∷ rs) h d w = (h r.name d.0 ∙ w.0, know-same f g fi
 
 count-region : (c : Count) (r : Region) (t : Token) → 0 < r.len → c.words + r.len ≤ 65536 → c.regions ≤ 4096 → counted c (region_statement t r) ≡ record { code = c.code; words = c.words + r.len; regions = c.regions + 1; locks = c.locks }
 count-region c r t l m few =
-    let w : wrapped (pos r.len) ≡ r.len = wrapped-pos r.len (omega arith) in
-    let long : length_of (pos r.len) ≡ r.len = ap (λ (b : Bool). cond b (wrapped (pos r.len)) 0) (length-pos r.len l (omega arith)) ∙ w in
-    let words : more c.words (length_of (pos r.len)) ≡ c.words + r.len = ap (more c.words) long ∙ (let s : min (c.words + r.len) (2 ^ 32 - 1) ≡ c.words + r.len = omega arith in s) in
+    let long : region_words (pos r.len) ≡ r.len = ap (λ (b : Bool). cond b r.len 0) (length-pos r.len l (omega arith)) in
+    let words : more c.words (region_words (pos r.len)) ≡ c.words + r.len = ap (more c.words) long ∙ (let s : min (c.words + r.len) (2 ^ 32 - 1) ≡ c.words + r.len = omega arith in s) in
     let count : more c.regions 1 ≡ c.regions + 1 = (let s : min (c.regions + 1) (2 ^ 32 - 1) ≡ c.regions + 1 = omega arith in s) in
     ap (λ (x : ℕ). let q : Count = record { code = c.code; words = x; regions = more c.regions 1; locks = c.locks } in q) words
     ∙ ap (λ (x : ℕ). let q : Count = record { code = c.code; words = c.words + r.len; regions = x; locks = c.locks } in q) count
 
-same-meaning : (k k' s s' : ℕ) (z : ℤ) → k ≡ k' → s ≡ s' → Some (meaning_region k s z) ≡ Some (meaning_region k' s' z)
-same-meaning k k' s s' z e f = ap (λ (x : ℕ). Some (meaning_region x s z)) e ∙ ap (λ (x : ℕ). Some (meaning_region k' x z)) f
+same-meaning : (k k' s s' : ℕ) (z : ℤ) → k ≡ k' → s ≡ s' → Some (in_meaning.TheVariants.Region k s z) ≡ Some (in_meaning.TheVariants.Region k' s' z)
+same-meaning k k' s s' z e f = ap (λ (x : ℕ). Some (in_meaning.TheVariants.Region x s z)) e ∙ ap (λ (x : ℕ). Some (in_meaning.TheVariants.Region k' x z)) f
 
 -- the names of the regions mean them
 pub know-regions : (text : List ℕ) (c : Count) (n : ℕ) (ts : List Token) (rs : List Region) (left : List Reading) (end : ℕ) → RegionsNamed text ts rs → AreTiled c.words rs end → end ≤ 65536 → c.regions + length rs ≤ 4096 → AreDistinct (region_names rs)
@@ -140,7 +144,7 @@ skip-regions text c n (x ∷ ts) (r ∷ rs) left end q h t most few d =
     ∙ ap (λ (y : Count). meaning_in text y left q) (same-count c end (c.regions + 1 + length rs) end (c.regions + length (r ∷ rs)) refl f)
 
 abbrev pub lock_statements : List Token → List Statement
-lock_statements ts = map (λ (t : Token). statement_lock t) ts
+lock_statements ts = map (λ (t : Token). in_statement.TheVariants.Lock t) ts
 
 abbrev pub LocksNamed : List ℕ → List Token → List (List ℕ) → Type 0
 LocksNamed text [] [] = Unit {0}
@@ -150,7 +154,7 @@ LocksNamed text (t ∷ ts) (l ∷ ls) = (bytes_of text t ≡ l) × LocksNamed te
 
 abbrev pub KnowLocks : (List ℕ → Option Meaning) → ℕ → List (List ℕ) → Type 0
 KnowLocks names k [] = Unit {0}
-KnowLocks names k (l ∷ ls) = (names l ≡ Some (meaning_lock k)) × KnowLocks names (k + 1) ls
+KnowLocks names k (l ∷ ls) = (names l ≡ Some (in_meaning.TheVariants.Lock k)) × KnowLocks names (k + 1) ls
 
 abbrev pub add_locks : Draft → List (List ℕ) → Draft
 add_locks d [] = d
@@ -171,7 +175,7 @@ know-same-locks : (f g : List ℕ → Option Meaning) (first : List ℕ) (k : �
 know-same-locks f g first k [] h d w = tt
 know-same-locks f g first k (l ∷ ls) h d w = (h l d.0 ∙ w.0, know-same-locks f g first (k + 1) ls h d.1 w.1)
 
-count-lock : (c : Count) (t : Token) → c.locks ≤ 32 → counted c (statement_lock t) ≡ record { code = c.code; words = c.words; regions = c.regions; locks = c.locks + 1 }
+count-lock : (c : Count) (t : Token) → c.locks ≤ 32 → counted c (in_statement.TheVariants.Lock t) ≡ record { code = c.code; words = c.words; regions = c.regions; locks = c.locks + 1 }
 count-lock c t few =
     let count : more c.locks 1 ≡ c.locks + 1 = (let s : min (c.locks + 1) (2 ^ 32 - 1) ≡ c.locks + 1 = omega arith in s) in
     ap (λ (x : ℕ). let q : Count = record { code = c.code; words = c.words; regions = c.regions; locks = x } in q) count

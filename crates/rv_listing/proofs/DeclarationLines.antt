@@ -5,7 +5,8 @@ use Rattle.std.specs.List.{flat_map, slice_range}
 use Rattle.src_text.specs.declared.token.Token.{Token}
 use Rattle.region_table.specs.declared.declared.Region.{Region}
 use Rattle.region_table.specs.Program.{AreTiled}
-use Rattle.rv_assembler.specs.Vocabulary.{Meaning, FirstValue}
+use Rattle.rv_assembler.specs.declared.names.Meaning.{Meaning}
+use Rattle.rv_assembler.specs.declared.draft.FirstValue.{FirstValue}
 use Rattle.rv_listing.specs.Listing.{text_of, region_line, lock_line, region_values}
 use Rattle.rv_listing.specs.Law.{AreCodeWords, is_declared_name}
 use Rattle.rv_listing.proofs.TokenLemmas.{IsGoodLine, statement-good}

@@ -10,7 +10,14 @@ use Rattle.src_text.specs.Lexeme.{lexemes_after, token_of, goes_on}
 use Rattle.src_text.specs.declared.token.Token.{Token}
 use Rattle.src_text.specs.declared.token.TokenKind.TheVariants.{Name, Number}
 use Rattle.region_table.specs.declared.declared.Region.{Region}
-use Rattle.rv_assembler.specs.Vocabulary.{Kind, Piece, Statement, directive_lock, directive_phase, directive_region, directive_word, directive_task, directive_uses, directive_guarded, form_part, extent_part, kind_table, statement_lock, statement_phase, statement_region, statement_tasks, statement_uses, statement_word}
+use Rattle.rv_assembler.specs.declared.kind.Kind.{Kind}
+use Rattle.rv_assembler.specs.declared.kind.Piece.{Piece}
+use Rattle.rv_assembler.specs.declared.statement.Statement.{Statement}
+use Rattle.rv_assembler.specs.declared.kind.Directive as in_directive
+use Rattle.rv_assembler.specs.declared.kind.Form as in_form
+use Rattle.rv_assembler.specs.declared.statement.Extent as in_extent
+use Rattle.rv_assembler.specs.declared.kind.Kind as in_kind
+use Rattle.rv_assembler.specs.declared.statement.Statement as in_statement
 use Rattle.rv_assembler.specs.Number.{wrapped}
 use Rattle.rv_assembler.specs.Operand.{bytes_of}
 use Rattle.rv_assembler.specs.Shape.{fits, none, name, name_n, name_n_n, name_name, name_name_n_n, n_t_n}
@@ -84,13 +91,13 @@ pub record SaysOfNames (text : List ℕ) (ts : List Token) (m n : List ℕ) (f :
   pub said : IsSaid text ts (f first second)
 
 abbrev pub part : Bool → Option Token → Token → ℕ → ℕ → Statement
-part writes lock region lo hi = statement_uses (record { writes = writes; lock = lock; region = region; extent = extent_part (pos lo) (pos hi) })
+part writes lock region lo hi = in_statement.TheVariants.Uses (record { writes = writes; lock = lock; region = region; extent = in_extent.TheVariants.Part (pos lo) (pos hi) })
 
 module _ (text before rest : List ℕ) (place : ℕ) (s : place ≡ length before) where
   abbrev Said : List ℕ → List Token
   Said line = filter_map token_of (lexemes_after 32 place line)
 
-  pub region-said : (r : Region) → is_declared_name r.name ≡ true → r.len < 2 ^ 32 → text ≡ before ++ (region_line r ++ rest) → SaysOfName text (Said (region_line r)) r.name (λ t. statement_region t (pos r.len))
+  pub region-said : (r : Region) → is_declared_name r.name ≡ true → r.len < 2 ^ 32 → text ≡ before ++ (region_line r ++ rest) → SaysOfName text (Said (region_line r)) r.name (λ t. in_statement.TheVariants.Region t (pos r.len))
   unfolding region_line
   region-said r h l e =
       let os : List Op = nm r.name ∷ num (pos r.len) ∷ [] in
@@ -98,10 +105,10 @@ module _ (text before rest : List ℕ) (place : ℕ) (s : place ≡ length befor
       record {
         token = token Name (place + length (codes ".region") + 1) r.name;
         bytes = read.1.0;
-        said = simple text before rest place (codes ".region") name_n (kind_table directive_region) os region-kind (name-op r.name h, (num-op (pos r.len) l, tt)) e s refl (some-1 _ (name-plain _ r.name h read.1.0));
+        said = simple text before rest place (codes ".region") name_n (in_kind.TheVariants.Table in_directive.TheVariants.Region) os region-kind (name-op r.name h, (num-op (pos r.len) l, tt)) e s refl (some-1 _ (name-plain _ r.name h read.1.0));
       }
 
-  pub value-said : (n : List ℕ) (index value : ℕ) → is_declared_name n ≡ true → index < 2 ^ 32 → value < 2 ^ 32 → text ≡ before ++ (value_line n index value ++ rest) → SaysOfName text (Said (value_line n index value)) n (λ t. statement_word t (pos index) (wrapped (pos value)))
+  pub value-said : (n : List ℕ) (index value : ℕ) → is_declared_name n ≡ true → index < 2 ^ 32 → value < 2 ^ 32 → text ≡ before ++ (value_line n index value ++ rest) → SaysOfName text (Said (value_line n index value)) n (λ t. in_statement.TheVariants.Word t (pos index) (wrapped (pos value)))
   unfolding value_line
   value-said n index value h l m e =
       let os : List Op = nm n ∷ num (pos index) ∷ hex value ∷ [] in
@@ -109,10 +116,10 @@ module _ (text before rest : List ℕ) (place : ℕ) (s : place ≡ length befor
       record {
         token = token Name (place + length (codes ".word") + 1) n;
         bytes = read.1.0;
-        said = simple text before rest place (codes ".word") name_n_n (kind_table directive_word) os word-kind (name-op n h, (num-op (pos index) l, (hex-op value m, tt))) e s refl (some-1 _ (name-plain _ n h read.1.0));
+        said = simple text before rest place (codes ".word") name_n_n (in_kind.TheVariants.Table in_directive.TheVariants.Word) os word-kind (name-op n h, (num-op (pos index) l, (hex-op value m, tt))) e s refl (some-1 _ (name-plain _ n h read.1.0));
       }
 
-  pub lock-said : (n : List ℕ) → is_declared_name n ≡ true → text ≡ before ++ (lock_line n ++ rest) → SaysOfName text (Said (lock_line n)) n (λ t. statement_lock t)
+  pub lock-said : (n : List ℕ) → is_declared_name n ≡ true → text ≡ before ++ (lock_line n ++ rest) → SaysOfName text (Said (lock_line n)) n (λ t. in_statement.TheVariants.Lock t)
   unfolding lock_line
   lock-said n h e =
       let os : List Op = nm n ∷ [] in
@@ -120,24 +127,24 @@ module _ (text before rest : List ℕ) (place : ℕ) (s : place ≡ length befor
       record {
         token = token Name (place + length (codes ".lock") + 1) n;
         bytes = read.1.0;
-        said = simple text before rest place (codes ".lock") name (kind_table directive_lock) os lock-kind (name-op n h, tt) e s refl (some-1 _ (name-plain _ n h read.1.0));
+        said = simple text before rest place (codes ".lock") name (in_kind.TheVariants.Table in_directive.TheVariants.Lock) os lock-kind (name-op n h, tt) e s refl (some-1 _ (name-plain _ n h read.1.0));
       }
 
-  pub phase-said : text ≡ before ++ (statement (codes ".phase") [] ++ rest) → IsSaid text (Said (statement (codes ".phase") [])) statement_phase
-  phase-said e = simple text before rest place (codes ".phase") none (kind_table directive_phase) [] phase-kind tt e s tt refl
+  pub phase-said : text ≡ before ++ (statement (codes ".phase") [] ++ rest) → IsSaid text (Said (statement (codes ".phase") [])) in_statement.TheVariants.Phase
+  phase-said e = simple text before rest place (codes ".phase") none (in_kind.TheVariants.Table in_directive.TheVariants.Phase) [] phase-kind tt e s tt refl
 
   -- a task is a family of one
   pub task-said : (core entry arg : ℕ) → core < 2 ^ 32 → entry < 2 ^ 32 → arg < 2 ^ 32 → text ≡ before ++ (statement (codes ".task") (decimal core ∷ hexadecimal entry ∷ hexadecimal arg ∷ []) ++ rest)
       → (start : ℕ) × IsSaid text (Said (statement (codes ".task") (decimal core ∷ hexadecimal entry ∷ hexadecimal arg ∷ [])))
-      (statement_tasks (record { core = pos core; count = pos 1; entry = token (Number (pos entry)) start (hexadecimal entry); arg = wrapped (pos arg); step = 0 }))
+      (in_statement.TheVariants.Tasks (record { core = pos core; count = pos 1; entry = token (Number (pos entry)) start (hexadecimal entry); arg = wrapped (pos arg); step = 0 }))
   task-said core entry arg h l m e =
       let os : List Op = num (pos core) ∷ hex entry ∷ hex arg ∷ [] in (
         place + length (codes ".task") + 1 + length (decimal core) + 1 + 1,
-        simple text before rest place (codes ".task") n_t_n (kind_table directive_task) os task-kind (num-op (pos core) h, (hex-op entry l, (hex-op arg m, tt))) e s refl refl,
+        simple text before rest place (codes ".task") n_t_n (in_kind.TheVariants.Table in_directive.TheVariants.Task) os task-kind (num-op (pos core) h, (hex-op entry l, (hex-op arg m, tt))) e s refl refl,
       )
 
   -- words that a task uses, without a lock
-  pub use-said : (w : List ℕ) (writes : Bool) (n : List ℕ) (lo hi : ℕ) → HasKindBut w name name_n_n (kind_table (directive_uses writes form_part)) → is_declared_name n ≡ true → lo < 2 ^ 32 → hi < 2 ^ 32
+  pub use-said : (w : List ℕ) (writes : Bool) (n : List ℕ) (lo hi : ℕ) → HasKindBut w name name_n_n (in_kind.TheVariants.Table (in_directive.TheVariants.Uses writes in_form.TheVariants.Part)) → is_declared_name n ≡ true → lo < 2 ^ 32 → hi < 2 ^ 32
       → text ≡ before ++ (use_line w None n lo hi ++ rest) → SaysOfName text (Said (use_line w None n lo hi)) n (λ t. part writes None t lo hi)
   unfolding use_line
   use-said w writes n lo hi k h l m e =
@@ -146,12 +153,12 @@ module _ (text before rest : List ℕ) (place : ℕ) (s : place ≡ length befor
       record {
         token = token Name (place + length w + 1) n;
         bytes = read.1.0;
-        said = simple-but text before rest place w name name_n_n (kind_table (directive_uses writes form_part)) os k (name-op n h, (num-op (pos lo) l, (num-op (pos hi) m, tt))) e s refl
+        said = simple-but text before rest place w name name_n_n (in_kind.TheVariants.Table (in_directive.TheVariants.Uses writes in_form.TheVariants.Part)) os k (name-op n h, (num-op (pos lo) l, (num-op (pos hi) m, tt))) e s refl
             (not-1 _) (some-1 _ (name-plain _ n h read.1.0));
       }
 
   -- words that a task uses under a lock
-  pub guarded-said : (w : List ℕ) (writes : Bool) (lock n : List ℕ) (lo hi : ℕ) → HasKindBut w name_name name_name_n_n (kind_table (directive_guarded writes form_part)) → is_declared_name lock ≡ true → is_declared_name n ≡ true → lo < 2 ^ 32 → hi < 2 ^ 32
+  pub guarded-said : (w : List ℕ) (writes : Bool) (lock n : List ℕ) (lo hi : ℕ) → HasKindBut w name_name name_name_n_n (in_kind.TheVariants.Table (in_directive.TheVariants.Guarded writes in_form.TheVariants.Part)) → is_declared_name lock ≡ true → is_declared_name n ≡ true → lo < 2 ^ 32 → hi < 2 ^ 32
       → text ≡ before ++ (use_line w (Some lock) n lo hi ++ rest) → SaysOfNames text (Said (use_line w (Some lock) n lo hi)) lock n (λ t u. part writes (Some t) u lo hi)
   unfolding use_line
   guarded-said w writes lock n lo hi k g h l m e =
@@ -162,6 +169,6 @@ module _ (text before rest : List ℕ) (place : ℕ) (s : place ≡ length befor
         second = token Name (place + length w + 1 + length lock + 1 + 1) n;
         first_bytes = read.1.0;
         second_bytes = read.1.1.0;
-        said = simple-but text before rest place w name_name name_name_n_n (kind_table (directive_guarded writes form_part)) os k (name-op lock g, (name-op n h, (num-op (pos lo) l, (num-op (pos hi) m, tt)))) e s refl
+        said = simple-but text before rest place w name_name name_name_n_n (in_kind.TheVariants.Table (in_directive.TheVariants.Guarded writes in_form.TheVariants.Part)) os k (name-op lock g, (name-op n h, (num-op (pos lo) l, (num-op (pos hi) m, tt)))) e s refl
             (not-2 _ _) (some-2 _ _ (name-plain _ lock g read.1.0) (name-plain _ n h read.1.1.0));
       }

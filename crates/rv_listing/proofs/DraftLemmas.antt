@@ -6,11 +6,12 @@ use Rattle.region_table.specs.declared.declared.Region.{Region}
 use Rattle.region_table.specs.declared.declared.TaskDecl.{TaskDecl}
 use Rattle.region_table.specs.declared.declared.Phase.{Phase}
 use Rattle.region_table.specs.Program.{ProgramParts, AreTiled, tasks_of}
-use Rattle.rv_assembler.specs.Vocabulary.{Draft, Start, Claim}
+use Rattle.rv_assembler.specs.declared.draft.Draft.{Draft}
+use Rattle.rv_assembler.specs.declared.draft.Start.{Start}
+use Rattle.rv_assembler.specs.declared.draft.Claim.{Claim}
 use Rattle.rv_assembler.specs.Adding.{no_draft}
 use Rattle.rv_assembler.specs.Fault.{most_regions}
-use Rattle.rv_assembler.specs.Program.{phase_of}
-use Rattle.rv_assembler.specs.Finishing.{stored, program_of}
+use Rattle.rv_assembler.specs.Finishing.{phase_of, stored, program_of}
 use Rattle.rv_listing.proofs.RegionSection.{IsWithin, add_region, add_lock}
 use Rattle.rv_listing.proofs.CodeSection.{other_limits}
 use Rattle.rv_listing.proofs.DeclarationLemmas.{add_regions, add_locks}

@@ -7,9 +7,11 @@ use Rattle.region_table.specs.declared.interval.Interval.{Interval}
 use Rattle.region_table.specs.declared.declared.Region.{Region}
 use Rattle.region_table.specs.Words.{IsCanonical}
 use Rattle.region_table.specs.Program.{AreTiled, LiesIn}
-use Rattle.rv_assembler.specs.Vocabulary.{Usage, Claim}
+use Rattle.rv_assembler.specs.declared.draft.Usage.{Usage}
+use Rattle.rv_assembler.specs.declared.draft.Claim.{Claim}
 use Rattle.rv_assembler.specs.Union.{united}
-use Rattle.rv_assembler.specs.Program.{same_usage, interval_of, words_of}
+use Rattle.rv_assembler.specs.Program.{same_usage}
+use Rattle.rv_assembler.specs.Finishing.{interval_of, words_of}
 use Rattle.rv_assembler.proofs.UnionLemmas.{IsSome}
 use Rattle.rv_listing.proofs.CutSetLemmas.{cut_set, set-some, cut-united}
 

@@ -5,9 +5,15 @@ use Rattle.std.specs.Option.{option_map}
 use Rattle.region_table.specs.declared.interval.Interval.{Interval}
 use Rattle.region_table.specs.declared.declared.Region.{Region}
 use Rattle.region_table.specs.Program.{AreTiled}
-use Rattle.rv_assembler.specs.Vocabulary.{Meaning, Usage, Claim, meaning_lock, kind_table, directive_uses, directive_guarded, form_part}
+use Rattle.rv_assembler.specs.declared.names.Meaning.{Meaning}
+use Rattle.rv_assembler.specs.declared.draft.Usage.{Usage}
+use Rattle.rv_assembler.specs.declared.draft.Claim.{Claim}
+use Rattle.rv_assembler.specs.declared.names.Meaning as in_meaning
+use Rattle.rv_assembler.specs.declared.kind.Kind as in_kind
+use Rattle.rv_assembler.specs.declared.kind.Directive as in_directive
+use Rattle.rv_assembler.specs.declared.kind.Form as in_form
 use Rattle.rv_assembler.specs.Shape.{name, name_n_n, name_name, name_name_n_n}
-use Rattle.rv_assembler.specs.Draft.{plain_usage, guarded_usage, lock_number}
+use Rattle.rv_assembler.specs.Named.{plain_usage, guarded_usage, lock_number}
 use Rattle.rv_listing.specs.Listing.{text_of, use_line, interval_lines, set_lines}
 use Rattle.rv_listing.specs.Law.{is_declared_name}
 use Rattle.rv_listing.proofs.PartLemmas.{text-append}
@@ -23,7 +29,7 @@ use Rattle.rv_listing.proofs.AddsLemmas.{Adds, size, adds-none, adds-join, adds-
 
 -- ---- the four words of effects
 
-pub plain-gives : (text : List ℕ) (names : List ℕ → Option Meaning) (w : List ℕ) (writes : Bool) → HasKindBut w name name_n_n (kind_table (directive_uses writes form_part)) → GivesUse text names w None (plain_usage writes)
+pub plain-gives : (text : List ℕ) (names : List ℕ → Option Meaning) (w : List ℕ) (writes : Bool) → HasKindBut w name name_n_n (in_kind.TheVariants.Table (in_directive.TheVariants.Uses writes in_form.TheVariants.Part)) → GivesUse text names w None (plain_usage writes)
 unfolding use_line
 plain-gives text names w writes k = record {
   good = λ n lo hi h l m. statement-good (nm w) (nm n ∷ num (pos lo) ∷ num (pos hi) ∷ []) k.op (name-op n h, (num-op (pos lo) l, (num-op (pos hi) m, tt)));
@@ -32,8 +38,8 @@ plain-gives text names w writes k = record {
       record { effect = record { writes = writes; lock = None; region = said.token; extent = _ }; said = said.said; region = said.bytes; extent = refl; usage = refl; lock = refl };
 }
 
-pub guarded-gives : (text : List ℕ) (names : List ℕ → Option Meaning) (w : List ℕ) (writes : Bool) (lock : List ℕ) (number : ℕ) → HasKindBut w name_name name_name_n_n (kind_table (directive_guarded writes form_part)) → is_declared_name lock ≡ true
-    → names lock ≡ Some (meaning_lock number) → GivesUse text names w (Some lock) (guarded_usage writes number)
+pub guarded-gives : (text : List ℕ) (names : List ℕ → Option Meaning) (w : List ℕ) (writes : Bool) (lock : List ℕ) (number : ℕ) → HasKindBut w name_name name_name_n_n (in_kind.TheVariants.Table (in_directive.TheVariants.Guarded writes in_form.TheVariants.Part)) → is_declared_name lock ≡ true
+    → names lock ≡ Some (in_meaning.TheVariants.Lock number) → GivesUse text names w (Some lock) (guarded_usage writes number)
 unfolding use_line
 guarded-gives text names w writes lock number k g known = record {
   good = λ n lo hi h l m. statement-good (nm w) (nm lock ∷ nm n ∷ num (pos lo) ∷ num (pos hi) ∷ []) k.op (name-op lock g, (name-op n h, (num-op (pos lo) l, (num-op (pos hi) m, tt))));

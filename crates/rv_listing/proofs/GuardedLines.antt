@@ -3,7 +3,10 @@ use Rattle.std.proofs.Common.{◌≡◌, ℕ, ◌+◌, ◌≤◌, Bool, true, fa
 use Rattle.region_table.specs.declared.declared.Region.{Region}
 use Rattle.region_table.specs.declared.declared.Effects.{Effects}
 use Rattle.region_table.specs.Program.{AreTiled}
-use Rattle.rv_assembler.specs.Vocabulary.{Meaning, Draft, Claim, usage_reads, usage_writes, usage_guarded_reads, usage_guarded_writes}
+use Rattle.rv_assembler.specs.declared.names.Meaning.{Meaning}
+use Rattle.rv_assembler.specs.declared.draft.Draft.{Draft}
+use Rattle.rv_assembler.specs.declared.draft.Claim.{Claim}
+use Rattle.rv_assembler.specs.declared.draft.Usage as in_usage
 use Rattle.rv_listing.specs.Listing.{text_of, set_lines, all_guarded_lines, effect_lines}
 use Rattle.rv_listing.specs.Law.{is_declared_name}
 use Rattle.rv_listing.proofs.KindLemmas.{reads-kind, writes-kind, guarded_reads-kind, guarded_writes-kind}
@@ -60,12 +63,12 @@ module _ (v : Bool) (text : List ℕ) (names : List ℕ → Option Meaning) wher
         let c = all_guarded_lines rs e (k + 1) ls in
         let ab-text = front-text text before (a ++ b) c rest q in
         let ab-short = short-left (a ++ b) c short in
-        let x = set-adds v text names (codes ".greads") (Some l) (usage_guarded_reads k) (guarded-gives text names (codes ".greads") false l k guarded_reads-kind dl.0 kl.0) rs end tiled most named known (set_at e.guarded_reads k) before (text_of b ++ (text_of c ++ rest)) place s (front-text text before a b (text_of c ++ rest) ab-text) (short-left a b ab-short) in
-        let y = set-adds v text names (codes ".gwrites") (Some l) (usage_guarded_writes k) (guarded-gives text names (codes ".gwrites") true l k guarded_writes-kind dl.0 kl.0) rs end tiled most named known (set_at e.guarded_writes k) (before ++ text_of a) (text_of c ++ rest) (place + size a) (back-place before a place s) (back-text text before a b (text_of c ++ rest) ab-text) (short-right a b ab-short) in
+        let x = set-adds v text names (codes ".greads") (Some l) (in_usage.TheVariants.GuardedReads k) (guarded-gives text names (codes ".greads") false l k guarded_reads-kind dl.0 kl.0) rs end tiled most named known (set_at e.guarded_reads k) before (text_of b ++ (text_of c ++ rest)) place s (front-text text before a b (text_of c ++ rest) ab-text) (short-left a b ab-short) in
+        let y = set-adds v text names (codes ".gwrites") (Some l) (in_usage.TheVariants.GuardedWrites k) (guarded-gives text names (codes ".gwrites") true l k guarded_writes-kind dl.0 kl.0) rs end tiled most named known (set_at e.guarded_writes k) (before ++ text_of a) (text_of c ++ rest) (place + size a) (back-place before a place s) (back-text text before a b (text_of c ++ rest) ab-text) (short-right a b ab-short) in
         let z = guarded-adds ls (k + 1) (before ++ text_of (a ++ b)) rest (place + size (a ++ b)) dl.1 kl.1 (back-place before (a ++ b) place s) (back-text text before (a ++ b) c rest q) (short-right (a ++ b) c short) in
-        claims-group place ((a ++ b) ++ c) (λ p o. claims_with p o (usage_guarded_reads k) (cut_set rs (set_at e.guarded_reads k))) (λ p o. claims_with p o (usage_guarded_writes k) (cut_set rs (set_at e.guarded_writes k))) (λ p o. guarded_claims rs p o e (k + 1) (length ls))
-        (claims-join place (a ++ b) c (λ p o. claims_with p o (usage_guarded_reads k) (cut_set rs (set_at e.guarded_reads k)) ++ claims_with p o (usage_guarded_writes k) (cut_set rs (set_at e.guarded_writes k))) (λ p o. guarded_claims rs p o e (k + 1) (length ls))
-        (claims-join place a b (λ p o. claims_with p o (usage_guarded_reads k) (cut_set rs (set_at e.guarded_reads k))) (λ p o. claims_with p o (usage_guarded_writes k) (cut_set rs (set_at e.guarded_writes k))) x y) z)
+        claims-group place ((a ++ b) ++ c) (λ p o. claims_with p o (in_usage.TheVariants.GuardedReads k) (cut_set rs (set_at e.guarded_reads k))) (λ p o. claims_with p o (in_usage.TheVariants.GuardedWrites k) (cut_set rs (set_at e.guarded_writes k))) (λ p o. guarded_claims rs p o e (k + 1) (length ls))
+        (claims-join place (a ++ b) c (λ p o. claims_with p o (in_usage.TheVariants.GuardedReads k) (cut_set rs (set_at e.guarded_reads k)) ++ claims_with p o (in_usage.TheVariants.GuardedWrites k) (cut_set rs (set_at e.guarded_writes k))) (λ p o. guarded_claims rs p o e (k + 1) (length ls))
+        (claims-join place a b (λ p o. claims_with p o (in_usage.TheVariants.GuardedReads k) (cut_set rs (set_at e.guarded_reads k))) (λ p o. claims_with p o (in_usage.TheVariants.GuardedWrites k) (cut_set rs (set_at e.guarded_writes k))) x y) z)
 
     -- the lines of all effects of a task
     pub effects-add : (ls : List (List ℕ)) (before rest : List ℕ) (place : ℕ) → LocksDeclared ls → KnowLocks names 0 ls → place ≡ length before → text ≡ before ++ (text_of (effect_lines rs ls e) ++ rest) → AreShort (effect_lines rs ls e)
@@ -74,10 +77,10 @@ module _ (v : Bool) (text : List ℕ) (names : List ℕ → Option Meaning) wher
         let a = set_lines (codes ".reads") None rs e.reads in
         let b = set_lines (codes ".writes") None rs e.writes in
         let c = all_guarded_lines rs e 0 ls in
-        let x = set-adds v text names (codes ".reads") None usage_reads (plain-gives text names (codes ".reads") false reads-kind) rs end tiled most named known e.reads before (text_of (b ++ c) ++ rest) place s (front-text text before a (b ++ c) rest q) (short-left a (b ++ c) short) in
+        let x = set-adds v text names (codes ".reads") None in_usage.TheVariants.Reads (plain-gives text names (codes ".reads") false reads-kind) rs end tiled most named known e.reads before (text_of (b ++ c) ++ rest) place s (front-text text before a (b ++ c) rest q) (short-left a (b ++ c) short) in
         let back = back-text text before a (b ++ c) rest q in
         let back-short = short-right a (b ++ c) short in
-        let y = set-adds v text names (codes ".writes") None usage_writes (plain-gives text names (codes ".writes") true writes-kind) rs end tiled most named known e.writes (before ++ text_of a) (text_of c ++ rest) (place + size a) (back-place before a place s) (front-text text (before ++ text_of a) b c rest back) (short-left b c back-short) in
+        let y = set-adds v text names (codes ".writes") None in_usage.TheVariants.Writes (plain-gives text names (codes ".writes") true writes-kind) rs end tiled most named known e.writes (before ++ text_of a) (text_of c ++ rest) (place + size a) (back-place before a place s) (front-text text (before ++ text_of a) b c rest back) (short-left b c back-short) in
         let z = guarded-adds ls 0 ((before ++ text_of a) ++ text_of b) rest (place + size a + size b) dl kl (back-place (before ++ text_of a) b (place + size a) (back-place before a place s)) (back-text text (before ++ text_of a) b c rest back) (short-right b c back-short) in
-        claims-join place a (b ++ c) (λ p o. claims_with p o usage_reads (cut_set rs e.reads)) (λ p o. claims_with p o usage_writes (cut_set rs e.writes) ++ guarded_claims rs p o e 0 (length ls)) x
-        (claims-join (place + size a) b c (λ p o. claims_with p o usage_writes (cut_set rs e.writes)) (λ p o. guarded_claims rs p o e 0 (length ls)) y z)
+        claims-join place a (b ++ c) (λ p o. claims_with p o in_usage.TheVariants.Reads (cut_set rs e.reads)) (λ p o. claims_with p o in_usage.TheVariants.Writes (cut_set rs e.writes) ++ guarded_claims rs p o e 0 (length ls)) x
+        (claims-join (place + size a) b c (λ p o. claims_with p o in_usage.TheVariants.Writes (cut_set rs e.writes)) (λ p o. guarded_claims rs p o e 0 (length ls)) y z)

@@ -10,7 +10,8 @@ use Rattle.src_text.specs.declared.token.TokenKind.TheVariants.{Name, Number}
 use Rattle.region_table.specs.Program.{ProgramParts, names_of, IsProgram}
 use Rattle.rv_assembler.specs.declared.fault.SourceFault.{SourceFault}
 use Rattle.rv_assembler.specs.declared.fault.SourceFault as fault
-use Rattle.rv_assembler.specs.Vocabulary.{Statement, Draft}
+use Rattle.rv_assembler.specs.declared.statement.Statement.{Statement}
+use Rattle.rv_assembler.specs.declared.draft.Draft.{Draft}
 use Rattle.rv_assembler.specs.Operand.{bytes_of}
 use Rattle.rv_assembler.specs.Gathering.{no_count, meaning_in}
 use Rattle.rv_assembler.specs.Reading.{reading_of, is_version_of, version_line}

@@ -6,7 +6,7 @@ use borrow.Author.Tests.{eqb-true}
 use Rattle.std.proofs.lemmas.List.{length-drop}
 use Rattle.region_table.specs.declared.declared.Region.{Region}
 use Rattle.region_table.specs.Program.{AreTiled}
-use Rattle.rv_assembler.specs.Vocabulary.{FirstValue}
+use Rattle.rv_assembler.specs.declared.draft.FirstValue.{FirstValue}
 use Rattle.rv_assembler.specs.Finishing.{stored}
 
 abbrev pub first_value : ℕ → ℕ → FirstValue

@@ -3,7 +3,7 @@ use Rattle.std.proofs.Common.{◌≡◌, ◌≢◌, ℕ, suc, ◌+◌, List, [],
 use Rattle.std.specs.List.{All, AllPairs}
 use Rattle.std.proofs.lemmas.List.Elements.{All-head, All-tail}
 use Rattle.region_table.specs.declared.declared.Region.{Region}
-use Rattle.rv_assembler.specs.Vocabulary.{Meaning}
+use Rattle.rv_assembler.specs.declared.names.Meaning.{Meaning}
 use Rattle.rv_listing.proofs.DeclarationLemmas.{DiffersFrom, AreDistinct, EachDiffers, region_names, KnowLocks}
 
 differs-from : (x : List ℕ) (xs : List (List ℕ)) → All (λ (y : List ℕ). x ≢ y) xs → DiffersFrom x xs

@@ -5,7 +5,11 @@ use Rattle.std.proofs.lemmas.Bool.{cases_Bool}
 use Rattle.std.proofs.lemmas.Slice.Eq.{bytes_eq-Decides}
 use Rattle.src_text.specs.declared.token.Token.{Token}
 use Rattle.region_table.specs.declared.declared.Region.{Region}
-use Rattle.rv_assembler.specs.Vocabulary.{Statement, Reading, Count, statement_lock, meaning_region, meaning_lock}
+use Rattle.rv_assembler.specs.declared.statement.Statement.{Statement}
+use Rattle.rv_assembler.specs.declared.reading.Reading.{Reading}
+use Rattle.rv_assembler.specs.declared.names.Count.{Count}
+use Rattle.rv_assembler.specs.declared.statement.Statement as in_statement
+use Rattle.rv_assembler.specs.declared.names.Meaning as in_meaning
 use Rattle.rv_assembler.specs.Operand.{bytes_of}
 use Rattle.rv_assembler.specs.Meaning.{first_of}
 use Rattle.rv_assembler.specs.Gathering.{counted, meaning_in}
@@ -28,19 +32,19 @@ module _ (text : List ℕ) (c : Count) (n : ℕ) (rs : List Reading) (q : List �
   pub region-other : (t : Token) (r : Region) → bytes_of text t ≡ r.name → Differs r.name q → meaning_in text c (sayings n (region_statement t r ∷ []) ++ rs) q ≡ meaning_in text (counted c (region_statement t r)) rs q
   region-other t r e h =
       let b : bytes_eq (bytes_of text t) q ≡ false = ap (λ (x : List ℕ). bytes_eq x q) e ∙ differ r.name q h in
-      ap (λ (x : Bool). first_of (cond x (Some (meaning_region c.regions c.words (pos r.len))) None) (meaning_in text (counted c (region_statement t r)) rs q)) b
+      ap (λ (x : Bool). first_of (cond x (Some (in_meaning.TheVariants.Region c.regions c.words (pos r.len))) None) (meaning_in text (counted c (region_statement t r)) rs q)) b
 
-  pub region-same : (t : Token) (r : Region) → bytes_of text t ≡ r.name → r.name ≡ q → meaning_in text c (sayings n (region_statement t r ∷ []) ++ rs) q ≡ Some (meaning_region c.regions c.words (pos r.len))
+  pub region-same : (t : Token) (r : Region) → bytes_of text t ≡ r.name → r.name ≡ q → meaning_in text c (sayings n (region_statement t r ∷ []) ++ rs) q ≡ Some (in_meaning.TheVariants.Region c.regions c.words (pos r.len))
   region-same t r e h =
       let b : bytes_eq (bytes_of text t) q ≡ true = ap (λ (x : List ℕ). bytes_eq x q) e ∙ same r.name q h in
-      ap (λ (x : Bool). first_of (cond x (Some (meaning_region c.regions c.words (pos r.len))) None) (meaning_in text (counted c (region_statement t r)) rs q)) b
+      ap (λ (x : Bool). first_of (cond x (Some (in_meaning.TheVariants.Region c.regions c.words (pos r.len))) None) (meaning_in text (counted c (region_statement t r)) rs q)) b
 
-  pub lock-other : (t : Token) (l : List ℕ) → bytes_of text t ≡ l → Differs l q → meaning_in text c (sayings n (statement_lock t ∷ []) ++ rs) q ≡ meaning_in text (counted c (statement_lock t)) rs q
+  pub lock-other : (t : Token) (l : List ℕ) → bytes_of text t ≡ l → Differs l q → meaning_in text c (sayings n (in_statement.TheVariants.Lock t ∷ []) ++ rs) q ≡ meaning_in text (counted c (in_statement.TheVariants.Lock t)) rs q
   lock-other t l e h =
       let b : bytes_eq (bytes_of text t) q ≡ false = ap (λ (x : List ℕ). bytes_eq x q) e ∙ differ l q h in
-      ap (λ (x : Bool). first_of (cond x (Some (meaning_lock c.locks)) None) (meaning_in text (counted c (statement_lock t)) rs q)) b
+      ap (λ (x : Bool). first_of (cond x (Some (in_meaning.TheVariants.Lock c.locks)) None) (meaning_in text (counted c (in_statement.TheVariants.Lock t)) rs q)) b
 
-  pub lock-same : (t : Token) (l : List ℕ) → bytes_of text t ≡ l → l ≡ q → meaning_in text c (sayings n (statement_lock t ∷ []) ++ rs) q ≡ Some (meaning_lock c.locks)
+  pub lock-same : (t : Token) (l : List ℕ) → bytes_of text t ≡ l → l ≡ q → meaning_in text c (sayings n (in_statement.TheVariants.Lock t ∷ []) ++ rs) q ≡ Some (in_meaning.TheVariants.Lock c.locks)
   lock-same t l e h =
       let b : bytes_eq (bytes_of text t) q ≡ true = ap (λ (x : List ℕ). bytes_eq x q) e ∙ same l q h in
-      ap (λ (x : Bool). first_of (cond x (Some (meaning_lock c.locks)) None) (meaning_in text (counted c (statement_lock t)) rs q)) b
+      ap (λ (x : Bool). first_of (cond x (Some (in_meaning.TheVariants.Lock c.locks)) None) (meaning_in text (counted c (in_statement.TheVariants.Lock t)) rs q)) b

@@ -1,16 +1,16 @@
 -- The tasks and claims of a listing make up the phases again.
-use Rattle.std.proofs.Common.{◌≡◌, ℕ, zero, suc, ◌+◌, ◌/◌, ◌<◌, ◌≤◌, Bool, true, false, cond, eqb, ◌&&◌, List, [], ◌∷◌, ◌++◌, map, filter, find, filter_map, option_map, Option, Some, None, refl, ap, ◌∙◌, arith}
+use Rattle.std.proofs.Common.{◌≡◌, ℕ, zero, suc, ◌+◌, ◌<◌, ◌≤◌, Bool, true, false, cond, eqb, ◌&&◌, List, [], ◌∷◌, ◌++◌, map, filter, find, filter_map, option_map, Option, Some, None, refl, ap, ◌∙◌, arith}
 use Rattle.std.specs.List.{range_with_len, cons_option}
 use Rattle.std.proofs.lemmas.Bool.Decides.{nat_tests}
 use borrow.Author.Tests.{eqb-true}
 use Rattle.region_table.specs.declared.declared.TaskDecl.{TaskDecl}
-use Rattle.rv_assembler.specs.Vocabulary.{Start, Claim}
-use Rattle.rv_assembler.specs.Fault.{is_task}
-use Rattle.rv_assembler.specs.Program.{is_claim_of}
+use Rattle.rv_assembler.specs.declared.draft.Start.{Start}
+use Rattle.rv_assembler.specs.declared.draft.Claim.{Claim}
+use Rattle.rv_assembler.specs.Program.{is_task, is_claim_of}
 
 -- the start of a task in a phase
 abbrev pub start_of : ℕ → TaskDecl → Start
-start_of p t = record { phase = p; core = t.core.0; entry = t.entry / 4; arg = t.arg }
+start_of p t = record { phase = p; core = t.core.0; entry = t.entry; arg = t.arg }
 
 -- ---- claims
 

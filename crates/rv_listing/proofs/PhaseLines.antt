@@ -5,13 +5,15 @@ use Rattle.std.proofs.lemmas.Bool.Decides.{nat_tests}
 use Rattle.region_table.specs.declared.declared.Region.{Region}
 use Rattle.region_table.specs.declared.declared.TaskDecl.{TaskDecl}
 use Rattle.region_table.specs.Program.{AreTiled}
-use Rattle.rv_assembler.specs.Vocabulary.{Meaning, Draft, Start}
-use Rattle.rv_assembler.specs.Fault.{is_task, has_task}
+use Rattle.rv_assembler.specs.declared.names.Meaning.{Meaning}
+use Rattle.rv_assembler.specs.declared.draft.Draft.{Draft}
+use Rattle.rv_assembler.specs.declared.draft.Start.{Start}
+use Rattle.rv_assembler.specs.Program.{is_task}
 use Rattle.rv_listing.specs.Listing.{text_of, task_lines}
 use Rattle.rv_listing.proofs.CodeSection.{AreShort}
 use Rattle.rv_listing.proofs.DeclarationLemmas.{KnowRegions, KnowLocks}
 use Rattle.rv_listing.proofs.RegionSection.{IsWithin}
-use Rattle.rv_listing.proofs.TaskSection.{start_in}
+use Rattle.rv_listing.proofs.TaskSection.{has_task, start_in}
 use Rattle.rv_listing.proofs.SetLines.{AreNamed}
 use Rattle.rv_listing.proofs.EffectLines.{short-left, short-right, front-text, back-text, back-place}
 use Rattle.rv_listing.proofs.GuardedLines.{LocksDeclared}

@@ -9,7 +9,10 @@ use Rattle.src_text.specs.Line.{fault_of, is_over_limit, line_of, line_with, num
 use Rattle.src_text.specs.declared.line.Line.{Line}
 use Rattle.src_text.specs.declared.line.LineFault.TheVariants.{BadByte, BadNumber, LineLimit}
 use Rattle.src_text.specs.declared.token.Token.{Token}
-use Rattle.rv_assembler.specs.Vocabulary.{Reading, Statement, reading_good, statement_nothing}
+use Rattle.rv_assembler.specs.declared.reading.Reading.{Reading}
+use Rattle.rv_assembler.specs.declared.statement.Statement.{Statement}
+use Rattle.rv_assembler.specs.declared.reading.Reading as in_reading
+use Rattle.rv_assembler.specs.declared.statement.Statement as in_statement
 use Rattle.rv_assembler.specs.Reading.{read_line, reading_of, is_version_of, version_line}
 use Rattle.rv_listing.proofs.LexLemmas.{code-plain, none-bad}
 use Rattle.rv_listing.proofs.TokenLemmas.{IsGoodLine}
@@ -47,7 +50,7 @@ SaidFrom text place (l ∷ ls) (s ∷ ss) =
 
 abbrev pub sayings : ℕ → List Statement → List Reading
 sayings number [] = []
-sayings number (s ∷ ss) = reading_good (record { line = number; label = None; statement = s }) ∷ sayings (number + 1) ss
+sayings number (s ∷ ss) = in_reading.TheVariants.Good (record { line = number; label = None; statement = s }) ∷ sayings (number + 1) ss
 
 pub other-line : (version number : ℕ) → version < number → eqb number version ≡ false
 other-line version number l = grind (arith, nat_tests)
@@ -61,9 +64,9 @@ said-readings text version number place (x ∷ ls) (s ∷ ss) l few h =
     let rest = map (reading_of version text) (numbered (number + 1) (place + (length x + 1)) ls) in
     let v = ltb 0 version in
     ap (λ (y : Line). reading_of version text y ∷ rest) (line-read number place x h.0 h.1 (omega arith))
-    ∙ ap (λ (b : Bool). cond b (reading_good (record { line = number; label = None; statement = statement_nothing })) (read_line v text number (tokens_at place x) None) ∷ rest) (other-line version number l)
+    ∙ ap (λ (b : Bool). cond b (in_reading.TheVariants.Good (record { line = number; label = None; statement = in_statement.TheVariants.Nothing })) (read_line v text number (tokens_at place x) None) ∷ rest) (other-line version number l)
     ∙ ap (λ (r : Reading). r ∷ rest) (h.2.read v number)
-    ∙ ap (λ (rs : List Reading). reading_good (record { line = number; label = None; statement = s }) ∷ rs) (said-readings text version (number + 1) (place + (length x + 1)) ls ss (omega arith) (omega arith) h.3)
+    ∙ ap (λ (rs : List Reading). in_reading.TheVariants.Good (record { line = number; label = None; statement = s }) ∷ rs) (said-readings text version (number + 1) (place + (length x + 1)) ls ss (omega arith) (omega arith) h.3)
 
 pub no-version-line : (text : List ℕ) (ls : List (List ℕ)) (ss : List Statement) → SaidFrom text 0 ls ss → version_line text (numbered 1 0 ls) ≡ 0
 no-version-line text [] ss h = refl

@@ -58,7 +58,7 @@ tasks-of : (words locks : ℕ) (ts : List TaskDecl) → All (IsTask words locks)
 tasks-of words locks [] h k = tt
 tasks-of words locks (t ∷ ts) h k =
     let own : IsOfWords t = All-head IsOfWords t ts k in
-    (All-head (IsTask words locks) t ts h, own.entry, own.effects, tasks-of words locks ts (All-tail (IsTask words locks) t ts h) (All-tail IsOfWords t ts k))
+    (All-head (IsTask words locks) t ts h, own.effects, tasks-of words locks ts (All-tail (IsTask words locks) t ts h) (All-tail IsOfWords t ts k))
 
 phases-of : (words locks : ℕ) (phs : List Phase) → All (IsPhase words locks) phs → All IsOfWords (tasks_of phs) → ArePhases phs × ArePhasesOf words locks phs
 phases-of words locks [] h k = (tt, tt)

@@ -6,9 +6,16 @@ use Rattle.std.proofs.lemmas.Bool.{ltb-true}
 use Rattle.region_table.specs.declared.interval.Interval.{Interval}
 use Rattle.region_table.specs.declared.declared.Region.{Region}
 use Rattle.region_table.specs.Program.{AreTiled}
-use Rattle.rv_assembler.specs.Vocabulary.{Meaning, Draft, Usage, Claim, Effect, extent_part, statement_uses, meaning_region}
+use Rattle.rv_assembler.specs.declared.names.Meaning.{Meaning}
+use Rattle.rv_assembler.specs.declared.draft.Draft.{Draft}
+use Rattle.rv_assembler.specs.declared.draft.Usage.{Usage}
+use Rattle.rv_assembler.specs.declared.draft.Claim.{Claim}
+use Rattle.rv_assembler.specs.declared.statement.Effect.{Effect}
+use Rattle.rv_assembler.specs.declared.statement.Extent as in_extent
+use Rattle.rv_assembler.specs.declared.statement.Statement as in_statement
+use Rattle.rv_assembler.specs.declared.names.Meaning as in_meaning
 use Rattle.rv_assembler.specs.Operand.{bytes_of}
-use Rattle.rv_assembler.specs.Draft.{usage_of}
+use Rattle.rv_assembler.specs.Named.{usage_of}
 use Rattle.rv_assembler.specs.Fault.{lock_lost}
 use Rattle.rv_listing.specs.Listing.{text_of, use_line, interval_lines}
 use Rattle.rv_listing.specs.Law.{is_declared_name}
@@ -26,9 +33,9 @@ use Rattle.rv_listing.proofs.AddsLemmas.{Adds, size, adds-none, adds-join, adds-
 -- what a line of an effect is read as: words of the named region, with this usage
 pub record SaysUse (text : List ℕ) (names : List ℕ → Option Meaning) (line : List ℕ) (place : ℕ) (n : List ℕ) (lo hi : ℕ) (u : Usage) : Type 0 where
   pub effect : Effect
-  pub said : IsSaid text (tokens_at place line) (statement_uses effect)
+  pub said : IsSaid text (tokens_at place line) (in_statement.TheVariants.Uses effect)
   pub region : bytes_of text effect.region ≡ n
-  pub extent : effect.extent ≡ extent_part (pos lo) (pos hi)
+  pub extent : effect.extent ≡ in_extent.TheVariants.Part (pos lo) (pos hi)
   pub usage : usage_of text names effect ≡ Some u
   pub lock : lock_lost text names effect.lock ≡ false
 
@@ -70,7 +77,7 @@ module _ (v : Bool) (text : List ℕ) (names : List ℕ → Option Meaning) (w :
       (λ d. ap (λ (l : List Claim). record d { claims = l }) (sym (append-nil d.claims)))
 
   part-by : (b : Bool) (r : Region) (k : ℕ) (ls : List (List ℕ)) (is : List Interval) (before rest : List ℕ) (place : ℕ) → ltb (max i.lo r.start) (min i.hi (r.start + r.len)) ≡ b → place ≡ length before
-      → is_declared_name r.name ≡ true → r.start + r.len ≤ 65536 → names r.name ≡ Some (meaning_region k r.start (pos r.len))
+      → is_declared_name r.name ≡ true → r.start + r.len ≤ 65536 → names r.name ≡ Some (in_meaning.TheVariants.Region k r.start (pos r.len))
       → text ≡ before ++ (text_of (cons_option (cond b (Some (use_line w lock r.name (max i.lo r.start - r.start) (min i.hi (r.start + r.len) - r.start))) None) ls) ++ rest)
       → AreShort (cons_option (cond b (Some (use_line w lock r.name (max i.lo r.start - r.start) (min i.hi (r.start + r.len) - r.start))) None) ls)
       → ((before' : List ℕ) (place' : ℕ) → place' ≡ length before' → text ≡ before' ++ (text_of ls ++ rest) → AreShort ls → Uses place' ls is)
@@ -83,11 +90,11 @@ module _ (v : Bool) (text : List ℕ) (names : List ℕ → Option Meaning) (w :
       let hi = min i.hi (r.start + r.len) - r.start in
       let line = use_line w lock r.name lo hi in
       let said = gives.says before (10 ∷ (text_of ls ++ rest)) place r.name lo hi s named (omega arith) (omega arith) (behind-line text before line ls rest e) in
-      let found : names (bytes_of text said.effect.region) ≡ Some (meaning_region k r.start (pos r.len)) = ap names said.region ∙ known in
+      let found : names (bytes_of text said.effect.region) ≡ Some (in_meaning.TheVariants.Region k r.start (pos r.len)) = ap names said.region ∙ known in
       let j : Interval = record { lo = max i.lo r.start; hi = min i.hi (r.start + r.len) } in
       let low : r.start + lo ≡ max i.lo r.start = omega arith in
       let high : r.start + hi ≡ min i.hi (r.start + r.len) = omega arith in
-      let one = adds-one v text names place line (statement_uses said.effect) (IsUsing v) (λ d. add_claim d u (r.start + lo) (r.start + hi)) (gives.good r.name lo hi named (omega arith) (omega arith)) short.0 said.said
+      let one = adds-one v text names place line (in_statement.TheVariants.Uses said.effect) (IsUsing v) (λ d. add_claim d u (r.start + lo) (r.start + hi)) (gives.good r.name lo hi named (omega arith) (omega arith)) short.0 said.said
       (λ d n left h. total-use v text names d said.effect r k lo hi u found said.extent said.usage said.lock (omega arith) (omega arith) ends h.one n left h.within) (λ c q n left. refl) in
       let first = adds-as v text names place (line ∷ []) (IsUsing v) (IsUsing v) (λ d. add_claim d u (r.start + lo) (r.start + hi)) (λ d. add_claims d u (j ∷ [])) one (λ d h. h)
       (λ d. ap (λ (x : ℕ). record d { claims = d.claims ++ claim_in d u x (r.start + hi) ∷ [] }) low ∙ ap (λ (x : ℕ). record d { claims = d.claims ++ claim_in d u j.lo x ∷ [] }) high) in

@@ -5,8 +5,9 @@ use Rattle.std.specs.Fmt.{decimal}
 use Rattle.region_table.specs.declared.declared.Region.{Region}
 use Rattle.region_table.specs.declared.declared.TaskDecl.{TaskDecl}
 use Rattle.region_table.specs.Program.{AreTiled}
-use Rattle.rv_assembler.specs.Vocabulary.{Meaning, Draft, statement_tasks}
-use Rattle.rv_assembler.specs.Fault.{has_task}
+use Rattle.rv_assembler.specs.declared.names.Meaning.{Meaning}
+use Rattle.rv_assembler.specs.declared.draft.Draft.{Draft}
+use Rattle.rv_assembler.specs.declared.statement.Statement as in_statement
 use Rattle.rv_listing.specs.Statement.{hexadecimal, statement}
 use Rattle.rv_listing.specs.Listing.{text_of, task_line, task_lines, effect_lines}
 use Rattle.rv_listing.proofs.TokenLemmas.{IsGoodLine, statement-good}
@@ -16,7 +17,7 @@ use Rattle.rv_listing.proofs.CodeSection.{AreShort}
 use Rattle.rv_listing.proofs.DirectiveLemmas.{nm, task-said}
 use Rattle.rv_listing.proofs.DeclarationLemmas.{KnowRegions, KnowLocks}
 use Rattle.rv_listing.proofs.RegionSection.{IsWithin}
-use Rattle.rv_listing.proofs.TaskSection.{task_family, start_in, add_task, total-task}
+use Rattle.rv_listing.proofs.TaskSection.{has_task, task_family, start_in, add_task, total-task}
 use Rattle.rv_listing.proofs.TaskEffects.{task_claims}
 use Rattle.rv_listing.proofs.SetLines.{IsUsing, AreNamed}
 use Rattle.rv_listing.proofs.ValueLines.{behind-line, behind-lines, behind-size}
@@ -51,7 +52,7 @@ module _ (v : Bool) (text : List ℕ) (names : List ℕ → Option Meaning) (rs 
   unfolding task_line
   start-adds t before rest place c w en ar s e short =
       let said = task-said text before rest place s t.core.0 t.entry t.arg (omega arith) en ar e in
-      adds-one v text names place (statement (codes ".task") (decimal t.core.0 ∷ hexadecimal t.entry ∷ hexadecimal t.arg ∷ [])) (statement_tasks (task_family t.core.0 t.entry t.arg said.0)) (λ d. IsFree v d t.core.0) (λ d. add_task d t.core.0 t.entry t.arg)
+      adds-one v text names place (statement (codes ".task") (decimal t.core.0 ∷ hexadecimal t.entry ∷ hexadecimal t.arg ∷ [])) (in_statement.TheVariants.Tasks (task_family t.core.0 t.entry t.arg said.0)) (λ d. IsFree v d t.core.0) (λ d. add_task d t.core.0 t.entry t.arg)
       (task-good t (omega arith) en ar) short said.1
       (λ d n left h. total-task v text names d t.core.0 t.entry t.arg said.0 c w en ar h.phase h.free n left h.few h.within) (λ c' q n left. refl)
 

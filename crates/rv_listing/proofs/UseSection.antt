@@ -5,10 +5,21 @@ use Rattle.std.proofs.lemmas.Int.{ints}
 use Rattle.region_table.specs.declared.declared.Region.{Region}
 use Rattle.rv_assembler.specs.declared.fault.SourceFault.{SourceFault}
 use Rattle.rv_assembler.specs.declared.fault.SourceFault as fault
-use Rattle.rv_assembler.specs.Vocabulary.{Reading, Meaning, Draft, Claim, Usage, Effect, Cores, statement_phase, statement_uses, extent_part, meaning_region}
-use Rattle.rv_assembler.specs.Number.{more, wrapped, is_interval}
+use Rattle.rv_assembler.specs.declared.reading.Reading.{Reading}
+use Rattle.rv_assembler.specs.declared.names.Meaning.{Meaning}
+use Rattle.rv_assembler.specs.declared.draft.Draft.{Draft}
+use Rattle.rv_assembler.specs.declared.draft.Claim.{Claim}
+use Rattle.rv_assembler.specs.declared.draft.Usage.{Usage}
+use Rattle.rv_assembler.specs.declared.statement.Effect.{Effect}
+use Rattle.rv_assembler.specs.declared.draft.Cores.{Cores}
+use Rattle.rv_assembler.specs.declared.statement.Statement as in_statement
+use Rattle.rv_assembler.specs.declared.statement.Extent as in_extent
+use Rattle.rv_assembler.specs.declared.names.Meaning as in_meaning
+use Rattle.rv_assembler.specs.Number.{wrapped, is_interval}
+use Rattle.rv_assembler.specs.Gathering.{more}
 use Rattle.rv_assembler.specs.Operand.{bytes_of}
-use Rattle.rv_assembler.specs.Draft.{no_cores, region_place, usage_of, claims_for}
+use Rattle.rv_assembler.specs.Named.{no_cores, region_place, usage_of}
+use Rattle.rv_assembler.specs.Drafting.{claims_for}
 use Rattle.rv_assembler.specs.Adding.{after, total}
 use Rattle.rv_assembler.specs.Fault.{lock_lost, extent_far, early_fault, over_limit}
 use Rattle.rv_assembler.proofs.SourceLemmas.{total-more}
@@ -34,16 +45,16 @@ interval-true lo hi len l m =
 
 module _ (v : Bool) (text : List ℕ) (names : List ℕ → Option Meaning) (d : Draft) where
   -- one phase more
-  pub total-phase : (n : ℕ) (rs : List Reading) → d.phases ≤ 64 → IsWithin v (add_phase d) → total v text names d (sayings n (statement_phase ∷ []) ++ rs) ≡ total v text names (add_phase d) rs
+  pub total-phase : (n : ℕ) (rs : List Reading) → d.phases ≤ 64 → IsWithin v (add_phase d) → total v text names d (sayings n (in_statement.TheVariants.Phase ∷ []) ++ rs) ≡ total v text names (add_phase d) rs
   total-phase n rs few w =
       let count : more d.phases 1 ≡ d.phases + 1 = (let s : min (d.phases + 1) (2 ^ 32 - 1) ≡ d.phases + 1 = omega arith in s) in
-      let a : after text names d statement_phase ≡ add_phase d = ap (λ (x : ℕ). record d { phases = x; family = no_cores }) count in
-      total-more v text names d (record { line = n; label = None; statement = statement_phase }) rs refl (ap (over_limit v) a ∙ within-limits v (add_phase d) w)
+      let a : after text names d in_statement.TheVariants.Phase ≡ add_phase d = ap (λ (x : ℕ). record d { phases = x; family = no_cores }) count in
+      total-more v text names d (record { line = n; label = None; statement = in_statement.TheVariants.Phase }) rs refl (ap (over_limit v) a ∙ within-limits v (add_phase d) w)
       ∙ ap (λ (x : Draft). total v text names x rs) a
 
-  module _ (e : Effect) (r : Region) (k lo hi : ℕ) (u : Usage) (found : names (bytes_of text e.region) ≡ Some (meaning_region k r.start (pos r.len))) (extent : e.extent ≡ extent_part (pos lo) (pos hi))
+  module _ (e : Effect) (r : Region) (k lo hi : ℕ) (u : Usage) (found : names (bytes_of text e.region) ≡ Some (in_meaning.TheVariants.Region k r.start (pos r.len))) (extent : e.extent ≡ in_extent.TheVariants.Part (pos lo) (pos hi))
       (usage : usage_of text names e ≡ Some u) (lock : lock_lost text names e.lock ≡ false) (some : lo < hi) (within : hi ≤ r.len) (ends : r.start + r.len ≤ 65536) (one : d.family.count ≡ 1) where
-    use-fault : (n : ℕ) → early_fault text names d (record { line = n; label = None; statement = statement_uses e }) ≡ None
+    use-fault : (n : ℕ) → early_fault text names d (record { line = n; label = None; statement = in_statement.TheVariants.Uses e }) ≡ None
     use-fault n =
         ap (λ (o : Option Meaning). cond (extent_far (region_place o) e.extent d.family.count) (Some (fault.TheVariants.OutOfRange n)) (cond (is_none (region_place o) || lock_lost text names e.lock) (Some (fault.TheVariants.UnknownName n)) (cond (eqb d.family.count 0) (Some (fault.TheVariants.Misplaced n)) None))) found
         ∙ ap (λ x. cond (extent_far (Some (record { start = r.start; len = pos r.len })) x d.family.count) (Some (fault.TheVariants.OutOfRange n)) (cond (lock_lost text names e.lock) (Some (fault.TheVariants.UnknownName n)) (cond (eqb d.family.count 0) (Some (fault.TheVariants.Misplaced n)) None))) extent
@@ -56,19 +67,19 @@ module _ (v : Bool) (text : List ℕ) (names : List ℕ → Option Meaning) (d :
         let w : wrapped (pos i) ≡ i = wrapped-pos i (omega arith) in
         ap (λ (y : ℕ). (r.start + y) % 2 ^ 32) w ∙ (let s : (r.start + i) % 2 ^ 32 ≡ r.start + i = omega arith in s)
 
-    after-use : after text names d (statement_uses e) ≡ add_claim d u (r.start + lo) (r.start + hi)
+    after-use : after text names d (in_statement.TheVariants.Uses e) ≡ add_claim d u (r.start + lo) (r.start + hi)
     after-use =
         ap (λ (o : Option Meaning). record d { claims = d.claims ++ claims_for d.phases d.family (region_place o) (usage_of text names e) e.extent }) found
         ∙ ap (λ (o : Option Usage). record d { claims = d.claims ++ claims_for d.phases d.family (Some (record { start = r.start; len = pos r.len })) o e.extent }) usage
         ∙ ap (λ x. record d { claims = d.claims ++ claims_for d.phases d.family (Some (record { start = r.start; len = pos r.len })) (Some u) x }) extent
-        ∙ ap (λ (c : ℕ). record d { claims = d.claims ++ claims_for d.phases (let f : Cores = record { first = d.family.first; count = c } in f) (Some (record { start = r.start; len = pos r.len })) (Some u) (extent_part (pos lo) (pos hi)) }) one
+        ∙ ap (λ (c : ℕ). record d { claims = d.claims ++ claims_for d.phases (let f : Cores = record { first = d.family.first; count = c } in f) (Some (record { start = r.start; len = pos r.len })) (Some u) (in_extent.TheVariants.Part (pos lo) (pos hi)) }) one
         ∙ ap (λ (y : ℕ). record d { claims = d.claims ++ claim_in d u y ((r.start + wrapped (pos hi)) % 2 ^ 32) ∷ [] }) (at-place lo (omega arith))
         ∙ ap (λ (y : ℕ). record d { claims = d.claims ++ claim_in d u (r.start + lo) y ∷ [] }) (at-place hi within)
 
     -- one effect more
-    pub total-use : (n : ℕ) (rs : List Reading) → IsWithin v d → total v text names d (sayings n (statement_uses e ∷ []) ++ rs) ≡ total v text names (add_claim d u (r.start + lo) (r.start + hi)) rs
+    pub total-use : (n : ℕ) (rs : List Reading) → IsWithin v d → total v text names d (sayings n (in_statement.TheVariants.Uses e ∷ []) ++ rs) ≡ total v text names (add_claim d u (r.start + lo) (r.start + hi)) rs
     total-use n rs w =
         let a = after-use in
         let next : IsWithin v (add_claim d u (r.start + lo) (r.start + hi)) = record { code = w.code; words = w.words; regions = w.regions; locks = w.locks; phases = w.phases; tasks = w.tasks } in
-        total-more v text names d (record { line = n; label = None; statement = statement_uses e }) rs (use-fault n) (ap (over_limit v) a ∙ within-limits v (add_claim d u (r.start + lo) (r.start + hi)) next)
+        total-more v text names d (record { line = n; label = None; statement = in_statement.TheVariants.Uses e }) rs (use-fault n) (ap (over_limit v) a ∙ within-limits v (add_claim d u (r.start + lo) (r.start + hi)) next)
         ∙ ap (λ (y : Draft). total v text names y rs) a

@@ -2,7 +2,10 @@
 use Rattle.std.proofs.Common.{◌≡◌, ℕ, ◌+◌, ◌^◌, ◌<◌, ◌≤◌, Bool, true, false, cond, eqb, List, [], ◌∷◌, ◌++◌, length, Option, Some, refl, sym, ap, ◌∙◌, append_assoc, append-nil, length-append, codes, arith}
 use Rattle.std.specs.Prelude.{pos}
 use Rattle.region_table.specs.declared.declared.Region.{Region}
-use Rattle.rv_assembler.specs.Vocabulary.{Meaning, Draft, FirstValue, meaning_region}
+use Rattle.rv_assembler.specs.declared.names.Meaning.{Meaning}
+use Rattle.rv_assembler.specs.declared.draft.Draft.{Draft}
+use Rattle.rv_assembler.specs.declared.draft.FirstValue.{FirstValue}
+use Rattle.rv_assembler.specs.declared.names.Meaning as in_meaning
 use Rattle.rv_assembler.specs.Operand.{bytes_of}
 use Rattle.rv_listing.specs.Listing.{text_of, value_line, value_lines}
 use Rattle.rv_listing.specs.Law.{AreCodeWords, is_declared_name}
@@ -42,7 +45,7 @@ behind-size before l place e =
     let c = length-append l (10 ∷ []) in
     omega arith
 
-module _ (v : Bool) (text : List ℕ) (names : List ℕ → Option Meaning) (r : Region) (k : ℕ) (known : names r.name ≡ Some (meaning_region k r.start (pos r.len))) (named : is_declared_name r.name ≡ true) (ends : r.start + r.len ≤ 65536) where
+module _ (v : Bool) (text : List ℕ) (names : List ℕ → Option Meaning) (r : Region) (k : ℕ) (known : names r.name ≡ Some (in_meaning.TheVariants.Region k r.start (pos r.len))) (named : is_declared_name r.name ≡ true) (ends : r.start + r.len ≤ 65536) where
   abbrev Values : ℕ → List (List ℕ) → List FirstValue → Type 0
   Values place lines vs = Adds v text names place lines (IsWithin v) (λ d. add_values d vs)
 
@@ -56,7 +59,7 @@ module _ (v : Bool) (text : List ℕ) (names : List ℕ → Option Meaning) (r :
       let lines = value_lines r.name (i + 1) xs in
       let vs = values_from (r.start + i + 1) xs in
       let said = value-said text before (10 ∷ (text_of lines ++ rest)) place s r.name i x named (omega arith) m (behind-line text before line lines rest e) in
-      let found : names (bytes_of text said.token) ≡ Some (meaning_region k r.start (pos r.len)) = ap names said.bytes ∙ known in
+      let found : names (bytes_of text said.token) ≡ Some (in_meaning.TheVariants.Region k r.start (pos r.len)) = ap names said.bytes ∙ known in
       let one = adds-one v text names place line (value_statement said.token i x) (IsWithin v) (λ d. add_value d (r.start + i) x) (value-good r.name i x named (omega arith) m) short.0 said.said
       (λ d n left w. total-value v text names d said.token r k i x found l ends m n left w) (λ c q n left. refl) in
       adds-as v text names place (line ∷ lines) (λ d. IsWithin v d × IsWithin v (add_value d (r.start + i) x)) (IsWithin v) (λ d. add_values (add_value d (r.start + i) x) vs) (λ d. add_values d (first_value (r.start + i) x ∷ vs))

@@ -6,10 +6,16 @@ use Rattle.src_text.specs.declared.token.Token.{Token}
 use Rattle.region_table.specs.declared.declared.Region.{Region}
 use Rattle.rv_assembler.specs.declared.fault.SourceFault.{SourceFault}
 use Rattle.rv_assembler.specs.declared.fault.SourceFault as fault
-use Rattle.rv_assembler.specs.Vocabulary.{Statement, Reading, Meaning, Draft, statement_word, meaning_region}
+use Rattle.rv_assembler.specs.declared.statement.Statement.{Statement}
+use Rattle.rv_assembler.specs.declared.reading.Reading.{Reading}
+use Rattle.rv_assembler.specs.declared.names.Meaning.{Meaning}
+use Rattle.rv_assembler.specs.declared.draft.Draft.{Draft}
+use Rattle.rv_assembler.specs.declared.statement.Statement as in_statement
+use Rattle.rv_assembler.specs.declared.names.Meaning as in_meaning
 use Rattle.rv_assembler.specs.Number.{wrapped}
 use Rattle.rv_assembler.specs.Operand.{bytes_of}
-use Rattle.rv_assembler.specs.Draft.{region_place, values_for}
+use Rattle.rv_assembler.specs.Named.{region_place}
+use Rattle.rv_assembler.specs.Drafting.{values_for}
 use Rattle.rv_assembler.specs.Adding.{after, total}
 use Rattle.rv_assembler.specs.Fault.{word_far, early_fault, over_limit}
 use Rattle.rv_assembler.proofs.SourceLemmas.{total-more}
@@ -19,7 +25,7 @@ use Rattle.rv_listing.proofs.RegionSection.{IsWithin, within-limits}
 use Rattle.rv_listing.proofs.MemoryLemmas.{first_value}
 
 abbrev pub value_statement : Token → ℕ → ℕ → Statement
-value_statement t i x = statement_word t (pos i) (wrapped (pos x))
+value_statement t i x = in_statement.TheVariants.Word t (pos i) (wrapped (pos x))
 
 abbrev pub add_value : Draft → ℕ → ℕ → Draft
 add_value d w x = record d { values = d.values ++ first_value w x ∷ [] }
@@ -30,7 +36,7 @@ index-within i len l =
     let b : int_lt (pos i) (pos len) ≡ true = grind (arith, ints) in
     rw (a, b) refl
 
-module _ (v : Bool) (text : List ℕ) (names : List ℕ → Option Meaning) (d : Draft) (t : Token) (r : Region) (k i x : ℕ) (found : names (bytes_of text t) ≡ Some (meaning_region k r.start (pos r.len))) (within : i < r.len) (ends : r.start + r.len ≤ 65536) (small : x < 2 ^ 32) where
+module _ (v : Bool) (text : List ℕ) (names : List ℕ → Option Meaning) (d : Draft) (t : Token) (r : Region) (k i x : ℕ) (found : names (bytes_of text t) ≡ Some (in_meaning.TheVariants.Region k r.start (pos r.len))) (within : i < r.len) (ends : r.start + r.len ≤ 65536) (small : x < 2 ^ 32) where
   value-fault : (n : ℕ) → early_fault text names d (record { line = n; label = None; statement = value_statement t i x }) ≡ None
   value-fault n =
       ap (λ (o : Option Meaning). cond (word_far (region_place o) (pos i)) (Some (fault.TheVariants.OutOfRange n)) (cond (is_none (region_place o)) (Some (fault.TheVariants.UnknownName n)) None)) found

@@ -7,6 +7,3 @@ mod statement;
 mod writing;
 
 pub use writing::listing;
-
-#[cfg(test)]
-mod tests;

@@ -1,5 +1,5 @@
 use Rattle.std.proofs.Common.{◌≡◌, ◌-◌, ◌++◌}
-use Rattle.rv_assembler.specs.Draft.{claimed}
+use Rattle.rv_assembler.specs.Drafting.{claimed}
 use Rattle.rv_assembler.proofs.draft.push_claims.Given as goal
 
 abbrev pub invariant-loop-done : goal.invariant-loop-done

@@ -1,5 +1,5 @@
 use Rattle.std.proofs.Common.{◌≡◌, ◌-◌, ◌++◌}
-use Rattle.rv_assembler.specs.Draft.{members}
+use Rattle.rv_assembler.specs.Drafting.{members}
 use Rattle.rv_assembler.proofs.draft.push_members.Given as goal
 
 abbrev pub invariant-loop-done : goal.invariant-loop-done

@@ -1,5 +1,5 @@
 use Rattle.std.proofs.Common.{◌+◌, ◌-◌, arith}
-use Rattle.rv_assembler.specs.Program.{read_under}
+use Rattle.rv_assembler.specs.Finishing.{read_under}
 use Rattle.rv_assembler.proofs.LoopLemmas.{map_step}
 use Rattle.rv_assembler.proofs.finishing.guarded_reads.Goals as goal
 

@@ -1,5 +1,5 @@
 use Rattle.std.proofs.Common.{◌+◌, ◌-◌, arith}
-use Rattle.rv_assembler.specs.Program.{written_under}
+use Rattle.rv_assembler.specs.Finishing.{written_under}
 use Rattle.rv_assembler.proofs.LoopLemmas.{map_step}
 use Rattle.rv_assembler.proofs.finishing.guarded_writes.Goals as goal
 

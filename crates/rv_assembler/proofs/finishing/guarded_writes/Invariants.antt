@@ -1,6 +1,6 @@
 use Rattle.std.proofs.Common.{◌≡◌, ◌-◌, ◌++◌, map}
 use Rattle.std.specs.List.{range_with_len}
-use Rattle.rv_assembler.specs.Program.{written_under}
+use Rattle.rv_assembler.specs.Finishing.{written_under}
 use Rattle.rv_assembler.proofs.finishing.guarded_writes.Given as goal
 
 abbrev pub invariant-loop-lock : goal.invariant-loop-lock

@@ -1,6 +1,6 @@
 use Rattle.std.proofs.Common.{◌≡◌, ◌++◌, drop}
 use Rattle.std.specs.List.{filter_map}
-use Rattle.rv_assembler.specs.Program.{interval_of}
+use Rattle.rv_assembler.specs.Finishing.{interval_of}
 use Rattle.rv_assembler.proofs.finishing.intervals.Given as goal
 
 abbrev pub invariant-loop-claim : goal.invariant-loop-claim

@@ -1,6 +1,6 @@
 use Rattle.std.proofs.Common.{◌≡◌, ◌-◌, ◌++◌}
 use Rattle.std.specs.List.{filter_map, range_with_len}
-use Rattle.rv_assembler.specs.Program.{task_at}
+use Rattle.rv_assembler.specs.Finishing.{task_at}
 use Rattle.rv_assembler.proofs.finishing.phase_of.Given as goal
 
 abbrev pub invariant-loop-core : goal.invariant-loop-core

@@ -1,5 +1,5 @@
 use Rattle.std.proofs.Common.{◌+◌, ◌-◌, arith}
-use Rattle.rv_assembler.specs.Program.{phase_of}
+use Rattle.rv_assembler.specs.Finishing.{phase_of}
 use Rattle.rv_assembler.proofs.LoopLemmas.{map_step}
 use Rattle.rv_assembler.proofs.finishing.phases_of.Goals as goal
 

@@ -1,6 +1,6 @@
 use Rattle.std.proofs.Common.{◌≡◌, ◌+◌, ◌-◌, ◌++◌, map}
 use Rattle.std.specs.List.{range_with_len}
-use Rattle.rv_assembler.specs.Program.{phase_of}
+use Rattle.rv_assembler.specs.Finishing.{phase_of}
 use Rattle.rv_assembler.proofs.finishing.phases_of.Given as goal
 
 abbrev pub invariant-loop-number : goal.invariant-loop-number

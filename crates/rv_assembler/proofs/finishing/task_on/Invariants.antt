@@ -1,6 +1,6 @@
 use Rattle.std.proofs.Common.{◌≡◌, drop}
 use Rattle.std.specs.List.{find}
-use Rattle.rv_assembler.specs.Fault.{is_task}
+use Rattle.rv_assembler.specs.Program.{is_task}
 use Rattle.rv_assembler.proofs.finishing.task_on.Given as goal
 
 abbrev pub invariant-loop-task : goal.invariant-loop-task

@@ -1,47 +1,34 @@
--- What a statement declares: first values, tasks, and which words they use.
-use Rattle.std.specs.Prelude.{ℕ, zero, suc, ◌+◌, ◌/◌, ◌%◌, ◌^◌, ℤ, Bool, List, [], ◌∷◌, Option, Some, None, option_map, if◌then◌else◌}
+-- The assembler's way to the rows that a statement gives: numbers are taken modulo 2^32, and the number of a core stands still at
+-- the greatest number of 32 bits. Rows defines the rows; in a text without a fault this gives the same.
+use Rattle.std.specs.Prelude.{ℕ, zero, suc, ◌+◌, ◌%◌, ◌^◌, ℤ, List, [], ◌∷◌, Option, Some, None}
 use Rattle.src_text.specs.declared.token.Token.{Token}
 use Rattle.src_text.specs.declared.token.TokenKind as token
 use Rattle.src_text.specs.declared.token.TokenKind.{TokenKind}
-use Rattle.rv_assembler.specs.declared.statement.Effect.{Effect}
 use Rattle.rv_assembler.specs.declared.statement.Extent.{Extent}
 use Rattle.rv_assembler.specs.declared.statement.Extent as extent
 use Rattle.rv_assembler.specs.declared.names.Meaning.{Meaning}
-use Rattle.rv_assembler.specs.declared.names.Meaning as meaning
 use Rattle.rv_assembler.specs.declared.draft.FirstValue.{FirstValue}
 use Rattle.rv_assembler.specs.declared.draft.Start.{Start}
 use Rattle.rv_assembler.specs.declared.draft.Usage.{Usage}
-use Rattle.rv_assembler.specs.declared.draft.Usage.TheVariants.{Reads, Writes, GuardedReads, GuardedWrites}
 use Rattle.rv_assembler.specs.declared.draft.Claim.{Claim}
 use Rattle.rv_assembler.specs.declared.draft.Cores.{Cores}
 use Rattle.rv_assembler.specs.declared.draft.Place.{Place}
-use Rattle.rv_assembler.specs.Number.{wrapped, more}
+use Rattle.rv_assembler.specs.Number.{wrapped}
 use Rattle.rv_assembler.specs.Operand.{bytes_of}
-use Rattle.rv_assembler.specs.Emission.{label_place}
+use Rattle.rv_assembler.specs.Emission.{label_address, label_place}
+use Rattle.rv_assembler.specs.Gathering.{more}
 
-abbrev pub no_cores : Cores
-no_cores = record { first = 0; count = 0 }
+-- the address of a task's entry, modulo 2^32
+abbrev pub wrapped_entry_at : Option ℕ → ℕ
+wrapped_entry_at (Some place) = label_address place % 2 ^ 32
+wrapped_entry_at None = 0
 
--- the region and the lock that a name means
-abbrev pub region_place : Option Meaning → Option Place
-region_place (Some (meaning.TheVariants.Region number start len)) = Some (record { start = start; len = len })
-region_place _ = None
+abbrev pub wrapped_entry_by : (List ℕ → Option Meaning) → List ℕ → TokenKind → ℕ
+wrapped_entry_by names name (token.TheVariants.Number n) = wrapped n
+wrapped_entry_by names name _ = wrapped_entry_at (label_place (names name))
 
-abbrev pub lock_number : Option Meaning → Option ℕ
-lock_number (Some (meaning.TheVariants.Lock number)) = Some number
-lock_number _ = None
-
--- the entry of a task, counted in code words from address 0; code begins at the address 0x1000
-abbrev pub entry_at : Option ℕ → ℕ
-entry_at (Some place) = more place 0x400
-entry_at None = 0
-
-abbrev pub entry_by : (List ℕ → Option Meaning) → List ℕ → TokenKind → ℕ
-entry_by names name (token.TheVariants.Number n) = wrapped n / 4
-entry_by names name _ = entry_at (label_place (names name))
-
-abbrev pub entry_of : List ℕ → (List ℕ → Option Meaning) → Token → ℕ
-entry_of text names t = entry_by names (bytes_of text t) t.kind
+abbrev pub wrapped_entry : List ℕ → (List ℕ → Option Meaning) → Token → ℕ
+wrapped_entry text names t = wrapped_entry_by names (bytes_of text t) t.kind
 
 -- tasks from the first on, each on the next core and with an argument that is a step more
 abbrev pub next_task : Start → ℕ → Start
@@ -50,20 +37,6 @@ next_task t step = record { phase = t.phase; core = more t.core 1; entry = t.ent
 abbrev pub members : Start → ℕ → ℕ → List Start
 members t step zero = []
 members t step (suc n) = t ∷ members (next_task t step) step n
-
-abbrev pub plain_usage : Bool → Usage
-plain_usage writes = if writes then Writes else Reads
-
-abbrev pub guarded_usage : Bool → ℕ → Usage
-guarded_usage writes lock = if writes then GuardedWrites lock else GuardedReads lock
-
--- how a task uses the words of an effect, if the lock is declared
-abbrev pub usage_by : List ℕ → (List ℕ → Option Meaning) → Bool → Option Token → Option Usage
-usage_by text names writes None = Some (plain_usage writes)
-usage_by text names writes (Some lock) = option_map (guarded_usage writes) (lock_number (names (bytes_of text lock)))
-
-abbrev pub usage_of : List ℕ → (List ℕ → Option Meaning) → Effect → Option Usage
-usage_of text names e = usage_by text names e.writes e.lock
 
 -- the words of an effect on the first of the current tasks, and how much further the next one has them
 abbrev pub first_word : Place → Extent → ℕ
