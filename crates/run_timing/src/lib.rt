@@ -5,6 +5,7 @@
 mod laws;
 mod making;
 mod noting;
+mod room;
 mod rows;
 mod running;
 mod text;

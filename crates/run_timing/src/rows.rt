@@ -1,4 +1,4 @@
-ghost use Rattle.std.specs.Prelude.{◌≡◌, ◌+◌, ◌<◌, ◌≤◌, ℕ, [], Some, length, OnOk, slice_get};
+ghost use Rattle.std.specs.Prelude.{◌≡◌, ◌+◌, ◌<◌, ◌≤◌, ℕ, [], Some, length, OnOk, slice_get, IfOk};
 ghost use Rattle.run_timing.specs.Rows.{AreInStep, IsLatest, IsLinkIn, before_in, behind, finish_in, later, with_row};
 
 use crate::timing::Link;
@@ -15,15 +15,18 @@ pub(crate) struct Rows {
 }
 
 impl Rows {
-    /// The rows of no event.
-    pub(crate) fn new(alloc: Global) -> Rows
-        ensures { result ≡ record { finishes = []; befores = []; kinds = [] } }
+    /// The rows of no event, with room for so many: 17 bytes for each.
+    ///
+    /// # Errors
+    /// `Memory` where there is no room.
+    pub(crate) fn with_room(alloc: Global, events: usize) -> Result<Rows, Memory>
+        ensures { IfOk result (λ rows. rows ≡ record { finishes = []; befores = []; kinds = [] }) }
     {
-        Rows {
-            finishes: Sequence::new(alloc),
-            befores: Sequence::new(alloc),
-            kinds: Sequence::new(alloc),
-        }
+        Ok(Rows {
+            finishes: Sequence::from_vec(Vec::with_capacity(alloc, events)?),
+            befores: Sequence::from_vec(Vec::with_capacity(alloc, events)?),
+            kinds: Sequence::from_vec(Vec::with_capacity(alloc, events)?),
+        })
     }
 
     /// When an event finishes, and 0 where there is none.

@@ -6,6 +6,7 @@ ghost use Rattle.run_timing.specs.Ticks.{AreWithinLimits};
 
 use crate::making::make;
 use crate::noting::note_row;
+use crate::room::handled_mails;
 use crate::rows::Rows;
 use crate::ticks::Ticks;
 use crate::tracks::Tracks;
@@ -14,7 +15,8 @@ use dn_machine::{Machine, a_machine_is_kept};
 use message_net::Event;
 use std::alloc::Global;
 
-/// The rows of a run's events, which the opened machine makes one by one.
+/// The rows of a run's events, which the opened machine makes one by one. For each event they take 17 bytes and 4 more for each
+/// mail, of which there are no more than events: the room for a whole run is taken at once.
 ///
 /// # Errors
 /// `Memory` where there is no room for the rows or the mails.
@@ -35,8 +37,10 @@ pub(crate) fn timed_rows(
 {
     a_machine_is_kept(&machine);
     let mut machine = machine;
-    let mut rows = Rows::new(alloc);
-    let mut tracks = Tracks::new(alloc, (shape.cores + shape.banks + 1) as usize)?;
+    let actors = (shape.cores + shape.banks + 1) as usize;
+    let mails = handled_mails(alloc, events, shape, actors)?;
+    let mut rows = Rows::with_room(alloc, events.len())?;
+    let mut tracks = Tracks::with_room(alloc, mails.as_slice())?;
     let mut number = 0;
     for event in events {
         let actor = machine.actor(event);

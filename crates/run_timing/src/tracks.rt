@@ -12,13 +12,14 @@ pub(crate) struct Tracks {
     pub(crate) senders: Vec<Sequence<u32>>,
 }
 
-/// So many rows without mails.
-fn empty_rows(alloc: Global, actors: usize) -> Result<Vec<Sequence<u32>>, Memory>
-    ensures { IfOk result (λ rows. rows.items ≡ replicate actors []) }
+/// A row without mails for each actor, with room for so many.
+fn empty_rows(alloc: Global, mails: &[u32]) -> Result<Vec<Sequence<u32>>, Memory>
+    ensures { IfOk result (λ rows. rows.items ≡ replicate (length mails.now) []) }
 {
     let mut rows = Vec::new(alloc);
-    for _actor in 0..actors {
-        rows.push(Sequence::new(alloc))?;
+    for room in mails {
+        let row = Vec::with_capacity(alloc, *room as usize)?;
+        rows.push(Sequence::from_vec(row))?;
     }
     Ok(rows)
 }
@@ -48,17 +49,17 @@ fn push_at(
 }
 
 impl Tracks {
-    /// What is noted of no event, for so many actors.
+    /// What is noted of no event, with room for so many mails of each actor.
     ///
     /// # Errors
     /// `Memory` where there is no room.
-    pub(crate) fn new(alloc: Global, actors: usize) -> Result<Tracks, Memory>
-        ensures last { IfOk result (λ tracks. tracks.last ≡ replicate actors None) }
-        ensures senders { IfOk result (λ tracks. tracks.senders.items ≡ replicate actors []) }
+    pub(crate) fn with_room(alloc: Global, mails: &[u32]) -> Result<Tracks, Memory>
+        ensures last { IfOk result (λ tracks. tracks.last ≡ replicate (length mails.now) None) }
+        ensures senders { IfOk result (λ tracks. tracks.senders.items ≡ replicate (length mails.now) []) }
     {
         Ok(Tracks {
-            last: Sequence::from_vec(vec![in alloc; None; actors]?),
-            senders: empty_rows(alloc, actors)?,
+            last: Sequence::from_vec(vec![in alloc; None; mails.len()]?),
+            senders: empty_rows(alloc, mails)?,
         })
     }
 

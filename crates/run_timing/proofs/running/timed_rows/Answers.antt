@@ -1,4 +1,4 @@
-use Rattle.std.proofs.Common.{◌≡◌, ◌<◌, ◌≤◌, ℕ, length, get_or, slice_get, Some, refl, subst, arith}
+use Rattle.std.proofs.Common.{◌≡◌, ◌+◌, ◌<◌, ◌≤◌, ℕ, List, [], length, replicate, get_or, slice_get, None, Some, refl, ap, subst, ◌∙◌, arith}
 use Rattle.std.proofs.lemmas.Option.{slice_get-get_or}
 use Rattle.message_net.specs.declared.event.Event.{Event}
 use Rattle.message_net.specs.declared.event.Event.TheVariants.{Instr}
@@ -86,10 +86,15 @@ note_row-requires c =
 
 pub loop-event-init : goal.loop-event-init
 loop-event-init c =
+    let count : length c.as_slice.result.now ≡ c.args.shape.cores + c.args.shape.banks + 1 =
+    ap (λ (xs : List ℕ). length xs) c.as_slice.ensures.value ∙ c.in_ok-mails.ensures
+    in
+    let last = subst (λ (n : ℕ). c.in_ok-tracks.tracks.last ≡ replicate n None) count c.in_ok-tracks.ensures.last in
+    let senders = subst (λ (n : ℕ). c.in_ok-tracks.tracks.senders.items ≡ replicate n []) count c.in_ok-tracks.ensures.senders in
     record {
       timed =
-          run-none c.args.ticks.now c.args.machine.state.setting c.args.shape c.args.events.now c.args.machine.state c.args.machine.made c.in_ok-tracks.tracks.last c.in_ok-tracks.tracks.senders.items c.new-rows.result
-          c.requires.shape c.requires.opened c.requires.made c.in_ok-tracks.ensures.last c.in_ok-tracks.ensures.senders c.new-rows.ensures;
+          run-none c.args.ticks.now c.args.machine.state.setting c.args.shape c.args.events.now c.args.machine.state c.args.machine.made c.in_ok-tracks.tracks.last c.in_ok-tracks.tracks.senders.items c.in_ok-rows.rows
+          c.requires.shape c.requires.opened c.requires.made last senders c.in_ok-rows.ensures;
       number = refl;
     }
 

@@ -1,0 +1,37 @@
+ghost use Rattle.std.specs.Prelude.{◌≡◌, length, IfOk};
+
+use dn_base::{Memory, Shape};
+use message_net::Event;
+use std::alloc::Global;
+
+/// Counts one more at a place, where there is one.
+fn raise(counts: &mut [u32], place: usize)
+    ensures { length counts.new ≡ length counts.old }
+{
+    if let Some(count) = counts.get_mut(place) {
+        *count = count.saturating_add(1);
+    }
+}
+
+/// How many mails of each actor the events handle, by the place of the actor, of so many. In a run to its end these are all that
+/// the actor sends, so a row with that much room doesn't grow.
+///
+/// # Errors
+/// `Memory` where there is no room.
+pub(crate) fn handled_mails(
+    alloc: Global,
+    events: &[Event],
+    shape: Shape,
+    actors: usize,
+) -> Result<Vec<u32>, Memory>
+    ensures { IfOk result (λ mails. length mails.items ≡ actors) }
+{
+    let mut mails = vec![in alloc; 0; actors]?;
+    for event in events {
+        if let Event::Handle(id) = event {
+            let place = id.sender.place(shape.cores, shape.banks);
+            raise(&mut mails, place);
+        }
+    }
+    Ok(mails)
+}
