@@ -29,6 +29,8 @@ use Rattle.round_rules.specs.Acts.{notes_by}
 use Rattle.round_rules.specs.Beginnings.{AllHaveActed}
 use Rattle.round_rules.specs.Unspent.{AreUnspent}
 use Rattle.round_rules.specs.Owners.{AreOwners}
+use Rattle.round_rules.specs.Entries.{AreAnswers, AreGivenMails}
+use Rattle.round_rules.specs.NextNumbers.{AreNumbersLow}
 use Rattle.round_rules.specs.Rounds as rules
 use Rattle.round_rules.specs.Rounds.{owner, actors, core_at, bank_at, mail_in, noted_event, events_of, end_in, IsReached, IsJoined, IsRoundOf, AreInboxes}
 use Rattle.round_rules.proofs.Mapped.{long-map, map-map, same-places}
@@ -39,6 +41,8 @@ use Rattle.round_rules.proofs.RoundRuns.{round-runs}
 use Rattle.round_rules.proofs.Beginning.{all-acted}
 use Rattle.round_rules.proofs.NeverSpent.{never-spent}
 use Rattle.round_rules.proofs.Owning.{have-owners}
+use Rattle.round_rules.proofs.Telling.{answers-told, mails-given}
+use Rattle.round_rules.proofs.MailsSent.{numbers-low}
 use Rattle.host_workers.specs.declared.finishing.Finished.{Finished}
 use Rattle.host_workers.specs.Ends.{IsEarlier, AreEndsOf}
 use Rattle.host_workers.specs.Inboxes.{inboxes_of}
@@ -202,6 +206,15 @@ module _ (S M : State) (made workers : ℕ) (f : Finished) (left : IsRoundLeft S
     pub round-owners : AreOwners (round merged)
     round-owners = have-owners C S T (round merged) left.some (joined merged merge).worked
 
+    pub round-entries : AreAnswers C (round merged)
+    round-entries = answers-told C S T (round merged) (joined merged merge)
+
+    pub round-mails : AreGivenMails C (round merged)
+    round-mails = mails-given C S T (round merged) (joined merged merge)
+
+    pub round-numbers : AreNumbersLow C S T (round merged)
+    round-numbers = numbers-low C S T (round merged) left.stands.reached (joined merged merge)
+
   -- the round that is handed back
   pub made-round : (merged : Vec Stamped Global) (ends : Vec TaskEnd Global) (machine : Made) → IsMerge (logs_of left.finished.roster) merged.items → machine.state ≡ T → machine.made ≡ made + length merged.items
       → ((told : List Done) → AreEndsOf merged.items (map core_ends left.finished.roster.cores) told → ends.items ≡ filter_map end_in told)
@@ -222,4 +235,7 @@ module _ (S M : State) (made workers : ℕ) (f : Finished) (left : IsRoundLeft S
     acted = round-acts merged.items merge;
     unspent = round-unspent merged.items merge;
     owners = round-owners merged.items merge;
+    entries = round-entries merged.items merge;
+    port_mails = round-mails merged.items merge;
+    numbers = subst (λ U. AreNumbersLow C S U (round merged.items)) (sym is) (round-numbers merged.items merge);
   }

@@ -9,6 +9,8 @@ use Rattle.round_rules.specs.Rounds.{IsJoined, IsRoundOf, end_told, events_of}
 use Rattle.round_rules.specs.Beginnings.{AllHaveActed}
 use Rattle.round_rules.specs.Unspent.{AreUnspent}
 use Rattle.round_rules.specs.Owners.{AreOwners}
+use Rattle.round_rules.specs.Entries.{AreAnswers, AreGivenMails}
+use Rattle.round_rules.specs.NextNumbers.{AreNumbersLow}
 use Rattle.host_workers.specs.declared.round.Frame.{Frame}
 use Rattle.host_workers.specs.declared.round.Round.{Round}
 use Rattle.host_workers.specs.Inboxes.{inbox_at_first}
@@ -36,3 +38,6 @@ pub record IsMadeRound (S M : State) (made workers : ℕ) (out : Round) : Type 0
   pub acted : AllHaveActed M.setting S round
   pub unspent : AreUnspent M.setting S round
   pub owners : AreOwners round
+  pub entries : AreAnswers M.setting round
+  pub port_mails : AreGivenMails M.setting round
+  pub numbers : AreNumbersLow M.setting S out.machine.state round

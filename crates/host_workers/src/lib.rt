@@ -19,8 +19,6 @@ mod run;
 mod serving;
 mod stamps;
 mod stepping;
-#[cfg(test)]
-mod tests;
 mod working;
 
 pub use crew::{BankLog, Crew};

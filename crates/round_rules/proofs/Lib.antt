@@ -22,3 +22,5 @@ pub mod Moved
 pub mod Beginning
 pub mod NeverSpent
 pub mod Owning
+pub mod MailsSent
+pub mod Telling

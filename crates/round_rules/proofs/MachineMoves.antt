@@ -33,7 +33,7 @@ use Rattle.machine_rules.specs.Flight.{bit, counted, flight}
 use Rattle.machine_rules.specs.Next.{next, enabled as may_come, number_of, when_there, kind_in, granted_in}
 use Rattle.machine_rules.specs.Runs.{after}
 use Rattle.machine_rules.proofs.Invariant.{Invariant, is_bank, is_core, is_keeper, is_right, is_lost}
-use Rattle.machine_rules.proofs.Steps.{Handled, as_sent, instr-step, evict-step, arrive-step, core-step, bank-step, keeper-step}
+use Rattle.machine_rules.proofs.Steps.{Handled, handled as found_handled, as_sent, instr-step, evict-step, arrive-step, core-step, bank-step, keeper-step}
 use Rattle.machine_rules.proofs.SoundEvents.{sound-next}
 use Rattle.machine_rules.proofs.Kept.{kept}
 use Rattle.machine_rules.proofs.OpenedFacts.{opened-setting}
@@ -41,6 +41,7 @@ use Rattle.machine_rules.proofs.RunsKept.{memory_over, same-setting, run-setting
 use Rattle.machine_rules.proofs.RunsCoherent.{first_memory, run-all}
 use Rattle.bank_hall.specs.declared.posted.Posted.{Posted}
 use Rattle.round_rules.specs.Members.{ActorParts, Member, node_there, bank_there, parts_of, member, IsIn, Deed, Handles, Makes, event_of, deed_kind, Came, node_got, node_ran, node_sent, bank_got, keeper_got, comes_of, MayDo}
+use Rattle.round_rules.specs.Steps.{with_stamp}
 use Rattle.round_rules.specs.Rounds.{IsReached, end_there, end_told}
 use Rattle.round_rules.proofs.Moving.{Moves, handled, comes, sends}
 use Rattle.round_rules.proofs.MachineSends.{Sent, instr-sent, evict-sent, arrive-sent, core-got-sent, bank-got-sent, keeper-got-sent}
@@ -354,3 +355,38 @@ pub reached-inside : (C : Setting) (S : State) → IsReached C S → All (λ (m 
 reached-inside C S reached =
     let h = holds C S reached in
     subst (λ (D : Setting). All (λ (m : Mail). IsIn D m.to) S.mails) (reached-setting C S reached) (all-inside S.setting S.mails h.inv.machine.context.some_banks h.inv.addressed)
+
+-- ---- every event
+
+-- an event is a deed of an actor
+pub record IsDeed (C : Setting) (S : State) (e : Event) : Type 0 where
+  pub actor : Actor
+  pub deed : Deed
+  pub is : event_of deed ≡ e
+  pub moves : Moves C S actor deed
+
+-- a node that is there and passes a test
+passed : (test : NodeParts → Bool) (o : Option NodeParts) → when_there test o ≡ true → (n : NodeParts) × (o ≡ Some n) × (test n ≡ true)
+passed test None may = absurd (cc)
+passed test (Some n) may = (n, refl, may)
+
+own-deed : (C : Setting) (S : State) (core : CoreId) (n : NodeParts) (e : Event) → IsReached C S → slice_get S.nodes core.0 ≡ Some n → (core ≡ me n → MayCome S.setting n e) → IsDeed C S e
+own-deed C S core n e reached found may =
+    let h = holds C S reached in
+    let mine : core ≡ me n = sym (ap (λ (x : ℕ). let c : CoreId = record { 0 = x } in c) (h.inv.machine.node core.0 n found).core) in
+    record { actor = Core core; deed = Makes e; is = refl; moves = subst (λ (D : Setting). Moves D S (Core core) (Makes e)) (reached-setting C S reached) (node-moves S core n e h found (may mine)) }
+
+pub event-deed : (C : Setting) (S : State) (e : Event) → IsReached C S → may_come S e ≡ true → IsDeed C S e
+unfolding may_come
+event-deed C S (Instr core) reached may =
+    let at = passed (may_instr S.setting) (slice_get S.nodes core.0) may in
+    own-deed C S core at.0 (Instr core) reached at.1 (λ mine. (mine, at.2))
+event-deed C S (Evict core word) reached may =
+    let at = passed (λ n. may_evict S.setting n word.0) (slice_get S.nodes core.0) may in
+    own-deed C S core at.0 (Evict core word) reached at.1 (λ mine. (mine, at.2))
+event-deed C S (Arrive core) reached may =
+    let at = passed may_arrive (slice_get S.nodes core.0) may in
+    own-deed C S core at.0 (Arrive core) reached at.1 (λ mine. (mine, at.2))
+event-deed C S (Handle id) reached may =
+    let m = found_handled S id may in
+    record { actor = m.0.to; deed = Handles (with_stamp 0 m.0); is = ap Handle m.1.named; moves = handle-moves C S (with_stamp 0 m.0) m.1.place reached m.1.there }

@@ -1,6 +1,6 @@
 -- Lists of what is told of the elements of another list.
-use Rattle.std.proofs.Common.{◌≡◌, ℕ, zero, suc, ◌<◌, Bool, true, false, cond, List, [], ◌∷◌, length, get_or, map, slice_get, Option, Some, None, refl, ap, subst, arith}
-use Rattle.std.specs.Prelude.{filter, filter_map, All, AllPairs}
+use Rattle.std.proofs.Common.{◌≡◌, ℕ, zero, suc, ◌<◌, Bool, true, false, cond, List, [], ◌∷◌, length, get_or, map, slice_get, Option, Some, None, refl, ap, subst, ◌∙◌, arith}
+use Rattle.std.specs.Prelude.{filter, filter_map, option_map, All, AllPairs}
 use Rattle.std.specs.List.{cons_option}
 use Rattle.std.proofs.lemmas.List.Elements.{All-head, All-tail}
 
@@ -68,3 +68,14 @@ pub slice_get_at : {X : Type 0} (xs : List X) (i : ℕ) (d : X) → i < length x
 slice_get_at [] i d within = absurd (omega (arith, within))
 slice_get_at (x ∷ xs) zero d within = refl
 slice_get_at (x ∷ xs) (suc i) d within = slice_get_at xs i d (omega (arith, within))
+
+-- what is made of what is told
+pub map-first : {X Y : Type 0} (f : X → Y) (o : Option X) (xs : List X) → map f (cons_option o xs) ≡ cons_option (option_map f o) (map f xs)
+map-first f None xs = refl
+map-first f (Some x) xs = refl
+
+pub map-told : {X Y Z : Type 0} (f : Y → Z) (h : X → Option Y) (g : X → Option Z) (xs : List X) → ((x : X) → option_map f (h x) ≡ g x) → map f (filter_map h xs) ≡ filter_map g xs
+map-told f h g [] same = refl
+map-told f h g (x ∷ xs) same =
+    map-first f (h x) (filter_map h xs)
+    ∙ (ap (λ o. cons_option o (map f (filter_map h xs))) (same x) ∙ ap (λ l. cons_option (g x) l) (map-told f h g xs same))

@@ -1,9 +1,8 @@
 -- Each step and take of a history is a call of the worker that owns the object.
-use Rattle.std.proofs.Common.{◌≡◌, ◌≢◌, ℕ, zero, suc, ◌+◌, ◌<◌, ◌≤◌, Bool, true, false, ◌==◌, cond, List, [], ◌∷◌, ◌++◌, get_or, refl, sym, ap, subst, ◌∙◌, arith}
+use Rattle.std.proofs.Common.{◌≡◌, ◌≢◌, ℕ, ◌<◌, ◌≤◌, Bool, true, false, ◌==◌, cond, List, [], ◌∷◌, get_or, refl, sym, ap, subst, ◌∙◌, arith}
 use Rattle.std.specs.Prelude.{sum_by, filter, All, if◌then◌else◌}
 use Rattle.std.specs.List.{range_with_len}
 use Rattle.std.proofs.lemmas.Bool.{eqb-true, eqb-false}
-use Rattle.std.proofs.lemmas.List.Sums.{sum_by-cons}
 use Rattle.std.proofs.lemmas.List.Elements.{filter_passes}
 use Rattle.dn_base.specs.declared.ids.Shape.{Shape}
 use Rattle.message_net.specs.declared.actor.Actor.{Actor}
@@ -13,21 +12,15 @@ use Rattle.turn_lock.specs.History.{maker}
 use Rattle.registration_protocol.specs.Node.{Setting}
 use Rattle.machine_rules.specs.State.{State}
 use Rattle.bank_hall.specs.declared.posted.Posted.{Posted}
-use Rattle.bank_hall.specs.declared.bank.BankIn as bank_in_is
-use Rattle.bank_hall.specs.declared.bank.BankIn.{BankIn}
-use Rattle.bank_hall.specs.declared.port.PortIn as port_in
-use Rattle.bank_hall.specs.declared.port.PortIn.{PortIn}
-use Rattle.bank_hall.specs.declared.keeper.KeeperIn as keeper_in_is
-use Rattle.bank_hall.specs.declared.keeper.KeeperIn.{KeeperIn}
-use Rattle.bank_hall.specs.Halls.{Calls, BankEntry, PortEntry, KeeperEntry, post_calls}
-use Rattle.round_rules.specs.Acts.{Act, Took, Made, Stepped, Kept, actor_of, is_act_of, done_in, no_calls, and_then, try_calls, posting, postings, sent_by, act_calls, calls_in}
+use Rattle.bank_hall.specs.Halls.{post_calls}
+use Rattle.round_rules.specs.Acts.{Act, Took, Made, Stepped, Kept, is_act_of, done_in, no_calls, try_calls, posting, postings, sent_by, act_calls, calls_in}
 use Rattle.round_rules.specs.Rounds.{Round, owner, HaveWorked, core_at, bank_at}
 use Rattle.round_rules.specs.Owners.{AreOwners}
-use Rattle.round_rules.proofs.Weights.{sum-zero, zero-sum, sum-agree}
+use Rattle.round_rules.proofs.Weights.{sum-zero, zero-sum}
 use Rattle.round_rules.proofs.Actors.{in-range}
 use Rattle.round_rules.proofs.Numbers.{turned}
 use Rattle.round_rules.proofs.Shares.{by-passes}
-use Rattle.round_rules.proofs.Traces.{only, sum-only}
+use Rattle.round_rules.proofs.Traces.{sum-only}
 use Rattle.round_rules.proofs.Moved.{bank_tried, bank_try, keeper_tried, keeper_try, port_tried, port_try}
 use Rattle.round_rules.proofs.Joining.{others-rest}
 use Rattle.round_rules.proofs.Beginning.{tried_at, tried-then}

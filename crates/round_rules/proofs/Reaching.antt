@@ -1,5 +1,5 @@
 -- What a run from a state that is reached leads to is reached.
-use Rattle.std.proofs.Common.{◌≡◌, ℕ, ◌+◌, ◌<◌, ◌≤◌, Bool, true, false, slice_index, List, [], ◌∷◌, ◌++◌, length, length-append, refl, sym, ap, subst, ◌∙◌, arith}
+use Rattle.std.proofs.Common.{◌≡◌, ℕ, zero, suc, ◌+◌, ◌<◌, ◌≤◌, Bool, true, false, slice_index, List, [], ◌∷◌, ◌++◌, length, take, length-append, refl, sym, ap, subst, ◌∙◌, arith}
 use Rattle.message_net.specs.declared.event.Event.{Event}
 use Rattle.registration_protocol.specs.Node.{Setting}
 use Rattle.machine_rules.specs.State.{State, opened}
@@ -22,6 +22,12 @@ after-append S (e ∷ es) fs = after-append (next S e) es fs
 pub run-append : (S : State) (es fs : List Event) → IsRun S es → IsRun (after S es) fs → IsRun S (es ++ fs)
 run-append S [] fs run more = more
 run-append S (e ∷ es) fs run more = (run.0, run-append (next S e) es fs run.1 more)
+
+-- a front of a run is one
+pub run-front : (S : State) (es : List Event) (count : ℕ) → IsRun S es → IsRun S (take count es)
+run-front S es zero run = tt
+run-front S [] (suc count) run = tt
+run-front S (e ∷ es) (suc count) run = (run.0, run-front (next S e) es count run.1)
 
 pub reached-next : (C : Setting) (S : State) (e : Event) → IsReached C S → enabled S e ≡ true → IsReached C (next S e)
 reached-next C S e reached may =

@@ -6,3 +6,5 @@ pub mod Rounds
 pub mod Beginnings
 pub mod Unspent
 pub mod Owners
+pub mod Entries
+pub mod NextNumbers

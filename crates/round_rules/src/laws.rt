@@ -12,6 +12,8 @@ ghost use Rattle.round_rules.specs.Rounds.{Round, IsReached, IsJoined, IsRoundOf
 ghost use Rattle.round_rules.specs.Beginnings.{HaveBegun, AllHaveActed};
 ghost use Rattle.round_rules.specs.Unspent.{AreUnspent};
 ghost use Rattle.round_rules.specs.Owners.{AreOwners};
+ghost use Rattle.round_rules.specs.Entries.{AreAnswers, AreGivenMails};
+ghost use Rattle.round_rules.specs.NextNumbers.{AreNumbersLow};
 
 /// What the workers of a round leave is what one run of the machine leaves: that of the events that they noted, in the order of
 /// their stamps.
@@ -44,4 +46,17 @@ pub fn no_object_is_spent()
 /// worker that owns it.
 pub fn steps_are_of_owners()
     ensures { (C : Setting) (S T : State) (r : Round) → IsJoined C S T r → AreOwners r }
+{}
+
+/// In the one list of a round the entries of a bank, and of the keeper, are what its history answered, and the mails that a core
+/// handles are those that the history of its port gave, each in the history's order.
+pub fn the_one_list_tells_the_histories()
+    ensures answers { (C : Setting) (S T : State) (r : Round) → IsJoined C S T r → AreAnswers C r }
+    ensures mails { (C : Setting) (S T : State) (r : Round) → IsJoined C S T r → AreGivenMails C r }
+{}
+
+/// No actor's next mail ever has a number greater than 25,169,664, the most events of a run: each mail that was sent was handled
+/// or may still be, so that it has an event of one run.
+pub fn mail_numbers_stay_low()
+    ensures { (C : Setting) (S T : State) (r : Round) → IsReached C S → IsJoined C S T r → AreNumbersLow C S T r }
 {}

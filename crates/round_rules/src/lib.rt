@@ -7,6 +7,6 @@ mod laws;
 
 pub use end_seen::EndSeen;
 pub use laws::{
-    a_round_is_a_run, no_object_is_spent, passes_follow_one_another, steps_are_of_owners,
-    whoever_has_something_to_do_acts,
+    a_round_is_a_run, mail_numbers_stay_low, no_object_is_spent, passes_follow_one_another,
+    steps_are_of_owners, the_one_list_tells_the_histories, whoever_has_something_to_do_acts,
 };
