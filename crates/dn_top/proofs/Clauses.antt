@@ -5,7 +5,6 @@ use Rattle.dn_base.specs.declared.status.Status.{Status}
 use Rattle.dn_base.specs.declared.status.Status as status
 use Rattle.dn_machine.specs.declared.record.RunRecord.{RunRecord}
 use Rattle.command_words.specs.declared.options.Options.{Options}
-use Rattle.command_words.specs.Command.{options_of}
 use Rattle.dn_top.specs.declared.output.Output.{Output}
 use Rattle.dn_top.specs.declared.serving.Answer.{Answer}
 use Rattle.dn_top.specs.Answers.{answered, most_read, IsRefusal, IsAnswer, IsOutcome, usage_line}
@@ -210,15 +209,15 @@ pub same_options : (o p : Options) (x : Option Options) → x ≡ Some o → x �
 same_options o p x e f = cc
 
 -- words that ask for options
-pub serves-options : (words : List (List ℕ)) (o : Options) (before after : Devices) (answer : Answer) → options_of words ≡ Some o → IsDoneBy o before after answer
-    → (most_read o.mode ≡ None → IsUntouched before.source after.source) → Serves words before after answer
-serves-options words o before after answer e h unread =
+pub serves-options : (wanted : Option Options) (o : Options) (before after : Devices) (answer : Answer) → wanted ≡ Some o → IsDoneBy o before after answer
+    → (most_read o.mode ≡ None → IsUntouched before.source after.source) → Serves wanted before after answer
+serves-options wanted o before after answer e h unread =
     record {
       done = λ is. record { options = o; asked = e; text = done-clause o before after answer h is };
       handed_back = λ is. subst (λ (x : Option Options). IfSome x (λ p. HandsBack p answer)) (sym e) (handed_back-clause o before after answer h is);
       no_run = no_run-clause o before after answer h;
       usage = λ r. absurd (usage-clause o before after answer h r);
-      usage_comes = λ none. absurd (no_options o (options_of words) e none);
+      usage_comes = λ none. absurd (no_options o wanted e none);
       refused = λ r. record { options = o; asked = e; text = refused-clause o before after answer h r };
       read_fault = read_fault-clause o before after answer h;
       write_fault = λ r. let f = failed-clause o before after answer h r in (
@@ -227,7 +226,7 @@ serves-options words o before after answer e h unread =
       );
       memory = memory-clause o before after answer h;
       unread = λ none. unread (subst (λ (x : Option Options). option_and_then (λ (p : Options). most_read p.mode) x ≡ None) e none);
-      complete = λ p f text is calm_source calm_sink. by_options p (same_options o p (options_of words) e f) text is calm_source calm_sink;
+      complete = λ p f text is calm_source calm_sink. by_options p (same_options o p wanted e f) text is calm_source calm_sink;
     }
   where
     by_options : (p : Options) → o ≡ p → (t : List ℕ) → text_for p before.source ≡ Some t → (Failed before.source after.source → ⊥) → (Failed before.sink after.sink → ⊥)
@@ -235,9 +234,9 @@ serves-options words o before after answer e h unread =
     by_options p same = subst (λ (p : Options). (t : List ℕ) → text_for p before.source ≡ Some t → (Failed before.source after.source → ⊥) → (Failed before.sink after.sink → ⊥) → HasStatus p t answer.status ⊎ (answer.status ≡ status.TheVariants.Memory)) same (complete-clause o before after answer h)
 
 -- words that are refused
-pub serves-usage : (words : List (List ℕ)) (before after : Devices) (answer : Answer) → options_of words ≡ None → IsUntouched before.source after.source
-    → IsFinished before.sink after.sink (answered status.TheVariants.Usage usage_line) answer → Serves words before after answer
-serves-usage words before after answer none untouched (inl (is, took)) =
+pub serves-usage : (wanted : Option Options) (before after : Devices) (answer : Answer) → wanted ≡ None → IsUntouched before.source after.source
+    → IsFinished before.sink after.sink (answered status.TheVariants.Usage usage_line) answer → Serves wanted before after answer
+serves-usage wanted before after answer none untouched (inl (is, took)) =
     let e = status_at answer _ is in
     record {
       done = λ given. let plain = outcome-other answer.status given in let bad : other answer.status ≡ true = ap other e in absurd cc;
@@ -250,9 +249,9 @@ serves-usage words before after answer none untouched (inl (is, took)) =
       write_fault = λ r. let bad : status.TheVariants.Usage ≡ status.TheVariants.WriteFault = sym e ∙ r in absurd cc;
       memory = λ r. let bad : status.TheVariants.Usage ≡ status.TheVariants.Memory = sym e ∙ r in absurd cc;
       unread = λ _. untouched;
-      complete = λ o f. absurd (no_options o (options_of words) f none);
+      complete = λ o f. absurd (no_options o wanted f none);
     }
-serves-usage words before after answer none untouched (inr (is, failed, front)) =
+serves-usage wanted before after answer none untouched (inr (is, failed, front)) =
     let e = status_at answer _ is in
     record {
       done = λ given. let plain = outcome-other answer.status given in let bad : other answer.status ≡ true = ap other e in absurd cc;
@@ -265,13 +264,13 @@ serves-usage words before after answer none untouched (inr (is, failed, front)) 
       write_fault = λ r. (failed, subst (λ (x : Option Options). has_stopped x before after) (sym none) front);
       memory = λ r. let bad : status.TheVariants.WriteFault ≡ status.TheVariants.Memory = sym e ∙ r in absurd cc;
       unread = λ _. untouched;
-      complete = λ o f. absurd (no_options o (options_of words) f none);
+      complete = λ o f. absurd (no_options o wanted f none);
     }
 
 -- words for which there was no memory
-pub serves-memory : (words : List (List ℕ)) (before after : Devices) (answer : Answer) → IsUntouched before.source after.source → TookNothing before.sink after.sink
-    → answer ≡ bare status.TheVariants.Memory → Serves words before after answer
-serves-memory words before after answer untouched nothing is =
+pub serves-memory : (wanted : Option Options) (before after : Devices) (answer : Answer) → IsUntouched before.source after.source → TookNothing before.sink after.sink
+    → answer ≡ bare status.TheVariants.Memory → Serves wanted before after answer
+serves-memory wanted before after answer untouched nothing is =
     let e = status_at answer _ is in
     record {
       done = λ given. let plain = outcome-other answer.status given in let bad : other answer.status ≡ true = ap other e in absurd cc;

@@ -1,5 +1,5 @@
 -- A text has one answer to options.
-use Rattle.std.proofs.Common.{◌≡◌, inl, inr, ℕ, zero, suc, List, [], ◌∷◌, get_or, ◌++◌, Some, Ok, Err, refl, sym, ap, subst, ◌∙◌, arith}
+use Rattle.std.proofs.Common.{◌≡◌, ◌⊎◌, inl, inr, ℕ, zero, suc, true, false, List, [], ◌∷◌, get_or, ◌++◌, Some, Ok, Err, refl, sym, ap, subst, ◌∙◌, arith}
 use Rattle.std.specs.List.{All}
 use Rattle.std.proofs.lemmas.List.Elements.{All-head, All-tail}
 use Rattle.dn_base.specs.declared.ids.PhaseId.{PhaseId}
@@ -31,9 +31,10 @@ use Rattle.command_words.specs.declared.options.Mode.{Mode}
 use Rattle.command_words.specs.declared.options.Mode as mode
 use Rattle.command_words.specs.declared.options.Options.{Options}
 use Rattle.dn_top.specs.declared.output.Output.{Output}
-use Rattle.dn_top.specs.Answers.{HasProgram, HasChecked, IsNoProgram, IsInConflict, IsUnfit, IsFlatRun, IsListing, IsProof, answered, done_in, refused_in, IsAnswer}
+use Rattle.dn_top.specs.Answers.{HasProgram, HasChecked, IsNoProgram, IsInConflict, IsUnfit, IsFlatRun, IsListing, IsProof, answered, done_in, refused_in, picks_events, IsRefusal, IsAnswer}
 use Rattle.dn_top.specs.Runs.{IsMachineRun, IsTimedRun, reported, summed_up}
 use Rattle.dn_top.specs.Documents.{IsTracedRun}
+use Rattle.dn_top.specs.Laws.{IsDecided}
 use Rattle.dn_top.proofs.OneProgram.{program-or_fault, no_program-one, unfit-one, program-one, checked-one, checked-fit}
 use Rattle.dn_top.proofs.OneRun.{one-output, timed-one}
 use Rattle.dn_top.proofs.OneProof.{one-proof}
@@ -56,17 +57,30 @@ flat_run-one P fuel out other is also =
     one-end : (e f : FlatEnd) → Some e ≡ Some f → e ≡ f
     one-end e f h = cc
 
-done-one : (m : Mode) (o : Options) (text : List ℕ) (out other : Output) → done_in m o text out → done_in m o text other → out ≡ other
-done-one mode.TheVariants.Run o text out other is also = checked-one text (λ P x. IsMachineRun P o reported x) out other (λ P. one-output P o reported out other) is also
-done-one mode.TheVariants.Work o text out other is also = checked-one text (λ P x. IsMachineRun P o summed_up x) out other (λ P. one-output P o summed_up out other) is also
-done-one mode.TheVariants.Check o text out other is also =
+-- one worker was asked for, or the mode picks no events
+abbrev IsDecidedIn : Mode → Options → Type 0
+IsDecidedIn m o = (o.workers ≡ 1) ⊎ (picks_events m ≡ false)
+
+-- a mode that picks its events is decided by one worker
+by-one : (m : Mode) (o : Options) → IsDecidedIn m o → picks_events m ≡ true → o.workers ≡ 1
+by-one m o (inl one) picks = one
+by-one m o (inr none) picks = let bad : true ≡ false = sym picks ∙ none in absurd cc
+
+done-one : (m : Mode) (o : Options) (text : List ℕ) (out other : Output) → IsDecidedIn m o → done_in m o text out → done_in m o text other → out ≡ other
+done-one mode.TheVariants.Run o text out other decided is also =
+    checked-one text (λ P x. IsMachineRun P o reported x) out other (λ P. one-output P o reported out other (by-one mode.TheVariants.Run o decided refl)) is also
+done-one mode.TheVariants.Work o text out other decided is also =
+    checked-one text (λ P x. IsMachineRun P o summed_up x) out other (λ P. one-output P o summed_up out other (by-one mode.TheVariants.Work o decided refl)) is also
+done-one mode.TheVariants.Check o text out other decided is also =
     checked-one text (λ P x. x ≡ answered status.TheVariants.Done (checked_of P)) out other (λ P a b. a ∙ sym b) is also
-done-one mode.TheVariants.List o text out other is also = program-one text IsListing out other (λ P a b. a.answer ∙ sym b.answer) is also
-done-one mode.TheVariants.Flat o text out other is also = checked-one text (λ P x. IsFlatRun P o.fuel x) out other (λ P. flat_run-one P o.fuel out other) is also
-done-one mode.TheVariants.Trace o text out other is also = checked-one text (λ P x. IsTracedRun P o text x) out other (λ P. traced-one P o text out other) is also
-done-one mode.TheVariants.Replay o text out other is also = replayed-one text out other is also
-done-one mode.TheVariants.Time o text out other is also = checked-one text (λ P x. IsTimedRun P o x) out other (λ P. timed-one P o out other) is also
-done-one mode.TheVariants.Prove o text out other is also = checked-one text IsProof out other (λ P. one-proof P out other) is also
+done-one mode.TheVariants.List o text out other decided is also = program-one text IsListing out other (λ P a b. a.answer ∙ sym b.answer) is also
+done-one mode.TheVariants.Flat o text out other decided is also = checked-one text (λ P x. IsFlatRun P o.fuel x) out other (λ P. flat_run-one P o.fuel out other) is also
+done-one mode.TheVariants.Trace o text out other decided is also =
+    checked-one text (λ P x. IsTracedRun P o text x) out other (λ P. traced-one P o text out other (by-one mode.TheVariants.Trace o decided refl)) is also
+done-one mode.TheVariants.Replay o text out other decided is also = replayed-one text out other is also
+done-one mode.TheVariants.Time o text out other decided is also =
+    checked-one text (λ P x. IsTimedRun P o x) out other (λ P. timed-one P o out other (by-one mode.TheVariants.Time o decided refl)) is also
+done-one mode.TheVariants.Prove o text out other decided is also = checked-one text IsProof out other (λ P. one-proof P out other) is also
 
 refused-one : (m : Mode) (text l k : List ℕ) → refused_in m text l → refused_in m text k → l ≡ k
 refused-one mode.TheVariants.Run text l k is also = unfit-one text l k is also
@@ -92,9 +106,17 @@ done-or_refused mode.TheVariants.Prove o text line out is was = checked-fit text
 
 -- ---- the answer
 
-pub one-answer : (o : Options) (text : List ℕ) (out other : Output) → IsAnswer o text out → IsAnswer o text other → out ≡ other
-one-answer o text out other (inl is) (inl also) = done-one o.mode o text out other is also
-one-answer o text out other (inl is) (inr was) = absurd (done-or_refused o.mode o text was.line out is was.why)
-one-answer o text out other (inr was) (inl also) = absurd (done-or_refused o.mode o text was.line other also was.why)
-one-answer o text out other (inr was) (inr also) =
+refusal-one : (o : Options) (text : List ℕ) (out other : Output) → IsRefusal o text out → IsRefusal o text other → out ≡ other
+refusal-one o text out other was also =
     was.answer ∙ ap (λ (line : List ℕ). answered status.TheVariants.SourceRefused line) (refused-one o.mode text was.line also.line was.why also.why) ∙ sym also.answer
+
+pub one-answer : (o : Options) (text : List ℕ) (out other : Output) → IsDecided o → IsAnswer o text out → IsAnswer o text other → out ≡ other
+one-answer o text out other decided (inl is) (inl also) = done-one o.mode o text out other decided is also
+one-answer o text out other decided (inl is) (inr was) = absurd (done-or_refused o.mode o text was.line out is was.why)
+one-answer o text out other decided (inr was) (inl also) = absurd (done-or_refused o.mode o text was.line other also was.why)
+one-answer o text out other decided (inr was) (inr also) = refusal-one o text out other was also
+
+-- a refusal is the only answer, by any number of workers
+pub one-refusal : (o : Options) (text : List ℕ) (out other : Output) → IsRefusal o text out → IsAnswer o text other → out ≡ other
+one-refusal o text out other was (inl also) = absurd (done-or_refused o.mode o text was.line other also was.why)
+one-refusal o text out other was (inr also) = refusal-one o text out other was also

@@ -3,13 +3,12 @@ use Rattle.std.proofs.Common.{◌≡◌, ◌⊎◌, inl, inr, ℕ, List, Some, N
 use Rattle.dn_base.specs.declared.status.Status.{Status}
 use Rattle.dn_base.specs.declared.status.Status as status
 use Rattle.command_words.specs.declared.options.Options.{Options}
-use Rattle.command_words.specs.Command.{options_of}
 use Rattle.dn_top.specs.declared.output.Output.{Output}
 use Rattle.dn_top.specs.declared.serving.Answer.{Answer}
 use Rattle.dn_top.specs.Answers.{IsAnswer, IsOutcome}
 use Rattle.dn_top.specs.Outside.{Devices, Took}
 use Rattle.dn_top.specs.Serving.{text_for, ForText, HasDone, HasRefused, answer_to}
-use Rattle.dn_top.specs.Laws.{Call, IsAnswered, GaveOneOutput}
+use Rattle.dn_top.specs.Laws.{Call, IsAnswered, IsDecided, GaveOneOutput}
 use Rattle.dn_top.proofs.Statuses.{outcome_refused}
 use Rattle.dn_top.proofs.Clauses.{at-some, same_options}
 use Rattle.dn_top.proofs.OneAnswer.{one-answer}
@@ -18,11 +17,10 @@ answer-same : (a b : Answer) → a.status ≡ b.status → a.run ≡ b.run → a
 answer-same a b s r =
     let e : record { status = a.status; run = a.run } ≡ b = rw (s, r) refl in e
 
--- what is said of the text that words ask for is said of the text that the options are about
-of_text : (o : Options) (text : List ℕ) (words : List (List ℕ)) (before : Devices) (Holds : Options → List ℕ → Type 0) → options_of words ≡ Some o → text_for o before.source ≡ Some text
-    → ForText words before.source Holds → Holds o text
-of_text o text words before Holds asked about h =
-    let same : h.options ≡ o = same_options h.options o (options_of words) h.asked asked in
+-- what is said of the text of the options that are wanted
+of_text : (o : Options) (text : List ℕ) (before : Devices) (Holds : Options → List ℕ → Type 0) → text_for o before.source ≡ Some text → ForText (Some o) before.source Holds → Holds o text
+of_text o text before Holds about h =
+    let same : h.options ≡ o = same_options h.options o (Some o) h.asked refl in
     let there : IfSome (text_for o before.source) (Holds o) = subst (λ (p : Options). IfSome (text_for p before.source) (Holds p)) same h.text in
     at-some (text_for o before.source) text (Holds o) about there
 
@@ -39,12 +37,12 @@ given o text c is = by_end is.ends
     by_end : IsOutcome c.answer.status ⊎ (c.answer.status ≡ status.TheVariants.SourceRefused) → IsGivenBy o text c
     by_end (inl ends) =
         let done : HasDone o c.before c.after text c.answer =
-        of_text o text is.words c.before (λ p t. HasDone p c.before c.after t c.answer) is.asked is.about (is.serves.done ends)
+        of_text o text c.before (λ p t. HasDone p c.before c.after t c.answer) is.about (is.serves.done ends)
         in
         record { out = done.out; is = inl done.done; answer = answer-same c.answer (answer_to done.out) done.ends done.run; took = done.took }
     by_end (inr ends) =
         let was : HasRefused o c.before c.after text =
-        of_text o text is.words c.before (λ p t. HasRefused p c.before c.after t) is.asked is.about (is.serves.refused ends)
+        of_text o text c.before (λ p t. HasRefused p c.before c.after t) is.about (is.serves.refused ends)
         in
         let none : c.answer.run ≡ None = is.serves.no_run (λ there. outcome_refused c.answer.status there ends) in
         record {
@@ -56,11 +54,11 @@ given o text c is = by_end is.ends
           took = was.took;
         }
 
-pub one-call : (o : Options) (text : List ℕ) (c d : Call) → IsAnswered o text c → IsAnswered o text d → GaveOneOutput c d
-one-call o text c d is also =
+pub one-call : (o : Options) (text : List ℕ) (c d : Call) → IsDecided o → IsAnswered o text c → IsAnswered o text d → GaveOneOutput c d
+one-call o text c d decided is also =
     let first = given o text c is in
     let second = given o text d also in
-    let same : first.out ≡ second.out = one-answer o text first.out second.out first.is second.is in
+    let same : first.out ≡ second.out = one-answer o text first.out second.out decided first.is second.is in
     record {
       answer = first.answer ∙ ap (λ (x : Output). answer_to x) same ∙ sym second.answer;
       bytes = second.out.bytes;

@@ -29,10 +29,10 @@ use Rattle.dn_top.proofs.OneProgram.{one-program, unfit-one, checked-one, checke
 -- ---- the document of a run
 
 -- a program, options and a text have one document
-pub traced-one : (P : ProgramParts) (o : Options) (text : List ℕ) (out other : Output) → IsTracedRun P o text out → IsTracedRun P o text other → out ≡ other
-traced-one P o text out other is also =
+pub traced-one : (P : ProgramParts) (o : Options) (text : List ℕ) (out other : Output) → o.workers ≡ 1 → IsTracedRun P o text out → IsTracedRun P o text other → out ≡ other
+traced-one P o text out other one is also =
     is.answer
-    ∙ ap (λ (r : RunRecord). output_of_run (document_of (trace_of o text r)) r) (one-run P o is.run also.run is.is also.is)
+    ∙ ap (λ (r : RunRecord). output_of_run (document_of (trace_of o text r)) r) (one-run P o is.run also.run one is.is also.is)
     ∙ sym also.answer
 
 -- ---- the bytes

@@ -19,7 +19,7 @@ use Rattle.run_timing.specs.Text.{time_line, chain_line, link_line, timing_of}
 use Rattle.run_timing.proofs.OneTiming.{one-timing}
 use Rattle.command_words.specs.declared.options.Options.{Options}
 use Rattle.dn_top.specs.declared.output.Output.{Output}
-use Rattle.dn_top.specs.Runs.{shape_for, ticks_for, IsRunOf, IsSeedsRun, IsMachineRun, IsTimedRun, output_of_run, summed_up}
+use Rattle.dn_top.specs.Runs.{shape_for, ticks_for, IsRunOf, IsRunFor, IsMachineRun, IsTimedRun, output_of_run, summed_up}
 
 -- ---- the run
 
@@ -40,21 +40,21 @@ same-record : (S : State) (seed : ℕ) (r s : RunRecord) → length r.counts.kin
 same-record S seed r s each other is also =
     one-record S r s (picked-one S (generator_of seed) r.events s.events is.scheduled also.scheduled) each other is.run.is_true also.run.is_true
 
-by-seed : (P : ProgramParts) (o : Options) (r : RunRecord) (is : IsSeedsRun P o r) → IsSeedsRunOf (opened is.run.setting) o.seed r
-by-seed P o r is = record { scheduled = is.scheduled; run = is.run.machine }
+by-seed : (P : ProgramParts) (o : Options) (r : RunRecord) (is : IsRunFor P o r) → o.workers ≡ 1 → IsSeedsRunOf (opened is.run.setting) o.seed r
+by-seed P o r is one = record { scheduled = is.scheduled one; run = is.run.machine }
 
--- a program and options have one run
-pub one-run : (P : ProgramParts) (o : Options) (r s : RunRecord) → IsSeedsRun P o r → IsSeedsRun P o s → r ≡ s
-one-run P o r s is also =
+-- a program and options have one run, by one worker
+pub one-run : (P : ProgramParts) (o : Options) (r s : RunRecord) → o.workers ≡ 1 → IsRunFor P o r → IsRunFor P o s → r ≡ s
+one-run P o r s one is also =
     let same : is.run.setting ≡ also.run.setting = same-setting P (shape_for P o) o.fuel is.run.setting also.run.setting is.run.asked also.run.asked in
     same-record (opened also.run.setting) o.seed r s is.run.each_kind also.run.each_kind
-    (subst (λ (C : Setting). IsSeedsRunOf (opened C) o.seed r) same (by-seed P o r is))
-    (by-seed P o s also)
+    (subst (λ (C : Setting). IsSeedsRunOf (opened C) o.seed r) same (by-seed P o r is one))
+    (by-seed P o s also one)
 
 -- so what is printed of it is the same
-pub one-output : (P : ProgramParts) (o : Options) (print : RunRecord → List ℕ) (out other : Output) → IsMachineRun P o print out → IsMachineRun P o print other → out ≡ other
-one-output P o print out other is also =
-    is.answer ∙ ap (λ (r : RunRecord). output_of_run (print r) r) (one-run P o is.run also.run is.is also.is) ∙ sym also.answer
+pub one-output : (P : ProgramParts) (o : Options) (print : RunRecord → List ℕ) (out other : Output) → o.workers ≡ 1 → IsMachineRun P o print out → IsMachineRun P o print other → out ≡ other
+one-output P o print out other one is also =
+    is.answer ∙ ap (λ (r : RunRecord). output_of_run (print r) r) (one-run P o is.run also.run one is.is also.is) ∙ sym also.answer
 
 -- so is its timing
 timed-text : (t u : Timing) → t.total ≡ u.total → t.links.items ≡ u.links.items → timing_of t ≡ timing_of u
@@ -63,9 +63,9 @@ timed-text t u total links =
     ap (λ (n : ℕ). time_line n ++ chain_line (length t.links.items) ++ flat_map link_line t.links.items) total
     ∙ ap (λ (ls : List Link). time_line u.total ++ chain_line (length ls) ++ flat_map link_line ls) links
 
-pub timed-one : (P : ProgramParts) (o : Options) (out other : Output) → IsTimedRun P o out → IsTimedRun P o other → out ≡ other
-timed-one P o out other is also =
-    let run : is.run ≡ also.run = one-run P o is.run also.run is.is also.is in
+pub timed-one : (P : ProgramParts) (o : Options) (out other : Output) → o.workers ≡ 1 → IsTimedRun P o out → IsTimedRun P o other → out ≡ other
+timed-one P o out other one is also =
+    let run : is.run ≡ also.run = one-run P o is.run also.run one is.is also.is in
     let timing =
     one-timing P (shape_for P o) o.fuel also.run.events (ticks_for o) is.timing also.timing also.limits
     (subst (λ (r : RunRecord). IsTimingOf P (shape_for P o) o.fuel r.events (ticks_for o) is.timing) run is.times)

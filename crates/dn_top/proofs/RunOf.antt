@@ -1,5 +1,5 @@
 -- The run of an opened machine is a run of its program, that of the options where these ask for it, and can be printed.
-use Rattle.std.proofs.Common.{◌≡◌, ℕ, suc, ◌<◌, ◌≤◌, List, [], ◌∷◌, ◌++◌, length, take, drop, Some, refl, sym, ap, subst, ◌∙◌, arith, length-append}
+use Rattle.std.proofs.Common.{◌≡◌, ◌≢◌, ℕ, suc, ◌<◌, ◌≤◌, List, [], ◌∷◌, ◌++◌, length, take, drop, Some, refl, sym, ap, subst, ◌∙◌, arith, length-append}
 use Rattle.std.specs.List.{All}
 use Rattle.std.specs.Option.{option_map}
 use Rattle.std.proofs.lemmas.List.{take-append-drop, length-map}
@@ -36,7 +36,7 @@ use Rattle.dn_machine.proofs.RunLemmas.{ready-of}
 use Rattle.run_replay.specs.Document.{IsTold}
 use Rattle.run_replay.proofs.ToldRuns.{run-told}
 use Rattle.command_words.specs.declared.options.Options.{Options}
-use Rattle.dn_top.specs.Runs.{shape_for, ending_alone, HasFlatRun, IsWithoutGrants, IsRunOf, IsSeedsRun, IsPrintable}
+use Rattle.dn_top.specs.Runs.{shape_for, ending_alone, HasFlatRun, IsWithoutGrants, IsRunOf, IsRunFor, IsPrintable}
 
 -- ---- the size of an ending
 
@@ -141,11 +141,20 @@ module _ (P : ProgramParts) (o : Options) (m : Made) (r : RunRecord) where
         fuel = at.fuel_is;
       }
 
-  pub is-run_of : IsOpened P (shape_for P o) o.fuel m → IsKept m.state m.made → IsSeedsRunOf m.state o.seed r → length r.counts.kinds ≡ 17 → IsSeedsRun P o r
+  -- the one of a seed
+  pub is-run_by_seed : IsOpened P (shape_for P o) o.fuel m → IsKept m.state m.made → IsSeedsRunOf m.state o.seed r → length r.counts.kinds ≡ 17 → IsRunFor P o r
   unfolding run-of
-  is-run_of at kept run each =
+  is-run_by_seed at kept run each =
       let there : IsSeedsRunOf (opened m.state.setting) o.seed r = at-opened (λ S. IsSeedsRunOf S o.seed r) at run in
-      record { run = run-of P (shape_for P o) o.fuel m.state.setting r (asked-for at kept) there.run run.run.flat each; scheduled = there.scheduled }
+      record { run = run-of P (shape_for P o) o.fuel m.state.setting r (asked-for at kept) there.run run.run.flat each; scheduled = λ _. there.scheduled }
+
+  -- one of several workers
+  pub is-run_by_workers : IsOpened P (shape_for P o) o.fuel m → IsKept m.state m.made → IsMachinesRun m.state r → length r.counts.kinds ≡ 17 → o.workers ≢ 1 → IsRunFor P o r
+  is-run_by_workers at kept run each several =
+      record {
+        run = run-of P (shape_for P o) o.fuel m.state.setting r (asked-for at kept) (at-opened (λ S. IsMachinesRun S r) at run) run.flat each;
+        scheduled = λ one. absurd (several one);
+      }
 
   pub is-printable : IsOpened P (shape_for P o) o.fuel m → IsKept m.state m.made → IsRecord m.state r → HasFlatEnd m.state.setting r.events → length r.counts.kinds ≡ 17
       → length r.events < 18446744073709551616 → IsPrintable r
@@ -156,6 +165,10 @@ module _ (P : ProgramParts) (o : Options) (m : Made) (r : RunRecord) where
   pub all-told : IsOpened P (shape_for P o) o.fuel m → IsKept m.state m.made → IsRun m.state r.events → All IsTold r.events
   all-told at kept run =
       run-told m.state.setting r.events (ready-of m.state m.made kept.sound) kept.most (at-opened (λ S. IsRun S r.events) at run)
+
+-- the machine was opened in the shape of the checked program
+pub at_shape : (P Q : ProgramParts) (o : Options) (s : Shape) (m : Made) → IsOpened P s o.fuel m → s ≡ shape_for Q o → Q ≡ P → IsOpened P (shape_for P o) o.fuel m
+at_shape P Q o s m at is same = subst (λ (s : Shape). IsOpened P s o.fuel m) (is ∙ ap (λ (p : ProgramParts). shape_for p o) same) at
 
 -- ---- two runs without locks
 

@@ -17,7 +17,7 @@ use Rattle.run_timing.specs.Ticks.{AreWithinLimits}
 use Rattle.run_timing.specs.Longest.{IsTimingOf}
 use Rattle.command_words.specs.declared.options.Options.{Options}
 use Rattle.command_words.specs.Command.{IsWithinLimits}
-use Rattle.dn_top.specs.Runs.{shape_for, ticks_for, IsSeedsRun}
+use Rattle.dn_top.specs.Runs.{shape_for, ticks_for, IsRunFor}
 
 -- the ticks of each kind are within their limits
 pub ticks-within : (o : Options) → IsWithinLimits o → AreWithinLimits (ticks_for o)
@@ -41,26 +41,23 @@ ticks-within o l kind.TheVariants.Go = (omega (arith, l.tick_mail), omega (arith
 ticks-within o l kind.TheVariants.Halt = (omega (arith, l.tick_mail), omega (arith, l.tick_mail))
 
 -- the events are a run of the opened machine that the options ask for
-run-on : (P : ProgramParts) (o : Options) (r : RunRecord) → IsSeedsRun P o r → IsRunOn P (shape_for P o) o.fuel r.events
+run-on : (P : ProgramParts) (o : Options) (r : RunRecord) → IsRunFor P o r → IsRunOn P (shape_for P o) o.fuel r.events
 run-on P o r is C told =
     let same : is.run.setting ≡ C = same-setting P (shape_for P o) o.fuel is.run.setting C is.run.asked told in
     subst (λ (D : Setting). IsRun (opened D) r.events) same is.run.machine.complete.run
 
--- the same of a program, a shape and events that are these
-shape-is : (P Q A : ProgramParts) (o : Options) (s : Shape) → A ≡ P → Q ≡ A → s ≡ shape_for Q o → s ≡ shape_for P o
-shape-is P Q A o s again program shape = shape ∙ ap (λ (p : ProgramParts). shape_for p o) (program ∙ again)
+-- the same of a shape and events that are these
+shape-is : (Q P : ProgramParts) (o : Options) (s : Shape) → Q ≡ P → s ≡ shape_for Q o → s ≡ shape_for P o
+shape-is Q P o s program shape = shape ∙ ap (λ (p : ProgramParts). shape_for p o) program
 
-pub run-at : (P Q A : ProgramParts) (o : Options) (s : Shape) (r : RunRecord) (events : List Event) → A ≡ P → Q ≡ A → s ≡ shape_for Q o → events ≡ r.events → IsSeedsRun P o r
-    → IsRunOn A s o.fuel events
-run-at P Q A o s r events again program shape are is =
-    subst (λ (es : List Event). IsRunOn A s o.fuel es) (sym are)
-    (subst (λ (x : Shape). IsRunOn A x o.fuel r.events) (sym (shape-is P Q A o s again program shape))
-    (subst (λ (p : ProgramParts). IsRunOn p (shape_for P o) o.fuel r.events) (sym again) (run-on P o r is)))
+pub run-at : (Q P : ProgramParts) (o : Options) (s : Shape) (r : RunRecord) (events : List Event) → Q ≡ P → s ≡ shape_for Q o → events ≡ r.events → IsRunFor P o r → IsRunOn P s o.fuel events
+run-at Q P o s r events program shape are is =
+    subst (λ (es : List Event). IsRunOn P s o.fuel es) (sym are)
+    (subst (λ (x : Shape). IsRunOn P x o.fuel r.events) (sym (shape-is Q P o s program shape)) (run-on P o r is))
 
-pub times-at : (P Q A : ProgramParts) (o : Options) (s : Shape) (r : RunRecord) (events : List Event) (ticks : Ticks) (timing : Timing) → A ≡ P → Q ≡ A → s ≡ shape_for Q o → events ≡ r.events
-    → ticks ≡ ticks_for o → IsTimingOf A s o.fuel events ticks timing → IsTimingOf P (shape_for P o) o.fuel r.events (ticks_for o) timing
-times-at P Q A o s r events ticks timing again program shape are ticks_are is =
+pub times-at : (Q P : ProgramParts) (o : Options) (s : Shape) (r : RunRecord) (events : List Event) (ticks : Ticks) (timing : Timing) → Q ≡ P → s ≡ shape_for Q o → events ≡ r.events
+    → ticks ≡ ticks_for o → IsTimingOf P s o.fuel events ticks timing → IsTimingOf P (shape_for P o) o.fuel r.events (ticks_for o) timing
+times-at Q P o s r events ticks timing program shape are ticks_are is =
     subst (λ (x : Ticks). IsTimingOf P (shape_for P o) o.fuel r.events x timing) ticks_are
     (subst (λ (es : List Event). IsTimingOf P (shape_for P o) o.fuel es ticks timing) are
-    (subst (λ (x : Shape). IsTimingOf P x o.fuel events ticks timing) (shape-is P Q A o s again program shape)
-    (subst (λ (p : ProgramParts). IsTimingOf p s o.fuel events ticks timing) again is)))
+    (subst (λ (x : Shape). IsTimingOf P x o.fuel events ticks timing) (shape-is Q P o s program shape) is))

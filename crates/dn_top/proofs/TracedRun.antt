@@ -9,7 +9,7 @@ use Rattle.run_replay.specs.declared.trace.TraceShape.{TraceShape}
 use Rattle.run_replay.specs.Document.{IsTold, IsTrace, IsTraceShape, document_of}
 use Rattle.command_words.specs.declared.options.Options.{Options}
 use Rattle.command_words.specs.Command.{IsWithinLimits}
-use Rattle.dn_top.specs.Runs.{IsSeedsRun}
+use Rattle.dn_top.specs.Runs.{IsRunFor}
 use Rattle.dn_top.specs.Documents.{sizes_of, trace_of}
 use Rattle.dn_top.proofs.Fronts.{source-small}
 
@@ -24,7 +24,7 @@ sizes-within o l =
     }
 
 -- so is all that the document of a run tells
-pub trace-told : (P : ProgramParts) (o : Options) (text : List ℕ) (r : RunRecord) → IsWithinLimits o → source text ≡ Ok P → IsSeedsRun P o r → All IsTold r.events → IsTrace (trace_of o text r)
+pub trace-told : (P : ProgramParts) (o : Options) (text : List ℕ) (r : RunRecord) → IsWithinLimits o → source text ≡ Ok P → IsRunFor P o r → All IsTold r.events → IsTrace (trace_of o text r)
 trace-told P o text r limits is run told =
     record {
       head = record { shape = sizes-within o limits; text = source-small text P is; count = run.run.machine.few.most };

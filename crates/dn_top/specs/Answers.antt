@@ -1,5 +1,5 @@
 -- What the program answers to options and a text.
-use Rattle.std.specs.Prelude.{◌≡◌, ◌⊎◌, ℕ, Bool, true, false, List, ◌++◌, Option, Some, None, Ok, Err}
+use Rattle.std.specs.Prelude.{◌≡◌, ◌⊎◌, ℕ, Bool, true, false, List, ◌++◌, Option, Some, None, Result, Ok, Err}
 use Rattle.dn_base.specs.declared.ids.Grant.{Grant}
 use Rattle.dn_base.specs.declared.status.Status.{Status}
 use Rattle.dn_base.specs.declared.status.Status as status
@@ -30,7 +30,8 @@ use Rattle.command_words.specs.declared.options.Options.{Options}
 use Rattle.dn_top.specs.declared.output.Output.{Output}
 use Rattle.dn_top.specs.declared.programs.Stop.{Stop}
 use Rattle.dn_top.specs.declared.programs.Stop as stop
-use Rattle.dn_top.specs.Runs.{IsMachineRun, IsTimedRun, reported, summed_up}
+use Rattle.dn_machine.specs.declared.record.RunRecord.{RunRecord}
+use Rattle.dn_top.specs.Runs.{IsRunFor, IsMachineRun, IsTimedRun, reported, summed_up}
 use Rattle.dn_top.specs.Documents.{IsTracedRun, HasTrace, IsNoDocument, IsReplayedRun, IsNoRun}
 
 -- ---- a text, its program and its check
@@ -106,6 +107,12 @@ abbrev pub IsRefusedDocument : List ℕ → List ℕ → Type 0
 IsRefusedDocument document line =
     IsNoDocument document line ⊎ HasTrace document (λ t. IsUnfit t.text line ⊎ HasChecked t.text (λ P. IsNoRun P t line))
 
+-- ---- the run of a text
+
+-- r is a run of the text's checked program on the machine that the options ask for
+abbrev pub HasRun : Options → List ℕ → RunRecord → Type 0
+HasRun o text r = HasChecked text (λ P. IsRunFor P o r)
+
 -- ---- a row for each mode
 
 -- what each mode does with a text
@@ -144,6 +151,18 @@ most_read mode.TheVariants.Replay = Some 536870913
 most_read mode.TheVariants.Time = Some 1048577
 most_read mode.TheVariants.Prove = Some 1048577
 
+-- whether the events of a mode's run are picked, by the seed or by the workers, and not read in a document
+abbrev pub picks_events : Mode → Bool
+picks_events mode.TheVariants.Run = true
+picks_events mode.TheVariants.Work = true
+picks_events mode.TheVariants.Check = false
+picks_events mode.TheVariants.List = false
+picks_events mode.TheVariants.Flat = false
+picks_events mode.TheVariants.Trace = true
+picks_events mode.TheVariants.Replay = false
+picks_events mode.TheVariants.Time = true
+picks_events mode.TheVariants.Prove = false
+
 -- whether a mode runs the multicore machine, and so hands a run back
 abbrev pub makes_run : Mode → Bool
 makes_run mode.TheVariants.Run = true
@@ -157,6 +176,12 @@ makes_run mode.TheVariants.Time = true
 makes_run mode.TheVariants.Prove = false
 
 -- ---- answers
+
+-- the output that something done comes to: a refusal is its line, and where there was no memory there is none
+abbrev pub IsOutputOf : Result Output Stop → Output → Type 0
+IsOutputOf (Ok done) out = out ≡ done
+IsOutputOf (Err (stop.TheVariants.Refused line)) out = out ≡ answered status.TheVariants.SourceRefused line
+IsOutputOf (Err stop.TheVariants.Memory) out = ⊥
 
 -- what the options ask for was done with the text
 abbrev pub IsDone : Options → List ℕ → Output → Type 0

@@ -15,7 +15,7 @@ use Rattle.run_replay.specs.Refusal.{refusal_text}
 use Rattle.run_replay.specs.Replay.{IsReplayOf}
 use Rattle.command_words.specs.declared.options.Options.{Options}
 use Rattle.dn_top.specs.declared.output.Output.{Output}
-use Rattle.dn_top.specs.Runs.{IsRunOf, IsSeedsRun, output_of_run, reported}
+use Rattle.dn_top.specs.Runs.{IsRunOf, IsRunFor, output_of_run, reported}
 
 -- ---- the document of a run
 
@@ -29,7 +29,7 @@ trace_of o text r = record { shape = sizes_of o; text = text; events = r.events 
 -- the program of the text was run: the output hands the run back, and is the document of the run
 pub record IsTracedRun (P : ProgramParts) (o : Options) (text : List ℕ) (out : Output) : Type 0 where
   pub run : RunRecord
-  pub is : IsSeedsRun P o run
+  pub is : IsRunFor P o run
   -- all that it tells is within the limits of a document, so that the bytes are the document of nothing else
   pub told : IsTrace (trace_of o text run)
   pub answer : out ≡ output_of_run (document_of (trace_of o text run)) run

@@ -1,5 +1,5 @@
 -- What the laws of the program speak of.
-use Rattle.std.specs.Prelude.{◌≡◌, ◌⊎◌, ℕ, true, List, slice_get, Some, None}
+use Rattle.std.specs.Prelude.{◌≡◌, ◌⊎◌, ℕ, true, false, List, slice_get, Some, None}
 use Rattle.std.specs.List.{Any}
 use Rattle.dn_base.specs.declared.ids.Grant.{Grant}
 use Rattle.dn_base.specs.declared.status.Outcome as outcome
@@ -13,9 +13,8 @@ use Rattle.flat_machine.specs.Grants.{so_far}
 use Rattle.rv_core.specs.Ending.{is_waiting}
 use Rattle.flat_machine.specs.Laws.{IsOutOfFuel, IsHeldUp}
 use Rattle.command_words.specs.declared.options.Options.{Options}
-use Rattle.command_words.specs.Command.{options_of}
 use Rattle.dn_top.specs.declared.serving.Answer.{Answer}
-use Rattle.dn_top.specs.Answers.{IsOutcome}
+use Rattle.dn_top.specs.Answers.{IsOutcome, picks_events}
 use Rattle.dn_top.specs.Outside.{Devices, Took}
 use Rattle.dn_top.specs.Serving.{text_for, Serves}
 
@@ -29,6 +28,12 @@ pub record IsCaused (program : ProgramParts) (fuel : ℕ) (grants : List Grant) 
   pub held_up : (i : ℕ) (r : Started) → slice_get machine.tasks i ≡ Some r → r.state.end ≡ None → IsHeldUp program fuel machine.tasks i r
   pub stuck : ending.outcome ≡ outcome.TheVariants.Stuck → Any (λ (t : TaskEnd). is_waiting t.end ≡ true) ending.tasks
 
+-- ---- what is decided
+
+-- nothing of the answer is the host's choice: one worker is asked for, or the mode picks no events
+abbrev pub IsDecided : Options → Type 0
+IsDecided o = (o.workers ≡ 1) ⊎ (picks_events o.mode ≡ false)
+
 -- ---- calls
 
 -- a call of the program: what its devices were and are, and its answer
@@ -37,12 +42,10 @@ pub record Call : Type 0 where
   pub after : Devices
   pub answer : Answer
 
--- its words ask for these options, this is the text that they are about, and its exit code is that of an outcome or of a refusal
+-- these options are wanted, this is the text that they are about, and its exit code is that of an outcome or of a refusal
 pub record IsAnswered (o : Options) (text : List ℕ) (c : Call) : Type 0 where
-  pub words : List (List ℕ)
-  pub asked : options_of words ≡ Some o
   pub about : text_for o c.before.source ≡ Some text
-  pub serves : Serves words c.before c.after c.answer
+  pub serves : Serves (Some o) c.before c.after c.answer
   pub ends : IsOutcome c.answer.status ⊎ (c.answer.status ≡ status.TheVariants.SourceRefused)
 
 -- two calls end with the same status, hand the same run back if any, and their sinks took the same bytes

@@ -68,10 +68,11 @@ pub record IsRunOf (P : ProgramParts) (shape : Shape) (fuel : ℕ) (r : RunRecor
   -- without locks the program and the fuel alone decide how it ends
   pub lock_free : P.locks ≡ [] → IsWithoutGrants P fuel r
 
--- it is a run on the machine that the options ask for, and the one of their seed, whose words picked its events
-pub record IsSeedsRun (P : ProgramParts) (o : Options) (r : RunRecord) : Type 0 where
+-- r is a run on the machine that the options ask for; by one worker it is the one of their seed, whose words picked its events,
+-- and by more the host decides which event comes first
+pub record IsRunFor (P : ProgramParts) (o : Options) (r : RunRecord) : Type 0 where
   pub run : IsRunOf P (shape_for P o) o.fuel r
-  pub scheduled : IsScheduled (opened run.setting) o.seed r.events
+  pub scheduled : o.workers ≡ 1 → IsScheduled (opened run.setting) o.seed r.events
 
 -- ---- its output
 
@@ -89,7 +90,7 @@ summed_up r = summary_of r.ending
 -- the program was run: the output hands the run back, says it in these words, and has the status of its outcome
 pub record IsMachineRun (P : ProgramParts) (o : Options) (print : RunRecord → List ℕ) (out : Output) : Type 0 where
   pub run : RunRecord
-  pub is : IsSeedsRun P o run
+  pub is : IsRunFor P o run
   pub answer : out ≡ output_of_run (print run) run
 
 -- ---- its timing
@@ -112,7 +113,7 @@ ticks_for o = record { kinds = map (ticks_of o) all_kinds }
 -- the program was run and timed: the output hands the run back, sums it up, and then tells its longest chain of events
 pub record IsTimedRun (P : ProgramParts) (o : Options) (out : Output) : Type 0 where
   pub run : RunRecord
-  pub is : IsSeedsRun P o run
+  pub is : IsRunFor P o run
   -- an event of each kind takes 1 to 1,000,000 ticks
   pub limits : AreWithinLimits (ticks_for o)
   pub timing : Timing

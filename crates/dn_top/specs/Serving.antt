@@ -13,8 +13,9 @@ use Rattle.work_gen.specs.Work.{work_of}
 use Rattle.command_words.specs.declared.options.Mode.{Mode}
 use Rattle.command_words.specs.declared.options.Mode as mode
 use Rattle.command_words.specs.declared.options.Options.{Options}
-use Rattle.command_words.specs.Command.{options_of}
 use Rattle.dn_top.specs.declared.output.Output.{Output}
+use Rattle.dn_top.specs.declared.reading.ReadError as reading
+use Rattle.dn_top.specs.declared.reading.ReadError.{ReadError}
 use Rattle.dn_top.specs.declared.serving.Answer.{Answer}
 use Rattle.dn_top.specs.Answers.{most_read, makes_run, IsDone, IsRefusal, IsAnswer, IsOutcome, usage_line}
 use Rattle.dn_top.specs.Runs.{shape_for, IsRunOf}
@@ -36,10 +37,10 @@ abbrev pub read_by : Option ℕ → Device → Device → Type 0
 read_by None before after = IsUntouched before after
 read_by (Some most) before after = after.bytes ≡ Some []
 
--- the words ask for options, and this holds of them and their text, where the source tells it
-pub record ForText (words : List (List ℕ)) (source : Device) (Holds : Options → List ℕ → Type 0) : Type 0 where
+-- options are wanted, and this holds of them and their text, where the source tells it
+pub record ForText (wanted : Option Options) (source : Device) (Holds : Options → List ℕ → Type 0) : Type 0 where
   pub options : Options
-  pub asked : options_of words ≡ Some options
+  pub asked : wanted ≡ Some options
   pub text : IfSome (text_for options source) (Holds options)
 
 -- ---- what a status says of a text
@@ -94,41 +95,51 @@ pub record HandsBack (o : Options) (answer : Answer) : Type 0 where
   pub comes : is_some answer.run ≡ makes_run o.mode
   pub run : IfSome answer.run (IsRunWith o.mode o answer.status)
 
--- how many bytes words have the program read at most: None where they are refused or their mode generates its text
-abbrev pub most_asked : List (List ℕ) → Option ℕ
-most_asked words = option_and_then (λ (o : Options). most_read o.mode) (options_of words)
+-- how many bytes the program reads at most: None where the words are refused or their mode generates its text
+abbrev pub most_asked : Option Options → Option ℕ
+most_asked wanted = option_and_then (λ (o : Options). most_read o.mode) wanted
+
+-- the same options, by one worker
+abbrev pub alone : Options → Options
+alone o = record o { workers = 1 }
 
 -- ---- a call
 
--- what a call with these words says by its answer, where the devices were `before` and are `after`
-pub record Serves (words : List (List ℕ)) (before after : Devices) (answer : Answer) : Type 0 where
+-- what a call says by its answer, where the devices were `before` and are `after`, and these options are wanted; None where the
+-- words aren't the command's
+pub record Serves (wanted : Option Options) (before after : Devices) (answer : Answer) : Type 0 where
   -- an outcome comes only where what the words ask for was done with the text, and all of the answer was written
-  pub done : IsOutcome answer.status → ForText words before.source (λ o text. HasDone o before after text answer)
+  pub done : IsOutcome answer.status → ForText wanted before.source (λ o text. HasDone o before after text answer)
   -- there a run is handed back exactly in the modes that make one, also where the source doesn't tell its text
-  pub handed_back : IsOutcome answer.status → IfSome (options_of words) (λ o. HandsBack o answer)
+  pub handed_back : IsOutcome answer.status → IfSome wanted (λ o. HandsBack o answer)
   -- with any other status no run is handed back
   pub no_run : ¬ IsOutcome answer.status → answer.run ≡ None
   -- Usage comes only where the words aren't the command's, and the line that says so was written
-  pub usage : answer.status ≡ status.TheVariants.Usage → (options_of words ≡ None) × Took before.sink after.sink usage_line
+  pub usage : answer.status ≡ status.TheVariants.Usage → (wanted ≡ None) × Took before.sink after.sink usage_line
   -- and it comes there, unless the sink failed or there was no memory
-  pub usage_comes : options_of words ≡ None → (answer.status ≡ status.TheVariants.Usage)
+  pub usage_comes : wanted ≡ None → (answer.status ≡ status.TheVariants.Usage)
       ⊎ ((answer.status ≡ status.TheVariants.Memory) ⊎ ((answer.status ≡ status.TheVariants.WriteFault) × Failed before.sink after.sink))
   -- SourceRefused comes only where the mode refuses the text, and the line of its first fault was written
-  pub refused : answer.status ≡ status.TheVariants.SourceRefused → ForText words before.source (λ o text. HasRefused o before after text)
+  pub refused : answer.status ≡ status.TheVariants.SourceRefused → ForText wanted before.source (λ o text. HasRefused o before after text)
   -- ReadFault comes only where the source failed; nothing was written
   pub read_fault : answer.status ≡ status.TheVariants.ReadFault → Failed before.source after.source × TookNothing before.sink after.sink
   -- WriteFault comes only where the sink failed; it took a front of what was to be written
-  pub write_fault : answer.status ≡ status.TheVariants.WriteFault → Failed before.sink after.sink × has_stopped (options_of words) before after
+  pub write_fault : answer.status ≡ status.TheVariants.WriteFault → Failed before.sink after.sink × has_stopped wanted before after
   -- where there was no memory nothing was written
   pub memory : answer.status ≡ status.TheVariants.Memory → TookNothing before.sink after.sink
   -- the source is left alone where the words are refused, and in a mode that generates its text
-  pub unread : most_asked words ≡ None → IsUntouched before.source after.source
+  pub unread : most_asked wanted ≡ None → IsUntouched before.source after.source
   -- options and a text that the source tells have their answer's status, unless a device failed or there was no memory
-  pub complete : (o : Options) → options_of words ≡ Some o → (text : List ℕ) → text_for o before.source ≡ Some text
+  pub complete : (o : Options) → wanted ≡ Some o → (text : List ℕ) → text_for o before.source ≡ Some text
       → ¬ Failed before.source after.source → ¬ Failed before.sink after.sink
       → HasStatus o text answer.status ⊎ (answer.status ≡ status.TheVariants.Memory)
 
 -- ---- its parts
+
+-- the status where there is no text
+abbrev pub status_of_read : ReadError → Status
+status_of_read reading.TheVariants.Failed = status.TheVariants.ReadFault
+status_of_read reading.TheVariants.NoMemory = status.TheVariants.Memory
 
 -- the answer of an output that was written, and one that is a status alone
 abbrev pub answer_to : Output → Answer

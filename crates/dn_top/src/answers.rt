@@ -1,16 +1,17 @@
-ghost use Rattle.std.specs.Prelude.{◌≡◌, ◌≤◌, IfOk, IfErr};
+ghost use Rattle.std.specs.Prelude.{◌≡◌, ◌≢◌, ◌≤◌, IfOk, IfErr};
 ghost use Rattle.region_table.specs.Program.{names_of};
 ghost use Rattle.rv_assembler.specs.Names.{AreDeclaredNames};
 ghost use Rattle.run_report.specs.Summary.{checked_of as counts_of};
 ghost use Rattle.command_words.specs.Command.{IsWithinLimits};
-ghost use Rattle.dn_top.specs.Answers.{IsAnswer, IsFlatRun, IsListing, IsProof, IsStop, answered, done_in, refused_in};
+ghost use Rattle.dn_top.specs.Answers.{IsAnswer, IsFlatRun, IsListing, IsOutputOf, IsProof, IsStop, answered, done_in, refused_in};
 
 use crate::documents::{replay_document, trace_run};
 use crate::output::{Output, ended};
 use crate::programs::{Stop, checked_of, program_of};
-use crate::runs::{report_run, sum_up_run, time_run_of};
+use crate::runs::{report_run, run_alone, sum_up_run, time_text_run};
+use crate::workers::run_by_workers;
 use command_words::{Mode, Options};
-use dn_base::{Memory, Outcome, Status};
+use dn_base::{Gate, Memory, Outcome, Status};
 use effect_checker::Checked;
 use effect_prover::{prove, prove_text};
 use flat_machine::least_run;
@@ -18,6 +19,8 @@ use region_table::Program;
 use run_report::{answer_text, checked_line, grant_text};
 use rv_listing::listing;
 use std::alloc::Global;
+use std::sync::Wait;
+use std::thread::Threads;
 
 /// Runs a program on one flat memory, and prints its answer and the grants.
 fn run_flat(alloc: Global, fuel: u32, checked: &Checked) -> Result<Output, Memory>
@@ -54,37 +57,69 @@ fn prove_effects(alloc: Global, checked: &Checked) -> Result<Output, Memory>
     Ok(ended(Outcome::Done, prove_text(alloc, &proved)?))
 }
 
-/// What each mode does with a text.
-fn done_by(alloc: Global, options: &Options, text: &[u8]) -> Result<Output, Stop>
+/// What each mode does with a text, on this thread alone.
+fn done_alone(alloc: Global, options: &Options, text: &[u8]) -> Result<Output, Stop>
     requires { IsWithinLimits options.now }
     ensures done { IfOk result (done_in options.now.mode options.now text.now) }
     ensures stop { IfErr result (IsStop (refused_in options.now.mode text.now)) }
 {
     match options.mode {
-        Mode::Run => Ok(report_run(alloc, options, checked_of(alloc, text)?)?),
-        Mode::Work => Ok(sum_up_run(alloc, options, checked_of(alloc, text)?)?),
+        Mode::Run => Ok(report_run(alloc, run_alone(alloc, options, text)?)?),
+        Mode::Work => Ok(sum_up_run(alloc, run_alone(alloc, options, text)?)?),
         Mode::Check => Ok(count(alloc, checked_of(alloc, text)?.program())?),
         Mode::List => Ok(list(alloc, &program_of(alloc, text)?)?),
         Mode::Flat => Ok(run_flat(alloc, options.fuel, &checked_of(alloc, text)?)?),
-        Mode::Trace => Ok(trace_run(alloc, options, text, checked_of(alloc, text)?)?),
+        Mode::Trace => {
+            let run = run_alone(alloc, options, text)?;
+            Ok(trace_run(alloc, options, text, run)?)
+        }
         Mode::Replay => replay_document(alloc, text),
         Mode::Time => {
-            let again = checked_of(alloc, text)?;
-            Ok(time_run_of(alloc, options, checked_of(alloc, text)?, again)?)
+            let run = run_alone(alloc, options, text)?;
+            time_text_run(alloc, options, text, run)
         }
         Mode::Prove => Ok(prove_effects(alloc, &checked_of(alloc, text)?)?),
     }
 }
 
-/// The answer to a text.
+/// What each mode does with a text where several workers are asked for: they make the run of a mode that picks its events.
+fn done_by_workers<R: Threads + Wait + Sync, G: Gate + Sync>(
+    rt: &R,
+    alloc: Global,
+    options: &Options,
+    text: &[u8],
+    gate: &G,
+) -> Result<Output, Stop>
+    requires limits { IsWithinLimits options.now }
+    requires several { options.now.workers ≢ 1 }
+    ensures done { IfOk result (done_in options.now.mode options.now text.now) }
+    ensures stop { IfErr result (IsStop (refused_in options.now.mode text.now)) }
+{
+    match options.mode {
+        Mode::Run => Ok(report_run(alloc, run_by_workers(rt, alloc, options, text, gate)?)?),
+        Mode::Work => Ok(sum_up_run(alloc, run_by_workers(rt, alloc, options, text, gate)?)?),
+        Mode::Trace => {
+            let run = run_by_workers(rt, alloc, options, text, gate)?;
+            Ok(trace_run(alloc, options, text, run)?)
+        }
+        Mode::Time => {
+            let run = run_by_workers(rt, alloc, options, text, gate)?;
+            time_text_run(alloc, options, text, run)
+        }
+        Mode::Check | Mode::List | Mode::Flat | Mode::Replay | Mode::Prove => {
+            done_alone(alloc, options, text)
+        }
+    }
+}
+
+/// The output of what was done.
 ///
 /// # Errors
-/// `Memory` where there is no room for the program, its run or the answer.
-pub(crate) fn output_of(alloc: Global, options: &Options, text: &[u8]) -> Result<Output, Memory>
-    requires { IsWithinLimits options.now }
-    ensures { IfOk result (IsAnswer options.now text.now) }
+/// `Memory` where there was no room.
+fn output_from(done: Result<Output, Stop>) -> Result<Output, Memory>
+    ensures { IfOk result (IsOutputOf done) }
 {
-    match done_by(alloc, options, text) {
+    match done {
         Ok(output) => Ok(output),
         Err(Stop::Refused(line)) => Ok(Output {
             status: Status::SourceRefused,
@@ -93,4 +128,33 @@ pub(crate) fn output_of(alloc: Global, options: &Options, text: &[u8]) -> Result
         }),
         Err(Stop::Memory) => Err(Memory),
     }
+}
+
+/// The answer to a text, made by this thread alone.
+///
+/// # Errors
+/// `Memory` where there is no room for the program, its run or the answer.
+pub(crate) fn output_alone(alloc: Global, options: &Options, text: &[u8]) -> Result<Output, Memory>
+    requires { IsWithinLimits options.now }
+    ensures { IfOk result (IsAnswer options.now text.now) }
+{
+    output_from(done_alone(alloc, options, text))
+}
+
+/// The answer to a text, its run made by several workers.
+///
+/// # Errors
+/// `Memory` where there is no room for the program, its run or the answer.
+pub(crate) fn output_by_workers<R: Threads + Wait + Sync, G: Gate + Sync>(
+    rt: &R,
+    alloc: Global,
+    options: &Options,
+    text: &[u8],
+    gate: &G,
+) -> Result<Output, Memory>
+    requires limits { IsWithinLimits options.now }
+    requires several { options.now.workers ≢ 1 }
+    ensures { IfOk result (IsAnswer options.now text.now) }
+{
+    output_from(done_by_workers(rt, alloc, options, text, gate))
 }

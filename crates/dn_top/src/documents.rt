@@ -1,16 +1,15 @@
-ghost use Rattle.std.specs.Prelude.{◌≡◌, ◌≢◌, Ok, IfOk, IfErr};
-ghost use Rattle.rv_assembler.specs.Source.{source};
+ghost use Rattle.std.specs.Prelude.{◌≡◌, ◌≢◌, All, IfOk, IfErr};
 ghost use Rattle.run_replay.specs.declared.trace.TraceFault.TheVariants.{Memory as NoMemory};
 ghost use Rattle.run_replay.specs.declared.refusal.TraceRefusal.TheVariants.{Fault as OfFault};
-ghost use Rattle.run_replay.specs.Document.{IsDocument, IsTrace};
+ghost use Rattle.run_replay.specs.Document.{IsDocument, IsTold, IsTrace};
 ghost use Rattle.run_replay.specs.Refusal.{refusal_text};
 ghost use Rattle.command_words.specs.Command.{IsWithinLimits};
-ghost use Rattle.dn_top.specs.Answers.{IsRefusedDocument, IsReplayed, IsStop};
+ghost use Rattle.dn_top.specs.Answers.{HasChecked, HasRun, IsRefusedDocument, IsReplayed, IsStop};
 ghost use Rattle.dn_top.specs.Documents.{IsNoDocument, IsNoRun, IsReplayedRun, IsTracedRun, shape_told, sizes_of};
 
 use crate::output::Output;
 use crate::programs::{Stop, checked_of};
-use crate::runs::{handed_back, machine_run, reported_run};
+use crate::runs::{handed_back, report_run};
 use command_words::Options;
 use dn_base::{Memory, Sequence, Shape};
 use dn_machine::RunRecord;
@@ -34,18 +33,18 @@ fn sizes_of(options: &Options) -> TraceShape
     }
 }
 
-/// Runs the program of a text on the machine, and writes the document of the run.
+/// Writes the document of a run of a text's program, and hands the run back.
 pub(crate) fn trace_run(
     alloc: Global,
     options: &Options,
     text: &[u8],
-    checked: Checked,
+    run: RunRecord,
 ) -> Result<Output, Memory>
     requires limits { IsWithinLimits options.now }
-    requires program { source text.now ≡ Ok checked }
-    ensures { IfOk result (IsTracedRun checked options.now text.now) }
+    requires run { HasRun options.now text.now run }
+    requires told { All IsTold run.events }
+    ensures { IfOk result (λ out. HasChecked text.now (λ P. IsTracedRun P options.now text.now out)) }
 {
-    let run = machine_run(alloc, options, checked)?;
     let document = trace_text(alloc, text, sizes_of(options), run.events.as_slice())?;
     Ok(handed_back(document, run))
 }
@@ -100,7 +99,7 @@ fn run_again(alloc: Global, trace: Trace, checked: Checked) -> Result<Output, St
             ending,
             grants,
             counts,
-        } => Ok(reported_run(
+        } => Ok(report_run(
             alloc,
             RunRecord {
                 events: trace.events,

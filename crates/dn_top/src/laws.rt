@@ -9,9 +9,9 @@ ghost use Rattle.dn_machine.specs.declared.record.RunRecord.{RunRecord};
 ghost use Rattle.command_words.specs.declared.options.Mode.TheVariants.{Replay, Run, Trace};
 ghost use Rattle.command_words.specs.declared.options.Options.{Options};
 ghost use Rattle.dn_top.specs.declared.output.Output.{Output};
-ghost use Rattle.dn_top.specs.Answers.{IsAnswer, done_in};
-ghost use Rattle.dn_top.specs.Laws.{Call, GaveOneOutput, IsAnswered, IsCaused};
-ghost use Rattle.dn_top.specs.Runs.{IsRunOf, IsSeedsRun};
+ghost use Rattle.dn_top.specs.Answers.{IsAnswer, IsRefusal, done_in};
+ghost use Rattle.dn_top.specs.Laws.{Call, GaveOneOutput, IsAnswered, IsCaused, IsDecided};
+ghost use Rattle.dn_top.specs.Runs.{IsRunFor, IsRunOf, output_of_run, reported};
 
 /// A run that is out of fuel or stuck is so because of its tasks.
 pub fn an_outcome_has_its_cause()
@@ -24,18 +24,22 @@ pub fn without_locks_every_run_ends_alike()
     ensures { (P : ProgramParts) (machine other : Shape) (fuel : ℕ) (r s : RunRecord) → IsRunOf P machine fuel r → IsRunOf P other fuel s → P.locks ≡ [] → r.ending ≡ s.ending }
 {}
 
-/// What the mode trace writes of a text is answered by the mode replay as the mode run answers the text: with its bytes, its
-/// status and its run.
+/// What the mode trace writes of a text's run is answered by the mode replay with the report of that run, and its status; by one
+/// worker that is how the mode run answers the text, with its bytes, its status and its run.
 pub fn a_trace_replays_as_its_run()
-    ensures { (o p : Options) (text : List ℕ) (document answer : Output) → done_in Trace o text document → done_in Run o text answer
-        → done_in Replay p document.bytes answer }
+    ensures report { (o p : Options) (text : List ℕ) (document : Output) (run : RunRecord) → done_in Trace o text document → document.run ≡ Some run
+        → done_in Run o text (output_of_run (reported run) run) × done_in Replay p document.bytes (output_of_run (reported run) run) }
+    ensures run { (o p : Options) (text : List ℕ) (document answer : Output) → o.workers ≡ 1 → done_in Trace o text document
+        → done_in Run o text answer → done_in Replay p document.bytes answer }
 {}
 
-/// The output is a function of the source and the options: a program and options have one run, with its events, its grants, its
-/// counts and its ending; a text and options have one answer, with its bytes, its status and its run; and two calls with the same
-/// options about one text, each of which ends with the exit code of an outcome or of a refusal, write and hand back the same.
+/// By one worker, and in a mode that picks no events, the output is a function of the source and the options: a program and
+/// options have one run, with its events, its grants, its counts and its ending; a text and options have one answer, with its
+/// bytes, its status and its run; and two calls with the same options about one text, each of which ends with the exit code of an
+/// outcome or of a refusal, write and hand back the same. Whether a text is refused, and with which line, is never the host's.
 pub fn the_output_is_a_function_of_source_and_options()
-    ensures run { (P : ProgramParts) (o : Options) (r s : RunRecord) → IsSeedsRun P o r → IsSeedsRun P o s → r ≡ s }
-    ensures answer { (o : Options) (text : List ℕ) (out other : Output) → IsAnswer o text out → IsAnswer o text other → out ≡ other }
-    ensures call { (o : Options) (text : List ℕ) (c d : Call) → IsAnswered o text c → IsAnswered o text d → GaveOneOutput c d }
+    ensures run { (P : ProgramParts) (o : Options) (r s : RunRecord) → o.workers ≡ 1 → IsRunFor P o r → IsRunFor P o s → r ≡ s }
+    ensures answer { (o : Options) (text : List ℕ) (out other : Output) → IsDecided o → IsAnswer o text out → IsAnswer o text other → out ≡ other }
+    ensures refusal { (o : Options) (text : List ℕ) (out other : Output) → IsRefusal o text out → IsAnswer o text other → out ≡ other }
+    ensures call { (o : Options) (text : List ℕ) (c d : Call) → IsDecided o → IsAnswered o text c → IsAnswered o text d → GaveOneOutput c d }
 {}

@@ -1,9 +1,12 @@
 //! The program denovo, all but its `main`: it takes command words and a text, and writes its answer or why it refuses.
 #![tactic(auto)]
 
-ghost use Rattle.std.specs.Prelude.{◌≡◌, map, string_bytes};
-ghost use Rattle.dn_top.specs.Outside.{devices};
-ghost use Rattle.dn_top.specs.Serving.{Serves};
+ghost use Rattle.std.specs.Prelude.{◌≡◌, map, string_bytes, None};
+ghost use Rattle.std.specs.Option.{option_map};
+ghost use Rattle.command_words.specs.Command.{IsWithinLimits, options_of};
+ghost use Rattle.dn_top.specs.Answers.{most_read};
+ghost use Rattle.dn_top.specs.Outside.{IsUntouched, device, devices};
+ghost use Rattle.dn_top.specs.Serving.{IsDoneBy, Serves, alone};
 
 use dn_base::{Gate, Sink, Source, Status};
 use std::alloc::Global;
@@ -18,8 +21,7 @@ mod programs;
 mod reading;
 mod runs;
 mod serving;
-#[cfg(test)]
-mod tests;
+mod workers;
 mod writing;
 
 pub use command_words::{Mode, Options, WordsFault, read_words};
@@ -29,9 +31,9 @@ pub use laws::{
     the_output_is_a_function_of_source_and_options, without_locks_every_run_ends_alike,
 };
 pub use serving::Answer;
-use serving::{answer_options, refuse_words, status_only};
+use serving::{answer_alone, answer_by_workers, refuse_words, status_only};
 
-/// Answers these command words and this source on one thread.
+/// Answers these command words and this source on one thread, whatever number of workers is asked for.
 ///
 /// `Usage` where the words aren't the command's. In the mode work the text is the generated one of the size that is asked
 /// for; in the others the source is read whole, or one byte past the most that a text, or in the mode replay a document, may
@@ -41,38 +43,79 @@ use serving::{answer_options, refuse_words, status_only};
 /// alone. In the mode replay the source is the document of a run, as the mode trace writes it: its text is taken as the program,
 /// and its events are made on the machine of its size, and that run is handed back where it is complete. The whole answer is
 /// made, and only then written and flushed. What refuses first decides.
+///
+/// It waits for nobody.
 pub fn answer_words<S: Source, K: Sink>(
     alloc: Global,
     words: &[String],
     source: &mut S,
     sink: &mut K,
 ) -> Answer
-    ensures serves { Serves (map string_bytes words.now)
+    ensures serves { Serves (option_map alone (options_of (map string_bytes words.now)))
         (devices (S.told source.old) (S.faults source.old) (K.told sink.old) (K.faults sink.old))
         (devices (S.told source.new) (S.faults source.new) (K.told sink.new) (K.faults sink.new)) result }
 {
     match read_words(alloc, words) {
-        Ok(options) => answer_options(alloc, &options, source, sink),
+        Ok(options) => answer_alone(alloc, &alone(options), source, sink),
         Err(WordsFault::Usage) => refuse_words(sink),
         Err(WordsFault::Memory) => status_only(Status::Memory),
     }
 }
 
+/// The same options, by one worker.
+fn alone(options: Options) -> Options
+    ensures { result ≡ alone options }
+{
+    Options {
+        workers: 1,
+        ..options
+    }
+}
+
+/// Answers words that ask for these options: by one worker on this thread alone, and by more on a thread for each.
+fn answer_options<R: Threads + Wait + Sync, S: Source, K: Sink, G: Gate + Sync>(
+    rt: &R,
+    alloc: Global,
+    options: &Options,
+    source: &mut S,
+    sink: &mut K,
+    gate: &G,
+) -> Answer
+    requires { IsWithinLimits options.now }
+    ensures served { IsDoneBy options.now
+        (devices (S.told source.old) (S.faults source.old) (K.told sink.old) (K.faults sink.old))
+        (devices (S.told source.new) (S.faults source.new) (K.told sink.new) (K.faults sink.new)) result }
+    ensures unread { most_read options.now.mode ≡ None
+        → IsUntouched (device (S.told source.old) (S.faults source.old)) (device (S.told source.new) (S.faults source.new)) }
+{
+    if options.workers == 1 {
+        answer_alone(alloc, options, source, sink)
+    } else {
+        answer_by_workers(rt, alloc, options, source, sink, gate)
+    }
+}
+
 /// The whole program but its `main`: answers these command words and this source.
 ///
-/// A run of the multicore machine is made by one host thread for now, whatever number of workers is asked for, so that the
-/// runtime and the gate aren't used.
+/// It is `answer_words` but for the workers. With one worker the run is made by this thread alone, by the events that the seed
+/// picks, and the call waits for nobody. With 2 to 16 it is made by as many host threads, in rounds, and which event comes first
+/// is the host's: what holds of a run of one worker holds of each such run, but two calls may make two runs. The threads wait for
+/// turns, inside which the gate is called, so that what is promised then is promised if the call returns.
 pub fn denovo_main<R: Threads + Wait + Sync, S: Source, K: Sink, G: Gate + Sync>(
-    _rt: &R,
+    rt: &R,
     alloc: Global,
     words: &[String],
     source: &mut S,
     sink: &mut K,
-    _gate: &G,
+    gate: &G,
 ) -> Answer
-    ensures serves { Serves (map string_bytes words.now)
+    ensures serves { Serves (options_of (map string_bytes words.now))
         (devices (S.told source.old) (S.faults source.old) (K.told sink.old) (K.faults sink.old))
         (devices (S.told source.new) (S.faults source.new) (K.told sink.new) (K.faults sink.new)) result }
 {
-    answer_words(alloc, words, source, sink)
+    match read_words(alloc, words) {
+        Ok(options) => answer_options(rt, alloc, &options, source, sink, gate),
+        Err(WordsFault::Usage) => refuse_words(sink),
+        Err(WordsFault::Memory) => status_only(Status::Memory),
+    }
 }

@@ -1,11 +1,13 @@
-ghost use Rattle.std.specs.Prelude.{◌≡◌, ◌≤◌, ◌++◌, All, length, IfOk};
+ghost use Rattle.std.specs.Prelude.{◌≡◌, ◌≤◌, ◌++◌, All, length, IfOk, IfErr};
 ghost use Rattle.command_words.specs.Command.{IsWithinLimits};
 ghost use Rattle.run_report.specs.Summary.{summary_of};
 ghost use Rattle.run_replay.specs.Document.{IsTold};
 ghost use Rattle.run_timing.specs.Text.{timing_of};
-ghost use Rattle.dn_top.specs.Runs.{IsMachineRun, IsPrintable, IsSeedsRun, IsTimedRun, output_of_run, reported, shape_for, summed_up, ticks_for};
+ghost use Rattle.dn_top.specs.Answers.{HasChecked, HasRun, IsStop, IsUnfit};
+ghost use Rattle.dn_top.specs.Runs.{IsPrintable, IsRunFor, IsTimedRun, output_of_run, reported, shape_for, summed_up, ticks_for};
 
 use crate::output::Output;
+use crate::programs::{Stop, checked_of};
 use command_words::Options;
 use dn_base::{Memory, Sequence, Shape, Status};
 use dn_machine::{Machine, RunRecord, a_machine_is_kept};
@@ -18,7 +20,7 @@ use rv_core::Ending;
 use std::alloc::Global;
 
 /// The shape that the options ask for: as many cores as the program needs, and their banks, sets and ways.
-fn shape_of(options: &Options, program: &Program) -> Shape
+pub(crate) fn shape_of(options: &Options, program: &Program) -> Shape
     ensures { result ≡ shape_for program.now options.now }
 {
     Shape {
@@ -30,20 +32,16 @@ fn shape_of(options: &Options, program: &Program) -> Shape
 }
 
 /// There is a count of each of the seventeen kinds.
-fn has_each_kind(counts: &Counts)
+pub(crate) fn has_each_kind(counts: &Counts)
     ensures { length counts.now.kinds ≡ 17 }
 {
     let _kinds = &counts.kinds;
 }
 
-/// Runs a checked program on the machine that the options ask for, by their seed.
-pub(crate) fn machine_run(
-    alloc: Global,
-    options: &Options,
-    checked: Checked,
-) -> Result<RunRecord, Memory>
+/// Runs a checked program on the machine that the options ask for, by their seed, on this thread alone.
+fn machine_run(alloc: Global, options: &Options, checked: Checked) -> Result<RunRecord, Memory>
     requires { IsWithinLimits options.now }
-    ensures run { IfOk result (IsSeedsRun checked options.now) }
+    ensures run { IfOk result (IsRunFor checked options.now) }
     ensures told { IfOk result (λ run. All IsTold run.events) }
     ensures printable { IfOk result IsPrintable }
 {
@@ -54,6 +52,17 @@ pub(crate) fn machine_run(
     let _events = run.events.len();
     has_each_kind(&run.counts);
     Ok(run)
+}
+
+/// The run of a text's program by one worker.
+pub(crate) fn run_alone(alloc: Global, options: &Options, text: &[u8]) -> Result<RunRecord, Stop>
+    requires { IsWithinLimits options.now }
+    ensures run { IfOk result (HasRun options.now text.now) }
+    ensures told { IfOk result (λ run. All IsTold run.events) }
+    ensures printable { IfOk result IsPrintable }
+    ensures stop { IfErr result (IsStop (IsUnfit text.now)) }
+{
+    Ok(machine_run(alloc, options, checked_of(alloc, text)?)?)
 }
 
 /// The output that hands a run back, with this text.
@@ -68,7 +77,7 @@ pub(crate) fn handed_back(text: Vec<u8>, run: RunRecord) -> Output
 }
 
 /// Prints a run's answer, its grants and its counts, and hands it back.
-pub(crate) fn reported_run(alloc: Global, run: RunRecord) -> Result<Output, Memory>
+pub(crate) fn report_run(alloc: Global, run: RunRecord) -> Result<Output, Memory>
     requires { IsPrintable run }
     ensures { IfOk result (λ out. out ≡ output_of_run (reported run) run) }
 {
@@ -76,28 +85,11 @@ pub(crate) fn reported_run(alloc: Global, run: RunRecord) -> Result<Output, Memo
     Ok(handed_back(text, run))
 }
 
-/// Runs a program on the machine, and prints its answer, its grants and its counts.
-pub(crate) fn report_run(
-    alloc: Global,
-    options: &Options,
-    checked: Checked,
-) -> Result<Output, Memory>
-    requires { IsWithinLimits options.now }
-    ensures { IfOk result (IsMachineRun checked options.now reported) }
+/// Sums up how a run ended, and hands it back.
+pub(crate) fn sum_up_run(alloc: Global, run: RunRecord) -> Result<Output, Memory>
+    requires { IsPrintable run }
+    ensures { IfOk result (λ out. out ≡ output_of_run (summed_up run) run) }
 {
-    reported_run(alloc, machine_run(alloc, options, checked)?)
-}
-
-/// Runs a program on the machine, and sums up.
-pub(crate) fn sum_up_run(
-    alloc: Global,
-    options: &Options,
-    checked: Checked,
-) -> Result<Output, Memory>
-    requires { IsWithinLimits options.now }
-    ensures { IfOk result (IsMachineRun checked options.now summed_up) }
-{
-    let run = machine_run(alloc, options, checked)?;
     let text = summary(alloc, &run.ending)?;
     Ok(handed_back(text, run))
 }
@@ -127,24 +119,23 @@ fn timed_text(alloc: Global, ending: &Ending, timing: &Timing) -> Result<Vec<u8>
     Ok(text)
 }
 
-/// Runs a program on the machine, sums up, and tells the longest chain of the run's events. The program is handed in twice, as
-/// the run and the timing use up one each.
-pub(crate) fn time_run_of(
+/// Sums up how a run of a program ended, tells the longest chain of its events, and hands it back.
+fn time_run_of(
     alloc: Global,
     options: &Options,
     checked: Checked,
-    again: Checked,
+    run: RunRecord,
 ) -> Result<Output, Memory>
     requires limits { IsWithinLimits options.now }
-    requires same { again ≡ checked }
+    requires run { IsRunFor checked options.now run }
+    requires printable { IsPrintable run }
     ensures { IfOk result (IsTimedRun checked options.now) }
 {
-    let shape = shape_of(options, again.program());
-    let run = machine_run(alloc, options, checked)?;
+    let shape = shape_of(options, checked.program());
     let events = run.events.as_slice();
     let timing = time_run(
         alloc,
-        again,
+        checked,
         shape,
         options.fuel,
         events,
@@ -152,4 +143,23 @@ pub(crate) fn time_run_of(
     )?;
     let text = timed_text(alloc, &run.ending, &timing)?;
     Ok(handed_back(text, run))
+}
+
+/// Times a run of a text's program.
+///
+/// # Errors
+/// `Memory` where there is no room.
+pub(crate) fn time_text_run(
+    alloc: Global,
+    options: &Options,
+    text: &[u8],
+    run: RunRecord,
+) -> Result<Output, Stop>
+    requires limits { IsWithinLimits options.now }
+    requires run { HasRun options.now text.now run }
+    requires printable { IsPrintable run }
+    ensures ok { IfOk result (λ out. HasChecked text.now (λ P. IsTimedRun P options.now out)) }
+    ensures stop { IfErr result (IsStop (IsUnfit text.now)) }
+{
+    Ok(time_run_of(alloc, options, checked_of(alloc, text)?, run)?)
 }

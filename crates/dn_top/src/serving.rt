@@ -1,17 +1,20 @@
-ghost use Rattle.std.specs.Prelude.{◌≡◌, ◌≤◌};
+ghost use Rattle.std.specs.Prelude.{◌≡◌, ◌≢◌, ◌≤◌, ℕ, List, None, IfOk};
+ghost use Rattle.command_words.specs.declared.options.Options.{Options as OptionsOf};
 ghost use Rattle.command_words.specs.Command.{IsWithinLimits};
-ghost use Rattle.dn_top.specs.Answers.{answered, most_read, usage_line};
+ghost use Rattle.dn_top.specs.Answers.{IsAnswer, answered, most_read, usage_line};
 ghost use Rattle.dn_top.specs.Outside.{IsUntouched, device, devices};
-ghost use Rattle.dn_top.specs.Serving.{bare, IsDoneBy, IsFinished, IsReplied};
+ghost use Rattle.dn_top.specs.Serving.{bare, IsDoneBy, IsFinished, IsReplied, status_of_read};
 
-use crate::answers::output_of;
+use crate::answers::{output_alone, output_by_workers};
 use crate::output::Output;
 use crate::reading::{ReadError, take_text};
 use crate::writing::write_text;
 use command_words::Options;
-use dn_base::{Sink, Source, Status};
+use dn_base::{Gate, Memory, Sink, Source, Status};
 use dn_machine::RunRecord;
 use std::alloc::Global;
+use std::sync::Wait;
+use std::thread::Threads;
 
 /// What the program answers besides what it writes.
 #[derive(Debug, Drop)]
@@ -48,19 +51,29 @@ pub(crate) fn refuse_words<K: Sink>(sink: &mut K) -> Answer
     finish(sink, b"refused usage\n", Status::Usage, None)
 }
 
-/// Makes and writes the answer to a text.
-fn reply<K: Sink>(alloc: Global, options: &Options, text: &[u8], sink: &mut K) -> Answer
-    requires { IsWithinLimits options.now }
-    ensures { IsReplied options.now (device (K.told sink.old) (K.faults sink.old)) (device (K.told sink.new) (K.faults sink.new)) text.now result }
+/// Writes the answer to a text, where there was memory for it.
+fn reply<K: Sink>(sink: &mut K, output: Result<Output, Memory>) -> Answer
+    ensures { (o : OptionsOf) (text : List ℕ) → IfOk output (IsAnswer o text)
+        → IsReplied o (device (K.told sink.old) (K.faults sink.old)) (device (K.told sink.new) (K.faults sink.new)) text result }
 {
-    match output_of(alloc, options, text) {
+    match output {
         Ok(Output { status, bytes, run }) => finish(sink, bytes.as_slice(), status, run),
         Err(_) => status_only(Status::Memory),
     }
 }
 
-/// Does what options ask for.
-pub(crate) fn answer_options<S: Source, K: Sink>(
+/// The answer where there is no text.
+fn unread(error: ReadError) -> Answer
+    ensures { result ≡ bare (status_of_read error) }
+{
+    match error {
+        ReadError::Failed => status_only(Status::ReadFault),
+        ReadError::NoMemory => status_only(Status::Memory),
+    }
+}
+
+/// Does what options ask for, on this thread alone.
+pub(crate) fn answer_alone<S: Source, K: Sink>(
     alloc: Global,
     options: &Options,
     source: &mut S,
@@ -74,8 +87,33 @@ pub(crate) fn answer_options<S: Source, K: Sink>(
         → IsUntouched (device (S.told source.old) (S.faults source.old)) (device (S.told source.new) (S.faults source.new)) }
 {
     match take_text(alloc, options, source) {
-        Ok(text) => reply(alloc, options, text.as_slice(), sink),
-        Err(ReadError::Failed) => status_only(Status::ReadFault),
-        Err(ReadError::NoMemory) => status_only(Status::Memory),
+        Ok(text) => reply(sink, output_alone(alloc, options, text.as_slice())),
+        Err(error) => unread(error),
+    }
+}
+
+/// Does what options ask for, the run made by several workers.
+pub(crate) fn answer_by_workers<R: Threads + Wait + Sync, S: Source, K: Sink, G: Gate + Sync>(
+    rt: &R,
+    alloc: Global,
+    options: &Options,
+    source: &mut S,
+    sink: &mut K,
+    gate: &G,
+) -> Answer
+    requires limits { IsWithinLimits options.now }
+    requires several { options.now.workers ≢ 1 }
+    ensures served { IsDoneBy options.now
+        (devices (S.told source.old) (S.faults source.old) (K.told sink.old) (K.faults sink.old))
+        (devices (S.told source.new) (S.faults source.new) (K.told sink.new) (K.faults sink.new)) result }
+    ensures unread { most_read options.now.mode ≡ None
+        → IsUntouched (device (S.told source.old) (S.faults source.old)) (device (S.told source.new) (S.faults source.new)) }
+{
+    match take_text(alloc, options, source) {
+        Ok(text) => {
+            let output = output_by_workers(rt, alloc, options, text.as_slice(), gate);
+            reply(sink, output)
+        }
+        Err(error) => unread(error),
     }
 }

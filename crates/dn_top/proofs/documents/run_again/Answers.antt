@@ -5,8 +5,8 @@ use Rattle.dn_top.specs.Documents.{IsReplayIn}
 use Rattle.dn_top.proofs.ReplayedRun.{replay-at, run-again, prints-again}
 use Rattle.dn_top.proofs.documents.run_again.Goals as goal
 
-pub reported_run-requires : goal.reported_run-requires
-reported_run-requires c =
+pub report_run-requires : goal.report_run-requires
+report_run-requires c =
     let told = replay-at c.args.checked c.program-program.result.now c.args.trace c.shape_told-shape.result c.as_slice-events.result.now c.in_ok-ending.field-0 c.program-program.ensures.value
     c.shape_told-shape.ensures c.as_slice-events.ensures c.in_ok-ending.ensures
     in
@@ -16,8 +16,8 @@ reported_run-requires c =
     refl
     (subst (λ (r : Replayed). IsReplayIn c.args.checked c.args.trace r) c.in-Complete.is told)
 
-pub returns-in_ok-reported_run-in-Complete-clause-ok : goal.returns-in_ok-reported_run-in-Complete-clause-ok
-returns-in_ok-reported_run-in-Complete-clause-ok c =
+pub returns-in_ok-report_run-in-Complete-clause-ok : goal.returns-in_ok-report_run-in-Complete-clause-ok
+returns-in_ok-report_run-in-Complete-clause-ok c =
     let told = replay-at c.args.checked c.program-program.result.now c.args.trace c.shape_told-shape.result c.as_slice-events.result.now c.in_ok-ending.field-0 c.program-program.ensures.value
     c.shape_told-shape.ensures c.as_slice-events.ensures c.in_ok-ending.ensures
     in
@@ -30,5 +30,5 @@ returns-in_ok-reported_run-in-Complete-clause-ok c =
           run-again c.args.checked c.args.trace
           (record { events = c.args.trace.events; grants = c.in-Complete.grants; counts = c.in-Complete.counts; ending = c.in-Complete.ending })
           refl complete;
-      answer = c.in_ok-reported_run-in-Complete.ensures;
+      answer = c.in_ok-report_run-in-Complete.ensures;
     }

@@ -7,8 +7,8 @@ use Rattle.dn_top.proofs.runs.time_run_of.Goals as goal
 
 pub time_run-requires-clause-run : goal.time_run-requires-clause-run
 time_run-requires-clause-run c =
-    run-at c.args.checked c.program.result.now c.args.again c.args.options.now c.shape_of-shape.result c.in_ok-run.run' c.as_slice-events.result.now c.requires.same c.program.ensures.value
-    c.shape_of-shape.ensures c.as_slice-events.ensures c.in_ok-run.ensures.run
+    run-at c.program.result.now c.args.checked c.args.options.now c.shape_of-shape.result c.args.run c.as_slice-events.result.now c.program.ensures.value c.shape_of-shape.ensures
+    c.as_slice-events.ensures c.requires.run
 
 pub time_run-requires-clause-ticks : goal.time_run-requires-clause-ticks
 time_run-requires-clause-ticks c = subst AreWithinLimits (sym c.ticks_of.ensures.value) (ticks-within c.args.options.now c.requires.limits)
@@ -16,12 +16,12 @@ time_run-requires-clause-ticks c = subst AreWithinLimits (sym c.ticks_of.ensures
 pub returns : goal.returns
 returns c =
     record {
-      run = c.in_ok-run.run';
-      is = c.in_ok-run.ensures.run;
+      run = c.args.run;
+      is = c.requires.run;
       limits = ticks-within c.args.options.now c.requires.limits;
       timing = c.in_ok-timing.timing;
       times =
-          times-at c.args.checked c.program.result.now c.args.again c.args.options.now c.shape_of-shape.result c.in_ok-run.run' c.as_slice-events.result.now c.ticks_of.result c.in_ok-timing.timing
-          c.requires.same c.program.ensures.value c.shape_of-shape.ensures c.as_slice-events.ensures c.ticks_of.ensures.value c.in_ok-timing.ensures;
-      answer = c.handed_back.ensures ∙ ap (λ (text : List _). output_of_run text c.in_ok-run.run') c.in_ok-text.ensures;
+          times-at c.program.result.now c.args.checked c.args.options.now c.shape_of-shape.result c.args.run c.as_slice-events.result.now c.ticks_of.result c.in_ok-timing.timing
+          c.program.ensures.value c.shape_of-shape.ensures c.as_slice-events.ensures c.ticks_of.ensures.value c.in_ok-timing.ensures;
+      answer = c.handed_back.ensures ∙ ap (λ (text : List _). output_of_run text c.args.run) c.in_ok-text.ensures;
     }

@@ -1,0 +1,24 @@
+use Rattle.std.proofs.Common.{◌<◌, length, arith}
+use Rattle.dn_top.proofs.RunOf.{at_shape, is-run_by_workers, is-printable, all-told}
+use Rattle.dn_top.proofs.workers.machine_run_by_workers.Goals as goal
+
+pub returns-clause-run : goal.returns-clause-run
+returns-clause-run g c =
+    let m = c.in_ok-machine.machine in
+    let at = at_shape c.args.checked c.program.result.now c.args.options.now c.shape_of-shape.result m c.in_ok-machine.ensures c.shape_of-shape.ensures c.program.ensures.value in
+    let told = c.in_ok-run.ensures in
+    is-run_by_workers c.args.checked c.args.options.now m c.in_ok-run.run' at c.a_machine_is_kept.ensures told c.has_each_kind.ensures c.requires.several
+
+pub returns-clause-told : goal.returns-clause-told
+returns-clause-told g c =
+    let m = c.in_ok-machine.machine in
+    let at = at_shape c.args.checked c.program.result.now c.args.options.now c.shape_of-shape.result m c.in_ok-machine.ensures c.shape_of-shape.ensures c.program.ensures.value in
+    all-told c.args.checked c.args.options.now m c.in_ok-run.run' at c.a_machine_is_kept.ensures c.in_ok-run.ensures.complete.run
+
+pub returns-clause-printable : goal.returns-clause-printable
+returns-clause-printable g c =
+    let m = c.in_ok-machine.machine in
+    let at = at_shape c.args.checked c.program.result.now c.args.options.now c.shape_of-shape.result m c.in_ok-machine.ensures c.shape_of-shape.ensures c.program.ensures.value in
+    let told = c.in_ok-run.ensures in
+    let few : length c.in_ok-run.run'.events < 18446744073709551616 = omega (arith, c.len-events.type_inv, c.len-events.ensures) in
+    is-printable c.args.checked c.args.options.now m c.in_ok-run.run' at c.a_machine_is_kept.ensures told.is_true told.flat c.has_each_kind.ensures few

@@ -1,0 +1,59 @@
+//! Runs that host threads make.
+ghost use Rattle.std.specs.Prelude.{◌≢◌, All, IfOk, IfErr};
+ghost use Rattle.command_words.specs.Command.{IsWithinLimits};
+ghost use Rattle.run_replay.specs.Document.{IsTold};
+ghost use Rattle.dn_top.specs.Answers.{HasRun, IsStop, IsUnfit};
+ghost use Rattle.dn_top.specs.Runs.{IsPrintable, IsRunFor};
+
+use crate::programs::{Stop, checked_of};
+use crate::runs::{has_each_kind, shape_of};
+use command_words::Options;
+use dn_base::{Gate, Memory};
+use dn_machine::{Machine, RunRecord, a_machine_is_kept};
+use effect_checker::Checked;
+use host_workers::run_workers;
+use std::alloc::Global;
+use std::sync::Wait;
+use std::thread::Threads;
+
+/// Runs a checked program on the machine that the options ask for, by several workers, each on a host thread of its own.
+fn machine_run_by_workers<R: Threads + Wait + Sync, G: Gate + Sync>(
+    rt: &R,
+    alloc: Global,
+    options: &Options,
+    checked: Checked,
+    gate: &G,
+) -> Result<RunRecord, Memory>
+    requires limits { IsWithinLimits options.now }
+    requires several { options.now.workers ≢ 1 }
+    ensures run { IfOk result (IsRunFor checked options.now) }
+    ensures told { IfOk result (λ run. All IsTold run.events) }
+    ensures printable { IfOk result IsPrintable }
+{
+    let shape = shape_of(options, checked.program());
+    let machine = Machine::start(alloc, checked, shape, options.fuel)?;
+    a_machine_is_kept(&machine);
+    let run = run_workers(rt, alloc, machine, options.workers, options.seed, gate)?;
+    let _events = run.events.len();
+    has_each_kind(&run.counts);
+    Ok(run)
+}
+
+/// The run of a text's program by several workers.
+pub(crate) fn run_by_workers<R: Threads + Wait + Sync, G: Gate + Sync>(
+    rt: &R,
+    alloc: Global,
+    options: &Options,
+    text: &[u8],
+    gate: &G,
+) -> Result<RunRecord, Stop>
+    requires limits { IsWithinLimits options.now }
+    requires several { options.now.workers ≢ 1 }
+    ensures run { IfOk result (HasRun options.now text.now) }
+    ensures told { IfOk result (λ run. All IsTold run.events) }
+    ensures printable { IfOk result IsPrintable }
+    ensures stop { IfErr result (IsStop (IsUnfit text.now)) }
+{
+    let checked = checked_of(alloc, text)?;
+    Ok(machine_run_by_workers(rt, alloc, options, checked, gate)?)
+}
