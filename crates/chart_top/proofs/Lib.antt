@@ -1,0 +1,4 @@
+pub mod Commands
+pub mod Timed
+pub mod Drawn
+pub mod Pictures

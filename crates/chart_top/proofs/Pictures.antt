@@ -1,0 +1,64 @@
+-- The picture of a run that was replayed.
+use Rattle.std.proofs.Common.{◌≡◌, ℕ, List, refl, sym, ap, subst, ◌∙◌}
+use Rattle.dn_base.specs.declared.ids.Shape.{Shape}
+use Rattle.dn_base.specs.declared.status.Status.{Status}
+use Rattle.dn_base.specs.Status.{status_of}
+use Rattle.region_table.specs.Program.{ProgramParts}
+use Rattle.rv_core.specs.declared.ending.Ending.{Ending}
+use Rattle.message_net.specs.declared.event.Event.{Event}
+use Rattle.grant_log.specs.declared.counts.Counts.{Counts}
+use Rattle.dn_base.specs.declared.ids.Grant.{Grant}
+use Rattle.dn_machine.specs.Settings.{IsRunOn}
+use Rattle.run_replay.specs.declared.trace.Trace.{Trace}
+use Rattle.run_replay.specs.declared.replaying.Replayed.{Replayed}
+use Rattle.run_replay.specs.declared.replaying.Replayed.TheVariants.{Complete}
+use Rattle.run_replay.specs.Replay.{IsReplayOf}
+use Rattle.run_timing.specs.declared.ticks.Ticks.{Ticks}
+use Rattle.run_timing.specs.declared.timing.Timing.{Timing}
+use Rattle.run_timing.specs.Longest.{IsTimingOf, numbers_in}
+use Rattle.message_chart.specs.declared.chart.Chart.{Chart}
+use Rattle.message_chart.specs.Picture.{svg_of}
+use Rattle.run_chart.specs.declared.drawing.Range.{Range}
+use Rattle.run_chart.specs.Charts.{IsChartOf}
+use Rattle.dn_top.specs.Documents.{shape_told, IsReplayIn}
+use Rattle.chart_top.specs.declared.answering.Output.{Output}
+use Rattle.chart_top.specs.declared.options.Options.{Options}
+use Rattle.chart_top.specs.Answers.{IsReplayed, IsPicture, range_for, ticks_for}
+use Rattle.chart_top.proofs.Timed.{run-on}
+
+module _ (P : ProgramParts) (t : Trace) (s : Shape) (events : List Event) where
+  pub run-at : (ending : Ending) → s ≡ shape_told P t.shape → events ≡ t.events → IsReplayed P t ending → IsRunOn P s t.shape.fuel events
+  run-at ending shape are is =
+      subst (λ (es : List Event). IsRunOn P s t.shape.fuel es) (sym are) (subst (λ (x : Shape). IsRunOn P x t.shape.fuel t.events) (sym shape) (run-on P t ending is))
+
+  -- the replay of a shape and events that are the document's, by a program that is this one
+  pub replayed-at : (Q R : ProgramParts) (ending : Ending) (grants : List Grant) (counts : Counts) (r : Replayed) → Q ≡ P → s ≡ shape_told Q t.shape → events ≡ t.events → R ≡ P
+      → IsReplayOf P s t.shape.fuel events r → r ≡ Complete ending grants counts → IsReplayed R t ending
+  replayed-at Q R ending grants counts r program shape are same is complete =
+      let at : s ≡ shape_told P t.shape = shape ∙ ap (λ (p : ProgramParts). shape_told p t.shape) program in
+      let told : IsReplayIn P t (Complete ending grants counts) =
+      subst (λ (x : Replayed). IsReplayIn P t x) complete
+      (subst (λ (es : List Event). IsReplayOf P (shape_told P t.shape) t.shape.fuel es r) are (subst (λ (x : Shape). IsReplayOf P x t.shape.fuel events r) at is))
+      in
+      subst (λ (p : ProgramParts). IsReplayed p t ending) (sym same) (record { grants = grants; counts = counts; is = told })
+
+  pub picture-is : (Q : ProgramParts) (o : Options) (ending : Ending) (ticks : Ticks) (timing : Timing) (marks : List ℕ) (range : Range) (chart : Chart) (status : Status) (text : List ℕ) → Q ≡ P
+      → s ≡ shape_told P t.shape → events ≡ t.events → ticks ≡ ticks_for o → range ≡ range_for o → marks ≡ numbers_in timing.links.items → IsReplayed P t ending
+      → IsTimingOf P s t.shape.fuel events ticks timing → IsChartOf Q s t.shape.fuel events range marks chart → status ≡ status_of ending.outcome → text ≡ svg_of chart
+      → IsPicture P t o (record { status = status; bytes = text })
+  picture-is Q o ending ticks timing marks range chart status text same shape are ticks_are range_is marks_are replayed times charted ends says =
+      record {
+        ending = ending;
+        replayed = replayed;
+        timing = timing;
+        times =
+            subst (λ (x : Ticks). IsTimingOf P (shape_told P t.shape) t.shape.fuel t.events x timing) ticks_are
+            (subst (λ (es : List Event). IsTimingOf P (shape_told P t.shape) t.shape.fuel es ticks timing) are (subst (λ (x : Shape). IsTimingOf P x t.shape.fuel events ticks timing) shape times));
+        chart = chart;
+        is =
+            subst (λ (x : List ℕ). IsChartOf P (shape_told P t.shape) t.shape.fuel t.events (range_for o) x chart) marks_are
+            (subst (λ (x : Range). IsChartOf P (shape_told P t.shape) t.shape.fuel t.events x marks chart) range_is
+            (subst (λ (es : List Event). IsChartOf P (shape_told P t.shape) t.shape.fuel es range marks chart) are
+            (subst (λ (x : Shape). IsChartOf P x t.shape.fuel events range marks chart) shape (subst (λ (p : ProgramParts). IsChartOf p s t.shape.fuel events range marks chart) same charted))));
+        answer = rw (ends, says) refl;
+      }

@@ -1,0 +1,12 @@
+//! The program chart, all but its `main`: from command words and the document of a run to the run's message chart as an SVG text.
+#![tactic(auto)]
+
+mod answering;
+mod command;
+mod options;
+mod programs;
+mod reading;
+
+pub use answering::{Output, answer};
+pub use options::{Options, WordsFault};
+pub use reading::read_words;

@@ -1,0 +1,15 @@
+//! The message chart of a run, and how it is written as a picture: an SVG text.
+//!
+//! Such a chart has a column for each actor, a row for each event, in their order from above, and an arrow for each mail, from the
+//! row of the event that sent it to the row of the one that handles it.
+#![tactic(auto)]
+
+mod chart;
+mod marks;
+mod picture;
+mod rows;
+mod states;
+
+pub use chart::{Chart, ChartRow, Origin};
+pub use picture::chart_text;
+pub use states::{WordChange, WordState};

@@ -1,0 +1,4 @@
+pub mod Words
+pub mod Mails
+pub mod Drawing
+pub mod Charts

@@ -1,0 +1,10 @@
+//! The message chart of a run: which row each event of a range has, where its mail comes from, and what becomes of the words.
+#![tactic(auto)]
+
+mod charting;
+mod drawing;
+mod mails;
+mod words;
+
+pub use charting::chart;
+pub use drawing::Range;
