@@ -1,5 +1,6 @@
 use crate::case::{Case, Draft};
 use crate::comparing::compare;
+use crate::opening::options_of;
 use crate::playing::play;
 use crate::report::Report;
 use crate::rows::{filled, rows};
@@ -11,9 +12,15 @@ use dn_base::Memory;
 use dn_machine::RunRecord;
 use std::alloc::Global;
 use std::str;
+use std::sync::Wait;
+use std::thread::Threads;
 
 /// Runs the cases of all files whose names end in `.cases`.
-pub fn check_all(alloc: Global, files: &[Named]) -> Result<Report, Memory> {
+pub fn check_all<R: Threads + Wait + Sync>(
+    rt: &R,
+    alloc: Global,
+    files: &[Named],
+) -> Result<Report, Memory> {
     let mut texts = Texts::new(alloc);
     for file in files {
         texts.add(alloc, file.name.as_str(), file.bytes.as_slice())?;
@@ -21,14 +28,15 @@ pub fn check_all(alloc: Global, files: &[Named]) -> Result<Report, Memory> {
     let mut report = Report::new(alloc);
     for file in files {
         if file.name.ends_with(".cases") {
-            check_file(alloc, file, &mut texts, &mut report)?;
+            check_file(rt, alloc, file, &mut texts, &mut report)?;
         }
     }
     Ok(report)
 }
 
 /// Runs the cases of a file.
-fn check_file(
+fn check_file<R: Threads + Wait + Sync>(
+    rt: &R,
     alloc: Global,
     file: &Named,
     texts: &mut Texts,
@@ -40,13 +48,14 @@ fn check_file(
         return Ok(());
     };
     for section in sections(alloc, text)?.iter() {
-        check_section(alloc, name, section, texts, report)?;
+        check_section(rt, alloc, name, section, texts, report)?;
     }
     Ok(())
 }
 
 /// Runs the case of a section, once or for each of its rows. A section without a case has nothing to say.
-fn check_section(
+fn check_section<R: Threads + Wait + Sync>(
+    rt: &R,
     alloc: Global,
     file: &str,
     section: &Section<'_>,
@@ -76,7 +85,7 @@ fn check_section(
         first: section.first,
         name,
     };
-    check_rows(alloc, &place, lines, texts, report)
+    check_rows(rt, alloc, &place, lines, texts, report)
 }
 
 /// Where a case stands: its file, the number of its first line, and its name.
@@ -88,7 +97,8 @@ struct Place<'a> {
 }
 
 /// Runs a case once or for each of its rows. Its text is known from then on; of rows it is the last one's.
-fn check_rows(
+fn check_rows<R: Threads + Wait + Sync>(
+    rt: &R,
     alloc: Global,
     place: &Place<'_>,
     lines: &[&str],
@@ -102,11 +112,19 @@ fn check_rows(
     let mut text = Vec::new(alloc);
     match rows(alloc, &lines[each..]) {
         Ok(rows) if rows.is_empty() => {
-            text = check_case(alloc, place, &lines[..each], &[], texts, report)?;
+            text = check_case(rt, alloc, place, &lines[..each], &[], texts, report)?;
         }
         Ok(rows) => {
             for row in rows.iter() {
-                text = check_case(alloc, place, &lines[..each], row.as_slice(), texts, report)?;
+                text = check_case(
+                    rt,
+                    alloc,
+                    place,
+                    &lines[..each],
+                    row.as_slice(),
+                    texts,
+                    report,
+                )?;
             }
         }
         Err(Trouble::Form(why)) => {
@@ -120,7 +138,8 @@ fn check_rows(
 }
 
 /// Runs a case with these columns, and gives its text.
-fn check_case(
+fn check_case<R: Threads + Wait + Sync>(
+    rt: &R,
     alloc: Global,
     place: &Place<'_>,
     lines: &[&str],
@@ -135,10 +154,12 @@ fn check_case(
             return Ok(Vec::new(alloc));
         }
     };
-    match answer(alloc, &case) {
+    match answer(rt, alloc, &case) {
         Ok(got) => {
             let label = label(alloc, place, row)?;
-            report.reach.add(got.bytes.as_slice());
+            if is_made_alone(alloc, &case)? {
+                report.reach.add(got.bytes.as_slice());
+            }
             report.add(alloc, label.as_str(), &case, &got)?;
             if let Some(run) = &got.run {
                 check_run(alloc, label.as_str(), &case, run, report)?;
@@ -147,6 +168,15 @@ fn check_case(
         Err(stop) => add_stop(alloc, place, stop, report)?,
     }
     Ok(case.text)
+}
+
+/// Whether one worker makes the run of a case, so that its kinds of event are the same each time.
+fn is_made_alone(alloc: Global, case: &Case) -> Result<bool, Memory> {
+    match options_of(alloc, case) {
+        Ok(options) => Ok(options.workers == 1),
+        Err(Trouble::Form(_)) => Ok(true),
+        Err(Trouble::Memory) => Err(Memory),
+    }
 }
 
 /// Compares the run of a case with the flat machine's by its grants.
@@ -167,10 +197,10 @@ fn check_run(
 }
 
 /// Runs the program on a case, or makes the events of its script.
-fn answer(alloc: Global, case: &Case) -> Result<Got, Stop> {
+fn answer<R: Threads + Wait + Sync>(rt: &R, alloc: Global, case: &Case) -> Result<Got, Stop> {
     match &case.script {
         Some(script) => play(alloc, case, script.as_slice()),
-        None => match run(alloc, case) {
+        None => match run(rt, alloc, case) {
             Ok(got) => Ok(got),
             Err(Memory) => Err(Stop {
                 place: 0,

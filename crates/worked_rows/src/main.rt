@@ -39,7 +39,7 @@ fn main(rt: HostRuntime) -> io::Result<ExitCode> {
     let alloc = rt.alloc();
     let folder = folder(&rt)?;
     let files = files(&rt, folder.as_str())?;
-    let Ok(report) = check_all(alloc, files.as_slice()) else {
+    let Ok(report) = check_all(&rt, alloc, files.as_slice()) else {
         println!(rt; "there was no memory")?;
         return Ok(ExitCode::FAILURE);
     };

@@ -1,8 +1,10 @@
 use crate::case::Case;
-use dn_base::{Memory, TextSource, VecSink};
+use dn_base::{Memory, OpenGate, TextSource, VecSink};
 use dn_machine::RunRecord;
-use dn_top::answer_words;
+use dn_top::denovo_main;
 use std::alloc::Global;
+use std::sync::Wait;
+use std::thread::Threads;
 
 /// What the program answered.
 #[derive(Drop)]
@@ -14,7 +16,7 @@ pub struct Got {
 }
 
 /// Runs the program on a case.
-pub fn run(alloc: Global, case: &Case) -> Result<Got, Memory> {
+pub fn run<R: Threads + Wait + Sync>(rt: &R, alloc: Global, case: &Case) -> Result<Got, Memory> {
     let mut source = TextSource::new(
         alloc,
         case.text.as_slice(),
@@ -27,7 +29,8 @@ pub fn run(alloc: Global, case: &Case) -> Result<Got, Memory> {
         case.per_write,
         case.failing_writes.as_slice(),
     )?;
-    let answer = answer_words(alloc, case.words.as_slice(), &mut source, &mut sink);
+    let words = case.words.as_slice();
+    let answer = denovo_main(rt, alloc, words, &mut source, &mut sink, &OpenGate);
     Ok(Got {
         exit: answer.status.code(),
         bytes: Vec::from_slice(alloc, sink.bytes())?,
