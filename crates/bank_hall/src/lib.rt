@@ -12,14 +12,6 @@ mod laws;
 mod port;
 mod posted;
 mod row;
-#[cfg(test)]
-mod tests;
-#[cfg(test)]
-mod tests_calls;
-#[cfg(test)]
-mod tests_halls;
-#[cfg(test)]
-mod tests_threads;
 
 pub use bank::{BankActor, BankIn, BankOut, Handled};
 pub use hall::{Hall, HallEnd, HallParts, Pass};

@@ -4,8 +4,6 @@
 mod command;
 mod options;
 mod reading;
-#[cfg(test)]
-mod tests;
 
 pub use options::{Mode, Options, WordsFault};
 pub use reading::read_words;

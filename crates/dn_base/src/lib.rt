@@ -10,8 +10,6 @@ mod outside;
 mod sequence;
 mod standard;
 mod status;
-#[cfg(test)]
-mod tests;
 mod text_source;
 mod vec_sink;
 

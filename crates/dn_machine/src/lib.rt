@@ -20,8 +20,6 @@ mod posting;
 mod record;
 mod running;
 mod starting;
-#[cfg(test)]
-mod tests;
 mod words;
 
 pub use laws::{

@@ -7,8 +7,6 @@ mod checking;
 mod fault;
 mod least;
 mod searching;
-#[cfg(test)]
-mod tests;
 
 pub use checked::Checked;
 pub use checking::check;

@@ -9,8 +9,6 @@ mod laws;
 mod machine;
 mod running;
 mod runs;
-#[cfg(test)]
-mod tests;
 
 pub use ending::{FlatEnd, TaskLoads};
 pub use laws::{

@@ -8,8 +8,6 @@
 mod counts;
 mod laws;
 mod log;
-#[cfg(test)]
-mod tests;
 
 pub use counts::Counts;
 pub use laws::{

@@ -10,8 +10,6 @@ mod event;
 mod laws;
 mod message;
 mod pool;
-#[cfg(test)]
-mod tests;
 
 pub use actor::{Actor, MailId};
 pub use event::{Event, EventKind};

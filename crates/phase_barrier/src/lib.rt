@@ -4,8 +4,6 @@
 
 mod keeper;
 mod laws;
-#[cfg(test)]
-mod tests;
 
 pub use keeper::{Keeper, Verdict};
 pub use laws::{

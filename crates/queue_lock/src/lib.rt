@@ -7,8 +7,6 @@
 
 mod laws;
 mod lock;
-#[cfg(test)]
-mod tests;
 
 pub use laws::{
     a_queue_without_a_core_has_room, a_release_hands_the_lock_on,

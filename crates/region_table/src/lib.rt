@@ -11,8 +11,6 @@ mod plan;
 mod program;
 mod regions;
 mod searching;
-#[cfg(test)]
-mod tests;
 mod words;
 
 pub use declared::{Effects, Phase, Region, TaskDecl};

@@ -10,8 +10,6 @@ mod own;
 mod receive;
 mod setting;
 mod signatures;
-#[cfg(test)]
-mod tests;
 
 pub use laws::{
     a_grant_part_by_part, a_leave_tells_of_its_node, a_node_keeps_its_place, a_node_stays_fit,

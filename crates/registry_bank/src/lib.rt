@@ -7,8 +7,6 @@
 
 mod bank;
 mod laws;
-#[cfg(test)]
-mod tests;
 
 pub use bank::{Bank, BankWord};
 pub use laws::{

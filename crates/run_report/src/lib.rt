@@ -8,10 +8,6 @@ mod answer;
 mod grants;
 mod refusal;
 mod run;
-#[cfg(test)]
-mod tests;
-#[cfg(test)]
-mod tests_report;
 mod totals;
 
 pub use answer::answer_text;

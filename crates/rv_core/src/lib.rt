@@ -23,6 +23,3 @@ pub use laws::{
 };
 pub use need::{Need, Next};
 pub use task::{End, TaskState, TrapKind};
-
-#[cfg(test)]
-mod tests;

@@ -19,6 +19,3 @@ pub use ranges::fits;
 pub use reading::decode;
 pub use reg::Reg;
 pub use writing::{encode, encoding_is_unique};
-
-#[cfg(test)]
-mod tests;

@@ -15,6 +15,3 @@ pub use laws::{
 pub use line::{Line, LineFault, tokens};
 pub use registers::register;
 pub use token::{Token, TokenKind};
-
-#[cfg(test)]
-mod tests;

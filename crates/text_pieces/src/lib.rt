@@ -4,7 +4,5 @@
 #![tactic(auto)]
 
 mod pieces;
-#[cfg(test)]
-mod tests;
 
 pub use pieces::{push, push_decimal, push_hexadecimal, push_long, push_signed};

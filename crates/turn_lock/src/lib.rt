@@ -11,8 +11,6 @@ mod object;
 mod pass;
 mod rule;
 mod start;
-#[cfg(test)]
-mod tests;
 mod turn;
 mod view;
 

@@ -12,8 +12,6 @@ mod laws;
 mod looks;
 mod row;
 mod sweep;
-#[cfg(test)]
-mod tests;
 mod times;
 
 pub use cache::WordCache;

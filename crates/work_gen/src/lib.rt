@@ -8,8 +8,6 @@
 mod code;
 mod declared;
 mod pieces;
-#[cfg(test)]
-mod tests;
 
 ghost use Rattle.std.specs.Prelude.{◌≡◌, ◌≤◌, IfOk};
 ghost use Rattle.work_gen.specs.Work.{work_of};

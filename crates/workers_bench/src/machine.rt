@@ -1,0 +1,23 @@
+ghost use Rattle.std.specs.Prelude.{◌≡◌, IfSome};
+
+use dn_base::Shape;
+use dn_machine::Machine;
+use effect_checker::check;
+use rv_assembler::assemble;
+use std::alloc::Global;
+
+/// The machine of a text, of the size that the command has where none is asked for; None where the text is refused, or there is no
+/// room.
+pub fn machine_of(alloc: Global, text: &[u8]) -> Option<Machine>
+    ensures { IfSome result (λ m. m.made ≡ 0) }
+{
+    let program = assemble(alloc, text).ok()?;
+    let checked = check(program).ok()?;
+    let shape = Shape {
+        cores: checked.program().cores(),
+        banks: 4,
+        sets: 64,
+        ways: 4,
+    };
+    Machine::start(alloc, checked, shape, 32_768).ok()
+}

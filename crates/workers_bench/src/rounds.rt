@@ -1,0 +1,97 @@
+//! How many rounds a run has, and how many passes each worker makes in them.
+ghost use Rattle.std.specs.Prelude.{◌≡◌, ◌≤◌};
+
+use bank_hall::{BankActor, BankIn, Port, PortIn};
+use dn_base::{Memory, OpenGate};
+use dn_machine::{Machine, a_machine_is_kept};
+use host_workers::{Round, run_round};
+use std::alloc::Global;
+use std::sync::Wait;
+use std::thread::Threads;
+use turn_lock::Entry;
+
+/// A round takes no machine that has made so many events.
+const MOST_EVENTS: u64 = 3_000_000_000;
+
+/// How many events and rounds there were, and the passes of each worker in all of them.
+#[derive(Drop)]
+pub struct Tally {
+    pub events: u64,
+    pub rounds: u32,
+    pub passes: [u64; 16],
+}
+
+/// The steps of a bank, each of which is one of a pass.
+fn steps(history: &[Entry<BankActor>]) -> u64 {
+    history
+        .iter()
+        .filter(|entry| matches!(entry.input, BankIn::Step { .. }))
+        .count() as u64
+}
+
+/// The takes of a core's port.
+fn takes(history: &[Entry<Port>]) -> u64 {
+    history
+        .iter()
+        .filter(|entry| matches!(entry.input, PortIn::Take { .. }))
+        .count() as u64
+}
+
+/// The passes of the worker that has the bank and the core of its number; 0 where it has neither.
+fn passes_of(round: &Round, worker: usize) -> u64 {
+    match (round.banks.get(worker), round.ports.get(worker)) {
+        (Some(history), _) => steps(history.as_slice()),
+        (None, Some(history)) => takes(history.as_slice()),
+        (None, None) => 0,
+    }
+}
+
+impl Tally {
+    fn add(&mut self, round: &Round) {
+        self.events = round.machine.made();
+        self.rounds = self.rounds.saturating_add(1);
+        for (worker, passes) in self.passes.iter_mut().enumerate() {
+            *passes = passes.saturating_add(passes_of(round, worker));
+        }
+    }
+}
+
+/// Makes a run in rounds, as `run_workers` does, and counts. Workers that own no bank and no core are not counted.
+///
+/// # Errors
+/// `Memory` where there is no room.
+pub fn count_rounds<R: Threads + Wait + Sync>(
+    rt: &R,
+    alloc: Global,
+    machine: Machine,
+    workers: u32,
+    seed: u32,
+) -> Result<Tally, Memory>
+    requires some { 1 ≤ workers }
+    requires few { workers ≤ 16 }
+    requires made { machine.made ≡ 0 }
+{
+    a_machine_is_kept(&machine);
+    let mut tally = Tally {
+        events: 0,
+        rounds: 0,
+        passes: [0; 16],
+    };
+    let mut current = machine;
+    for round in 0..u32::MAX {
+        if current.pick(0).is_none() || current.made() >= MOST_EVENTS {
+            break;
+        }
+        let made = run_round(
+            rt,
+            alloc,
+            current,
+            workers,
+            seed.wrapping_add(round),
+            &OpenGate,
+        )?;
+        tally.add(&made);
+        current = made.machine;
+    }
+    Ok(tally)
+}
