@@ -1,0 +1,75 @@
+#!/usr/bin/env python3
+"""Says which names in the documents are nowhere in the repository: run it at the top of the repository, `tools/check_documents.py`.
+
+Of README.md, docs/*.md, examples/README.md and crates/worked_rows/data/README.md it looks at all that stands between backquotes, and at
+the commands of their indented blocks and of the comments in examples/:
+- a path has to be there, from the top, from crates/, or from the folder that the same line names;
+- a name of code (with a capital, or with `_` or `::`) has to be in the code, its contracts or its definitions;
+- a command `./denovo ..` has to read a text that is there.
+Each text of examples/ has to be the same as its copy in crates/worked_rows/data, which the cases run.
+It exits 0 where it found nothing, 1 otherwise."""
+import pathlib
+import re
+import subprocess
+import sys
+
+tracked = [name for name in subprocess.run(["git", "ls-files"], capture_output=True, text=True).stdout.split("\n") if name]
+folders = {str(parent) for name in tracked for parent in pathlib.PurePath(name).parents}
+there = set(tracked) | folders
+names = {pathlib.PurePath(name).name for name in there}
+code = "\n".join(pathlib.Path(name).read_text() for name in tracked
+                 if name.endswith((".rt", ".antt", ".py", ".txt", ".cases", ".s")) or name.startswith(("bench/", ".ci/")))
+words = set(re.findall(r"[A-Za-z_]\w*(?:-\w+)*'?", code))
+documents = ["README.md", "examples/README.md", "crates/worked_rows/data/README.md"] + [n for n in tracked if re.fullmatch(r"docs/\w+\.md", n)]
+examples = sorted(n for n in tracked if re.fullmatch(r"examples/[\w-]+\.s", n))
+found = []
+
+
+def is_path(piece):
+    return bool(re.fullmatch(r"[\w./*-]+\.(?:md|rt|antt|py|s|cases|txt|edit)|\.?[\w-]+/[\w./*-]*", piece)) and "::" not in piece
+
+
+def with_braces(piece):
+    """The paths that a piece with {A,B} stands for."""
+    parts = re.fullmatch(r"(.*/)\{([\w,]+)\}(.*)", piece)
+    return [parts[1] + name + parts[3] for name in parts[2].split(",")] if parts else [piece]
+
+
+def has_path(piece, document):
+    bare = piece.rstrip("/")
+    beside = str(pathlib.PurePath(document).parent / bare)
+    if any(place in there for place in (bare, "crates/" + bare, beside)):
+        return True
+    ends = [name for name in there if name.endswith("/" + bare)]
+    return bool(ends) or "*" in bare or bare in ("run.trace",) or bare.startswith("crates/") and "/out" in bare or "NAME" in bare
+
+
+for document in documents:
+    text = pathlib.Path(document).read_text()
+    prose = re.sub(r"```.*?```", "", text, flags=re.S)
+    for number, line in enumerate(prose.split("\n"), 1):
+        if line.startswith("    "):
+            continue
+        bare = re.findall(r"(?<![\w`/.])((?:docs|crates|tools|bench|examples)/[\w./-]*\w)", line)
+        for piece in [whole for piece in re.findall(r"`([^`]+)`", line) + bare for whole in with_braces(piece)]:
+            if is_path(piece):
+                if not has_path(piece, document):
+                    found.append(f"{document}: no such path: {piece}")
+            elif re.fullmatch(r"[A-Za-z_][\w']*(?:::[A-Za-z_]\w*)*", piece) and re.search(r"[A-Z_:]", piece):
+                for name in piece.split("::"):
+                    if name not in words and name not in names:
+                        found.append(f"{document}: no such name: {piece}")
+    for path in re.findall(r"\]\(([^)#:]+)\)", text):
+        if not has_path(path, document):
+            found.append(f"{document}: no such link: {path}")
+for document in documents + examples:
+    for path in re.findall(r"^[# ]+\./denovo[^\n]*< (\S+)", pathlib.Path(document).read_text(), re.M):
+        if path not in there and path != "run.trace":
+            found.append(f"{document}: a command reads what isn't there: {path}")
+for name in examples:
+    copy = pathlib.Path("crates/worked_rows/data") / pathlib.PurePath(name).name
+    if not copy.exists() or copy.read_text() != pathlib.Path(name).read_text():
+        found.append(f"{name}: differs from {copy}")
+for line in found:
+    print(line)
+sys.exit(1 if found else 0)
