@@ -11,9 +11,20 @@ use crate::noting::{note_ends, note_events, note_last};
 use crate::round::{Round, run_round};
 use dn_base::{Gate, Memory};
 use dn_machine::{Log, Machine, RunRecord, a_machine_is_kept};
-use std::alloc::Global;
+use std::alloc::{AllocError, Global};
 use std::sync::Wait;
 use std::thread::Threads;
+
+/// As large a block as makes the C library's allocator keep what is freed, up to twice its size (glibc, mallopt(3)).
+const KEPT_BYTES: usize = 33_546_240;
+
+/// Has the allocator keep freed memory for the next round, whose calls take as much as those of the round before. Otherwise it gives
+/// large blocks back to the system, and each page of them is taken anew, which was a third of a run's time. The block is freed
+/// at once, and none of its pages is ever touched; where there is no room for it, nothing is lost.
+fn keep_freed_memory(alloc: Global) {
+    let block: Result<Vec<u8>, AllocError> = Vec::with_capacity(alloc, KEPT_BYTES);
+    drop(block);
+}
 
 /// Makes one round more, and notes it.
 ///
@@ -82,6 +93,7 @@ pub fn run_workers<R: Threads + Wait + Sync, G: Gate + Sync>(
     requires made { machine.made ≡ 0 }
     ensures { IfOk result (IsRunOf machine.state) }
 {
+    keep_freed_memory(alloc);
     a_machine_is_kept(&machine);
     let mut log = machine.log(alloc)?;
     let mut current = machine;
