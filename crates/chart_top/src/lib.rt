@@ -8,5 +8,6 @@ mod programs;
 mod reading;
 
 pub use answering::{Output, answer};
-pub use options::{Options, WordsFault};
+pub use command_words::WordsFault;
+pub use options::Options;
 pub use reading::read_words;
