@@ -1,44 +1,19 @@
 -- The timing of the run that options ask for.
-use Rattle.std.proofs.Common.{◌≡◌, ℕ, ◌≤◌, List, sym, ap, subst, ◌∙◌, arith}
+use Rattle.std.proofs.Common.{◌≡◌, List, sym, ap, subst, ◌∙◌}
 use Rattle.dn_base.specs.declared.ids.Shape.{Shape}
 use Rattle.region_table.specs.Program.{ProgramParts}
 use Rattle.message_net.specs.declared.event.Event.{Event}
-use Rattle.message_net.specs.declared.event.EventKind as kind
 use Rattle.registration_protocol.specs.Node.{Setting}
 use Rattle.machine_rules.specs.State.{opened}
 use Rattle.machine_rules.specs.Runs.{IsRun}
-use Rattle.run_report.specs.Run.{all_kinds}
 use Rattle.dn_machine.specs.declared.record.RunRecord.{RunRecord}
 use Rattle.dn_machine.specs.Settings.{IsRunOn}
 use Rattle.dn_machine.proofs.OneSetting.{same-setting}
 use Rattle.run_timing.specs.declared.ticks.Ticks.{Ticks}
 use Rattle.run_timing.specs.declared.timing.Timing.{Timing}
-use Rattle.run_timing.specs.Ticks.{AreWithinLimits}
 use Rattle.run_timing.specs.Longest.{IsTimingOf}
 use Rattle.command_words.specs.declared.options.Options.{Options}
-use Rattle.command_words.specs.Command.{IsWithinLimits}
 use Rattle.dn_top.specs.Runs.{shape_for, ticks_for, IsRunFor}
-
--- the ticks of each kind are within their limits
-pub ticks-within : (o : Options) → IsWithinLimits o → AreWithinLimits (ticks_for o)
-unfolding all_kinds
-ticks-within o l kind.TheVariants.Instr = (omega (arith, l.tick_core), omega (arith, l.tick_core))
-ticks-within o l kind.TheVariants.Evict = (omega (arith, l.tick_core), omega (arith, l.tick_core))
-ticks-within o l kind.TheVariants.Arrive = (omega (arith, l.tick_core), omega (arith, l.tick_core))
-ticks-within o l kind.TheVariants.ReadReq = (omega (arith, l.tick_bank), omega (arith, l.tick_bank))
-ticks-within o l kind.TheVariants.ReadFwd = (omega (arith, l.tick_mail), omega (arith, l.tick_mail))
-ticks-within o l kind.TheVariants.DataReply = (omega (arith, l.tick_mail), omega (arith, l.tick_mail))
-ticks-within o l kind.TheVariants.RegReq = (omega (arith, l.tick_bank), omega (arith, l.tick_bank))
-ticks-within o l kind.TheVariants.RegFwd = (omega (arith, l.tick_mail), omega (arith, l.tick_mail))
-ticks-within o l kind.TheVariants.RegAck = (omega (arith, l.tick_mail), omega (arith, l.tick_mail))
-ticks-within o l kind.TheVariants.WriteBack = (omega (arith, l.tick_bank), omega (arith, l.tick_bank))
-ticks-within o l kind.TheVariants.WbAck = (omega (arith, l.tick_mail), omega (arith, l.tick_mail))
-ticks-within o l kind.TheVariants.Acquire = (omega (arith, l.tick_bank), omega (arith, l.tick_bank))
-ticks-within o l kind.TheVariants.Release = (omega (arith, l.tick_bank), omega (arith, l.tick_bank))
-ticks-within o l kind.TheVariants.Grant = (omega (arith, l.tick_mail), omega (arith, l.tick_mail))
-ticks-within o l kind.TheVariants.Arrived = (omega (arith, l.tick_mail), omega (arith, l.tick_mail))
-ticks-within o l kind.TheVariants.Go = (omega (arith, l.tick_mail), omega (arith, l.tick_mail))
-ticks-within o l kind.TheVariants.Halt = (omega (arith, l.tick_mail), omega (arith, l.tick_mail))
 
 -- the events are a run of the opened machine that the options ask for
 run-on : (P : ProgramParts) (o : Options) (r : RunRecord) → IsRunFor P o r → IsRunOn P (shape_for P o) o.fuel r.events

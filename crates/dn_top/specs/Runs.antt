@@ -1,5 +1,5 @@
 -- A program's run on the multicore machine: what is promised of it, and how it is printed.
-use Rattle.std.specs.Prelude.{◌≡◌, ℕ, ◌<◌, ◌≤◌, List, [], ◌++◌, length, map, sum, Option, Some}
+use Rattle.std.specs.Prelude.{◌≡◌, ℕ, ◌<◌, ◌≤◌, List, [], ◌++◌, length, sum, Option, Some}
 use Rattle.std.specs.Option.{option_map}
 use Rattle.dn_base.specs.declared.ids.Shape.{Shape}
 use Rattle.dn_base.specs.Status.{status_of}
@@ -14,13 +14,11 @@ use Rattle.dn_machine.specs.Settings.{IsSettingOf}
 use Rattle.dn_machine.specs.Run.{IsRunOf as IsMachinesRun}
 use Rattle.dn_machine.specs.Schedule.{IsScheduled}
 use Rattle.dn_machine.specs.declared.record.RunRecord.{RunRecord}
-use Rattle.message_net.specs.declared.event.EventKind as kind
-use Rattle.message_net.specs.declared.event.EventKind.{EventKind}
-use Rattle.run_report.specs.Run.{all_kinds, report_of}
+use Rattle.run_report.specs.Run.{report_of}
 use Rattle.run_report.specs.Summary.{summary_of}
 use Rattle.run_timing.specs.declared.ticks.Ticks.{Ticks}
 use Rattle.run_timing.specs.declared.timing.Timing.{Timing}
-use Rattle.run_timing.specs.Ticks.{AreWithinLimits}
+use Rattle.run_timing.specs.Ticks.{AreWithinLimits, ticks_by}
 use Rattle.run_timing.specs.Longest.{IsTimingOf}
 use Rattle.run_timing.specs.Text.{timing_of}
 use Rattle.command_words.specs.declared.options.Options.{Options}
@@ -96,19 +94,8 @@ pub record IsMachineRun (P : ProgramParts) (o : Options) (print : RunRecord → 
 -- ---- its timing
 
 -- the ticks that options give to the kinds of event: those of a core's own, those that a bank handles, and all others
-abbrev pub ticks_of : Options → EventKind → ℕ
-ticks_of o kind.TheVariants.Instr = o.tick_core
-ticks_of o kind.TheVariants.Evict = o.tick_core
-ticks_of o kind.TheVariants.Arrive = o.tick_core
-ticks_of o kind.TheVariants.ReadReq = o.tick_bank
-ticks_of o kind.TheVariants.RegReq = o.tick_bank
-ticks_of o kind.TheVariants.WriteBack = o.tick_bank
-ticks_of o kind.TheVariants.Acquire = o.tick_bank
-ticks_of o kind.TheVariants.Release = o.tick_bank
-ticks_of o _ = o.tick_mail
-
 abbrev pub ticks_for : Options → Ticks
-ticks_for o = record { kinds = map (ticks_of o) all_kinds }
+ticks_for o = ticks_by o.tick_core o.tick_bank o.tick_mail
 
 -- the program was run and timed: the output hands the run back, sums it up, and then tells its longest chain of events
 pub record IsTimedRun (P : ProgramParts) (o : Options) (out : Output) : Type 0 where

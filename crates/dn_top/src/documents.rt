@@ -49,8 +49,9 @@ pub(crate) fn trace_run(
     Ok(handed_back(document, run))
 }
 
-/// The refusal of a document.
-fn refusal(alloc: Global, why: &TraceRefusal) -> Stop
+/// The refusal of a document for this fault, which isn't want of memory: `Refused` with its line, or `Memory` where there is no
+/// room for that.
+pub fn refused_trace(alloc: Global, why: &TraceRefusal) -> Stop
     requires { why.now ≢ OfFault NoMemory }
     ensures { IsStop (λ line. line ≡ refusal_text why.now) result }
 {
@@ -60,20 +61,23 @@ fn refusal(alloc: Global, why: &TraceRefusal) -> Stop
     }
 }
 
-/// What a document tells.
-fn trace_in(alloc: Global, document: &[u8]) -> Result<Trace, Stop>
+/// What a document tells: the machine's size and the fuel, the text, and the events.
+///
+/// # Errors
+/// `Refused` with the line of the document's first fault, and `Memory` where there is no room.
+pub fn trace_in(alloc: Global, document: &[u8]) -> Result<Trace, Stop>
     ensures ok { IfOk result (IsDocument document.now) }
     ensures stop { IfErr result (IsStop (IsNoDocument document.now)) }
 {
     match read_trace(alloc, document) {
         Ok(trace) => Ok(trace),
         Err(TraceFault::Memory) => Err(Stop::Memory),
-        Err(fault) => Err(refusal(alloc, &TraceRefusal::Fault(fault))),
+        Err(fault) => Err(refused_trace(alloc, &TraceRefusal::Fault(fault))),
     }
 }
 
 /// The machine of a program, in the size that a document tells.
-fn shape_told(sizes: TraceShape, program: &Program) -> Shape
+pub fn shape_told(sizes: TraceShape, program: &Program) -> Shape
     ensures { result ≡ shape_told program.now sizes }
 {
     Shape {
@@ -109,9 +113,9 @@ fn run_again(alloc: Global, trace: Trace, checked: Checked) -> Result<Output, St
             },
         )?),
         Replayed::NotEnabled { number } => {
-            Err(refusal(alloc, &TraceRefusal::NotEnabled { number }))
+            Err(refused_trace(alloc, &TraceRefusal::NotEnabled { number }))
         }
-        Replayed::Incomplete => Err(refusal(alloc, &TraceRefusal::Incomplete)),
+        Replayed::Incomplete => Err(refused_trace(alloc, &TraceRefusal::Incomplete)),
     }
 }
 

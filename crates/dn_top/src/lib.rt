@@ -26,12 +26,16 @@ mod writing;
 
 pub use command_words::{Mode, Options, WordsFault, read_words};
 pub use dn_machine::RunRecord;
+pub use documents::{refused_trace, shape_told, trace_in};
 pub use laws::{
     a_trace_replays_as_its_run, an_outcome_has_its_cause,
     the_output_is_a_function_of_source_and_options, without_locks_every_run_ends_alike,
 };
+pub use programs::{Stop, checked_of};
+pub use reading::{ReadError, read_text};
 pub use serving::Answer;
 use serving::{answer_alone, answer_by_workers, refuse_words, status_only};
+pub use writing::write_text;
 
 /// Answers these command words and this source on one thread, whatever number of workers is asked for.
 ///

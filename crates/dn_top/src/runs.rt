@@ -3,6 +3,7 @@ ghost use Rattle.command_words.specs.Command.{IsWithinLimits};
 ghost use Rattle.run_report.specs.Summary.{summary_of};
 ghost use Rattle.run_replay.specs.Document.{IsTold};
 ghost use Rattle.run_timing.specs.Text.{timing_of};
+ghost use Rattle.run_timing.specs.Ticks.{AreWithinLimits};
 ghost use Rattle.dn_top.specs.Answers.{HasChecked, HasRun, IsStop, IsUnfit};
 ghost use Rattle.dn_top.specs.Runs.{IsPrintable, IsRunFor, IsTimedRun, output_of_run, reported, shape_for, summed_up, ticks_for};
 
@@ -95,17 +96,12 @@ pub(crate) fn sum_up_run(alloc: Global, run: RunRecord) -> Result<Output, Memory
 }
 
 /// The ticks that the options give to each kind of event.
-#[tactic(auto, unfolding(run_report::specs::Run::all_kinds))]
 fn ticks_of(options: &Options) -> Ticks
+    requires { IsWithinLimits options.now }
     ensures value { result ≡ ticks_for options.now }
+    ensures limits { AreWithinLimits result }
 {
-    let (core, bank, mail) = (options.tick_core, options.tick_bank, options.tick_mail);
-    Ticks {
-        kinds: [
-            core, core, core, bank, mail, mail, bank, mail, mail, bank, mail, bank, bank, mail,
-            mail, mail, mail,
-        ],
-    }
+    Ticks::by_place(options.tick_core, options.tick_bank, options.tick_mail)
 }
 
 /// Sums up how a run ended, and then tells its timing.

@@ -4,7 +4,10 @@ ghost use Rattle.dn_top.specs.Outside.{Failed as HasFailed, Took, TookFront, dev
 use dn_base::{Failed, Sink};
 
 /// Writes all of these bytes and flushes the sink.
-pub(crate) fn write_text<K: Sink>(sink: &mut K, bytes: &[u8]) -> Result<(), Failed>
+///
+/// # Errors
+/// `Failed` where the sink fails: it has taken a front of the bytes.
+pub fn write_text<K: Sink>(sink: &mut K, bytes: &[u8]) -> Result<(), Failed>
     ensures ok { OnOk result (Took (device (K.told sink.old) (K.faults sink.old)) (device (K.told sink.new) (K.faults sink.new)) bytes.now) }
     ensures front { TookFront (device (K.told sink.old) (K.faults sink.old)) (device (K.told sink.new) (K.faults sink.new)) bytes.now }
     ensures counted { K.faults sink.old ≤ K.faults sink.new }
