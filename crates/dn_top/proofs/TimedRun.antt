@@ -13,19 +13,19 @@ use Rattle.run_timing.specs.declared.ticks.Ticks.{Ticks}
 use Rattle.run_timing.specs.declared.timing.Timing.{Timing}
 use Rattle.run_timing.specs.Longest.{IsTimingOf}
 use Rattle.command_words.specs.declared.options.Options.{Options}
-use Rattle.dn_top.specs.Runs.{shape_for, ticks_for, IsRunFor}
+use Rattle.dn_top.specs.Runs.{shape_for, ticks_for, IsAnyRunFor}
 
 -- the events are a run of the opened machine that the options ask for
-run-on : (P : ProgramParts) (o : Options) (r : RunRecord) → IsRunFor P o r → IsRunOn P (shape_for P o) o.fuel r.events
+run-on : (P : ProgramParts) (o : Options) (r : RunRecord) → IsAnyRunFor P o r → IsRunOn P (shape_for P o) o.fuel r.events
 run-on P o r is C told =
-    let same : is.run.setting ≡ C = same-setting P (shape_for P o) o.fuel is.run.setting C is.run.asked told in
-    subst (λ (D : Setting). IsRun (opened D) r.events) same is.run.machine.complete.run
+    let same : is.setting ≡ C = same-setting P (shape_for P o) o.fuel is.setting C is.asked told in
+    subst (λ (D : Setting). IsRun (opened D) r.events) same is.machine.complete.run
 
 -- the same of a shape and events that are these
 shape-is : (Q P : ProgramParts) (o : Options) (s : Shape) → Q ≡ P → s ≡ shape_for Q o → s ≡ shape_for P o
 shape-is Q P o s program shape = shape ∙ ap (λ (p : ProgramParts). shape_for p o) program
 
-pub run-at : (Q P : ProgramParts) (o : Options) (s : Shape) (r : RunRecord) (events : List Event) → Q ≡ P → s ≡ shape_for Q o → events ≡ r.events → IsRunFor P o r → IsRunOn P s o.fuel events
+pub run-at : (Q P : ProgramParts) (o : Options) (s : Shape) (r : RunRecord) (events : List Event) → Q ≡ P → s ≡ shape_for Q o → events ≡ r.events → IsAnyRunFor P o r → IsRunOn P s o.fuel events
 run-at Q P o s r events program shape are is =
     subst (λ (es : List Event). IsRunOn P s o.fuel es) (sym are)
     (subst (λ (x : Shape). IsRunOn P x o.fuel r.events) (sym (shape-is Q P o s program shape)) (run-on P o r is))

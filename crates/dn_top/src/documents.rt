@@ -1,11 +1,11 @@
-ghost use Rattle.std.specs.Prelude.{◌≡◌, ◌≢◌, All, IfOk, IfErr};
+ghost use Rattle.std.specs.Prelude.{◌≡◌, ◌≢◌, IfOk, IfErr};
 ghost use Rattle.run_replay.specs.declared.trace.TraceFault.TheVariants.{Memory as NoMemory};
 ghost use Rattle.run_replay.specs.declared.refusal.TraceRefusal.TheVariants.{Fault as OfFault};
-ghost use Rattle.run_replay.specs.Document.{IsDocument, IsTold, IsTrace};
+ghost use Rattle.run_replay.specs.Document.{IsDocument, IsTrace, document_of};
 ghost use Rattle.run_replay.specs.Refusal.{refusal_text};
-ghost use Rattle.command_words.specs.Command.{IsWithinLimits};
-ghost use Rattle.dn_top.specs.Answers.{HasChecked, HasRun, IsRefusedDocument, IsReplayed, IsStop};
-ghost use Rattle.dn_top.specs.Documents.{IsNoDocument, IsNoRun, IsReplayedRun, IsTracedRun, shape_told, sizes_of};
+ghost use Rattle.dn_top.specs.Answers.{IsRefusedDocument, IsReplayed, IsStop};
+ghost use Rattle.dn_top.specs.Documents.{IsNoDocument, IsNoRun, IsReplayedRun, shape_told, sizes_of, trace_of};
+ghost use Rattle.dn_top.specs.Runs.{output_of_run};
 
 use crate::output::Output;
 use crate::programs::{Stop, checked_of};
@@ -34,16 +34,17 @@ fn sizes_of(options: &Options) -> TraceShape
 }
 
 /// Writes the document of a run of a text's program, and hands the run back.
+///
+/// # Errors
+/// `Memory` where there is no room for the document.
 pub(crate) fn trace_run(
     alloc: Global,
     options: &Options,
     text: &[u8],
     run: RunRecord,
 ) -> Result<Output, Memory>
-    requires limits { IsWithinLimits options.now }
-    requires run { HasRun options.now text.now run }
-    requires told { All IsTold run.events }
-    ensures { IfOk result (λ out. HasChecked text.now (λ P. IsTracedRun P options.now text.now out)) }
+    requires { IsTrace (trace_of options.now text.now run) }
+    ensures { IfOk result (λ out. out ≡ output_of_run (document_of (trace_of options.now text.now run)) run) }
 {
     let document = trace_text(alloc, text, sizes_of(options), run.events.as_slice())?;
     Ok(handed_back(document, run))

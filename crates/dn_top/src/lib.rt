@@ -6,7 +6,8 @@ ghost use Rattle.std.specs.Option.{option_map};
 ghost use Rattle.command_words.specs.Command.{IsWithinLimits, options_of};
 ghost use Rattle.dn_top.specs.Answers.{most_read};
 ghost use Rattle.dn_top.specs.Outside.{IsUntouched, device, devices};
-ghost use Rattle.dn_top.specs.Serving.{IsDoneBy, Serves, alone};
+ghost use Rattle.dn_top.specs.Runs.{alone};
+ghost use Rattle.dn_top.specs.Serving.{IsDoneBy, Serves};
 
 use dn_base::{Gate, Sink, Source, Status};
 use std::alloc::Global;
@@ -60,19 +61,9 @@ pub fn answer_words<S: Source, K: Sink>(
         (devices (S.told source.new) (S.faults source.new) (K.told sink.new) (K.faults sink.new)) result }
 {
     match read_words(alloc, words) {
-        Ok(options) => answer_alone(alloc, &alone(options), source, sink),
+        Ok(options) => answer_alone(alloc, &options, source, sink),
         Err(WordsFault::Usage) => refuse_words(sink),
         Err(WordsFault::Memory) => status_only(Status::Memory),
-    }
-}
-
-/// The same options, by one worker.
-fn alone(options: Options) -> Options
-    ensures { result ≡ alone options }
-{
-    Options {
-        workers: 1,
-        ..options
     }
 }
 

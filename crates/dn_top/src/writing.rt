@@ -1,4 +1,4 @@
-ghost use Rattle.std.specs.Prelude.{◌≡◌, ◌≤◌, OnOk, OnErr};
+ghost use Rattle.std.specs.Prelude.{◌≤◌, OnOk, OnErr};
 ghost use Rattle.dn_top.specs.Outside.{Failed as HasFailed, Took, TookFront, device};
 
 use dn_base::{Failed, Sink};

@@ -13,8 +13,6 @@ time_run-requires-clause-run c =
 pub returns : goal.returns
 returns c =
     record {
-      run = c.args.run;
-      is = c.requires.run;
       limits = subst AreWithinLimits c.ticks_of.ensures.value c.ticks_of.ensures.limits;
       timing = c.in_ok-timing.timing;
       times =
