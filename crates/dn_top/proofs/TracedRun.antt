@@ -1,12 +1,10 @@
 -- The document of the run that options ask for.
-use Rattle.std.proofs.Common.{◌≡◌, ℕ, List, Ok, sym, ap, subst, ◌∙◌, arith}
+use Rattle.std.proofs.Common.{◌≡◌, ℕ, List, Ok, arith}
 use Rattle.std.specs.List.{All}
 use Rattle.region_table.specs.Program.{ProgramParts}
 use Rattle.rv_assembler.specs.Source.{source}
-use Rattle.message_net.specs.declared.event.Event.{Event}
 use Rattle.dn_machine.specs.declared.record.RunRecord.{RunRecord}
-use Rattle.run_replay.specs.declared.trace.TraceShape.{TraceShape}
-use Rattle.run_replay.specs.Document.{IsTold, IsTrace, IsTraceShape, document_of}
+use Rattle.run_replay.specs.Document.{IsTold, IsTrace, IsTraceShape}
 use Rattle.command_words.specs.declared.options.Options.{Options}
 use Rattle.command_words.specs.Command.{IsWithinLimits}
 use Rattle.dn_top.specs.Runs.{IsAnyRunFor}

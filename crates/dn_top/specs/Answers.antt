@@ -109,10 +109,11 @@ IsRefusedDocument document line =
 
 -- ---- the run of a text
 
--- r is a run of the text's checked program on the machine that the options ask for, picked as they ask, or by whomever
+-- r is a run of the text's checked program on the machine that the options ask for, picked as they ask
 abbrev pub HasRun : Options → List ℕ → RunRecord → Type 0
 HasRun o text r = HasChecked text (λ P. IsRunFor P o r)
 
+-- the same, whoever picked its events
 abbrev pub HasAnyRun : Options → List ℕ → RunRecord → Type 0
 HasAnyRun o text r = HasChecked text (λ P. IsAnyRunFor P o r)
 
