@@ -4,7 +4,6 @@
 mod answering;
 mod command;
 mod options;
-mod programs;
 mod reading;
 
 pub use answering::{Output, answer};
