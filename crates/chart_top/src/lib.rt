@@ -5,8 +5,10 @@ mod answering;
 mod command;
 mod options;
 mod reading;
+mod serving;
 
 pub use answering::{Output, answer};
 pub use command_words::WordsFault;
 pub use options::Options;
 pub use reading::read_words;
+pub use serving::chart_main;
