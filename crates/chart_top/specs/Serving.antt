@@ -23,16 +23,17 @@ abbrev pub IsUnread : Devices → Devices → Status → Type 0
 IsUnread before after told =
     (told ≡ status.TheVariants.ReadFault) × (Failed before.source after.source × TookNothing before.sink after.sink)
 
--- the answer to a document was written, or there was no memory for it
+-- the answer to a document was written
 pub record IsGiven (o : Options) (document : List ℕ) (before after : Device) (told : Status) : Type 0 where
   pub output : Output
   pub answer : IsAnswer o document output
   pub written : IsWritten output before after told
 
+-- or there was no memory for it
 abbrev pub IsReplied : Options → List ℕ → Device → Device → Status → Type 0
 IsReplied o document before after told = IsGiven o document before after told ⊎ IsStarved before after told
 
--- the document is what was read: all that the source had, or one byte more than a document may have
+-- the document is what was read: to the source's end, or to one byte past the most that a document may have
 pub record IsServed (o : Options) (before after : Devices) (told : Status) : Type 0 where
   pub document : List ℕ
   pub read : IsRead before.source after.source 536870913 document

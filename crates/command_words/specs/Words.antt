@@ -32,7 +32,7 @@ values_in command words = matches_of command words
 abbrev pub number_in : List Row → Text → ℕ → ℕ → Option ℕ
 number_in rows name low high = option_and_then (if_within low high) (option_and_then number_in_text (one_of name rows))
 
--- what words ask for that have these faults, if they would ask for this
+-- what is asked for, where the words have no fault
 abbrev pub where_taken : {O : Type 0} → Kinds → Option O → Option O
 where_taken [] asked = asked
 where_taken (k ∷ ks) asked = None
