@@ -5,13 +5,13 @@ use Rattle.rv_assembler.specs.Source.{source}
 use Rattle.effect_checker.specs.Checked.{IsChecked}
 use Rattle.run_replay.specs.declared.trace.Trace.{Trace}
 use Rattle.run_replay.specs.Document.{IsDocument}
-use Rattle.dn_top.specs.Answers.{IsRefusedDocument}
+use Rattle.dn_top.specs.declared.programs.Stop.{Stop}
+use Rattle.dn_top.specs.declared.programs.Stop.TheVariants.{Refused, Memory}
+use Rattle.dn_top.specs.Answers.{IsRefusedDocument, IsStop}
 use Rattle.dn_top.specs.Documents.{IsNoRun}
 use Rattle.chart_top.specs.declared.answering.Output.{Output}
 use Rattle.chart_top.specs.declared.options.Options.{Options}
-use Rattle.chart_top.specs.declared.programs.Stop.{Stop}
-use Rattle.chart_top.specs.declared.programs.Stop.TheVariants.{Refused, Memory}
-use Rattle.chart_top.specs.Answers.{IsStop, IsPicture, IsDrawn}
+use Rattle.chart_top.specs.Answers.{IsPicture, IsDrawn}
 
 module _ (document text : List ℕ) (t : Trace) (P : ProgramParts) where
   pub run-drawn : (o : Options) (r : Result Output Stop) → IsDocument document t → text ≡ t.text → source text ≡ Ok P → IsChecked P → IfOk r (IsPicture P t o) → IfOk r (IsDrawn o document)

@@ -1,4 +1,3 @@
 pub mod Commands
-pub mod Timed
 pub mod Drawn
 pub mod Pictures

@@ -6,9 +6,13 @@ use Rattle.dn_base.specs.Status.{status_of}
 use Rattle.region_table.specs.Program.{ProgramParts}
 use Rattle.rv_core.specs.declared.ending.Ending.{Ending}
 use Rattle.message_net.specs.declared.event.Event.{Event}
+use Rattle.registration_protocol.specs.Node.{Setting}
+use Rattle.machine_rules.specs.State.{opened}
+use Rattle.machine_rules.specs.Runs.{IsRun}
 use Rattle.grant_log.specs.declared.counts.Counts.{Counts}
 use Rattle.dn_base.specs.declared.ids.Grant.{Grant}
 use Rattle.dn_machine.specs.Settings.{IsRunOn}
+use Rattle.dn_machine.proofs.OneSetting.{same-setting}
 use Rattle.run_replay.specs.declared.trace.Trace.{Trace}
 use Rattle.run_replay.specs.declared.replaying.Replayed.{Replayed}
 use Rattle.run_replay.specs.declared.replaying.Replayed.TheVariants.{Complete}
@@ -24,7 +28,12 @@ use Rattle.dn_top.specs.Documents.{shape_told, IsReplayIn}
 use Rattle.chart_top.specs.declared.answering.Output.{Output}
 use Rattle.chart_top.specs.declared.options.Options.{Options}
 use Rattle.chart_top.specs.Answers.{IsReplayed, IsPicture, range_for, ticks_for}
-use Rattle.chart_top.proofs.Timed.{run-on}
+
+-- the events of a replayed document are a run of its machine
+run-on : (P : ProgramParts) (t : Trace) (ending : Ending) → IsReplayed P t ending → IsRunOn P (shape_told P t.shape) t.shape.fuel t.events
+run-on P t ending is C told =
+    let same : is.is.setting ≡ C = same-setting P (shape_told P t.shape) t.shape.fuel is.is.setting C is.is.told told in
+    subst (λ (D : Setting). IsRun (opened D) t.events) same is.is.is_true.run.complete.run
 
 module _ (P : ProgramParts) (t : Trace) (s : Shape) (events : List Event) where
   pub run-at : (ending : Ending) → s ≡ shape_told P t.shape → events ≡ t.events → IsReplayed P t ending → IsRunOn P s t.shape.fuel events

@@ -1,18 +1,16 @@
 -- What the program answers to options and a document.
-use Rattle.std.specs.Prelude.{◌≡◌, ◌⊎◌, ℕ, List, map}
+use Rattle.std.specs.Prelude.{◌≡◌, ◌⊎◌, ℕ, List}
 use Rattle.dn_base.specs.declared.ids.Grant.{Grant}
 use Rattle.dn_base.specs.declared.status.Status as status
 use Rattle.dn_base.specs.Status.{status_of}
 use Rattle.region_table.specs.Program.{ProgramParts}
 use Rattle.rv_core.specs.declared.ending.Ending.{Ending}
 use Rattle.grant_log.specs.declared.counts.Counts.{Counts}
-use Rattle.message_net.specs.declared.event.EventKind as kind
-use Rattle.message_net.specs.declared.event.EventKind.{EventKind}
-use Rattle.run_report.specs.Run.{all_kinds}
 use Rattle.run_replay.specs.declared.trace.Trace.{Trace}
 use Rattle.run_replay.specs.declared.replaying.Replayed.TheVariants.{Complete}
 use Rattle.run_timing.specs.declared.ticks.Ticks.{Ticks}
 use Rattle.run_timing.specs.declared.timing.Timing.{Timing}
+use Rattle.run_timing.specs.Ticks.{ticks_by}
 use Rattle.run_timing.specs.Longest.{IsTimingOf, numbers_in}
 use Rattle.message_chart.specs.declared.chart.Chart.{Chart}
 use Rattle.message_chart.specs.Picture.{svg_of}
@@ -22,32 +20,14 @@ use Rattle.dn_top.specs.Answers.{HasChecked, IsRefusedDocument}
 use Rattle.dn_top.specs.Documents.{HasTrace, IsReplayIn, shape_told}
 use Rattle.chart_top.specs.declared.answering.Output.{Output}
 use Rattle.chart_top.specs.declared.options.Options.{Options}
-use Rattle.chart_top.specs.declared.programs.Stop.{Stop}
-use Rattle.chart_top.specs.declared.programs.Stop as stop
-
--- a refusal has such a line; want of memory says nothing
-abbrev pub IsStop : (List ℕ → Type 0) → Stop → Type 0
-IsStop IsLine (stop.TheVariants.Refused line) = IsLine line
-IsStop IsLine stop.TheVariants.Memory = Unit {0}
 
 -- the range of events that the options ask for
 abbrev pub range_for : Options → Range
 range_for o = record { first = o.first; most = o.rows }
 
 -- the ticks that options give to the kinds of event: those of a core's own, those that a bank handles, and all others
-abbrev pub ticks_of : Options → EventKind → ℕ
-ticks_of o kind.TheVariants.Instr = o.tick_core
-ticks_of o kind.TheVariants.Evict = o.tick_core
-ticks_of o kind.TheVariants.Arrive = o.tick_core
-ticks_of o kind.TheVariants.ReadReq = o.tick_bank
-ticks_of o kind.TheVariants.RegReq = o.tick_bank
-ticks_of o kind.TheVariants.WriteBack = o.tick_bank
-ticks_of o kind.TheVariants.Acquire = o.tick_bank
-ticks_of o kind.TheVariants.Release = o.tick_bank
-ticks_of o _ = o.tick_mail
-
 abbrev pub ticks_for : Options → Ticks
-ticks_for o = record { kinds = map (ticks_of o) all_kinds }
+ticks_for o = ticks_by o.tick_core o.tick_bank o.tick_mail
 
 -- a trace's events are a complete run of its machine, which has this ending
 pub record IsReplayed (P : ProgramParts) (t : Trace) (ending : Ending) : Type 0 where

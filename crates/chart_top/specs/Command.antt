@@ -1,11 +1,9 @@
 -- The command: its options, which lists of words it takes, and what they ask for.
-use Rattle.std.specs.Prelude.{ℕ, List, [], ◌∷◌, codes, Option, Some, None, option_and_then}
+use Rattle.std.specs.Prelude.{ℕ, List, codes, Option, Some, option_and_then}
 use Rattle.std.specs.Int.{IsInRange}
 use Rattle.clap.specs.Walk.{Row, Text}
-use Rattle.clap.specs.Simple.{App, new_app, with_rule, matches_of}
-use Rattle.clap.specs.Kinds.{Kinds}
-use Rattle.clap.specs.Faults.{fault_of}
-use Rattle.command_words.specs.Command.{bare, number_in, number_rule}
+use Rattle.clap.specs.Simple.{App, new_app, with_rule}
+use Rattle.command_words.specs.Words.{bare, faults_in, number_in, number_rule, values_in, where_taken}
 use Rattle.chart_top.specs.declared.options.Options.{Options}
 
 -- the command `chart` with its five options
@@ -17,13 +15,6 @@ command =
     (number_rule (codes "tick-core") (codes "1")))
     (number_rule (codes "tick-bank") (codes "10")))
     (number_rule (codes "tick-mail") (codes "5"))
-
--- what is wrong with these words as words of the command, and the values that they give its options
-unfoldable pub faults_in : List Text → Kinds
-faults_in words = fault_of command words
-
-unfoldable pub values_in : List Text → List Row
-values_in words = matches_of command words
 
 -- the options that the command's values give, where each number is in its range
 unfoldable pub options_from : List Row → Option Options
@@ -40,13 +31,9 @@ options_from rows =
     (number_in rows (codes "rows") 1 4096))
     (number_in rows (codes "first") 0 4294967295)
 
-abbrev pub options_if : Kinds → List Row → Option Options
-options_if [] rows = options_from rows
-options_if (k ∷ ks) rows = None
-
 -- the options that these words ask for, where the command takes the words
 unfoldable pub options_of : List Text → Option Options
-options_of words = options_if (faults_in words) (values_in words)
+options_of words = where_taken (faults_in command words) (options_from (values_in command words))
 
 -- each number is within its limits
 pub record IsWithinLimits (o : Options) : Type 0 where

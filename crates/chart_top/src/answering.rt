@@ -1,19 +1,20 @@
 ghost use Rattle.std.specs.Prelude.{◌≡◌, IfOk, IfErr};
 ghost use Rattle.run_replay.specs.Document.{IsTrace};
 ghost use Rattle.run_timing.specs.Longest.{numbers_in};
-ghost use Rattle.dn_top.specs.Answers.{IsRefusedDocument};
+ghost use Rattle.run_timing.specs.Ticks.{AreWithinLimits};
+ghost use Rattle.dn_top.specs.Answers.{IsRefusedDocument, IsStop};
 ghost use Rattle.dn_top.specs.Documents.{IsNoRun, shape_told};
-ghost use Rattle.chart_top.specs.Answers.{IsAnswer, IsDrawn, IsPicture, IsReplayed, IsStop, range_for, ticks_for};
+ghost use Rattle.chart_top.specs.Answers.{IsAnswer, IsDrawn, IsPicture, IsReplayed, range_for, ticks_for};
 ghost use Rattle.chart_top.specs.Command.{IsWithinLimits};
 
 use crate::options::Options;
-use crate::programs::{Stop, checked_of, refused_trace, trace_in};
 use dn_base::{Memory, Sequence, Shape, Status};
+use dn_top::{Stop, checked_of, refused_trace, shape_told, trace_in};
 use effect_checker::Checked;
 use message_chart::chart_text;
-use region_table::{Program, a_program_is_well_formed};
+use region_table::a_program_is_well_formed;
 use run_chart::{Range, chart};
-use run_replay::{Replayed, Trace, TraceRefusal, TraceShape, replay};
+use run_replay::{Replayed, Trace, TraceRefusal, replay};
 use run_timing::{Link, Ticks, time_run};
 use rv_core::Ending;
 use std::alloc::Global;
@@ -36,29 +37,12 @@ fn range_for(options: &Options) -> Range
 }
 
 /// The ticks that the options give to each kind of event.
-#[tactic(auto, unfolding(run_report::specs::Run::all_kinds))]
 fn ticks_for(options: &Options) -> Ticks
-    ensures { result ≡ ticks_for options.now }
+    requires { IsWithinLimits options.now }
+    ensures value { result ≡ ticks_for options.now }
+    ensures limits { AreWithinLimits result }
 {
-    let (core, bank, mail) = (options.tick_core, options.tick_bank, options.tick_mail);
-    Ticks {
-        kinds: [
-            core, core, core, bank, mail, mail, bank, mail, mail, bank, mail, bank, bank, mail,
-            mail, mail, mail,
-        ],
-    }
-}
-
-/// The machine of a program, in the size that a document tells.
-fn shape_told(sizes: TraceShape, program: &Program) -> Shape
-    ensures { result ≡ shape_told program.now sizes }
-{
-    Shape {
-        cores: program.cores(),
-        banks: sizes.banks,
-        sets: sizes.sets,
-        ways: sizes.ways,
-    }
+    Ticks::by_place(options.tick_core, options.tick_bank, options.tick_mail)
 }
 
 /// The numbers of the links' events.

@@ -4,9 +4,11 @@
 mod answering;
 mod command;
 mod options;
-mod programs;
 mod reading;
+mod serving;
 
 pub use answering::{Output, answer};
-pub use options::{Options, WordsFault};
+pub use command_words::WordsFault;
+pub use options::Options;
 pub use reading::read_words;
+pub use serving::chart_main;

@@ -1,8 +1,3 @@
-ghost use Rattle.std.specs.Prelude.{◌≡◌};
-
-use std::alloc::AllocError;
-use thiserror::Error;
-
 /// What the command's words ask for.
 #[derive(Clone, Copy, Debug, PartialEq, Eq)]
 pub struct Options {
@@ -16,25 +11,4 @@ pub struct Options {
     pub tick_bank: u32,
     /// Ticks of each other event, from 1 to 1,000,000.
     pub tick_mail: u32,
-}
-
-/// Why words are refused.
-#[derive(Clone, Copy, Debug, PartialEq, Eq, Error)]
-pub enum WordsFault {
-    /// They aren't words of the command.
-    #[error("not words of the command")]
-    Usage,
-    /// There is no room to read them.
-    #[error("out of memory")]
-    Memory,
-}
-
-impl From<AllocError> for WordsFault {
-    ghost use Rattle.chart_top.specs.declared.options.WordsFault.TheVariants.{Memory as WantsMemory};
-
-    ghost from_gives = { λ _ fault. fault ≡ WantsMemory };
-
-    fn from(_error: AllocError) -> WordsFault {
-        WordsFault::Memory
-    }
 }

@@ -1,33 +1,13 @@
-ghost use Rattle.std.specs.Prelude.{◌≡◌, ◌≤◌, IfOk, IfErr, map, string_bytes, Some, None, option_and_then};
-ghost use Rattle.std.specs.Int.{IsInRange};
-ghost use Rattle.clap.specs.Words.{rows_of, found_of, one_of};
-ghost use Rattle.command_words.specs.Numbers.{number_in_text};
-ghost use Rattle.command_words.specs.Command.{number_in};
+ghost use Rattle.std.specs.Prelude.{◌≡◌, IfOk, IfErr, map, string_bytes, Some, None};
+ghost use Rattle.clap.specs.Words.{rows_of, found_of};
+ghost use Rattle.command_words.specs.declared.words.WordsFault.TheVariants.{Usage};
 ghost use Rattle.chart_top.specs.Command.{options_from, options_of, IsWithinLimits};
-ghost use Rattle.chart_top.specs.declared.options.WordsFault.TheVariants.{Usage};
 
-use crate::command::matches_in;
-use crate::options::{Options, WordsFault};
+use crate::command::chart;
+use crate::options::Options;
 use clap::ArgMatches;
+use command_words::{WordsFault, matches_by, number};
 use std::alloc::Global;
-
-/// The number that an option's text writes.
-fn number_of(matches: &ArgMatches<'_>, name: &str) -> Option<u32>
-    ensures { result ≡ option_and_then number_in_text (one_of name.now (rows_of (found_of matches.now))) }
-{
-    matches.get_one::<u32>(name)
-}
-
-/// The number of an option, where it is from `low` to `high`.
-fn number(matches: &ArgMatches<'_>, name: &str, low: u32, high: u32) -> Option<u32>
-    ensures value { result ≡ number_in (rows_of (found_of matches.now)) name.now low high }
-    ensures within { (n : _) → result ≡ Some n → IsInRange low high n }
-{
-    match number_of(matches, name) {
-        Some(number) if low <= number && number <= high => Some(number),
-        _ => None,
-    }
-}
 
 /// The options that the values give, where each number is in its range.
 #[tactic(auto, unfolding(crate::specs::Command::options_from))]
@@ -52,13 +32,13 @@ fn options(matches: &ArgMatches<'_>) -> Option<Options>
 ///
 /// # Errors
 /// `Usage` where the words aren't the command's, `Memory` where there is no room to read them.
-#[tactic(auto, unfolding(crate::specs::Command::options_of))]
+#[tactic(auto, unfolding(crate::specs::Command::options_of), using(crate::proofs::Commands::is_free, command_words::proofs::Commands::not_taken))]
 pub fn read_words(alloc: Global, words: &[String]) -> Result<Options, WordsFault>
     ensures taken { IfOk result (λ options. options_of (map string_bytes words.now) ≡ Some options) }
     ensures limits { IfOk result IsWithinLimits }
     ensures usage { IfErr result (λ fault. fault ≡ Usage → options_of (map string_bytes words.now) ≡ None) }
 {
-    match options(&matches_in(alloc, words)?) {
+    match options(&matches_by(chart(alloc)?, words)?) {
         Some(options) => Ok(options),
         None => Err(WordsFault::Usage),
     }

@@ -1,8 +1,3 @@
-ghost use Rattle.std.specs.Prelude.{◌≡◌};
-
-use std::alloc::AllocError;
-use thiserror::Error;
-
 /// What the program does with a text (this project's profile).
 #[derive(Clone, Copy, Debug, PartialEq, Eq)]
 pub enum Mode {
@@ -50,25 +45,4 @@ pub struct Options {
     pub tick_bank: u32,
     /// Ticks of each other event, from 1 to 1,000,000.
     pub tick_mail: u32,
-}
-
-/// Why words are refused.
-#[derive(Clone, Copy, Debug, PartialEq, Eq, Error)]
-pub enum WordsFault {
-    /// They aren't words of the command.
-    #[error("not words of the command")]
-    Usage,
-    /// There is no room to read them.
-    #[error("out of memory")]
-    Memory,
-}
-
-impl From<AllocError> for WordsFault {
-    ghost use Rattle.command_words.specs.declared.options.WordsFault.TheVariants.{Memory as WantsMemory};
-
-    ghost from_gives = { λ _ fault. fault ≡ WantsMemory };
-
-    fn from(_error: AllocError) -> WordsFault {
-        WordsFault::Memory
-    }
 }

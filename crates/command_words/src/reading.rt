@@ -1,12 +1,11 @@
-ghost use Rattle.std.specs.Prelude.{◌≡◌, ◌≤◌, IfOk, IfErr, map, string_bytes, Some, None, option_map, option_and_then};
-ghost use Rattle.std.specs.Int.{IsInRange};
-ghost use Rattle.clap.specs.Words.{rows_of, found_of, first_of, one_of};
-ghost use Rattle.command_words.specs.Numbers.{number_in_text};
-ghost use Rattle.command_words.specs.Command.{mode_named, mode_in, number_in, options_from, options_of, IsWithinLimits};
-ghost use Rattle.command_words.specs.declared.options.WordsFault.TheVariants.{Usage};
+ghost use Rattle.std.specs.Prelude.{◌≡◌, IfOk, IfErr, map, string_bytes, Some, None, option_map};
+ghost use Rattle.clap.specs.Words.{rows_of, found_of, first_of};
+ghost use Rattle.command_words.specs.Command.{mode_named, mode_in, options_from, options_of, IsWithinLimits};
+ghost use Rattle.command_words.specs.declared.words.WordsFault.TheVariants.{Usage};
 
-use crate::command::matches_in;
-use crate::options::{Mode, Options, WordsFault};
+use crate::command::denovo;
+use crate::options::{Mode, Options};
+use crate::words::{WordsFault, matches_by, number};
 use clap::ArgMatches;
 use std::alloc::Global;
 
@@ -45,24 +44,6 @@ fn mode(matches: &ArgMatches<'_>) -> Option<Mode>
     }
 }
 
-/// The number that an option's text writes.
-fn number_of(matches: &ArgMatches<'_>, name: &str) -> Option<u32>
-    ensures { result ≡ option_and_then number_in_text (one_of name.now (rows_of (found_of matches.now))) }
-{
-    matches.get_one::<u32>(name)
-}
-
-/// The number of an option, where it is from `low` to `high`.
-fn number(matches: &ArgMatches<'_>, name: &str, low: u32, high: u32) -> Option<u32>
-    ensures value { result ≡ number_in (rows_of (found_of matches.now)) name.now low high }
-    ensures within { (n : _) → result ≡ Some n → IsInRange low high n }
-{
-    match number_of(matches, name) {
-        Some(number) if low <= number && number <= high => Some(number),
-        _ => None,
-    }
-}
-
 /// The options that the values give, where the mode is one of the nine and each number is in its range.
 #[tactic(auto, unfolding(crate::specs::Command::options_from))]
 fn options(matches: &ArgMatches<'_>) -> Option<Options>
@@ -92,13 +73,13 @@ fn options(matches: &ArgMatches<'_>) -> Option<Options>
 ///
 /// # Errors
 /// `Usage` where the words aren't the command's, `Memory` where there is no room to read them.
-#[tactic(auto, unfolding(crate::specs::Command::options_of))]
+#[tactic(auto, unfolding(crate::specs::Command::options_of), using(crate::proofs::Commands::is_free, crate::proofs::Commands::not_taken))]
 pub fn read_words(alloc: Global, words: &[String]) -> Result<Options, WordsFault>
     ensures taken { IfOk result (λ options. options_of (map string_bytes words.now) ≡ Some options) }
     ensures limits { IfOk result IsWithinLimits }
     ensures usage { IfErr result (λ fault. fault ≡ Usage → options_of (map string_bytes words.now) ≡ None) }
 {
-    match options(&matches_in(alloc, words)?) {
+    match options(&matches_by(denovo(alloc)?, words)?) {
         Some(options) => Ok(options),
         None => Err(WordsFault::Usage),
     }

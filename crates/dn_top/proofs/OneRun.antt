@@ -14,12 +14,11 @@ use Rattle.dn_machine.proofs.OneSetting.{same-setting}
 use Rattle.dn_machine.proofs.ScheduleLaws.{picked-one}
 use Rattle.run_timing.specs.declared.timing.Link.{Link}
 use Rattle.run_timing.specs.declared.timing.Timing.{Timing}
-use Rattle.run_timing.specs.Longest.{IsTimingOf}
 use Rattle.run_timing.specs.Text.{time_line, chain_line, link_line, timing_of}
 use Rattle.run_timing.proofs.OneTiming.{one-timing}
 use Rattle.command_words.specs.declared.options.Options.{Options}
 use Rattle.dn_top.specs.declared.output.Output.{Output}
-use Rattle.dn_top.specs.Runs.{shape_for, ticks_for, IsRunOf, IsRunFor, IsMachineRun, IsTimedRun, output_of_run, summed_up}
+use Rattle.dn_top.specs.Runs.{shape_for, ticks_for, IsRunOf, IsRunFor, IsMachineRun, IsTimedFor, IsTimedRun, output_of_run, summed_up}
 
 -- ---- the run
 
@@ -66,12 +65,10 @@ timed-text t u total links =
 pub timed-one : (P : ProgramParts) (o : Options) (out other : Output) → o.workers ≡ 1 → IsTimedRun P o out → IsTimedRun P o other → out ≡ other
 timed-one P o out other one is also =
     let run : is.run ≡ also.run = one-run P o is.run also.run one is.is also.is in
+    let timed : IsTimedFor P o also.run out = subst (λ (r : RunRecord). IsTimedFor P o r out) run is.timed in
     let timing =
-    one-timing P (shape_for P o) o.fuel also.run.events (ticks_for o) is.timing also.timing also.limits
-    (subst (λ (r : RunRecord). IsTimingOf P (shape_for P o) o.fuel r.events (ticks_for o) is.timing) run is.times)
-    also.times
+    one-timing P (shape_for P o) o.fuel also.run.events (ticks_for o) timed.timing also.timed.timing timed.limits timed.times also.timed.times
     in
-    is.answer
-    ∙ ap (λ (r : RunRecord). output_of_run (summed_up r ++ timing_of is.timing) r) run
-    ∙ ap (λ (text : List ℕ). output_of_run (summed_up also.run ++ text) also.run) (timed-text is.timing also.timing timing.0 timing.1)
-    ∙ sym also.answer
+    timed.answer
+    ∙ ap (λ (text : List ℕ). output_of_run (summed_up also.run ++ text) also.run) (timed-text timed.timing also.timed.timing timing.0 timing.1)
+    ∙ sym also.timed.answer

@@ -57,7 +57,7 @@ done_outcome mode.TheVariants.List o text out h = (outcome.TheVariants.Done, sta
 done_outcome mode.TheVariants.Flat o text out h = (h.holds.end.ending.outcome, status_in out _ h.holds.answer)
 done_outcome mode.TheVariants.Trace o text out h = (h.holds.run.ending.outcome, status_in out _ h.holds.answer)
 done_outcome mode.TheVariants.Replay o text out h = (h.holds.holds.run.ending.outcome, status_in out _ h.holds.holds.answer)
-done_outcome mode.TheVariants.Time o text out h = (h.holds.run.ending.outcome, status_in out _ h.holds.answer)
+done_outcome mode.TheVariants.Time o text out h = (h.holds.run.ending.outcome, status_in out _ h.holds.timed.answer)
 done_outcome mode.TheVariants.Prove o text out h = (outcome.TheVariants.Done, status_in out _ h.holds.answer)
 
 -- the status of an answer is that of an outcome or of a refusal
@@ -74,7 +74,7 @@ done-comes mode.TheVariants.List o text out h = ap (λ (x : Output). is_some x.r
 done-comes mode.TheVariants.Flat o text out h = ap (λ (x : Output). is_some x.run) h.holds.answer
 done-comes mode.TheVariants.Trace o text out h = ap (λ (x : Output). is_some x.run) h.holds.answer
 done-comes mode.TheVariants.Replay o text out h = ap (λ (x : Output). is_some x.run) h.holds.holds.answer
-done-comes mode.TheVariants.Time o text out h = ap (λ (x : Output). is_some x.run) h.holds.answer
+done-comes mode.TheVariants.Time o text out h = ap (λ (x : Output). is_some x.run) h.holds.timed.answer
 done-comes mode.TheVariants.Prove o text out h = ap (λ (x : Output). is_some x.run) h.holds.answer
 
 -- the run is one that the mode makes
@@ -95,7 +95,7 @@ done-run mode.TheVariants.Replay o text out h =
     subst (RunsWell mode.TheVariants.Replay o) (sym h.holds.holds.answer)
     (record { program = h.holds.program; checked = h.holds.checked; run = (h.trace.shape, h.is.told.head.shape, h.holds.holds.is); ends = refl })
 done-run mode.TheVariants.Time o text out h =
-    subst (RunsWell mode.TheVariants.Time o) (sym h.holds.answer) (record { program = h.program; checked = h.checked; run = h.holds.is.run; ends = refl })
+    subst (RunsWell mode.TheVariants.Time o) (sym h.holds.timed.answer) (record { program = h.program; checked = h.checked; run = h.holds.is.run; ends = refl })
 done-run mode.TheVariants.Prove o text out h = subst (RunsWell mode.TheVariants.Prove o) (sym h.holds.answer) tt
 
 -- an answer with another status hands no run back

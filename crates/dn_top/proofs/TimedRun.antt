@@ -1,56 +1,31 @@
 -- The timing of the run that options ask for.
-use Rattle.std.proofs.Common.{◌≡◌, ℕ, ◌≤◌, List, sym, ap, subst, ◌∙◌, arith}
+use Rattle.std.proofs.Common.{◌≡◌, List, sym, ap, subst, ◌∙◌}
 use Rattle.dn_base.specs.declared.ids.Shape.{Shape}
 use Rattle.region_table.specs.Program.{ProgramParts}
 use Rattle.message_net.specs.declared.event.Event.{Event}
-use Rattle.message_net.specs.declared.event.EventKind as kind
 use Rattle.registration_protocol.specs.Node.{Setting}
 use Rattle.machine_rules.specs.State.{opened}
 use Rattle.machine_rules.specs.Runs.{IsRun}
-use Rattle.run_report.specs.Run.{all_kinds}
 use Rattle.dn_machine.specs.declared.record.RunRecord.{RunRecord}
 use Rattle.dn_machine.specs.Settings.{IsRunOn}
 use Rattle.dn_machine.proofs.OneSetting.{same-setting}
 use Rattle.run_timing.specs.declared.ticks.Ticks.{Ticks}
 use Rattle.run_timing.specs.declared.timing.Timing.{Timing}
-use Rattle.run_timing.specs.Ticks.{AreWithinLimits}
 use Rattle.run_timing.specs.Longest.{IsTimingOf}
 use Rattle.command_words.specs.declared.options.Options.{Options}
-use Rattle.command_words.specs.Command.{IsWithinLimits}
-use Rattle.dn_top.specs.Runs.{shape_for, ticks_for, IsRunFor}
-
--- the ticks of each kind are within their limits
-pub ticks-within : (o : Options) → IsWithinLimits o → AreWithinLimits (ticks_for o)
-unfolding all_kinds
-ticks-within o l kind.TheVariants.Instr = (omega (arith, l.tick_core), omega (arith, l.tick_core))
-ticks-within o l kind.TheVariants.Evict = (omega (arith, l.tick_core), omega (arith, l.tick_core))
-ticks-within o l kind.TheVariants.Arrive = (omega (arith, l.tick_core), omega (arith, l.tick_core))
-ticks-within o l kind.TheVariants.ReadReq = (omega (arith, l.tick_bank), omega (arith, l.tick_bank))
-ticks-within o l kind.TheVariants.ReadFwd = (omega (arith, l.tick_mail), omega (arith, l.tick_mail))
-ticks-within o l kind.TheVariants.DataReply = (omega (arith, l.tick_mail), omega (arith, l.tick_mail))
-ticks-within o l kind.TheVariants.RegReq = (omega (arith, l.tick_bank), omega (arith, l.tick_bank))
-ticks-within o l kind.TheVariants.RegFwd = (omega (arith, l.tick_mail), omega (arith, l.tick_mail))
-ticks-within o l kind.TheVariants.RegAck = (omega (arith, l.tick_mail), omega (arith, l.tick_mail))
-ticks-within o l kind.TheVariants.WriteBack = (omega (arith, l.tick_bank), omega (arith, l.tick_bank))
-ticks-within o l kind.TheVariants.WbAck = (omega (arith, l.tick_mail), omega (arith, l.tick_mail))
-ticks-within o l kind.TheVariants.Acquire = (omega (arith, l.tick_bank), omega (arith, l.tick_bank))
-ticks-within o l kind.TheVariants.Release = (omega (arith, l.tick_bank), omega (arith, l.tick_bank))
-ticks-within o l kind.TheVariants.Grant = (omega (arith, l.tick_mail), omega (arith, l.tick_mail))
-ticks-within o l kind.TheVariants.Arrived = (omega (arith, l.tick_mail), omega (arith, l.tick_mail))
-ticks-within o l kind.TheVariants.Go = (omega (arith, l.tick_mail), omega (arith, l.tick_mail))
-ticks-within o l kind.TheVariants.Halt = (omega (arith, l.tick_mail), omega (arith, l.tick_mail))
+use Rattle.dn_top.specs.Runs.{shape_for, ticks_for, IsAnyRunFor}
 
 -- the events are a run of the opened machine that the options ask for
-run-on : (P : ProgramParts) (o : Options) (r : RunRecord) → IsRunFor P o r → IsRunOn P (shape_for P o) o.fuel r.events
+run-on : (P : ProgramParts) (o : Options) (r : RunRecord) → IsAnyRunFor P o r → IsRunOn P (shape_for P o) o.fuel r.events
 run-on P o r is C told =
-    let same : is.run.setting ≡ C = same-setting P (shape_for P o) o.fuel is.run.setting C is.run.asked told in
-    subst (λ (D : Setting). IsRun (opened D) r.events) same is.run.machine.complete.run
+    let same : is.setting ≡ C = same-setting P (shape_for P o) o.fuel is.setting C is.asked told in
+    subst (λ (D : Setting). IsRun (opened D) r.events) same is.machine.complete.run
 
 -- the same of a shape and events that are these
 shape-is : (Q P : ProgramParts) (o : Options) (s : Shape) → Q ≡ P → s ≡ shape_for Q o → s ≡ shape_for P o
 shape-is Q P o s program shape = shape ∙ ap (λ (p : ProgramParts). shape_for p o) program
 
-pub run-at : (Q P : ProgramParts) (o : Options) (s : Shape) (r : RunRecord) (events : List Event) → Q ≡ P → s ≡ shape_for Q o → events ≡ r.events → IsRunFor P o r → IsRunOn P s o.fuel events
+pub run-at : (Q P : ProgramParts) (o : Options) (s : Shape) (r : RunRecord) (events : List Event) → Q ≡ P → s ≡ shape_for Q o → events ≡ r.events → IsAnyRunFor P o r → IsRunOn P s o.fuel events
 run-at Q P o s r events program shape are is =
     subst (λ (es : List Event). IsRunOn P s o.fuel es) (sym are)
     (subst (λ (x : Shape). IsRunOn P x o.fuel r.events) (sym (shape-is Q P o s program shape)) (run-on P o r is))

@@ -1,15 +1,13 @@
 -- The document of the run that options ask for.
-use Rattle.std.proofs.Common.{◌≡◌, ℕ, List, Ok, sym, ap, subst, ◌∙◌, arith}
+use Rattle.std.proofs.Common.{◌≡◌, ℕ, List, Ok, arith}
 use Rattle.std.specs.List.{All}
 use Rattle.region_table.specs.Program.{ProgramParts}
 use Rattle.rv_assembler.specs.Source.{source}
-use Rattle.message_net.specs.declared.event.Event.{Event}
 use Rattle.dn_machine.specs.declared.record.RunRecord.{RunRecord}
-use Rattle.run_replay.specs.declared.trace.TraceShape.{TraceShape}
-use Rattle.run_replay.specs.Document.{IsTold, IsTrace, IsTraceShape, document_of}
+use Rattle.run_replay.specs.Document.{IsTold, IsTrace, IsTraceShape}
 use Rattle.command_words.specs.declared.options.Options.{Options}
 use Rattle.command_words.specs.Command.{IsWithinLimits}
-use Rattle.dn_top.specs.Runs.{IsRunFor}
+use Rattle.dn_top.specs.Runs.{IsAnyRunFor}
 use Rattle.dn_top.specs.Documents.{sizes_of, trace_of}
 use Rattle.dn_top.proofs.Fronts.{source-small}
 
@@ -24,23 +22,9 @@ sizes-within o l =
     }
 
 -- so is all that the document of a run tells
-pub trace-told : (P : ProgramParts) (o : Options) (text : List ℕ) (r : RunRecord) → IsWithinLimits o → source text ≡ Ok P → IsRunFor P o r → All IsTold r.events → IsTrace (trace_of o text r)
+pub trace-told : (P : ProgramParts) (o : Options) (text : List ℕ) (r : RunRecord) → IsWithinLimits o → source text ≡ Ok P → IsAnyRunFor P o r → All IsTold r.events → IsTrace (trace_of o text r)
 trace-told P o text r limits is run told =
     record {
-      head = record { shape = sizes-within o limits; text = source-small text P is; count = run.run.machine.few.most };
+      head = record { shape = sizes-within o limits; text = source-small text P is; count = run.machine.few.most };
       events = told;
     }
-
--- the same of a size and events that are these
-pub told-at : (o : Options) (text : List ℕ) (r : RunRecord) (s : TraceShape) (events : List Event) → s ≡ sizes_of o → events ≡ r.events → IsTrace (trace_of o text r)
-    → IsTrace (record { shape = s; text = text; events = events })
-told-at o text r s events size are told =
-    subst (λ (x : TraceShape). IsTrace (record { shape = x; text = text; events = events })) (sym size)
-    (subst (λ (es : List Event). IsTrace (record { shape = sizes_of o; text = text; events = es })) (sym are) told)
-
-pub document-at : (o : Options) (text : List ℕ) (r : RunRecord) (s : TraceShape) (events : List Event) (bytes : List ℕ) → s ≡ sizes_of o → events ≡ r.events
-    → bytes ≡ document_of (record { shape = s; text = text; events = events }) → bytes ≡ document_of (trace_of o text r)
-document-at o text r s events bytes size are is =
-    is
-    ∙ ap (λ (x : TraceShape). document_of (record { shape = x; text = text; events = events })) size
-    ∙ ap (λ (es : List Event). document_of (record { shape = sizes_of o; text = text; events = es })) are

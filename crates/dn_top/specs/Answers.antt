@@ -31,7 +31,7 @@ use Rattle.dn_top.specs.declared.output.Output.{Output}
 use Rattle.dn_top.specs.declared.programs.Stop.{Stop}
 use Rattle.dn_top.specs.declared.programs.Stop as stop
 use Rattle.dn_machine.specs.declared.record.RunRecord.{RunRecord}
-use Rattle.dn_top.specs.Runs.{IsRunFor, IsMachineRun, IsTimedRun, reported, summed_up}
+use Rattle.dn_top.specs.Runs.{IsAnyRunFor, IsRunFor, IsMachineRun, IsTimedRun, reported, summed_up}
 use Rattle.dn_top.specs.Documents.{IsTracedRun, HasTrace, IsNoDocument, IsReplayedRun, IsNoRun}
 
 -- ---- a text, its program and its check
@@ -109,9 +109,13 @@ IsRefusedDocument document line =
 
 -- ---- the run of a text
 
--- r is a run of the text's checked program on the machine that the options ask for
+-- r is a run of the text's checked program on the machine that the options ask for, picked as they ask
 abbrev pub HasRun : Options → List ℕ → RunRecord → Type 0
 HasRun o text r = HasChecked text (λ P. IsRunFor P o r)
+
+-- the same, whoever picked its events
+abbrev pub HasAnyRun : Options → List ℕ → RunRecord → Type 0
+HasAnyRun o text r = HasChecked text (λ P. IsAnyRunFor P o r)
 
 -- ---- a row for each mode
 

@@ -1,5 +1,5 @@
 -- A program's run on the multicore machine: what is promised of it, and how it is printed.
-use Rattle.std.specs.Prelude.{◌≡◌, ℕ, ◌<◌, ◌≤◌, List, [], ◌++◌, length, map, sum, Option, Some}
+use Rattle.std.specs.Prelude.{◌≡◌, ℕ, ◌<◌, ◌≤◌, List, [], ◌++◌, length, sum, Option, Some}
 use Rattle.std.specs.Option.{option_map}
 use Rattle.dn_base.specs.declared.ids.Shape.{Shape}
 use Rattle.dn_base.specs.Status.{status_of}
@@ -14,17 +14,19 @@ use Rattle.dn_machine.specs.Settings.{IsSettingOf}
 use Rattle.dn_machine.specs.Run.{IsRunOf as IsMachinesRun}
 use Rattle.dn_machine.specs.Schedule.{IsScheduled}
 use Rattle.dn_machine.specs.declared.record.RunRecord.{RunRecord}
-use Rattle.message_net.specs.declared.event.EventKind as kind
-use Rattle.message_net.specs.declared.event.EventKind.{EventKind}
-use Rattle.run_report.specs.Run.{all_kinds, report_of}
+use Rattle.run_report.specs.Run.{report_of}
 use Rattle.run_report.specs.Summary.{summary_of}
 use Rattle.run_timing.specs.declared.ticks.Ticks.{Ticks}
 use Rattle.run_timing.specs.declared.timing.Timing.{Timing}
-use Rattle.run_timing.specs.Ticks.{AreWithinLimits}
+use Rattle.run_timing.specs.Ticks.{AreWithinLimits, ticks_by}
 use Rattle.run_timing.specs.Longest.{IsTimingOf}
 use Rattle.run_timing.specs.Text.{timing_of}
 use Rattle.command_words.specs.declared.options.Options.{Options}
 use Rattle.dn_top.specs.declared.output.Output.{Output}
+
+-- the same options, by one worker
+abbrev pub alone : Options → Options
+alone o = record o { workers = 1 }
 
 -- ---- the machine that options ask for
 
@@ -68,10 +70,14 @@ pub record IsRunOf (P : ProgramParts) (shape : Shape) (fuel : ℕ) (r : RunRecor
   -- without locks the program and the fuel alone decide how it ends
   pub lock_free : P.locks ≡ [] → IsWithoutGrants P fuel r
 
--- r is a run on the machine that the options ask for; by one worker it is the one of their seed, whose words picked its events,
--- and by more the host decides which event comes first
+-- r is a run on the machine that the options ask for, whoever picked its events
+abbrev pub IsAnyRunFor : ProgramParts → Options → RunRecord → Type 0
+IsAnyRunFor P o r = IsRunOf P (shape_for P o) o.fuel r
+
+-- r is such a run; by one worker it is the one of the options' seed, whose words picked its events, and by more the host decides
+-- which event comes first
 pub record IsRunFor (P : ProgramParts) (o : Options) (r : RunRecord) : Type 0 where
-  pub run : IsRunOf P (shape_for P o) o.fuel r
+  pub run : IsAnyRunFor P o r
   pub scheduled : o.workers ≡ 1 → IsScheduled (opened run.setting) o.seed r.events
 
 -- ---- its output
@@ -96,29 +102,26 @@ pub record IsMachineRun (P : ProgramParts) (o : Options) (print : RunRecord → 
 -- ---- its timing
 
 -- the ticks that options give to the kinds of event: those of a core's own, those that a bank handles, and all others
-abbrev pub ticks_of : Options → EventKind → ℕ
-ticks_of o kind.TheVariants.Instr = o.tick_core
-ticks_of o kind.TheVariants.Evict = o.tick_core
-ticks_of o kind.TheVariants.Arrive = o.tick_core
-ticks_of o kind.TheVariants.ReadReq = o.tick_bank
-ticks_of o kind.TheVariants.RegReq = o.tick_bank
-ticks_of o kind.TheVariants.WriteBack = o.tick_bank
-ticks_of o kind.TheVariants.Acquire = o.tick_bank
-ticks_of o kind.TheVariants.Release = o.tick_bank
-ticks_of o _ = o.tick_mail
-
 abbrev pub ticks_for : Options → Ticks
-ticks_for o = record { kinds = map (ticks_of o) all_kinds }
+ticks_for o = ticks_by o.tick_core o.tick_bank o.tick_mail
 
--- the program was run and timed: the output hands the run back, sums it up, and then tells its longest chain of events
+-- a run of the program on the machine of this shape was timed by these ticks: the output hands the run back, sums it up, and then
+-- tells its longest chain of events
+pub record IsTimed (P : ProgramParts) (shape : Shape) (fuel : ℕ) (ticks : Ticks) (run : RunRecord) (out : Output) : Type 0 where
+  -- an event of each kind takes 1 to 1,000,000 ticks
+  pub limits : AreWithinLimits ticks
+  pub timing : Timing
+  pub times : IsTimingOf P shape fuel run.events ticks timing
+  pub answer : out ≡ output_of_run (summed_up run ++ timing_of timing) run
+
+abbrev pub IsTimedFor : ProgramParts → Options → RunRecord → Output → Type 0
+IsTimedFor P o run out = IsTimed P (shape_for P o) o.fuel (ticks_for o) run out
+
+-- the program was run, and the run was timed
 pub record IsTimedRun (P : ProgramParts) (o : Options) (out : Output) : Type 0 where
   pub run : RunRecord
   pub is : IsRunFor P o run
-  -- an event of each kind takes 1 to 1,000,000 ticks
-  pub limits : AreWithinLimits (ticks_for o)
-  pub timing : Timing
-  pub times : IsTimingOf P (shape_for P o) o.fuel run.events (ticks_for o) timing
-  pub answer : out ≡ output_of_run (summed_up run ++ timing_of timing) run
+  pub timed : IsTimedFor P o run out
 
 -- a run that has no more words, tasks and events than can be printed
 pub record IsPrintable (r : RunRecord) : Type 0 where

@@ -2,7 +2,6 @@
 use Rattle.std.specs.Prelude.{◌≡◌, ◌⊎◌, ℕ, List, [], Option, Some, None, IfSome, is_some, option_and_then}
 use Rattle.dn_base.specs.declared.status.Status.{Status}
 use Rattle.dn_base.specs.declared.status.Status as status
-use Rattle.dn_base.specs.declared.ids.Shape.{Shape}
 use Rattle.dn_base.specs.Status.{status_of}
 use Rattle.region_table.specs.Program.{ProgramParts}
 use Rattle.effect_checker.specs.Checked.{IsChecked}
@@ -18,7 +17,7 @@ use Rattle.dn_top.specs.declared.reading.ReadError as reading
 use Rattle.dn_top.specs.declared.reading.ReadError.{ReadError}
 use Rattle.dn_top.specs.declared.serving.Answer.{Answer}
 use Rattle.dn_top.specs.Answers.{most_read, makes_run, IsDone, IsRefusal, IsAnswer, IsOutcome, usage_line}
-use Rattle.dn_top.specs.Runs.{shape_for, IsRunOf}
+use Rattle.dn_top.specs.Runs.{IsRunOf, IsAnyRunFor}
 use Rattle.dn_top.specs.Documents.{shape_told}
 use Rattle.dn_top.specs.Outside.{Device, Devices, Failed, IsUntouched, IsRead, Took, TookNothing, TookFront}
 
@@ -81,7 +80,7 @@ has_stopped (Some o) before after = IfSome (text_for o before.source) (HasFailed
 -- r is a run of the program on the machine that the options ask for; in the mode replay a document tells how large it is
 abbrev pub is_run_in : Mode → ProgramParts → Options → RunRecord → Type 0
 is_run_in mode.TheVariants.Replay P o r = (s : TraceShape) × IsTraceShape s × IsRunOf P (shape_told P s) s.fuel r
-is_run_in m P o r = IsRunOf P (shape_for P o) o.fuel r
+is_run_in m P o r = IsAnyRunFor P o r
 
 -- r is a run of a checked program, and the status is that of its outcome
 pub record IsRunWith (m : Mode) (o : Options) (s : Status) (r : RunRecord) : Type 0 where
@@ -98,10 +97,6 @@ pub record HandsBack (o : Options) (answer : Answer) : Type 0 where
 -- how many bytes the program reads at most: None where the words are refused or their mode generates its text
 abbrev pub most_asked : Option Options → Option ℕ
 most_asked wanted = option_and_then (λ (o : Options). most_read o.mode) wanted
-
--- the same options, by one worker
-abbrev pub alone : Options → Options
-alone o = record o { workers = 1 }
 
 -- ---- a call
 

@@ -1,11 +1,11 @@
-ghost use Rattle.std.specs.Prelude.{◌≡◌, ◌≢◌, All, IfOk, IfErr};
+ghost use Rattle.std.specs.Prelude.{◌≡◌, ◌≢◌, IfOk, IfErr};
 ghost use Rattle.run_replay.specs.declared.trace.TraceFault.TheVariants.{Memory as NoMemory};
 ghost use Rattle.run_replay.specs.declared.refusal.TraceRefusal.TheVariants.{Fault as OfFault};
-ghost use Rattle.run_replay.specs.Document.{IsDocument, IsTold, IsTrace};
+ghost use Rattle.run_replay.specs.Document.{IsDocument, IsTrace, document_of};
 ghost use Rattle.run_replay.specs.Refusal.{refusal_text};
-ghost use Rattle.command_words.specs.Command.{IsWithinLimits};
-ghost use Rattle.dn_top.specs.Answers.{HasChecked, HasRun, IsRefusedDocument, IsReplayed, IsStop};
-ghost use Rattle.dn_top.specs.Documents.{IsNoDocument, IsNoRun, IsReplayedRun, IsTracedRun, shape_told, sizes_of};
+ghost use Rattle.dn_top.specs.Answers.{IsRefusedDocument, IsReplayed, IsStop};
+ghost use Rattle.dn_top.specs.Documents.{IsNoDocument, IsNoRun, IsReplayedRun, shape_told, sizes_of, trace_of};
+ghost use Rattle.dn_top.specs.Runs.{output_of_run};
 
 use crate::output::Output;
 use crate::programs::{Stop, checked_of};
@@ -34,23 +34,25 @@ fn sizes_of(options: &Options) -> TraceShape
 }
 
 /// Writes the document of a run of a text's program, and hands the run back.
+///
+/// # Errors
+/// `Memory` where there is no room for the document.
 pub(crate) fn trace_run(
     alloc: Global,
     options: &Options,
     text: &[u8],
     run: RunRecord,
 ) -> Result<Output, Memory>
-    requires limits { IsWithinLimits options.now }
-    requires run { HasRun options.now text.now run }
-    requires told { All IsTold run.events }
-    ensures { IfOk result (λ out. HasChecked text.now (λ P. IsTracedRun P options.now text.now out)) }
+    requires { IsTrace (trace_of options.now text.now run) }
+    ensures { IfOk result (λ out. out ≡ output_of_run (document_of (trace_of options.now text.now run)) run) }
 {
     let document = trace_text(alloc, text, sizes_of(options), run.events.as_slice())?;
     Ok(handed_back(document, run))
 }
 
-/// The refusal of a document.
-fn refusal(alloc: Global, why: &TraceRefusal) -> Stop
+/// The refusal of a document for this fault, which isn't want of memory: `Refused` with its line, or `Memory` where there is no
+/// room for that.
+pub fn refused_trace(alloc: Global, why: &TraceRefusal) -> Stop
     requires { why.now ≢ OfFault NoMemory }
     ensures { IsStop (λ line. line ≡ refusal_text why.now) result }
 {
@@ -60,20 +62,23 @@ fn refusal(alloc: Global, why: &TraceRefusal) -> Stop
     }
 }
 
-/// What a document tells.
-fn trace_in(alloc: Global, document: &[u8]) -> Result<Trace, Stop>
+/// What a document tells: the machine's size and the fuel, the text, and the events.
+///
+/// # Errors
+/// `Refused` with the line of the document's first fault, and `Memory` where there is no room.
+pub fn trace_in(alloc: Global, document: &[u8]) -> Result<Trace, Stop>
     ensures ok { IfOk result (IsDocument document.now) }
     ensures stop { IfErr result (IsStop (IsNoDocument document.now)) }
 {
     match read_trace(alloc, document) {
         Ok(trace) => Ok(trace),
         Err(TraceFault::Memory) => Err(Stop::Memory),
-        Err(fault) => Err(refusal(alloc, &TraceRefusal::Fault(fault))),
+        Err(fault) => Err(refused_trace(alloc, &TraceRefusal::Fault(fault))),
     }
 }
 
 /// The machine of a program, in the size that a document tells.
-fn shape_told(sizes: TraceShape, program: &Program) -> Shape
+pub fn shape_told(sizes: TraceShape, program: &Program) -> Shape
     ensures { result ≡ shape_told program.now sizes }
 {
     Shape {
@@ -109,9 +114,9 @@ fn run_again(alloc: Global, trace: Trace, checked: Checked) -> Result<Output, St
             },
         )?),
         Replayed::NotEnabled { number } => {
-            Err(refusal(alloc, &TraceRefusal::NotEnabled { number }))
+            Err(refused_trace(alloc, &TraceRefusal::NotEnabled { number }))
         }
-        Replayed::Incomplete => Err(refusal(alloc, &TraceRefusal::Incomplete)),
+        Replayed::Incomplete => Err(refused_trace(alloc, &TraceRefusal::Incomplete)),
     }
 }
 

@@ -6,7 +6,8 @@ ghost use Rattle.std.specs.Option.{option_map};
 ghost use Rattle.command_words.specs.Command.{IsWithinLimits, options_of};
 ghost use Rattle.dn_top.specs.Answers.{most_read};
 ghost use Rattle.dn_top.specs.Outside.{IsUntouched, device, devices};
-ghost use Rattle.dn_top.specs.Serving.{IsDoneBy, Serves, alone};
+ghost use Rattle.dn_top.specs.Runs.{alone};
+ghost use Rattle.dn_top.specs.Serving.{IsDoneBy, Serves};
 
 use dn_base::{Gate, Sink, Source, Status};
 use std::alloc::Global;
@@ -26,12 +27,16 @@ mod writing;
 
 pub use command_words::{Mode, Options, WordsFault, read_words};
 pub use dn_machine::RunRecord;
+pub use documents::{refused_trace, shape_told, trace_in};
 pub use laws::{
     a_trace_replays_as_its_run, an_outcome_has_its_cause,
     the_output_is_a_function_of_source_and_options, without_locks_every_run_ends_alike,
 };
+pub use programs::{Stop, checked_of};
+pub use reading::{ReadError, read_text};
 pub use serving::Answer;
 use serving::{answer_alone, answer_by_workers, refuse_words, status_only};
+pub use writing::write_text;
 
 /// Answers these command words and this source on one thread, whatever number of workers is asked for.
 ///
@@ -56,19 +61,9 @@ pub fn answer_words<S: Source, K: Sink>(
         (devices (S.told source.new) (S.faults source.new) (K.told sink.new) (K.faults sink.new)) result }
 {
     match read_words(alloc, words) {
-        Ok(options) => answer_alone(alloc, &alone(options), source, sink),
+        Ok(options) => answer_alone(alloc, &options, source, sink),
         Err(WordsFault::Usage) => refuse_words(sink),
         Err(WordsFault::Memory) => status_only(Status::Memory),
-    }
-}
-
-/// The same options, by one worker.
-fn alone(options: Options) -> Options
-    ensures { result ≡ alone options }
-{
-    Options {
-        workers: 1,
-        ..options
     }
 }
 

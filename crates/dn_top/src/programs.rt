@@ -17,7 +17,7 @@ use std::alloc::Global;
 
 /// Why nothing is done with a text or a document.
 #[derive(Debug, Drop)]
-pub(crate) enum Stop {
+pub enum Stop {
     /// It is refused with this line.
     Refused(Sequence<u8>),
     /// There is no memory.
@@ -58,8 +58,11 @@ pub(crate) fn program_of(alloc: Global, text: &[u8]) -> Result<Program, Stop>
     }
 }
 
-/// The program of a text, checked.
-pub(crate) fn checked_of(alloc: Global, text: &[u8]) -> Result<Checked, Stop>
+/// The program of a text, checked: its tasks keep out of each other's words.
+///
+/// # Errors
+/// `Refused` with the line of the text's first fault, or of its program's least conflict, and `Memory` where there is no room.
+pub fn checked_of(alloc: Global, text: &[u8]) -> Result<Checked, Stop>
     ensures ok { IfOk result (λ program. source text.now ≡ Ok program) }
     ensures checked { IfOk result IsChecked }
     ensures stop { IfErr result (IsStop (IsUnfit text.now)) }

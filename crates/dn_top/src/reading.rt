@@ -1,5 +1,4 @@
-ghost use Rattle.std.specs.Prelude.{◌≡◌, ◌≤◌, ◌+◌, IfOk, IfErr};
-ghost use Rattle.std.specs.Io.KnownBytes.{Keeps};
+ghost use Rattle.std.specs.Prelude.{◌≡◌, ◌+◌, IfOk, IfErr};
 ghost use Rattle.command_words.specs.Command.{IsWithinLimits};
 ghost use Rattle.dn_top.specs.Answers.{most_read};
 ghost use Rattle.dn_top.specs.Outside.{Failed as HasFailed, IsRead, IsUntouched, device};
@@ -19,7 +18,7 @@ const MOST_OF_DOCUMENT: usize = 536_870_912;
 
 /// Why there is no text.
 #[derive(Clone, Copy, Debug, PartialEq, Eq)]
-pub(crate) enum ReadError {
+pub enum ReadError {
     /// The source failed.
     Failed,
     /// There was no memory.
@@ -78,8 +77,15 @@ pub(crate) fn take_text<S: Source>(
     }
 }
 
-/// Reads the source to its end, or until the most bytes have come.
-fn read_text<S: Source>(alloc: Global, most: usize, source: &mut S) -> Result<Vec<u8>, ReadError>
+/// Reads the source to its end, or until so many bytes have come.
+///
+/// # Errors
+/// `Failed` where the source fails, and `NoMemory` where there is no room for the text.
+pub fn read_text<S: Source>(
+    alloc: Global,
+    most: usize,
+    source: &mut S,
+) -> Result<Vec<u8>, ReadError>
     ensures text { IfOk result (λ text. IsRead (device (S.told source.old) (S.faults source.old)) (device (S.told source.new) (S.faults source.new)) most text.items) }
     ensures failed { IfErr result (λ error. error ≡ ReadError.Failed
         → HasFailed (device (S.told source.old) (S.faults source.old)) (device (S.told source.new) (S.faults source.new))) }

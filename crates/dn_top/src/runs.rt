@@ -1,10 +1,12 @@
 ghost use Rattle.std.specs.Prelude.{◌≡◌, ◌≤◌, ◌++◌, All, length, IfOk, IfErr};
 ghost use Rattle.command_words.specs.Command.{IsWithinLimits};
 ghost use Rattle.run_report.specs.Summary.{summary_of};
-ghost use Rattle.run_replay.specs.Document.{IsTold};
+ghost use Rattle.run_replay.specs.Document.{IsTold, IsTrace};
 ghost use Rattle.run_timing.specs.Text.{timing_of};
-ghost use Rattle.dn_top.specs.Answers.{HasChecked, HasRun, IsStop, IsUnfit};
-ghost use Rattle.dn_top.specs.Runs.{IsPrintable, IsRunFor, IsTimedRun, output_of_run, reported, shape_for, summed_up, ticks_for};
+ghost use Rattle.run_timing.specs.Ticks.{AreWithinLimits};
+ghost use Rattle.dn_top.specs.Answers.{HasAnyRun, HasChecked, HasRun, IsStop, IsUnfit};
+ghost use Rattle.dn_top.specs.Documents.{trace_of};
+ghost use Rattle.dn_top.specs.Runs.{IsAnyRunFor, IsPrintable, IsRunFor, IsTimedFor, alone, output_of_run, reported, shape_for, summed_up, ticks_for};
 
 use crate::output::Output;
 use crate::programs::{Stop, checked_of};
@@ -41,7 +43,7 @@ pub(crate) fn has_each_kind(counts: &Counts)
 /// Runs a checked program on the machine that the options ask for, by their seed, on this thread alone.
 fn machine_run(alloc: Global, options: &Options, checked: Checked) -> Result<RunRecord, Memory>
     requires { IsWithinLimits options.now }
-    ensures run { IfOk result (IsRunFor checked options.now) }
+    ensures run { IfOk result (IsRunFor checked (alone options.now)) }
     ensures told { IfOk result (λ run. All IsTold run.events) }
     ensures printable { IfOk result IsPrintable }
 {
@@ -57,8 +59,8 @@ fn machine_run(alloc: Global, options: &Options, checked: Checked) -> Result<Run
 /// The run of a text's program by one worker.
 pub(crate) fn run_alone(alloc: Global, options: &Options, text: &[u8]) -> Result<RunRecord, Stop>
     requires { IsWithinLimits options.now }
-    ensures run { IfOk result (HasRun options.now text.now) }
-    ensures told { IfOk result (λ run. All IsTold run.events) }
+    ensures run { IfOk result (HasRun (alone options.now) text.now) }
+    ensures told { IfOk result (λ run. IsTrace (trace_of options.now text.now run)) }
     ensures printable { IfOk result IsPrintable }
     ensures stop { IfErr result (IsStop (IsUnfit text.now)) }
 {
@@ -95,17 +97,12 @@ pub(crate) fn sum_up_run(alloc: Global, run: RunRecord) -> Result<Output, Memory
 }
 
 /// The ticks that the options give to each kind of event.
-#[tactic(auto, unfolding(run_report::specs::Run::all_kinds))]
 fn ticks_of(options: &Options) -> Ticks
+    requires { IsWithinLimits options.now }
     ensures value { result ≡ ticks_for options.now }
+    ensures limits { AreWithinLimits result }
 {
-    let (core, bank, mail) = (options.tick_core, options.tick_bank, options.tick_mail);
-    Ticks {
-        kinds: [
-            core, core, core, bank, mail, mail, bank, mail, mail, bank, mail, bank, bank, mail,
-            mail, mail, mail,
-        ],
-    }
+    Ticks::by_place(options.tick_core, options.tick_bank, options.tick_mail)
 }
 
 /// Sums up how a run ended, and then tells its timing.
@@ -127,9 +124,9 @@ fn time_run_of(
     run: RunRecord,
 ) -> Result<Output, Memory>
     requires limits { IsWithinLimits options.now }
-    requires run { IsRunFor checked options.now run }
+    requires run { IsAnyRunFor checked options.now run }
     requires printable { IsPrintable run }
-    ensures { IfOk result (IsTimedRun checked options.now) }
+    ensures { IfOk result (IsTimedFor checked options.now run) }
 {
     let shape = shape_of(options, checked.program());
     let events = run.events.as_slice();
@@ -156,9 +153,9 @@ pub(crate) fn time_text_run(
     run: RunRecord,
 ) -> Result<Output, Stop>
     requires limits { IsWithinLimits options.now }
-    requires run { HasRun options.now text.now run }
+    requires run { HasAnyRun options.now text.now run }
     requires printable { IsPrintable run }
-    ensures ok { IfOk result (λ out. HasChecked text.now (λ P. IsTimedRun P options.now out)) }
+    ensures ok { IfOk result (λ out. HasChecked text.now (λ P. IsTimedFor P options.now run out)) }
     ensures stop { IfErr result (IsStop (IsUnfit text.now)) }
 {
     Ok(time_run_of(alloc, options, checked_of(alloc, text)?, run)?)

@@ -1,8 +1,9 @@
-ghost use Rattle.std.specs.Prelude.{◌≡◌, ◌≢◌, ◌≤◌, ℕ, List, None, IfOk};
+ghost use Rattle.std.specs.Prelude.{◌≡◌, ◌≢◌, ℕ, List, None, IfOk};
 ghost use Rattle.command_words.specs.declared.options.Options.{Options as OptionsOf};
 ghost use Rattle.command_words.specs.Command.{IsWithinLimits};
 ghost use Rattle.dn_top.specs.Answers.{IsAnswer, answered, most_read, usage_line};
 ghost use Rattle.dn_top.specs.Outside.{IsUntouched, device, devices};
+ghost use Rattle.dn_top.specs.Runs.{alone};
 ghost use Rattle.dn_top.specs.Serving.{bare, IsDoneBy, IsFinished, IsReplied, status_of_read};
 
 use crate::answers::{output_alone, output_by_workers};
@@ -72,7 +73,7 @@ fn unread(error: ReadError) -> Answer
     }
 }
 
-/// Does what options ask for, on this thread alone.
+/// Does what options ask for, by one worker: on this thread alone.
 pub(crate) fn answer_alone<S: Source, K: Sink>(
     alloc: Global,
     options: &Options,
@@ -80,7 +81,7 @@ pub(crate) fn answer_alone<S: Source, K: Sink>(
     sink: &mut K,
 ) -> Answer
     requires { IsWithinLimits options.now }
-    ensures served { IsDoneBy options.now
+    ensures served { IsDoneBy (alone options.now)
         (devices (S.told source.old) (S.faults source.old) (K.told sink.old) (K.faults sink.old))
         (devices (S.told source.new) (S.faults source.new) (K.told sink.new) (K.faults sink.new)) result }
     ensures unread { most_read options.now.mode ≡ None

@@ -1,8 +1,9 @@
 //! Runs that host threads make.
 ghost use Rattle.std.specs.Prelude.{◌≢◌, All, IfOk, IfErr};
 ghost use Rattle.command_words.specs.Command.{IsWithinLimits};
-ghost use Rattle.run_replay.specs.Document.{IsTold};
+ghost use Rattle.run_replay.specs.Document.{IsTold, IsTrace};
 ghost use Rattle.dn_top.specs.Answers.{HasRun, IsStop, IsUnfit};
+ghost use Rattle.dn_top.specs.Documents.{trace_of};
 ghost use Rattle.dn_top.specs.Runs.{IsPrintable, IsRunFor};
 
 use crate::programs::{Stop, checked_of};
@@ -50,7 +51,7 @@ pub(crate) fn run_by_workers<R: Threads + Wait + Sync, G: Gate + Sync>(
     requires limits { IsWithinLimits options.now }
     requires several { options.now.workers ≢ 1 }
     ensures run { IfOk result (HasRun options.now text.now) }
-    ensures told { IfOk result (λ run. All IsTold run.events) }
+    ensures told { IfOk result (λ run. IsTrace (trace_of options.now text.now run)) }
     ensures printable { IfOk result IsPrintable }
     ensures stop { IfErr result (IsStop (IsUnfit text.now)) }
 {

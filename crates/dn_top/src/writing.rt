@@ -1,10 +1,13 @@
-ghost use Rattle.std.specs.Prelude.{◌≡◌, ◌≤◌, OnOk, OnErr};
+ghost use Rattle.std.specs.Prelude.{◌≤◌, OnOk, OnErr};
 ghost use Rattle.dn_top.specs.Outside.{Failed as HasFailed, Took, TookFront, device};
 
 use dn_base::{Failed, Sink};
 
 /// Writes all of these bytes and flushes the sink.
-pub(crate) fn write_text<K: Sink>(sink: &mut K, bytes: &[u8]) -> Result<(), Failed>
+///
+/// # Errors
+/// `Failed` where the sink fails: it has taken a front of the bytes.
+pub fn write_text<K: Sink>(sink: &mut K, bytes: &[u8]) -> Result<(), Failed>
     ensures ok { OnOk result (Took (device (K.told sink.old) (K.faults sink.old)) (device (K.told sink.new) (K.faults sink.new)) bytes.now) }
     ensures front { TookFront (device (K.told sink.old) (K.faults sink.old)) (device (K.told sink.new) (K.faults sink.new)) bytes.now }
     ensures counted { K.faults sink.old ≤ K.faults sink.new }

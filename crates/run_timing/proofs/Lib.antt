@@ -11,3 +11,4 @@ pub mod Started
 pub mod Growing
 pub mod OneChain
 pub mod OneTiming
+pub mod ByPlace

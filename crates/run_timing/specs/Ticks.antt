@@ -1,9 +1,11 @@
 -- How long events take.
-use Rattle.std.specs.Prelude.{ℕ, ◌≤◌, slice_index_or, List, Option, Some, None}
+use Rattle.std.specs.Prelude.{ℕ, ◌≤◌, map, slice_index_or, List, Option, Some, None}
 use Rattle.message_net.specs.declared.event.Event.{Event}
+use Rattle.message_net.specs.declared.event.EventKind as kind
 use Rattle.message_net.specs.declared.event.EventKind.{EventKind}
 use Rattle.grant_log.specs.Counts.{kind_place}
 use Rattle.machine_rules.specs.State.{State}
+use Rattle.run_report.specs.Run.{all_kinds}
 use Rattle.run_timing.specs.declared.ticks.Ticks.{Ticks}
 use Rattle.run_timing.specs.Depends.{kind_at}
 
@@ -14,6 +16,21 @@ ticks_of ticks kind = slice_index_or ticks.kinds (kind_place kind) 0
 -- an event of each kind takes 1 to 1,000,000 ticks
 abbrev pub AreWithinLimits : Ticks → Type 0
 AreWithinLimits ticks = (kind : EventKind) → (1 ≤ ticks_of ticks kind) × (ticks_of ticks kind ≤ 1000000)
+
+-- the ticks of a kind where a core's own events take so many, those that a bank handles so many, and all others so many
+abbrev pub place_ticks : (core : ℕ) → (bank : ℕ) → (mail : ℕ) → EventKind → ℕ
+place_ticks core bank mail kind.TheVariants.Instr = core
+place_ticks core bank mail kind.TheVariants.Evict = core
+place_ticks core bank mail kind.TheVariants.Arrive = core
+place_ticks core bank mail kind.TheVariants.ReadReq = bank
+place_ticks core bank mail kind.TheVariants.RegReq = bank
+place_ticks core bank mail kind.TheVariants.WriteBack = bank
+place_ticks core bank mail kind.TheVariants.Acquire = bank
+place_ticks core bank mail kind.TheVariants.Release = bank
+place_ticks core bank mail _ = mail
+
+abbrev pub ticks_by : (core : ℕ) → (bank : ℕ) → (mail : ℕ) → Ticks
+ticks_by core bank mail = record { kinds = map (place_ticks core bank mail) all_kinds }
 
 abbrev pub ticks_with : Ticks → Option EventKind → ℕ
 ticks_with ticks None = 0

@@ -1,7 +1,6 @@
-ghost use Rattle.std.specs.Prelude.{◌≡◌, ◌+◌, ◌<◌, ◌≤◌, true, IfOk, OnOk, Some};
+ghost use Rattle.std.specs.Prelude.{◌≡◌, ◌+◌, ◌<◌, ◌≤◌, true, IfOk, OnOk};
 ghost use Rattle.message_net.specs.Mail.{has_actor};
 ghost use Rattle.machine_rules.specs.Next.{enabled, kind_in, next, number_of};
-ghost use Rattle.dn_machine.specs.Actors.{actor_in};
 
 use dn_base::Memory;
 use dn_machine::Machine;

@@ -1,15 +1,14 @@
 ghost use Rattle.std.specs.Prelude.{◌≡◌, ◌<◌, ◌≤◌, ℕ, Some, length, OnOk};
-ghost use Rattle.message_net.specs.Mail.{place_of};
 ghost use Rattle.run_timing.specs.Rows.{finish_in, later, with_row};
 ghost use Rattle.run_timing.specs.Ticks.{AreWithinLimits, ticks_of};
-ghost use Rattle.run_timing.specs.Tracks.{last_at, noted_last, noted_mails, sender_in};
+ghost use Rattle.run_timing.specs.Tracks.{last_at, sender_in};
 
 use crate::making::Happened;
 use crate::rows::Rows;
 use crate::ticks::Ticks;
 use crate::tracks::Tracks;
 use dn_base::{Memory, Shape};
-use message_net::{Actor, Event};
+use message_net::Event;
 
 impl Tracks {
     /// The event that sent the mail that an event handles; None where it handles none.

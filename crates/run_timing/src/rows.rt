@@ -1,4 +1,4 @@
-ghost use Rattle.std.specs.Prelude.{◌≡◌, ◌+◌, ◌<◌, ◌≤◌, ℕ, [], Some, length, OnOk, slice_get, IfOk};
+ghost use Rattle.std.specs.Prelude.{◌≡◌, ◌+◌, ◌<◌, ◌≤◌, ℕ, [], Some, length, OnOk, IfOk};
 ghost use Rattle.run_timing.specs.Rows.{AreInStep, IsLatest, IsLinkIn, before_in, behind, finish_in, later, with_row};
 
 use crate::timing::Link;

@@ -1,5 +1,6 @@
 ghost use Rattle.std.specs.Prelude.{◌≡◌, ◌≤◌};
-ghost use Rattle.run_timing.specs.Ticks.{AreWithinLimits, ticks_of};
+ghost use Rattle.std.specs.Int.{IsInRange};
+ghost use Rattle.run_timing.specs.Ticks.{AreWithinLimits, ticks_by, ticks_of};
 
 use message_net::EventKind;
 
@@ -10,6 +11,24 @@ pub struct Ticks {
 }
 
 impl Ticks {
+    /// The ticks of each kind by the place of its events: a core's own take `core`, those that a bank handles `bank`, and all
+    /// others `mail`. Each is 1 to 1,000,000.
+    #[tactic(auto, unfolding(run_report::specs::Run::all_kinds))]
+    pub fn by_place(core: u32, bank: u32, mail: u32) -> Ticks
+        requires core { IsInRange 1 1000000 core }
+        requires bank { IsInRange 1 1000000 bank }
+        requires mail { IsInRange 1 1000000 mail }
+        ensures value { result ≡ ticks_by core bank mail }
+        ensures limits { AreWithinLimits result }
+    {
+        Ticks {
+            kinds: [
+                core, core, core, bank, mail, mail, bank, mail, mail, bank, mail, bank, bank, mail,
+                mail, mail, mail,
+            ],
+        }
+    }
+
     /// The ticks of an event of this kind.
     fn kind_ticks(&self, kind: EventKind) -> u32
         ensures { result ≡ ticks_of self.now kind }

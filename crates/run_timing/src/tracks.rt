@@ -1,4 +1,4 @@
-ghost use Rattle.std.specs.Prelude.{◌≡◌, ◌<◌, ◌≤◌, ◌++◌, ℕ, List, [], length, replicate, slice_get, slice_set, IfOk, OnOk, Some, None};
+ghost use Rattle.std.specs.Prelude.{◌≡◌, ◌<◌, ◌++◌, [], length, replicate, slice_get, IfOk, OnOk, Some, None};
 ghost use Rattle.run_timing.specs.Tracks.{last_at, noted_last, noted_mails, row_at};
 
 use dn_base::{Memory, Sequence};

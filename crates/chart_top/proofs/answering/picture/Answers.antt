@@ -1,19 +1,14 @@
-use Rattle.std.proofs.Common.{sym, ap, subst, ◌∙◌}
+use Rattle.std.proofs.Common.{ap, ◌∙◌}
 use Rattle.run_timing.specs.Longest.{numbers_in}
-use Rattle.run_timing.specs.Ticks.{AreWithinLimits}
 use Rattle.chart_top.proofs.Pictures.{run-at, picture-is}
-use Rattle.chart_top.proofs.Timed.{ticks-within}
 use Rattle.chart_top.proofs.answering.picture.Goals as goal
 
 pub time_run-requires-clause-run : goal.time_run-requires-clause-run
 time_run-requires-clause-run c =
     run-at c.args.first c.args.trace.now c.args.shape c.as_slice-events.result.now c.args.ending.now c.requires.shape c.as_slice-events.ensures c.requires.replayed
 
-pub time_run-requires-clause-ticks : goal.time_run-requires-clause-ticks
-time_run-requires-clause-ticks c = subst AreWithinLimits (sym c.ticks_for.ensures) (ticks-within c.args.options.now c.requires.limits)
-
 pub returns : goal.returns
 returns c =
     picture-is c.args.first c.args.trace.now c.args.shape c.as_slice-events.result.now c.args.second c.args.options.now c.args.ending.now c.ticks_for.result c.in_ok-timing.timing c.as_slice-2.result.now
-    c.range_for-range.result c.in_ok-chart.chart c.from.result c.from_vec.result c.requires.same c.requires.shape c.as_slice-events.ensures c.ticks_for.ensures c.range_for-range.ensures (c.as_slice-2.ensures ∙ c.in_ok-marks.ensures ∙ ap numbers_in c.as_slice.ensures.value) c.requires.replayed
+    c.range_for-range.result c.in_ok-chart.chart c.from.result c.from_vec.result c.requires.same c.requires.shape c.as_slice-events.ensures c.ticks_for.ensures.value c.range_for-range.ensures (c.as_slice-2.ensures ∙ c.in_ok-marks.ensures ∙ ap numbers_in c.as_slice.ensures.value) c.requires.replayed
     c.in_ok-timing.ensures c.in_ok-chart.ensures c.from.ensures (c.from_vec.ensures ∙ c.in_ok-chart_text.ensures)

@@ -1,8 +1,8 @@
-use Rattle.std.proofs.Common.{◌≡◌, List, sym, ap, subst, ◌∙◌}
+use Rattle.std.proofs.Common.{◌≡◌, List, ap, subst, ◌∙◌}
 use Rattle.run_timing.specs.declared.ticks.Ticks.{Ticks}
 use Rattle.run_timing.specs.Ticks.{AreWithinLimits}
 use Rattle.dn_top.specs.Runs.{output_of_run}
-use Rattle.dn_top.proofs.TimedRun.{ticks-within, run-at, times-at}
+use Rattle.dn_top.proofs.TimedRun.{run-at, times-at}
 use Rattle.dn_top.proofs.runs.time_run_of.Goals as goal
 
 pub time_run-requires-clause-run : goal.time_run-requires-clause-run
@@ -10,15 +10,10 @@ time_run-requires-clause-run c =
     run-at c.program.result.now c.args.checked c.args.options.now c.shape_of-shape.result c.args.run c.as_slice-events.result.now c.program.ensures.value c.shape_of-shape.ensures
     c.as_slice-events.ensures c.requires.run
 
-pub time_run-requires-clause-ticks : goal.time_run-requires-clause-ticks
-time_run-requires-clause-ticks c = subst AreWithinLimits (sym c.ticks_of.ensures.value) (ticks-within c.args.options.now c.requires.limits)
-
 pub returns : goal.returns
 returns c =
     record {
-      run = c.args.run;
-      is = c.requires.run;
-      limits = ticks-within c.args.options.now c.requires.limits;
+      limits = subst AreWithinLimits c.ticks_of.ensures.value c.ticks_of.ensures.limits;
       timing = c.in_ok-timing.timing;
       times =
           times-at c.program.result.now c.args.checked c.args.options.now c.shape_of-shape.result c.args.run c.as_slice-events.result.now c.ticks_of.result c.in_ok-timing.timing

@@ -5,7 +5,7 @@ use Rattle.clap.specs.Words.{found_of, one_text}
 use Rattle.clap.proofs.WalkLemmas.{one_text-rows}
 use Rattle.command_words.specs.Numbers.{number_in_text}
 use Rattle.command_words.proofs.Numerals.{reads_number}
-use Rattle.chart_top.proofs.reading.number_of.Goals as goal
+use Rattle.command_words.proofs.words.number_of.Goals as goal
 
 abbrev Gives : List ℕ → Result ℕ ParseIntError → Type 0
 Gives text r = ParsesUnsigned 32 10 text r × ExplainsUnsignedError 10 text r × HasUnsignedDigitsIfOk text r

@@ -1,0 +1,51 @@
+-- What a call of the program reads and writes, and what its status says of that.
+use Rattle.std.specs.Prelude.{◌≡◌, ◌⊎◌, ℕ, List, Option, Some, None}
+use Rattle.dn_base.specs.declared.status.Status.{Status}
+use Rattle.dn_base.specs.declared.status.Status as status
+use Rattle.dn_top.specs.Answers.{usage_line}
+use Rattle.dn_top.specs.Outside.{Device, Devices, Failed, IsUntouched, IsRead, Took, TookNothing, TookFront}
+use Rattle.chart_top.specs.declared.answering.Output.{Output}
+use Rattle.chart_top.specs.declared.options.Options.{Options}
+use Rattle.chart_top.specs.Answers.{IsAnswer}
+
+-- the sink took all of the output, whose status is told; or it failed and took a front of it
+abbrev pub IsWritten : Output → Device → Device → Status → Type 0
+IsWritten out before after told =
+    ((told ≡ out.status) × Took before after out.bytes)
+    ⊎ ((told ≡ status.TheVariants.WriteFault) × (Failed before after × TookFront before after out.bytes))
+
+-- there was no memory, and nothing was written
+abbrev pub IsStarved : Device → Device → Status → Type 0
+IsStarved before after told = (told ≡ status.TheVariants.Memory) × TookNothing before after
+
+-- the source failed, and nothing was written
+abbrev pub IsUnread : Devices → Devices → Status → Type 0
+IsUnread before after told =
+    (told ≡ status.TheVariants.ReadFault) × (Failed before.source after.source × TookNothing before.sink after.sink)
+
+-- the answer to a document was written
+pub record IsGiven (o : Options) (document : List ℕ) (before after : Device) (told : Status) : Type 0 where
+  pub output : Output
+  pub answer : IsAnswer o document output
+  pub written : IsWritten output before after told
+
+-- or there was no memory for it
+abbrev pub IsReplied : Options → List ℕ → Device → Device → Status → Type 0
+IsReplied o document before after told = IsGiven o document before after told ⊎ IsStarved before after told
+
+-- the document is what was read: to the source's end, or to one byte past the most that a document may have
+pub record IsServed (o : Options) (before after : Devices) (told : Status) : Type 0 where
+  pub document : List ℕ
+  pub read : IsRead before.source after.source 536870913 document
+  pub reply : IsReplied o document before.sink after.sink told
+
+-- what refuses the words
+abbrev pub usage : Output
+usage = record { status = status.TheVariants.Usage; bytes = usage_line }
+
+-- how a call ends of which these options are wanted; None where the words aren't the command's
+abbrev pub Serves : Option Options → Devices → Devices → Status → Type 0
+Serves None before after told =
+    IsUntouched before.source after.source × (IsWritten usage before.sink after.sink told ⊎ IsStarved before.sink after.sink told)
+Serves (Some o) before after told =
+    IsServed o before after told ⊎ (IsUnread before after told ⊎ IsStarved before.sink after.sink told)

@@ -1,0 +1,89 @@
+ghost use Rattle.std.specs.Prelude.{◌≡◌, ◌≤◌, ℕ, List, Some, IfOk, map, string_bytes};
+ghost use Rattle.dn_top.specs.Answers.{usage_line};
+ghost use Rattle.dn_top.specs.Outside.{device, devices};
+ghost use Rattle.chart_top.specs.declared.options.Options.{Options as OptionsOf};
+ghost use Rattle.chart_top.specs.Answers.{IsAnswer};
+ghost use Rattle.chart_top.specs.Command.{IsWithinLimits, options_of};
+ghost use Rattle.chart_top.specs.Serving.{IsReplied, IsWritten, Serves, usage};
+
+use crate::answering::{Output, answer};
+use crate::options::Options;
+use crate::reading::read_words;
+use command_words::WordsFault;
+use dn_base::{Memory, Sink, Source, Status};
+use dn_top::{ReadError, read_text, write_text};
+use std::alloc::Global;
+
+/// One byte more than the document of a run may have.
+const MOST_READ: usize = 536_870_913;
+
+/// Writes the bytes, and tells this status, or `WriteFault` where the sink failed.
+fn finish<K: Sink>(sink: &mut K, bytes: &[u8], status: Status) -> Status
+    ensures { IsWritten (record { status = status; bytes = bytes.now }) (device (K.told sink.old) (K.faults sink.old)) (device (K.told sink.new) (K.faults sink.new)) result }
+{
+    match write_text(sink, bytes) {
+        Ok(()) => status,
+        Err(_) => Status::WriteFault,
+    }
+}
+
+/// Refuses the command words.
+#[tactic(auto, unfolding(run_report::specs::Refusal::refusal_of))]
+fn refuse_words<K: Sink>(sink: &mut K) -> Status
+    ensures { IsWritten usage (device (K.told sink.old) (K.faults sink.old)) (device (K.told sink.new) (K.faults sink.new)) result }
+{
+    finish(sink, b"refused usage\n", Status::Usage)
+}
+
+/// Writes the answer to a document, where there was memory for it.
+fn reply<K: Sink>(sink: &mut K, output: Result<Output, Memory>) -> Status
+    ensures { (o : OptionsOf) (document : List ℕ) → IfOk output (IsAnswer o document)
+        → IsReplied o document (device (K.told sink.old) (K.faults sink.old)) (device (K.told sink.new) (K.faults sink.new)) result }
+{
+    match output {
+        Ok(Output { status, bytes }) => finish(sink, bytes.as_slice(), status),
+        Err(_) => Status::Memory,
+    }
+}
+
+/// Answers the document that the source has.
+fn draw<S: Source, K: Sink>(
+    alloc: Global,
+    options: &Options,
+    source: &mut S,
+    sink: &mut K,
+) -> Status
+    requires { IsWithinLimits options.now }
+    ensures { Serves (Some options.now)
+        (devices (S.told source.old) (S.faults source.old) (K.told sink.old) (K.faults sink.old))
+        (devices (S.told source.new) (S.faults source.new) (K.told sink.new) (K.faults sink.new)) result }
+{
+    match read_text(alloc, MOST_READ, source) {
+        Ok(document) => reply(sink, answer(alloc, options, document.as_slice())),
+        Err(ReadError::Failed) => Status::ReadFault,
+        Err(ReadError::NoMemory) => Status::Memory,
+    }
+}
+
+/// The whole program but its `main`: answers these command words and this source, and tells how it ended.
+///
+/// `Usage` where the words aren't the command's; the source is then left alone. Else the source is read to its end, or one byte past
+/// the most that the document of a run may have, and what was read is answered as `answer` says, with its status. The whole answer is
+/// made, and only then written and flushed. `ReadFault` and `WriteFault` come where the source or the sink failed, and `Memory`
+/// where there was no memory: the sink has then taken no more than a front of the answer, and nothing where it didn't fail.
+pub fn chart_main<S: Source, K: Sink>(
+    alloc: Global,
+    words: &[String],
+    source: &mut S,
+    sink: &mut K,
+) -> Status
+    ensures serves { Serves (options_of (map string_bytes words.now))
+        (devices (S.told source.old) (S.faults source.old) (K.told sink.old) (K.faults sink.old))
+        (devices (S.told source.new) (S.faults source.new) (K.told sink.new) (K.faults sink.new)) result }
+{
+    match read_words(alloc, words) {
+        Ok(options) => draw(alloc, &options, source, sink),
+        Err(WordsFault::Usage) => refuse_words(sink),
+        Err(WordsFault::Memory) => Status::Memory,
+    }
+}
