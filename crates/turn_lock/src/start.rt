@@ -13,6 +13,10 @@ use dn_base::Memory;
 use std::alloc::Global;
 use std::snapshot::Snapshot;
 
+// For so many calls a history has room from the start. What isn't used of it is never touched, and so costs nothing; a history
+// that grows from nothing is copied as often as its length has bits.
+const FIRST_CALLS: usize = 4_096;
+
 impl<O: Object> Turn<O> {
     /// Shares an object among 1 to 17 callers: the turn, and their passes with the numbers from 0 on.
     ///
@@ -38,7 +42,7 @@ impl<O: Object> Turn<O> {
         let mut slots = Vec::with_capacity(alloc, 1)?;
         slots.push_reserved(Some(Desk {
             object,
-            history: Vec::new(alloc),
+            history: Vec::with_capacity(alloc, FIRST_CALLS)?,
         }));
         let made: Result<(Board<O>, Chair<O>), _> = Table::new(alloc, &[0, 0], slots, &plan);
         let Ok((table, mut seat)) = made else {
