@@ -35,15 +35,13 @@ impl<O: Object> Turn<O> {
         ensures passes { IfOk result (λ r. (r.0.passes ≡ passes) × (length r.1.items ≡ passes)) }
         ensures fresh { IfOk result (λ r. AreFresh r.0 0 r.1.items) }
     {
+        let history = Vec::with_capacity(alloc, FIRST_CALLS)?;
         let plan = Plan {
             object: Snapshot::of(&object),
             passes,
         };
         let mut slots = Vec::with_capacity(alloc, 1)?;
-        slots.push_reserved(Some(Desk {
-            object,
-            history: Vec::with_capacity(alloc, FIRST_CALLS)?,
-        }));
+        slots.push_reserved(Some(Desk { object, history }));
         let made: Result<(Board<O>, Chair<O>), _> = Table::new(alloc, &[0, 0], slots, &plan);
         let Ok((table, mut seat)) = made else {
             return Err(Memory);
