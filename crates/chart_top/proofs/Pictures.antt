@@ -25,7 +25,6 @@ use Rattle.message_chart.specs.Picture.{svg_of}
 use Rattle.run_chart.specs.declared.drawing.Range.{Range}
 use Rattle.run_chart.specs.Charts.{IsChartOf}
 use Rattle.dn_top.specs.Documents.{shape_told, IsReplayIn}
-use Rattle.chart_top.specs.declared.answering.Output.{Output}
 use Rattle.chart_top.specs.declared.options.Options.{Options}
 use Rattle.chart_top.specs.Answers.{IsReplayed, IsPicture, range_for, ticks_for}
 

@@ -1,5 +1,4 @@
-ghost use Rattle.std.specs.Prelude.{◌≡◌, ◌≤◌, ℕ, List, Some, IfOk, map, string_bytes};
-ghost use Rattle.dn_top.specs.Answers.{usage_line};
+ghost use Rattle.std.specs.Prelude.{ℕ, List, Some, IfOk, map, string_bytes};
 ghost use Rattle.dn_top.specs.Outside.{device, devices};
 ghost use Rattle.chart_top.specs.declared.options.Options.{Options as OptionsOf};
 ghost use Rattle.chart_top.specs.Answers.{IsAnswer};

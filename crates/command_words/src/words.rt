@@ -1,4 +1,4 @@
-ghost use Rattle.std.specs.Prelude.{◌≡◌, ◌≢◌, ◌≤◌, IfOk, IfErr, [], Some, None, true, false, map, string_bytes, option_and_then};
+ghost use Rattle.std.specs.Prelude.{◌≡◌, ◌≢◌, IfOk, IfErr, [], Some, None, true, false, map, string_bytes, option_and_then};
 ghost use Rattle.std.specs.Int.{IsInRange};
 ghost use Rattle.clap.specs.Words.{app_of, new_app, with_rule, rule_of, rows_of, found_of, one_of, is_simple_and_free};
 ghost use Rattle.command_words.specs.Numbers.{number_in_text};
