@@ -1,23 +1,10 @@
 -- A text has one answer to options.
-use Rattle.std.proofs.Common.{◌≡◌, ◌⊎◌, inl, inr, ℕ, zero, suc, true, false, List, [], ◌∷◌, get_or, ◌++◌, Some, Ok, Err, refl, sym, ap, subst, ◌∙◌, arith}
-use Rattle.std.specs.List.{All}
-use Rattle.std.proofs.lemmas.List.Elements.{All-head, All-tail}
-use Rattle.dn_base.specs.declared.ids.PhaseId.{PhaseId}
-use Rattle.dn_base.specs.declared.ids.CoreId.{CoreId}
-use Rattle.dn_base.specs.declared.ids.LockId.{LockId}
-use Rattle.dn_base.specs.declared.ids.WordId.{WordId}
+use Rattle.std.proofs.Common.{◌≡◌, ◌⊎◌, inl, inr, ℕ, true, false, List, ◌++◌, Some, refl, sym, ap, ◌∙◌}
 use Rattle.dn_base.specs.declared.ids.Grant.{Grant}
 use Rattle.dn_base.specs.declared.status.Status.{Status}
 use Rattle.dn_base.specs.declared.status.Status as status
 use Rattle.dn_base.specs.Status.{status_of}
-use Rattle.region_table.specs.declared.declared.Phase.{Phase}
 use Rattle.region_table.specs.Program.{ProgramParts}
-use Rattle.rv_assembler.specs.Source.{source}
-use Rattle.rv_assembler.specs.declared.fault.SourceFault.{SourceFault}
-use Rattle.effect_checker.specs.Checked.{IsCheckedPhase, IsChecked}
-use Rattle.effect_checker.specs.Faults.{numbers_of, phase_of, phase_at, IsFault, IsFaultAmong, IsLeastFault, IsUpTo}
-use Rattle.effect_checker.specs.declared.fault.CheckFault.{CheckFault}
-use Rattle.effect_checker.specs.declared.fault.CheckFault.TheVariants.{PlainConflict, GuardedPlain, TwoLocks}
 use Rattle.flat_machine.specs.declared.ending.FlatEnd.{FlatEnd}
 use Rattle.flat_machine.specs.Phases.{opened}
 use Rattle.flat_machine.specs.Ending.{flat_end}
@@ -25,13 +12,12 @@ use Rattle.flat_machine.proofs.RunLemmas.{least-one}
 use Rattle.run_report.specs.declared.refusal.Refusal as refusal
 use Rattle.run_report.specs.Answer.{answer_of}
 use Rattle.run_report.specs.Grants.{grants_of}
-use Rattle.run_report.specs.Refusal.{refusal_of}
 use Rattle.run_report.specs.Summary.{checked_of}
 use Rattle.command_words.specs.declared.options.Mode.{Mode}
 use Rattle.command_words.specs.declared.options.Mode as mode
 use Rattle.command_words.specs.declared.options.Options.{Options}
 use Rattle.dn_top.specs.declared.output.Output.{Output}
-use Rattle.dn_top.specs.Answers.{HasProgram, HasChecked, IsNoProgram, IsInConflict, IsUnfit, IsFlatRun, IsListing, IsProof, answered, done_in, refused_in, picks_events, IsRefusal, IsAnswer}
+use Rattle.dn_top.specs.Answers.{IsFlatRun, IsListing, IsProof, answered, done_in, refused_in, picks_events, IsRefusal, IsAnswer}
 use Rattle.dn_top.specs.Runs.{IsMachineRun, IsTimedRun, reported, summed_up}
 use Rattle.dn_top.specs.Documents.{IsTracedRun}
 use Rattle.dn_top.specs.Laws.{IsDecided}

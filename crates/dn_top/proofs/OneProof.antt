@@ -1,5 +1,5 @@
 -- The prover has one answer to a program.
-use Rattle.std.proofs.Common.{◌≡◌, ◌⊎◌, inl, inr, ℕ, ◌<◌, ◌≤◌, ◌==◌, nat_lt, Bool, true, false, refl, sym, ap, subst, ◌∙◌, arith}
+use Rattle.std.proofs.Common.{◌≡◌, ℕ, ◌<◌, nat_lt, Bool, true, false, refl, sym, ap, subst, ◌∙◌, arith}
 use Rattle.std.proofs.lemmas.Bool.Decides.{nat_tests}
 use Rattle.dn_base.specs.declared.ids.PhaseId.{PhaseId}
 use Rattle.dn_base.specs.declared.ids.CoreId.{CoreId}
@@ -8,7 +8,7 @@ use Rattle.region_table.specs.Program.{ProgramParts}
 use Rattle.effect_checker.specs.Least.{IsFirstPair, IsFirst}
 use Rattle.effect_prover.specs.declared.proved.Proved.{Proved}
 use Rattle.effect_prover.specs.declared.proved.Proved.TheVariants.{Inside, Unbounded}
-use Rattle.effect_prover.specs.Answer.{IsAnswer as IsProversAnswer, IsProven, IsUnbounded, proved_text}
+use Rattle.effect_prover.specs.Answer.{IsAnswer as IsProversAnswer, IsUnbounded, proved_text}
 use Rattle.effect_prover.proofs.TableLemmas.{not-both}
 use Rattle.dn_top.specs.declared.output.Output.{Output}
 use Rattle.dn_top.specs.Answers.{IsProof, answered}

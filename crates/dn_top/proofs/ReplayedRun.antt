@@ -1,5 +1,5 @@
 -- What the replay of a document says of its run.
-use Rattle.std.proofs.Common.{◌≡◌, ◌<◌, ℕ, List, sym, ap, subst, ◌∙◌, arith, length}
+use Rattle.std.proofs.Common.{◌≡◌, ◌<◌, List, sym, ap, subst, ◌∙◌, arith, length}
 use Rattle.dn_base.specs.declared.ids.Shape.{Shape}
 use Rattle.region_table.specs.Program.{ProgramParts, IsProgram}
 use Rattle.message_net.specs.declared.event.Event.{Event}
@@ -9,7 +9,6 @@ use Rattle.machine_rules.proofs.OpenedFacts.{opened-setting}
 use Rattle.run_agreement.specs.Ends.{HasFlatEnd}
 use Rattle.dn_machine.specs.Run.{IsRunOf as IsMachinesRun}
 use Rattle.dn_machine.specs.declared.record.RunRecord.{RunRecord}
-use Rattle.run_replay.specs.declared.trace.TraceShape.{TraceShape}
 use Rattle.run_replay.specs.declared.trace.Trace.{Trace}
 use Rattle.run_replay.specs.declared.replaying.Replayed.{Replayed}
 use Rattle.run_replay.specs.declared.replaying.Replayed.TheVariants.{Complete}

@@ -36,7 +36,7 @@ use Rattle.dn_machine.proofs.RunLemmas.{ready-of}
 use Rattle.run_replay.specs.Document.{IsTold}
 use Rattle.run_replay.proofs.ToldRuns.{run-told}
 use Rattle.command_words.specs.declared.options.Options.{Options}
-use Rattle.dn_top.specs.Runs.{shape_for, ending_alone, HasFlatRun, IsWithoutGrants, IsRunOf, IsRunFor, IsPrintable}
+use Rattle.dn_top.specs.Runs.{shape_for, HasFlatRun, IsWithoutGrants, IsRunOf, IsRunFor, IsPrintable}
 
 -- ---- the size of an ending
 

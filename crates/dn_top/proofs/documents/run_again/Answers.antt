@@ -1,4 +1,4 @@
-use Rattle.std.proofs.Common.{◌≡◌, refl, subst}
+use Rattle.std.proofs.Common.{refl, subst}
 use Rattle.region_table.specs.Program.{IsProgram}
 use Rattle.run_replay.specs.declared.replaying.Replayed.{Replayed}
 use Rattle.dn_top.specs.Documents.{IsReplayIn}
