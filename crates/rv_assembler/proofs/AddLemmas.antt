@@ -1,5 +1,5 @@
 -- What a statement adds to the tables of the lines before it.
-use Rattle.std.proofs.Common.{◌≡◌, ℕ, ◌+◌, ◌≤◌, List, [], ◌∷◌, length, Option, refl, ap, ◌∙◌, sum_by, flat_map, false, not, arith, ◌++◌}
+use Rattle.std.proofs.Common.{◌≡◌, ℕ, ◌+◌, ◌%◌, ◌^◌, ◌≤◌, List, [], ◌∷◌, length, Option, refl, ap, ◌∙◌, sum_by, flat_map, false, not, arith, ◌++◌}
 use Rattle.std.proofs.lemmas.List.Sums.{sum_by_push, count_by-le-length}
 use Rattle.src_text.specs.declared.token.Token.{Token}
 use Rattle.region_table.specs.declared.declared.Region.{Region}
@@ -23,7 +23,8 @@ use Rattle.rv_assembler.specs.Tables.{code_at, region_at, lock_at, task_at}
 use Rattle.rv_assembler.specs.Adding.{after}
 use Rattle.rv_assembler.proofs.SoundLemmas.{not-false, or-none, length-counted}
 use Rattle.rv_assembler.proofs.WrappedTables.{wrapped_value_at, wrapped_claim_at, wrapped_tables}
-use Rattle.rv_assembler.proofs.RangeLemmas.{family-cores, members-same}
+use Rattle.rv_assembler.proofs.RangeLemmas.{family-cores}
+use Rattle.rv_assembler.proofs.IndexLemmas.{members-same}
 use Rattle.rv_assembler.proofs.NearLemmas.{IsNear, entry-same}
 use Rattle.rv_assembler.proofs.TableLemmas.{tally, table-more, table-same, sum-same, family-same, family-new, counts-same, two-at_most, code-bound, length-at_most}
 
@@ -176,7 +177,7 @@ module _ (text : List ℕ) (names : List ℕ → Option Meaning) (near : (q : Li
       ap (λ (e : ℕ). starts (first_task f e (count_of f.core)) f.step (count_of f.count)) same
       ∙ ap (λ (c : ℕ). starts (first_task f entry c) f.step (count_of f.count)) few_cores.core
       ∙ ap (λ (n : ℕ). starts (first_task f entry (wrapped f.core)) f.step n) few_cores.count in
-      let grown : flat_map (task_at text names) (placed (ss ++ s ∷ [])) ≡ done ++ members (first_task f entry (wrapped f.core)) f.step (wrapped f.count) =
+      let grown : flat_map (task_at text names) (placed (ss ++ s ∷ [])) ≡ done ++ members (record { phase = phases_in ss; core = wrapped f.core; entry = entry; arg = f.arg % 2 ^ 32 }) f.step (wrapped f.count) =
       table-more (task_at text names) ss s ∙ ap (λ (ts : List Start). done ++ ts) (cores ∙ members-same (first_task f entry (wrapped f.core)) f.step (wrapped f.count) few_cores.few) in
       let family : family_in (ss ++ s ∷ []) ≡ record { first = wrapped f.core; count = wrapped f.count } =
       family-new ss s (record { first = count_of f.core; count = count_of f.count }) refl ∙ (λ i. record { first = few_cores.core i; count = few_cores.count i }) in

@@ -6,6 +6,7 @@ pub mod SoundLemmas
 pub mod NameLemmas
 pub mod SourceLemmas
 pub mod RangeLemmas
+pub mod IndexLemmas
 pub mod TableLemmas
 pub mod WrappedTables
 pub mod DeclarationLemmas
@@ -18,3 +19,5 @@ pub mod UseLemmas
 pub mod AgreeLemmas
 pub mod LargeLemmas
 pub mod DeclaredLemmas
+pub mod WellFormed
+pub mod RegisterLemmas

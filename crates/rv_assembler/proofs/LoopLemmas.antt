@@ -1,15 +1,19 @@
 -- One turn of a loop that goes so many times.
-use Rattle.std.proofs.Common.{◌≡◌, ℕ, zero, suc, ◌+◌, ◌-◌, ◌<◌, Bool, true, ◌&&◌, ℤ, ◌+ℤ◌, List, [], ◌∷◌, ◌++◌, map, refl, sym, ◌∙◌, append_assoc, arith}
+use Rattle.std.proofs.Common.{◌≡◌, ℕ, zero, suc, ◌+◌, ◌-◌, ◌<◌, Bool, true, ◌&&◌, ℤ, ◌+ℤ◌, List, [], ◌∷◌, ◌++◌, map, refl, ap, sym, ◌∙◌, append_assoc, arith}
 use Rattle.std.specs.List.{range_with_len}
 use Rattle.rv_assembler.specs.declared.draft.Start.{Start}
 use Rattle.rv_assembler.specs.declared.draft.Claim.{Claim}
 use Rattle.rv_assembler.specs.Number.{is_interval}
 use Rattle.rv_assembler.specs.Drafting.{next_task, members, next_claim, claimed}
 use Rattle.rv_assembler.specs.Fault.{stepped_fits}
+use Rattle.rv_assembler.proofs.IndexLemmas.{fits-index}
 
 pub stepped_more : (len step lo hi : ℤ) (n : ℕ) → 0 < n → stepped_fits len step lo hi n ≡ (is_interval lo hi len && stepped_fits len step (lo +ℤ step) (hi +ℤ step) (n - 1))
 stepped_more len step lo hi zero l = absurd (omega arith)
-stepped_more len step lo hi (suc n) l = let e : suc n - 1 ≡ n = omega arith in rw e refl
+stepped_more len step lo hi (suc n) l =
+    let e : suc n - 1 ≡ n = omega arith in
+    fits-index len step lo hi (suc n)
+    ∙ ap (λ (b : Bool). is_interval lo hi len && b) (sym (fits-index len step (lo +ℤ step) (hi +ℤ step) n) ∙ ap (stepped_fits len step (lo +ℤ step) (hi +ℤ step)) (sym e))
 
 pub members_step : (done : List Start) (t : Start) (step n k : ℕ) (all : List Start) → n ≡ suc k → done ++ members t step n ≡ all → (done ++ t ∷ []) ++ members (next_task t step) step k ≡ all
 members_step done t step n k all e h =

@@ -2,12 +2,8 @@
 use Rattle.std.proofs.Common.{◌≡◌, ℕ, zero, suc, ◌+◌, ◌-◌, ◌%◌, ◌^◌, ◌≤◌, Bool, true, false, cond, not, ◌&&◌, ltb, ltb-false, leb-true, ℤ, pos, negsuc, ◌+ℤ◌, int_le, List, ◌∷◌, refl, ap, ◌∙◌, arith}
 use Rattle.std.proofs.lemmas.Bool.{and_parts}
 use Rattle.rv_assembler.specs.declared.statement.Family.{Family}
-use Rattle.rv_assembler.specs.declared.draft.Start.{Start}
 use Rattle.rv_assembler.specs.Number.{count_of, wrapped}
-use Rattle.rv_assembler.specs.Gathering.{more}
 use Rattle.rv_assembler.specs.Fault.{entry_far, are_cores, family_far}
-use Rattle.rv_assembler.specs.Drafting.{next_task, members}
-use Rattle.rv_assembler.specs.Rows.{starts}
 use Rattle.rv_assembler.proofs.SoundLemmas.{not-false, or-none}
 
 pub small-counted : (z : ℤ) → int_le (pos 0) z ≡ true → int_le z (pos 65536) ≡ true → wrapped z ≡ count_of z
@@ -31,13 +27,6 @@ family-cores f e =
     by_signs (negsuc m) count x y z = let no : false ≡ true = x in absurd cc
     by_signs (pos m) (negsuc n) x y z = let no : false ≡ true = y in absurd cc
     by_signs (pos m) (pos n) x y z = let few : m + n ≤ 16 = leb-true (m + n) 16 z in (omega arith, omega arith, omega arith)
-
-pub members-same : (t : Start) (step n : ℕ) → t.core + n ≤ 16 → starts t step n ≡ members t step n
-members-same t step zero l = refl
-members-same t step (suc n) l =
-    let next : t.core + 1 ≡ more t.core 1 = omega arith in
-    ap (λ (c : ℕ). t ∷ starts (record { phase = t.phase; core = c; entry = t.entry; arg = (t.arg + step) % 2 ^ 32 }) step n) next
-    ∙ ap (λ (ts : List Start). t ∷ ts) (members-same (next_task t step) step n (omega arith))
 
 -- a place moved on within the memory
 pub moved : (start k : ℕ) (step : ℤ) → start + k ≤ 65536 → int_le (pos 0) (pos k +ℤ step) ≡ true → start + count_of (pos k +ℤ step) ≤ 65536

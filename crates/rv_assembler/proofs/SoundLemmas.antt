@@ -1,5 +1,5 @@
 -- What the lines add up to is a well-formed program, as long as no line has a fault.
-use Rattle.std.proofs.Common.{if◌then◌else◌, ◌≡◌, ◌≢◌, ℕ, zero, suc, ◌+◌, ◌%◌, ◌<◌, ◌≤◌, ◌||◌, not, Bool, true, false, eqb, ltb, ℤ, pos, negsuc, int_le, List, [], ◌∷◌, ◌++◌, length, map, replicate, set, Option, Some, None, refl, sym, ◌∙◌, ap, arith, length-append}
+use Rattle.std.proofs.Common.{if◌then◌else◌, ◌≡◌, ◌≢◌, ℕ, zero, suc, ◌+◌, ◌%◌, ◌^◌, ◌<◌, ◌≤◌, ◌||◌, not, Bool, true, false, eqb, ltb, ℤ, pos, negsuc, int_le, List, [], ◌∷◌, ◌++◌, length, map, replicate, set, Option, Some, None, refl, sym, ◌∙◌, ap, arith, length-append}
 use Rattle.std.specs.List.{All, AllPairs, range_with_len}
 use Rattle.std.proofs.lemmas.Bool.{and_parts, ltb-false, leb-true}
 use Rattle.std.proofs.lemmas.List.{length-map, length-set, length-replicate}
@@ -208,7 +208,7 @@ sound-statement text names d (statement.TheVariants.Lock name) h o n w r l =
     }
 sound-statement text names d statement.TheVariants.Phase h o n w r l = record { region_count = h.region_count; lock_count = h.lock_count; tiled = h.tiled; regions = h.regions; locks = h.locks; aligned = h.aligned }
 sound-statement text names d (statement.TheVariants.Tasks f) h o n w r l =
-    let first : Start = record { phase = d.phases; core = wrapped f.core; entry = wrapped_entry text names f.entry; arg = f.arg } in
+    let first : Start = record { phase = d.phases; core = wrapped f.core; entry = wrapped_entry text names f.entry; arg = f.arg % 2 ^ 32 } in
     let entry : IsAligned first = kind-aligned names (bytes_of text f.entry) f.entry.kind (or-none (not (are_cores f)) (entry_far f.entry.kind) o).1 in
     record {
       region_count = h.region_count;

@@ -29,7 +29,8 @@ use Rattle.rv_assembler.specs.Operand.{bytes_of}
 use Rattle.rv_assembler.specs.Meaning.{first_of}
 use Rattle.rv_assembler.specs.Named.{no_cores, region_place, usage_of}
 use Rattle.rv_assembler.specs.Drafting.{next_claim, claimed, claims_for, values_for}
-use Rattle.rv_assembler.specs.Rows.{first_values, uses_from, uses_of}
+use Rattle.rv_assembler.specs.Rows.{first_values, lower, upper, moved_by, uses_of}
+use Rattle.rv_assembler.proofs.IndexLemmas.{fits_from, fits-index, uses_from, uses-index}
 use Rattle.rv_assembler.specs.Fault.{stepped_fits, extent_far, word_far, out_of_range, doubled, unknown, misplaced, early_fault, over_limit, limit_fault}
 use Rattle.rv_assembler.specs.Placed.{placed_behind}
 use Rattle.rv_assembler.specs.Counts.{region_words, data_size, code_words, data_words, regions_in, locks_in, phases_in, family_in}
@@ -76,13 +77,13 @@ moved-on start (negsuc k) step a e n l m b = let no : false ≡ true = n in absu
 moved-on start (pos k) step a e n l m b = ap (λ (x : ℕ). (x + wrapped step) % 2 ^ 32) e ∙ moved start k step l m b
 
 module _ (start : ℕ) (len step : ℤ) (few : start + count_of len ≤ 65536) where
-  claimed-stepped : (n : ℕ) (c : Claim) (lo hi : ℤ) → c.lo ≡ start + count_of lo → c.hi ≡ start + count_of hi → c.core + n ≤ 16 → stepped_fits len step lo hi n ≡ true
+  claimed-stepped : (n : ℕ) (c : Claim) (lo hi : ℤ) → c.lo ≡ start + count_of lo → c.hi ≡ start + count_of hi → c.core + n ≤ 16 → fits_from len step lo hi n ≡ true
       → claimed c (wrapped step) n ≡ uses_from c.phase c.core c.usage start lo hi step n
   claimed-stepped zero c lo hi a b k e = refl
   claimed-stepped (suc zero) c lo hi a b k e = λ i. record { phase = c.phase; core = c.core; usage = c.usage; lo = a i; hi = b i } ∷ []
   claimed-stepped (suc (suc n)) c lo hi a b k e =
-      let p = and_parts (is_interval lo hi len) (stepped_fits len step (lo +ℤ step) (hi +ℤ step) (suc n)) e in
-      let q = and_parts (is_interval (lo +ℤ step) (hi +ℤ step) len) (stepped_fits len step ((lo +ℤ step) +ℤ step) ((hi +ℤ step) +ℤ step) n) p.1 in
+      let p = and_parts (is_interval lo hi len) (fits_from len step (lo +ℤ step) (hi +ℤ step) (suc n)) e in
+      let q = and_parts (is_interval (lo +ℤ step) (hi +ℤ step) len) (fits_from len step ((lo +ℤ step) +ℤ step) ((hi +ℤ step) +ℤ step) n) p.1 in
       let here = inside-interval lo hi len p.0 in
       let next = inside-interval (lo +ℤ step) (hi +ℤ step) len q.0 in
       let f1 = here.first in
@@ -144,11 +145,11 @@ whole-interval (negsuc n) e =
 abbrev first_claim : ℕ → Cores → Place → Usage → ℤ → ℤ → Claim
 first_claim phase family p u lo hi = record { phase = phase; core = family.first; usage = u; lo = (p.start + wrapped lo) % 2 ^ 32; hi = (p.start + wrapped hi) % 2 ^ 32 }
 
-stepped-uses : (words phase : ℕ) (family : Cores) (p : Place) (u : Usage) (lo hi step : ℤ) → IsRegion words p.start p.len → (n : ℕ) → family.first + n ≤ 16 → stepped_fits p.len step lo hi n ≡ true
+stepped-uses : (words phase : ℕ) (family : Cores) (p : Place) (u : Usage) (lo hi step : ℤ) → IsRegion words p.start p.len → (n : ℕ) → family.first + n ≤ 16 → fits_from p.len step lo hi n ≡ true
     → claimed (first_claim phase family p u lo hi) (wrapped step) n ≡ uses_from phase family.first u p.start lo hi step n
 stepped-uses words phase family p u lo hi step r zero k e = refl
 stepped-uses words phase family p u lo hi step r (suc n) k e =
-    let q = and_parts (is_interval lo hi p.len) (stepped_fits p.len step (lo +ℤ step) (hi +ℤ step) n) e in
+    let q = and_parts (is_interval lo hi p.len) (fits_from p.len step (lo +ℤ step) (hi +ℤ step) n) e in
     let here = inside-interval lo hi p.len q.0 in
     let f = here.first in
     let g = here.last in
@@ -156,18 +157,22 @@ stepped-uses words phase family p u lo hi step r (suc n) k e =
     let m = r.few in
     claimed-stepped p.start p.len step (omega arith) (suc n) (first_claim phase family p u lo hi) lo hi (counted-small p.start lo (omega arith) here.low (omega arith)) (counted-small p.start hi (omega arith) here.high (omega arith)) k e
 
-uses-same : (words phase : ℕ) (family : Cores) (p : Place) (u : Usage) (e : Extent) → IsRegion words p.start p.len → family.first + family.count ≤ 16 → extent_far (Some p) e family.count ≡ false
-    → claims_for phase family (Some p) (Some u) e ≡ uses_of phase family (Some p) (Some u) e
-uses-same words phase family p u extent.TheVariants.Whole r k e =
+made-same : (words phase : ℕ) (family : Cores) (p : Place) (u : Usage) (e : Extent) → IsRegion words p.start p.len → family.first + family.count ≤ 16 → extent_far (Some p) e family.count ≡ false
+    → claims_for phase family (Some p) (Some u) e ≡ uses_from phase family.first u p.start (lower e) (upper p.len e) (moved_by e) family.count
+made-same words phase family p u extent.TheVariants.Whole r k e =
     let l = r.reach in
     let m = r.few in
     flat-uses phase family u p.start p.len (pos 0) p.len p.start ((p.start + wrapped p.len) % 2 ^ 32) (omega arith) k (whole-interval p.len r.sized) (λ a b. omega arith) (counted-small p.start p.len (omega arith))
-uses-same words phase family p u (extent.TheVariants.Part lo hi) r k e =
+made-same words phase family p u (extent.TheVariants.Part lo hi) r k e =
     let l = r.reach in
     let m = r.few in
     flat-uses phase family u p.start p.len lo hi ((p.start + wrapped lo) % 2 ^ 32) ((p.start + wrapped hi) % 2 ^ 32) (omega arith) k (not-false (is_interval lo hi p.len) e) (counted-small p.start lo (omega arith)) (counted-small p.start hi (omega arith))
-uses-same words phase family p u (extent.TheVariants.Stepped lo hi step) r k e =
-    stepped-uses words phase family p u lo hi step r family.count k (not-false (stepped_fits p.len step lo hi family.count) e)
+made-same words phase family p u (extent.TheVariants.Stepped lo hi step) r k e =
+    stepped-uses words phase family p u lo hi step r family.count k (sym (fits-index p.len step lo hi family.count) ∙ not-false (stepped_fits p.len step lo hi family.count) e)
+
+uses-same : (words phase : ℕ) (family : Cores) (p : Place) (u : Usage) (e : Extent) → IsRegion words p.start p.len → family.first + family.count ≤ 16 → extent_far (Some p) e family.count ≡ false
+    → claims_for phase family (Some p) (Some u) e ≡ uses_of phase family (Some p) (Some u) e
+uses-same words phase family p u e r k f = made-same words phase family p u e r k f ∙ sym (uses-index phase family u p e)
 
 abbrev value_row : ℕ → ℕ → List FirstValue
 value_row word value = record { word = word; value = value } ∷ []
@@ -228,19 +233,22 @@ plain-held words phase start u n core lo hi len e m = by_signs lo hi (inside-int
     by_signs (pos x) (negsuc y) i = let no : false ≡ true = i.high in absurd cc
     by_signs (pos x) (pos y) i = let l = i.order in let g = i.last in flat-held words phase start u n core x y (omega arith) (omega arith)
 
-stepped-held : (words phase start : ℕ) (u : Usage) (len step : ℤ) → start + count_of len ≤ words → (n core : ℕ) (lo hi : ℤ) → stepped_fits len step lo hi n ≡ true → All (IsInMemory words) (uses_from phase core u start lo hi step n)
+stepped-held : (words phase start : ℕ) (u : Usage) (len step : ℤ) → start + count_of len ≤ words → (n core : ℕ) (lo hi : ℤ) → fits_from len step lo hi n ≡ true → All (IsInMemory words) (uses_from phase core u start lo hi step n)
 stepped-held words phase start u len step m zero core lo hi e = All-nil (IsInMemory words)
 stepped-held words phase start u len step m (suc n) core lo hi e =
-    let p = and_parts (is_interval lo hi len) (stepped_fits len step (lo +ℤ step) (hi +ℤ step) n) e in
+    let p = and_parts (is_interval lo hi len) (fits_from len step (lo +ℤ step) (hi +ℤ step) n) e in
     let here = inside-interval lo hi len p.0 in
     let o = here.order in
     let g = here.last in
     All-cons (IsInMemory words) _ (uses_from phase (core + 1) u start (lo +ℤ step) (hi +ℤ step) step n) (omega arith, omega arith) (stepped-held words phase start u len step m n (core + 1) (lo +ℤ step) (hi +ℤ step) p.1)
 
+made-held : (words phase : ℕ) (family : Cores) (p : Place) (u : Usage) (e : Extent) → IsRegion words p.start p.len → extent_far (Some p) e family.count ≡ false → All (IsInMemory words) (uses_from phase family.first u p.start (lower e) (upper p.len e) (moved_by e) family.count)
+made-held words phase family p u extent.TheVariants.Whole r e = plain-held words phase p.start u family.count family.first (pos 0) p.len p.len (whole-interval p.len r.sized) r.reach
+made-held words phase family p u (extent.TheVariants.Part lo hi) r e = plain-held words phase p.start u family.count family.first lo hi p.len (not-false (is_interval lo hi p.len) e) r.reach
+made-held words phase family p u (extent.TheVariants.Stepped lo hi step) r e = stepped-held words phase p.start u p.len step r.reach family.count family.first lo hi (sym (fits-index p.len step lo hi family.count) ∙ not-false (stepped_fits p.len step lo hi family.count) e)
+
 uses-held : (words phase : ℕ) (family : Cores) (p : Place) (u : Usage) (e : Extent) → IsRegion words p.start p.len → extent_far (Some p) e family.count ≡ false → All (IsInMemory words) (uses_of phase family (Some p) (Some u) e)
-uses-held words phase family p u extent.TheVariants.Whole r e = plain-held words phase p.start u family.count family.first (pos 0) p.len p.len (whole-interval p.len r.sized) r.reach
-uses-held words phase family p u (extent.TheVariants.Part lo hi) r e = plain-held words phase p.start u family.count family.first lo hi p.len (not-false (is_interval lo hi p.len) e) r.reach
-uses-held words phase family p u (extent.TheVariants.Stepped lo hi step) r e = stepped-held words phase p.start u p.len step r.reach family.count family.first lo hi (not-false (stepped_fits p.len step lo hi family.count) e)
+uses-held words phase family p u e r f = subst (All (IsInMemory words)) (sym (uses-index phase family u p e)) (made-held words phase family p u e r f)
 
 -- each statement is in its range
 abbrev AreClean : List ℕ → (List ℕ → Option Meaning) → List Saying → List Saying → Type 0
@@ -374,7 +382,7 @@ none-of : (o : Option SourceFault) (fs : List SourceFault) → cons_option o fs 
 none-of None fs e = (refl, e)
 none-of (Some f) fs e = absurd cc
 
-both-none : (a b : Option SourceFault) → first_of a b ≡ None → (a ≡ None) × (b ≡ None)
+pub both-none : (a b : Option SourceFault) → first_of a b ≡ None → (a ≡ None) × (b ≡ None)
 both-none None b e = (refl, e)
 both-none (Some f) b e = absurd cc
 

@@ -1,6 +1,6 @@
 -- The assembler's way to a program or a fault: the lines are added up one by one, with counts that stand still at the greatest
 -- number of 32 bits. The meaning of a text is defined in Source; this gives the same.
-use Rattle.std.specs.Prelude.{ℕ, Bool, nat_lt, List, [], ◌∷◌, ◌++◌, length, map, Option, Some, None, Result, Ok, Err, if◌then◌else◌}
+use Rattle.std.specs.Prelude.{ℕ, ◌%◌, ◌^◌, Bool, nat_lt, List, [], ◌∷◌, ◌++◌, length, map, Option, Some, None, Result, Ok, Err, if◌then◌else◌}
 use Rattle.region_table.specs.Program.{ProgramParts}
 use Rattle.src_text.specs.declared.line.Line.{Line}
 use Rattle.src_text.specs.Line.{lines_of}
@@ -32,7 +32,7 @@ no_draft = record { code = []; regions = []; locks = []; values = []; tasks = []
 abbrev pub with_tasks : Draft → ℕ → Family → Draft
 with_tasks d entry f =
     record d {
-      tasks = d.tasks ++ members (record { phase = d.phases; core = wrapped f.core; entry = entry; arg = f.arg }) f.step (wrapped f.count);
+      tasks = d.tasks ++ members (record { phase = d.phases; core = wrapped f.core; entry = entry; arg = f.arg % 2 ^ 32 }) f.step (wrapped f.count);
       family = record { first = wrapped f.core; count = wrapped f.count };
     }
 

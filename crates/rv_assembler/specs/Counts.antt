@@ -1,5 +1,5 @@
 -- How much the statements of some lines are together.
-use Rattle.std.specs.Prelude.{ℕ, ℤ, if◌then◌else◌, Bool, true, false, List, Option, Some, None, filter_map, sum_by, count_by, unwrap_or}
+use Rattle.std.specs.Prelude.{ℕ, ℤ, ◌≤◌, if◌then◌else◌, Bool, true, false, List, Option, Some, None, filter_map, sum_by, count_by, unwrap_or}
 use Rattle.std.specs.List.{last_or}
 use Rattle.rv_assembler.specs.declared.statement.Statement.{Statement}
 use Rattle.rv_assembler.specs.declared.statement.Statement as statement
@@ -9,6 +9,7 @@ use Rattle.rv_assembler.specs.declared.draft.Cores.{Cores}
 use Rattle.rv_assembler.specs.Number.{count_of, is_length}
 use Rattle.rv_assembler.specs.Meaning.{size_of}
 use Rattle.rv_assembler.specs.Named.{no_cores}
+use Rattle.rv_assembler.specs.Placed.{Placed}
 
 -- how many words a region has; none where its number is out of its range
 abbrev pub region_words : ℤ → ℕ
@@ -64,3 +65,12 @@ opened _ = None
 -- the cores of the current tasks behind some lines: those of the last `.task` or `.forall` of the last phase
 abbrev pub family_in : List Saying → Cores
 family_in ss = unwrap_or (last_or None (filter_map (λ (s : Saying). opened s.statement) ss)) no_cores
+
+-- What stands before a line of good form has 32 bits: where its label points, where its region begins, and the numbers of its
+-- region, its lock and its phase.
+pub record HasFewBefore (p : Placed Saying) : Type 0 where
+  pub code : code_words p.before ≤ 131070
+  pub words : data_words p.before ≤ 4294901760
+  pub regions : regions_in p.before ≤ 65535
+  pub locks : locks_in p.before ≤ 65535
+  pub phases : phases_in p.before ≤ 65535

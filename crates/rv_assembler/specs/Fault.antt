@@ -1,6 +1,7 @@
--- The faults of a line of good form, each as a test.
-use Rattle.std.specs.Prelude.{ℕ, zero, suc, ◌%◌, ℤ, pos, ◌+ℤ◌, int_le, int_lt, Bool, true, false, not, ◌&&◌, ◌||◌, nat_lt, ◌==◌, List, length, Option, Some, None, is_none, if◌then◌else◌}
-use Rattle.std.specs.List.{list_any}
+-- The faults of a line of good form, each as a test: of the line, of the tables of the lines before it, and of what names mean.
+-- What is far is a number out of its range, or a label too far away; what is lost is a name that isn't declared as what is wanted.
+use Rattle.std.specs.Prelude.{ℕ, ◌%◌, ℤ, pos, ◌+ℤ◌, ◌*ℤ◌, int_le, int_lt, Bool, true, false, not, ◌&&◌, ◌||◌, nat_lt, ◌==◌, List, length, Option, Some, None, is_none, if◌then◌else◌}
+use Rattle.std.specs.List.{list_all, list_any, range_with_len}
 use Rattle.src_text.specs.declared.token.Token.{Token}
 use Rattle.src_text.specs.declared.token.TokenKind as token
 use Rattle.src_text.specs.declared.token.TokenKind.{TokenKind}
@@ -34,10 +35,13 @@ abbrev pub is_lost : Emission → Bool
 is_lost Unknown = true
 is_lost _ = false
 
--- whether the interval and those a step further, as many as there are tasks, are all intervals of the region
+-- whether the interval of task i is one of the region: that of the effect, moved on i times by the step
+abbrev pub fits_at : ℤ → ℤ → ℤ → ℤ → ℕ → Bool
+fits_at len step lo hi i = is_interval (lo +ℤ pos i *ℤ step) (hi +ℤ pos i *ℤ step) len
+
+-- whether those of all tasks of a family are
 abbrev pub stepped_fits : ℤ → ℤ → ℤ → ℤ → ℕ → Bool
-stepped_fits len step lo hi zero = true
-stepped_fits len step lo hi (suc n) = is_interval lo hi len && stepped_fits len step (lo +ℤ step) (hi +ℤ step) n
+stepped_fits len step lo hi n = list_all (fits_at len step lo hi) (range_with_len 0 n)
 
 -- where the region isn't declared its words aren't tested
 abbrev pub extent_far : Option Place → Extent → ℕ → Bool
@@ -74,7 +78,8 @@ out_of_range text names d (statement.TheVariants.Tasks f) = family_far f
 out_of_range text names d (statement.TheVariants.Uses e) = extent_far (region_place (names (bytes_of text e.region))) e.extent d.family.count
 out_of_range text names d _ = false
 
--- a name means what the first line that declares it says; a later line finds that it means something else
+-- A name means what the first line that declares it says. So a line declares a name that is declared before where the name means
+-- something other than what this line says: the label of another line, or the region or lock of another number.
 abbrev pub label_doubled : Option Meaning → ℕ → Bool
 label_doubled (Some (meaning.TheVariants.Label first place)) line = not (first == line)
 label_doubled _ line = true

@@ -1,5 +1,6 @@
--- The operands of a statement, by the places of their tokens.
-use Rattle.std.specs.Prelude.{ℕ, ℤ, pos, ◌&&◌, nat_le, nat_lt, List, [], length, slice_range, slice_index_or, Option, Some, None, if◌then◌else◌}
+-- The operands of a statement, by the places of their tokens. Where the operands have the form of a statement, each token that is
+-- asked for is there and of its kind; what is said for one that isn't is asked for in no line of good form.
+use Rattle.std.specs.Prelude.{ℕ, ℤ, pos, ◌&&◌, nat_le, List, [], length, slice_range, slice_index_or, Option, Some, None, if◌then◌else◌}
 use Rattle.src_text.specs.Register.{register_of}
 use Rattle.src_text.specs.declared.token.Token.{Token}
 use Rattle.src_text.specs.declared.token.TokenKind as token
@@ -23,10 +24,9 @@ number_of_kind _ = pos 0
 abbrev pub number_at : List Token → ℕ → ℤ
 number_at ts i = number_of_kind (token_at ts i).kind
 
--- the number of a register is below 32
 abbrev pub register_number : Option ℕ → ℕ
 register_number None = 0
-register_number (Some n) = if nat_lt n 32 then n else 0
+register_number (Some n) = n
 
 abbrev pub register_at : List ℕ → List Token → ℕ → ℕ
 register_at text ts i = register_number (register_of (bytes_of text (token_at ts i)))

@@ -1,5 +1,6 @@
 -- The rows that a statement gives: first values, tasks, and the words that tasks use.
-use Rattle.std.specs.Prelude.{ℕ, zero, suc, ◌+◌, ◌%◌, ◌^◌, ℤ, pos, ◌+ℤ◌, List, [], ◌∷◌, Option, Some, None}
+use Rattle.std.specs.Prelude.{ℕ, ◌+◌, ◌*◌, ◌%◌, ◌^◌, ℤ, pos, ◌+ℤ◌, ◌*ℤ◌, List, [], ◌∷◌, map, Option, Some, None}
+use Rattle.std.specs.List.{range_with_len}
 use Rattle.rv_assembler.specs.declared.statement.Extent.{Extent}
 use Rattle.rv_assembler.specs.declared.statement.Extent as extent
 use Rattle.rv_assembler.specs.declared.draft.FirstValue.{FirstValue}
@@ -15,15 +16,14 @@ abbrev pub first_values : Option Place → ℤ → ℕ → List FirstValue
 first_values None index value = []
 first_values (Some p) index value = record { word = p.start + count_of index; value = value } ∷ []
 
--- so many tasks, each on the next core and with an argument that is a step more, modulo 2^32
-abbrev pub next_start : Start → ℕ → Start
-next_start t step = record { phase = t.phase; core = t.core + 1; entry = t.entry; arg = (t.arg + step) % 2 ^ 32 }
+-- the tasks of a family: task i is on core f + i, and has the argument a + i s modulo 2^32
+abbrev pub start_at : Start → ℕ → ℕ → Start
+start_at first step i = record { phase = first.phase; core = first.core + i; entry = first.entry; arg = (first.arg + i * step) % 2 ^ 32 }
 
 abbrev pub starts : Start → ℕ → ℕ → List Start
-starts t step zero = []
-starts t step (suc n) = t ∷ starts (next_start t step) step n
+starts first step n = map (start_at first step) (range_with_len 0 n)
 
--- the interval of an effect for the first task, and by how much it is moved on for the next one
+-- the interval of an effect for the first task, and by how much it is moved on from each task to the next
 abbrev pub lower : Extent → ℤ
 lower extent.TheVariants.Whole = pos 0
 lower (extent.TheVariants.Part lo hi) = lo
@@ -38,15 +38,19 @@ abbrev pub moved_by : Extent → ℤ
 moved_by (extent.TheVariants.Stepped lo hi step) = step
 moved_by _ = pos 0
 
--- the words that so many tasks use, each on the next core and with the interval moved on by the step
-abbrev pub uses_from : ℕ → ℕ → Usage → ℕ → ℤ → ℤ → ℤ → ℕ → List Claim
-uses_from phase core usage start lo hi step zero = []
-uses_from phase core usage start lo hi step (suc n) =
-    record { phase = phase; core = core; usage = usage; lo = start + count_of lo; hi = start + count_of hi }
-    ∷ uses_from phase (core + 1) usage start (lo +ℤ step) (hi +ℤ step) step n
+-- the words that an effect gives task i of the family: those of the interval, moved on i times by the step
+abbrev pub use_at : ℕ → Cores → Usage → Place → Extent → ℕ → Claim
+use_at phase family u p e i =
+    record {
+      phase = phase;
+      core = family.first + i;
+      usage = u;
+      lo = p.start + count_of (lower e +ℤ pos i *ℤ moved_by e);
+      hi = p.start + count_of (upper p.len e +ℤ pos i *ℤ moved_by e);
+    }
 
 -- the words that an effect gives each of the current tasks
 abbrev pub uses_of : ℕ → Cores → Option Place → Option Usage → Extent → List Claim
-uses_of phase family (Some p) (Some u) e = uses_from phase family.first u p.start (lower e) (upper p.len e) (moved_by e) family.count
+uses_of phase family (Some p) (Some u) e = map (use_at phase family u p e) (range_with_len 0 family.count)
 uses_of phase family (Some p) None e = []
 uses_of phase family None u e = []

@@ -1,5 +1,5 @@
 //! The operands of a statement, by the places of their tokens.
-ghost use Rattle.std.specs.Prelude.{◌≡◌, ◌<◌};
+ghost use Rattle.std.specs.Prelude.{◌≡◌, ◌<◌, ℕ, Some};
 ghost use Rattle.rv_assembler.specs.Operand.{bytes_of, token_at, number_at, register_at, register_number};
 
 use rv_isa::Reg;
@@ -51,11 +51,12 @@ pub(crate) fn register_numbered(number: u8) -> Reg
 
 /// The register of this number, and x0 where there is none.
 fn register_or_zero(number: Option<u8>) -> Reg
+    requires { (n : ℕ) → number ≡ Some n → n < 32 }
     ensures { result ≡ register_number number }
 {
     match number {
-        Some(number) if number < 32 => register_numbered(number),
-        _ => register_numbered(0),
+        Some(number) => register_numbered(number),
+        None => register_numbered(0),
     }
 }
 

@@ -117,7 +117,7 @@ reg-some : (bs : List ℕ) (d : ℕ) → d < 32 → bs ≡ register d → is_som
 reg-some bs d l e = ap is_some (reg-found bs d l e)
 
 reg-number : (bs : List ℕ) (d : ℕ) → d < 32 → bs ≡ register d → register_number (register_of bs) ≡ d
-reg-number bs d l e = ap register_number (reg-found bs d l e) ∙ ap (λ (b : Bool). cond b d 0) (lt-ltb d 32 l)
+reg-number bs d l e = ap register_number (reg-found bs d l e)
 
 -- ---- a line of a statement whose operands have one token each
 
