@@ -12,14 +12,14 @@ use Rattle.rv_assembler.specs.declared.reading.Saying.{Saying}
 use Rattle.rv_assembler.specs.declared.names.Meaning.{Meaning}
 use Rattle.rv_assembler.specs.Number.{count_of, wrapped, is_length}
 use Rattle.rv_assembler.specs.Gathering.{more}
-use Rattle.rv_assembler.specs.Meaning.{size_of}
+use Rattle.rv_assembler.specs.Size.{size_of}
 use Rattle.rv_assembler.specs.Named.{no_cores, entry_of}
 use Rattle.rv_assembler.specs.Drafting.{wrapped_entry, members}
 use Rattle.rv_assembler.specs.Counts.{region_words, code_size, data_size, is_region, is_lock, is_phase, code_words, data_words, regions_in, locks_in, phases_in, family_in}
 use Rattle.rv_assembler.specs.Placed.{placed}
 use Rattle.rv_assembler.specs.Rows.{starts}
 use Rattle.rv_assembler.specs.Fault.{are_cores, entry_far, out_of_range}
-use Rattle.rv_assembler.specs.Tables.{code_at, region_at, lock_at, task_at}
+use Rattle.rv_assembler.specs.Tables.{code_at, region_at, lock_at, tasks_at}
 use Rattle.rv_assembler.specs.Adding.{after}
 use Rattle.rv_assembler.proofs.SoundLemmas.{not-false, or-none, length-counted}
 use Rattle.rv_assembler.proofs.WrappedTables.{wrapped_value_at, wrapped_claim_at, wrapped_tables}
@@ -62,7 +62,7 @@ module _ (text : List ℕ) (names : List ℕ → Option Meaning) (near : (q : Li
         regions = table-same (region_at text) ss s refl i;
         locks = table-same (lock_at text) ss s refl i;
         values = table-same (wrapped_value_at text names) ss s refl i;
-        tasks = table-same (task_at text names) ss s refl i;
+        tasks = table-same (tasks_at text names) ss s refl i;
         claims = table-same (wrapped_claim_at text names) ss s refl i;
         phases = sum-same phase_of ss s refl i;
         family = family-same ss s refl i;
@@ -79,7 +79,7 @@ module _ (text : List ℕ) (names : List ℕ → Option Meaning) (near : (q : Li
         regions = table-same (region_at text) ss s refl i;
         locks = table-same (lock_at text) ss s refl i;
         values = table-same (wrapped_value_at text names) ss s refl i;
-        tasks = table-same (task_at text names) ss s refl i;
+        tasks = table-same (tasks_at text names) ss s refl i;
         claims = table-same (wrapped_claim_at text names) ss s refl i;
         phases = sum-same phase_of ss s refl i;
         family = family-same ss s refl i;
@@ -106,7 +106,7 @@ module _ (text : List ℕ) (names : List ℕ → Option Meaning) (near : (q : Li
         regions = longer i;
         locks = table-same (lock_at text) ss s refl i;
         values = table-same (wrapped_value_at text names) ss s refl i;
-        tasks = table-same (task_at text names) ss s refl i;
+        tasks = table-same (tasks_at text names) ss s refl i;
         claims = table-same (wrapped_claim_at text names) ss s refl i;
         phases = sum-same phase_of ss s refl i;
         family = family-same ss s refl i;
@@ -124,7 +124,7 @@ module _ (text : List ℕ) (names : List ℕ → Option Meaning) (near : (q : Li
         regions = table-same (region_at text) ss s refl i;
         locks = table-same (lock_at text) ss s refl i;
         values = table-more (wrapped_value_at text names) ss s i;
-        tasks = table-same (task_at text names) ss s refl i;
+        tasks = table-same (tasks_at text names) ss s refl i;
         claims = table-same (wrapped_claim_at text names) ss s refl i;
         phases = sum-same phase_of ss s refl i;
         family = family-same ss s refl i;
@@ -140,7 +140,7 @@ module _ (text : List ℕ) (names : List ℕ → Option Meaning) (near : (q : Li
         regions = table-same (region_at text) ss s refl i;
         locks = table-more (lock_at text) ss s i;
         values = table-same (wrapped_value_at text names) ss s refl i;
-        tasks = table-same (task_at text names) ss s refl i;
+        tasks = table-same (tasks_at text names) ss s refl i;
         claims = table-same (wrapped_claim_at text names) ss s refl i;
         phases = sum-same phase_of ss s refl i;
         family = family-same ss s refl i;
@@ -161,7 +161,7 @@ module _ (text : List ℕ) (names : List ℕ → Option Meaning) (near : (q : Li
         regions = table-same (region_at text) ss s refl i;
         locks = table-same (lock_at text) ss s refl i;
         values = table-same (wrapped_value_at text names) ss s refl i;
-        tasks = table-same (task_at text names) ss s refl i;
+        tasks = table-same (tasks_at text names) ss s refl i;
         claims = table-same (wrapped_claim_at text names) ss s refl i;
         phases = one i;
         family = family-new ss s no_cores refl i;
@@ -170,15 +170,15 @@ module _ (text : List ℕ) (names : List ℕ → Option Meaning) (near : (q : Li
   tables-more (statement.TheVariants.Tasks f) few small fits =
       let s = said (statement.TheVariants.Tasks f) in
       let few_cores = family-cores f fits in
-      let done : List Start = flat_map (task_at text names) (placed ss) in
+      let done : List Start = flat_map (tasks_at text names) (placed ss) in
       let entry = wrapped_entry text names f.entry in
       let same : entry_of text names f.entry ≡ entry = entry-same text names near f.entry (or-none (not (are_cores f)) (entry_far f.entry.kind) fits).1 in
       let cores : starts (first_task f (entry_of text names f.entry) (count_of f.core)) f.step (count_of f.count) ≡ starts (first_task f entry (wrapped f.core)) f.step (wrapped f.count) =
       ap (λ (e : ℕ). starts (first_task f e (count_of f.core)) f.step (count_of f.count)) same
       ∙ ap (λ (c : ℕ). starts (first_task f entry c) f.step (count_of f.count)) few_cores.core
       ∙ ap (λ (n : ℕ). starts (first_task f entry (wrapped f.core)) f.step n) few_cores.count in
-      let grown : flat_map (task_at text names) (placed (ss ++ s ∷ [])) ≡ done ++ members (record { phase = phases_in ss; core = wrapped f.core; entry = entry; arg = f.arg % 2 ^ 32 }) f.step (wrapped f.count) =
-      table-more (task_at text names) ss s ∙ ap (λ (ts : List Start). done ++ ts) (cores ∙ members-same (first_task f entry (wrapped f.core)) f.step (wrapped f.count) few_cores.few) in
+      let grown : flat_map (tasks_at text names) (placed (ss ++ s ∷ [])) ≡ done ++ members (record { phase = phases_in ss; core = wrapped f.core; entry = entry; arg = f.arg % 2 ^ 32 }) f.step (wrapped f.count) =
+      table-more (tasks_at text names) ss s ∙ ap (λ (ts : List Start). done ++ ts) (cores ∙ members-same (first_task f entry (wrapped f.core)) f.step (wrapped f.count) few_cores.few) in
       let family : family_in (ss ++ s ∷ []) ≡ record { first = wrapped f.core; count = wrapped f.count } =
       family-new ss s (record { first = count_of f.core; count = count_of f.count }) refl ∙ (λ i. record { first = few_cores.core i; count = few_cores.count i }) in
       λ i. record {
@@ -199,7 +199,7 @@ module _ (text : List ℕ) (names : List ℕ → Option Meaning) (near : (q : Li
         regions = table-same (region_at text) ss s refl i;
         locks = table-same (lock_at text) ss s refl i;
         values = table-same (wrapped_value_at text names) ss s refl i;
-        tasks = table-same (task_at text names) ss s refl i;
+        tasks = table-same (tasks_at text names) ss s refl i;
         claims = table-more (wrapped_claim_at text names) ss s i;
         phases = sum-same phase_of ss s refl i;
         family = family-same ss s refl i;

@@ -12,7 +12,7 @@ use Rattle.rv_assembler.specs.declared.reading.Reading.TheVariants.{Bad, Good}
 use Rattle.rv_assembler.specs.declared.names.Meaning.{Meaning}
 use Rattle.rv_assembler.specs.declared.draft.Draft.{Draft}
 use Rattle.rv_assembler.specs.Reading.{version_line, reading_of}
-use Rattle.rv_assembler.specs.Meaning.{first_of}
+use Rattle.rv_assembler.specs.First.{first_of}
 use Rattle.rv_assembler.specs.Gathering.{no_count, meaning_in}
 use Rattle.rv_assembler.specs.Adding.{no_draft, after, unless_fault, total, program_in, added}
 use Rattle.rv_assembler.specs.Fault.{early_fault, limit_fault}

@@ -13,7 +13,7 @@ use Rattle.src_text.specs.declared.token.Token.{Token}
 use Rattle.rv_assembler.specs.declared.statement.Statement as statement
 use Rattle.rv_assembler.specs.declared.reading.Saying.{Saying}
 use Rattle.rv_assembler.specs.declared.reading.Reading.TheVariants.{Bad, Good}
-use Rattle.rv_assembler.specs.Reading.{fault_at, reading_of, is_version, is_blank, version_line}
+use Rattle.rv_assembler.specs.Reading.{fault_of_line, reading_of, is_version, is_blank, version_line}
 use Rattle.rv_assembler.specs.Source.{good, sayings}
 
 -- a line of a number above 65,536 has a fault, and no tokens
@@ -66,7 +66,7 @@ late-bad version text number place l v h =
     let found = late number place l h in
     let other : nat_eq number version ≡ false = grind (arith, nat_tests) in
     ap (λ (x : Line). good (reading_of version text x)) found.1
-    ∙ ap (λ (b : Bool). good (cond b (Good (record { line = number; label = None; statement = statement.TheVariants.Nothing })) (Bad (fault_at number found.0)))) other
+    ∙ ap (λ (b : Bool). good (cond b (Good (record { line = number; label = None; statement = statement.TheVariants.Nothing })) (Bad (fault_of_line number found.0)))) other
 
 longer : (o : Option Saying) (ss : List Saying) → length (cons_option o ss) ≤ 1 + length ss
 longer None ss = omega arith

@@ -11,7 +11,8 @@ use Rattle.rv_assembler.specs.declared.names.Meaning.{Meaning}
 use Rattle.rv_assembler.specs.declared.names.Meaning as meaning
 use Rattle.rv_assembler.specs.declared.names.Count.{Count}
 use Rattle.rv_assembler.specs.Operand.{bytes_of}
-use Rattle.rv_assembler.specs.Meaning.{first_of, size_of}
+use Rattle.rv_assembler.specs.First.{first_of}
+use Rattle.rv_assembler.specs.Size.{size_of}
 use Rattle.rv_assembler.specs.Gathering.{more, no_count, counted, label_of_means, name_means, meaning_in}
 use Rattle.rv_assembler.specs.Placed.{placed_behind}
 use Rattle.rv_assembler.specs.Counts.{region_words, code_size, data_size, is_region, is_lock, code_words, data_words, regions_in, locks_in}

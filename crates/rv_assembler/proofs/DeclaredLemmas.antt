@@ -32,7 +32,8 @@ use Rattle.rv_assembler.specs.declared.draft.Draft.{Draft}
 use Rattle.rv_assembler.specs.Names.{is_declared_name, AreDeclaredNames}
 use Rattle.rv_assembler.specs.Operand.{bytes_of, token_at}
 use Rattle.rv_assembler.specs.Shape as shape
-use Rattle.rv_assembler.specs.Shape.{Shape, memory_rows, operation_rows, short_rows, directive_rows, later_rows, is_colon, is_plain, piece_fits, fits, has_word, is_row, kind_in, knows_word, or_else, kind_for}
+use Rattle.rv_assembler.specs.Shape.{Shape, memory_rows, operation_rows, short_rows, directive_rows, later_rows, is_colon, is_plain, piece_fits, fits, has_word, is_row, kind_in, knows_word, kind_for}
+use Rattle.rv_assembler.specs.First.{first_of}
 use Rattle.rv_assembler.specs.Reading.{statement_for, statement_of, statement_in, said, labelled, read_tokens, read_line, reading_of, version_line}
 use Rattle.rv_assembler.specs.Adding.{no_draft, after, fault_of, unless_fault, total, program_in, draft_of}
 use Rattle.rv_assembler.specs.Finishing.{program_of}
@@ -139,7 +140,7 @@ found-good v text w ts all (s ∷ ss) e = by_row (is_row v text w ts s) refl (fo
     by_row true e rest = kind-good text s.kind s.operands ts all named.0 (and_parts (has_word v w s) (fits text s.operands ts) e).1
     by_row false e rest = rest
 
-else-good : (text : List ℕ) (ts : List Token) (a b : Option Kind) → FoundGood text ts a → FoundGood text ts b → FoundGood text ts (or_else a b)
+else-good : (text : List ℕ) (ts : List Token) (a b : Option Kind) → FoundGood text ts a → FoundGood text ts b → FoundGood text ts (first_of a b)
 else-good text ts None b f g = g
 else-good text ts (Some k) b f g = f
 

@@ -13,7 +13,7 @@ use Rattle.rv_assembler.specs.declared.draft.Place.{Place}
 use Rattle.rv_assembler.specs.Number.{count_of, is_interval}
 use Rattle.rv_assembler.specs.Gathering.{more}
 use Rattle.rv_assembler.specs.Drafting.{next_task, members}
-use Rattle.rv_assembler.specs.Rows.{start_at, starts, lower, upper, moved_by, use_at, uses_of}
+use Rattle.rv_assembler.specs.Rows.{start_at, starts, from_index, to_index, moved_by, use_at, uses_of}
 use Rattle.rv_assembler.specs.Fault.{fits_at, stepped_fits}
 
 -- a number moved on i times by a step
@@ -54,22 +54,22 @@ uses_from phase core usage start lo hi step (suc n) =
 
 module _ (phase : ℕ) (family : Cores) (u : Usage) (p : Place) (e : Extent) where
   abbrev low_at : ℕ → ℤ
-  low_at k = moved (lower e) (moved_by e) k
+  low_at k = moved (from_index e) (moved_by e) k
 
   abbrev high_at : ℕ → ℤ
-  high_at k = moved (upper p.len e) (moved_by e) k
+  high_at k = moved (to_index p.len e) (moved_by e) k
 
   uses-on : (n k : ℕ) → map (use_at phase family u p e) (range_with_len k n) ≡ uses_from phase (family.first + k) u p.start (low_at k) (high_at k) (moved_by e) n
   uses-on zero k = refl
   uses-on (suc n) k =
       let core : family.first + (k + 1) ≡ family.first + k + 1 = omega arith in
       ap (λ (cs : List Claim). use_at phase family u p e k ∷ cs)
-      (uses-on n (k + 1) ∙ (λ i. uses_from phase (core i) u p.start (at-next (lower e) (moved_by e) k i) (at-next (upper p.len e) (moved_by e) k i) (moved_by e) n))
+      (uses-on n (k + 1) ∙ (λ i. uses_from phase (core i) u p.start (at-next (from_index e) (moved_by e) k i) (at-next (to_index p.len e) (moved_by e) k i) (moved_by e) n))
 
-  pub uses-index : uses_of phase family (Some p) (Some u) e ≡ uses_from phase family.first u p.start (lower e) (upper p.len e) (moved_by e) family.count
+  pub uses-index : uses_of phase family (Some p) (Some u) e ≡ uses_from phase family.first u p.start (from_index e) (to_index p.len e) (moved_by e) family.count
   uses-index =
       let core : family.first + 0 ≡ family.first = omega arith in
-      uses-on family.count 0 ∙ (λ i. uses_from phase (core i) u p.start (at-first (lower e) (moved_by e) i) (at-first (upper p.len e) (moved_by e) i) (moved_by e) family.count)
+      uses-on family.count 0 ∙ (λ i. uses_from phase (core i) u p.start (at-first (from_index e) (moved_by e) i) (at-first (to_index p.len e) (moved_by e) i) (moved_by e) family.count)
 
 -- ---- the tasks of a family
 

@@ -17,7 +17,7 @@ use Rattle.rv_assembler.specs.declared.draft.Draft.{Draft}
 use Rattle.rv_assembler.specs.Operand.{bytes_of}
 use Rattle.rv_assembler.specs.Shape.{is_name, is_colon, is_plain, knows_word, kind_for}
 use Rattle.rv_assembler.specs.Reading.{statement_of, statement_in, said, labelled, read_tokens, read_line, reading_of, version_line}
-use Rattle.rv_assembler.specs.Meaning.{first_of}
+use Rattle.rv_assembler.specs.First.{first_of}
 use Rattle.src_text.specs.Line.{lines_of}
 use Rattle.rv_assembler.specs.Adding.{no_draft, after, fault_of, unless_fault, total, total_of, program_in, names_of, draft_of, added}
 use Rattle.rv_assembler.specs.Fault.{out_of_range, doubled, unknown, misplaced, early_fault, over_limit, limit_fault}

@@ -11,7 +11,7 @@ use Rattle.rv_assembler.specs.declared.names.Meaning.{Meaning}
 use Rattle.rv_assembler.specs.declared.names.Meaning as meaning
 use Rattle.rv_assembler.specs.Number.{count_of, wrapped, is_within}
 use Rattle.rv_assembler.specs.Operand.{bytes_of}
-use Rattle.rv_assembler.specs.Meaning.{first_of}
+use Rattle.rv_assembler.specs.First.{first_of}
 use Rattle.rv_assembler.specs.Emission.{label_place}
 use Rattle.rv_assembler.specs.Named.{entry_at, entry_by, entry_of}
 use Rattle.rv_assembler.specs.Drafting.{wrapped_entry_at, wrapped_entry_by, wrapped_entry}

@@ -12,7 +12,7 @@ use Rattle.rv_assembler.specs.declared.statement.Statement as statement
 use Rattle.rv_assembler.specs.declared.reading.Saying.{Saying}
 use Rattle.rv_assembler.specs.declared.draft.Cores.{Cores}
 use Rattle.rv_assembler.specs.Number.{count_of, is_length}
-use Rattle.rv_assembler.specs.Meaning.{size_of}
+use Rattle.rv_assembler.specs.Size.{size_of}
 use Rattle.rv_assembler.specs.Named.{no_cores}
 use Rattle.rv_assembler.specs.Placed.{Placed, placed_behind, placed}
 use Rattle.rv_assembler.specs.Counts.{region_words, code_size, data_size, is_region, is_lock, code_words, data_words, counts_in, opened, family_in}

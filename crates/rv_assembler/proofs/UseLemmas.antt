@@ -26,10 +26,10 @@ use Rattle.rv_assembler.specs.declared.draft.Draft.{Draft}
 use Rattle.rv_assembler.specs.Number.{count_of, wrapped, is_length, is_interval}
 use Rattle.rv_assembler.specs.Gathering.{more}
 use Rattle.rv_assembler.specs.Operand.{bytes_of}
-use Rattle.rv_assembler.specs.Meaning.{first_of}
+use Rattle.rv_assembler.specs.First.{first_of}
 use Rattle.rv_assembler.specs.Named.{no_cores, region_place, usage_of}
 use Rattle.rv_assembler.specs.Drafting.{next_claim, claimed, claims_for, values_for}
-use Rattle.rv_assembler.specs.Rows.{first_values, lower, upper, moved_by, uses_of}
+use Rattle.rv_assembler.specs.Rows.{first_values, from_index, to_index, moved_by, uses_of}
 use Rattle.rv_assembler.proofs.IndexLemmas.{fits_from, fits-index, uses_from, uses-index}
 use Rattle.rv_assembler.specs.Fault.{stepped_fits, extent_far, word_far, out_of_range, doubled, unknown, misplaced, early_fault, over_limit, limit_fault}
 use Rattle.rv_assembler.specs.Placed.{placed_behind}
@@ -158,7 +158,7 @@ stepped-uses words phase family p u lo hi step r (suc n) k e =
     claimed-stepped p.start p.len step (omega arith) (suc n) (first_claim phase family p u lo hi) lo hi (counted-small p.start lo (omega arith) here.low (omega arith)) (counted-small p.start hi (omega arith) here.high (omega arith)) k e
 
 made-same : (words phase : ℕ) (family : Cores) (p : Place) (u : Usage) (e : Extent) → IsRegion words p.start p.len → family.first + family.count ≤ 16 → extent_far (Some p) e family.count ≡ false
-    → claims_for phase family (Some p) (Some u) e ≡ uses_from phase family.first u p.start (lower e) (upper p.len e) (moved_by e) family.count
+    → claims_for phase family (Some p) (Some u) e ≡ uses_from phase family.first u p.start (from_index e) (to_index p.len e) (moved_by e) family.count
 made-same words phase family p u extent.TheVariants.Whole r k e =
     let l = r.reach in
     let m = r.few in
@@ -242,7 +242,7 @@ stepped-held words phase start u len step m (suc n) core lo hi e =
     let g = here.last in
     All-cons (IsInMemory words) _ (uses_from phase (core + 1) u start (lo +ℤ step) (hi +ℤ step) step n) (omega arith, omega arith) (stepped-held words phase start u len step m n (core + 1) (lo +ℤ step) (hi +ℤ step) p.1)
 
-made-held : (words phase : ℕ) (family : Cores) (p : Place) (u : Usage) (e : Extent) → IsRegion words p.start p.len → extent_far (Some p) e family.count ≡ false → All (IsInMemory words) (uses_from phase family.first u p.start (lower e) (upper p.len e) (moved_by e) family.count)
+made-held : (words phase : ℕ) (family : Cores) (p : Place) (u : Usage) (e : Extent) → IsRegion words p.start p.len → extent_far (Some p) e family.count ≡ false → All (IsInMemory words) (uses_from phase family.first u p.start (from_index e) (to_index p.len e) (moved_by e) family.count)
 made-held words phase family p u extent.TheVariants.Whole r e = plain-held words phase p.start u family.count family.first (pos 0) p.len p.len (whole-interval p.len r.sized) r.reach
 made-held words phase family p u (extent.TheVariants.Part lo hi) r e = plain-held words phase p.start u family.count family.first lo hi p.len (not-false (is_interval lo hi p.len) e) r.reach
 made-held words phase family p u (extent.TheVariants.Stepped lo hi step) r e = stepped-held words phase p.start u p.len step r.reach family.count family.first lo hi (sym (fits-index p.len step lo hi family.count) ∙ not-false (stepped_fits p.len step lo hi family.count) e)

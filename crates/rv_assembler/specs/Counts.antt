@@ -7,7 +7,7 @@ use Rattle.rv_assembler.specs.declared.reading.Saying.{Saying}
 use Rattle.rv_assembler.specs.declared.names.Count.{Count}
 use Rattle.rv_assembler.specs.declared.draft.Cores.{Cores}
 use Rattle.rv_assembler.specs.Number.{count_of, is_length}
-use Rattle.rv_assembler.specs.Meaning.{size_of}
+use Rattle.rv_assembler.specs.Size.{size_of}
 use Rattle.rv_assembler.specs.Named.{no_cores}
 use Rattle.rv_assembler.specs.Placed.{Placed}
 

@@ -1,9 +1,10 @@
+-- What a text means: Source is the whole, and the others are its parts.
 pub mod Number
 pub mod Operand
+pub mod First
 pub mod Shape
-pub mod ShapeRow
 pub mod Reading
-pub mod Meaning
+pub mod Size
 pub mod Placed
 pub mod Emission
 pub mod Named
@@ -15,10 +16,12 @@ pub mod Union
 pub mod Program
 pub mod Tables
 pub mod Source
+pub mod Names
+-- How the assembler finds it, line by line: what private functions say.
+pub mod ShapeRow
 pub mod Gathering
 pub mod Drafting
 pub mod Finishing
 pub mod Adding
 pub mod Lookup
 pub mod Whole
-pub mod Names

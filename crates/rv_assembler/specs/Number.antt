@@ -17,6 +17,7 @@ count_of (negsuc n) = 0
 abbrev pub is_within : ℤ → ℤ → ℤ → Bool
 is_within low below z = int_le low z && int_lt z below
 
+-- bit 0 is 0: an offset's encoding leaves it out
 abbrev pub is_even : ℤ → Bool
 is_even z = bits (pattern z) 0 1 == 0
 

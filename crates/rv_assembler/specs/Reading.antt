@@ -108,14 +108,14 @@ read_tokens version_2 text line (t ∷ u ∷ ts) =
     if is_name t.kind && is_colon u.kind then labelled text line t (statement_in version_2 text line ts)
     else said line (statement_in version_2 text line (t ∷ u ∷ ts))
 
-abbrev pub fault_at : ℕ → LineFault → SourceFault
-fault_at line line_fault.TheVariants.BadByte = fault.TheVariants.BadByte line
-fault_at line line_fault.TheVariants.BadNumber = fault.TheVariants.BadNumber line
-fault_at line line_fault.TheVariants.LineLimit = fault.TheVariants.LineLimit line
+abbrev pub fault_of_line : ℕ → LineFault → SourceFault
+fault_of_line line line_fault.TheVariants.BadByte = fault.TheVariants.BadByte line
+fault_of_line line line_fault.TheVariants.BadNumber = fault.TheVariants.BadNumber line
+fault_of_line line line_fault.TheVariants.LineLimit = fault.TheVariants.LineLimit line
 
 -- what a line says by its tokens, or else its fault
 abbrev pub read_line : Bool → List ℕ → ℕ → List Token → Option LineFault → Reading
-read_line version_2 text line ts (Some f) = Bad (fault_at line f)
+read_line version_2 text line ts (Some f) = Bad (fault_of_line line f)
 read_line version_2 text line ts None = read_tokens version_2 text line ts
 
 -- the version line says nothing; its number is 0 where the text is of version 1
@@ -134,11 +134,11 @@ is_version_of text (t ∷ u ∷ v ∷ ts) = false
 abbrev pub is_version : List ℕ → Line → Bool
 is_version text l = is_version_of text l.tokens
 
--- whether a line has only blanks and a comment
+-- whether a line has only blanks and a comment, and no fault
 abbrev pub is_blank : Line → Bool
 is_blank l = is_none l.fault && length l.tokens == 0
 
--- the first line that isn't blank decides the version: the number of the version line, or 0 for version 1
+-- the first line that isn't blank decides the version: the number of the version line, or 0, which is no line's number, for version 1
 abbrev pub version_line : List ℕ → List Line → ℕ
 version_line text [] = 0
 version_line text (l ∷ ls) = if is_blank l then version_line text ls else (if is_version text l then l.number else 0)

@@ -24,15 +24,15 @@ abbrev pub starts : Start → ℕ → ℕ → List Start
 starts first step n = map (start_at first step) (range_with_len 0 n)
 
 -- the interval of an effect for the first task, and by how much it is moved on from each task to the next
-abbrev pub lower : Extent → ℤ
-lower extent.TheVariants.Whole = pos 0
-lower (extent.TheVariants.Part lo hi) = lo
-lower (extent.TheVariants.Stepped lo hi step) = lo
+abbrev pub from_index : Extent → ℤ
+from_index extent.TheVariants.Whole = pos 0
+from_index (extent.TheVariants.Part lo hi) = lo
+from_index (extent.TheVariants.Stepped lo hi step) = lo
 
-abbrev pub upper : ℤ → Extent → ℤ
-upper len extent.TheVariants.Whole = len
-upper len (extent.TheVariants.Part lo hi) = hi
-upper len (extent.TheVariants.Stepped lo hi step) = hi
+abbrev pub to_index : ℤ → Extent → ℤ
+to_index len extent.TheVariants.Whole = len
+to_index len (extent.TheVariants.Part lo hi) = hi
+to_index len (extent.TheVariants.Stepped lo hi step) = hi
 
 abbrev pub moved_by : Extent → ℤ
 moved_by (extent.TheVariants.Stepped lo hi step) = step
@@ -45,8 +45,8 @@ use_at phase family u p e i =
       phase = phase;
       core = family.first + i;
       usage = u;
-      lo = p.start + count_of (lower e +ℤ pos i *ℤ moved_by e);
-      hi = p.start + count_of (upper p.len e +ℤ pos i *ℤ moved_by e);
+      lo = p.start + count_of (from_index e +ℤ pos i *ℤ moved_by e);
+      hi = p.start + count_of (to_index p.len e +ℤ pos i *ℤ moved_by e);
     }
 
 -- the words that an effect gives each of the current tasks

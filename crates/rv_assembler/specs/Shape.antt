@@ -8,6 +8,7 @@ use Rattle.src_text.specs.Register.{register_of}
 use Rattle.src_text.specs.declared.token.Token.{Token}
 use Rattle.src_text.specs.declared.token.TokenKind as token
 use Rattle.src_text.specs.declared.token.TokenKind.{TokenKind}
+use Rattle.rv_assembler.specs.First.{first_of}
 use Rattle.rv_assembler.specs.declared.kind.Piece.{Piece}
 use Rattle.rv_assembler.specs.declared.kind.Piece.TheVariants.{Register, Number, Name, Target, Comma, Left, Right}
 use Rattle.rv_assembler.specs.declared.kind.Mnemonic as mnemonic
@@ -256,13 +257,8 @@ knows_word version_2 w =
     knows version_2 w memory_rows || (knows version_2 w operation_rows || (knows version_2 w short_rows
     || (knows version_2 w directive_rows || knows version_2 w later_rows)))
 
--- the first of two, if there is one
-abbrev pub or_else : Option Kind → Option Kind → Option Kind
-or_else (Some k) o = Some k
-or_else None o = o
-
 -- the kind of the first row of the table that fits
 abbrev pub kind_for : Bool → List ℕ → List ℕ → List Token → Option Kind
 kind_for version_2 text w ts =
-    or_else (kind_in version_2 text w ts memory_rows) (or_else (kind_in version_2 text w ts operation_rows) (or_else (kind_in version_2 text w ts short_rows)
-    (or_else (kind_in version_2 text w ts directive_rows) (kind_in version_2 text w ts later_rows))))
+    first_of (kind_in version_2 text w ts memory_rows) (first_of (kind_in version_2 text w ts operation_rows) (first_of (kind_in version_2 text w ts short_rows)
+    (first_of (kind_in version_2 text w ts directive_rows) (kind_in version_2 text w ts later_rows))))

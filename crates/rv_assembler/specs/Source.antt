@@ -1,4 +1,8 @@
--- The meaning of a source text: a program, or its first fault.
+-- The meaning of a source text: a program, or its first fault. Begin here, and read on in Reading (what a line says by itself, with
+-- Shape, Operand and Number), Declarations (names), Tables (what lines declare, with Counts, Named, Emission and Rows), Fault, and
+-- Program. The types stand beside the code: what a line says (`Saying`, `Reading`) in src/reading.rt, statements in src/statement.rt,
+-- what names mean in src/names.rt, the tables and their rows (`Draft`; `Start`, a task; `Claim`, words that a task uses; `FirstValue`;
+-- `Cores`, those of the current tasks) in src/draft.rt, and faults in src/fault.rt.
 use Rattle.std.specs.Prelude.{ℕ, Bool, nat_lt, List, [], ◌∷◌, ◌++◌, length, map, filter_map, Option, Some, None, Result, Ok, Err, if◌then◌else◌}
 use Rattle.region_table.specs.Program.{ProgramParts}
 use Rattle.src_text.specs.Line.{lines_of}
@@ -9,7 +13,7 @@ use Rattle.rv_assembler.specs.declared.reading.Reading.{Reading}
 use Rattle.rv_assembler.specs.declared.reading.Reading.TheVariants.{Bad, Good}
 use Rattle.rv_assembler.specs.declared.names.Meaning.{Meaning}
 use Rattle.rv_assembler.specs.Reading.{version_line, reading_of}
-use Rattle.rv_assembler.specs.Meaning.{first_of}
+use Rattle.rv_assembler.specs.First.{first_of}
 use Rattle.rv_assembler.specs.Placed.{Placed, placed}
 use Rattle.rv_assembler.specs.Declarations.{meaning_of}
 use Rattle.rv_assembler.specs.Tables.{tables}

@@ -1,4 +1,5 @@
--- What some lines declare, table by table. Each row is one statement's, and is said by the lines before it.
+-- What some lines declare, table by table. Each row is one statement's, and is said by the lines before it: a name that ends with
+-- `_by` says what a statement adds to a table, and one with `_at` what a line adds by the lines before it.
 use Rattle.std.specs.Prelude.{ℕ, List, [], ◌∷◌, Option, flat_map}
 use Rattle.region_table.specs.declared.declared.Region.{Region}
 use Rattle.rv_assembler.specs.declared.statement.Statement.{Statement}
@@ -51,13 +52,13 @@ abbrev pub value_at : List ℕ → (List ℕ → Option Meaning) → Placed Sayi
 value_at text names p = value_by text names p.here.statement
 
 -- the tasks, each of the phase that began last
-abbrev pub task_by : List ℕ → (List ℕ → Option Meaning) → ℕ → Statement → List Start
-task_by text names phase (statement.TheVariants.Tasks f) =
+abbrev pub tasks_by : List ℕ → (List ℕ → Option Meaning) → ℕ → Statement → List Start
+tasks_by text names phase (statement.TheVariants.Tasks f) =
     starts (record { phase = phase; core = count_of f.core; entry = entry_of text names f.entry; arg = f.arg }) f.step (count_of f.count)
-task_by text names phase _ = []
+tasks_by text names phase _ = []
 
-abbrev pub task_at : List ℕ → (List ℕ → Option Meaning) → Placed Saying → List Start
-task_at text names p = task_by text names (phases_in p.before) p.here.statement
+abbrev pub tasks_at : List ℕ → (List ℕ → Option Meaning) → Placed Saying → List Start
+tasks_at text names p = tasks_by text names (phases_in p.before) p.here.statement
 
 -- the words that tasks use: those of each effect, for each task of the family in which it stands
 abbrev pub claim_by : List ℕ → (List ℕ → Option Meaning) → ℕ → Cores → Statement → List Claim
@@ -76,7 +77,7 @@ tables text names ss =
       regions = flat_map (region_at text) (placed ss);
       locks = flat_map (lock_at text) (placed ss);
       values = flat_map (value_at text names) (placed ss);
-      tasks = flat_map (task_at text names) (placed ss);
+      tasks = flat_map (tasks_at text names) (placed ss);
       claims = flat_map (claim_at text names) (placed ss);
       phases = phases_in ss;
       family = family_in ss;

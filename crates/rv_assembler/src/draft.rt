@@ -64,7 +64,7 @@ pub struct Cores {
 
 const NO_CORES: Cores = Cores { first: 0, count: 0 };
 
-/// What the lines so far add up to.
+/// What some lines declare, table by table, with the cores of the current tasks behind them, and how much they are together.
 #[derive(Drop)]
 pub struct Draft {
     pub code: Sequence<u32>,

@@ -3,7 +3,8 @@ ghost use Rattle.std.specs.Prelude.{◌≡◌, ℕ, List, Option, Some, None, by
 ghost use Rattle.rv_assembler.specs.Lookup.{looked};
 ghost use Rattle.rv_assembler.specs.Operand.{bytes_of};
 ghost use Rattle.rv_assembler.specs.Reading.{reading_of};
-ghost use Rattle.rv_assembler.specs.Meaning.{first_of, size_of};
+ghost use Rattle.rv_assembler.specs.First.{first_of};
+ghost use Rattle.rv_assembler.specs.Size.{size_of};
 ghost use Rattle.rv_assembler.specs.Counts.{region_words};
 ghost use Rattle.rv_assembler.specs.Gathering.{no_count, counted, count_after, label_means, name_means, declared_by, meaning_in};
 

@@ -1,6 +1,6 @@
 //! What a line says: its label and its statement.
 ghost use Rattle.std.specs.Prelude.{◌≡◌, ◌≤◌};
-ghost use Rattle.rv_assembler.specs.Reading.{extent_for, directive_for, statement_for, statement_in, said, labelled, read_tokens, fault_at, reading_of, is_version, is_blank, version_line};
+ghost use Rattle.rv_assembler.specs.Reading.{extent_for, directive_for, statement_for, statement_in, said, labelled, read_tokens, fault_of_line, reading_of, is_version, is_blank, version_line};
 
 use crate::coding::code_for;
 use crate::fault::SourceFault;
@@ -180,8 +180,8 @@ fn read_tokens(version_2: bool, text: &[u8], line: u32, tokens: &[Token]) -> Rea
 }
 
 /// The fault of a line that has no tokens.
-fn fault_at(line: u32, fault: LineFault) -> SourceFault
-    ensures { result ≡ fault_at line fault }
+fn fault_of_line(line: u32, fault: LineFault) -> SourceFault
+    ensures { result ≡ fault_of_line line fault }
 {
     match fault {
         LineFault::BadByte => SourceFault::BadByte { line },
@@ -202,7 +202,7 @@ pub(crate) fn read_line(version: u32, text: &[u8], line: &Line) -> Reading
         });
     }
     match line.fault {
-        Some(fault) => Reading::Bad(fault_at(line.number, fault)),
+        Some(fault) => Reading::Bad(fault_of_line(line.number, fault)),
         None => read_tokens(0 < version, text, line.number, line.tokens.as_slice()),
     }
 }

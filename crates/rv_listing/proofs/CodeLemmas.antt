@@ -33,7 +33,7 @@ use Rattle.rv_assembler.specs.Number.{wrapped, is_within, is_even, is_upper, is_
 use Rattle.rv_assembler.specs.Operand.{bytes_of, register_number}
 use Rattle.rv_assembler.specs.Shape.{is_colon, fits, none, n, r_n, r_t, r_r_t, r_r_n, r_r_r, r_at}
 use Rattle.rv_assembler.specs.Reading.{code_for, statement_for}
-use Rattle.rv_assembler.specs.Meaning.{size_of}
+use Rattle.rv_assembler.specs.Size.{size_of}
 use Rattle.rv_assembler.specs.Emission.{one_if, emission}
 use borrow.Author.Tests.{eqb-true}
 use Rattle.rv_listing.specs.Statement.{hexadecimal, register, address, statement}

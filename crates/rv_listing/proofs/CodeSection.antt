@@ -14,7 +14,7 @@ use Rattle.rv_assembler.specs.declared.statement.Statement.{Statement}
 use Rattle.rv_assembler.specs.declared.emission.Emission as in_emission
 use Rattle.rv_assembler.specs.declared.statement.Statement as in_statement
 use Rattle.rv_assembler.specs.Gathering.{more}
-use Rattle.rv_assembler.specs.Meaning.{size_of}
+use Rattle.rv_assembler.specs.Size.{size_of}
 use Rattle.rv_assembler.specs.Emission.{emission, words_in}
 use Rattle.rv_assembler.specs.Adding.{after, total}
 use Rattle.rv_assembler.specs.Fault.{is_far, is_lost, early_fault, most_regions, over_limit}

@@ -11,7 +11,7 @@ use Rattle.rv_assembler.specs.declared.names.Count.{Count}
 use Rattle.rv_assembler.specs.declared.statement.Statement as in_statement
 use Rattle.rv_assembler.specs.declared.names.Meaning as in_meaning
 use Rattle.rv_assembler.specs.Operand.{bytes_of}
-use Rattle.rv_assembler.specs.Meaning.{first_of}
+use Rattle.rv_assembler.specs.First.{first_of}
 use Rattle.rv_assembler.specs.Gathering.{counted, meaning_in}
 use Rattle.rv_listing.proofs.ReadLemmas.{sayings}
 use Rattle.rv_listing.proofs.RegionSection.{region_statement}

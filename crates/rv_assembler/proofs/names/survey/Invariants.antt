@@ -1,7 +1,7 @@
 use Rattle.std.proofs.Common.{◌≡◌, ℕ, List, map, drop}
 use Rattle.rv_assembler.specs.Lookup.{looked}
 use Rattle.rv_assembler.specs.Reading.{reading_of}
-use Rattle.rv_assembler.specs.Meaning.{first_of}
+use Rattle.rv_assembler.specs.First.{first_of}
 use Rattle.rv_assembler.specs.Gathering.{no_count, meaning_in}
 use Rattle.rv_assembler.proofs.names.survey.Given as goal
 
