@@ -5,7 +5,8 @@ Of README.md, docs/*.md, examples/README.md and crates/worked_rows/data/README.m
 the commands of their indented blocks and of the comments in examples/:
 - a path has to be there, from the top, from crates/, or from the folder that the same line names;
 - a name of code (with a capital, or with `_` or `::`) has to be in the code, its contracts or its definitions;
-- a command `./denovo ..` has to read a text that is there.
+- a command `./denovo ..` has to read a text that is there;
+- `File.name` of docs/DEFINITION.md has to be defined in that file of the source language's definition.
 Each text of examples/ has to be the same as its copy in crates/worked_rows/data, which the cases run.
 It exits 0 where it found nothing, 1 otherwise."""
 import pathlib
@@ -66,6 +67,12 @@ for document in documents + examples:
     for path in re.findall(r"^[# ]+\./denovo[^\n]*< (\S+)", pathlib.Path(document).read_text(), re.M):
         if path not in there and path != "run.trace":
             found.append(f"{document}: a command reads what isn't there: {path}")
+for file, name in re.findall(r"`([A-Z]\w+)\.(\w+)`", pathlib.Path("docs/DEFINITION.md").read_text()):
+    file = "Number" if file == "Numeral" else file
+    specs = [pathlib.Path(f"crates/{crate}/specs/{file}.antt") for crate in ("rv_assembler", "src_text")]
+    defined = [path for path in specs if path.exists() and re.search(rf"^[a-z ]*\b{name}\b", path.read_text(), re.M)]
+    if name != "antt" and not defined:
+        found.append(f"docs/DEFINITION.md: no such definition: {file}.{name}")
 for name in examples:
     copy = pathlib.Path("crates/worked_rows/data") / pathlib.PurePath(name).name
     if not copy.exists() or copy.read_text() != pathlib.Path(name).read_text():
