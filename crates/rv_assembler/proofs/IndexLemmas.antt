@@ -12,7 +12,7 @@ use Rattle.rv_assembler.specs.declared.draft.Cores.{Cores}
 use Rattle.rv_assembler.specs.declared.draft.Place.{Place}
 use Rattle.rv_assembler.specs.Number.{count_of, is_interval}
 use Rattle.rv_assembler.specs.Gathering.{more}
-use Rattle.rv_assembler.specs.Drafting.{next_task, members}
+use Rattle.rv_assembler.specs.Drafting.{members}
 use Rattle.rv_assembler.specs.Rows.{start_at, starts, from_index, to_index, moved_by, use_at, uses_of}
 use Rattle.rv_assembler.specs.Fault.{fits_at, stepped_fits}
 

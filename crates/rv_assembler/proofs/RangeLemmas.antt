@@ -1,5 +1,5 @@
 -- Numbers in their ranges are the same modulo 2^32.
-use Rattle.std.proofs.Common.{◌≡◌, ℕ, zero, suc, ◌+◌, ◌-◌, ◌%◌, ◌^◌, ◌≤◌, Bool, true, false, cond, not, ◌&&◌, ltb, ltb-false, leb-true, ℤ, pos, negsuc, ◌+ℤ◌, int_le, List, ◌∷◌, refl, ap, ◌∙◌, arith}
+use Rattle.std.proofs.Common.{◌≡◌, ℕ, suc, ◌+◌, ◌-◌, ◌%◌, ◌^◌, ◌≤◌, Bool, true, false, cond, not, ◌&&◌, ltb, ltb-false, leb-true, ℤ, pos, negsuc, ◌+ℤ◌, int_le, refl, arith}
 use Rattle.std.proofs.lemmas.Bool.{and_parts}
 use Rattle.rv_assembler.specs.declared.statement.Family.{Family}
 use Rattle.rv_assembler.specs.Number.{count_of, wrapped}

@@ -1,5 +1,5 @@
 -- The number of a register is below 32.
-use Rattle.std.proofs.Common.{◌≡◌, ◌<◌, ℕ, Bool, true, false, cond, nat_lt, ltb-true, List, [], ◌∷◌, Option, Some, None, option_map, find, bytes_eq, refl, sym, subst, ◌∙◌, ap}
+use Rattle.std.proofs.Common.{◌≡◌, ◌<◌, ℕ, Bool, true, false, cond, nat_lt, ltb-true, List, [], ◌∷◌, Some, option_map, find, bytes_eq, refl, sym, subst, ◌∙◌, ap}
 use Rattle.std.specs.List.{list_all}
 use Rattle.std.proofs.lemmas.Bool.{and_parts}
 use Rattle.src_text.specs.Register.{Register, registers, number_in, register_of}

@@ -1,5 +1,5 @@
 -- What stands before a line of good form has 32 bits, and a text without a fault is a well-formed program.
-use Rattle.std.proofs.Common.{◌≡◌, ◌<◌, ◌≤◌, ◌+◌, ◌*◌, ℕ, Bool, true, false, cond, nat_lt, List, [], ◌∷◌, ◌++◌, length, map, Option, None, Some, Result, Ok, Err, refl, subst, sym, ◌∙◌, length-append, arith}
+use Rattle.std.proofs.Common.{◌≡◌, ◌≤◌, ◌+◌, ℕ, Bool, true, false, cond, nat_lt, List, [], ◌∷◌, ◌++◌, length, map, Option, None, Some, Result, Ok, Err, refl, subst, sym, ◌∙◌, length-append, arith}
 use Rattle.std.specs.List.{All}
 use Rattle.std.proofs.lemmas.List.Elements.{All-nil, All-cons}
 use Rattle.std.proofs.lemmas.List.Sums.{count_by-le-length}
@@ -17,8 +17,8 @@ use Rattle.rv_assembler.specs.Fault.{early_fault, limit_fault}
 use Rattle.rv_assembler.specs.Adding.{no_draft, after, fault_of, unless_fault, total, program_in, draft_of}
 use Rattle.rv_assembler.specs.Adding as adding
 use Rattle.rv_assembler.specs.Finishing.{program_of}
-use Rattle.rv_assembler.specs.Placed.{Placed, placed_behind}
-use Rattle.rv_assembler.specs.Counts.{is_region, is_lock, is_phase, code_words, data_words, regions_in, locks_in, phases_in, HasFewBefore}
+use Rattle.rv_assembler.specs.Placed.{placed_behind}
+use Rattle.rv_assembler.specs.Counts.{is_region, is_lock, is_phase, regions_in, locks_in, phases_in, HasFewBefore}
 use Rattle.rv_assembler.specs.Source.{source}
 use Rattle.rv_assembler.proofs.TableLemmas.{place, code-bound, data-bound}
 use Rattle.rv_assembler.proofs.SoundLemmas.{Sound, sound-none, sound-after, IsWithin, within-none, within, whole}

@@ -1,5 +1,5 @@
 -- The statements of the source language: their words, and the shapes of their operands.
-use Rattle.std.specs.Prelude.{ℕ, Bool, true, false, not, ◌&&◌, ◌||◌, ◌==◌, List, [], ◌∷◌, Option, Some, None, option_map, find, codes, bytes_eq, is_some, slice_index}
+use Rattle.std.specs.Prelude.{ℕ, Bool, true, false, not, ◌&&◌, ◌||◌, ◌==◌, List, [], ◌∷◌, Option, option_map, find, codes, bytes_eq, is_some, slice_index}
 use Rattle.std.specs.List.{list_any}
 use Rattle.rv_isa.specs.declared.instr.AluOp as op
 use Rattle.rv_isa.specs.declared.instr.Cond as cond

@@ -83,10 +83,11 @@ module _ (v : Bool) (text : List ℕ) (names : List ℕ → Option Meaning) (d :
   after-task : after text names d (in_statement.TheVariants.Tasks (task_family c e a start)) ≡ add_task d c e a
   after-task =
       let first : ℕ → ℕ → ℕ → Start = λ x y z. record { phase = d.phases; core = x; entry = y; arg = z } in
-      ap (λ (n : ℕ). record d { tasks = d.tasks ++ members (first (wrapped (pos c)) (wrapped (pos e)) (wrapped (pos a))) 0 n; family = cores_from (wrapped (pos c)) n }) one-is
-      ∙ ap (λ (x : ℕ). record d { tasks = d.tasks ++ first x (wrapped (pos e)) (wrapped (pos a)) ∷ []; family = cores_from x 1 }) (wrapped-pos c (omega arith))
-      ∙ ap (λ (x : ℕ). record d { tasks = d.tasks ++ first c x (wrapped (pos a)) ∷ []; family = cores_from c 1 }) (wrapped-pos e entry)
-      ∙ ap (λ (x : ℕ). record d { tasks = d.tasks ++ first c e x ∷ []; family = cores_from c 1 }) (wrapped-pos a arg)
+      let same : wrapped (pos a) % 2 ^ 32 ≡ a = omega arith in
+      ap (λ (n : ℕ). record d { tasks = d.tasks ++ members (first (wrapped (pos c)) (wrapped (pos e)) (wrapped (pos a) % 2 ^ 32)) 0 n; family = cores_from (wrapped (pos c)) n }) one-is
+      ∙ ap (λ (x : ℕ). record d { tasks = d.tasks ++ first x (wrapped (pos e)) (wrapped (pos a) % 2 ^ 32) ∷ []; family = cores_from x 1 }) (wrapped-pos c (omega arith))
+      ∙ ap (λ (x : ℕ). record d { tasks = d.tasks ++ first c x (wrapped (pos a) % 2 ^ 32) ∷ []; family = cores_from c 1 }) (wrapped-pos e entry)
+      ∙ ap (λ (x : ℕ). record d { tasks = d.tasks ++ first c e x ∷ []; family = cores_from c 1 }) same
 
   -- one task more
   pub total-task : (n : ℕ) (rs : List Reading) → length d.tasks + 1 ≤ 64 → IsWithin v d → total v text names d (sayings n (in_statement.TheVariants.Tasks (task_family c e a start) ∷ []) ++ rs) ≡ total v text names (add_task d c e a) rs
