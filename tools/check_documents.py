@@ -7,7 +7,8 @@ the commands of their indented blocks and of the comments in examples/:
 - a name of code (with a capital, or with `_` or `::`) has to be in the code, its contracts or its definitions;
 - a command `./denovo ..` has to read a text that is there;
 - `File.name` of docs/DEFINITION.md has to be defined in that file of the source language's definition.
-Each text of examples/ has to be the same as its copy in crates/worked_rows/data, which the cases run.
+Each text of examples/ has to be the same as its copy in crates/worked_rows/data, which the cases run, and the text at the head of
+docs/LANGUAGE.md the same as that of the case language-page.
 It exits 0 where it found nothing, 1 otherwise."""
 import pathlib
 import re
@@ -77,6 +78,11 @@ for name in examples:
     copy = pathlib.Path("crates/worked_rows/data") / pathlib.PurePath(name).name
     if not copy.exists() or copy.read_text() != pathlib.Path(name).read_text():
         found.append(f"{name}: differs from {copy}")
+cases = pathlib.Path("crates/worked_rows/data/examples.cases").read_text()
+case = re.search(r"case language-page\ntext\n((?:  .*\n)+)", cases)[1]
+page = re.search(r"\n\n((?:    .*\n)+)", pathlib.Path("docs/LANGUAGE.md").read_text())[1]
+if case != re.sub(r"(?m)^  ", "", page):
+    found.append("docs/LANGUAGE.md: its text differs from the case language-page")
 for line in found:
     print(line)
 sys.exit(1 if found else 0)
