@@ -91,15 +91,24 @@ fn all_came(
     Ok(all)
 }
 
+/// Whether no event between an earlier one and one with this number is the actor's.
+fn is_next(all: &[Came], earlier: usize, number: usize, actor: Actor) -> bool {
+    for (place, other) in all.iter().enumerate() {
+        if earlier < place && place < number && other.actor == actor {
+            return false;
+        }
+    }
+    true
+}
+
 /// Whether an event depends on an earlier one: both are the same actor's and no event between them is, or the earlier one sent the
 /// mail that it handles.
 fn depends(all: &[Came], earlier: usize, number: usize) -> bool {
     let (Some(first), Some(event)) = (all.get(earlier), all.get(number)) else {
         return false;
     };
-    let between = all.iter().take(number).skip(earlier).skip(1);
-    let mut others = between.filter(|other| other.actor == event.actor);
-    (first.actor == event.actor && others.next().is_none()) || first.sent(number)
+    let is_own = first.actor == event.actor && is_next(all, earlier, number, event.actor);
+    is_own || first.sent(number)
 }
 
 /// What a set of the events takes, where each of them depends on the one before it in the set; None where one doesn't. The set
