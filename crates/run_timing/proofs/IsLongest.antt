@@ -16,8 +16,8 @@ use Rattle.run_timing.specs.Chains.{IsChain, cost, last_of, IsFinish}
 use Rattle.run_timing.specs.Depends.{state_at, actor_of, actor_at, kind_at, IsOwnBefore, IsSender, DependsOn}
 use Rattle.run_timing.specs.Longest.{numbers_in, IsLinkOf, IsLongest}
 use Rattle.run_timing.specs.Noted.{AreRowsOf}
-use Rattle.run_timing.specs.Rows.{finish_in, before_in, behind, AreInStep, IsLinkIn, IsWay, IsLatest}
-use Rattle.run_timing.specs.Ticks.{ticks_at}
+use Rattle.run_timing.specs.Rows.{finish_in, before_in, behind, AreInStep, AreSummed, IsLinkIn, IsWay, IsLatest}
+use Rattle.run_timing.specs.Ticks.{ticks_at, ticks_with}
 use Rattle.run_timing.proofs.Longest.{AreRows, finishes, finish-is}
 use Rattle.run_timing.proofs.WayBack.{Leads, leads-chain, leads-costs, leads-total, leads-end, leads-next, latest-most, latest-longest, latest-least}
 use Rattle.run_timing.proofs.Ways.{way-leads, way-link}
@@ -46,6 +46,12 @@ in-step ticks S events rows noted =
     earlier i p is false e =
         let past : length rows.befores ≤ i = grind (arith, nat_tests, e, noted.befores) in
         absurd (none-some p (sym (get_or_past rows.befores i None past) ∙ is))
+
+pub summed : (ticks : Ticks) (S : State) (events : List Event) (rows : Rows) → AreRowsOf ticks S events rows → AreSummed ticks rows
+summed ticks S events rows noted i kind within here =
+    let below : i < length events = omega (arith, within, noted.finishes) in
+    let told : kind_at S events i ≡ Some kind = sym (noted.kind i below) ∙ here in
+    omega (arith, (noted.row i below).finish, ap (ticks_with ticks) told)
 
 -- the number of a link's event
 link-number : (links : List Link) (k : ℕ) (link : Link) → slice_get links k ≡ Some link → slice_get (numbers_in links) k ≡ Some link.event

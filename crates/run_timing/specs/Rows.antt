@@ -2,7 +2,10 @@
 use Rattle.std.specs.Prelude.{◌≡◌, ◌⊎◌, ℕ, ◌+◌, ◌*◌, ◌<◌, ◌≤◌, nat_lt, List, [], ◌∷◌, ◌++◌, length, slice_get, slice_index, slice_index_or, Option, Some, None, if◌then◌else◌}
 use Rattle.message_net.specs.declared.event.EventKind.{EventKind}
 use Rattle.run_timing.specs.declared.rows.Rows.{Rows}
+use Rattle.run_timing.specs.declared.ticks.Ticks.{Ticks}
 use Rattle.run_timing.specs.declared.timing.Link.{Link}
+use Rattle.run_timing.specs.Befores.{IsEarlier}
+use Rattle.run_timing.specs.Ticks.{ticks_of}
 
 -- when an event finishes, and behind which event it does
 abbrev pub finish_in : Rows → ℕ → ℕ
@@ -35,7 +38,11 @@ with_row kind ticks before rows =
 pub record AreInStep (rows : Rows) : Type 0 where
   pub befores : length rows.befores ≡ length rows.finishes
   pub kinds : length rows.kinds ≡ length rows.finishes
-  pub earlier : (i p : ℕ) → before_in rows i ≡ Some p → p < i
+  pub earlier : IsEarlier rows.befores
+
+-- each event takes the ticks of its kind, behind the event before it
+abbrev pub AreSummed : Ticks → Rows → Type 0
+AreSummed ticks rows = (i : ℕ) (kind : EventKind) → i < length rows.finishes → slice_get rows.kinds i ≡ Some kind → finish_in rows i ≡ ticks_of ticks kind + behind (finish_in rows) (before_in rows i)
 
 -- a link tells what is noted of its event, which finishes behind this one
 pub record IsLinkIn (rows : Rows) (before : Option ℕ) (link : Link) : Type 0 where

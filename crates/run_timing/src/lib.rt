@@ -2,6 +2,7 @@
 //! each of which depends on the one before it, makes it so long.
 #![tactic(auto)]
 
+mod befores;
 mod laws;
 mod making;
 mod noting;

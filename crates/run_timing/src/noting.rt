@@ -49,6 +49,7 @@ pub(crate) fn note_row(
     ticks: &Ticks,
 ) -> Result<(), Memory>
     requires before { (p : ℕ) → before ≡ Some p → p < length rows.old.finishes }
+    requires few { length rows.old.finishes ≤ 25169664 }
     requires small { (i : ℕ) → i < length rows.old.finishes → finish_in rows.old i ≤ 25169664000000 }
     requires ticks { AreWithinLimits ticks.now }
     ensures { OnOk result (rows.new ≡ with_row happened.kind (ticks_of ticks.now happened.kind) before rows.old) }

@@ -1,21 +1,23 @@
 ghost use Rattle.std.specs.Prelude.{◌≡◌, ◌+◌, ◌<◌, ◌≤◌, ℕ, [], Some, length, OnOk, IfOk};
-ghost use Rattle.run_timing.specs.Rows.{AreInStep, IsLatest, IsLinkIn, before_in, behind, finish_in, later, with_row};
+ghost use Rattle.run_timing.specs.Rows.{IsLatest, behind, finish_in, later, with_row};
 
-use crate::timing::Link;
+use crate::befores::Befores;
 use dn_base::{Memory, Sequence};
 use message_net::EventKind;
 use std::alloc::Global;
+
+const _: () = prove!(size_of::<EventKind>() == 1);
 
 /// What is noted of each event of a run: when it finishes, the event behind which it does, and its kind.
 #[derive(Debug, Drop)]
 pub(crate) struct Rows {
     pub(crate) finishes: Sequence<u64>,
-    pub(crate) befores: Sequence<Option<u32>>,
+    pub(crate) befores: Befores,
     pub(crate) kinds: Sequence<EventKind>,
 }
 
 impl Rows {
-    /// The rows of no event, with room for so many: 17 bytes for each.
+    /// The rows of no event, with room for so many: 13 bytes for each.
     ///
     /// # Errors
     /// `Memory` where there is no room.
@@ -24,7 +26,7 @@ impl Rows {
     {
         Ok(Rows {
             finishes: Sequence::from_vec(Vec::with_capacity(alloc, events)?),
-            befores: Sequence::from_vec(Vec::with_capacity(alloc, events)?),
+            befores: Befores::with_room(alloc, events)?,
             kinds: Sequence::from_vec(Vec::with_capacity(alloc, events)?),
         })
     }
@@ -70,6 +72,7 @@ impl Rows {
         before: Option<u32>,
     ) -> Result<(), Memory>
         requires before { (i : ℕ) → before ≡ Some i → i < length self.old.finishes }
+        requires few { length self.old.finishes ≤ 25169664 }
         requires fits { behind (finish_in self.old) before + ticks < 18446744073709551616 }
         ensures { OnOk result (self.new ≡ with_row kind ticks before self.old) }
     {
@@ -92,28 +95,5 @@ impl Rows {
             }
         }
         latest
-    }
-
-    /// What is told of an event.
-    pub(crate) fn link(&self, event: u32) -> Link
-        requires rows { AreInStep self.now }
-        requires within { event < length self.now.finishes }
-        ensures event { result.event ≡ event }
-        ensures link { IsLinkIn self.now (before_in self.now event) result }
-    {
-        Link {
-            event,
-            kind: self.kinds.as_slice()[event as usize],
-            finish: self.finishes.as_slice()[event as usize],
-        }
-    }
-
-    /// The event behind which an event finishes.
-    pub(crate) fn before(&self, event: u32) -> Option<u32>
-        requires rows { AreInStep self.now }
-        requires within { event < length self.now.finishes }
-        ensures { result ≡ before_in self.now event }
-    {
-        self.befores.as_slice()[event as usize]
     }
 }

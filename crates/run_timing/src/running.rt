@@ -15,8 +15,8 @@ use dn_machine::{Machine, a_machine_is_kept};
 use message_net::Event;
 use std::alloc::Global;
 
-/// The rows of a run's events, which the opened machine makes one by one. For each event they take 17 bytes and 4 more for each
-/// mail, of which there are no more than events: the room for a whole run is taken at once.
+/// The rows of a run's events, which the opened machine makes one by one. They take 13 bytes for each event, and while they are
+/// made 4 more for each mail, of which a run to its end has no more than events: the room for a whole run is taken at once.
 ///
 /// # Errors
 /// `Memory` where there is no room for the rows or the mails.

@@ -24,6 +24,11 @@ use std::alloc::Global;
 /// Of the chains that take longest the links are one that ends with the least event, and where two events before a link finish alike
 /// it comes behind the one of its own actor.
 ///
+/// Beside the events it takes 13 bytes for each, and 4 more for each mail that they handle, while they are timed; then 5 for each,
+/// and 16 for each link. So it is at most 21 bytes an event, the links that are handed back among them, and some that don't grow
+/// with the run: the machine, and a few for each actor. In a run that is cut short mails may still be in flight; where an actor
+/// sent more than were handled, what is noted of its mails doubles as it grows.
+///
 /// # Errors
 /// `Memory` where there is no room for the machine, for what is noted of each event, or for the links.
 pub fn time_run(
@@ -52,9 +57,7 @@ pub fn time_run(
     a_machine_is_kept(&machine);
     let rows = timed_rows(alloc, machine, shape, events, ticks)?;
     let last = rows.latest();
-    let links = way_to(alloc, &rows, last)?;
-    Ok(Timing {
-        total: rows.finish(last),
-        links,
-    })
+    let total = rows.finish(last);
+    let links = way_to(alloc, rows, last, ticks)?;
+    Ok(Timing { total, links })
 }

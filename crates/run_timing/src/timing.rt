@@ -9,6 +9,8 @@ pub struct Link {
     pub finish: u64,
 }
 
+const _: () = prove!(size_of::<Link>() == 16);
+
 /// How many ticks a run takes, and the chain of dependent events that takes them.
 #[derive(Debug, Drop)]
 pub struct Timing {

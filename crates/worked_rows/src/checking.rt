@@ -1,4 +1,5 @@
 use crate::case::{Case, Draft};
+use crate::chains::is_slowest;
 use crate::comparing::compare;
 use crate::opening::options_of;
 use crate::playing::play;
@@ -10,6 +11,7 @@ use crate::texts::{Named, Texts};
 use crate::trouble::{BadForm, Stop, Trouble};
 use dn_base::Memory;
 use dn_machine::RunRecord;
+use message_net::Event;
 use std::alloc::Global;
 use std::str;
 use std::sync::Wait;
@@ -163,6 +165,8 @@ fn check_case<R: Threads + Wait + Sync>(
             report.add(alloc, label.as_str(), &case, &got)?;
             if let Some(run) = &got.run {
                 check_run(alloc, label.as_str(), &case, run, report)?;
+                let (output, events) = (got.bytes.as_slice(), run.events.as_slice());
+                check_time(alloc, label.as_str(), &case, output, events, report)?;
             }
         }
         Err(stop) => add_stop(alloc, place, stop, report)?,
@@ -189,6 +193,24 @@ fn check_run(
 ) -> Result<(), Memory> {
     match compare(alloc, case, run) {
         Ok(Some(comparison)) => report.add_run(alloc, label, comparison)?,
+        Ok(None) => {}
+        Err(Trouble::Form(why)) => report.add_bad(alloc, label, 0, why)?,
+        Err(Trouble::Memory) => return Err(Memory),
+    }
+    Ok(())
+}
+
+/// Compares the time that a case wrote of its run with the slowest of all chains, where the run has few events.
+fn check_time(
+    alloc: Global,
+    label: &str,
+    case: &Case,
+    output: &[u8],
+    events: &[Event],
+    report: &mut Report,
+) -> Result<(), Memory> {
+    match is_slowest(alloc, case, output, events) {
+        Ok(Some(is_slowest)) => report.add_time(alloc, label, is_slowest)?,
         Ok(None) => {}
         Err(Trouble::Form(why)) => report.add_bad(alloc, label, 0, why)?,
         Err(Trouble::Memory) => return Err(Memory),

@@ -1,10 +1,12 @@
 //! Runs the program on each case of the files here, and says which answers aren't those that the case wants, which runs aren't
-//! the flat machine's by their grants, and in how many cases events of each kind came.
+//! the flat machine's by their grants, which times aren't those of the slowest of all chains, and in how many cases events of each
+//! kind came.
 #![tactic(auto)]
 
 mod agreement;
 mod block;
 mod case;
+mod chains;
 mod checking;
 mod comparing;
 mod files;
@@ -48,6 +50,8 @@ fn main(rt: HostRuntime) -> io::Result<ExitCode> {
     println!(rt; "{agree} cases agree")?;
     let runs = report.runs;
     println!(rt; "{runs} runs agree with the flat machine")?;
+    let times = report.times;
+    println!(rt; "{times} times are those of the slowest of all chains")?;
     let Ok(reach) = report.reach.lines(alloc) else {
         println!(rt; "there was no memory")?;
         return Ok(ExitCode::FAILURE);

@@ -12,6 +12,8 @@ pub struct Report {
     pub agree: u64,
     /// How many runs agree with the flat machine.
     pub runs: u64,
+    /// How many times of runs are those of the slowest chain.
+    pub times: u64,
     pub differ: u64,
     pub lines: String,
     /// In how many cases events of each kind came.
@@ -19,8 +21,8 @@ pub struct Report {
 }
 
 impl Report {
-    ghost use Rattle.std.specs.Prelude.{◌≡◌, ◌≢◌, OnOk};
-    ghost use Rattle.worked_rows.specs.Verdict.{IsAsWanted, Agrees, Differs, RunAgrees};
+    ghost use Rattle.std.specs.Prelude.{◌≡◌, ◌≢◌, OnOk, IsTrue};
+    ghost use Rattle.worked_rows.specs.Verdict.{IsAsWanted, Agrees, Differs, RunAgrees, TimeAgrees};
     ghost use Rattle.worked_rows.specs.declared.comparing.Comparison.TheVariants.{Agrees as AgreesWithFlat};
 
     /// The report on no case.
@@ -28,6 +30,7 @@ impl Report {
         Report {
             agree: 0,
             runs: 0,
+            times: 0,
             differ: 0,
             lines: String::new(alloc),
             reach: Reach::new(),
@@ -101,6 +104,26 @@ impl Report {
         };
         self.differ = self.differ.saturating_add(1);
         let line = format!(in alloc; "{name}: {why}\n")?;
+        self.lines.push_str(line.as_str())?;
+        Ok(())
+    }
+
+    /// Adds whether the time of a case's run is that of the slowest chain.
+    pub fn add_time(
+        &mut self,
+        alloc: Global,
+        name: &str,
+        is_slowest: bool,
+    ) -> Result<(), AllocError>
+        ensures agrees { OnOk result (IsTrue is_slowest → TimeAgrees self.old self.new) }
+        ensures differs { OnOk result (¬ IsTrue is_slowest → Differs self.old self.new) }
+    {
+        if is_slowest {
+            self.times = self.times.saturating_add(1);
+            return Ok(());
+        }
+        self.differ = self.differ.saturating_add(1);
+        let line = format!(in alloc; "{name}: of all chains the slowest takes another time\n")?;
         self.lines.push_str(line.as_str())?;
         Ok(())
     }

@@ -80,6 +80,7 @@ note_row-requires c =
       before =
           before-within (finish_in c.loop-event.rows) (last_at c.loop-event.tracks.last c.place-place.result) (sender_in c.args.shape.cores c.args.shape.banks c.loop-event.tracks.senders.items e) c.before-before.result
           (length c.loop-event.rows.finishes) c.before-before.ensures can.own can.sender;
+      few = omega (arith, c.loop-event.invariant.timed.noted.finishes, c.loop-event-test.true, c.requires.few);
       small = can.small;
       ticks = c.requires.ticks;
     }

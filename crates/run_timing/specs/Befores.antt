@@ -1,0 +1,11 @@
+-- Behind which event each event finishes.
+use Rattle.std.specs.Prelude.{◌≡◌, ℕ, zero, suc, ◌<◌, List, slice_index_or, Option, Some, None}
+
+-- the event that a kept number tells: none by 0, else the one before the number
+abbrev pub told : ℕ → Option ℕ
+told zero = None
+told (suc i) = Some i
+
+-- each event finishes behind an earlier one, if behind any
+abbrev pub IsEarlier : List (Option ℕ) → Type 0
+IsEarlier befores = (i p : ℕ) → slice_index_or befores i None ≡ Some p → p < i

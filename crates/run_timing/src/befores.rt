@@ -1,0 +1,90 @@
+ghost use Rattle.std.specs.Prelude.{◌≡◌, ◌+◌, ◌<◌, ◌≤◌, ◌++◌, ◌∷◌, ℕ, List, Option, [], None, Some, map, length, slice_index_or, IfOk, OnOk};
+ghost use Rattle.run_timing.specs.Befores.{IsEarlier, told};
+
+use dn_base::{Memory, Sequence};
+use std::alloc::Global;
+use std::marker::Model;
+
+/// Behind which event each event of a run finishes, if behind any.
+///
+/// It takes 4 bytes an event, where an `Option<u32>` takes 8: there is one for each event of a run, so the room counts. It keeps
+/// the number of the event and 1 more, or 0 where there is none.
+#[derive(Debug, Drop)]
+pub(crate) struct Befores {
+    numbers: Sequence<u32>,
+}
+
+impl Model for Befores {
+    ghost Value = { List (Option ℕ) };
+
+    ghost view = { λ befores. map told befores.numbers };
+}
+
+/// The number that is kept for an event, or for none.
+fn kept(event: Option<u32>) -> u32
+    requires { (i : ℕ) → event ≡ Some i → i < 4294967295 }
+    ensures { told result ≡ event }
+{
+    match event {
+        Some(event) => event + 1,
+        None => 0,
+    }
+}
+
+/// The event for which this number is kept, or none.
+fn event_of(number: u32) -> Option<u32>
+    ensures { result ≡ told number }
+{
+    match number {
+        0 => None,
+        _ => Some(number - 1),
+    }
+}
+
+impl Befores {
+    /// None of no event, with room for so many events: 4 bytes for each.
+    ///
+    /// # Errors
+    /// `Memory` where there is no room.
+    pub(crate) fn with_room(alloc: Global, events: usize) -> Result<Befores, Memory>
+        ensures { IfOk result (λ befores. befores ≡ []) }
+    {
+        Ok(Befores {
+            numbers: Sequence::from_vec(Vec::with_capacity(alloc, events)?),
+        })
+    }
+
+    /// Adds the event before one more event.
+    ///
+    /// # Errors
+    /// `Memory` where there is no room.
+    pub(crate) fn push(&mut self, before: Option<u32>) -> Result<(), Memory>
+        requires { (i : ℕ) → before ≡ Some i → i < 4294967295 }
+        ensures { OnOk result (self.new ≡ self.old ++ before ∷ []) }
+    {
+        self.numbers.push(kept(before))
+    }
+
+    /// The event behind which this one finishes.
+    pub(crate) fn get(&self, event: u32) -> Option<u32>
+        requires { event < length self.now }
+        ensures { result ≡ slice_index_or self.now event None }
+    {
+        event_of(self.numbers.as_slice()[event as usize])
+    }
+
+    /// How many events lead to this one, with it: itself, the one behind which it finishes, the one behind which that does, and
+    /// so on to one that finishes behind none.
+    pub(crate) fn count_to(&self, last: Option<u32>) -> usize
+        requires earlier { IsEarlier self.now }
+        requires within { (i : ℕ) → last ≡ Some i → i < length self.now }
+    {
+        let mut count = 0;
+        let mut next = last;
+        while let Some(event) = next {
+            count += 1;
+            next = self.get(event);
+        }
+        count
+    }
+}
