@@ -75,21 +75,6 @@ fn calls_of_two_passes_stand_in_one_history(rt: HostRuntime) -> Result<(), Fail>
     Ok(())
 }
 
-fn may_be_sent<T: Send>(_value: &T) {}
-
-fn may_be_shared<T: Sync>(_value: &T) {}
-
-/// Turns and passes cross threads where the object and what its calls take and answer do.
-fn crosses<O: Object + Send>(turn: &Turn<O>, pass: &TurnPass<O>)
-where
-    O::In: Send,
-    O::Out: Send,
-{
-    may_be_sent(turn);
-    may_be_shared(turn);
-    may_be_sent(pass);
-}
-
 // Calls with 1, so often.
 fn call_often<R: Wait>(
     rt: &R,
@@ -146,7 +131,6 @@ fn two_threads_call_a_hundred_times_each(rt: HostRuntime) -> Result<(), Fail> {
     let Some(zero) = passes.pop() else {
         unreachable!()
     };
-    crosses(&turn, &one);
     let Some((zero, one)) = call_in_two(&rt, &turn, zero, one, 100) else {
         panic!(rt; "no memory")
     };
