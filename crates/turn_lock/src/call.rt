@@ -32,7 +32,7 @@ const NAPS: u32 = 5;
 // So many looks the next in line takes at once, before it lets others run between two.
 const SPINS: u32 = 64;
 
-// After so many looks since the line last moved a caller that has two or more before it sleeps between two looks.
+// After so many looks since the line last moved a caller that has three or more before it sleeps between two looks.
 const YIELDS: u32 = 320;
 
 // So many microseconds a first sleep lasts, where the turn isn't passed on before the caller falls asleep.
@@ -149,7 +149,7 @@ impl<O: Object> Turn<O> {
     }
 
     // Lets time pass between two looks of a caller that stands in the line with so many before it. Only the next in line looks
-    // again at once, since its turn comes as soon as one call ends; who stands behind it lets others run, and who has two or
+    // again at once, since its turn comes as soon as one call ends; who stands behind it lets others run, and who has three or
     // more before it sleeps where the line hasn't moved for long.
     fn pause<R: Wait>(&self, rt: &R, before: u64, served: u64, looks: u32) {
         if before == 1 && looks < SPINS {
