@@ -222,6 +222,39 @@ fn a_refused_call_leaves_no_trace(rt: HostRuntime) -> Result<(), Fail> {
     Ok(())
 }
 
+/// For so many calls a history has room from the start.
+const FIRST_CALLS: u32 = 4_096;
+
+// The call after those has an object that refuses nothing, so what can be refused is the history's room alone.
+#[test]
+fn a_history_grows_or_leaves_no_trace(rt: HostRuntime) -> Result<(), Fail> {
+    let (turn, mut passes) = Turn::start(rt.alloc(), Total { sum: 0 }, 1)?;
+    let Some(pass) = passes.pop() else {
+        unreachable!()
+    };
+    let Some(mut pass) = call_often(&rt, &turn, pass, FIRST_CALLS) else {
+        panic!(rt; "no memory")
+    };
+    let mut entered = [false; 2];
+    let first = turn.call(&rt, &mut pass, 5, || entered[0] = true);
+    let (answer, seen) = match first {
+        Ok(total) => (total, [true, false]),
+        Err((Memory, input)) => {
+            assert_eq!(rt; (input, pass.seen()), (5, 4096));
+            let total = turn.call(&rt, &mut pass, input, || entered[1] = true)?;
+            (total, [false, true])
+        }
+    };
+    assert_eq!(rt; (answer, pass.seen()), (4101, 4097));
+    assert_eq!(rt; entered, seen);
+    passes.push(pass).map_err(AllocError::from)?;
+    let Ok((total, history)) = turn.close(passes) else {
+        unreachable!()
+    };
+    assert_eq!(rt; (total.sum, history.len()), (4101, 4097));
+    Ok(())
+}
+
 /// A total whose steps are counted where everybody sees the count.
 #[derive(Drop)]
 struct Counted<'a> {
