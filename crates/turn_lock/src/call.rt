@@ -121,17 +121,20 @@ impl<O: Object> Turn<O> {
     }
 
     // Looks for an empty line, and lets time pass between two looks, each time twice as long. So whoever has just passed the
-    // turn on may take it again, with the object still in its processor's cache, and the line needn't go round.
-    fn look_for_none(&self) {
+    // turn on may take it again, with the object still in its processor's cache. After the last look it lets others run once, as
+    // the turn's owner may want this processor. Says whether it found the line empty.
+    fn finds_none(&self) -> bool {
         let mut pauses = 1_u32;
         for _look in 0..LOOKS {
             let (_served, standing) = self.line();
             if standing == 0 {
-                break;
+                return true;
             }
             spin(pauses);
             pauses = pauses.wrapping_mul(2);
         }
+        thread::yield_now();
+        false
     }
 
     // Sleeps, each time twice as long, as long as two or more stand in the line. Where one stands there alone, its call is the
@@ -167,8 +170,9 @@ impl<O: Object> Turn<O> {
         ensures same { IsSameSeat seat.old seat.new }
         ensures turn { (ticket : ℕ) × HasTurn maker (Lies O.content O.answer O.next) seat.old.me.0 ticket seat.new.me }
     {
-        self.look_for_none();
-        self.sleep_outside(rt);
+        if !self.finds_none() {
+            self.sleep_outside(rt);
+        }
         let ticket = self.draw(seat);
         let mut passed = ticket;
         let mut looks = 0_u32;
