@@ -1,5 +1,5 @@
-//! A take and a step for which the inbox and the history have to grow: where there is no memory the mails stay as they are, and
-//! the next call has the mail that was picked.
+//! A take and a step for which the inbox has to grow: where there is no memory the mails stay as they are, and the next call has
+//! the mail that was picked. A history has room for 4,096 calls from the start, so these don't fill it; a test of `turns` does.
 ghost use Rattle.std.specs.Prelude.{◌≡◌, ◌<◌, ◌≤◌, ◌^◌, length};
 ghost use Rattle.bank_hall.specs.Halls.{IsHallPass, HasActor};
 
@@ -13,7 +13,7 @@ use std::alloc::Global;
 use std::sync::Wait;
 use std::test::Fail;
 
-/// So many mails fill an inbox and a history.
+/// So many mails fill an inbox.
 const MAILS: u32 = 4;
 
 /// The mail with this number to an actor.
@@ -23,7 +23,7 @@ fn mail(number: u32, to: Actor) -> Posted
     posted(of_core(number), to, Message::Halt, 5)
 }
 
-/// Posts mails to an actor until its inbox and its history are full.
+/// Posts mails to an actor until its inbox is full.
 fn fill<R: Wait>(rt: &R, hall: &Hall, pass: &mut Pass, to: Actor) -> Result<(), Memory>
     requires pass { IsHallPass hall.now pass.old }
     requires actor { HasActor hall.now to }

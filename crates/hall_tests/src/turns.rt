@@ -75,21 +75,6 @@ fn calls_of_two_passes_stand_in_one_history(rt: HostRuntime) -> Result<(), Fail>
     Ok(())
 }
 
-fn may_be_sent<T: Send>(_value: &T) {}
-
-fn may_be_shared<T: Sync>(_value: &T) {}
-
-/// Turns and passes cross threads where the object and what its calls take and answer do.
-fn crosses<O: Object + Send>(turn: &Turn<O>, pass: &TurnPass<O>)
-where
-    O::In: Send,
-    O::Out: Send,
-{
-    may_be_sent(turn);
-    may_be_shared(turn);
-    may_be_sent(pass);
-}
-
 // Calls with 1, so often.
 fn call_often<R: Wait>(
     rt: &R,
@@ -146,7 +131,6 @@ fn two_threads_call_a_hundred_times_each(rt: HostRuntime) -> Result<(), Fail> {
     let Some(zero) = passes.pop() else {
         unreachable!()
     };
-    crosses(&turn, &one);
     let Some((zero, one)) = call_in_two(&rt, &turn, zero, one, 100) else {
         panic!(rt; "no memory")
     };
@@ -235,6 +219,39 @@ fn a_refused_call_leaves_no_trace(rt: HostRuntime) -> Result<(), Fail> {
     let calls = history.as_slice();
     assert_eq!(rt; (object.total.sum, calls.len()), (11, 3));
     assert!(rt; calls.iter().all(|e| e.input != 3));
+    Ok(())
+}
+
+/// For so many calls a history has room from the start.
+const FIRST_CALLS: u32 = 4_096;
+
+// The call after those has an object that refuses nothing, so what can be refused is the history's room alone.
+#[test]
+fn a_history_grows_or_leaves_no_trace(rt: HostRuntime) -> Result<(), Fail> {
+    let (turn, mut passes) = Turn::start(rt.alloc(), Total { sum: 0 }, 1)?;
+    let Some(pass) = passes.pop() else {
+        unreachable!()
+    };
+    let Some(mut pass) = call_often(&rt, &turn, pass, FIRST_CALLS) else {
+        panic!(rt; "no memory")
+    };
+    let mut entered = [false; 2];
+    let first = turn.call(&rt, &mut pass, 5, || entered[0] = true);
+    let (answer, seen) = match first {
+        Ok(total) => (total, [true, false]),
+        Err((Memory, input)) => {
+            assert_eq!(rt; (input, pass.seen()), (5, 4096));
+            let total = turn.call(&rt, &mut pass, input, || entered[1] = true)?;
+            (total, [false, true])
+        }
+    };
+    assert_eq!(rt; (answer, pass.seen()), (4101, 4097));
+    assert_eq!(rt; entered, seen);
+    passes.push(pass).map_err(AllocError::from)?;
+    let Ok((total, history)) = turn.close(passes) else {
+        unreachable!()
+    };
+    assert_eq!(rt; (total.sum, history.len()), (4101, 4097));
     Ok(())
 }
 

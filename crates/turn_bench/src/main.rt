@@ -1,6 +1,9 @@
 //! Calls of one object and its history that several threads share: through a turn of `turn_lock`, and under std's `Mutex`.
-//! With no argument each thread makes a fixed number of calls, and the program prints how many there were. With one,
-//! each run lasts so many milliseconds, and it prints calls per second, the medians of several runs taken in turns.
+//!
+//! With no argument each thread makes a fixed number of calls, and the program prints how many there were. With one, MILLIS, each
+//! run lasts so many milliseconds, and it prints calls per second for 1, 2, 4, 8 and 17 threads, the medians of several runs taken
+//! in turns, and how many times as long as under a `Mutex` a call takes through a turn. With three, MILLIS THREADS turn or
+//! MILLIS THREADS mutex, it makes one run of one of the two, so that its processor time can be seen.
 #![tactic(auto)]
 
 ghost use Rattle.std.specs.Prelude.{◌≤◌};
@@ -14,7 +17,7 @@ use std::rt::{Clock, Env};
 use std::sync::Wait;
 use std::thread::Threads;
 use std::time::{Duration, Instant};
-use std::{env, io};
+use std::{env, io, thread};
 
 // So many calls are counted in all.
 const CALLS: u32 = 8000;
@@ -22,12 +25,37 @@ const CALLS: u32 = 8000;
 // So many runs are measured each way.
 const RUNS: u32 = 5;
 
-// The first word of the command, where it is a number.
-fn asked<R: Env + Alloc>(rt: &R) -> io::Result<Option<u32>> {
+// Which of the two is measured.
+#[derive(Clone, Copy)]
+enum Way {
+    Turn,
+    Mutex,
+}
+
+// The words of the command, without the program's name.
+fn words<R: Env + AllocGlobal>(rt: &R) -> io::Result<Vec<String>> {
+    let mut words = Vec::new(rt.alloc());
     for word in env::args(rt)?.skip(1) {
-        return Ok(word.as_str().parse::<u32>().ok());
+        words.push(word)?;
     }
-    Ok(None)
+    Ok(words)
+}
+
+// The word at this place, where it is a number.
+fn number_at(words: &[String], place: usize) -> Option<u32> {
+    words.get(place)?.as_str().parse::<u32>().ok()
+}
+
+// Which of the two the third word names.
+fn way_of(words: &[String]) -> Option<Way> {
+    let word = words.get(2)?.as_str();
+    if word == "turn" {
+        Some(Way::Turn)
+    } else if word == "mutex" {
+        Some(Way::Mutex)
+    } else {
+        None
+    }
 }
 
 fn per_second(calls: u64, taken: Duration) -> u64 {
@@ -43,9 +71,11 @@ fn until<R: Clock>(rt: &R, time: Duration) -> io::Result<Limit> {
     })
 }
 
-fn turn_rate<R: Threads + Wait + Clock + Sync>(
+// Calls per second of one run.
+fn rate<R: Threads + Wait + Clock + Sync>(
     rt: &R,
     alloc: Global,
+    way: Way,
     threads: u32,
     time: Duration,
 ) -> io::Result<u64>
@@ -53,19 +83,12 @@ fn turn_rate<R: Threads + Wait + Clock + Sync>(
     requires few { threads ≤ 17 }
 {
     let start = Instant::now(rt)?;
-    let calls = runs::by_turn(rt, alloc, threads, until(rt, time)?).unwrap_or(0);
-    Ok(per_second(calls, start.elapsed(rt)?))
-}
-
-fn mutex_rate<R: Threads + Wait + Clock + Sync>(
-    rt: &R,
-    alloc: Global,
-    threads: u32,
-    time: Duration,
-) -> io::Result<u64> {
-    let start = Instant::now(rt)?;
-    let calls = runs::by_mutex(rt, alloc, threads, until(rt, time)?).unwrap_or(0);
-    Ok(per_second(calls, start.elapsed(rt)?))
+    let limit = until(rt, time)?;
+    let calls = match way {
+        Way::Turn => runs::by_turn(rt, alloc, threads, limit),
+        Way::Mutex => runs::by_mutex(rt, alloc, threads, limit),
+    };
+    Ok(per_second(calls.unwrap_or(0), start.elapsed(rt)?))
 }
 
 fn median(mut rates: Vec<u64>) -> u64 {
@@ -86,12 +109,32 @@ fn measure<R: Threads + Wait + Clock + Print + Sync>(
     let mut turns = Vec::new(alloc);
     let mut mutexes = Vec::new(alloc);
     for _run in 0..RUNS {
-        turns.push(turn_rate(rt, alloc, threads, time)?)?;
-        mutexes.push(mutex_rate(rt, alloc, threads, time)?)?;
+        turns.push(rate(rt, alloc, Way::Turn, threads, time)?)?;
+        mutexes.push(rate(rt, alloc, Way::Mutex, threads, time)?)?;
     }
     let turn = median(turns);
     let mutex = median(mutexes);
-    println!(rt; "threads {threads}: turn {turn} calls/s, mutex {mutex} calls/s")
+    let hundredths = u128::from(mutex) * 100 / u128::from(turn.max(1));
+    let whole = hundredths / 100;
+    let rest = hundredths % 100;
+    println!(rt;
+        "threads {threads}: turn {turn} calls/s, mutex {mutex} calls/s, ratio {whole}.{rest:02}"
+    )
+}
+
+// Makes one run, and prints its calls per second.
+fn run_once<R: Threads + Wait + Clock + Print + Sync>(
+    rt: &R,
+    alloc: Global,
+    way: Way,
+    threads: u32,
+    time: Duration,
+) -> io::Result<()> {
+    if threads == 0 || threads > 17 {
+        return println!(rt; "the number of threads is from 1 to 17");
+    }
+    let calls = rate(rt, alloc, way, threads, time)?;
+    println!(rt; "threads {threads}: {calls} calls/s")
 }
 
 fn count<R: Threads + Wait + Clock + Print + Sync>(
@@ -115,22 +158,35 @@ fn bench<R: Threads + Wait + Clock + Print + Sync>(
     rt: &R,
     alloc: Global,
     threads: u32,
-    millis: Option<u32>,
+    time: Option<Duration>,
 ) -> io::Result<()>
     requires some { 1 ≤ threads }
     requires few { threads ≤ 17 }
 {
-    match millis {
-        Some(millis) => measure(rt, alloc, threads, Duration::from_millis(u64::from(millis))),
+    match time {
+        Some(time) => measure(rt, alloc, threads, time),
         None => count(rt, alloc, threads),
     }
 }
 
 fn main(rt: HostRuntime) -> io::Result<()> {
-    let millis = asked(&rt)?;
-    bench(&rt, rt.alloc(), 1, millis)?;
-    bench(&rt, rt.alloc(), 2, millis)?;
-    bench(&rt, rt.alloc(), 4, millis)?;
-    bench(&rt, rt.alloc(), 8, millis)?;
-    bench(&rt, rt.alloc(), 17, millis)
+    let alloc = rt.alloc();
+    let words = words(&rt)?;
+    let time = number_at(words.as_slice(), 0).map(|millis| Duration::from_millis(u64::from(
+        millis,
+    )));
+    let threads = number_at(words.as_slice(), 1);
+    let way = way_of(words.as_slice());
+    if let (Some(time), Some(threads), Some(way)) = (time, threads, way) {
+        return run_once(&rt, alloc, way, threads, time);
+    }
+    if time.is_some() {
+        let processors = thread::available_parallelism(&rt)?.get();
+        println!(&rt; "processors {processors}")?;
+    }
+    bench(&rt, alloc, 1, time)?;
+    bench(&rt, alloc, 2, time)?;
+    bench(&rt, alloc, 4, time)?;
+    bench(&rt, alloc, 8, time)?;
+    bench(&rt, alloc, 17, time)
 }

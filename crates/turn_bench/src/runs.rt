@@ -85,7 +85,7 @@ pub fn by_mutex<R: Threads + Wait + Clock + Sync>(
     threads: u32,
     limit: Limit,
 ) -> Option<u64> {
-    let noted = Mutex::new(Noted::new(alloc));
+    let noted = Mutex::new(Noted::new(alloc).ok()?);
     let shared = &noted;
     thread::map_indices(
         rt,

@@ -4,6 +4,9 @@ use dn_base::Memory;
 use std::alloc::Global;
 use turn_lock::{Entry, Object};
 
+// The history under the lock has room for as many calls from the start as a turn's history.
+const FIRST_CALLS: usize = 4_096;
+
 /// Adds its input to a total, and answers the total, modulo 2^64.
 #[derive(Drop)]
 pub struct Total {
@@ -43,14 +46,21 @@ pub struct Noted {
 }
 
 impl Noted {
-    pub fn new(alloc: Global) -> Noted {
-        Noted {
+    /// A total of 0 with no calls.
+    ///
+    /// # Errors
+    /// `Memory` where there is none for the history's first room.
+    pub fn new(alloc: Global) -> Result<Noted, Memory> {
+        Ok(Noted {
             total: Total { sum: 0 },
-            history: Vec::new(alloc),
-        }
+            history: Vec::with_capacity(alloc, FIRST_CALLS)?,
+        })
     }
 
     /// One call, as a turn makes it.
+    ///
+    /// # Errors
+    /// `Memory` where the history finds no room; then no call was made.
     pub fn call(&mut self, pass: u32, input: u32) -> Result<u64, Memory> {
         self.total.reserve()?;
         self.history.reserve(1)?;

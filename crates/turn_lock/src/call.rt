@@ -23,14 +23,27 @@ const DRAWN: usize = 0;
 
 const SERVED: usize = 1;
 
+// So many times a caller looks whether the line is empty, before it may join others in it.
+const LOOKS: u32 = 8;
+
+// So many times it sleeps after that, where two or more stand in the line.
+const NAPS: u32 = 5;
+
 // So many looks the next in line takes at once, before it lets others run between two.
 const SPINS: u32 = 64;
 
-// After so many looks a caller that isn't the next in line sleeps between two.
+// After so many looks since the line last moved a caller that has three or more before it sleeps between two looks.
 const YIELDS: u32 = 320;
 
-// So many microseconds it sleeps, where the turn isn't passed on before it falls asleep.
+// So many microseconds a first sleep lasts, where the turn isn't passed on before the caller falls asleep.
 const NAP: u64 = 20;
+
+// Lets time pass on this thread's processor.
+fn spin(pauses: u32) {
+    for _pause in 0..pauses {
+        hint::spin_loop();
+    }
+}
 
 impl<O: Object> Turn<O> {
     /// Waits for the turn, makes one call of the object, and passes the turn on. `inside` is called within the turn,
@@ -92,37 +105,89 @@ impl<O: Object> Turn<O> {
         self.table.shared.load::<Look<O>>(seat, SERVED)
     }
 
-    // Lets time pass between two looks. Only the next in line looks again at once, since its turn comes as soon as one
-    // call ends; who stands behind it lets others run, and sleeps where that has lasted.
-    fn pause<R: Wait>(&self, rt: &R, ticket: u64, served: u64, looks: u32) {
-        let is_next = ticket.wrapping_sub(served) == 1;
-        if is_next && looks < SPINS {
-            hint::spin_loop();
-        } else if is_next || looks < YIELDS {
-            thread::yield_now();
-        } else {
-            // the low half of the serving word is what a sleeper waits on
-            let low = (served & u64::from(u32::MAX)) as u32;
-            let nap = Duration::from_micros(NAP);
-            self.table.shared.park_timeout(rt, SERVED, low, nap);
+    // How many turns were passed on, and how many stand in the line, the one that has the turn among them.
+    fn line(&self) -> (u64, u64) {
+        let served = self.table.shared.peek(SERVED);
+        let drawn = self.table.shared.peek(DRAWN);
+        (served, drawn.wrapping_sub(served))
+    }
+
+    // Sleeps, where the turn wasn't passed on since `served` was read.
+    fn nap<R: Wait>(&self, rt: &R, served: u64, micros: u64) {
+        // the low half of the serving word is what a sleeper waits on
+        let low = (served & u64::from(u32::MAX)) as u32;
+        let time = Duration::from_micros(micros);
+        self.table.shared.park_timeout(rt, SERVED, low, time);
+    }
+
+    // Looks for an empty line, and lets time pass between two looks, each time twice as long. So whoever has just passed the
+    // turn on may take it again, with the object still in its processor's cache. After the last look it lets others run once, as
+    // the turn's owner may want this processor. Says whether it found the line empty.
+    fn finds_none(&self) -> bool {
+        let mut pauses = 1_u32;
+        for _look in 0..LOOKS {
+            let (_served, standing) = self.line();
+            if standing == 0 {
+                return true;
+            }
+            spin(pauses);
+            pauses = pauses.wrapping_mul(2);
+        }
+        thread::yield_now();
+        false
+    }
+
+    // Sleeps, each time twice as long, as long as two or more stand in the line. Where one stands there alone, its call is the
+    // only one before this caller's, which so doesn't sleep.
+    fn sleep_outside<R: Wait>(&self, rt: &R) {
+        let mut micros = NAP;
+        for _nap in 0..NAPS {
+            let (served, standing) = self.line();
+            if standing < 2 {
+                break;
+            }
+            self.nap(rt, served, micros);
+            micros = micros.wrapping_mul(2);
         }
     }
 
-    // Draws a ticket, and looks until its turn has come.
+    // Lets time pass between two looks of a caller that stands in the line with so many before it. Only the next in line looks
+    // again at once, since its turn comes as soon as one call ends; who stands behind it lets others run, and who has three or
+    // more before it sleeps where the line hasn't moved for long.
+    fn pause<R: Wait>(&self, rt: &R, before: u64, served: u64, looks: u32) {
+        if before == 1 && looks < SPINS {
+            hint::spin_loop();
+        } else if before <= 2 || looks < YIELDS {
+            thread::yield_now();
+        } else {
+            self.nap(rt, served, NAP);
+        }
+    }
+
+    // Waits outside the line, within bounds, then draws a ticket, and looks until its turn has come.
     fn wait<R: Wait>(&self, rt: &R, seat: &mut Chair<O>)
         requires { (seat.old.table_id ≡ self.now.table) × IsIdle self.now.opening seat.old.me }
         ensures same { IsSameSeat seat.old seat.new }
         ensures turn { (ticket : ℕ) × HasTurn maker (Lies O.content O.answer O.next) seat.old.me.0 ticket seat.new.me }
     {
+        if !self.finds_none() {
+            self.sleep_outside(rt);
+        }
         let ticket = self.draw(seat);
+        let mut passed = ticket;
         let mut looks = 0_u32;
         for _ in rt.forever() {
             let served = self.look(seat, ticket);
             if served == ticket {
                 break;
             }
-            self.pause(rt, ticket, served, looks);
-            looks = looks.saturating_add(1);
+            looks = if served == passed {
+                looks.saturating_add(1)
+            } else {
+                0
+            };
+            passed = served;
+            self.pause(rt, ticket.wrapping_sub(served), served, looks);
         }
     }
 

@@ -4,6 +4,7 @@ ghost use Rattle.turn_lock.specs.Standing.{resting, claim};
 use crate::entry::Entry;
 use crate::object::Object;
 use crate::rule::Chair;
+use crate::turn::Turn;
 use std::marker::Model;
 
 /// A caller's token of one turn: its number, the calls that it made, and the history that it has seen. It goes to any
@@ -55,4 +56,20 @@ impl<O: Object> Drop for TurnPass<O> {
             seen: _,
         } = self;
     }
+}
+
+fn may_be_sent<T: Send>(_value: &T) {}
+
+fn may_be_shared<T: Sync>(_value: &T) {}
+
+/// A turn and its passes may be sent to another thread, and a turn may be shared by threads, where the object and what
+/// its calls take and answer may be sent.
+fn turn_crosses<O: Object + Send>(turn: &Turn<O>, pass: &TurnPass<O>)
+where
+    O::In: Send,
+    O::Out: Send,
+{
+    may_be_sent(turn);
+    may_be_shared(turn);
+    may_be_sent(pass);
 }
