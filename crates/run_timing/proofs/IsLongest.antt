@@ -1,12 +1,11 @@
 -- The way back from the event that finishes last is the longest chain.
-use Rattle.std.proofs.Common.{◌≡◌, ◌⊎◌, inl, inr, Bool, true, false, nat_lt, ℕ, zero, suc, ◌+◌, ◌*◌, ◌<◌, ◌≤◌, List, [], ◌∷◌, length, map, take, slice_get, Option, Some, None, refl, sym, ap, subst, ◌∙◌, arith}
+use Rattle.std.proofs.Common.{◌≡◌, inl, inr, Bool, true, false, nat_lt, ℕ, suc, ◌+◌, ◌<◌, ◌≤◌, List, [], ◌∷◌, length, take, slice_get, Option, Some, None, refl, sym, ap, subst, ◌∙◌, arith}
 use Rattle.std.proofs.lemmas.Bool.Decides.{nat_tests}
 use Rattle.std.proofs.lemmas.List.{get_or_past}
 use Rattle.std.proofs.lemmas.Option.{none-some, same_Some, slice_get-map, slice_get_within}
 use Rattle.std.specs.Option.{option_map}
 use Rattle.message_net.specs.declared.actor.Actor.{Actor}
 use Rattle.message_net.specs.declared.event.Event.{Event}
-use Rattle.message_net.specs.declared.event.EventKind.{EventKind}
 use Rattle.machine_rules.specs.State.{State}
 use Rattle.run_timing.specs.declared.rows.Rows.{Rows}
 use Rattle.run_timing.specs.declared.ticks.Ticks.{Ticks}
@@ -16,10 +15,10 @@ use Rattle.run_timing.specs.Chains.{IsChain, cost, last_of, IsFinish}
 use Rattle.run_timing.specs.Depends.{state_at, actor_of, actor_at, kind_at, IsOwnBefore, IsSender, DependsOn}
 use Rattle.run_timing.specs.Longest.{numbers_in, IsLinkOf, IsLongest}
 use Rattle.run_timing.specs.Noted.{AreRowsOf}
-use Rattle.run_timing.specs.Rows.{finish_in, before_in, behind, AreInStep, AreSummed, IsLinkIn, IsWay, IsLatest}
+use Rattle.run_timing.specs.Rows.{finish_in, before_in, behind, AreInStep, AreSummed, IsWay, IsLatest}
 use Rattle.run_timing.specs.Ticks.{ticks_at, ticks_with}
 use Rattle.run_timing.proofs.Longest.{AreRows, finishes, finish-is}
-use Rattle.run_timing.proofs.WayBack.{Leads, leads-chain, leads-costs, leads-total, leads-end, leads-next, latest-most, latest-longest, latest-least}
+use Rattle.run_timing.proofs.WayBack.{Leads, leads-chain, leads-costs, leads-total, leads-end, leads-next, latest-longest, latest-least}
 use Rattle.run_timing.proofs.Ways.{way-leads, way-link}
 
 -- an event that depends on one comes after it, and is one of the list

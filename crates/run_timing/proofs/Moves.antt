@@ -1,6 +1,5 @@
 -- What an event sends: mails of its actor, with the actor's next numbers.
 use Rattle.std.proofs.Common.{◌≡◌, ◌≢◌, ℕ, ◌+◌, ◌<◌, ◌≤◌, ◌&&◌, Bool, true, false, cond, nat_lt, nat_le, List, [], ◌∷◌, length, slice_get, slice_set, slice_index, Option, Some, None, refl, sym, ap, subst, ◌∙◌, arith}
-use Rattle.std.specs.Prelude.{sum_by}
 use Rattle.std.proofs.lemmas.Bool.Decides.{nat_tests}
 use Rattle.std.proofs.lemmas.List.{get_or-set_other}
 use Rattle.std.proofs.lemmas.Option.{none-some, same_Some}
@@ -14,10 +13,10 @@ use Rattle.message_net.specs.declared.message.Mail.{Mail}
 use Rattle.message_net.specs.declared.message.Message.{Message}
 use Rattle.message_net.specs.declared.message.Outgoing.{Outgoing}
 use Rattle.message_net.specs.Id.{same_actor}
-use Rattle.message_net.specs.Mail.{has_actor, place_of, mails_of, all_mails}
+use Rattle.message_net.specs.Mail.{has_actor, place_of, all_mails}
 use Rattle.message_net.specs.Pool.{of_id, count_of, taken}
 use Rattle.message_net.proofs.PoolLemmas.{same_actor-true, same_actor-refl, sum_by-taken}
-use Rattle.message_net.proofs.MailLemmas.{place_of-within, place_of-own, sum_by-all_mails, count_of-mails_of}
+use Rattle.message_net.proofs.MailLemmas.{place_of-within, sum_by-all_mails, count_of-mails_of}
 use Rattle.registry_bank.specs.Bank.{BankParts, bank_gets}
 use Rattle.phase_barrier.specs.Barrier.{Barrier, keeper_gets}
 use Rattle.phase_barrier.specs.Letters.{letters}
@@ -25,7 +24,7 @@ use Rattle.registration_protocol.specs.Node.{NodeParts, Setting}
 use Rattle.registration_protocol.specs.OwnEvents.{instructed, evicted, arrives}
 use Rattle.registration_protocol.specs.Messages.{node_gets}
 use Rattle.machine_rules.specs.State.{State}
-use Rattle.machine_rules.specs.Next.{next, place_in, number_of, sends, does_instr, does_evict, does_arrive, core_gets, bank_handles, gets, delivers}
+use Rattle.machine_rules.specs.Next.{next, place_in, sends, does_instr, does_evict, does_arrive, core_gets, bank_handles, gets, delivers}
 use Rattle.machine_rules.specs.Sound.{IsMachine}
 use Rattle.machine_rules.proofs.MachineMails.{raised-here, unused}
 use Rattle.machine_rules.proofs.MachineKept.{posts_by}

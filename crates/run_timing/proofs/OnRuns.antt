@@ -1,5 +1,5 @@
 -- The states of a run, event by event, and what each event of it sends.
-use Rattle.std.proofs.Common.{◌≡◌, ◌≢◌, ℕ, zero, suc, ◌+◌, ◌%◌, ◌<◌, ◌≤◌, ◌==◌, not, Bool, true, false, nat_lt, List, [], ◌∷◌, length, take, slice_get, Option, Some, None, refl, sym, ap, subst, ◌∙◌, arith}
+use Rattle.std.proofs.Common.{◌≡◌, ℕ, zero, suc, ◌+◌, ◌%◌, ◌<◌, not, Bool, true, false, nat_lt, List, [], ◌∷◌, take, slice_get, Option, Some, None, refl, sym, ap, subst, ◌∙◌, arith}
 use Rattle.std.proofs.lemmas.Bool.{eqb-true}
 use Rattle.std.proofs.lemmas.Bool.Decides.{nat_tests}
 use Rattle.std.proofs.lemmas.Option.{none-some, same_Some, slice_get_within}
@@ -19,7 +19,7 @@ use Rattle.registration_protocol.specs.OwnEvents.{may_instr, may_evict, may_arri
 use Rattle.machine_rules.specs.State.{State, opened}
 use Rattle.machine_rules.specs.Flight.{counted, bit}
 use Rattle.machine_rules.specs.Next.{next, enabled, when_there}
-use Rattle.machine_rules.specs.Runs.{after, IsRun}
+use Rattle.machine_rules.specs.Runs.{IsRun}
 use Rattle.machine_rules.specs.Sound.{IsReady, IsMachine}
 use Rattle.machine_rules.proofs.Invariant.{Invariant, is_bank, is_core, is_keeper, is_right, is_lost}
 use Rattle.machine_rules.proofs.OpenedFacts.{opened-setting}

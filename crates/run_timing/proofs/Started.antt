@@ -1,5 +1,5 @@
 -- What the machine of a program is told as a run begins, and what the rows of a run tell.
-use Rattle.std.proofs.Common.{◌≡◌, ℕ, ◌+◌, ◌<◌, ◌≤◌, List, length, slice_get, get_or, Option, Some, None, refl, sym, ap, subst, ◌∙◌, arith}
+use Rattle.std.proofs.Common.{◌≡◌, ℕ, ◌<◌, ◌≤◌, List, length, slice_get, get_or, Option, Some, None, sym, ap, subst, ◌∙◌, arith}
 use Rattle.std.proofs.lemmas.Option.{slice_get-get_or}
 use Rattle.dn_base.specs.declared.ids.Shape.{Shape}
 use Rattle.region_table.specs.Program.{ProgramParts}
@@ -7,8 +7,7 @@ use Rattle.region_table.specs.Plan.{ArePlans}
 use Rattle.message_net.specs.declared.event.Event.{Event}
 use Rattle.message_net.specs.declared.event.EventKind.{EventKind}
 use Rattle.message_net.specs.declared.event.EventKind.TheVariants.{Instr as InstrKind}
-use Rattle.registration_protocol.specs.Node.{Setting}
-use Rattle.machine_rules.specs.State.{State, opened}
+use Rattle.machine_rules.specs.State.{State}
 use Rattle.machine_rules.specs.Runs.{IsRun}
 use Rattle.machine_rules.specs.Sound.{IsReady}
 use Rattle.dn_machine.specs.Kept.{Made, IsKept, IsOpened}
@@ -20,7 +19,7 @@ use Rattle.run_timing.specs.Longest.{IsLongest, IsTimingOf}
 use Rattle.run_timing.specs.Noted.{AreRowsOf}
 use Rattle.run_timing.specs.Rows.{finish_in, behind, IsLatest, IsWay}
 use Rattle.dn_machine.specs.Settings.{IsSettingOf, IsRunOn}
-use Rattle.run_timing.specs.Ticks.{AreWithinLimits, ticks_with, ticks_at}
+use Rattle.run_timing.specs.Ticks.{AreWithinLimits, ticks_with}
 use Rattle.run_timing.proofs.IsLongest.{way-longest}
 
 pub ready-of : (S : State) (made : ℕ) → IsKept S made → IsReady S.setting

@@ -1,28 +1,26 @@
 -- What is noted of the events of a run so far is right, and one more event.
-use Rattle.std.proofs.Common.{◌≡◌, ◌≢◌, ◌⊎◌, inl, inr, ℕ, zero, suc, ◌+◌, ◌<◌, ◌≤◌, Bool, true, false, nat_lt, List, [], ◌∷◌, ◌++◌, length, take, replicate, get_or, slice_get, slice_index, Option, Some, None, refl, sym, ap, subst, ◌∙◌, arith}
+use Rattle.std.proofs.Common.{◌≡◌, inl, inr, ℕ, zero, suc, ◌+◌, ◌<◌, ◌≤◌, Bool, true, false, nat_lt, List, [], length, replicate, get_or, slice_get, slice_index, Option, Some, None, refl, sym, ap, subst, ◌∙◌, arith}
 use Rattle.std.proofs.lemmas.Bool.Decides.{nat_tests}
 use Rattle.std.proofs.lemmas.List.{length-replicate}
-use Rattle.std.proofs.lemmas.Option.{none-some, same_Some, slice_get_within}
+use Rattle.std.proofs.lemmas.Option.{none-some, same_Some}
 use Rattle.message_net.specs.declared.actor.Actor.{Actor}
 use Rattle.message_net.specs.declared.actor.MailId.{MailId}
 use Rattle.message_net.specs.declared.event.Event.{Event}
 use Rattle.message_net.specs.declared.event.Event.TheVariants.{Instr, Evict, Arrive, Handle}
-use Rattle.message_net.specs.declared.event.EventKind.{EventKind}
-use Rattle.message_net.specs.Mail.{has_actor, place_of}
+use Rattle.message_net.specs.Mail.{has_actor}
 use Rattle.message_net.specs.Pool.{count_of}
 use Rattle.registration_protocol.specs.Node.{Setting}
 use Rattle.machine_rules.specs.State.{State, opened}
 use Rattle.machine_rules.specs.Next.{next, enabled, kind_in, number_of}
 use Rattle.machine_rules.specs.Runs.{IsRun}
 use Rattle.machine_rules.specs.Sound.{IsReady}
-use Rattle.machine_rules.proofs.MachineKept.{posts_by}
 use Rattle.dn_machine.specs.Actors.{actor_in}
 use Rattle.run_timing.specs.declared.rows.Rows.{Rows}
 use Rattle.run_timing.specs.declared.ticks.Ticks.{Ticks}
 use Rattle.run_timing.specs.Depends.{state_at, actor_of, actor_at, kind_of, kind_at, IsOwnBefore, Sends, IsSender, DependsOn}
 use Rattle.run_timing.specs.Rows.{finish_in, later, with_row, AreNoted}
 use Rattle.run_timing.specs.Ticks.{ticks_of, ticks_with, ticks_at}
-use Rattle.run_timing.specs.Tracks.{last_at, row_at, noted_last, noted_mails, sender_in}
+use Rattle.run_timing.specs.Tracks.{last_at, noted_last, noted_mails, sender_in}
 use Rattle.run_timing.proofs.Moves.{has, place, sent_so_far, IsMove}
 use Rattle.run_timing.proofs.OnRuns.{next-at, enabled-at, setting-at, there-at, move-at}
 use Rattle.run_timing.proofs.RowLemmas.{IsChoice, none-noted, noted-more}

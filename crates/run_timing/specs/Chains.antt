@@ -1,5 +1,5 @@
 -- Chains of numbers, each of which depends on the one before it, and what they cost.
-use Rattle.std.specs.Prelude.{◌≡◌, ℕ, ◌+◌, ◌<◌, ◌≤◌, List, [], ◌∷◌, sum_by, Option, Some, None}
+use Rattle.std.specs.Prelude.{◌≡◌, ℕ, ◌<◌, ◌≤◌, List, [], ◌∷◌, sum_by, Option, Some, None}
 
 -- each number depends on the one before it, the first on number i
 abbrev pub IsChainBehind : (ℕ → ℕ → Type 0) → ℕ → List ℕ → Type 0

@@ -1,4 +1,3 @@
-use Rattle.std.proofs.Common.{◌≡◌, ◌<◌, ◌≤◌, ℕ, Some, length, subst, arith}
 use Rattle.run_timing.proofs.IsLongest.{in-step, summed}
 use Rattle.run_timing.proofs.Started.{run-of, some-time, timing-of}
 use Rattle.run_timing.proofs.time.time_run.Goals as goal

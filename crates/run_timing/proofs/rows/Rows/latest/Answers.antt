@@ -1,5 +1,5 @@
 use Rattle.std.proofs.Common.{◌≡◌, ◌≤◌, ◌<◌, ℕ, List, length, get_or, ap, arith}
-use Rattle.run_timing.specs.Rows.{IsLatest, behind, finish_in}
+use Rattle.run_timing.specs.Rows.{behind, finish_in}
 use Rattle.run_timing.proofs.Ways.{latest-new, latest-same}
 use Rattle.run_timing.proofs.rows.Rows.latest.Goals as goal
 use Rattle.run_timing.proofs.rows.Rows.latest.Goals.{then-finish, else-finish}
