@@ -69,10 +69,9 @@ for document in documents + examples:
         if path not in there and path != "run.trace":
             found.append(f"{document}: a command reads what isn't there: {path}")
 for file, name in re.findall(r"`([A-Z]\w+)\.(\w+)`", pathlib.Path("docs/DEFINITION.md").read_text()):
-    file = "Number" if file == "Numeral" else file
     specs = [pathlib.Path(f"crates/{crate}/specs/{file}.antt") for crate in ("rv_assembler", "src_text")]
     defined = [path for path in specs if path.exists() and re.search(rf"^[a-z ]*\b{name}\b", path.read_text(), re.M)]
-    if name != "antt" and not defined:
+    if not defined:
         found.append(f"docs/DEFINITION.md: no such definition: {file}.{name}")
 for name in examples:
     copy = pathlib.Path("crates/worked_rows/data") / pathlib.PurePath(name).name
