@@ -8,12 +8,16 @@ somewhere else to come from. It takes texts that assemble and check; it refuses 
     tools/reference.py [WORDS] < TEXT       what the program has to write, for the words of all modes but check and list
     tools/reference.py script FILE [WORDS] < TEXT
                                             the same for a script of events (crates/worked_rows/data/README.md has the form)
-    tools/reference.py trace [WORDS] < TEXT the events of a run, one a line, in the form of a script
+    tools/reference.py events [WORDS] < TEXT
+                                            the events of a run, one a line, in the form of a script
     tools/reference.py cases FOLDER [NAME]  runs the cases of the folder's files, of those modes and of scripts, and says which
                                             outputs aren't the computed ones, and how many cases reached each kind of event and
                                             each row of the tables of docs/PROTOCOL.md
     tools/reference.py text SIZE            the text that the mode work runs for the size
     tools/reference.py rows                 what a run of the small examples below has to come to, for the seeds 1 to 50
+    tools/reference.py --help               this page
+
+It exits with the program's exit code, 1 where cases or rows differ, and 9 where it can't take what it is given.
 """
 import re
 import sys
@@ -1592,7 +1596,9 @@ def run_cases(folder, only=None):
     for name in sorted(os.listdir(folder)):
         with open(os.path.join(folder, name), "rb") as file:
             texts[name] = file.read()
-    for name in sorted(name for name in texts if name.endswith(".cases")):
+    files = sorted(name for name in texts if name.endswith(".cases"))
+    for number, name in enumerate(files, 1):
+        print("file %d of %d: %s, %d cases agree so far" % (number, len(files), name, agree), file=sys.stderr, flush=True)
         for lines in sections(texts[name].decode()):
             title = lines[0][5:]
             for row, filled in expanded(lines):
@@ -1873,8 +1879,25 @@ def rows():
     return good
 
 
+# What may go wrong with what the program is given, and isn't a mistake of its own.
+UNFIT = (Unfit, OSError, ValueError, IndexError, KeyError)
+
+
 def main():
     words = sys.argv[1:]
+    if words[:1] in (["--help"], ["-h"]):
+        print(__doc__, end="")
+        return 0
+    try:
+        return command(words)
+    except UNFIT as why:
+        print("tools/reference.py can't take this: %s: %s" % (type(why).__name__, why), file=sys.stderr)
+        print("It refuses no text properly: ./denovo --mode check says what is wrong with one. --help says what it can do.", file=sys.stderr)
+        return 9
+
+
+def command(words):
+    """Does what the words ask for, and gives the exit code."""
     if words[:1] == ["rows"]:
         return 0 if rows() else 1
     if words[:1] == ["cases"]:
@@ -1882,7 +1905,7 @@ def main():
     if words[:1] == ["text"]:
         print(work_text(int(words[1])), end="")
         return 0
-    if words[:1] == ["trace"]:
+    if words[:1] == ["events"]:
         o = options(words[1:])
         opened(assemble(sys.stdin.read()), o).run(o["seed"], lambda event: print(event_line(event)))
         return 0
