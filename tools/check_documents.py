@@ -43,7 +43,7 @@ def has_path(piece, document):
     if any(place in there for place in (bare, "crates/" + bare, beside)):
         return True
     ends = [name for name in there if name.endswith("/" + bare)]
-    return bool(ends) or "*" in bare or bare in ("run.trace",) or bare.startswith("crates/") and "/out" in bare or "NAME" in bare
+    return bool(ends) or "*" in bare or bare in ("run.trace", ".quick") or bare.startswith("crates/") and "/out" in bare or "NAME" in bare
 
 
 for document in documents:
