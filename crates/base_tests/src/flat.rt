@@ -1,166 +1,120 @@
-//! A program of ten words in which two tasks add 1 to a word under a lock, run by lists of grants. What a run comes to follows
-//! from the instructions by hand.
-ghost use Rattle.std.specs.Prelude.{◌≡◌, ◌<◌, ◌≤◌, [], ◌∷◌, length, IfOk};
-ghost use Rattle.std.specs.List.{All};
-ghost use Rattle.region_table.specs.Program.{LiesIn, IsTask, IsPhase};
-
-use dn_base::{CoreId, Grant, LoadSeen, LockId, Memory, Name, Outcome, PhaseId, Sequence, WordId};
-use effect_checker::{Checked, check};
-use flat_machine::{FlatEnd, flat, least_grants, least_run};
-use region_table::{Effects, Phase, Program, Region, TaskDecl, WordSet};
+//! Runs on one memory by lists of grants. What a list comes to follows from the instructions by hand.
+use crate::texts::checked;
+use dn_base::{CoreId, Grant, LockId, Memory, Outcome, PhaseId};
+use flat_machine::{flat, least_grants};
 use std::alloc::Global;
 use std::test::Fail;
 
-/// Takes lock 0, adds 1 to word 0, gives the lock up and ends; the words are those of the GNU assembler 2.40 for rv32i.
-const ADDS: [u32; 10] = [
-    0x1000_02b7,
-    0x0010_0893,
-    0x0000_0073,
-    0x0002_a303,
-    0x0013_0313,
-    0x0062_a023,
-    0x0020_0893,
-    0x0000_0073,
-    0x0000_0893,
-    0x0000_0073,
-];
+/// A task that takes no lock stores 5.
+const STORE_FIVE: &[u8] = b".region m, 1
+.phase
+.task 0, go, 0
+.writes m
+go: lui t0, 0x10000
+ addi t1, x0, 5
+ sw t1, 0(t0)
+ addi a7, x0, 0
+ ecall
+";
 
-/// The set of the one lock: the words before `end`.
-fn by_lock(alloc: Global, end: u32) -> Result<Sequence<WordSet>, Memory>
-    requires { end ≤ 1 }
-    ensures one { IfOk result (λ sets. length sets ≡ 1) }
-    ensures within { IfOk result (All (LiesIn 1)) }
-{
-    let set = if end == 0 {
-        WordSet::new(alloc)
-    } else {
-        WordSet::range(alloc, 0, end)?
-    };
-    let mut sets = Sequence::new(alloc);
-    sets.push(set)?;
-    Ok(sets)
-}
+/// Two tasks take two locks, each in its own order.
+const CROSSED_LOCKS: &[u8] = b".lock a
+.lock b
+.phase
+.task 0, go, 0
+.task 1, go, 1
+go: mv s0, a0
+ xori s1, a0, 1
+ li a7, 1
+ mv a0, s0
+ ecall
+ mv a0, s1
+ ecall
+ li a7, 2
+ ecall
+ mv a0, s0
+ ecall
+ li a7, 0
+ ecall
+";
 
-/// A task that may write word 0 under the lock.
-fn task(alloc: Global, core: u32) -> Result<TaskDecl, Memory>
-    requires { core < 2 }
-    ensures well { IfOk result (IsTask 1 1) }
-    ensures core { IfOk result (λ t. t.core.0 ≡ core) }
-{
-    let effects = Effects {
-        reads: WordSet::new(alloc),
-        writes: WordSet::new(alloc),
-        guarded_reads: by_lock(alloc, 0)?,
-        guarded_writes: by_lock(alloc, 1)?,
-    };
-    Ok(TaskDecl {
-        core: CoreId(core),
-        entry: 4096,
-        arg: 0,
-        effects,
-    })
-}
+/// Four tasks add 1 to a word under a lock, a hundred times each.
+const LOCKED_COUNTER: &[u8] = b".version 2
+.region c, 1
+.lock k
+.phase
+.forall 0, 4, go, 100, 0
+.gwrites k, c
+go: mv s0, a0
+ la t0, c
+l: li a0, 0
+ li a7, 1
+ ecall
+ lw t1, 0(t0)
+ addi t1, t1, 1
+ sw t1, 0(t0)
+ li a7, 2
+ ecall
+ addi s0, s0, -1
+ bnez s0, l
+ li a7, 0
+ ecall
+";
 
-/// A phase of two such tasks, on the cores 0 and 1.
-fn phase(alloc: Global) -> Result<Phase, Memory>
-    ensures well { IfOk result (IsPhase 1 1) }
-    ensures two { IfOk result (λ p. length p.tasks ≡ 2) }
-{
-    let first = task(alloc, 0)?;
-    let second = task(alloc, 1)?;
-    let mut tasks = Sequence::new(alloc);
-    tasks.push(first)?;
-    tasks.push(second)?;
-    Ok(Phase { tasks })
-}
-
-/// The program, of one word that is 0, in the region `m`, and the lock `a`.
-fn program(alloc: Global) -> Result<Checked, Memory> {
-    let mut regions = Sequence::new(alloc);
-    regions.push(Region {
-        name: Name::new(alloc, b"m")?,
-        start: 0,
-        len: 1,
-    })?;
-    let mut locks = Sequence::new(alloc);
-    locks.push(Name::new(alloc, b"a")?)?;
-    let only = phase(alloc)?;
-    let mut phases = Sequence::new(alloc);
-    phases.push(only)?;
-    let built = Program {
-        code: Sequence::from_vec(Vec::from_slice(alloc, &ADDS)?),
-        memory: Sequence::from_vec(Vec::from_slice(alloc, &[0])?),
-        regions,
-        locks,
-        phases,
-    };
-    match check(built) {
-        Ok(checked) => Ok(checked),
-        Err(_) => Err(Memory),
-    }
-}
-
-/// The grant of the lock to a core.
-fn grant(core: u32) -> Grant {
+/// A grant of the first phase, of the lock to the core.
+fn grant(core: u32, lock: u32) -> Grant {
     Grant {
         phase: PhaseId(0),
         core: CoreId(core),
-        lock: LockId(0),
+        lock: LockId(lock),
     }
 }
 
-/// A load of word 0 that had this value.
-fn seen(value: u32) -> LoadSeen {
-    LoadSeen {
-        word: WordId(0),
-        value,
+/// So many grants of one lock to four cores in turn.
+fn in_turn(alloc: Global, count: u32) -> Result<Vec<Grant>, Memory> {
+    let mut grants = Vec::new(alloc);
+    for number in 0..count {
+        grants.push(grant(number % 4, 0))?;
     }
+    Ok(grants)
 }
 
-/// Whether word 0 is 2, the first task has loaded this value and nothing else, and the second task that one.
-fn has_counted(end: &FlatEnd, first: u32, second: u32) -> bool {
-    match (end.ending.memory.as_slice(), end.loads.as_slice()) {
-        ([2], [a, b]) => {
-            a.loads.as_slice() == [seen(first)].as_slice()
-                && b.loads.as_slice() == [seen(second)].as_slice()
-        }
-        _ => false,
-    }
-}
-
-#[test]
-fn the_least_list_and_its_end(rt: HostRuntime) -> Result<(), Fail> {
-    let alloc = rt.alloc();
-    let checked = program(alloc)?;
-    let run = least_run(alloc, &checked, 10)?;
-    let wanted = [grant(0), grant(1)];
-    assert!(rt; run.grants.as_slice() == wanted.as_slice());
-    assert!(rt; least_grants(alloc, &checked, 10)?.as_slice() == wanted.as_slice());
-    assert_eq!(rt; run.end.ending.outcome, Outcome::Done);
-    assert!(rt; has_counted(&run.end, 0, 1));
-    Ok(())
-}
-
-#[test]
-fn another_list_and_less_fuel(rt: HostRuntime) -> Result<(), Fail> {
-    let alloc = rt.alloc();
-    let checked = program(alloc)?;
-    match flat(alloc, &checked, 9, &[grant(1), grant(0)])? {
+/// How the run of a text by these grants ends, and the first word then; None where the list has no run.
+fn end(
+    alloc: Global,
+    text: &[u8],
+    grants: &[Grant],
+) -> Result<Option<(Outcome, Option<u32>)>, Memory> {
+    let checked = checked(alloc, text)?;
+    match flat(alloc, &checked, 32_768, grants)? {
         Some(end) => {
-            assert_eq!(rt; end.ending.outcome, Outcome::Fuel);
-            assert!(rt; has_counted(&end, 1, 0));
+            let first = end.ending.memory.as_slice().first().copied();
+            Ok(Some((end.ending.outcome, first)))
         }
-        None => assert!(rt; false),
+        None => Ok(None),
     }
-    Ok(())
+}
+
+/// The least list of a text.
+fn least(alloc: Global, text: &[u8]) -> Result<Vec<Grant>, Memory> {
+    let checked = checked(alloc, text)?;
+    least_grants(alloc, &checked, 32_768)
 }
 
 #[test]
-fn lists_that_end_early_or_go_on_have_no_run(rt: HostRuntime) -> Result<(), Fail> {
+fn whole_legal_lists_have_a_run(rt: HostRuntime) -> Result<(), Fail> {
     let alloc = rt.alloc();
-    let checked = program(alloc)?;
-    assert!(rt; flat(alloc, &checked, 10, &[grant(0)])?.is_none());
-    assert!(rt; flat(alloc, &checked, 10, &[grant(0), grant(0)])?.is_none());
-    assert!(rt; flat(alloc, &checked, 10, &[grant(0), grant(1), grant(0)])?.is_none());
+    let done = |word| Some((Outcome::Done, Some(word)));
+    assert_eq!(rt; end(alloc, STORE_FIVE, &[])?, done(5));
+    assert_eq!(rt; end(alloc, STORE_FIVE, &[grant(0, 0)])?, None);
+    let stuck = Some((Outcome::Stuck, None));
+    let crossed = [grant(0, 0), grant(1, 1)];
+    assert_eq!(rt; end(alloc, CROSSED_LOCKS, &crossed[..1])?, None);
+    assert_eq!(rt; end(alloc, CROSSED_LOCKS, &crossed)?, stuck);
+    let list = [grant(0, 0), grant(0, 1), grant(1, 1), grant(1, 0)];
+    assert!(rt; least(alloc, CROSSED_LOCKS)?.as_slice() == list.as_slice());
+    let counted = in_turn(alloc, 400)?;
+    assert_eq!(rt; end(alloc, LOCKED_COUNTER, &counted[..399])?, None);
+    assert_eq!(rt; end(alloc, LOCKED_COUNTER, counted.as_slice())?, done(400));
     Ok(())
 }

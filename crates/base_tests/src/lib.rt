@@ -1,27 +1,14 @@
-//! Tests of the crates below the machine. They are a crate of their own, since a crate is proved once more with its tests.
+//! Tests of the crates below the machine. They are a crate of their own, since a crate is proved once more with its tests. What can be
+//! seen through the whole program is a case of `worked_rows` instead.
 #![tactic(auto)]
 
 #[cfg(test)]
-mod assembling;
-#[cfg(test)]
-mod conflicts;
-#[cfg(test)]
-mod devices;
-#[cfg(test)]
 mod flat;
 #[cfg(test)]
-mod instructions;
-#[cfg(test)]
-mod lines;
-#[cfg(test)]
-mod listings;
-#[cfg(test)]
-mod options;
-#[cfg(test)]
-mod pieces;
-#[cfg(test)]
-mod programs;
+mod phases;
 #[cfg(test)]
 mod tasks;
+#[cfg(test)]
+mod texts;
 #[cfg(test)]
 mod works;

@@ -2,14 +2,8 @@
 #![tactic(auto)]
 
 #[cfg(test)]
-mod calls;
-#[cfg(test)]
 mod halls;
 #[cfg(test)]
-mod objects;
-#[cfg(test)]
-mod refused;
-#[cfg(test)]
-mod threads;
+mod talks;
 #[cfg(test)]
 mod turns;

@@ -4,47 +4,81 @@ use registry_bank::{Bank, BankWord};
 use std::test::Fail;
 use write_signature::Signature;
 
-/// A message to a core.
-fn to(core: u32, message: Message) -> Option<Outgoing> {
-    Some(Outgoing::to_core(CoreId(core), message))
+const FIRST: WordId = WordId(0);
+
+const OTHER_BANKS: WordId = WordId(5);
+
+/// A message that the bank gets, and what it sends then, to which core.
+type Line = (Message, Option<(u32, Message)>);
+
+fn read(word: WordId, reader: u32) -> Message {
+    Message::ReadReq {
+        word,
+        reader: CoreId(reader),
+    }
 }
 
-#[test]
-fn a_late_write_back_is_answered_and_not_taken(rt: HostRuntime) -> Result<(), Fail> {
-    let mut bank = Bank::new(rt.alloc(), BankId(0), 1, 2, &[3], 0)?;
-    let word = WordId(0);
-    let first = Message::RegReq {
-        word,
-        core: CoreId(1),
-    };
-    assert_eq!(rt; bank.handle(first), to(1, Message::RegAck { word }));
-    let core = CoreId(0);
-    assert_eq!(rt;
-        bank.handle(Message::RegReq { word, core }),
-        to(1, Message::RegFwd { word, core })
-    );
+fn register(core: u32) -> Message {
+    Message::RegReq {
+        word: FIRST,
+        core: CoreId(core),
+    }
+}
+
+/// What is said of the first word, which is 3: it is read and registered, registered by another core and read there. The first
+/// registrant's late write-back is answered and not taken. Of a word behind the memory nothing is said.
+fn talk_of_a_word() -> [Line; 6] {
+    let word = FIRST;
     let late = Message::WriteBack {
         word,
         value: 9,
         core: CoreId(1),
     };
-    assert_eq!(rt; bank.handle(late), to(1, Message::WbAck { word }));
-    assert_eq!(rt; bank.word(word), Some(BankWord::Reg(core)));
-    Ok(())
+    let (core, reader) = (CoreId(0), CoreId(2));
+    [
+        (
+            read(word, 1),
+            Some((1, Message::DataReply { word, value: 3 })),
+        ),
+        (register(1), Some((1, Message::RegAck { word }))),
+        (register(0), Some((1, Message::RegFwd { word, core }))),
+        (read(word, 2), Some((0, Message::ReadFwd { word, reader }))),
+        (late, Some((1, Message::WbAck { word }))),
+        (read(OTHER_BANKS, 1), None),
+    ]
+}
+
+/// A free lock is granted with its signature, and a core's halt is no message for a bank.
+fn talk_of_a_lock() -> [Line; 2] {
+    let (lock, core) = (LockId(1), CoreId(1));
+    let signature = Signature::empty(PhaseId(0));
+    let grant = Message::Grant { lock, signature };
+    [
+        (Message::Acquire { lock, core }, Some((1, grant))),
+        (Message::Halt, None),
+    ]
+}
+
+/// The place of the first line that the bank answers in another way.
+fn first_wrong(bank: &mut Bank, talk: &[Line]) -> Option<usize> {
+    for (place, (message, answer)) in talk.iter().enumerate() {
+        let wanted = answer.map(|(core, sent)| Outgoing::to_core(CoreId(core), sent));
+        if bank.handle(*message) != wanted {
+            return Some(place);
+        }
+    }
+    None
 }
 
 #[test]
-fn a_lock_is_granted_with_its_signature(rt: HostRuntime) -> Result<(), Fail> {
-    let mut bank = Bank::new(rt.alloc(), BankId(1), 2, 2, &[0, 7], 2)?;
-    let lock = LockId(1);
-    let signature = Signature::empty(PhaseId(0));
-    let core = CoreId(1);
-    assert_eq!(rt;
-        bank.handle(Message::Acquire { lock, core }),
-        to(1, Message::Grant { lock, signature })
-    );
-    assert_eq!(rt; bank.number(), BankId(1));
-    assert_eq!(rt; bank.word(WordId(1)), Some(BankWord::Home(7)));
-    assert_eq!(rt; bank.handle(Message::Halt), None);
+fn a_bank_answers_each_message(rt: HostRuntime) -> Result<(), Fail> {
+    let mut bank = Bank::new(rt.alloc(), BankId(0), 1, 3, &[3, 3], 0)?;
+    assert_eq!(rt; first_wrong(&mut bank, &talk_of_a_word()), None);
+    assert_eq!(rt; bank.word(FIRST), Some(BankWord::Reg(CoreId(0))));
+    assert_eq!(rt; bank.word(OTHER_BANKS), None);
+    let mut second = Bank::new(rt.alloc(), BankId(1), 2, 2, &[0, 7], 2)?;
+    assert_eq!(rt; first_wrong(&mut second, &talk_of_a_lock()), None);
+    assert_eq!(rt; second.number(), BankId(1));
+    assert_eq!(rt; second.word(WordId(1)), Some(BankWord::Home(7)));
     Ok(())
 }

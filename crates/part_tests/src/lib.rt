@@ -14,4 +14,4 @@ mod logs;
 #[cfg(test)]
 mod mails;
 #[cfg(test)]
-mod nodes;
+mod signatures;

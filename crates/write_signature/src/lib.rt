@@ -8,8 +8,6 @@
 
 mod laws;
 mod signature;
-#[cfg(test)]
-mod tests;
 
 pub use laws::{
     a_phase_takes_over_its_own_writes, insert_covers, insert_empties, join_covers,

@@ -1,7 +1,7 @@
 use Rattle.std.proofs.Common.{arith}
 use Rattle.message_net.specs.declared.actor.Actor.TheVariants.{Core, Bank}
 use Rattle.grant_log.proofs.MadeLemmas.{bank_is_no_core, cores_differ, three_logs}
-use Rattle.part_tests.proofs.logs.entries_stand_by_stamp_and_then_by_actor.Goals as goal
+use Rattle.part_tests.proofs.logs.merged.Goals as goal
 
 pub merge-requires : goal.merge-requires
 merge-requires g c =
