@@ -4,24 +4,24 @@ ghost use Rattle.turn_lock.specs.Passes.{IsPassOf};
 
 use dn_base::Memory;
 use std::alloc::Global;
-use std::sync::Wait;
 use std::sync::atomic::{AtomicU64, Ordering};
+use std::sync::{Arc, Wait};
 use std::test::Fail;
 use std::thread::{Threads, join};
 use turn_lock::{Entry, Object, Turn, TurnPass};
 
 /// Adds its input to a total, and answers the total.
 #[derive(Drop)]
-struct Total<'a> {
+struct Total {
     sum: u64,
     /// How many steps were made, where everybody sees it.
-    steps: &'a AtomicU64,
+    steps: Arc<AtomicU64, Global>,
     /// How many calls asked for memory, and which of them finds none.
     asked: u32,
     refused: u32,
 }
 
-impl<'a> Object for Total<'a> {
+impl Object for Total {
     type In = u32;
 
     type Out = u64;
@@ -52,16 +52,16 @@ impl<'a> Object for Total<'a> {
 }
 
 /// A turn and its two passes.
-type Started<'a> = (Turn<Total<'a>>, TurnPass<Total<'a>>, TurnPass<Total<'a>>);
+type Started = (Turn<Total>, TurnPass<Total>, TurnPass<Total>);
 
 /// Shares a total of 0, which finds no memory at this call, among two callers.
-fn start(alloc: Global, steps: &AtomicU64, refused: u32) -> Result<Started<'_>, Memory>
+fn start(alloc: Global, steps: &Arc<AtomicU64, Global>, refused: u32) -> Result<Started, Memory>
     ensures passes { IfOk result (λ r. IsPassOf r.0 r.1 × IsPassOf r.0 r.2) }
     ensures count { IfOk result (λ r. r.0.passes ≡ 2) }
 {
     let total = Total {
         sum: 0,
-        steps,
+        steps: Arc::try_clone(steps)?,
         asked: 0,
         refused,
     };
@@ -75,7 +75,7 @@ fn start(alloc: Global, steps: &AtomicU64, refused: u32) -> Result<Started<'_>, 
 /// The calls of a history, each with its pass, its input and its answer.
 type Calls = Vec<(u32, u32, u64)>;
 
-fn calls_in(alloc: Global, history: &[Entry<Total<'_>>]) -> Result<Calls, Memory> {
+fn calls_in(alloc: Global, history: &[Entry<Total>]) -> Result<Calls, Memory> {
     let mut calls = Vec::new(alloc);
     for entry in history {
         calls.push((entry.pass, entry.input, entry.output))?;
@@ -84,11 +84,11 @@ fn calls_in(alloc: Global, history: &[Entry<Total<'_>>]) -> Result<Calls, Memory
 }
 
 /// Ends the sharing: the total, and the calls.
-fn close<'a>(
+fn close(
     alloc: Global,
-    turn: Turn<Total<'a>>,
-    zero: TurnPass<Total<'a>>,
-    one: TurnPass<Total<'a>>,
+    turn: Turn<Total>,
+    zero: TurnPass<Total>,
+    one: TurnPass<Total>,
 ) -> Result<(u64, Calls), Memory>
     requires passes { IsPassOf turn zero × IsPassOf turn one }
     requires count { turn.passes ≡ 2 }
@@ -102,10 +102,10 @@ fn close<'a>(
 /// What a call was answered, and how many steps had been made when it had the object in hand; None where it hadn't.
 type Answered = (Result<u64, (Memory, u32)>, Option<u64>);
 
-fn call<'a, R: Wait>(
+fn call<R: Wait>(
     rt: &R,
-    turn: &Turn<Total<'a>>,
-    pass: &mut TurnPass<Total<'a>>,
+    turn: &Turn<Total>,
+    pass: &mut TurnPass<Total>,
     input: u32,
     steps: &AtomicU64,
 ) -> Answered
@@ -124,7 +124,7 @@ fn call<'a, R: Wait>(
 #[test]
 fn calls_of_two_passes_stand_in_one_history(rt: HostRuntime) -> Result<(), Fail> {
     let alloc = rt.alloc();
-    let steps = AtomicU64::new(0);
+    let steps = Arc::new(alloc, AtomicU64::new(0))?;
     let (turn, mut zero, mut one) = start(alloc, &steps, 3)?;
     let answers = [
         call(&rt, &turn, &mut zero, 2, &steps),
@@ -148,7 +148,7 @@ fn calls_of_two_passes_stand_in_one_history(rt: HostRuntime) -> Result<(), Fail>
 }
 
 /// Calls with 1. Whether there was memory.
-fn call_once<'a, R: Wait>(rt: &R, turn: &Turn<Total<'a>>, pass: &mut TurnPass<Total<'a>>) -> bool
+fn call_once<R: Wait>(rt: &R, turn: &Turn<Total>, pass: &mut TurnPass<Total>) -> bool
     requires { IsPassOf turn.now pass.old }
     ensures { IsPassOf turn.now pass.new }
 {
@@ -156,12 +156,12 @@ fn call_once<'a, R: Wait>(rt: &R, turn: &Turn<Total<'a>>, pass: &mut TurnPass<To
 }
 
 /// Calls so often; a call that finds no memory is made once more.
-fn call_often<'a, R: Wait>(
+fn call_often<R: Wait>(
     rt: &R,
-    turn: &Turn<Total<'a>>,
-    mut pass: TurnPass<Total<'a>>,
+    turn: &Turn<Total>,
+    mut pass: TurnPass<Total>,
     calls: u32,
-) -> Option<TurnPass<Total<'a>>>
+) -> Option<TurnPass<Total>>
     requires { IsPassOf turn.now pass }
     ensures { IfSome result (λ p. IsPassOf turn.now p) }
 {
@@ -174,13 +174,13 @@ fn call_often<'a, R: Wait>(
 }
 
 /// Each of two threads calls with a pass of its own.
-fn call_in_two<'a, R: Threads + Wait + Sync>(
+fn call_in_two<R: Threads + Wait + Sync>(
     rt: &R,
-    turn: &Turn<Total<'a>>,
-    zero: TurnPass<Total<'a>>,
-    one: TurnPass<Total<'a>>,
+    turn: &Turn<Total>,
+    zero: TurnPass<Total>,
+    one: TurnPass<Total>,
     calls: u32,
-) -> Option<(TurnPass<Total<'a>>, TurnPass<Total<'a>>)>
+) -> Option<(TurnPass<Total>, TurnPass<Total>)>
     requires { IsPassOf turn.now zero × IsPassOf turn.now one }
     ensures { IfSome result (λ r. IsPassOf turn.now r.0 × IsPassOf turn.now r.1) }
 {
@@ -204,7 +204,7 @@ fn totals<R: Threads + Wait + Sync>(
     alloc: Global,
     each: u32,
 ) -> Result<(u64, usize, usize), Memory> {
-    let steps = AtomicU64::new(0);
+    let steps = Arc::new(alloc, AtomicU64::new(0))?;
     let (turn, zero, one) = start(alloc, &steps, 0)?;
     let Some((zero, one)) = call_in_two(rt, &turn, zero, one, each) else {
         return Err(Memory);
