@@ -70,21 +70,11 @@ fn grant(core: u32, lock: u32) -> Grant {
     }
 }
 
-/// So many grants of one lock to four cores in turn.
-fn in_turn(alloc: Global, count: u32) -> Result<Vec<Grant>, Memory> {
-    let mut grants = Vec::new(alloc);
-    for number in 0..count {
-        grants.push(grant(number % 4, 0))?;
-    }
-    Ok(grants)
-}
+/// The outcome of a run and its first word then; None where the list has no run.
+type End = Option<(Outcome, Option<u32>)>;
 
-/// How the run of a text by these grants ends, and the first word then; None where the list has no run.
-fn end(
-    alloc: Global,
-    text: &[u8],
-    grants: &[Grant],
-) -> Result<Option<(Outcome, Option<u32>)>, Memory> {
+/// How the run of a text by these grants ends.
+fn end(alloc: Global, text: &[u8], grants: &[Grant]) -> Result<End, Memory> {
     let checked = checked(alloc, text)?;
     match flat(alloc, &checked, 32_768, grants)? {
         Some(end) => {
@@ -95,26 +85,49 @@ fn end(
     }
 }
 
-/// The least list of a text.
-fn least(alloc: Global, text: &[u8]) -> Result<Vec<Grant>, Memory> {
-    let checked = checked(alloc, text)?;
-    least_grants(alloc, &checked, 32_768)
+/// The place of the first list that ends in another way.
+fn first_wrong(alloc: Global) -> Result<Option<usize>, Memory> {
+    let (one, crossed) = ([grant(0, 0)], [grant(0, 0), grant(1, 1)]);
+    let rows = [
+        (STORE_FIVE, [].as_slice(), Some((Outcome::Done, Some(5)))),
+        (STORE_FIVE, one.as_slice(), None),
+        (CROSSED_LOCKS, one.as_slice(), None),
+        (
+            CROSSED_LOCKS,
+            crossed.as_slice(),
+            Some((Outcome::Stuck, None)),
+        ),
+    ];
+    for (place, (text, grants, wanted)) in rows.iter().enumerate() {
+        if end(alloc, text, grants)? != *wanted {
+            return Ok(Some(place));
+        }
+    }
+    Ok(None)
+}
+
+/// How the counter's run ends by so many grants to the four cores in turn.
+fn counted(alloc: Global, count: u32) -> Result<End, Memory> {
+    let mut grants = Vec::new(alloc);
+    for number in 0..count {
+        grants.push(grant(number % 4, 0))?;
+    }
+    end(alloc, LOCKED_COUNTER, grants.as_slice())
+}
+
+/// Whether the least list of the crossed locks has both locks go to core 0 and then to core 1.
+fn is_least(alloc: Global) -> Result<bool, Memory> {
+    let checked = checked(alloc, CROSSED_LOCKS)?;
+    let list = [grant(0, 0), grant(0, 1), grant(1, 1), grant(1, 0)];
+    Ok(least_grants(alloc, &checked, 32_768)?.as_slice() == list.as_slice())
 }
 
 #[test]
 fn whole_legal_lists_have_a_run(rt: HostRuntime) -> Result<(), Fail> {
     let alloc = rt.alloc();
-    let done = |word| Some((Outcome::Done, Some(word)));
-    assert_eq!(rt; end(alloc, STORE_FIVE, &[])?, done(5));
-    assert_eq!(rt; end(alloc, STORE_FIVE, &[grant(0, 0)])?, None);
-    let stuck = Some((Outcome::Stuck, None));
-    let crossed = [grant(0, 0), grant(1, 1)];
-    assert_eq!(rt; end(alloc, CROSSED_LOCKS, &crossed[..1])?, None);
-    assert_eq!(rt; end(alloc, CROSSED_LOCKS, &crossed)?, stuck);
-    let list = [grant(0, 0), grant(0, 1), grant(1, 1), grant(1, 0)];
-    assert!(rt; least(alloc, CROSSED_LOCKS)?.as_slice() == list.as_slice());
-    let counted = in_turn(alloc, 400)?;
-    assert_eq!(rt; end(alloc, LOCKED_COUNTER, &counted[..399])?, None);
-    assert_eq!(rt; end(alloc, LOCKED_COUNTER, counted.as_slice())?, done(400));
+    assert_eq!(rt; first_wrong(alloc)?, None);
+    assert!(rt; is_least(alloc)?);
+    assert_eq!(rt; counted(alloc, 399)?, None);
+    assert_eq!(rt; counted(alloc, 400)?, Some((Outcome::Done, Some(400))));
     Ok(())
 }
