@@ -1,4 +1,4 @@
-use crate::texts::Named;
+use case_texts::Named;
 use std::rt::Files;
 use std::{fs, io};
 

@@ -3,27 +3,12 @@
 //! kind came.
 #![tactic(auto)]
 
-mod agreement;
-mod block;
-mod case;
-mod chains;
 mod checking;
-mod comparing;
 mod files;
-mod kinds;
-mod numbers;
-mod opening;
-mod playing;
-mod reach;
-mod report;
-mod rows;
 mod running;
-mod script;
-mod sections;
-mod texts;
-mod trouble;
 
-use checking::check_all;
+use case_files::run_all;
+use checking::Checking;
 use files::files;
 use std::process::ExitCode;
 use std::rt::Env;
@@ -41,23 +26,15 @@ fn main(rt: HostRuntime) -> io::Result<ExitCode> {
     let alloc = rt.alloc();
     let folder = folder(&rt)?;
     let files = files(&rt, folder.as_str())?;
-    let Ok(report) = check_all(&rt, alloc, files.as_slice()) else {
+    let mut checking = Checking::new(&rt, alloc);
+    let done = run_all(alloc, files.as_slice(), &mut checking);
+    let report = checking.report;
+    let (Ok(()), Ok(totals)) = (done, report.totals(alloc)) else {
         println!(rt; "there was no memory")?;
         return Ok(ExitCode::FAILURE);
     };
-    print!(rt; "{}", report.lines.as_str())?;
-    let agree = report.agree;
-    println!(rt; "{agree} cases agree")?;
-    let runs = report.runs;
-    println!(rt; "{runs} runs agree with the flat machine")?;
-    let times = report.times;
-    println!(rt; "{times} times are those of the slowest of all chains")?;
-    let Ok(reach) = report.reach.lines(alloc) else {
-        println!(rt; "there was no memory")?;
-        return Ok(ExitCode::FAILURE);
-    };
-    print!(rt; "{}", reach.as_str())?;
-    Ok(if report.differ == 0 && report.reach.is_whole() {
+    print!(rt; "{}{}", report.lines.as_str(), totals.as_str())?;
+    Ok(if report.is_good() {
         ExitCode::SUCCESS
     } else {
         ExitCode::FAILURE

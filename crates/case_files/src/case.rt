@@ -1,0 +1,275 @@
+ghost use Rattle.std.specs.Prelude.{◌<◌};
+
+use crate::script::{ScriptLine, script_line};
+use case_texts::{
+    BadForm, Texts, Trouble, bytes, copies, counts, exit_code, is_silent, number, numbers,
+    positive, push_copies, push_counts, push_grants, push_line,
+};
+use dn_base::Sequence;
+use std::alloc::Global;
+use std::mem;
+
+/// What the program is given, and what it has to answer.
+#[derive(Drop)]
+pub struct Case {
+    /// The command words.
+    pub words: Vec<String>,
+    /// What the source holds.
+    pub text: Vec<u8>,
+    /// How many bytes a read gives at the most.
+    pub per_read: u32,
+    /// The numbers of the reads that fail.
+    pub failing_reads: Vec<u32>,
+    /// How many bytes the sink has room for.
+    pub room: u32,
+    /// How many bytes a write takes at the most.
+    pub per_write: u32,
+    /// The numbers of the writes and flushes that fail.
+    pub failing_writes: Vec<u32>,
+    /// The events that the machine makes in place of a run, where they are given.
+    pub script: Option<Vec<ScriptLine>>,
+    /// The exit code.
+    pub exit: u8,
+    /// The parts of what is written, between which any lines may stand.
+    pub output: Vec<Sequence<u8>>,
+    ghost reads_some: { 0 < per_read },
+    ghost writes_some: { 0 < per_write },
+}
+
+/// What a case's lines add to.
+#[derive(Clone, Copy, PartialEq, Eq)]
+enum Open {
+    Nothing,
+    Text,
+    Output,
+    Script,
+}
+
+/// A case of which some lines were read.
+#[derive(Drop)]
+pub struct Draft {
+    case: Case,
+    /// The keywords that were given, each of which stands once.
+    given: Vec<String>,
+    open: Open,
+    /// The part of the text or output that is open.
+    part: Vec<u8>,
+    /// How many lines were taken.
+    lines: usize,
+    alloc: Global,
+}
+
+impl Case {
+    /// A case that gives nothing and wants nothing.
+    fn new(alloc: Global) -> Case {
+        Case {
+            words: Vec::new(alloc),
+            text: Vec::new(alloc),
+            per_read: 4_096,
+            failing_reads: Vec::new(alloc),
+            room: 4_194_304,
+            per_write: 4_096,
+            failing_writes: Vec::new(alloc),
+            script: None,
+            exit: 0,
+            output: Vec::new(alloc),
+        }
+    }
+}
+
+impl Draft {
+    /// A case of no lines.
+    pub fn new(alloc: Global) -> Draft {
+        Draft {
+            case: Case::new(alloc),
+            given: Vec::new(alloc),
+            open: Open::Nothing,
+            part: Vec::new(alloc),
+            lines: 0,
+            alloc,
+        }
+    }
+
+    /// Takes the next line.
+    pub fn take(&mut self, texts: &Texts, line: &str) -> Result<(), Trouble> {
+        let place = self.lines;
+        self.lines = place.saturating_add(1);
+        if is_silent(line) {
+            return Ok(());
+        }
+        if let Some(content) = line.strip_prefix("  ") {
+            return self.take_content(place, content);
+        }
+        let (keyword, rest) = line.split_once(' ').unwrap_or((line, ""));
+        match keyword {
+            "repeat" | "part" | "bytes" | "times" | "front" | "grants" | "counts" | "..." => {
+                self.add(keyword, rest)
+            }
+            _ => {
+                self.close()?;
+                self.give(keyword)?;
+                self.set(texts, keyword, rest)
+            }
+        }
+    }
+
+    /// Takes a line of a text, an output or a script.
+    fn take_content(&mut self, place: usize, content: &str) -> Result<(), Trouble> {
+        match &mut self.case.script {
+            Some(script) if self.open == Open::Script => {
+                script.push(script_line(self.alloc, place, content)?)?;
+            }
+            _ => {
+                self.is_open()?;
+                push_line(&mut self.part, content)?;
+            }
+        }
+        Ok(())
+    }
+
+    /// Notes a keyword, which wasn't given before.
+    fn give(&mut self, keyword: &str) -> Result<(), Trouble> {
+        if self.has(keyword) {
+            return Err(Trouble::Form(BadForm::Twice));
+        }
+        self.given.push(String::from_str(self.alloc, keyword)?)?;
+        Ok(())
+    }
+
+    /// Whether a keyword was given.
+    fn has(&self, keyword: &str) -> bool {
+        self.given.iter().any(|word| word.as_str() == keyword)
+    }
+
+    /// That a text or an output is open.
+    fn is_open(&self) -> Result<(), Trouble> {
+        match self.open {
+            Open::Text | Open::Output => Ok(()),
+            Open::Nothing | Open::Script => Err(Trouble::Form(BadForm::NoBlock)),
+        }
+    }
+
+    /// Ends the text or output that is open.
+    fn close(&mut self) -> Result<(), Trouble> {
+        let part = mem::replace(&mut self.part, Vec::new(self.alloc));
+        match self.open {
+            Open::Nothing | Open::Script => {}
+            Open::Text => self.case.text = part,
+            Open::Output => self.case.output.push(Sequence::from_vec(part))?,
+        }
+        self.open = Open::Nothing;
+        Ok(())
+    }
+
+    /// Adds to the text or output that is open.
+    fn add(&mut self, keyword: &str, rest: &str) -> Result<(), Trouble> {
+        self.is_open()?;
+        match keyword {
+            "repeat" => {
+                let (count, line) = rest.split_once(' ').unwrap_or((rest, ""));
+                push_copies(self.alloc, &mut self.part, number(count)?, line)?;
+            }
+            "part" => self.part.extend_from_slice(rest.as_bytes())?,
+            "bytes" => {
+                let bytes = bytes(self.alloc, rest)?;
+                self.part.extend_from_slice(bytes.as_slice())?;
+            }
+            "times" => self.part = copies(self.alloc, self.part.as_slice(), number(rest)?)?,
+            "front" => return self.cut(number(rest)?),
+            "grants" => push_grants(self.alloc, &mut self.part, rest)?,
+            "counts" => push_counts(self.alloc, &mut self.part, &counts(rest)?)?,
+            _ => return self.leave_out(),
+        }
+        Ok(())
+    }
+
+    /// Keeps only the first bytes.
+    fn cut(&mut self, length: u32) -> Result<(), Trouble> {
+        if self.part.len() < length as usize {
+            return Err(Trouble::Form(BadForm::Short));
+        }
+        self.part.truncate(length as usize);
+        Ok(())
+    }
+
+    /// Ends a part of the output, behind which any lines may stand.
+    fn leave_out(&mut self) -> Result<(), Trouble> {
+        if self.open != Open::Output {
+            return Err(Trouble::Form(BadForm::NoGap));
+        }
+        self.close()?;
+        self.open = Open::Output;
+        Ok(())
+    }
+
+    /// Sets what stands once in a case.
+    fn set(&mut self, texts: &Texts, keyword: &str, rest: &str) -> Result<(), Trouble> {
+        match keyword {
+            "text" => {
+                self.open = Open::Text;
+                self.begin_with(texts, rest)
+            }
+            "output" => {
+                self.open = Open::Output;
+                self.begin_with(texts, rest)
+            }
+            "script" if rest.is_empty() => {
+                self.open = Open::Script;
+                self.case.script = Some(Vec::new(self.alloc));
+                Ok(())
+            }
+            _ => self.set_value(keyword, rest),
+        }
+    }
+
+    /// Sets the words, the exit code, or what the source or the sink does.
+    fn set_value(&mut self, keyword: &str, rest: &str) -> Result<(), Trouble> {
+        match keyword {
+            "words" => self.case.words = words(self.alloc, rest)?,
+            "exit" => self.case.exit = exit_code(rest)?,
+            "reads" => self.case.per_read = positive(rest)?,
+            "writes" => self.case.per_write = positive(rest)?,
+            "room" => self.case.room = number(rest)?,
+            "failing-reads" => self.case.failing_reads = numbers(self.alloc, rest)?,
+            "failing-writes" => self.case.failing_writes = numbers(self.alloc, rest)?,
+            _ => return Err(Trouble::Form(BadForm::NoKeyword)),
+        }
+        Ok(())
+    }
+
+    /// Begins with nothing, or with what a file or the text of an earlier case holds.
+    fn begin_with(&mut self, texts: &Texts, rest: &str) -> Result<(), Trouble> {
+        if rest.is_empty() {
+            return Ok(());
+        }
+        let Some(name) = rest.strip_prefix("as ") else {
+            return Err(Trouble::Form(BadForm::NoKeyword));
+        };
+        match texts.find(name) {
+            Some(text) => self.part.extend_from_slice(text)?,
+            None => return Err(Trouble::Form(BadForm::UnknownText)),
+        }
+        Ok(())
+    }
+
+    /// The case of the lines that were taken.
+    pub fn finish(mut self) -> Result<Case, Trouble> {
+        self.close()?;
+        if !self.has("exit") {
+            return Err(Trouble::Form(BadForm::NoExit));
+        }
+        if !self.has("output") {
+            return Err(Trouble::Form(BadForm::NoOutput));
+        }
+        Ok(self.case)
+    }
+}
+
+/// Words with blanks between them.
+fn words(alloc: Global, text: &str) -> Result<Vec<String>, Trouble> {
+    let mut all = Vec::new(alloc);
+    for word in text.split_whitespace() {
+        all.push(String::from_str(alloc, word)?)?;
+    }
+    Ok(all)
+}

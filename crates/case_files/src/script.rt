@@ -1,0 +1,69 @@
+use case_texts::{BadForm, Trouble, number, positive};
+use dn_base::{BankId, CoreId, LoadSeen, WordId};
+use message_net::{Actor, Event, MailId};
+use std::alloc::Global;
+
+/// What a line of a script says.
+#[derive(Clone, Copy)]
+pub enum Said {
+    /// An event comes, so many times.
+    Comes(Event, u32),
+    /// The event before it was the retirement of this load.
+    Loads(LoadSeen),
+    /// A data word has this value.
+    Word(WordId, u32),
+}
+
+/// A line of a script, and its place among the lines of its case.
+#[derive(Clone, Copy)]
+pub struct ScriptLine {
+    pub place: usize,
+    pub said: Said,
+}
+
+/// The words of a line.
+fn words<'a>(alloc: Global, line: &'a str) -> Result<Vec<&'a str>, Trouble> {
+    let mut all = Vec::new(alloc);
+    for word in line.split_whitespace() {
+        all.push(word)?;
+    }
+    Ok(all)
+}
+
+/// The mail that an actor sent as its mail of this number, from 0.
+fn mail(sender: Actor, text: &str) -> Result<Event, Trouble> {
+    let number = number(text)?;
+    Ok(Event::Handle(MailId { sender, number }))
+}
+
+/// The event that these words name.
+fn event(words: &[&str]) -> Result<Event, Trouble> {
+    match words {
+        ["instr", core] => Ok(Event::Instr(CoreId(number(core)?))),
+        ["evict", core, word] => Ok(Event::Evict(CoreId(number(core)?), WordId(number(word)?))),
+        ["arrive", core] => Ok(Event::Arrive(CoreId(number(core)?))),
+        ["handle", "core", core, count] => mail(Actor::Core(CoreId(number(core)?)), count),
+        ["handle", "bank", bank, count] => mail(Actor::Bank(BankId(number(bank)?)), count),
+        ["handle", "keeper", count] => mail(Actor::Keeper, count),
+        _ => Err(Trouble::Form(BadForm::NoEvent)),
+    }
+}
+
+/// What these words say.
+fn saying(words: &[&str]) -> Result<Said, Trouble> {
+    match words {
+        ["loads", word, value] => Ok(Said::Loads(LoadSeen {
+            word: WordId(number(word)?),
+            value: number(value)?,
+        })),
+        ["word", word, value] => Ok(Said::Word(WordId(number(word)?), number(value)?)),
+        [front @ .., "times", count] => Ok(Said::Comes(event(front)?, positive(count)?)),
+        _ => Ok(Said::Comes(event(words)?, 1)),
+    }
+}
+
+/// The script's line that stands at a place.
+pub fn script_line(alloc: Global, place: usize, line: &str) -> Result<ScriptLine, Trouble> {
+    let said = saying(words(alloc, line)?.as_slice())?;
+    Ok(ScriptLine { place, said })
+}

@@ -1,0 +1,197 @@
+use crate::case::{Case, Draft};
+use case_texts::{
+    BadForm, Named, Section, Stop, Texts, Trouble, behind, filled, is_silent, rows, sections,
+};
+use dn_base::Memory;
+use std::alloc::Global;
+use std::str;
+
+/// What is done with the cases of the files.
+pub trait CaseRunner {
+    /// Runs a case, which the label names by its file, its line, its name and its columns.
+    fn run(&mut self, alloc: Global, label: &str, case: &Case) -> Result<(), Stop>;
+
+    /// Notes that a line of a file isn't of the form that it should be.
+    fn refuse(
+        &mut self,
+        alloc: Global,
+        file: &str,
+        line: usize,
+        why: BadForm,
+    ) -> Result<(), Memory>;
+}
+
+/// Where a case stands: its file, the number of its first line, and its name.
+#[derive(Clone, Copy)]
+struct Place<'a> {
+    file: &'a str,
+    first: usize,
+    name: &'a str,
+}
+
+/// The walk over the cases: who runs them, and the texts that they may begin with.
+#[derive(Drop)]
+struct Walk<'a, C: CaseRunner> {
+    runner: &'a mut C,
+    texts: Texts,
+    alloc: Global,
+}
+
+/// Runs the cases of all files whose names end in `.cases`.
+pub fn run_all<C: CaseRunner>(
+    alloc: Global,
+    files: &[Named],
+    runner: &mut C,
+) -> Result<(), Memory> {
+    let mut texts = Texts::new(alloc);
+    for file in files {
+        texts.add(alloc, file.name.as_str(), file.bytes.as_slice())?;
+    }
+    let mut walk = Walk {
+        runner,
+        texts,
+        alloc,
+    };
+    for file in files {
+        if file.name.ends_with(".cases") {
+            walk.run_file(file)?;
+        }
+    }
+    Ok(())
+}
+
+impl<C: CaseRunner> Walk<'_, C> {
+    /// Notes that a line isn't of the form that it should be.
+    fn refuse(&mut self, file: &str, line: usize, why: BadForm) -> Result<(), Memory> {
+        self.runner.refuse(self.alloc, file, line, why)
+    }
+
+    /// Runs the cases of a file.
+    fn run_file(&mut self, file: &Named) -> Result<(), Memory> {
+        let name = file.name.as_str();
+        let Ok(text) = str::from_utf8(file.bytes.as_slice()) else {
+            return self.refuse(name, 0, BadForm::NoText);
+        };
+        for section in sections(self.alloc, text)?.iter() {
+            self.run_section(name, section)?;
+        }
+        Ok(())
+    }
+
+    /// Runs the case of a section, once or for each of its rows. A section without a case has nothing to say.
+    fn run_section(&mut self, file: &str, section: &Section<'_>) -> Result<(), Memory> {
+        let first = section.first;
+        let Some((head, lines)) = section.lines.split_first() else {
+            return Ok(());
+        };
+        let Some(name) = behind(head, "case") else {
+            if section.lines.iter().all(|line| is_silent(line)) {
+                return Ok(());
+            }
+            return self.refuse(file, first, BadForm::NoKeyword);
+        };
+        if name.is_empty() {
+            return self.refuse(file, first, BadForm::NoName);
+        }
+        if self.texts.find(name).is_some() {
+            return self.refuse(file, first, BadForm::TakenName);
+        }
+        self.run_rows(&Place { file, first, name }, lines)
+    }
+
+    /// Runs a case once or for each of its rows. Its text is known from then on; of rows it is the last one's.
+    fn run_rows(&mut self, place: &Place<'_>, lines: &[&str]) -> Result<(), Memory> {
+        let each = lines
+            .iter()
+            .position(|line| behind(line, "each").is_some())
+            .unwrap_or(lines.len());
+        let (lines, rest) = lines.split_at(each);
+        let mut text = Vec::new(self.alloc);
+        match rows(self.alloc, rest) {
+            Ok(rows) if rows.is_empty() => text = self.run_case(place, lines, &[])?,
+            Ok(rows) => {
+                for row in rows.iter() {
+                    text = self.run_case(place, lines, row.as_slice())?;
+                }
+            }
+            Err(why) => self.note(place, Stop { place: each, why })?,
+        }
+        self.texts.add(self.alloc, place.name, text.as_slice())?;
+        Ok(())
+    }
+
+    /// Runs a case with these columns, and gives its text.
+    fn run_case(
+        &mut self,
+        place: &Place<'_>,
+        lines: &[&str],
+        row: &[String],
+    ) -> Result<Vec<u8>, Memory> {
+        let case = match read_case(self.alloc, lines, row, &self.texts) {
+            Ok(case) => case,
+            Err(stop) => {
+                self.note(place, stop)?;
+                return Ok(Vec::new(self.alloc));
+            }
+        };
+        let label = label(self.alloc, place, row)?;
+        if let Err(stop) = self.runner.run(self.alloc, label.as_str(), &case) {
+            self.note(place, stop)?;
+        }
+        Ok(case.text)
+    }
+
+    /// Notes that a case wasn't run to its end.
+    fn note(&mut self, place: &Place<'_>, stop: Stop) -> Result<(), Memory> {
+        match stop.why {
+            Trouble::Form(why) => {
+                let line = place.first.saturating_add(stop.place).saturating_add(1);
+                self.refuse(place.file, line, why)
+            }
+            Trouble::Memory => Err(Memory),
+        }
+    }
+}
+
+/// The case of these lines, with these columns filled in.
+fn read_case(alloc: Global, lines: &[&str], row: &[String], texts: &Texts) -> Result<Case, Stop> {
+    let mut draft = Draft::new(alloc);
+    for (place, line) in lines.iter().enumerate() {
+        if let Err(why) = take_filled(alloc, &mut draft, line, row, texts) {
+            return Err(Stop { place, why });
+        }
+    }
+    match draft.finish() {
+        Ok(case) => Ok(case),
+        Err(why) => Err(Stop {
+            place: lines.len().saturating_sub(1),
+            why,
+        }),
+    }
+}
+
+/// Takes a line, with these columns filled in where there are any.
+fn take_filled(
+    alloc: Global,
+    draft: &mut Draft,
+    line: &str,
+    row: &[String],
+    texts: &Texts,
+) -> Result<(), Trouble> {
+    if row.is_empty() {
+        draft.take(texts, line)
+    } else {
+        draft.take(texts, filled(alloc, line, row)?.as_str())
+    }
+}
+
+/// What a case is called in the report: its file, its line and its name, and its columns.
+fn label(alloc: Global, place: &Place<'_>, row: &[String]) -> Result<String, Memory> {
+    let Place { file, first, name } = *place;
+    let mut out = format!(in alloc; "{file}:{first}: {name}")?;
+    for column in row {
+        out.push_str(" | ")?;
+        out.push_str(column.as_str())?;
+    }
+    Ok(out)
+}

@@ -1,0 +1,69 @@
+ghost use Rattle.command_words.specs.Command.{IsWithinLimits};
+
+use crate::opening::{open, options_of, program};
+use crate::stepping::Stepping;
+use case_files::Case;
+use case_report::Comparison;
+use case_texts::Trouble;
+use command_words::{Mode, Options};
+use dn_machine::RunRecord;
+use effect_checker::Checked;
+use flat_machine::{TaskLoads, flat};
+use message_net::Event;
+use rv_core::Ending;
+use std::alloc::Global;
+use stepped_runs::{are_loads, replayed};
+
+/// Whether two endings are the same.
+fn is_same(a: &Ending, b: &Ending) -> bool {
+    a.outcome == b.outcome
+        && a.tasks.as_slice() == b.tasks.as_slice()
+        && a.memory.as_slice() == b.memory.as_slice()
+}
+
+/// Whether the events of a run, which the machine of these options makes once more, load what these tasks load, and nothing else.
+fn loads_alike(
+    alloc: Global,
+    checked: Checked,
+    options: &Options,
+    events: &[Event],
+    tasks: &[TaskLoads],
+) -> Result<bool, Trouble>
+    requires { IsWithinLimits options.now }
+{
+    let machine = open(alloc, checked, options)?;
+    let loads = replayed(alloc, &mut Stepping { machine }, events)?;
+    Ok(are_loads(alloc, loads.as_slice(), tasks)?)
+}
+
+/// Compares a run of a program on the machine of these options with the flat machine's run by its grants.
+fn compared(
+    alloc: Global,
+    checked: Checked,
+    options: &Options,
+    run: &RunRecord,
+) -> Result<Comparison, Trouble>
+    requires { IsWithinLimits options.now }
+{
+    let Some(end) = flat(alloc, &checked, options.fuel, run.grants.as_slice())? else {
+        return Ok(Comparison::NoFlatRun);
+    };
+    if !is_same(&end.ending, &run.ending) {
+        return Ok(Comparison::OtherEnding);
+    }
+    let (events, tasks) = (run.events.as_slice(), end.loads.as_slice());
+    if !loads_alike(alloc, checked, options, events, tasks)? {
+        return Ok(Comparison::OtherLoads);
+    }
+    Ok(Comparison::Agrees)
+}
+
+/// Compares the run of a case with the flat machine's run by its grants; None where the case has no text of its own to run.
+pub fn compare(alloc: Global, case: &Case, run: &RunRecord) -> Result<Option<Comparison>, Trouble> {
+    let options = options_of(alloc, case)?;
+    if options.mode != Mode::Run {
+        return Ok(None);
+    }
+    let checked = program(alloc, case.text.as_slice())?;
+    Ok(Some(compared(alloc, checked, &options, run)?))
+}

@@ -1,0 +1,90 @@
+use crate::numeral::number;
+use crate::section::{behind, is_silent};
+use crate::trouble::{BadForm, Trouble};
+use std::alloc::Global;
+
+/// The rows for each of which a case stands, as lists of columns.
+pub fn rows(alloc: Global, lines: &[&str]) -> Result<Vec<Vec<String>>, Trouble> {
+    let Some((first, others)) = lines.split_first() else {
+        return Ok(Vec::new(alloc));
+    };
+    match behind(first, "each") {
+        Some("") => listed(alloc, others),
+        Some(range) => counted(alloc, range, others),
+        None => Err(Trouble::Form(BadForm::NoRow)),
+    }
+}
+
+/// A row for each line.
+fn listed(alloc: Global, lines: &[&str]) -> Result<Vec<Vec<String>>, Trouble> {
+    let mut rows = Vec::new(alloc);
+    for line in lines {
+        if !is_silent(line) {
+            match line.strip_prefix("  ") {
+                Some(row) => rows.push(columns(alloc, row)?)?,
+                None => return Err(Trouble::Form(BadForm::NoRow)),
+            }
+        }
+    }
+    if rows.is_empty() {
+        return Err(Trouble::Form(BadForm::NoRow));
+    }
+    Ok(rows)
+}
+
+/// The columns of a row.
+fn columns(alloc: Global, row: &str) -> Result<Vec<String>, Trouble> {
+    let mut columns = Vec::new(alloc);
+    for column in row.split('|') {
+        columns.push(String::from_str(alloc, column.trim_ascii())?)?;
+    }
+    Ok(columns)
+}
+
+/// A row for each number of a range.
+fn counted(alloc: Global, range: &str, others: &[&str]) -> Result<Vec<Vec<String>>, Trouble> {
+    let Some((from, to)) = range.split_once(" to ") else {
+        return Err(Trouble::Form(BadForm::NoRow));
+    };
+    if !others.iter().all(|line| is_silent(line)) {
+        return Err(Trouble::Form(BadForm::NoRow));
+    }
+    let mut rows = Vec::new(alloc);
+    for row in number(from)?..=number(to)? {
+        let mut columns = Vec::new(alloc);
+        columns.push(row.to_string(alloc)?)?;
+        rows.push(columns)?;
+    }
+    if rows.is_empty() {
+        return Err(Trouble::Form(BadForm::NoRow));
+    }
+    Ok(rows)
+}
+
+/// A line with its columns in place of `$1`, `$2` and so on.
+pub fn filled(alloc: Global, line: &str, columns: &[String]) -> Result<String, Trouble> {
+    let mut out = String::new(alloc);
+    let mut pieces = line.split('$');
+    if let Some(front) = pieces.next() {
+        out.push_str(front)?;
+    }
+    for piece in pieces {
+        push_filled(&mut out, piece, columns)?;
+    }
+    Ok(out)
+}
+
+/// Adds what stands behind a `$`, whose first byte is the number of a column.
+fn push_filled(out: &mut String, piece: &str, columns: &[String]) -> Result<(), Trouble> {
+    let mut rest = piece.chars();
+    let column = match rest.next() {
+        Some(digit @ '1'..='9') => columns.get(digit as usize - '1' as usize),
+        _ => None,
+    };
+    match column {
+        Some(column) => out.push_str(column.as_str())?,
+        None => return Err(Trouble::Form(BadForm::NoColumn)),
+    }
+    out.push_str(rest.as_str())?;
+    Ok(())
+}

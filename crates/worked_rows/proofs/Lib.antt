@@ -1,2 +1,0 @@
-mod RepeatLemmas
-mod StandingLemmas

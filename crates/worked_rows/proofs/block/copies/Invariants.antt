@@ -1,6 +1,0 @@
-use Rattle.std.proofs.Common.{◌≡◌}
-use Rattle.std.specs.List.{repeat}
-use Rattle.worked_rows.proofs.block.copies.Given as goal
-
-abbrev pub invariant-loop-copy : goal.invariant-loop-copy
-invariant-loop-copy l = l.all.items ≡ repeat l._copy l.bytes
