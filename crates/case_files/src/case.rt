@@ -1,10 +1,12 @@
 ghost use Rattle.std.specs.Prelude.{◌<◌};
 
+use crate::block::{copies, push_copies, push_grants, push_line};
+use crate::event_kinds::{counts, push_counts};
+use crate::numeral::{bytes, exit_code, number, numbers, positive};
 use crate::script::{ScriptLine, script_line};
-use case_texts::{
-    BadForm, Texts, Trouble, bytes, copies, counts, exit_code, is_silent, number, numbers,
-    positive, push_copies, push_counts, push_grants, push_line,
-};
+use crate::section::is_silent;
+use crate::texts::Texts;
+use crate::trouble::{BadForm, Trouble};
 use dn_base::Sequence;
 use std::alloc::Global;
 use std::mem;

@@ -1,10 +1,21 @@
-//! The cases of the case files: what the program is given in each, what it has to answer, and the walk over all of them.
+//! The cases of the case files: what the program is given in each, what it has to answer, what may be wrong with a line, and the
+//! walk over all cases.
 #![tactic(auto)]
 
+mod block;
 mod case;
+mod event_kinds;
+mod numeral;
+mod row;
 mod script;
+mod section;
+mod texts;
+mod trouble;
 mod walking;
 
 pub use case::Case;
+pub use event_kinds::{KINDS, counted, push_counts};
 pub use script::{Said, ScriptLine};
+pub use texts::Named;
+pub use trouble::{BadForm, Stop, Trouble};
 pub use walking::{CaseRunner, run_all};

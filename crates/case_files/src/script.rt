@@ -1,4 +1,5 @@
-use case_texts::{BadForm, Trouble, number, positive};
+use crate::numeral::{number, positive};
+use crate::trouble::{BadForm, Trouble};
 use dn_base::{BankId, CoreId, LoadSeen, WordId};
 use message_net::{Actor, Event, MailId};
 use std::alloc::Global;

@@ -1,7 +1,8 @@
 use crate::case::{Case, Draft};
-use case_texts::{
-    BadForm, Named, Section, Stop, Texts, Trouble, behind, filled, is_silent, rows, sections,
-};
+use crate::row::{filled, rows};
+use crate::section::{Section, behind, is_silent, sections};
+use crate::texts::{Named, Texts};
+use crate::trouble::{BadForm, Stop, Trouble};
 use dn_base::Memory;
 use std::alloc::Global;
 use std::str;
@@ -179,10 +180,10 @@ fn take_filled(
     texts: &Texts,
 ) -> Result<(), Trouble> {
     if row.is_empty() {
-        draft.take(texts, line)
-    } else {
-        draft.take(texts, filled(alloc, line, row)?.as_str())
+        return draft.take(texts, line);
     }
+    let line = filled(alloc, line, row)?;
+    draft.take(texts, line.as_str())
 }
 
 /// What a case is called in the report: its file, its line and its name, and its columns.

@@ -2,9 +2,8 @@ ghost use Rattle.command_words.specs.Command.{IsWithinLimits};
 
 use crate::opening::{open, options_of, program};
 use crate::stepping::Stepping;
-use case_files::Case;
+use case_files::{Case, Trouble};
 use case_report::Comparison;
-use case_texts::Trouble;
 use command_words::{Mode, Options};
 use dn_machine::RunRecord;
 use effect_checker::Checked;

@@ -1,8 +1,7 @@
 ghost use Rattle.std.specs.Prelude.{◌≡◌, IfOk};
 ghost use Rattle.command_words.specs.Command.{IsWithinLimits};
 
-use case_files::Case;
-use case_texts::{BadForm, Trouble};
+use case_files::{BadForm, Case, Trouble};
 use command_words::{Options, WordsFault, read_words};
 use dn_base::{Memory, Shape};
 use dn_machine::Machine;

@@ -1,8 +1,7 @@
 use crate::opening::{NO_MACHINE, open, options_of, program};
 use crate::stepping::Stepping;
-use case_files::{Case, ScriptLine};
+use case_files::{Case, ScriptLine, Stop, Trouble};
 use case_report::Written;
-use case_texts::{Stop, Trouble};
 use dn_base::Sequence;
 use dn_machine::RunRecord;
 use std::alloc::Global;

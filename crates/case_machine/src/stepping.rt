@@ -1,7 +1,7 @@
 ghost use Rattle.std.specs.Prelude.{◌≡◌, true, OnOk};
 ghost use Rattle.machine_rules.specs.Next.{next, enabled};
 
-use case_texts::{BadForm, Trouble};
+use case_files::{BadForm, Trouble};
 use dn_base::{CoreId, WordId};
 use dn_machine::Machine;
 use machine_rules::Stepped;

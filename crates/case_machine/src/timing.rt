@@ -1,7 +1,6 @@
 use crate::opening::{open, options_of, program};
 use crate::stepping::Stepping;
-use case_files::Case;
-use case_texts::Trouble;
+use case_files::{Case, Trouble};
 use command_words::Mode;
 use message_net::Event;
 use std::alloc::Global;

@@ -1,7 +1,7 @@
 ghost use Rattle.std.specs.Prelude.{◌↔◌, ◌<◌, IsTrue};
 ghost use Rattle.std.specs.List.{All};
 
-use case_texts::{KINDS, counted};
+use case_files::{KINDS, counted};
 use std::alloc::{AllocError, Global};
 use std::str;
 

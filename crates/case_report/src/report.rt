@@ -2,8 +2,7 @@ use crate::agreement::stand_in;
 use crate::comparison::Comparison;
 use crate::reach::Reach;
 use crate::written::Written;
-use case_files::Case;
-use case_texts::BadForm;
+use case_files::{BadForm, Case};
 use std::alloc::{AllocError, Global};
 
 /// How many cases agree, and what is said of those that don't.

@@ -1,5 +1,5 @@
 use crate::event_machine::EventMachine;
-use case_texts::Trouble;
+use case_files::Trouble;
 use dn_base::Memory;
 use message_net::{Actor, Event, EventKind};
 use std::alloc::Global;

@@ -1,4 +1,4 @@
-use case_texts::Trouble;
+use case_files::Trouble;
 use dn_base::{CoreId, WordId};
 use machine_rules::Stepped;
 use message_net::{Actor, Event};

@@ -2,7 +2,7 @@ ghost use Rattle.std.specs.Prelude.{◌≡◌};
 ghost use Rattle.stepped_runs.specs.Compared.{load_of};
 
 use crate::event_machine::EventMachine;
-use case_texts::Trouble;
+use case_files::Trouble;
 use dn_base::{CoreId, LoadSeen, Memory, PhaseId};
 use flat_machine::TaskLoads;
 use machine_rules::Stepped;

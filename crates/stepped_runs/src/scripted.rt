@@ -1,7 +1,6 @@
 use crate::event_machine::EventMachine;
-use case_files::{Said, ScriptLine};
+use case_files::{BadForm, Said, ScriptLine, Stop, Trouble, push_counts};
 use case_report::Written;
-use case_texts::{BadForm, Stop, Trouble, push_counts};
 use dn_base::{CoreId, Grant, LoadSeen, Memory, Sequence, Status, WordId};
 use grant_log::Counts;
 use machine_rules::Stepped;

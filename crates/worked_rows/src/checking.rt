@@ -1,8 +1,7 @@
 use crate::running::run;
-use case_files::{Case, CaseRunner};
+use case_files::{BadForm, Case, CaseRunner, Stop, Trouble};
 use case_machine::{Got, judge, play};
 use case_report::Report;
-use case_texts::{BadForm, Stop, Trouble};
 use dn_base::Memory;
 use std::alloc::Global;
 use std::sync::Wait;

@@ -1,4 +1,4 @@
-use case_texts::Named;
+use case_files::Named;
 use std::rt::Files;
 use std::{fs, io};
 
