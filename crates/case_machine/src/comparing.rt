@@ -9,16 +9,8 @@ use dn_machine::RunRecord;
 use effect_checker::Checked;
 use flat_machine::{TaskLoads, flat};
 use message_net::Event;
-use rv_core::Ending;
 use std::alloc::Global;
-use stepped_runs::{are_loads, replayed};
-
-/// Whether two endings are the same.
-fn is_same(a: &Ending, b: &Ending) -> bool {
-    a.outcome == b.outcome
-        && a.tasks.as_slice() == b.tasks.as_slice()
-        && a.memory.as_slice() == b.memory.as_slice()
-}
+use stepped_runs::{are_loads, is_same, replayed};
 
 /// Whether the events of a run, which the machine of these options makes once more, load what these tasks load, and nothing else.
 fn loads_alike(

@@ -1,10 +1,38 @@
+ghost use Rattle.command_words.specs.Command.{IsWithinLimits};
+
 use crate::opening::{open, options_of, program};
 use crate::stepping::Stepping;
 use case_files::{Case, Trouble};
-use command_words::Mode;
+use command_words::{Mode, Options};
+use effect_checker::Checked;
 use message_net::Event;
 use std::alloc::Global;
-use stepped_runs::{MOST_EVENTS, PlaceTicks, is_slowest};
+use stepped_runs::{MOST_TIMED_EVENTS, PlaceTicks, is_slowest};
+
+/// The ticks of each place that options ask for.
+fn ticks_of(options: &Options) -> PlaceTicks {
+    PlaceTicks {
+        core: options.tick_core,
+        bank: options.tick_bank,
+        mail: options.tick_mail,
+    }
+}
+
+/// Whether an output tells how long a run of a program on the machine of these options takes.
+fn is_told(
+    alloc: Global,
+    checked: Checked,
+    options: &Options,
+    output: &[u8],
+    events: &[Event],
+) -> Result<bool, Trouble>
+    requires { IsWithinLimits options.now }
+{
+    let mut machine = Stepping {
+        machine: open(alloc, checked, options)?,
+    };
+    is_slowest(alloc, &mut machine, output, events, ticks_of(options))
+}
 
 /// Whether a case told how long its run takes, by a search of all chains of its events; None where the words ask for no time, or
 /// there are too many events.
@@ -15,16 +43,9 @@ pub fn is_time_right(
     events: &[Event],
 ) -> Result<Option<bool>, Trouble> {
     let options = options_of(alloc, case)?;
-    if options.mode != Mode::Time || MOST_EVENTS < events.len() {
+    if options.mode != Mode::Time || MOST_TIMED_EVENTS < events.len() {
         return Ok(None);
     }
-    let ticks = PlaceTicks {
-        core: options.tick_core,
-        bank: options.tick_bank,
-        mail: options.tick_mail,
-    };
     let checked = program(alloc, case.text.as_slice())?;
-    let machine = open(alloc, checked, &options)?;
-    let is_slowest = is_slowest(alloc, &mut Stepping { machine }, output, events, ticks)?;
-    Ok(Some(is_slowest))
+    Ok(Some(is_told(alloc, checked, &options, output, events)?))
 }

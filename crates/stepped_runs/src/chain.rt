@@ -6,7 +6,7 @@ use std::alloc::Global;
 use std::str;
 
 /// The most events of which all chains are tried: they have 65,536 sets.
-pub const MOST_EVENTS: usize = 16;
+pub const MOST_TIMED_EVENTS: usize = 16;
 
 /// An event that came: who made it, its ticks, and which of the run's events handle a mail that was in flight before it and
 /// behind it.

@@ -7,6 +7,7 @@ use dn_base::{CoreId, LoadSeen, Memory, PhaseId};
 use flat_machine::TaskLoads;
 use machine_rules::Stepped;
 use message_net::{Actor, Event, EventKind};
+use rv_core::Ending;
 use std::alloc::Global;
 
 /// A load that the task of a core completed in a phase.
@@ -62,6 +63,13 @@ pub fn replayed<M: EventMachine>(
         }
     }
     Ok(replay.loads)
+}
+
+/// Whether two endings are the same.
+pub fn is_same(a: &Ending, b: &Ending) -> bool {
+    a.outcome == b.outcome
+        && a.tasks.as_slice() == b.tasks.as_slice()
+        && a.memory.as_slice() == b.memory.as_slice()
 }
 
 /// The load, where it is of the task of this core in this phase.
