@@ -102,6 +102,9 @@ def a_run_is_drawn_by_a_pipe():
             ran = run(["bash", "-o", "pipefail", "-c", line])
             wanted = pathlib.Path("docs/charts", example + ".svg").read_bytes()
             check(line, (ran.returncode, ran.stdout) == (0, wanted))
+        document = run(denovo + ["--mode", "trace"], text_of("store-five")).stdout
+        ran = run(chart, document[:document.rindex(b"\n", 0, -1) + 1].replace(b"\nevents 10\n", b"\nevents 9\n"))
+        check(f"{chart[0]}: a run without its last event isn't drawn", (ran.returncode, ran.stdout) == (2, b"refused trace incomplete\n"))
 
 
 def standard_error_helps():
