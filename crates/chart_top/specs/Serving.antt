@@ -1,8 +1,10 @@
 -- What a call of the program reads and writes, and what its status says of that.
 use Rattle.std.specs.Prelude.{◌≡◌, ◌⊎◌, ℕ, List, Option, Some, None}
+use Rattle.std.specs.declared.process.ExitCode.{ExitCode}
 use Rattle.dn_base.specs.declared.status.Status.{Status}
 use Rattle.dn_base.specs.declared.status.Status as status
 use Rattle.dn_top.specs.Answers.{usage_line}
+use Rattle.dn_top.specs.ExitCodes.{IsCodeOf}
 use Rattle.dn_top.specs.Outside.{Device, Devices, Failed, IsUntouched, IsRead, Took, TookNothing, TookFront}
 use Rattle.chart_top.specs.declared.answering.Output.{Output}
 use Rattle.chart_top.specs.declared.options.Options.{Options}
@@ -49,3 +51,9 @@ Serves None before after told =
     IsUntouched before.source after.source × (IsWritten usage before.sink after.sink told ⊎ IsStarved before.sink after.sink told)
 Serves (Some o) before after told =
     IsServed o before after told ⊎ (IsUnread before after told ⊎ IsStarved before.sink after.sink told)
+
+-- such a call ended with the exit code of the status that it told
+pub record HasEnded (wanted : Option Options) (before after : Devices) (code : ExitCode) : Type 0 where
+  pub told : Status
+  pub serves : Serves wanted before after told
+  pub ends : IsCodeOf told code

@@ -4,11 +4,13 @@
 mod answering;
 mod command;
 mod options;
+mod program;
 mod reading;
 mod serving;
 
 pub use answering::{Output, answer};
 pub use command_words::WordsFault;
 pub use options::Options;
+pub use program::chart_program;
 pub use reading::read_words;
 pub use serving::chart_main;

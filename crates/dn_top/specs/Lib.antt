@@ -1,5 +1,6 @@
 pub mod Answers
 pub mod Documents
+pub mod ExitCodes
 pub mod Laws
 pub mod Outside
 pub mod Runs

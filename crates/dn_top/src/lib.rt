@@ -18,6 +18,7 @@ mod answers;
 mod documents;
 mod laws;
 mod output;
+mod program;
 mod programs;
 mod reading;
 mod runs;
@@ -32,6 +33,7 @@ pub use laws::{
     a_trace_replays_as_its_run, an_outcome_has_its_cause,
     the_output_is_a_function_of_source_and_options, without_locks_every_run_ends_alike,
 };
+pub use program::denovo_program;
 pub use programs::{Stop, checked_of};
 pub use reading::{ReadError, read_text};
 pub use serving::Answer;

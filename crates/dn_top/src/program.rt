@@ -1,0 +1,47 @@
+ghost use Rattle.std.specs.Prelude.{map, string_bytes};
+ghost use Rattle.command_words.specs.Command.{options_of};
+ghost use Rattle.dn_top.specs.ExitCodes.{HasEnded, IsExitCode};
+ghost use Rattle.dn_top.specs.Outside.{devices};
+
+use crate::denovo_main;
+use command_words::{NO_WORDS, given_words};
+use dn_base::{OpenGate, Sink, Source, StdSink, StdSource};
+use std::alloc::Global;
+use std::io;
+use std::process::ExitCode;
+use std::rt::Env;
+use std::sync::Wait;
+use std::thread::Threads;
+
+/// Answers these command words and this source, and ends with the exit code of the answer's status.
+fn ended<R: Threads + Wait + Sync, S: Source, K: Sink>(
+    rt: &R,
+    alloc: Global,
+    words: &[String],
+    source: &mut S,
+    sink: &mut K,
+) -> ExitCode
+    ensures { HasEnded (options_of (map string_bytes words.now))
+        (devices (S.told source.old) (S.faults source.old) (K.told sink.old) (K.faults sink.old))
+        (devices (S.told source.new) (S.faults source.new) (K.told sink.new) (K.faults sink.new)) result }
+{
+    let answer = denovo_main(rt, alloc, words, source, sink, &OpenGate);
+    ExitCode::from(answer.status.code())
+}
+
+/// The program denovo: what `denovo_main` answers to the words that the runtime gives, to standard input and standard output.
+///
+/// The exit code is that of the answer's status, or 9 where the runtime can't give the words; nothing is then read or written. No
+/// contract can say which words the runtime gives, and what standard input gave and standard output took.
+pub fn denovo_program<R: Env + Input + Print + AllocGlobal + Threads + Wait + Sync>(
+    rt: &R,
+) -> ExitCode
+    ensures { IsExitCode result }
+{
+    let Ok(words) = given_words(rt) else {
+        return ExitCode::from(NO_WORDS);
+    };
+    let mut source = StdSource::new(rt.reader());
+    let mut sink = StdSink::new(io::writer(rt));
+    ended(rt, rt.alloc(), words.as_slice(), &mut source, &mut sink)
+}
