@@ -10,7 +10,7 @@ use Rattle.dn_top.specs.declared.serving.Answer.{Answer}
 use Rattle.dn_top.specs.Answers.{answered, most_read, IsRefusal, IsAnswer, IsOutcome, usage_line}
 use Rattle.dn_top.specs.Outside.{Device, Devices, Failed, IsUntouched, Took, TookNothing, TookFront}
 use Rattle.dn_top.specs.Serving.{text_for, IsRunWith, HandsBack, HasDone, HasRefused, HasFailed, HasStatus, has_stopped, Serves, IsFinished, IsReplied, IsStarved, IsUnread, IsDoneBy, bare}
-use Rattle.dn_top.proofs.Statuses.{other, outcome-other, answer-other, answer-done, answer-refused, answer-no_run, done-comes, done-run}
+use Rattle.dn_top.proofs.Statuses.{other, outcome-other, answer-other, answer-done, answer-refused, answer-no_run, done-comes, done-plain, done-run}
 use Rattle.dn_top.proofs.Fronts.{AnswersAlike, taken-alike}
 
 if-some : {X : Type 0} (o : Option X) (P Q : X → Type 0) → ((x : X) → P x → Q x) → IfSome o P → IfSome o Q
@@ -143,6 +143,7 @@ module _ (o : Options) (before after : Devices) (answer : Answer) where
       record {
         comes = ap is_some w.run ∙ done-comes o.mode o served.text w.out done;
         run = subst (λ (r : Option RunRecord). IfSome r (IsRunWith o.mode o answer.status)) (sym w.run) run;
+        done = λ none. w.ends ∙ done-plain o.mode o served.text w.out done none;
       }
 
   refused-clause : IsDoneBy o before after answer → answer.status ≡ status.TheVariants.SourceRefused → IfSome (text_for o before.source) (λ t. HasRefused o before after t)

@@ -10,7 +10,7 @@ use Rattle.command_words.specs.declared.options.Mode as mode
 use Rattle.command_words.specs.declared.options.Options.{Options}
 use Rattle.dn_top.specs.declared.output.Output.{Output}
 use Rattle.dn_top.specs.Serving.{IsRunWith}
-use Rattle.dn_top.specs.Answers.{done_in, makes_run, IsDone, IsRefusal, IsAnswer, IsOutcome}
+use Rattle.dn_top.specs.Answers.{done_in, makes_run, runs_tasks, IsDone, IsRefusal, IsAnswer, IsOutcome}
 
 -- whether a status is a refusal's
 refuses : Status → Bool
@@ -77,25 +77,37 @@ done-comes mode.TheVariants.Replay o text out h = ap (λ (x : Output). is_some x
 done-comes mode.TheVariants.Time o text out h = ap (λ (x : Output). is_some x.run) h.holds.timed.answer
 done-comes mode.TheVariants.Prove o text out h = ap (λ (x : Output). is_some x.run) h.holds.answer
 
+-- where no task is run the outcome is Done
+pub done-plain : (m : Mode) (o : Options) (text : List ℕ) (out : Output) → done_in m o text out → runs_tasks m ≡ false → out.status ≡ status.TheVariants.Done
+done-plain mode.TheVariants.Run o text out h runs = absurd cc
+done-plain mode.TheVariants.Work o text out h runs = absurd cc
+done-plain mode.TheVariants.Check o text out h none = status_in out _ h.holds
+done-plain mode.TheVariants.List o text out h none = status_in out _ h.holds.answer
+done-plain mode.TheVariants.Flat o text out h runs = absurd cc
+done-plain mode.TheVariants.Trace o text out h runs = absurd cc
+done-plain mode.TheVariants.Replay o text out h runs = absurd cc
+done-plain mode.TheVariants.Time o text out h runs = absurd cc
+done-plain mode.TheVariants.Prove o text out h none = status_in out _ h.holds.answer
+
 -- the run is one that the mode makes
 abbrev RunsWell : Mode → Options → Output → Type 0
 RunsWell m o out = IfSome out.run (IsRunWith m o out.status)
 
 pub done-run : (m : Mode) (o : Options) (text : List ℕ) (out : Output) → done_in m o text out → IfSome out.run (IsRunWith m o out.status)
 done-run mode.TheVariants.Run o text out h =
-    subst (RunsWell mode.TheVariants.Run o) (sym h.holds.answer) (record { program = h.program; checked = h.checked; run = h.holds.is.run; ends = refl })
+    subst (RunsWell mode.TheVariants.Run o) (sym h.holds.answer) (record { program = h.program; checked = h.checked; run = h.holds.is; ends = refl })
 done-run mode.TheVariants.Work o text out h =
-    subst (RunsWell mode.TheVariants.Work o) (sym h.holds.answer) (record { program = h.program; checked = h.checked; run = h.holds.is.run; ends = refl })
+    subst (RunsWell mode.TheVariants.Work o) (sym h.holds.answer) (record { program = h.program; checked = h.checked; run = h.holds.is; ends = refl })
 done-run mode.TheVariants.Check o text out h = subst (RunsWell mode.TheVariants.Check o) (sym h.holds) tt
 done-run mode.TheVariants.List o text out h = subst (RunsWell mode.TheVariants.List o) (sym h.holds.answer) tt
 done-run mode.TheVariants.Flat o text out h = subst (RunsWell mode.TheVariants.Flat o) (sym h.holds.answer) tt
 done-run mode.TheVariants.Trace o text out h =
-    subst (RunsWell mode.TheVariants.Trace o) (sym h.holds.answer) (record { program = h.program; checked = h.checked; run = h.holds.is.run; ends = refl })
+    subst (RunsWell mode.TheVariants.Trace o) (sym h.holds.answer) (record { program = h.program; checked = h.checked; run = h.holds.is; ends = refl })
 done-run mode.TheVariants.Replay o text out h =
     subst (RunsWell mode.TheVariants.Replay o) (sym h.holds.holds.answer)
     (record { program = h.holds.program; checked = h.holds.checked; run = (h.trace.shape, h.is.told.head.shape, h.holds.holds.is); ends = refl })
 done-run mode.TheVariants.Time o text out h =
-    subst (RunsWell mode.TheVariants.Time o) (sym h.holds.timed.answer) (record { program = h.program; checked = h.checked; run = h.holds.is.run; ends = refl })
+    subst (RunsWell mode.TheVariants.Time o) (sym h.holds.timed.answer) (record { program = h.program; checked = h.checked; run = h.holds.is; ends = refl })
 done-run mode.TheVariants.Prove o text out h = subst (RunsWell mode.TheVariants.Prove o) (sym h.holds.answer) tt
 
 -- an answer with another status hands no run back

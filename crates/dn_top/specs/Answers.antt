@@ -179,6 +179,18 @@ makes_run mode.TheVariants.Replay = true
 makes_run mode.TheVariants.Time = true
 makes_run mode.TheVariants.Prove = false
 
+-- whether a mode runs the program's tasks; where it doesn't its one outcome is Done
+abbrev pub runs_tasks : Mode → Bool
+runs_tasks mode.TheVariants.Run = true
+runs_tasks mode.TheVariants.Work = true
+runs_tasks mode.TheVariants.Check = false
+runs_tasks mode.TheVariants.List = false
+runs_tasks mode.TheVariants.Flat = true
+runs_tasks mode.TheVariants.Trace = true
+runs_tasks mode.TheVariants.Replay = true
+runs_tasks mode.TheVariants.Time = true
+runs_tasks mode.TheVariants.Prove = false
+
 -- ---- answers
 
 -- the output that something done comes to: a refusal is its line, and where there was no memory there is none

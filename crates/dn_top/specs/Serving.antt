@@ -1,5 +1,5 @@
 -- What a call of the program reads and writes, and what its status says of that.
-use Rattle.std.specs.Prelude.{◌≡◌, ◌⊎◌, ℕ, List, [], Option, Some, None, IfSome, is_some, option_and_then}
+use Rattle.std.specs.Prelude.{◌≡◌, ◌⊎◌, ℕ, false, List, [], Option, Some, None, IfSome, is_some, option_and_then}
 use Rattle.dn_base.specs.declared.status.Status.{Status}
 use Rattle.dn_base.specs.declared.status.Status as status
 use Rattle.dn_base.specs.Status.{status_of}
@@ -16,8 +16,8 @@ use Rattle.dn_top.specs.declared.output.Output.{Output}
 use Rattle.dn_top.specs.declared.reading.ReadError as reading
 use Rattle.dn_top.specs.declared.reading.ReadError.{ReadError}
 use Rattle.dn_top.specs.declared.serving.Answer.{Answer}
-use Rattle.dn_top.specs.Answers.{most_read, makes_run, IsDone, IsRefusal, IsAnswer, IsOutcome, usage_line}
-use Rattle.dn_top.specs.Runs.{IsRunOf, IsAnyRunFor}
+use Rattle.dn_top.specs.Answers.{most_read, makes_run, runs_tasks, IsDone, IsRefusal, IsAnswer, IsOutcome, usage_line}
+use Rattle.dn_top.specs.Runs.{IsRunOf, IsRunFor}
 use Rattle.dn_top.specs.Documents.{shape_told}
 use Rattle.dn_top.specs.Outside.{Device, Devices, Failed, IsUntouched, IsRead, Took, TookNothing, TookFront}
 
@@ -77,10 +77,11 @@ abbrev pub has_stopped : Option Options → Devices → Devices → Type 0
 has_stopped None before after = TookFront before.sink after.sink usage_line
 has_stopped (Some o) before after = IfSome (text_for o before.source) (HasFailed o before after)
 
--- r is a run of the program on the machine that the options ask for; in the mode replay a document tells how large it is
+-- r is a run of the program on the machine that the options ask for, by one worker the one of their seed; in the mode replay a
+-- document tells how large the machine is, and which events come
 abbrev pub is_run_in : Mode → ProgramParts → Options → RunRecord → Type 0
 is_run_in mode.TheVariants.Replay P o r = (s : TraceShape) × IsTraceShape s × IsRunOf P (shape_told P s) s.fuel r
-is_run_in m P o r = IsAnyRunFor P o r
+is_run_in m P o r = IsRunFor P o r
 
 -- r is a run of a checked program, and the status is that of its outcome
 pub record IsRunWith (m : Mode) (o : Options) (s : Status) (r : RunRecord) : Type 0 where
@@ -89,10 +90,12 @@ pub record IsRunWith (m : Mode) (o : Options) (s : Status) (r : RunRecord) : Typ
   pub run : is_run_in m program o r
   pub ends : s ≡ status_of r.ending.outcome
 
--- of an outcome's status: a run is handed back exactly in the modes that make one, and it is one that the mode makes
+-- of an outcome's status: a run is handed back exactly in the modes that make one, and it is one that the mode makes; and where no
+-- task is run the outcome is Done
 pub record HandsBack (o : Options) (answer : Answer) : Type 0 where
   pub comes : is_some answer.run ≡ makes_run o.mode
   pub run : IfSome answer.run (IsRunWith o.mode o answer.status)
+  pub done : runs_tasks o.mode ≡ false → answer.status ≡ status.TheVariants.Done
 
 -- how many bytes the program reads at most: None where the words are refused or their mode generates its text
 abbrev pub most_asked : Option Options → Option ℕ
