@@ -1,13 +1,15 @@
 -- A run that has a value has its cause.
-use Rattle.std.proofs.Common.{◌≡◌, ℕ, Bool, true, false, List, Option, Some, None, refl, if◌then◌else◌}
+use Rattle.std.proofs.Common.{◌≡◌, ℕ, zero, suc, ◌<◌, Bool, true, false, List, [], ◌∷◌, ◌++◌, get_or, length, slice_get, Option, Some, None, refl, ap, ◌∙◌, if◌then◌else◌, arith}
+use Rattle.std.specs.List.{All}
 use Rattle.dn_base.specs.declared.ids.Grant.{Grant}
 use Rattle.region_table.specs.Program.{ProgramParts}
 use Rattle.flat_machine.specs.declared.ending.FlatEnd.{FlatEnd}
-use Rattle.flat_machine.specs.Phases.{Flat}
+use Rattle.flat_machine.specs.Step.{Started}
+use Rattle.flat_machine.specs.Phases.{Flat, finished_by, has_finished}
 use Rattle.flat_machine.specs.Grants.{so_far, is_whole}
 use Rattle.flat_machine.specs.Ending.{flat_end, whole_only, end_of}
-use Rattle.flat_machine.proofs.CauseLemmas.{run-out_of_fuel, run-held_up, run-stuck}
-use Rattle.dn_top.specs.Laws.{IsCaused}
+use Rattle.flat_machine.proofs.CauseLemmas.{run-out_of_fuel, run-held_up, run-past, run-stuck}
+use Rattle.dn_top.specs.Causes.{IsCaused}
 
 -- a run with a value has reached a state after which no grant is left
 record HasReached (P : ProgramParts) (fuel : ℕ) (gs : List Grant) : Type 0 where
@@ -28,6 +30,22 @@ reached_state : (P : ProgramParts) (fuel : ℕ) (gs : List Grant) (e : FlatEnd) 
 unfolding flat_end
 reached_state P fuel gs e is = reached_by P fuel gs (so_far P fuel gs) e refl is
 
+-- the place of a task among the last ones
+record HasPlace (tasks : List Started) (r : Started) : Type 0 where
+  place : ℕ
+  there : slice_get tasks place ≡ Some r
+
+-- a started task that hasn't ended isn't one of the phases before the last, whose tasks have finished
+open-place : (past tasks : List Started) (i : ℕ) (r : Started) → All (λ (x : Started). has_finished x ≡ true) past → slice_get (past ++ tasks) i ≡ Some r → r.state.end ≡ None
+    → HasPlace tasks r
+open-place [] tasks i r done there open' = record { place = i; there = there }
+open-place (p ∷ past) tasks zero r done there open' =
+    let first : has_finished p ≡ true = done 0 p (omega arith) in
+    let same : p ≡ r = cc in
+    let ended : has_finished p ≡ finished_by None = ap has_finished same ∙ ap finished_by open' in
+    absurd cc
+open-place (p ∷ past) tasks (suc i) r done there open' = open-place past tasks i r (λ k d within. done (suc k) d (omega (arith, within))) there open'
+
 pub caused : (P : ProgramParts) (fuel : ℕ) (gs : List Grant) (e : FlatEnd) → flat_end P fuel gs ≡ Some e → IsCaused P fuel gs e.ending
 caused P fuel gs e is =
     let last = reached_state P fuel gs e is in
@@ -35,6 +53,8 @@ caused P fuel gs e is =
       spent = run-out_of_fuel P fuel gs e is;
       machine = last.machine;
       reached = last.reached;
-      held_up = run-held_up P fuel gs last.machine last.reached last.whole;
+      held_up = λ i r there open'.
+          let at' = open-place last.machine.past last.machine.tasks i r (run-past P fuel gs last.machine last.reached) there open' in
+          record { place = at'.place; there = at'.there; held_up = run-held_up P fuel gs last.machine last.reached last.whole at'.place r at'.there open' };
       stuck = run-stuck P fuel gs e is;
     }

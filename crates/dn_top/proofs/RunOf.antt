@@ -36,6 +36,8 @@ use Rattle.dn_machine.proofs.RunLemmas.{ready-of}
 use Rattle.run_replay.specs.Document.{IsTold}
 use Rattle.run_replay.proofs.ToldRuns.{run-told}
 use Rattle.command_words.specs.declared.options.Options.{Options}
+use Rattle.dn_top.specs.Causes.{IsCaused}
+use Rattle.dn_top.proofs.Causes.{caused}
 use Rattle.dn_top.specs.Runs.{shape_for, HasFlatRun, IsWithoutGrants, IsRunOf, IsRunFor, IsPrintable}
 
 -- ---- the size of an ending
@@ -90,15 +92,21 @@ module _ (P : ProgramParts) (s : Shape) (fuel : ℕ) (C : Setting) (r : RunRecor
         ending = flat.ending ∙ sym is.ends;
       }
 
+  -- and its value, of the program and the fuel
+  value-of : IsSettingOf P s fuel C → (flat : HasFlatRun C r) → flat_end P fuel r.grants ≡ Some flat.end'
+  value-of asked flat =
+      ap (λ (p : ProgramParts). flat_end p fuel r.grants) (sym asked.program)
+      ∙ ap (λ (n : ℕ). flat_end C.program n r.grants) (sym asked.fuel)
+      ∙ flat.value
+
+  has-cause : IsSettingOf P s fuel C → HasFlatRun C r → IsCaused P fuel r.grants r.ending
+  has-cause asked flat = subst (IsCaused P fuel r.grants) flat.ending (caused P fuel r.grants flat.end' (value-of asked flat))
+
   -- without locks there is no grant, and one end
   has-no_grants : IsSettingOf P s fuel C → HasFlatRun C r → P.locks ≡ [] → IsWithoutGrants P fuel r
   has-no_grants asked flat none =
       let no_locks : length P.locks ≡ 0 = ap length none in
-      let value : flat_end P fuel r.grants ≡ Some flat.end' =
-      ap (λ (p : ProgramParts). flat_end p fuel r.grants) (sym asked.program)
-      ∙ ap (λ (n : ℕ). flat_end C.program n r.grants) (sym asked.fuel)
-      ∙ flat.value
-      in
+      let value = value-of asked flat in
       let empty : r.grants ≡ [] = without-grants P fuel r.grants flat.end' no_locks value in
       record {
         grants = empty;
@@ -111,7 +119,7 @@ module _ (P : ProgramParts) (s : Shape) (fuel : ℕ) (C : Setting) (r : RunRecor
   pub run-of : IsSettingOf P s fuel C → IsMachinesRun (opened C) r → HasFlatEnd C r.events → length r.counts.kinds ≡ 17 → IsRunOf P s fuel r
   run-of asked machine flat each =
       let by_grants = has-flat_run machine.is_true flat in
-      record { setting = C; asked = asked; machine = machine; each_kind = each; flat = by_grants; lock_free = has-no_grants asked by_grants }
+      record { setting = C; asked = asked; machine = machine; each_kind = each; flat = by_grants; caused = has-cause asked by_grants; lock_free = has-no_grants asked by_grants }
 
   pub can-print : IsProgram C.program → IsRecord (opened C) r → HasFlatEnd C r.events → length r.counts.kinds ≡ 17 → length r.events < 18446744073709551616 → IsPrintable r
   can-print program is flat kinds few =

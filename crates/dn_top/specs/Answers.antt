@@ -31,6 +31,7 @@ use Rattle.dn_top.specs.declared.output.Output.{Output}
 use Rattle.dn_top.specs.declared.programs.Stop.{Stop}
 use Rattle.dn_top.specs.declared.programs.Stop as stop
 use Rattle.dn_machine.specs.declared.record.RunRecord.{RunRecord}
+use Rattle.dn_top.specs.Causes.{IsCaused}
 use Rattle.dn_top.specs.Runs.{IsAnyRunFor, IsRunFor, IsMachineRun, IsTimedRun, reported, summed_up}
 use Rattle.dn_top.specs.Documents.{IsTracedRun, HasTrace, IsNoDocument, IsReplayedRun, IsNoRun}
 
@@ -76,12 +77,14 @@ IsStop IsLine stop.TheVariants.Memory = Unit {0}
 abbrev pub answered : Status → List ℕ → Output
 answered status bytes = record { status = status; bytes = bytes; run = None }
 
--- a program's run on one flat memory by the least list of grants, printed as its answer and the grants
+-- a program's run on one flat memory by the least list of grants, printed as its answer and the grants; where it is out of fuel or
+-- stuck, its tasks are the cause
 pub record IsFlatRun (program : ProgramParts) (fuel : ℕ) (out : Output) : Type 0 where
   pub grants : List Grant
   pub least : IsLeast program fuel grants
   pub end : FlatEnd
   pub flat : flat_end program fuel grants ≡ Some end
+  pub caused : IsCaused program fuel grants end.ending
   pub answer : out ≡ answered (status_of end.ending.outcome) (answer_of end.ending ++ grants_of grants)
 
 -- the program's listing, which is a text of just this program, if it is within the limits of a text

@@ -18,16 +18,6 @@ use Rattle.dn_top.specs.Answers.{IsOutcome, picks_events}
 use Rattle.dn_top.specs.Outside.{Devices, Took}
 use Rattle.dn_top.specs.Serving.{text_for, Serves}
 
--- why a run ends as it does: where it ran out of fuel some task did, after just as many instructions as it may retire, and
--- none trapped or waits; each task that hasn't ended wants a lock that another task of its phase holds; and where the run is
--- stuck some task waits
-pub record IsCaused (program : ProgramParts) (fuel : ℕ) (grants : List Grant) (ending : Ending) : Type 0 where
-  pub spent : ending.outcome ≡ outcome.TheVariants.Fuel → IsOutOfFuel fuel ending.tasks
-  pub machine : Flat
-  pub reached : so_far program fuel grants ≡ Some machine
-  pub held_up : (i : ℕ) (r : Started) → slice_get machine.tasks i ≡ Some r → r.state.end ≡ None → IsHeldUp program fuel machine.tasks i r
-  pub stuck : ending.outcome ≡ outcome.TheVariants.Stuck → Any (λ (t : TaskEnd). is_waiting t.end ≡ true) ending.tasks
-
 -- ---- what is decided
 
 -- nothing of the answer is the host's choice: one worker is asked for, or the mode picks no events

@@ -1,4 +1,5 @@
 pub mod Answers
+pub mod Causes
 pub mod Documents
 pub mod ExitCodes
 pub mod Laws

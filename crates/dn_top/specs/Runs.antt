@@ -23,6 +23,7 @@ use Rattle.run_timing.specs.Longest.{IsTimingOf}
 use Rattle.run_timing.specs.Text.{timing_of}
 use Rattle.command_words.specs.declared.options.Options.{Options}
 use Rattle.dn_top.specs.declared.output.Output.{Output}
+use Rattle.dn_top.specs.Causes.{IsCaused}
 
 -- the same options, by one worker
 abbrev pub alone : Options → Options
@@ -67,6 +68,8 @@ pub record IsRunOf (P : ProgramParts) (shape : Shape) (fuel : ℕ) (r : RunRecor
   pub each_kind : length r.counts.kinds ≡ 17
   -- one thread on one memory that takes the critical sections in the order of its grants loads the same and ends the same
   pub flat : HasFlatRun setting r
+  -- where it is out of fuel or stuck, its tasks are the cause
+  pub caused : IsCaused P fuel r.grants r.ending
   -- without locks the program and the fuel alone decide how it ends
   pub lock_free : P.locks ≡ [] → IsWithoutGrants P fuel r
 

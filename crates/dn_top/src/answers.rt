@@ -24,6 +24,7 @@ use std::sync::Wait;
 use std::thread::Threads;
 
 /// Runs a program on one flat memory, and prints its answer and the grants.
+#[tactic(auto, using(crate::proofs::Causes::caused))]
 fn run_flat(alloc: Global, fuel: u32, checked: &Checked) -> Result<Output, Memory>
     requires least { 1 ≤ fuel }
     requires most { fuel ≤ 32768 }

@@ -10,7 +10,8 @@ ghost use Rattle.command_words.specs.declared.options.Mode.TheVariants.{Replay, 
 ghost use Rattle.command_words.specs.declared.options.Options.{Options};
 ghost use Rattle.dn_top.specs.declared.output.Output.{Output};
 ghost use Rattle.dn_top.specs.Answers.{IsAnswer, IsRefusal, done_in};
-ghost use Rattle.dn_top.specs.Laws.{Call, GaveOneOutput, IsAnswered, IsCaused, IsDecided};
+ghost use Rattle.dn_top.specs.Causes.{IsCaused};
+ghost use Rattle.dn_top.specs.Laws.{Call, GaveOneOutput, IsAnswered, IsDecided};
 ghost use Rattle.dn_top.specs.Runs.{IsRunFor, IsRunOf, output_of_run, reported};
 
 /// A run that is out of fuel or stuck is so because of its tasks.
