@@ -1,6 +1,7 @@
 -- A run that has a value has its cause.
-use Rattle.std.proofs.Common.{◌≡◌, ℕ, zero, suc, ◌<◌, Bool, true, false, List, [], ◌∷◌, ◌++◌, get_or, length, slice_get, Option, Some, None, refl, ap, ◌∙◌, if◌then◌else◌, arith}
+use Rattle.std.proofs.Common.{◌≡◌, ℕ, zero, suc, Bool, true, false, List, [], ◌∷◌, ◌++◌, slice_get, Option, Some, None, refl, ap, ◌∙◌, if◌then◌else◌}
 use Rattle.std.specs.List.{All}
+use Rattle.std.proofs.lemmas.List.Elements.{All-head, All-tail}
 use Rattle.dn_base.specs.declared.ids.Grant.{Grant}
 use Rattle.region_table.specs.Program.{ProgramParts}
 use Rattle.flat_machine.specs.declared.ending.FlatEnd.{FlatEnd}
@@ -35,16 +36,19 @@ record HasPlace (tasks : List Started) (r : Started) : Type 0 where
   place : ℕ
   there : slice_get tasks place ≡ Some r
 
+abbrev Done : Started → Type 0
+Done r = has_finished r ≡ true
+
 -- a started task that hasn't ended isn't one of the phases before the last, whose tasks have finished
-open-place : (past tasks : List Started) (i : ℕ) (r : Started) → All (λ (x : Started). has_finished x ≡ true) past → slice_get (past ++ tasks) i ≡ Some r → r.state.end ≡ None
+open-place : (past tasks : List Started) (i : ℕ) (r : Started) → All Done past → slice_get (past ++ tasks) i ≡ Some r → r.state.end ≡ None
     → HasPlace tasks r
 open-place [] tasks i r done there open' = record { place = i; there = there }
 open-place (p ∷ past) tasks zero r done there open' =
-    let first : has_finished p ≡ true = done 0 p (omega arith) in
+    let first : has_finished p ≡ true = All-head Done p past done in
     let same : p ≡ r = cc in
     let ended : has_finished p ≡ finished_by None = ap has_finished same ∙ ap finished_by open' in
     absurd cc
-open-place (p ∷ past) tasks (suc i) r done there open' = open-place past tasks i r (λ k d within. done (suc k) d (omega (arith, within))) there open'
+open-place (p ∷ past) tasks (suc i) r done there open' = open-place past tasks i r (All-tail Done p past done) there open'
 
 pub caused : (P : ProgramParts) (fuel : ℕ) (gs : List Grant) (e : FlatEnd) → flat_end P fuel gs ≡ Some e → IsCaused P fuel gs e.ending
 caused P fuel gs e is =

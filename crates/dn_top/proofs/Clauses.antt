@@ -1,6 +1,7 @@
 -- What a call says by its answer.
-use Rattle.std.proofs.Common.{◌≡◌, ◌≢◌, ◌⊎◌, inl, inr, ℕ, true, false, List, Option, Some, None, IfSome, is_some, refl, sym, ap, subst, ◌∙◌}
+use Rattle.std.proofs.Common.{◌≡◌, ◌≢◌, ◌⊎◌, inl, inr, ℕ, true, false, List, [], Option, Some, None, IfSome, is_some, refl, sym, ap, subst, ◌∙◌, arith}
 use Rattle.std.specs.Prelude.{option_and_then}
+use Rattle.std.proofs.KnownBytes.{Consumes-nil, Consumes-kept}
 use Rattle.dn_base.specs.declared.status.Status.{Status}
 use Rattle.dn_base.specs.declared.status.Status as status
 use Rattle.dn_machine.specs.declared.record.RunRecord.{RunRecord}
@@ -8,8 +9,8 @@ use Rattle.command_words.specs.declared.options.Options.{Options}
 use Rattle.dn_top.specs.declared.output.Output.{Output}
 use Rattle.dn_top.specs.declared.serving.Answer.{Answer}
 use Rattle.dn_top.specs.Answers.{answered, most_read, IsRefusal, IsAnswer, IsOutcome, usage_line}
-use Rattle.dn_top.specs.Outside.{Device, Devices, Failed, IsUntouched, Took, TookNothing, TookFront}
-use Rattle.dn_top.specs.Serving.{text_for, IsRunWith, HandsBack, HasDone, HasRefused, HasFailed, HasStatus, has_stopped, Serves, IsFinished, IsReplied, IsStarved, IsUnread, IsDoneBy, bare}
+use Rattle.dn_top.specs.Outside.{Device, Devices, Failed, GaveAtMost, IsUntouched, Took, TookNothing, TookFront}
+use Rattle.dn_top.specs.Serving.{text_for, most_asked, IsRunWith, HandsBack, HasDone, HasRefused, HasFailed, HasStatus, has_stopped, Serves, IsFinished, IsReplied, IsStarved, IsUnread, IsDoneBy, bare}
 use Rattle.dn_top.proofs.Statuses.{other, outcome-other, answer-other, answer-done, answer-refused, answer-no_run, done-comes, done-plain, done-run}
 use Rattle.dn_top.proofs.Fronts.{AnswersAlike, taken-alike}
 
@@ -211,8 +212,8 @@ same_options o p x e f = cc
 
 -- words that ask for options
 pub serves-options : (wanted : Option Options) (o : Options) (before after : Devices) (answer : Answer) → wanted ≡ Some o → IsDoneBy o before after answer
-    → (most_read o.mode ≡ None → IsUntouched before.source after.source) → Serves wanted before after answer
-serves-options wanted o before after answer e h unread =
+    → IfSome (most_read o.mode) (GaveAtMost before.source after.source) → (most_read o.mode ≡ None → IsUntouched before.source after.source) → Serves wanted before after answer
+serves-options wanted o before after answer e h few unread =
     record {
       done = λ is. record { options = o; asked = e; text = done-clause o before after answer h is };
       handed_back = λ is. subst (λ (x : Option Options). IfSome x (λ p. HandsBack p answer)) (sym e) (handed_back-clause o before after answer h is);
@@ -227,6 +228,7 @@ serves-options wanted o before after answer e h unread =
       );
       memory = memory-clause o before after answer h;
       unread = λ none. unread (subst (λ (x : Option Options). option_and_then (λ (p : Options). most_read p.mode) x ≡ None) e none);
+      few = subst (λ (x : Option Options). IfSome (most_asked x) (GaveAtMost before.source after.source)) (sym e) few;
       complete = λ p f text is calm_source calm_sink. by_options p (same_options o p wanted e f) text is calm_source calm_sink;
     }
   where
@@ -250,6 +252,7 @@ serves-usage wanted before after answer none untouched (inl (is, took)) =
       write_fault = λ r. let bad : status.TheVariants.Usage ≡ status.TheVariants.WriteFault = sym e ∙ r in absurd cc;
       memory = λ r. let bad : status.TheVariants.Usage ≡ status.TheVariants.Memory = sym e ∙ r in absurd cc;
       unread = λ _. untouched;
+      few = subst (λ (x : Option Options). IfSome (most_asked x) (GaveAtMost before.source after.source)) (sym none) tt;
       complete = λ o f. absurd (no_options o wanted f none);
     }
 serves-usage wanted before after answer none untouched (inr (is, failed, front)) =
@@ -265,8 +268,15 @@ serves-usage wanted before after answer none untouched (inr (is, failed, front))
       write_fault = λ r. (failed, subst (λ (x : Option Options). has_stopped x before after) (sym none) front);
       memory = λ r. let bad : status.TheVariants.WriteFault ≡ status.TheVariants.Memory = sym e ∙ r in absurd cc;
       unread = λ _. untouched;
+      few = subst (λ (x : Option Options). IfSome (most_asked x) (GaveAtMost before.source after.source)) (sym none) tt;
       complete = λ o f. absurd (no_options o wanted f none);
     }
+
+-- a source that was left alone gave no bytes
+untouched-few : (before after : Device) (most : Option ℕ) → IsUntouched before after → IfSome most (GaveAtMost before after)
+untouched-few before after None untouched = tt
+untouched-few before after (Some most) untouched =
+    record { bytes = []; taken = Consumes-kept before.bytes before.bytes after.bytes [] (Consumes-nil before.bytes) untouched.bytes; within = omega arith }
 
 -- words for which there was no memory
 pub serves-memory : (wanted : Option Options) (before after : Devices) (answer : Answer) → IsUntouched before.source after.source → TookNothing before.sink after.sink
@@ -284,5 +294,6 @@ serves-memory wanted before after answer untouched nothing is =
       write_fault = λ r. let bad : status.TheVariants.Memory ≡ status.TheVariants.WriteFault = sym e ∙ r in absurd cc;
       memory = λ r. nothing;
       unread = λ _. untouched;
+      few = untouched-few before.source after.source (most_asked wanted) untouched;
       complete = λ o f text told calm_source calm_sink. inr e;
     }

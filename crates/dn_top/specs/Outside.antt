@@ -34,6 +34,12 @@ pub record IsRead (before after : Device) (most : ℕ) (text : List ℕ) : Type 
   pub within : length text ≤ most
   pub whole : length text < most → IsAtEnd after.bytes
 
+-- at most so many bytes of a source were taken
+pub record GaveAtMost (before after : Device) (most : ℕ) : Type 0 where
+  pub bytes : List ℕ
+  pub taken : Consumes before.bytes after.bytes bytes
+  pub within : length bytes ≤ most
+
 -- the sink took just these bytes
 abbrev pub Took : Device → Device → List ℕ → Type 0
 Took before after output = Appends before.bytes after.bytes output

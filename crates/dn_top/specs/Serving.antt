@@ -19,7 +19,7 @@ use Rattle.dn_top.specs.declared.serving.Answer.{Answer}
 use Rattle.dn_top.specs.Answers.{most_read, makes_run, runs_tasks, IsDone, IsRefusal, IsAnswer, IsOutcome, usage_line}
 use Rattle.dn_top.specs.Runs.{IsRunOf, IsRunFor}
 use Rattle.dn_top.specs.Documents.{shape_told}
-use Rattle.dn_top.specs.Outside.{Device, Devices, Failed, IsUntouched, IsRead, Took, TookNothing, TookFront}
+use Rattle.dn_top.specs.Outside.{Device, Devices, Failed, GaveAtMost, IsUntouched, IsRead, Took, TookNothing, TookFront}
 
 -- ---- the text of a call
 
@@ -127,6 +127,8 @@ pub record Serves (wanted : Option Options) (before after : Devices) (answer : A
   pub memory : answer.status ≡ status.TheVariants.Memory → TookNothing before.sink after.sink
   -- the source is left alone where the words are refused, and in a mode that generates its text
   pub unread : most_asked wanted ≡ None → IsUntouched before.source after.source
+  -- and never gives more than one byte past the most that a text, or in the mode replay a document, may have
+  pub few : IfSome (most_asked wanted) (GaveAtMost before.source after.source)
   -- options and a text that the source tells have their answer's status, unless a device failed or there was no memory
   pub complete : (o : Options) → wanted ≡ Some o → (text : List ℕ) → text_for o before.source ≡ Some text
       → ¬ Failed before.source after.source → ¬ Failed before.sink after.sink

@@ -1,11 +1,11 @@
 //! The program denovo, all but its `main`: it takes command words and a text, and writes its answer or why it refuses.
 #![tactic(auto)]
 
-ghost use Rattle.std.specs.Prelude.{◌≡◌, map, string_bytes, None};
+ghost use Rattle.std.specs.Prelude.{◌≡◌, map, string_bytes, None, IfSome};
 ghost use Rattle.std.specs.Option.{option_map};
 ghost use Rattle.command_words.specs.Command.{IsWithinLimits, options_of};
 ghost use Rattle.dn_top.specs.Answers.{most_read};
-ghost use Rattle.dn_top.specs.Outside.{IsUntouched, device, devices};
+ghost use Rattle.dn_top.specs.Outside.{GaveAtMost, IsUntouched, device, devices};
 ghost use Rattle.dn_top.specs.Runs.{alone};
 ghost use Rattle.dn_top.specs.Serving.{IsDoneBy, Serves};
 
@@ -82,6 +82,7 @@ fn answer_options<R: Threads + Wait + Sync, S: Source, K: Sink, G: Gate + Sync>(
     ensures served { IsDoneBy options.now
         (devices (S.told source.old) (S.faults source.old) (K.told sink.old) (K.faults sink.old))
         (devices (S.told source.new) (S.faults source.new) (K.told sink.new) (K.faults sink.new)) result }
+    ensures few { IfSome (most_read options.now.mode) (GaveAtMost (device (S.told source.old) (S.faults source.old)) (device (S.told source.new) (S.faults source.new))) }
     ensures unread { most_read options.now.mode ≡ None
         → IsUntouched (device (S.told source.old) (S.faults source.old)) (device (S.told source.new) (S.faults source.new)) }
 {

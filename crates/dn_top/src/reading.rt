@@ -1,7 +1,7 @@
-ghost use Rattle.std.specs.Prelude.{◌≡◌, ◌+◌, IfOk, IfErr};
+ghost use Rattle.std.specs.Prelude.{◌≡◌, ◌+◌, IfOk, IfErr, IfSome};
 ghost use Rattle.command_words.specs.Command.{IsWithinLimits};
 ghost use Rattle.dn_top.specs.Answers.{most_read};
-ghost use Rattle.dn_top.specs.Outside.{Failed as HasFailed, IsRead, IsUntouched, device};
+ghost use Rattle.dn_top.specs.Outside.{Failed as HasFailed, GaveAtMost, IsRead, IsUntouched, device};
 ghost use Rattle.dn_top.specs.Serving.{IsTaken};
 ghost use Rattle.dn_top.specs.declared.reading.ReadError.TheVariants.{NoMemory};
 
@@ -68,6 +68,7 @@ pub(crate) fn take_text<S: Source>(
     ensures text { IfOk result (λ text. IsTaken options.now (device (S.told source.old) (S.faults source.old)) (device (S.told source.new) (S.faults source.new)) text.items) }
     ensures failed { IfErr result (λ error. error ≡ ReadError.Failed
         → HasFailed (device (S.told source.old) (S.faults source.old)) (device (S.told source.new) (S.faults source.new))) }
+    ensures few { IfSome (most_read options.now.mode) (GaveAtMost (device (S.told source.old) (S.faults source.old)) (device (S.told source.new) (S.faults source.new))) }
     ensures unread { most_read options.now.mode ≡ None
         → IsUntouched (device (S.told source.old) (S.faults source.old)) (device (S.told source.new) (S.faults source.new)) }
 {
@@ -77,7 +78,7 @@ pub(crate) fn take_text<S: Source>(
     }
 }
 
-/// Reads the source to its end, or until so many bytes have come.
+/// Reads the source to its end, or until so many bytes have come. No more are taken, also where there is no text.
 ///
 /// # Errors
 /// `Failed` where the source fails, and `NoMemory` where there is no room for the text.
@@ -89,6 +90,7 @@ pub fn read_text<S: Source>(
     ensures text { IfOk result (λ text. IsRead (device (S.told source.old) (S.faults source.old)) (device (S.told source.new) (S.faults source.new)) most text.items) }
     ensures failed { IfErr result (λ error. error ≡ ReadError.Failed
         → HasFailed (device (S.told source.old) (S.faults source.old)) (device (S.told source.new) (S.faults source.new))) }
+    ensures few { GaveAtMost (device (S.told source.old) (S.faults source.old)) (device (S.told source.new) (S.faults source.new)) most }
 {
     let mut text = Vec::new(alloc);
     let mut buf = [0; 4096];

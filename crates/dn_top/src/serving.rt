@@ -1,8 +1,8 @@
-ghost use Rattle.std.specs.Prelude.{◌≡◌, ◌≢◌, ℕ, List, None, IfOk};
+ghost use Rattle.std.specs.Prelude.{◌≡◌, ◌≢◌, ℕ, List, None, IfOk, IfSome};
 ghost use Rattle.command_words.specs.declared.options.Options.{Options as OptionsOf};
 ghost use Rattle.command_words.specs.Command.{IsWithinLimits};
 ghost use Rattle.dn_top.specs.Answers.{IsAnswer, answered, most_read, usage_line};
-ghost use Rattle.dn_top.specs.Outside.{IsUntouched, device, devices};
+ghost use Rattle.dn_top.specs.Outside.{GaveAtMost, IsUntouched, device, devices};
 ghost use Rattle.dn_top.specs.Runs.{alone};
 ghost use Rattle.dn_top.specs.Serving.{bare, IsDoneBy, IsFinished, IsReplied, status_of_read};
 
@@ -84,6 +84,7 @@ pub(crate) fn answer_alone<S: Source, K: Sink>(
     ensures served { IsDoneBy (alone options.now)
         (devices (S.told source.old) (S.faults source.old) (K.told sink.old) (K.faults sink.old))
         (devices (S.told source.new) (S.faults source.new) (K.told sink.new) (K.faults sink.new)) result }
+    ensures few { IfSome (most_read options.now.mode) (GaveAtMost (device (S.told source.old) (S.faults source.old)) (device (S.told source.new) (S.faults source.new))) }
     ensures unread { most_read options.now.mode ≡ None
         → IsUntouched (device (S.told source.old) (S.faults source.old)) (device (S.told source.new) (S.faults source.new)) }
 {
@@ -107,6 +108,7 @@ pub(crate) fn answer_by_workers<R: Threads + Wait + Sync, S: Source, K: Sink, G:
     ensures served { IsDoneBy options.now
         (devices (S.told source.old) (S.faults source.old) (K.told sink.old) (K.faults sink.old))
         (devices (S.told source.new) (S.faults source.new) (K.told sink.new) (K.faults sink.new)) result }
+    ensures few { IfSome (most_read options.now.mode) (GaveAtMost (device (S.told source.old) (S.faults source.old)) (device (S.told source.new) (S.faults source.new))) }
     ensures unread { most_read options.now.mode ≡ None
         → IsUntouched (device (S.told source.old) (S.faults source.old)) (device (S.told source.new) (S.faults source.new)) }
 {
