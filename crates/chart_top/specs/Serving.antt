@@ -5,7 +5,7 @@ use Rattle.dn_base.specs.declared.status.Status.{Status}
 use Rattle.dn_base.specs.declared.status.Status as status
 use Rattle.dn_top.specs.Answers.{usage_line}
 use Rattle.dn_top.specs.ExitCodes.{IsCodeOf}
-use Rattle.dn_top.specs.Outside.{Device, Devices, Failed, IsUntouched, IsRead, Took, TookNothing, TookFront}
+use Rattle.dn_top.specs.Outside.{Device, Devices, Failed, GaveAtMost, IsUntouched, IsRead, Took, TookNothing, TookFront}
 use Rattle.chart_top.specs.declared.answering.Output.{Output}
 use Rattle.chart_top.specs.declared.options.Options.{Options}
 use Rattle.chart_top.specs.Answers.{IsAnswer}
@@ -45,12 +45,14 @@ pub record IsServed (o : Options) (before after : Devices) (told : Status) : Typ
 abbrev pub usage : Output
 usage = record { status = status.TheVariants.Usage; bytes = usage_line }
 
--- how a call ends of which these options are wanted; None where the words aren't the command's
+-- how a call ends of which these options are wanted; None where the words aren't the command's. The source gives at most one byte past
+-- the most that a document may have
 abbrev pub Serves : Option Options → Devices → Devices → Status → Type 0
 Serves None before after told =
     IsUntouched before.source after.source × (IsWritten usage before.sink after.sink told ⊎ IsStarved before.sink after.sink told)
 Serves (Some o) before after told =
-    IsServed o before after told ⊎ (IsUnread before after told ⊎ IsStarved before.sink after.sink told)
+    GaveAtMost before.source after.source 536870913
+    × (IsServed o before after told ⊎ (IsUnread before after told ⊎ IsStarved before.sink after.sink told))
 
 -- such a call ended with the exit code of the status that it told
 pub record HasEnded (wanted : Option Options) (before after : Devices) (code : ExitCode) : Type 0 where
