@@ -1,7 +1,7 @@
 use crate::texts::program;
 use dn_base::{CoreId, LockId, PhaseId, WordId};
 use effect_checker::CheckFault;
-use region_table::{Interval, PhasePlan, plans};
+use region_table::{PhasePlan, plans};
 use std::alloc::Global;
 use std::test::Fail;
 
@@ -26,7 +26,10 @@ go: li a7, 0
 
 /// Whether the phase writes these words alone, and no lock guards any.
 fn writes_just(plan: &PhasePlan, lo: u32, hi: u32) -> bool {
-    plan.written.intervals() == [Interval { lo, hi }].as_slice() && plan.guarded.len() == 0
+    match plan.written.intervals() {
+        [only] => only.lo == lo && only.hi == hi && plan.guarded.len() == 0,
+        _ => false,
+    }
 }
 
 #[test]

@@ -6,7 +6,8 @@ use write_signature::Signature;
 
 const FIRST: WordId = WordId(0);
 
-const OTHER_BANKS: WordId = WordId(5);
+/// A word that no memory here has.
+const BEHIND: WordId = WordId(5);
 
 /// A message that the bank gets, and what it sends then, to which core.
 type Line = (Message, Option<(u32, Message)>);
@@ -44,7 +45,7 @@ fn talk_of_a_word() -> [Line; 6] {
         (register(0), Some((1, Message::RegFwd { word, core }))),
         (read(word, 2), Some((0, Message::ReadFwd { word, reader }))),
         (late, Some((1, Message::WbAck { word }))),
-        (read(OTHER_BANKS, 1), None),
+        (read(BEHIND, 1), None),
     ]
 }
 
@@ -75,7 +76,7 @@ fn a_bank_answers_each_message(rt: HostRuntime) -> Result<(), Fail> {
     let mut bank = Bank::new(rt.alloc(), BankId(0), 1, 3, &[3, 3], 0)?;
     assert_eq!(rt; first_wrong(&mut bank, &talk_of_a_word()), None);
     assert_eq!(rt; bank.word(FIRST), Some(BankWord::Reg(CoreId(0))));
-    assert_eq!(rt; bank.word(OTHER_BANKS), None);
+    assert_eq!(rt; bank.word(BEHIND), None);
     let mut second = Bank::new(rt.alloc(), BankId(1), 2, 2, &[0, 7], 2)?;
     assert_eq!(rt; first_wrong(&mut second, &talk_of_a_lock()), None);
     assert_eq!(rt; second.number(), BankId(1));
