@@ -31,23 +31,28 @@ fn words<'a>(alloc: Global, line: &'a str) -> Result<Vec<&'a str>, Trouble> {
     Ok(all)
 }
 
-/// The mail that an actor sent as its mail of this number, from 0.
-fn mail(sender: Actor, text: &str) -> Result<Event, Trouble> {
-    let number = number(text)?;
-    Ok(Event::Handle(MailId { sender, number }))
+/// That the mail is handled that an actor sent as its mail of this number, from 0.
+fn handle(sender: Actor, number: u32) -> Event {
+    Event::Handle(MailId { sender, number })
 }
 
 /// The event that these words name.
 fn event(words: &[&str]) -> Result<Event, Trouble> {
-    match words {
-        ["instr", core] => Ok(Event::Instr(CoreId(number(core)?))),
-        ["evict", core, word] => Ok(Event::Evict(CoreId(number(core)?), WordId(number(word)?))),
-        ["arrive", core] => Ok(Event::Arrive(CoreId(number(core)?))),
-        ["handle", "core", core, count] => mail(Actor::Core(CoreId(number(core)?)), count),
-        ["handle", "bank", bank, count] => mail(Actor::Bank(BankId(number(bank)?)), count),
-        ["handle", "keeper", count] => mail(Actor::Keeper, count),
-        _ => Err(Trouble::Form(BadForm::NoEvent)),
-    }
+    Ok(match words {
+        ["instr", core] => Event::Instr(CoreId(number(core)?)),
+        ["evict", core, word] => Event::Evict(CoreId(number(core)?), WordId(number(word)?)),
+        ["arrive", core] => Event::Arrive(CoreId(number(core)?)),
+        ["handle", "core", core, count] => handle(
+            Actor::Core(CoreId(number(core)?)),
+            number(count)?,
+        ),
+        ["handle", "bank", bank, count] => handle(
+            Actor::Bank(BankId(number(bank)?)),
+            number(count)?,
+        ),
+        ["handle", "keeper", count] => handle(Actor::Keeper, number(count)?),
+        _ => return Err(Trouble::Form(BadForm::NoEvent)),
+    })
 }
 
 /// What these words say.
