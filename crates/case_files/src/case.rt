@@ -7,7 +7,7 @@ use crate::script::{ScriptLine, script_line};
 use crate::section::is_silent;
 use crate::texts::Texts;
 use crate::trouble::{BadForm, Trouble};
-use dn_base::Sequence;
+use dn_base::{Memory, Sequence, TextSource, VecSink};
 use std::alloc::Global;
 use std::mem;
 
@@ -76,6 +76,18 @@ impl Case {
             exit: 0,
             output: Vec::new(alloc),
         }
+    }
+
+    /// What the program reads.
+    pub fn source(&self, alloc: Global) -> Result<TextSource, Memory> {
+        let (text, failing) = (self.text.as_slice(), self.failing_reads.as_slice());
+        TextSource::new(alloc, text, self.per_read, failing)
+    }
+
+    /// What the program writes to.
+    pub fn sink(&self, alloc: Global) -> Result<VecSink, Memory> {
+        let failing = self.failing_writes.as_slice();
+        VecSink::new(alloc, self.room, self.per_write, failing)
     }
 }
 
@@ -167,21 +179,16 @@ impl Draft {
     fn add(&mut self, keyword: &str, rest: &str) -> Result<(), Trouble> {
         self.is_open()?;
         match keyword {
-            "repeat" => {
-                let (count, line) = rest.split_once(' ').unwrap_or((rest, ""));
-                push_copies(self.alloc, &mut self.part, number(count)?, line)?;
-            }
-            "part" => self.part.extend_from_slice(rest.as_bytes())?,
-            "bytes" => {
-                let bytes = bytes(self.alloc, rest)?;
-                self.part.extend_from_slice(bytes.as_slice())?;
-            }
-            "times" => self.part = copies(self.alloc, self.part.as_slice(), number(rest)?)?,
-            "front" => return self.cut(number(rest)?),
-            "grants" => push_grants(self.alloc, &mut self.part, rest)?,
-            "counts" => push_counts(self.alloc, &mut self.part, &counts(rest)?)?,
-            _ => return self.leave_out(),
+            "times" => self.repeat_all(number(rest)?),
+            "front" => self.cut(number(rest)?),
+            "..." => self.leave_out(),
+            _ => push_piece(self.alloc, &mut self.part, keyword, rest),
         }
+    }
+
+    /// Has all that stands above stand so many times.
+    fn repeat_all(&mut self, count: u32) -> Result<(), Trouble> {
+        self.part = copies(self.alloc, self.part.as_slice(), count)?;
         Ok(())
     }
 
@@ -265,6 +272,31 @@ impl Draft {
         }
         Ok(self.case)
     }
+}
+
+/// Adds what a line says that isn't a line of the text or output itself.
+fn push_piece(alloc: Global, out: &mut Vec<u8>, keyword: &str, rest: &str) -> Result<(), Trouble> {
+    match keyword {
+        "repeat" => push_repeated(alloc, out, rest),
+        "bytes" => push_bytes(alloc, out, rest),
+        "grants" => Ok(push_grants(alloc, out, rest)?),
+        "counts" => Ok(push_counts(alloc, out, &counts(rest)?)?),
+        _ => Ok(out.extend_from_slice(rest.as_bytes())?),
+    }
+}
+
+/// Adds the bytes that are given as numbers.
+fn push_bytes(alloc: Global, out: &mut Vec<u8>, text: &str) -> Result<(), Trouble> {
+    let bytes = bytes(alloc, text)?;
+    out.extend_from_slice(bytes.as_slice())?;
+    Ok(())
+}
+
+/// Adds copies of a line, which stands behind their number.
+fn push_repeated(alloc: Global, out: &mut Vec<u8>, text: &str) -> Result<(), Trouble> {
+    let (count, line) = text.split_once(' ').unwrap_or((text, ""));
+    push_copies(alloc, out, number(count)?, line)?;
+    Ok(())
 }
 
 /// Words with blanks between them.

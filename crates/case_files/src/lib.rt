@@ -5,6 +5,7 @@
 mod block;
 mod case;
 mod event_kinds;
+mod folder;
 mod numeral;
 mod row;
 mod script;
@@ -15,6 +16,7 @@ mod walking;
 
 pub use case::Case;
 pub use event_kinds::{KINDS, counted, push_counts};
+pub use folder::files;
 pub use script::{Said, ScriptLine};
 pub use texts::Named;
 pub use trouble::{BadForm, Stop, Trouble};

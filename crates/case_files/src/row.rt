@@ -3,16 +3,23 @@ use crate::section::{behind, is_silent};
 use crate::trouble::{BadForm, Trouble};
 use std::alloc::Global;
 
-/// The rows for each of which a case stands, as lists of columns.
+/// The rows for each of which a case stands, as lists of columns: one of no columns where there are no lines.
 pub fn rows(alloc: Global, lines: &[&str]) -> Result<Vec<Vec<String>>, Trouble> {
     let Some((first, others)) = lines.split_first() else {
-        return Ok(Vec::new(alloc));
+        return one_row(alloc);
     };
     match behind(first, "each") {
         Some("") => listed(alloc, others),
         Some(range) => counted(alloc, range, others),
         None => Err(Trouble::Form(BadForm::NoRow)),
     }
+}
+
+/// One row of no columns.
+fn one_row(alloc: Global) -> Result<Vec<Vec<String>>, Trouble> {
+    let mut rows = Vec::new(alloc);
+    rows.push(Vec::new(alloc))?;
+    Ok(rows)
 }
 
 /// A row for each line.

@@ -31,28 +31,27 @@ fn words<'a>(alloc: Global, line: &'a str) -> Result<Vec<&'a str>, Trouble> {
     Ok(all)
 }
 
-/// That the mail is handled that an actor sent as its mail of this number, from 0.
-fn handle(sender: Actor, number: u32) -> Event {
-    Event::Handle(MailId { sender, number })
+/// The mail that these words name: who sent it, and its number among the mails of that sender, from 0.
+fn mail(words: &[&str]) -> Result<MailId, Trouble> {
+    let (sender, count) = match words {
+        ["core", core, count] => (Actor::Core(CoreId(number(core)?)), count),
+        ["bank", bank, count] => (Actor::Bank(BankId(number(bank)?)), count),
+        ["keeper", count] => (Actor::Keeper, count),
+        _ => return Err(Trouble::Form(BadForm::NoEvent)),
+    };
+    let number = number(count)?;
+    Ok(MailId { sender, number })
 }
 
 /// The event that these words name.
 fn event(words: &[&str]) -> Result<Event, Trouble> {
-    Ok(match words {
-        ["instr", core] => Event::Instr(CoreId(number(core)?)),
-        ["evict", core, word] => Event::Evict(CoreId(number(core)?), WordId(number(word)?)),
-        ["arrive", core] => Event::Arrive(CoreId(number(core)?)),
-        ["handle", "core", core, count] => handle(
-            Actor::Core(CoreId(number(core)?)),
-            number(count)?,
-        ),
-        ["handle", "bank", bank, count] => handle(
-            Actor::Bank(BankId(number(bank)?)),
-            number(count)?,
-        ),
-        ["handle", "keeper", count] => handle(Actor::Keeper, number(count)?),
-        _ => return Err(Trouble::Form(BadForm::NoEvent)),
-    })
+    match words {
+        ["instr", core] => Ok(Event::Instr(CoreId(number(core)?))),
+        ["evict", core, word] => Ok(Event::Evict(CoreId(number(core)?), WordId(number(word)?))),
+        ["arrive", core] => Ok(Event::Arrive(CoreId(number(core)?))),
+        ["handle", words @ ..] => Ok(Event::Handle(mail(words)?)),
+        _ => Err(Trouble::Form(BadForm::NoEvent)),
+    }
 }
 
 /// What these words say.

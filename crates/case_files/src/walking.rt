@@ -107,18 +107,29 @@ impl<C: CaseRunner> Walk<'_, C> {
             .position(|line| behind(line, "each").is_some())
             .unwrap_or(lines.len());
         let (lines, rest) = lines.split_at(each);
-        let mut text = Vec::new(self.alloc);
-        match rows(self.alloc, rest) {
-            Ok(rows) if rows.is_empty() => text = self.run_case(place, lines, &[])?,
-            Ok(rows) => {
-                for row in rows.iter() {
-                    text = self.run_case(place, lines, row.as_slice())?;
-                }
+        let text = match rows(self.alloc, rest) {
+            Ok(rows) => self.run_each(place, lines, rows.as_slice())?,
+            Err(why) => {
+                self.note(place, Stop { place: each, why })?;
+                Vec::new(self.alloc)
             }
-            Err(why) => self.note(place, Stop { place: each, why })?,
-        }
+        };
         self.texts.add(self.alloc, place.name, text.as_slice())?;
         Ok(())
+    }
+
+    /// Runs a case for each of these rows, and gives the last one's text.
+    fn run_each(
+        &mut self,
+        place: &Place<'_>,
+        lines: &[&str],
+        rows: &[Vec<String>],
+    ) -> Result<Vec<u8>, Memory> {
+        let mut text = Vec::new(self.alloc);
+        for row in rows {
+            text = self.run_case(place, lines, row.as_slice())?;
+        }
+        Ok(text)
     }
 
     /// Runs a case with these columns, and gives its text.

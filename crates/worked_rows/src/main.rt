@@ -4,12 +4,10 @@
 #![tactic(auto)]
 
 mod checking;
-mod files;
 mod running;
 
-use case_files::run_all;
+use case_files::{files, run_all};
 use checking::Checking;
-use files::files;
 use std::process::ExitCode;
 use std::rt::Env;
 use std::{env, io};

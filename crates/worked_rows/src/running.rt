@@ -7,18 +7,6 @@ use std::alloc::Global;
 use std::sync::Wait;
 use std::thread::Threads;
 
-/// What the program reads in a case.
-fn source(alloc: Global, case: &Case) -> Result<TextSource, Memory> {
-    let text = case.text.as_slice();
-    TextSource::new(alloc, text, case.per_read, case.failing_reads.as_slice())
-}
-
-/// What the program writes to in a case.
-fn sink(alloc: Global, case: &Case) -> Result<VecSink, Memory> {
-    let failing = case.failing_writes.as_slice();
-    VecSink::new(alloc, case.room, case.per_write, failing)
-}
-
 /// What the program answers to these words.
 fn answer<R: Threads + Wait + Sync>(
     rt: &R,
@@ -32,8 +20,8 @@ fn answer<R: Threads + Wait + Sync>(
 
 /// Runs the program on a case.
 pub fn run<R: Threads + Wait + Sync>(rt: &R, alloc: Global, case: &Case) -> Result<Got, Memory> {
-    let mut source = source(alloc, case)?;
-    let mut sink = sink(alloc, case)?;
+    let mut source = case.source(alloc)?;
+    let mut sink = case.sink(alloc)?;
     let answer = answer(rt, alloc, case.words.as_slice(), &mut source, &mut sink);
     let written = Written {
         exit: answer.status.code(),

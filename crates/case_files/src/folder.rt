@@ -1,4 +1,4 @@
-use case_files::Named;
+use crate::texts::Named;
 use std::rt::Files;
 use std::{fs, io};
 
