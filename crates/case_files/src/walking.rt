@@ -9,8 +9,12 @@ use std::str;
 
 /// What is done with the cases of the files.
 pub trait CaseRunner {
+    /// What holds of the types that a case is run with, as that threads may share them.
+    ghost can_run: { Type 0 };
+
     /// Runs a case, which the label names by its file, its line, its name and its columns.
-    fn run(&mut self, alloc: Global, label: &str, case: &Case) -> Result<(), Stop>;
+    fn run(&mut self, alloc: Global, label: &str, case: &Case) -> Result<(), Stop>
+        requires { can_run };
 
     /// Notes that a line of a file isn't of the form that it should be.
     fn refuse(
@@ -39,11 +43,9 @@ struct Walk<'a, C: CaseRunner> {
 }
 
 /// Runs the cases of all files whose names end in `.cases`.
-pub fn run_all<C: CaseRunner>(
-    alloc: Global,
-    files: &[Named],
-    runner: &mut C,
-) -> Result<(), Memory> {
+pub fn run_all<C: CaseRunner>(alloc: Global, files: &[Named], runner: &mut C) -> Result<(), Memory>
+    requires { C.can_run }
+{
     let mut texts = Texts::new(alloc);
     for file in files {
         texts.add(alloc, file.name.as_str(), file.bytes.as_slice())?;
@@ -68,7 +70,9 @@ impl<C: CaseRunner> Walk<'_, C> {
     }
 
     /// Runs the cases of a file.
-    fn run_file(&mut self, file: &Named) -> Result<(), Memory> {
+    fn run_file(&mut self, file: &Named) -> Result<(), Memory>
+        requires { C.can_run }
+    {
         let name = file.name.as_str();
         let Ok(text) = str::from_utf8(file.bytes.as_slice()) else {
             return self.refuse(name, 0, BadForm::NoText);
@@ -80,7 +84,9 @@ impl<C: CaseRunner> Walk<'_, C> {
     }
 
     /// Runs the case of a section, once or for each of its rows. A section without a case has nothing to say.
-    fn run_section(&mut self, file: &str, section: &Section<'_>) -> Result<(), Memory> {
+    fn run_section(&mut self, file: &str, section: &Section<'_>) -> Result<(), Memory>
+        requires { C.can_run }
+    {
         let first = section.first;
         let Some((head, lines)) = section.lines.split_first() else {
             return Ok(());
@@ -101,7 +107,9 @@ impl<C: CaseRunner> Walk<'_, C> {
     }
 
     /// Runs a case once or for each of its rows. Its text is known from then on; of rows it is the last one's.
-    fn run_rows(&mut self, place: &Place<'_>, lines: &[&str]) -> Result<(), Memory> {
+    fn run_rows(&mut self, place: &Place<'_>, lines: &[&str]) -> Result<(), Memory>
+        requires { C.can_run }
+    {
         let each = lines
             .iter()
             .position(|line| behind(line, "each").is_some())
@@ -124,7 +132,9 @@ impl<C: CaseRunner> Walk<'_, C> {
         place: &Place<'_>,
         lines: &[&str],
         rows: &[Vec<String>],
-    ) -> Result<Vec<u8>, Memory> {
+    ) -> Result<Vec<u8>, Memory>
+        requires { C.can_run }
+    {
         let mut text = Vec::new(self.alloc);
         for row in rows {
             text = self.run_case(place, lines, row.as_slice())?;
@@ -138,7 +148,9 @@ impl<C: CaseRunner> Walk<'_, C> {
         place: &Place<'_>,
         lines: &[&str],
         row: &[String],
-    ) -> Result<Vec<u8>, Memory> {
+    ) -> Result<Vec<u8>, Memory>
+        requires { C.can_run }
+    {
         let case = match read_case(self.alloc, lines, row, &self.texts) {
             Ok(case) => case,
             Err(stop) => {

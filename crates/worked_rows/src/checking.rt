@@ -1,3 +1,5 @@
+ghost use Rattle.std.specs.Thread.{IsSync};
+
 use crate::running::run;
 use case_files::{BadForm, Case, CaseRunner, Stop, Trouble};
 use case_machine::{Got, judge, play};
@@ -42,6 +44,8 @@ impl<'a, R: Threads + Wait + Sync> Checking<'a, R> {
 }
 
 impl<R: Threads + Wait + Sync> CaseRunner for Checking<'_, R> {
+    ghost can_run = { IsSync R.row };
+
     fn run(&mut self, alloc: Global, label: &str, case: &Case) -> Result<(), Stop> {
         let got = self.answer(alloc, case)?;
         match judge(alloc, label, case, &got, &mut self.report) {
