@@ -1,6 +1,5 @@
-use dn_base::{CoreId, Grant, LockId, Outcome, PhaseId, Sequence};
-use run_report::{Refusal, answer_text, checked_line, grant_text, refusal_line, summary};
-use rv_assembler::assemble;
+use dn_base::{CoreId, Outcome, PhaseId, Sequence};
+use run_report::{answer_text, summary};
 use rv_core::{EndShown, Ending, TaskEnd};
 use std::alloc::{AllocError, Global};
 use std::test::Fail;
@@ -29,29 +28,5 @@ fn sums_go_past_32_bits_or_wrap(rt: HostRuntime) -> Result<(), Fail> {
         b"outcome done\ntasks 2\nretired 8589934590\nwords 2\nsum 0x00000010\n".as_slice()
     );
     assert!(rt; answer_text(rt.alloc(), &ending)?.starts_with(b"outcome done\n"));
-    Ok(())
-}
-
-#[test]
-fn lines_are_written(rt: HostRuntime) -> Result<(), Fail> {
-    let alloc = rt.alloc();
-    let grant = Grant {
-        phase: PhaseId(63),
-        core: CoreId(15),
-        lock: LockId(31),
-    };
-    assert_eq!(rt;
-        grant_text(alloc, &[grant])?.as_slice(),
-        b"grant 63 15 31\n".as_slice()
-    );
-    assert_eq!(rt;
-        refusal_line(alloc, &Refusal::Usage)?.as_slice(),
-        b"refused usage\n".as_slice()
-    );
-    let program = assemble(alloc, b".region m, 16\n.phase")?;
-    assert_eq!(rt;
-        checked_line(alloc, &program)?.as_slice(),
-        b"checked 1 0 16\n".as_slice()
-    );
     Ok(())
 }

@@ -5,5 +5,3 @@
 mod answers;
 #[cfg(test)]
 mod machine;
-#[cfg(test)]
-mod reports;

@@ -1,5 +1,12 @@
-//! Tests of the whole program as its callers see it. They stand in a crate of their own, so that `dn_top` is proved once.
+//! Tests of the whole program as its callers see it, and of whole runs by several workers. They stand in a crate of their own, so
+//! that `dn_top` is proved once.
 #![tactic(auto)]
 
 #[cfg(test)]
-mod tests;
+mod answers;
+#[cfg(test)]
+mod calls;
+#[cfg(test)]
+mod meeting;
+#[cfg(test)]
+mod turns;

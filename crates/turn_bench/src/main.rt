@@ -2,16 +2,17 @@
 //!
 //! With no argument each thread makes a fixed number of calls, and the program prints how many there were. With one, MILLIS, each
 //! run lasts so many milliseconds, and it prints calls per second for 1, 2, 4, 8 and 17 threads, the medians of several runs taken
-//! in turns, and how many times as long as under a `Mutex` a call takes through a turn. With three, MILLIS THREADS turn or
-//! MILLIS THREADS mutex, it makes one run of one of the two, so that its processor time can be seen.
+//! in turns, and how many times as long as under a `Mutex` a call takes through a turn; then, of one more run each way, in which
+//! each thread looks at the clock at each call, the fewest and the most calls that one thread made, and the longest time from one
+//! call of a thread to its next. With three, MILLIS THREADS turn or MILLIS THREADS mutex, it makes one run of one of the two, so
+//! that its processor time can be seen.
 #![tactic(auto)]
 
-ghost use Rattle.std.specs.Prelude.{◌≤◌};
-
+mod limit;
 mod runs;
 mod total;
 
-use crate::runs::Limit;
+use crate::limit::{Limit, Run};
 use std::alloc::Global;
 use std::rt::{Clock, Env};
 use std::sync::Wait;
@@ -23,13 +24,25 @@ use std::{env, io, thread};
 const CALLS: u32 = 8000;
 
 // So many runs are measured each way.
-const RUNS: u32 = 5;
+const RUNS: usize = 5;
+
+// So many threads share the object.
+const THREADS: [u32; 5] = [1, 2, 4, 8, 17];
 
 // Which of the two is measured.
 #[derive(Clone, Copy)]
 enum Way {
     Turn,
     Mutex,
+}
+
+impl Way {
+    fn name(self) -> &'static str {
+        match self {
+            Way::Turn => "turn",
+            Way::Mutex => "mutex",
+        }
+    }
 }
 
 // The words of the command, without the program's name.
@@ -58,68 +71,133 @@ fn way_of(words: &[String]) -> Option<Way> {
     }
 }
 
+// How long a run lasts, where the first word says so.
+fn time_of(words: &[String]) -> Option<Duration> {
+    Some(Duration::from_millis(u64::from(number_at(words, 0)?)))
+}
+
+// One run.
+fn run<R: Threads + Wait + Clock + Sync>(
+    rt: &R,
+    alloc: Global,
+    way: Way,
+    threads: u32,
+    limit: Limit,
+) -> Option<Run> {
+    match way {
+        Way::Turn => runs::by_turn(rt, alloc, threads, limit),
+        Way::Mutex => runs::by_mutex(rt, alloc, threads, limit),
+    }
+}
+
+// The end of a run that begins now.
+fn until<R: Clock>(rt: &R, time: Duration, is_watched: bool) -> Option<Limit> {
+    let now = Instant::now(rt).ok()?;
+    Some(Limit {
+        calls: u32::MAX,
+        end: Some(now.checked_add(time)?),
+        is_watched,
+    })
+}
+
 fn per_second(calls: u64, taken: Duration) -> u64 {
     let micros = taken.as_micros().max(1);
     u64::try_from(u128::from(calls) * 1_000_000 / micros).unwrap_or(u64::MAX)
 }
 
-fn until<R: Clock>(rt: &R, time: Duration) -> io::Result<Limit> {
-    let end = Instant::now(rt)?.checked_add(time);
-    Ok(Limit {
-        calls: u32::MAX,
-        end,
-    })
-}
-
-// Calls per second of one run.
+// Calls per second of one run, or None where memory or the clock failed.
 fn rate<R: Threads + Wait + Clock + Sync>(
     rt: &R,
     alloc: Global,
     way: Way,
     threads: u32,
     time: Duration,
-) -> io::Result<u64>
-    requires some { 1 ≤ threads }
-    requires few { threads ≤ 17 }
-{
-    let start = Instant::now(rt)?;
-    let limit = until(rt, time)?;
-    let calls = match way {
-        Way::Turn => runs::by_turn(rt, alloc, threads, limit),
-        Way::Mutex => runs::by_mutex(rt, alloc, threads, limit),
-    };
-    Ok(per_second(calls.unwrap_or(0), start.elapsed(rt)?))
+) -> Option<u64> {
+    let start = Instant::now(rt).ok()?;
+    let run = run(rt, alloc, way, threads, until(rt, time, false)?)?;
+    Some(per_second(run.calls, start.elapsed(rt).ok()?))
 }
 
-fn median(mut rates: Vec<u64>) -> u64 {
-    rates.sort_unstable();
-    let middle = rates.len() / 2;
-    rates.get(middle).copied().unwrap_or(0)
-}
-
-fn measure<R: Threads + Wait + Clock + Print + Sync>(
+// The medians of calls per second, of runs taken in turns: through the turn, and under the `Mutex`.
+fn medians<R: Threads + Wait + Clock + Sync>(
     rt: &R,
     alloc: Global,
     threads: u32,
     time: Duration,
-) -> io::Result<()>
-    requires some { 1 ≤ threads }
-    requires few { threads ≤ 17 }
-{
-    let mut turns = Vec::new(alloc);
-    let mut mutexes = Vec::new(alloc);
-    for _run in 0..RUNS {
-        turns.push(rate(rt, alloc, Way::Turn, threads, time)?)?;
-        mutexes.push(rate(rt, alloc, Way::Mutex, threads, time)?)?;
+) -> (u64, u64) {
+    let mut turns = [0; RUNS];
+    let mut mutexes = [0; RUNS];
+    for (turn, mutex) in turns.iter_mut().zip(mutexes.iter_mut()) {
+        *turn = rate(rt, alloc, Way::Turn, threads, time).unwrap_or(0);
+        *mutex = rate(rt, alloc, Way::Mutex, threads, time).unwrap_or(0);
     }
-    let turn = median(turns);
-    let mutex = median(mutexes);
+    turns.sort_unstable();
+    mutexes.sort_unstable();
+    (turns[RUNS / 2], mutexes[RUNS / 2])
+}
+
+fn print_rates<R: Print>(rt: &R, threads: u32, turn: u64, mutex: u64) -> io::Result<()> {
     let hundredths = u128::from(mutex) * 100 / u128::from(turn.max(1));
     let whole = hundredths / 100;
     let rest = hundredths % 100;
     println!(rt;
         "threads {threads}: turn {turn} calls/s, mutex {mutex} calls/s, ratio {whole}.{rest:02}"
     )
+}
+
+// One run in which the threads watch their waits, or None where memory or the clock failed.
+fn watched<R: Threads + Wait + Clock + Sync>(
+    rt: &R,
+    alloc: Global,
+    way: Way,
+    threads: u32,
+    time: Duration,
+) -> Option<Run> {
+    run(rt, alloc, way, threads, until(rt, time, true)?)
+}
+
+// Makes one run in which the threads watch their waits, and prints what is seen of single threads.
+fn watch<R: Threads + Wait + Clock + Print + Sync>(
+    rt: &R,
+    alloc: Global,
+    way: Way,
+    threads: u32,
+    time: Duration,
+) -> io::Result<()> {
+    match watched(rt, alloc, way, threads, time) {
+        Some(run) => print_shares(rt, way, threads, run),
+        None => println!(rt; "memory or the clock failed"),
+    }
+}
+
+fn print_shares<R: Print>(rt: &R, way: Way, threads: u32, run: Run) -> io::Result<()> {
+    let way = way.name();
+    let Run {
+        calls: _,
+        least,
+        most,
+        wait,
+    } = run;
+    println!(rt;
+        "threads {threads}: {way}: calls of one thread {least} to {most}, longest wait {wait} us"
+    )
+}
+
+// Measures both ways.
+fn measure<R: Threads + Wait + Clock + Print + Sync>(
+    rt: &R,
+    alloc: Global,
+    time: Duration,
+) -> io::Result<()> {
+    let processors = thread::available_parallelism(rt)?.get();
+    println!(rt; "processors {processors}")?;
+    for threads in THREADS {
+        let (turn, mutex) = medians(rt, alloc, threads, time);
+        print_rates(rt, threads, turn, mutex)?;
+        watch(rt, alloc, Way::Turn, threads, time)?;
+        watch(rt, alloc, Way::Mutex, threads, time)?;
+    }
+    Ok(())
 }
 
 // Makes one run, and prints its calls per second.
@@ -130,63 +208,49 @@ fn run_once<R: Threads + Wait + Clock + Print + Sync>(
     threads: u32,
     time: Duration,
 ) -> io::Result<()> {
-    if threads == 0 || threads > 17 {
-        return println!(rt; "the number of threads is from 1 to 17");
+    match rate(rt, alloc, way, threads, time) {
+        Some(calls) => println!(rt; "threads {threads}: {calls} calls/s"),
+        None => println!(rt;
+            "the number of threads is not from 1 to 17, or memory or the clock failed"
+        ),
     }
-    let calls = rate(rt, alloc, way, threads, time)?;
-    println!(rt; "threads {threads}: {calls} calls/s")
 }
 
-fn count<R: Threads + Wait + Clock + Print + Sync>(
+// So many calls in all, each thread as many as the others.
+fn calls_of<R: Threads + Wait + Clock + Sync>(
     rt: &R,
     alloc: Global,
+    way: Way,
     threads: u32,
-) -> io::Result<()>
-    requires some { 1 ≤ threads }
-    requires few { threads ≤ 17 }
-{
+) -> u64 {
     let limit = Limit {
-        calls: CALLS / threads,
+        calls: CALLS / threads.max(1),
         end: None,
+        is_watched: false,
     };
-    let turn = runs::by_turn(rt, alloc, threads, limit).unwrap_or(0);
-    let mutex = runs::by_mutex(rt, alloc, threads, limit).unwrap_or(0);
-    println!(rt; "threads {threads}: turn {turn} calls, mutex {mutex} calls")
+    match run(rt, alloc, way, threads, limit) {
+        Some(run) => run.calls,
+        None => 0,
+    }
 }
 
-fn bench<R: Threads + Wait + Clock + Print + Sync>(
-    rt: &R,
-    alloc: Global,
-    threads: u32,
-    time: Option<Duration>,
-) -> io::Result<()>
-    requires some { 1 ≤ threads }
-    requires few { threads ≤ 17 }
-{
-    match time {
-        Some(time) => measure(rt, alloc, threads, time),
-        None => count(rt, alloc, threads),
+// Counts both ways.
+fn count<R: Threads + Wait + Clock + Print + Sync>(rt: &R, alloc: Global) -> io::Result<()> {
+    for threads in THREADS {
+        let turn = calls_of(rt, alloc, Way::Turn, threads);
+        let mutex = calls_of(rt, alloc, Way::Mutex, threads);
+        println!(rt; "threads {threads}: turn {turn} calls, mutex {mutex} calls")?;
     }
+    Ok(())
 }
 
 fn main(rt: HostRuntime) -> io::Result<()> {
     let alloc = rt.alloc();
     let words = words(&rt)?;
-    let time = number_at(words.as_slice(), 0).map(|millis| Duration::from_millis(u64::from(
-        millis,
-    )));
-    let threads = number_at(words.as_slice(), 1);
-    let way = way_of(words.as_slice());
-    if let (Some(time), Some(threads), Some(way)) = (time, threads, way) {
-        return run_once(&rt, alloc, way, threads, time);
+    let words = words.as_slice();
+    match (time_of(words), number_at(words, 1), way_of(words)) {
+        (Some(time), Some(threads), Some(way)) => run_once(&rt, alloc, way, threads, time),
+        (Some(time), _, _) => measure(&rt, alloc, time),
+        (None, _, _) => count(&rt, alloc),
     }
-    if time.is_some() {
-        let processors = thread::available_parallelism(&rt)?.get();
-        println!(&rt; "processors {processors}")?;
-    }
-    bench(&rt, alloc, 1, time)?;
-    bench(&rt, alloc, 2, time)?;
-    bench(&rt, alloc, 4, time)?;
-    bench(&rt, alloc, 8, time)?;
-    bench(&rt, alloc, 17, time)
 }

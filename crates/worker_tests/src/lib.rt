@@ -1,5 +1,5 @@
-//! Tests of `host_workers`: passes of one worker, rounds, and a whole run by two workers, of small texts whose events follow from the
-//! rules by hand. They are a crate of their own, since a crate is proved once more with its tests.
+//! Tests of `host_workers`: passes of one worker, and rounds, of small texts whose events follow from the rules by hand. They are a
+//! crate of their own, since a crate is proved once more with its tests.
 #![tactic(auto)]
 
 #[cfg(test)]
@@ -8,5 +8,3 @@ mod passes;
 mod rounds;
 #[cfg(test)]
 mod texts;
-#[cfg(test)]
-mod turns;

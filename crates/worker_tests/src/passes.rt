@@ -1,5 +1,5 @@
 //! Passes of a worker that owns all of a machine of one core and four banks.
-ghost use Rattle.std.specs.Prelude.{◌≡◌, ◌<◌, [], length, IfOk};
+ghost use Rattle.std.specs.Prelude.{◌≡◌, ◌<◌, [], length, IfOk, OnOk};
 ghost use Rattle.registration_protocol.specs.Fit.{IsContext};
 ghost use Rattle.registration_protocol.specs.Setting.{setting};
 ghost use Rattle.bank_hall.specs.Halls.{IsHallPass};
@@ -106,6 +106,23 @@ struct Passes {
     crew: Crew,
 }
 
+/// One pass. The tests see what it did by its answer and by what the worker owns then.
+fn one_pass<R: Wait>(
+    rt: &R,
+    hall: &Hall,
+    context: &Context<'_>,
+    pass: &mut Pass,
+    crew: &mut Crew,
+    draws: &mut Pcg32,
+) -> Result<u32, Memory>
+    requires may { MayAct (setting context.now) hall.now pass.old }
+    requires crew { IsCrew (setting context.now) crew.old }
+    ensures may { MayAct (setting context.now) hall.now pass.new }
+    ensures crew { OnOk result (IsCrew (setting context.now) crew.new) }
+{
+    worker_pass(rt, hall, pass, context, crew, draws, &OpenGate)
+}
+
 /// Eight passes of a worker.
 fn eight_passes<R: Wait>(
     rt: &R,
@@ -119,10 +136,8 @@ fn eight_passes<R: Wait>(
 {
     let mut draws = Pcg32::seed_from_u64(1);
     let mut made = [0; 8];
-    for place in 0..8 {
-        made[place] = worker_pass(
-            rt, hall, &mut pass, context, &mut crew, &mut draws, &OpenGate,
-        )?;
+    for answer in made.iter_mut() {
+        *answer = one_pass(rt, hall, context, &mut pass, &mut crew, &mut draws)?;
     }
     Ok(Passes { made, crew })
 }

@@ -1,5 +1,5 @@
 //! The texts that the tests run, their machines, and what follows from the rules by hand.
-ghost use Rattle.std.specs.Prelude.{◌≡◌, ◌≤◌, IfOk};
+ghost use Rattle.std.specs.Prelude.{◌≡◌, IfOk};
 
 use dn_base::{BankId, CoreId, Memory, Shape};
 use dn_machine::Machine;
@@ -8,6 +8,9 @@ use grant_log::Stamped;
 use message_net::{Actor, Event, EventKind, MailId};
 use rv_assembler::assemble;
 use std::alloc::Global;
+
+/// So many banks each machine has.
+pub(crate) const BANKS: u32 = 4;
 
 /// A task stores 5 into the only word.
 pub(crate) const STORE_FIVE: &[u8] = b"\
@@ -19,27 +22,6 @@ go: lui t0, 0x10000
  addi t1, x0, 5
  sw t1, 0(t0)
  addi a7, x0, 0
- ecall
-";
-
-/// Two tasks read the same word and store its value, each into a word of its own.
-pub(crate) const SHARED_READS: &[u8] = b"\
-.region s, 1
-.region o, 2
-.word s, 0, 7
-.phase
-.task 0, go, 0
-.reads s
-.writes o, 0, 1
-.task 1, go, 4
-.reads s
-.writes o, 1, 2
-go: la t0, s
- lw t1, 0(t0)
- la t2, o
- add t2, t2, a0
- sw t1, 0(t2)
- li a7, 0
  ecall
 ";
 
@@ -77,22 +59,17 @@ pub(crate) fn checked_of(alloc: Global, text: &[u8]) -> Result<Checked, Memory> 
     let Ok(program) = assemble(alloc, text) else {
         return Err(Memory);
     };
-    let Ok(checked) = check(program) else {
-        return Err(Memory);
-    };
-    Ok(checked)
+    check(program).map_err(|_fault| Memory)
 }
 
-/// The machine of a text, with so many banks, whose caches have 64 sets of four places.
-pub(crate) fn machine_of(alloc: Global, text: &[u8], banks: u32) -> Result<Machine, Memory>
-    requires some { 1 ≤ banks }
-    requires few { banks ≤ 16 }
+/// The machine of a text, with four banks, whose caches have 64 sets of four places.
+pub(crate) fn machine_of(alloc: Global, text: &[u8]) -> Result<Machine, Memory>
     ensures { IfOk result (λ m. m.made ≡ 0) }
 {
     let checked = checked_of(alloc, text)?;
     let shape = Shape {
         cores: checked.program().cores(),
-        banks,
+        banks: BANKS,
         sets: 64,
         ways: 4,
     };

@@ -2,17 +2,21 @@ ghost use Rattle.std.specs.Prelude.{◌≡◌, IfSome};
 
 use dn_base::Shape;
 use dn_machine::Machine;
-use effect_checker::check;
+use effect_checker::{Checked, check};
 use rv_assembler::assemble;
 use std::alloc::Global;
+
+/// The program of a text; None where the text is refused, or there is no room.
+fn checked_of(alloc: Global, text: &[u8]) -> Option<Checked> {
+    check(assemble(alloc, text).ok()?).ok()
+}
 
 /// The machine of a text, of the size that the command has where none is asked for; None where the text is refused, or there is no
 /// room.
 pub fn machine_of(alloc: Global, text: &[u8]) -> Option<Machine>
     ensures { IfSome result (λ m. m.made ≡ 0) }
 {
-    let program = assemble(alloc, text).ok()?;
-    let checked = check(program).ok()?;
+    let checked = checked_of(alloc, text)?;
     let shape = Shape {
         cores: checked.program().cores(),
         banks: 4,

@@ -12,8 +12,8 @@ mod rounds;
 
 use crate::machine::machine_of;
 use crate::rounds::{Tally, count_rounds};
-use dn_base::OpenGate;
-use dn_machine::Machine;
+use dn_base::{Memory, OpenGate};
+use dn_machine::{Machine, RunRecord};
 use host_workers::run_workers;
 use std::alloc::Global;
 use std::rt::{Clock, Env};
@@ -34,29 +34,56 @@ fn words(rt: &(impl Env + AllocGlobal)) -> io::Result<Vec<String>> {
     Ok(words)
 }
 
-/// Runs a machine, and prints how many events there were and, where that is asked for, how long it took.
+/// The run of a machine. What is promised of it is of no use here.
+fn run<R: Threads + Wait + Sync>(
+    rt: &R,
+    alloc: Global,
+    machine: Machine,
+    workers: u32,
+) -> Result<RunRecord, Memory>
+    requires some { 1 ≤ workers }
+    requires few { workers ≤ 16 }
+    requires made { machine.made ≡ 0 }
+{
+    run_workers(rt, alloc, machine, workers, SEED, &OpenGate)
+}
+
+/// Runs a machine, and prints how many events there were.
+fn run_only<R: Threads + Wait + Print + Sync>(
+    rt: &R,
+    alloc: Global,
+    machine: Machine,
+    workers: u32,
+) -> io::Result<()>
+    requires some { 1 ≤ workers }
+    requires few { workers ≤ 16 }
+    requires made { machine.made ≡ 0 }
+{
+    let Ok(record) = run(rt, alloc, machine, workers) else {
+        return println!(rt; "there was no memory");
+    };
+    let events = record.events.len();
+    println!(rt; "events {events}")
+}
+
+/// Runs a machine, and prints how many events there were and how long it took.
 fn time<R: Threads + Wait + Clock + Print + Sync>(
     rt: &R,
     alloc: Global,
     machine: Machine,
     workers: u32,
-    is_timed: bool,
 ) -> io::Result<()>
     requires some { 1 ≤ workers }
     requires few { workers ≤ 16 }
     requires made { machine.made ≡ 0 }
 {
     let begun = Instant::now(rt)?;
-    let Ok(record) = run_workers(rt, alloc, machine, workers, SEED, &OpenGate) else {
+    let Ok(record) = run(rt, alloc, machine, workers) else {
         return println!(rt; "there was no memory");
     };
     let micros = begun.elapsed(rt)?.as_micros();
     let events = record.events.len();
-    if is_timed {
-        println!(rt; "events {events} micros {micros}")
-    } else {
-        println!(rt; "events {events}")
-    }
+    println!(rt; "events {events} micros {micros}")
 }
 
 /// Runs a machine, and prints how many events, rounds and passes there were.
@@ -73,31 +100,62 @@ fn count<R: Threads + Wait + Print + Sync>(
     let Ok(tally) = count_rounds(rt, alloc, machine, workers, SEED) else {
         return println!(rt; "there was no memory");
     };
-    let Tally {
-        events,
-        rounds,
-        passes,
-    } = tally;
+    print_tally(rt, &tally, workers)
+}
+
+/// Prints how many events, rounds and passes of so many workers there were.
+fn print_tally<R: Print>(rt: &R, tally: &Tally, workers: u32) -> io::Result<()> {
+    let events = tally.events;
+    let rounds = tally.rounds;
     print!(rt; "events {events} rounds {rounds} passes")?;
-    for (_worker, many) in (0..workers).zip(passes.iter()) {
+    for (_worker, many) in (0..workers).zip(tally.passes.iter()) {
         print!(rt; " {many}")?;
     }
     println!(rt; "")
 }
 
+/// The number of workers that the first word asks for, 1 where it is no number.
+fn workers_of(words: &[String]) -> u32
+    ensures { (1 ≤ result) × (result ≤ 16) }
+{
+    let asked = match words.first() {
+        Some(word) => word.as_str().parse::<u32>().unwrap_or(1),
+        None => 1,
+    };
+    asked.max(1).min(16)
+}
+
+/// What is measured besides the events.
+#[derive(Clone, Copy)]
+enum Measure {
+    Nothing,
+    Time,
+    Rounds,
+}
+
+/// What the second word asks for.
+fn measure_of(words: &[String]) -> Measure {
+    let Some(word) = words.get(1) else {
+        return Measure::Nothing;
+    };
+    if word.as_str() == "rounds" {
+        Measure::Rounds
+    } else {
+        Measure::Time
+    }
+}
+
 fn main(rt: HostRuntime) -> io::Result<()> {
     let alloc = rt.alloc();
     let words = words(&rt)?;
-    let first = words
-        .first()
-        .and_then(|word| word.as_str().parse::<u32>().ok());
-    let workers = first.unwrap_or(1).max(1).min(16);
+    let workers = workers_of(words.as_slice());
     let text = io::read_to_string(alloc, rt.reader())?;
     let Some(machine) = machine_of(alloc, text.as_bytes()) else {
         return println!(rt; "the text has no machine, or there was no memory");
     };
-    match words.get(1).map(|word| word.as_str()) {
-        Some("rounds") => count(&rt, alloc, machine, workers),
-        asked => time(&rt, alloc, machine, workers, asked.is_some()),
+    match measure_of(words.as_slice()) {
+        Measure::Rounds => count(&rt, alloc, machine, workers),
+        Measure::Time => time(&rt, alloc, machine, workers),
+        Measure::Nothing => run_only(&rt, alloc, machine, workers),
     }
 }

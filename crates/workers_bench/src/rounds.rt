@@ -1,5 +1,7 @@
 //! How many rounds a run has, and how many passes each worker makes in them.
-ghost use Rattle.std.specs.Prelude.{◌≡◌, ◌≤◌};
+ghost use Rattle.std.specs.Prelude.{◌≡◌, ◌<◌, ◌≤◌, false, IfOk};
+ghost use Rattle.machine_rules.specs.State.{State};
+ghost use Rattle.host_workers.specs.Opening.{StandsFor};
 
 use bank_hall::{BankActor, BankIn, Port, PortIn};
 use dn_base::{Memory, OpenGate};
@@ -56,6 +58,38 @@ impl Tally {
     }
 }
 
+/// Whether no event may come, or a round takes the machine no more.
+fn is_over(machine: &Machine) -> bool
+    ensures { result ≡ false → machine.now.made < 3000000000 }
+{
+    machine.pick(0).is_none() || machine.made() >= MOST_EVENTS
+}
+
+/// As a run begins, the machine stands for a state.
+fn a_first_machine_stands(machine: &Machine)
+    requires { machine.now.made ≡ 0 }
+    ensures { (S : State) × StandsFor S machine.now.state }
+{
+    a_machine_is_kept(machine);
+}
+
+/// One round. Of what it leaves, the count needs only that another round may follow.
+fn next_round<R: Threads + Wait + Sync>(
+    rt: &R,
+    alloc: Global,
+    machine: Machine,
+    workers: u32,
+    seed: u32,
+) -> Result<Round, Memory>
+    requires some { 1 ≤ workers }
+    requires few { workers ≤ 16 }
+    requires made { machine.made < 3000000000 }
+    requires stands { (S : State) × StandsFor S machine.state }
+    ensures { IfOk result (λ round. (S : State) × StandsFor S round.machine.state) }
+{
+    run_round(rt, alloc, machine, workers, seed, &OpenGate)
+}
+
 /// Makes a run in rounds, as `run_workers` does, and counts. Workers that own no bank and no core are not counted.
 ///
 /// # Errors
@@ -71,7 +105,7 @@ pub fn count_rounds<R: Threads + Wait + Sync>(
     requires few { workers ≤ 16 }
     requires made { machine.made ≡ 0 }
 {
-    a_machine_is_kept(&machine);
+    a_first_machine_stands(&machine);
     let mut tally = Tally {
         events: 0,
         rounds: 0,
@@ -79,17 +113,10 @@ pub fn count_rounds<R: Threads + Wait + Sync>(
     };
     let mut current = machine;
     for round in 0..u32::MAX {
-        if current.pick(0).is_none() || current.made() >= MOST_EVENTS {
+        if is_over(&current) {
             break;
         }
-        let made = run_round(
-            rt,
-            alloc,
-            current,
-            workers,
-            seed.wrapping_add(round),
-            &OpenGate,
-        )?;
+        let made = next_round(rt, alloc, current, workers, seed.wrapping_add(round))?;
         tally.add(&made);
         current = made.machine;
     }

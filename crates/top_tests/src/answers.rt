@@ -1,0 +1,66 @@
+//! A text's answers, and replays of traces.
+use crate::calls::{Written, asked, asked_alone};
+use dn_base::{Memory, OpenGate};
+use std::alloc::Global;
+use std::sync::Wait;
+use std::test::Fail;
+use std::thread::Threads;
+
+/// One data word, in which a task stores 5.
+const STORE_FIVE: &str =
+    ".region m, 1\n.phase\n.task 0, go, 0\n.writes m\ngo: lui t0, 0x10000\n addi t1, x0, 5\n sw t1, 0(t0)\n addi a7, x0, 0\n ecall\n";
+
+/// Its answer and its run: an event each for the five instructions, the request of a registration and its acknowledgement, the
+/// arrival, its message, and the halt.
+const STORED_FIVE: &str =
+    "outcome done\ntask 0 0 finished retired 5\nwords 1\nword 0x10000000 0x00000005\ncount events 10\ncount instr 5\ncount evict 0\ncount arrive 1\ncount read-req 0\ncount read-fwd 0\ncount data-reply 0\ncount reg-req 1\ncount reg-fwd 0\ncount reg-ack 1\ncount write-back 0\ncount wb-ack 0\ncount acquire 0\ncount release 0\ncount grant 0\ncount arrived 1\ncount go 0\ncount halt 1\n";
+
+/// Four tasks each add 1 to a word under a lock, a hundred times.
+const COUNTER: &str =
+    ".region c, 1\n.lock k\n.phase\n.task 0, go, 100\n.gwrites k, c\n.task 1, go, 100\n.gwrites k, c\n.task 2, go, 100\n.gwrites k, c\n.task 3, go, 100\n.gwrites k, c\ngo: mv s0, a0\n la t0, c\nl: li a0, 0\n li a7, 1\n ecall\n lw t1, 0(t0)\n addi t1, t1, 1\n sw t1, 0(t0)\n li a7, 2\n ecall\n addi s0, s0, -1\n bnez s0, l\n li a7, 0\n ecall\n";
+
+/// What the program does with a text where no gate holds anybody.
+fn open<R: Threads + Wait + Sync>(
+    rt: &R,
+    alloc: Global,
+    words: &[&str],
+    text: &[u8],
+) -> Result<Written, Memory> {
+    asked(rt, alloc, words, text, &OpenGate)
+}
+
+/// Traces the run of `COUNTER` that these words ask for, and replays the trace.
+fn replayed<R: Threads + Wait + Sync>(
+    rt: &R,
+    alloc: Global,
+    words: &[&str],
+) -> Result<Written, Memory> {
+    let trace = open(rt, alloc, words, COUNTER.as_bytes())?;
+    open(rt, alloc, &["--mode", "replay"], trace.bytes())
+}
+
+/// How many grants and words the run has, where it is Done, and its first word.
+fn counted(written: Written) -> Option<(usize, usize, u32)> {
+    let run = written.done()?;
+    let memory = run.ending.memory;
+    Some((run.grants.len(), memory.len(), *memory.get(0)?))
+}
+
+#[test]
+fn texts_are_answered_and_traces_replay_as_their_runs(rt: HostRuntime) -> Result<(), Fail> {
+    let alloc = rt.alloc();
+    let ran = open(&rt, alloc, &[], STORE_FIVE.as_bytes())?;
+    assert_eq!(rt; ran.told(), (0, STORED_FIVE.as_bytes(), Some(10)));
+    let checked = asked_alone(alloc, &["--mode", "check"], STORE_FIVE.as_bytes())?;
+    assert_eq!(rt; checked.told(), (0, b"checked 1 1 1\n".as_slice(), None));
+    for seed in 1..21_u32 {
+        let seed = seed.to_string(alloc)?;
+        let run = open(&rt, alloc, &["--seed", seed.as_str()], COUNTER.as_bytes())?;
+        let replay = replayed(&rt, alloc, &["--mode", "trace", "--seed", seed.as_str()])?;
+        assert_eq!(rt; replay.told(), run.told());
+        assert_eq!(rt; counted(run), Some((400, 1, 400)));
+    }
+    let replay = replayed(&rt, alloc, &["--mode", "trace", "--workers", "4"])?;
+    assert_eq!(rt; counted(replay), Some((400, 1, 400)));
+    Ok(())
+}
