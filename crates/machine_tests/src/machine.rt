@@ -104,7 +104,10 @@ fn a_machine_goes_on_once_it_is_joined(rt: HostRuntime) -> Result<(), Fail> {
     assert_eq!(rt; left(&machine), (0, Some(first), 0, None));
     go_on(&mut machine, 3)?;
     let mut machine = joined(machine);
-    assert_eq!(rt; (next_mail(&machine), asked(&machine)), (1, Some(Actor::Bank(BankId(0)))));
+    assert_eq!(rt;
+        (next_mail(&machine), asked(&machine)),
+        (1, Some(Actor::Bank(BankId(0))))
+    );
     go_on(&mut machine, 40)?;
     let end = TaskEnd {
         phase: PhaseId(0),
