@@ -1,36 +1,50 @@
-//! Calls of the program. The tests use none of its promises, so these functions hand none of them on.
-use dn_base::{Gate, Memory, Status, TextSource, VecSink};
+//! Calls of the program. The tests use none of its promises, so these functions hand none of them on; nor do the tests keep a
+//! run's record or a sink, since they would take longer to prove then.
+use dn_base::{Gate, Memory, TextSource, VecSink};
 use dn_top::{Answer, RunRecord, answer_words, denovo_main};
+use rv_core::TaskEnd;
 use std::alloc::Global;
 use std::sync::Wait;
 use std::thread::Threads;
 
-/// What the program answered, and what it wrote to.
+/// What the tests see of a run: how many events and grants it has, how its tasks ended, and the words at its end.
 #[derive(Drop)]
-pub(crate) struct Written {
-    answer: Answer,
-    sink: VecSink,
+pub(crate) struct Came {
+    pub(crate) events: usize,
+    pub(crate) grants: usize,
+    pub(crate) tasks: Vec<TaskEnd>,
+    pub(crate) memory: Vec<u32>,
 }
 
-impl Written {
-    /// The exit code, what was written, and how many events the run has, where there is one.
-    pub(crate) fn told(&self) -> (u8, &[u8], Option<usize>) {
-        let events = self.answer.run.as_ref().map(|run| run.events.len());
-        (self.answer.status.code(), self.sink.bytes(), events)
-    }
+/// What the program answered and wrote.
+#[derive(Drop)]
+pub(crate) struct Written {
+    pub(crate) code: u8,
+    pub(crate) bytes: Vec<u8>,
+    pub(crate) run: Option<Came>,
+}
 
-    /// What was written.
-    pub(crate) fn bytes(&self) -> &[u8] {
-        self.sink.bytes()
-    }
+/// What is seen of a run.
+pub(crate) fn seen_of(alloc: Global, run: &RunRecord) -> Result<Came, Memory> {
+    Ok(Came {
+        events: run.events.len(),
+        grants: run.grants.len(),
+        tasks: Vec::from_slice(alloc, run.ending.tasks.as_slice())?,
+        memory: Vec::from_slice(alloc, run.ending.memory.as_slice())?,
+    })
+}
 
-    /// The run, where the status is Done.
-    pub(crate) fn done(self) -> Option<RunRecord> {
-        match self.answer.status {
-            Status::Done => self.answer.run,
-            _ => None,
-        }
-    }
+/// What is seen of an answer and its sink.
+fn seen(alloc: Global, answer: &Answer, sink: &VecSink) -> Result<Written, Memory> {
+    let run = match &answer.run {
+        Some(run) => Some(seen_of(alloc, run)?),
+        None => None,
+    };
+    Ok(Written {
+        code: answer.status.code(),
+        bytes: Vec::from_slice(alloc, sink.bytes())?,
+        run,
+    })
 }
 
 fn words_of(alloc: Global, words: &[&str]) -> Result<Vec<String>, Memory> {
@@ -81,7 +95,7 @@ pub(crate) fn asked<R: Threads + Wait + Sync, G: Gate + Sync>(
     let mut source = source_of(alloc, text)?;
     let mut sink = large_sink(alloc)?;
     let answer = call(rt, alloc, words.as_slice(), &mut source, &mut sink, gate);
-    Ok(Written { answer, sink })
+    seen(alloc, &answer, &sink)
 }
 
 /// What `answer_words` does with these words and this text.
@@ -90,5 +104,5 @@ pub(crate) fn asked_alone(alloc: Global, words: &[&str], text: &[u8]) -> Result<
     let mut source = source_of(alloc, text)?;
     let mut sink = large_sink(alloc)?;
     let answer = call_alone(alloc, words.as_slice(), &mut source, &mut sink);
-    Ok(Written { answer, sink })
+    seen(alloc, &answer, &sink)
 }

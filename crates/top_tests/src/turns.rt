@@ -1,7 +1,7 @@
 //! Two workers stand in the turns of two banks at the same time.
 ghost use Rattle.std.specs.Prelude.{◌≡◌, IfOk};
 
-use crate::calls::asked;
+use crate::calls::{Came, asked, seen_of};
 use crate::meeting::Meeting;
 use dn_base::{CoreId, Memory, PhaseId, Shape};
 use dn_machine::Machine;
@@ -53,8 +53,7 @@ fn machine(alloc: Global) -> Result<Machine, Memory>
     Machine::start(alloc, checked, shape, 32_768)
 }
 
-/// The run by `run_workers`.
-fn run_of_workers<R: Threads + Wait + Sync>(
+fn run<R: Threads + Wait + Sync>(
     rt: &R,
     alloc: Global,
     gate: &Meeting,
@@ -63,15 +62,27 @@ fn run_of_workers<R: Threads + Wait + Sync>(
     run_workers(rt, alloc, machine, 2, 1, gate)
 }
 
-/// The run by the whole program.
-fn run_of_program<R: Threads + Wait + Sync>(
+/// What comes of the run by `run_workers`.
+fn by_workers<R: Threads + Wait + Sync>(
     rt: &R,
     alloc: Global,
     gate: &Meeting,
-) -> Result<RunRecord, Memory> {
+) -> Result<Came, Memory> {
+    seen_of(alloc, &run(rt, alloc, gate)?)
+}
+
+/// What comes of the run by the whole program, where it ends with the exit code 0.
+fn by_program<R: Threads + Wait + Sync>(
+    rt: &R,
+    alloc: Global,
+    gate: &Meeting,
+) -> Result<Came, Memory> {
     let words = ["--workers", "2", "--banks", "2"];
-    let told = asked(rt, alloc, &words, SHARED_READS, gate)?;
-    told.done().ok_or(Memory)
+    let written = asked(rt, alloc, &words, SHARED_READS, gate)?;
+    if written.code != 0 {
+        return Err(Memory);
+    }
+    written.run.ok_or(Memory)
 }
 
 /// How the task of a core ends.
@@ -90,14 +101,14 @@ fn two_workers_stand_in_turns_at_the_same_time(rt: HostRuntime) -> Result<(), Fa
     for is_program in [false, true] {
         let gate = Meeting::new();
         let run = if is_program {
-            run_of_program(&rt, alloc, &gate)?
+            by_program(&rt, alloc, &gate)?
         } else {
-            run_of_workers(&rt, alloc, &gate)?
+            by_workers(&rt, alloc, &gate)?
         };
         assert!(rt; gate.have_met());
-        assert_eq!(rt; run.events.len(), 36);
-        assert_eq!(rt; run.ending.tasks.as_slice(), [end(0), end(1)].as_slice());
-        assert_eq!(rt; run.ending.memory.as_slice(), [7, 7, 7].as_slice());
+        assert_eq!(rt; run.events, 36);
+        assert_eq!(rt; run.tasks.as_slice(), [end(0), end(1)].as_slice());
+        assert_eq!(rt; run.memory.as_slice(), [7, 7, 7].as_slice());
     }
     Ok(())
 }

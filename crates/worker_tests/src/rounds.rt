@@ -5,6 +5,7 @@ use crate::texts::{BANKS, LOCKED_COUNTER, STORE_FIVE, events_of_store_five, mach
 use bank_hall::{BankActor, BankIn};
 use dn_base::{BankId, CoreId, Gate, Memory, OpenGate, PhaseId, WordId};
 use dn_machine::{Machine, a_machine_is_kept};
+use grant_log::Stamped;
 use host_workers::{Round, run_round};
 use message_net::Event;
 use rv_core::{EndShown, TaskEnd};
@@ -48,9 +49,43 @@ fn round_of<R: Threads + Wait + Sync, G: Gate + Sync>(
     first_round(rt, alloc, machine, workers, gate)
 }
 
-/// How many events were made, whether one may come, and the first word.
-fn left(machine: &Machine) -> (u64, Option<Event>, u32) {
-    (machine.made(), machine.pick(0), machine.word(WordId(0)))
+/// What a round left: what was noted, the tasks that ended, how many events were made, whether one may come, and the first word.
+#[derive(Drop)]
+struct Left {
+    merged: Vec<Stamped>,
+    ends: Vec<TaskEnd>,
+    made: u64,
+    pick: Option<Event>,
+    word: u32,
+}
+
+/// The round of `STORE_FIVE` by one worker. A test that kept the round itself would take much longer to prove.
+fn round_of_one<R: Threads + Wait + Sync>(rt: &R, alloc: Global) -> Result<Left, Memory> {
+    let Round {
+        merged,
+        ends,
+        machine,
+        banks: _,
+        ports: _,
+        keeper: _,
+    } = round_of(rt, alloc, STORE_FIVE, 1, &OpenGate)?;
+    Ok(Left {
+        merged,
+        ends,
+        made: machine.made(),
+        pick: machine.pick(0),
+        word: machine.word(WordId(0)),
+    })
+}
+
+/// How many banks the round of `LOCKED_COUNTER` by four workers has, and what `Counting` finds wrong there.
+fn round_of_four<R: Threads + Wait + Sync>(
+    rt: &R,
+    alloc: Global,
+) -> Result<(usize, Option<(u32, u32)>), Memory> {
+    let gate = Counting::new(alloc)?;
+    let round = round_of(rt, alloc, LOCKED_COUNTER, WORKERS, &gate)?;
+    Ok((round.banks.len(), gate.wrong(&round)))
 }
 
 /// Counts its calls for each worker and bank, those of worker 0 first.
@@ -119,19 +154,16 @@ fn steps_of(worker: u32, history: &[Entry<BankActor>]) -> u32 {
 #[test]
 fn rounds_are_made_by_one_worker_and_by_four(rt: HostRuntime) -> Result<(), Fail> {
     let alloc = rt.alloc();
-    let round = round_of(&rt, alloc, STORE_FIVE, 1, &OpenGate)?;
     let end = TaskEnd {
         phase: PhaseId(0),
         core: CoreId(0),
         end: EndShown::Finished,
         retired: 5,
     };
-    assert_eq!(rt; round.merged.as_slice(), events_of_store_five().as_slice());
-    assert_eq!(rt; round.ends.as_slice(), [end].as_slice());
-    assert_eq!(rt; left(&round.machine), (10, None, 5));
-    let gate = Counting::new(alloc)?;
-    let round = round_of(&rt, alloc, LOCKED_COUNTER, WORKERS, &gate)?;
-    assert_eq!(rt; round.banks.len(), 4);
-    assert_eq!(rt; gate.wrong(&round), None);
+    let left = round_of_one(&rt, alloc)?;
+    assert_eq!(rt; left.merged.as_slice(), events_of_store_five().as_slice());
+    assert_eq!(rt; left.ends.as_slice(), [end].as_slice());
+    assert_eq!(rt; (left.made, left.pick, left.word), (10, None, 5));
+    assert_eq!(rt; round_of_four(&rt, alloc)?, (4, None));
     Ok(())
 }

@@ -87,7 +87,8 @@ fn next_round<R: Threads + Wait + Sync>(
     requires stands { (S : State) × StandsFor S machine.state }
     ensures { IfOk result (λ round. (S : State) × StandsFor S round.machine.state) }
 {
-    run_round(rt, alloc, machine, workers, seed, &OpenGate)
+    let made = run_round(rt, alloc, machine, workers, seed, &OpenGate)?;
+    Ok(made)
 }
 
 /// Makes a run in rounds, as `run_workers` does, and counts. Workers that own no bank and no core are not counted.
