@@ -199,11 +199,13 @@ fn call_in_two<R: Threads + Wait + Sync>(
 }
 
 /// The total after so many calls of each of two threads, and how many calls the history has of each pass.
-fn totals<R: Threads + Wait + Sync>(
+type Totals = (u64, usize, usize);
+
+fn totals_once<R: Threads + Wait + Sync>(
     rt: &R,
     alloc: Global,
     each: u32,
-) -> Result<(u64, usize, usize), Memory> {
+) -> Result<Totals, Memory> {
     let steps = Arc::new(alloc, AtomicU64::new(0))?;
     let (turn, zero, one) = start(alloc, &steps, 0)?;
     let Some((zero, one)) = call_in_two(rt, &turn, zero, one, each) else {
@@ -213,6 +215,14 @@ fn totals<R: Threads + Wait + Sync>(
     let of_zero = calls.iter().filter(|call| call.0 == 0).count();
     let of_one = calls.iter().filter(|call| call.0 == 1).count();
     Ok((sum, of_zero, of_one))
+}
+
+/// The same. A turn that found no memory to start is started once more.
+fn totals<R: Threads + Wait + Sync>(rt: &R, alloc: Global, each: u32) -> Result<Totals, Memory> {
+    match totals_once(rt, alloc, each) {
+        Err(Memory) => totals_once(rt, alloc, each),
+        totals => totals,
+    }
 }
 
 // A history has room for 4,096 calls from the start, so that of the second pair of threads grows. Where there is no memory for
