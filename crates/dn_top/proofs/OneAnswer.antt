@@ -9,7 +9,6 @@ use Rattle.flat_machine.specs.declared.ending.FlatEnd.{FlatEnd}
 use Rattle.flat_machine.specs.Phases.{opened}
 use Rattle.flat_machine.specs.Ending.{flat_end}
 use Rattle.flat_machine.proofs.RunLemmas.{least-one}
-use Rattle.run_report.specs.declared.refusal.Refusal as refusal
 use Rattle.run_report.specs.Answer.{answer_of}
 use Rattle.run_report.specs.Grants.{grants_of}
 use Rattle.run_report.specs.Summary.{checked_of}

@@ -6,8 +6,6 @@ use Rattle.dn_base.specs.declared.ids.PhaseId.{PhaseId}
 use Rattle.dn_base.specs.declared.ids.CoreId.{CoreId}
 use Rattle.dn_base.specs.declared.ids.LockId.{LockId}
 use Rattle.dn_base.specs.declared.ids.WordId.{WordId}
-use Rattle.dn_base.specs.declared.status.Status.{Status}
-use Rattle.dn_base.specs.declared.status.Status as status
 use Rattle.region_table.specs.declared.declared.Phase.{Phase}
 use Rattle.region_table.specs.Program.{ProgramParts}
 use Rattle.rv_assembler.specs.Source.{source}
@@ -18,8 +16,6 @@ use Rattle.effect_checker.specs.declared.fault.CheckFault.{CheckFault}
 use Rattle.effect_checker.specs.declared.fault.CheckFault.TheVariants.{PlainConflict, GuardedPlain, TwoLocks}
 use Rattle.run_report.specs.declared.refusal.Refusal as refusal
 use Rattle.run_report.specs.Refusal.{refusal_of}
-use Rattle.command_words.specs.declared.options.Mode.{Mode}
-use Rattle.command_words.specs.declared.options.Mode as mode
 use Rattle.dn_top.specs.declared.output.Output.{Output}
 use Rattle.dn_top.specs.Answers.{HasProgram, HasChecked, IsNoProgram, IsInConflict, IsUnfit}
 

@@ -1,17 +1,6 @@
 -- What the laws of the program speak of.
-use Rattle.std.specs.Prelude.{◌≡◌, ◌⊎◌, ℕ, true, false, List, slice_get, Some, None}
-use Rattle.std.specs.List.{Any}
-use Rattle.dn_base.specs.declared.ids.Grant.{Grant}
-use Rattle.dn_base.specs.declared.status.Outcome as outcome
+use Rattle.std.specs.Prelude.{◌≡◌, ◌⊎◌, ℕ, false, List, Some}
 use Rattle.dn_base.specs.declared.status.Status as status
-use Rattle.region_table.specs.Program.{ProgramParts}
-use Rattle.rv_core.specs.declared.ending.Ending.{Ending}
-use Rattle.rv_core.specs.declared.ending.TaskEnd.{TaskEnd}
-use Rattle.flat_machine.specs.Step.{Started}
-use Rattle.flat_machine.specs.Phases.{Flat}
-use Rattle.flat_machine.specs.Grants.{so_far}
-use Rattle.rv_core.specs.Ending.{is_waiting}
-use Rattle.flat_machine.specs.Laws.{IsOutOfFuel, IsHeldUp}
 use Rattle.command_words.specs.declared.options.Options.{Options}
 use Rattle.dn_top.specs.declared.serving.Answer.{Answer}
 use Rattle.dn_top.specs.Answers.{IsOutcome, picks_events}

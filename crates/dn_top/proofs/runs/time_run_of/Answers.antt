@@ -1,5 +1,4 @@
 use Rattle.std.proofs.Common.{List, ap, subst, ◌∙◌}
-use Rattle.run_timing.specs.declared.ticks.Ticks.{Ticks}
 use Rattle.run_timing.specs.Ticks.{AreWithinLimits}
 use Rattle.dn_top.specs.Runs.{output_of_run}
 use Rattle.dn_top.proofs.TimedRun.{run-at, times-at}
