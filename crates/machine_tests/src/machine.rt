@@ -151,8 +151,7 @@ fn looked_at(machine: &Machine) -> Seen {
     }
 }
 
-/// What is seen as the run begins, once the machine is joined after three events, and at the end. A test that kept the machine itself
-/// would take much longer to prove.
+/// What is seen as the run begins, once the machine is joined after three events, and at the end.
 fn seen_on_the_way(alloc: Global) -> Result<[Seen; 3], Memory> {
     let mut fresh = machine(alloc)?;
     let first = looked_at(&fresh);

@@ -1,5 +1,5 @@
 //! Calls of the program. The tests use none of its promises, so these functions hand none of them on; nor do the tests keep a
-//! run's record or a sink, since they would take longer to prove then.
+//! run's record or a sink.
 use dn_base::{Gate, Memory, TextSource, VecSink};
 use dn_top::{Answer, RunRecord, answer_words, denovo_main};
 use rv_core::TaskEnd;
