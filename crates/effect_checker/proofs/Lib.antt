@@ -3,4 +3,3 @@ pub mod CoreLemmas
 pub mod FirstLemmas
 pub mod FaultLemmas
 pub mod SeparationLemmas
-pub mod TestLemmas

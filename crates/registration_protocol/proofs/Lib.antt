@@ -9,4 +9,3 @@ pub mod PlaceLemmas
 pub mod SignatureLemmas
 pub mod SignLemmas
 pub mod StillLemmas
-pub mod TestLemmas
