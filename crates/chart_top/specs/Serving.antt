@@ -5,19 +5,19 @@ use Rattle.dn_base.specs.declared.status.Status.{Status}
 use Rattle.dn_base.specs.declared.status.Status as status
 use Rattle.dn_top.specs.Answers.{usage_line}
 use Rattle.dn_top.specs.ExitCodes.{IsCodeOf}
-use Rattle.dn_top.specs.Outside.{Device, Devices, Failed, GaveAtMost, IsUntouched, IsRead, Took, TookNothing, TookFront}
+use Rattle.dn_top.specs.Outside.{DeviceState, Devices, Failed, GaveAtMost, IsUntouched, IsRead, Took, TookNothing, TookFront}
 use Rattle.chart_top.specs.declared.answering.Output.{Output}
 use Rattle.chart_top.specs.declared.options.Options.{Options}
 use Rattle.chart_top.specs.Answers.{IsAnswer}
 
 -- the sink took all of the output, whose status is told; or it failed and took a front of it
-abbrev pub IsWritten : Output → Device → Device → Status → Type 0
+abbrev pub IsWritten : Output → DeviceState → DeviceState → Status → Type 0
 IsWritten out before after told =
     ((told ≡ out.status) × Took before after out.bytes)
     ⊎ ((told ≡ status.TheVariants.WriteFault) × (Failed before after × TookFront before after out.bytes))
 
 -- there was no memory, and nothing was written
-abbrev pub IsStarved : Device → Device → Status → Type 0
+abbrev pub IsStarved : DeviceState → DeviceState → Status → Type 0
 IsStarved before after told = (told ≡ status.TheVariants.Memory) × TookNothing before after
 
 -- the source failed, and nothing was written
@@ -26,13 +26,13 @@ IsUnread before after told =
     (told ≡ status.TheVariants.ReadFault) × (Failed before.source after.source × TookNothing before.sink after.sink)
 
 -- the answer to a document was written
-pub record IsGiven (o : Options) (document : List ℕ) (before after : Device) (told : Status) : Type 0 where
+pub record IsGiven (o : Options) (document : List ℕ) (before after : DeviceState) (told : Status) : Type 0 where
   pub output : Output
   pub answer : IsAnswer o document output
   pub written : IsWritten output before after told
 
 -- or there was no memory for it
-abbrev pub IsReplied : Options → List ℕ → Device → Device → Status → Type 0
+abbrev pub IsReplied : Options → List ℕ → DeviceState → DeviceState → Status → Type 0
 IsReplied o document before after told = IsGiven o document before after told ⊎ IsStarved before after told
 
 -- the document is what was read: to the source's end, or to one byte past the most that a document may have

@@ -18,7 +18,7 @@ const MOST_READ: usize = 536_870_913;
 
 /// Writes the bytes, and tells this status, or `WriteFault` where the sink failed.
 fn finish<K: Sink>(sink: &mut K, bytes: &[u8], status: Status) -> Status
-    ensures { IsWritten (record { status = status; bytes = bytes.now }) (device (K.told sink.old) (K.faults sink.old)) (device (K.told sink.new) (K.faults sink.new)) result }
+    ensures { IsWritten (record { status = status; bytes = bytes.now }) (device (K.content sink.old) (K.faults sink.old)) (device (K.content sink.new) (K.faults sink.new)) result }
 {
     match write_text(sink, bytes) {
         Ok(()) => status,
@@ -29,7 +29,7 @@ fn finish<K: Sink>(sink: &mut K, bytes: &[u8], status: Status) -> Status
 /// Refuses the command words.
 #[tactic(auto, unfolding(run_report::specs::Refusal::refusal_of))]
 fn refuse_words<K: Sink>(sink: &mut K) -> Status
-    ensures { IsWritten usage (device (K.told sink.old) (K.faults sink.old)) (device (K.told sink.new) (K.faults sink.new)) result }
+    ensures { IsWritten usage (device (K.content sink.old) (K.faults sink.old)) (device (K.content sink.new) (K.faults sink.new)) result }
 {
     finish(sink, b"refused usage\n", Status::Usage)
 }
@@ -37,7 +37,7 @@ fn refuse_words<K: Sink>(sink: &mut K) -> Status
 /// Writes the answer to a document, where there was memory for it.
 fn reply<K: Sink>(sink: &mut K, output: Result<Output, Memory>) -> Status
     ensures { (o : OptionsOf) (document : List ℕ) → IfOk output (IsAnswer o document)
-        → IsReplied o document (device (K.told sink.old) (K.faults sink.old)) (device (K.told sink.new) (K.faults sink.new)) result }
+        → IsReplied o document (device (K.content sink.old) (K.faults sink.old)) (device (K.content sink.new) (K.faults sink.new)) result }
 {
     match output {
         Ok(Output { status, bytes }) => finish(sink, bytes.as_slice(), status),
@@ -54,8 +54,8 @@ fn draw<S: Source, K: Sink>(
 ) -> Status
     requires { IsWithinLimits options.now }
     ensures { Serves (Some options.now)
-        (devices (S.told source.old) (S.faults source.old) (K.told sink.old) (K.faults sink.old))
-        (devices (S.told source.new) (S.faults source.new) (K.told sink.new) (K.faults sink.new)) result }
+        (devices (S.content source.old) (S.faults source.old) (K.content sink.old) (K.faults sink.old))
+        (devices (S.content source.new) (S.faults source.new) (K.content sink.new) (K.faults sink.new)) result }
 {
     match read_text(alloc, MOST_READ, source) {
         Ok(document) => reply(sink, answer(alloc, options, document.as_slice())),
@@ -77,8 +77,8 @@ pub fn chart_main<S: Source, K: Sink>(
     sink: &mut K,
 ) -> Status
     ensures serves { Serves (options_of (map string_bytes words.now))
-        (devices (S.told source.old) (S.faults source.old) (K.told sink.old) (K.faults sink.old))
-        (devices (S.told source.new) (S.faults source.new) (K.told sink.new) (K.faults sink.new)) result }
+        (devices (S.content source.old) (S.faults source.old) (K.content sink.old) (K.faults sink.old))
+        (devices (S.content source.new) (S.faults source.new) (K.content sink.new) (K.faults sink.new)) result }
 {
     match read_words(alloc, words) {
         Ok(options) => draw(alloc, &options, source, sink),

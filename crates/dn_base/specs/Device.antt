@@ -2,6 +2,6 @@
 use Rattle.std.specs.Prelude.{ℕ}
 
 -- the reader or writer within, and how many faults there were
-pub record Device (D : Type 0) : Type 0 where
+pub record HostDevice (D : Type 0) : Type 0 where
   pub inner : D
   pub faults : ℕ

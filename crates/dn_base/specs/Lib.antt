@@ -1,4 +1,5 @@
 pub mod Status
 pub mod Faults
+pub mod Flushes
 pub mod Memories
 pub mod Device

@@ -1,5 +1,5 @@
 -- What a text and a sink in memory are, as contracts see them.
-use Rattle.std.specs.Prelude.{ℕ, ◌+◌, List, min}
+use Rattle.std.specs.Prelude.{ℕ, ◌+◌, Bool, List, min}
 
 -- a text that is given a few bytes at a time: the bytes that are left, how many bytes a call gives at the most,
 -- the numbers of the calls that fail, how many calls were made, and how many of them failed
@@ -10,10 +10,12 @@ pub record GivenText : Type 0 where
   pub calls : ℕ
   pub faults : ℕ
 
--- bytes that were taken a few at a time: those that are held, the room for all, how many a call takes at the most,
+-- bytes that were taken a few at a time: those that are held, whether all of them were flushed, the room for all, how many a
+-- call takes at the most,
 -- the numbers of the calls that fail, how many calls were made, and how many faults there were
 pub record TakenBytes : Type 0 where
   pub held : List ℕ
+  pub flushed : Bool
   pub room : ℕ
   pub per_write : ℕ
   pub fail_at : List ℕ

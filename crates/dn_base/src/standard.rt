@@ -1,6 +1,7 @@
-ghost use Rattle.std.specs.Prelude.{◌≡◌, ◌≤◌, ◌<◌, ℕ, length, IfOk, IsErr, OnOk, OnErr};
+ghost use Rattle.std.specs.Prelude.{◌≡◌, ◌≤◌, ◌<◌, ℕ, None, length, IfOk, IsErr, OnOk, OnErr};
 ghost use Rattle.std.specs.Io.KnownBytes.{Keeps, ReadConsumes, WriteAppends};
 ghost use Rattle.dn_base.specs.Faults.{Rose, raised};
+ghost use Rattle.dn_base.specs.Flushes.{Flushes, WriteUnflushes};
 
 use crate::failure::Failed;
 use crate::outside::{Sink, Source};
@@ -15,9 +16,9 @@ pub struct StdSource<R> {
 }
 
 impl<R> Model for StdSource<R> {
-    ghost use Rattle.dn_base.specs.Device.{Device};
+    ghost use Rattle.dn_base.specs.Device.{HostDevice};
 
-    ghost Value = { Device R };
+    ghost Value = { HostDevice R };
 
     ghost view = { λ s. record { inner = s.inner; faults = s.faults } };
 }
@@ -32,7 +33,7 @@ impl<R: Read> StdSource<R> {
 }
 
 impl<R: Read> Source for StdSource<R> {
-    ghost told = { λ s. R.remaining s.inner };
+    ghost content = { λ s. R.remaining s.inner };
 
     ghost faults = { λ s. s.faults };
 
@@ -41,7 +42,7 @@ impl<R: Read> Source for StdSource<R> {
         ensures bytes { ReadConsumes (R.remaining self.old.inner) (R.remaining self.new.inner) result buf.new }
         ensures counted { self.old.faults ≤ self.new.faults }
         ensures failed { IsErr result → Rose self.old.faults self.new.faults }
-        ensures ok { OnOk result (self.new.faults ≡ self.old.faults) }
+        ensures faultless { OnOk result (self.new.faults ≡ self.old.faults) }
         ensures err { OnErr result (self.new.faults ≡ raised self.old.faults) }
     {
         match self.inner.read(buf) {
@@ -63,9 +64,9 @@ pub struct StdSink<W> {
 }
 
 impl<W> Model for StdSink<W> {
-    ghost use Rattle.dn_base.specs.Device.{Device};
+    ghost use Rattle.dn_base.specs.Device.{HostDevice};
 
-    ghost Value = { Device W };
+    ghost Value = { HostDevice W };
 
     ghost view = { λ s. record { inner = s.inner; faults = s.faults } };
 }
@@ -80,7 +81,9 @@ impl<W: Write> StdSink<W> {
 }
 
 impl<W: Write> Sink for StdSink<W> {
-    ghost told = { λ s. W.contents s.inner };
+    ghost content = { λ s. W.contents s.inner };
+
+    ghost flushed = { λ _. None };
 
     ghost faults = { λ s. s.faults };
 
@@ -88,9 +91,10 @@ impl<W: Write> Sink for StdSink<W> {
         ensures within { IfOk result (λ count. count ≤ length buf.now) }
         ensures some { IfOk result (λ count. 0 < length buf.now → 0 < count) }
         ensures bytes { WriteAppends (W.contents self.old.inner) (W.contents self.new.inner) result buf.now }
+        ensures handed_on { WriteUnflushes None None result }
         ensures counted { self.old.faults ≤ self.new.faults }
         ensures failed { IsErr result → Rose self.old.faults self.new.faults }
-        ensures ok { OnOk result (self.new.faults ≡ self.old.faults) }
+        ensures faultless { OnOk result (self.new.faults ≡ self.old.faults) }
         ensures err { OnErr result (self.new.faults ≡ raised self.old.faults) }
     {
         match self.inner.write(buf) {
@@ -104,9 +108,10 @@ impl<W: Write> Sink for StdSink<W> {
 
     fn flush(&mut self) -> Result<(), Failed>
         ensures bytes { Keeps (W.contents self.old.inner) (W.contents self.new.inner) }
+        ensures handed_on { Flushes None None result }
         ensures counted { self.old.faults ≤ self.new.faults }
         ensures failed { IsErr result → Rose self.old.faults self.new.faults }
-        ensures ok { OnOk result (self.new.faults ≡ self.old.faults) }
+        ensures faultless { OnOk result (self.new.faults ≡ self.old.faults) }
         ensures err { OnErr result (self.new.faults ≡ raised self.old.faults) }
     {
         if self.inner.flush().is_err() {

@@ -1,4 +1,4 @@
-ghost use Rattle.std.specs.Prelude.{◌≡◌, ◌≤◌, ◌<◌, ◌++◌, ◌↔◌, ℕ, List, Option, Some, [], length, min, take, drop, IfOk, IsErr, OnErr, Contains};
+ghost use Rattle.std.specs.Prelude.{◌≡◌, ◌≤◌, ◌<◌, ◌++◌, ◌↔◌, ℕ, List, Option, Some, [], length, min, take, drop, IfOk, IsErr, OnOk, OnErr, Contains};
 ghost use Rattle.std.specs.Io.KnownBytes.{ReadConsumes};
 ghost use Rattle.dn_base.specs.Faults.{Rose, raised};
 ghost use Rattle.dn_base.specs.Memories.{one_more};
@@ -85,7 +85,7 @@ impl TextSource {
 }
 
 impl Source for TextSource {
-    ghost told = { λ s. Some s.left };
+    ghost content = { λ s. Some s.left };
 
     ghost faults = { λ s. s.faults };
 
@@ -93,6 +93,7 @@ impl Source for TextSource {
         ensures within { IfOk result (λ count. count ≤ length buf.old) }
         ensures bytes { ReadConsumes (Some self.old.left) (Some self.new.left) result buf.new }
         ensures counted { self.old.faults ≤ self.new.faults }
+        ensures faultless { OnOk result (self.new.faults ≡ self.old.faults) }
         ensures failed { IsErr result → Rose self.old.faults self.new.faults }
         ensures listed { IsErr result ↔ Contains self.old.fail_at self.old.calls }
         ensures amount { IfOk result (λ count.

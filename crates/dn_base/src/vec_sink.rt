@@ -1,6 +1,7 @@
-ghost use Rattle.std.specs.Prelude.{◌≡◌, ◌≤◌, ◌<◌, ◌+◌, ◌-◌, ◌++◌, ◌↔◌, ◌⊎◌, ℕ, List, Option, Some, [], length, min, take, IfOk, IsErr, OnOk, OnErr, Contains};
+ghost use Rattle.std.specs.Prelude.{◌≡◌, ◌≤◌, ◌<◌, ◌+◌, ◌-◌, ◌++◌, ◌↔◌, ◌⊎◌, ℕ, Bool, true, false, List, Option, Some, [], length, if◌then◌else◌, ◌==◌, min, take, IfOk, IsErr, OnOk, OnErr, Contains};
 ghost use Rattle.std.specs.Io.KnownBytes.{Keeps, WriteAppends};
 ghost use Rattle.dn_base.specs.Faults.{Rose, raised};
+ghost use Rattle.dn_base.specs.Flushes.{Flushes, WriteUnflushes};
 ghost use Rattle.dn_base.specs.Memories.{one_more};
 
 use crate::calls::lists;
@@ -14,6 +15,7 @@ use std::marker::Model;
 #[derive(Debug, Drop)]
 pub struct VecSink {
     bytes: Vec<u8>,
+    flushed: bool,
     room: u32,
     per_write: u32,
     fail_at: Vec<u32>,
@@ -29,6 +31,7 @@ impl Model for VecSink {
 
     ghost view = { λ s. record {
       held = s.bytes.items;
+      flushed = s.flushed;
       room = s.room;
       per_write = s.per_write;
       fail_at = s.fail_at.items;
@@ -49,6 +52,7 @@ impl VecSink {
         requires { 0 < per_write }
         ensures { IfOk result (λ sink. sink ≡ record {
           held = [];
+          flushed = true;
           room = room;
           per_write = per_write;
           fail_at = fail_at.now;
@@ -58,6 +62,7 @@ impl VecSink {
     {
         Ok(VecSink {
             bytes: Vec::with_capacity(alloc, room as usize)?,
+            flushed: true,
             room,
             per_write,
             fail_at: Vec::from_slice(alloc, fail_at)?,
@@ -91,17 +96,25 @@ impl VecSink {
         Ok(())
     }
 
-    /// Takes these bytes, for which there is room.
+    /// Takes these bytes, for which there is room. Where there are some, they are to be flushed.
     fn append(&mut self, bytes: &[u8])
         requires { length self.old.held + length bytes.now ≤ self.old.room }
-        ensures { self.new ≡ record self.old { held = self.old.held ++ bytes.now } }
+        ensures { self.new ≡ record self.old {
+          held = self.old.held ++ bytes.now;
+          flushed = if length bytes.now == 0 then self.old.flushed else false;
+        } }
     {
         self.bytes.extend_from_slice(bytes).unwrap();
+        if !bytes.is_empty() {
+            self.flushed = false;
+        }
     }
 }
 
 impl Sink for VecSink {
-    ghost told = { λ s. Some s.held };
+    ghost content = { λ s. Some s.held };
+
+    ghost flushed = { λ s. Some s.flushed };
 
     ghost faults = { λ s. s.faults };
 
@@ -109,14 +122,19 @@ impl Sink for VecSink {
         ensures within { IfOk result (λ count. count ≤ length buf.now) }
         ensures some { IfOk result (λ count. 0 < length buf.now → 0 < count) }
         ensures bytes { WriteAppends (Some self.old.held) (Some self.new.held) result buf.now }
+        ensures handed_on { WriteUnflushes (Some self.old.flushed) (Some self.new.flushed) result }
         ensures counted { self.old.faults ≤ self.new.faults }
+        ensures faultless { OnOk result (self.new.faults ≡ self.old.faults) }
         ensures failed { IsErr result → Rose self.old.faults self.new.faults }
         ensures listed { IsErr result ↔ (Contains self.old.fail_at self.old.calls
             ⊎ ((self.old.room ≤ length self.old.held) × (0 < length buf.now))) }
         ensures amount { IfOk result (λ count. count
             ≡ min self.old.per_write (min (length buf.now) (self.old.room - length self.old.held))) }
-        ensures ok { IfOk result (λ count. self.new
-            ≡ record self.old { held = self.old.held ++ take count buf.now; calls = one_more self.old.calls }) }
+        ensures ok { IfOk result (λ count. self.new ≡ record self.old {
+          held = self.old.held ++ take count buf.now;
+          flushed = if count == 0 then self.old.flushed else false;
+          calls = one_more self.old.calls;
+        }) }
         ensures err { OnErr result (self.new
             ≡ record self.old { calls = one_more self.old.calls; faults = raised self.old.faults }) }
     {
@@ -133,13 +151,17 @@ impl Sink for VecSink {
 
     fn flush(&mut self) -> Result<(), Failed>
         ensures bytes { Keeps (Some self.old.held) (Some self.new.held) }
+        ensures handed_on { Flushes (Some self.old.flushed) (Some self.new.flushed) result }
         ensures counted { self.old.faults ≤ self.new.faults }
+        ensures faultless { OnOk result (self.new.faults ≡ self.old.faults) }
         ensures failed { IsErr result → Rose self.old.faults self.new.faults }
         ensures listed { IsErr result ↔ Contains self.old.fail_at self.old.calls }
-        ensures ok { OnOk result (self.new ≡ record self.old { calls = one_more self.old.calls }) }
+        ensures ok { OnOk result (self.new ≡ record self.old { flushed = true; calls = one_more self.old.calls }) }
         ensures err { OnErr result (self.new
             ≡ record self.old { calls = one_more self.old.calls; faults = raised self.old.faults }) }
     {
-        self.counted()
+        self.counted()?;
+        self.flushed = true;
+        Ok(())
     }
 }

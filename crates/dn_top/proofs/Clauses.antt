@@ -9,7 +9,7 @@ use Rattle.command_words.specs.declared.options.Options.{Options}
 use Rattle.dn_top.specs.declared.output.Output.{Output}
 use Rattle.dn_top.specs.declared.serving.Answer.{Answer}
 use Rattle.dn_top.specs.Answers.{answered, most_read, IsRefusal, IsAnswer, IsOutcome, usage_line}
-use Rattle.dn_top.specs.Outside.{Device, Devices, Failed, GaveAtMost, IsUntouched, Took, TookNothing, TookFront}
+use Rattle.dn_top.specs.Outside.{DeviceState, Devices, Failed, GaveAtMost, IsUntouched, Took, TookNothing, TookFront}
 use Rattle.dn_top.specs.Serving.{text_for, most_asked, IsRunWith, HandsBack, HasDone, HasRefused, HasFailed, HasStatus, has_stopped, Serves, IsFinished, IsReplied, IsStarved, IsUnread, IsDoneBy, bare}
 use Rattle.dn_top.proofs.Statuses.{other, outcome-other, answer-other, answer-done, answer-refused, answer-no_run, done-comes, done-plain, done-run}
 use Rattle.dn_top.proofs.Fronts.{AnswersAlike, taken-alike}
@@ -34,7 +34,7 @@ run_at answer other e = ap (λ (x : Answer). x.run) e
 unlike : (o : Options) (text : List ℕ) (out : Output) (u : Status) → IsAnswer o text out → other u ≡ true → out.status ≢ u
 unlike o text out u is bad e = let plain = answer-other o text out is in let also : other out.status ≡ true = ap other e ∙ bad in cc
 
-module _ (o : Options) (before after : Device) (text : List ℕ) (answer : Answer) where
+module _ (o : Options) (before after : DeviceState) (text : List ℕ) (answer : Answer) where
   record Written : Type 0 where
     out : Output
     is : IsAnswer o text out
@@ -273,7 +273,7 @@ serves-usage wanted before after answer none untouched (inr (is, failed, front))
     }
 
 -- a source that was left alone gave no bytes
-untouched-few : (before after : Device) (most : Option ℕ) → IsUntouched before after → IfSome most (GaveAtMost before after)
+untouched-few : (before after : DeviceState) (most : Option ℕ) → IsUntouched before after → IfSome most (GaveAtMost before after)
 untouched-few before after None untouched = tt
 untouched-few before after (Some most) untouched =
     record { bytes = []; taken = Consumes-kept before.bytes before.bytes after.bytes [] (Consumes-nil before.bytes) untouched.bytes; within = omega arith }

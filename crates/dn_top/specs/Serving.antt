@@ -19,7 +19,7 @@ use Rattle.dn_top.specs.declared.serving.Answer.{Answer}
 use Rattle.dn_top.specs.Answers.{most_read, makes_run, runs_tasks, IsDone, IsRefusal, IsAnswer, IsOutcome, usage_line}
 use Rattle.dn_top.specs.Runs.{IsRunOf, IsRunFor}
 use Rattle.dn_top.specs.Documents.{shape_told}
-use Rattle.dn_top.specs.Outside.{Device, Devices, Failed, GaveAtMost, IsUntouched, IsRead, Took, TookNothing, TookFront}
+use Rattle.dn_top.specs.Outside.{DeviceState, Devices, Failed, GaveAtMost, IsUntouched, IsRead, Took, TookNothing, TookFront}
 
 -- ---- the text of a call
 
@@ -28,16 +28,16 @@ abbrev pub text_by : Option ℕ → ℕ → Option (List ℕ) → Option (List �
 text_by None size told = Some (work_of size)
 text_by (Some most) size told = told
 
-abbrev pub text_for : Options → Device → Option (List ℕ)
+abbrev pub text_for : Options → DeviceState → Option (List ℕ)
 text_for o source = text_by (most_read o.mode) o.size source.bytes
 
 -- the source was left alone where the text is generated, and else read to its end
-abbrev pub read_by : Option ℕ → Device → Device → Type 0
+abbrev pub read_by : Option ℕ → DeviceState → DeviceState → Type 0
 read_by None before after = IsUntouched before after
 read_by (Some most) before after = after.bytes ≡ Some []
 
 -- options are wanted, and this holds of them and their text, where the source tells it
-pub record ForText (wanted : Option Options) (source : Device) (Holds : Options → List ℕ → Type 0) : Type 0 where
+pub record ForText (wanted : Option Options) (source : DeviceState) (Holds : Options → List ℕ → Type 0) : Type 0 where
   pub options : Options
   pub asked : wanted ≡ Some options
   pub text : IfSome (text_for options source) (Holds options)
@@ -149,31 +149,31 @@ abbrev pub bare : Status → Answer
 bare s = record { status = s; run = None }
 
 -- the output was written and the answer is its status and run, or the sink failed and took a front of its bytes
-abbrev pub IsFinished : Device → Device → Output → Answer → Type 0
+abbrev pub IsFinished : DeviceState → DeviceState → Output → Answer → Type 0
 IsFinished before after out answer =
     ((answer ≡ answer_to out) × Took before after out.bytes)
     ⊎ ((answer ≡ bare status.TheVariants.WriteFault) × Failed before after × TookFront before after out.bytes)
 
 -- the output for a text was made, and written as far as the sink took it
-pub record IsGiven (o : Options) (before after : Device) (text : List ℕ) (answer : Answer) : Type 0 where
+pub record IsGiven (o : Options) (before after : DeviceState) (text : List ℕ) (answer : Answer) : Type 0 where
   pub out : Output
   pub is : IsAnswer o text out
   pub finished : IsFinished before after out answer
 
 -- there was no memory, and nothing was written
-pub record IsStarved (before after : Device) (answer : Answer) : Type 0 where
+pub record IsStarved (before after : DeviceState) (answer : Answer) : Type 0 where
   pub memory : answer ≡ bare status.TheVariants.Memory
   pub nothing : TookNothing before after
 
-abbrev pub IsReplied : Options → Device → Device → List ℕ → Answer → Type 0
+abbrev pub IsReplied : Options → DeviceState → DeviceState → List ℕ → Answer → Type 0
 IsReplied o before after text answer = IsGiven o before after text answer ⊎ IsStarved before after answer
 
 -- the text was generated, or it was read
-abbrev pub taken_by : Option ℕ → ℕ → Device → Device → List ℕ → Type 0
+abbrev pub taken_by : Option ℕ → ℕ → DeviceState → DeviceState → List ℕ → Type 0
 taken_by None size before after text = (text ≡ work_of size) × IsUntouched before after
 taken_by (Some most) size before after text = IsRead before after most text
 
-abbrev pub IsTaken : Options → Device → Device → List ℕ → Type 0
+abbrev pub IsTaken : Options → DeviceState → DeviceState → List ℕ → Type 0
 IsTaken o before after text = taken_by (most_read o.mode) o.size before after text
 
 -- the text was taken and replied to

@@ -59,8 +59,8 @@ pub fn answer_words<S: Source, K: Sink>(
     sink: &mut K,
 ) -> Answer
     ensures serves { Serves (option_map alone (options_of (map string_bytes words.now)))
-        (devices (S.told source.old) (S.faults source.old) (K.told sink.old) (K.faults sink.old))
-        (devices (S.told source.new) (S.faults source.new) (K.told sink.new) (K.faults sink.new)) result }
+        (devices (S.content source.old) (S.faults source.old) (K.content sink.old) (K.faults sink.old))
+        (devices (S.content source.new) (S.faults source.new) (K.content sink.new) (K.faults sink.new)) result }
 {
     match read_words(alloc, words) {
         Ok(options) => answer_alone(alloc, &options, source, sink),
@@ -80,11 +80,11 @@ fn answer_options<R: Threads + Wait + Sync, S: Source, K: Sink, G: Gate + Sync>(
 ) -> Answer
     requires { IsWithinLimits options.now }
     ensures served { IsDoneBy options.now
-        (devices (S.told source.old) (S.faults source.old) (K.told sink.old) (K.faults sink.old))
-        (devices (S.told source.new) (S.faults source.new) (K.told sink.new) (K.faults sink.new)) result }
-    ensures few { IfSome (most_read options.now.mode) (GaveAtMost (device (S.told source.old) (S.faults source.old)) (device (S.told source.new) (S.faults source.new))) }
+        (devices (S.content source.old) (S.faults source.old) (K.content sink.old) (K.faults sink.old))
+        (devices (S.content source.new) (S.faults source.new) (K.content sink.new) (K.faults sink.new)) result }
+    ensures few { IfSome (most_read options.now.mode) (GaveAtMost (device (S.content source.old) (S.faults source.old)) (device (S.content source.new) (S.faults source.new))) }
     ensures unread { most_read options.now.mode ≡ None
-        → IsUntouched (device (S.told source.old) (S.faults source.old)) (device (S.told source.new) (S.faults source.new)) }
+        → IsUntouched (device (S.content source.old) (S.faults source.old)) (device (S.content source.new) (S.faults source.new)) }
 {
     if options.workers == 1 {
         answer_alone(alloc, options, source, sink)
@@ -108,8 +108,8 @@ pub fn denovo_main<R: Threads + Wait + Sync, S: Source, K: Sink, G: Gate + Sync>
     gate: &G,
 ) -> Answer
     ensures serves { Serves (options_of (map string_bytes words.now))
-        (devices (S.told source.old) (S.faults source.old) (K.told sink.old) (K.faults sink.old))
-        (devices (S.told source.new) (S.faults source.new) (K.told sink.new) (K.faults sink.new)) result }
+        (devices (S.content source.old) (S.faults source.old) (K.content sink.old) (K.faults sink.old))
+        (devices (S.content source.new) (S.faults source.new) (K.content sink.new) (K.faults sink.new)) result }
 {
     match read_words(alloc, words) {
         Ok(options) => answer_options(rt, alloc, &options, source, sink, gate),

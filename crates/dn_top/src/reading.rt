@@ -65,12 +65,12 @@ pub(crate) fn take_text<S: Source>(
     source: &mut S,
 ) -> Result<Vec<u8>, ReadError>
     requires { IsWithinLimits options.now }
-    ensures text { IfOk result (λ text. IsTaken options.now (device (S.told source.old) (S.faults source.old)) (device (S.told source.new) (S.faults source.new)) text.items) }
+    ensures text { IfOk result (λ text. IsTaken options.now (device (S.content source.old) (S.faults source.old)) (device (S.content source.new) (S.faults source.new)) text.items) }
     ensures failed { IfErr result (λ error. error ≡ ReadError.Failed
-        → HasFailed (device (S.told source.old) (S.faults source.old)) (device (S.told source.new) (S.faults source.new))) }
-    ensures few { IfSome (most_read options.now.mode) (GaveAtMost (device (S.told source.old) (S.faults source.old)) (device (S.told source.new) (S.faults source.new))) }
+        → HasFailed (device (S.content source.old) (S.faults source.old)) (device (S.content source.new) (S.faults source.new))) }
+    ensures few { IfSome (most_read options.now.mode) (GaveAtMost (device (S.content source.old) (S.faults source.old)) (device (S.content source.new) (S.faults source.new))) }
     ensures unread { most_read options.now.mode ≡ None
-        → IsUntouched (device (S.told source.old) (S.faults source.old)) (device (S.told source.new) (S.faults source.new)) }
+        → IsUntouched (device (S.content source.old) (S.faults source.old)) (device (S.content source.new) (S.faults source.new)) }
 {
     match most_of(options.mode) {
         Some(most) => read_text(alloc, most, source),
@@ -87,10 +87,10 @@ pub fn read_text<S: Source>(
     most: usize,
     source: &mut S,
 ) -> Result<Vec<u8>, ReadError>
-    ensures text { IfOk result (λ text. IsRead (device (S.told source.old) (S.faults source.old)) (device (S.told source.new) (S.faults source.new)) most text.items) }
+    ensures text { IfOk result (λ text. IsRead (device (S.content source.old) (S.faults source.old)) (device (S.content source.new) (S.faults source.new)) most text.items) }
     ensures failed { IfErr result (λ error. error ≡ ReadError.Failed
-        → HasFailed (device (S.told source.old) (S.faults source.old)) (device (S.told source.new) (S.faults source.new))) }
-    ensures few { GaveAtMost (device (S.told source.old) (S.faults source.old)) (device (S.told source.new) (S.faults source.new)) most }
+        → HasFailed (device (S.content source.old) (S.faults source.old)) (device (S.content source.new) (S.faults source.new))) }
+    ensures few { GaveAtMost (device (S.content source.old) (S.faults source.old)) (device (S.content source.new) (S.faults source.new)) most }
 {
     let mut text = Vec::new(alloc);
     let mut buf = [0; 4096];

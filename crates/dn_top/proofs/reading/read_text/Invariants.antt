@@ -5,7 +5,7 @@ use Rattle.dn_top.proofs.reading.read_text.Given as goal
 abbrev pub invariant-loop-buf : goal.invariant-loop-buf
 invariant-loop-buf g l =
     record {
-      bytes : Consumes (g.S.Source.told l.fn.source) (g.S.Source.told l.source) l.text.items;
+      bytes : Consumes (g.S.Source.content l.fn.source) (g.S.Source.content l.source) l.text.items;
       within : length l.text.items ≤ l.most;
       counted : g.S.Source.faults l.fn.source ≤ g.S.Source.faults l.source;
     }

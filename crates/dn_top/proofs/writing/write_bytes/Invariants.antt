@@ -6,7 +6,7 @@ abbrev pub invariant-loop-done : goal.invariant-loop-done
 invariant-loop-done g l =
     record {
       within : l.done ≤ length l.bytes;
-      taken : Appends (g.K.Sink.told l.fn.sink) (g.K.Sink.told l.sink) (take l.done l.bytes);
+      taken : Appends (g.K.Sink.content l.fn.sink) (g.K.Sink.content l.sink) (take l.done l.bytes);
       counted : g.K.Sink.faults l.fn.sink ≤ g.K.Sink.faults l.sink;
     }
 
