@@ -9,12 +9,9 @@ use crate::answering::{Output, answer};
 use crate::options::Options;
 use crate::reading::read_words;
 use command_words::WordsFault;
-use dn_base::{Memory, Sink, Source, Status};
+use dn_base::{MOST_OF_DOCUMENT, Memory, Sink, Source, Status};
 use dn_top::{ReadError, read_text, write_text};
 use std::alloc::Global;
-
-/// One byte more than the document of a run may have.
-const MOST_READ: usize = 536_870_913;
 
 /// Writes the bytes, and tells this status, or `WriteFault` where the sink failed.
 fn finish<K: Sink>(sink: &mut K, bytes: &[u8], status: Status) -> Status
@@ -57,7 +54,7 @@ fn draw<S: Source, K: Sink>(
         (devices (S.content source.old) (S.faults source.old) (K.content sink.old) (K.faults sink.old))
         (devices (S.content source.new) (S.faults source.new) (K.content sink.new) (K.faults sink.new)) result }
 {
-    match read_text(alloc, MOST_READ, source) {
+    match read_text(alloc, MOST_OF_DOCUMENT + 1, source) {
         Ok(document) => reply(sink, answer(alloc, options, document.as_slice())),
         Err(ReadError::Failed) => Status::ReadFault,
         Err(ReadError::NoMemory) => Status::Memory,

@@ -5,6 +5,7 @@
 mod calls;
 mod failure;
 mod ids;
+mod limits;
 mod name;
 mod outside;
 mod sequence;
@@ -15,6 +16,7 @@ mod vec_sink;
 
 pub use failure::{Failed, Memory};
 pub use ids::{BankId, CoreId, Grant, LoadSeen, LockId, PhaseId, Shape, WordId};
+pub use limits::{MOST_CORES, MOST_EVENTS, MOST_OF_DOCUMENT, MOST_OF_TEXT};
 pub use name::Name;
 pub use outside::{Gate, OpenGate, Sink, Source};
 pub use sequence::Sequence;

@@ -1,11 +1,8 @@
-use dn_base::Sequence;
+use dn_base::{MOST_CORES, Sequence};
 use message_net::{Event, Pool};
 use phase_barrier::Keeper;
 use registration_protocol::Node;
 use registry_bank::Bank;
-
-/// The most cores that a machine has.
-pub(crate) const MOST_CORES: usize = 16;
 
 /// What changes in a machine as events come: the nodes, the banks, the keeper, the mails in flight, the number of each actor's
 /// next mail, and the own event of each core, where it has one.

@@ -6,7 +6,7 @@ ghost use Rattle.run_agreement.specs.Agreed.{listed};
 ghost use Rattle.dn_machine.specs.Log.{no_log, noted};
 
 use crate::record::RunRecord;
-use dn_base::{Grant, Memory, Sequence};
+use dn_base::{Grant, MOST_CORES, Memory, Sequence};
 use grant_log::Counts;
 use machine_rules::Stepped;
 use message_net::Event;
@@ -32,9 +32,6 @@ pub struct Log {
     pub counts: Counts,
     pub ends: Sequence<Option<TaskEnd>>,
 }
-
-/// How many cores a machine has at the most.
-const MOST_CORES: usize = 16;
 
 /// A table without ends, for so many phases.
 fn no_ends(alloc: Global, phases: usize) -> Result<Sequence<Option<TaskEnd>>, Memory>

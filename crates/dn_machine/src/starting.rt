@@ -10,9 +10,9 @@ ghost use Rattle.registration_protocol.specs.Setting.{setting};
 ghost use Rattle.machine_rules.specs.State.{opened as opened_machine};
 ghost use Rattle.dn_machine.specs.Content.{state_of, in_row, KnowsOwn};
 
-use crate::content::{Content, MOST_CORES};
+use crate::content::Content;
 use crate::places::own_at;
-use dn_base::{BankId, CoreId, Memory, Sequence, Shape};
+use dn_base::{BankId, CoreId, MOST_CORES, Memory, Sequence, Shape};
 use message_net::{Event, Pool};
 use phase_barrier::Keeper;
 use region_table::Program;

@@ -6,15 +6,9 @@ ghost use Rattle.dn_top.specs.Serving.{IsTaken};
 ghost use Rattle.dn_top.specs.declared.reading.ReadError.TheVariants.{NoMemory};
 
 use command_words::{Mode, Options};
-use dn_base::{Failed, Memory, Source};
+use dn_base::{Failed, MOST_OF_DOCUMENT, MOST_OF_TEXT, Memory, Source};
 use std::alloc::{AllocError, Global};
 use work_gen::work;
-
-/// A text has at most this many bytes.
-const MOST_BYTES: usize = 1_048_576;
-
-/// The document of a run has at most this many bytes.
-const MOST_OF_DOCUMENT: usize = 536_870_912;
 
 /// Why there is no text.
 #[derive(Clone, Copy, Debug, PartialEq, Eq)]
@@ -46,15 +40,15 @@ fn most_of(mode: Mode) -> Option<usize>
     ensures { result ≡ most_read mode }
 {
     match mode {
-        Mode::Run => Some(MOST_BYTES + 1),
+        Mode::Run => Some(MOST_OF_TEXT + 1),
         Mode::Work => None,
-        Mode::Check => Some(MOST_BYTES + 1),
-        Mode::List => Some(MOST_BYTES + 1),
-        Mode::Flat => Some(MOST_BYTES + 1),
-        Mode::Trace => Some(MOST_BYTES + 1),
+        Mode::Check => Some(MOST_OF_TEXT + 1),
+        Mode::List => Some(MOST_OF_TEXT + 1),
+        Mode::Flat => Some(MOST_OF_TEXT + 1),
+        Mode::Trace => Some(MOST_OF_TEXT + 1),
         Mode::Replay => Some(MOST_OF_DOCUMENT + 1),
-        Mode::Time => Some(MOST_BYTES + 1),
-        Mode::Prove => Some(MOST_BYTES + 1),
+        Mode::Time => Some(MOST_OF_TEXT + 1),
+        Mode::Prove => Some(MOST_OF_TEXT + 1),
     }
 }
 

@@ -4,13 +4,10 @@ ghost use Rattle.message_net.specs.declared.event.EventKind.{EventKind};
 ghost use Rattle.host_workers.specs.Ends.{with_ends, last_ends};
 ghost use Rattle.host_workers.specs.RoundOf.{IsTallied, HasNoted};
 
-use dn_base::{CoreId, Memory};
+use dn_base::{CoreId, MOST_CORES, Memory};
 use dn_machine::{Happened, Log, Machine, Stepped};
 use grant_log::Stamped;
 use rv_core::TaskEnd;
-
-/// How many cores a machine has at the most.
-const MOST_CORES: u32 = 16;
 
 /// Notes the events of a round.
 ///
@@ -50,7 +47,7 @@ pub(crate) fn note_last(log: &mut Log, machine: &Machine)
     requires { length machine.now.state.nodes ≤ 16 }
     ensures { log.new ≡ record log.old { ends = with_ends (last_ends machine.now.state) log.old.ends } }
 {
-    for core in 0..MOST_CORES {
+    for core in 0..MOST_CORES as u32 {
         if let Some(end) = machine.task_end(CoreId(core)) {
             log.note_end(end);
         }

@@ -2,7 +2,7 @@ ghost use Rattle.std.specs.Prelude.{◌≡◌, ◌+◌, ◌<◌, ◌≤◌, ◌|
 ghost use Rattle.phase_barrier.specs.Barrier.{opened, all_arrived, is_over, advanced, released, decided, counted, arrives, keeper_gets};
 ghost use Rattle.phase_barrier.specs.Letters.{letter_of};
 
-use dn_base::{CoreId, PhaseId};
+use dn_base::{CoreId, MOST_CORES, PhaseId};
 use message_net::Message;
 use std::marker::Model;
 
@@ -29,9 +29,6 @@ impl Verdict {
         }
     }
 }
-
-/// The most cores that a machine has.
-const MOST_CORES: usize = 16;
 
 /// The keeper of the barrier: the current phase, which cores have arrived in it, and whether one was bad.
 ///

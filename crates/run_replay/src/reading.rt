@@ -8,18 +8,15 @@ ghost use Rattle.run_replay.specs.Faults.{HasFault};
 use crate::events::events;
 use crate::head::read_heading;
 use crate::trace::{Trace, TraceFault};
-use dn_base::Sequence;
+use dn_base::{MOST_OF_DOCUMENT, Sequence};
 use std::alloc::Global;
-
-/// The greatest number of bytes of a document.
-const MOST_BYTES: usize = 536_870_912;
 
 /// What a document tells of a run, or the fault of the bytes.
 fn read(alloc: Global, bytes: &[u8]) -> Result<Trace, TraceFault>
     ensures ok { IfOk result (IsDocument bytes.now) }
     ensures err { IfErr result (λ f. f ≢ NoMemory → HasFault bytes.now f) }
 {
-    if bytes.len() > MOST_BYTES {
+    if bytes.len() > MOST_OF_DOCUMENT {
         return Err(TraceFault::TooLarge);
     }
     let Some(heading) = read_heading(bytes) else {

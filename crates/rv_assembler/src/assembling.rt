@@ -14,12 +14,10 @@ use crate::finishing::finish;
 use crate::names::{Names, survey};
 use crate::reading::{Reading, read_line, version_line};
 use crate::testing::{early_fault, over_limit};
+use dn_base::MOST_OF_TEXT;
 use region_table::Program;
 use src_text::{Line, tokens};
 use std::alloc::Global;
-
-/// The greatest number of bytes of a text.
-const MOST_BYTES: usize = 1048576;
 
 /// What the lines add up to, or the first fault. The version line has the number `version`; 0 stands for version 1.
 fn add_up<'a>(
@@ -71,7 +69,7 @@ fn program_by_lines(alloc: Global, text: &[u8]) -> Result<Program, SourceFault>
     ensures err { IfErr result (λ f. f ≢ NoMemory → added text.now ≡ Err f) }
     ensures large { 1048576 < length text.now → result ≡ Err TooLarge }
 {
-    if MOST_BYTES < text.len() {
+    if MOST_OF_TEXT < text.len() {
         return Err(SourceFault::TooLarge);
     }
     let draft = draft_in(alloc, text)?;
