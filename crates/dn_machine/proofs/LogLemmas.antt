@@ -9,8 +9,9 @@ use Rattle.region_table.specs.declared.declared.TaskDecl.{TaskDecl}
 use Rattle.rv_core.specs.declared.ending.TaskEnd.{TaskEnd}
 use Rattle.message_net.specs.declared.event.Event.{Event}
 use Rattle.message_net.specs.declared.event.EventKind.{EventKind}
+use Rattle.message_net.specs.Kind.{kind_place}
 use Rattle.grant_log.specs.declared.counts.Counts.{Counts}
-use Rattle.grant_log.specs.Counts.{kind_place, same_kind, count_of, no_counts, added, AreCounts}
+use Rattle.grant_log.specs.Counts.{same_kind, count_of, no_counts, added, AreCounts}
 use Rattle.grant_log.proofs.CountLemmas.{place_within, AreCounts-added}
 use Rattle.registration_protocol.specs.Node.{NodeParts, Setting, opened as opened_node}
 use Rattle.registration_protocol.specs.OwnEvents.{end_of}

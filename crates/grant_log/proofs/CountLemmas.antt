@@ -5,9 +5,10 @@ use Rattle.std.proofs.lemmas.List.{take_more, map-append, get_or-set_same, get_o
 use Rattle.std.proofs.lemmas.List.Sums.{sum_by_push}
 use Rattle.std.proofs.lemmas.Bool.Decides.{nat_tests}
 use Rattle.message_net.specs.declared.event.EventKind.{EventKind}
+use Rattle.message_net.specs.Kind.{kind_place}
 use Rattle.grant_log.specs.declared.log.Stamped.{Stamped}
 use Rattle.grant_log.specs.declared.counts.Counts.{Counts}
-use Rattle.grant_log.specs.Counts.{kind_place, same_kind, count_of, added, AreCounts}
+use Rattle.grant_log.specs.Counts.{same_kind, count_of, added, AreCounts}
 
 -- each kind has a place among the seventeen
 pub place_within : (k : EventKind) → kind_place k < 17

@@ -7,7 +7,7 @@ use Rattle.message_net.specs.declared.actor.Actor.{Actor}
 use Rattle.message_net.specs.declared.actor.Actor.TheVariants.{Core, Bank}
 use Rattle.dn_base.specs.declared.ids.BankId.{BankId}
 use Rattle.dn_base.specs.declared.ids.CoreId.{CoreId}
-use Rattle.grant_log.specs.Order.{group, number}
+use Rattle.message_net.specs.Order.{group, number}
 use Rattle.grant_log.specs.declared.log.Stamped.{Stamped}
 use Rattle.grant_log.specs.Log.{IsLog, AreApart, AreLogs}
 

@@ -8,8 +8,9 @@ use Rattle.std.proofs.lemmas.Cmp.{nat_cmp_total, on_total, then_total}
 use Rattle.std.proofs.lemmas.Bool.Decides.{nat_tests}
 use Rattle.message_net.specs.declared.actor.Actor.{Actor}
 use Rattle.message_net.specs.declared.actor.Actor.TheVariants.{Core, Bank, Keeper}
+use Rattle.message_net.specs.Order.{group, number, actor_order}
 use Rattle.grant_log.specs.declared.log.Stamped.{Stamped}
-use Rattle.grant_log.specs.Order.{group, number, actor_order, entry_order, IsBefore}
+use Rattle.grant_log.specs.Order.{entry_order, IsBefore}
 
 -- the order is one in which any two entries compare
 pub entry_order_total : IsTotalOrder entry_order

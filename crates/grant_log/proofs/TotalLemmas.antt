@@ -6,8 +6,9 @@ use Rattle.std.proofs.lemmas.List.{get_or-replicate}
 use Rattle.std.proofs.lemmas.List.Sums.{sum_by-set, sum_by-cons}
 use Rattle.message_net.specs.declared.event.EventKind as kind
 use Rattle.message_net.specs.declared.event.EventKind.{EventKind}
+use Rattle.message_net.specs.Kind.{kind_place}
 use Rattle.grant_log.specs.declared.counts.Counts.{Counts}
-use Rattle.grant_log.specs.Counts.{kind_place, same_kind, count_of, no_counts, added, AreCounts}
+use Rattle.grant_log.specs.Counts.{same_kind, count_of, no_counts, added, AreCounts}
 use Rattle.grant_log.proofs.CountLemmas.{raises, place_within, length-added}
 
 -- what is true at the place of each kind is true at each of the seventeen places

@@ -1,28 +1,8 @@
 -- How many events of each kind there are.
 use Rattle.std.specs.Prelude.{ℕ, ◌≡◌, ◌+◌, ◌==◌, Bool, List, count_by, slice_index_or, slice_set, replicate}
-use Rattle.message_net.specs.declared.event.EventKind as kind
 use Rattle.message_net.specs.declared.event.EventKind.{EventKind}
+use Rattle.message_net.specs.Kind.{kind_place}
 use Rattle.grant_log.specs.declared.counts.Counts.{Counts}
-
--- the place of a kind among the seventeen, in the order in which they are named
-abbrev pub kind_place : EventKind → ℕ
-kind_place kind.TheVariants.Instr = 0
-kind_place kind.TheVariants.Evict = 1
-kind_place kind.TheVariants.Arrive = 2
-kind_place kind.TheVariants.ReadReq = 3
-kind_place kind.TheVariants.ReadFwd = 4
-kind_place kind.TheVariants.DataReply = 5
-kind_place kind.TheVariants.RegReq = 6
-kind_place kind.TheVariants.RegFwd = 7
-kind_place kind.TheVariants.RegAck = 8
-kind_place kind.TheVariants.WriteBack = 9
-kind_place kind.TheVariants.WbAck = 10
-kind_place kind.TheVariants.Acquire = 11
-kind_place kind.TheVariants.Release = 12
-kind_place kind.TheVariants.Grant = 13
-kind_place kind.TheVariants.Arrived = 14
-kind_place kind.TheVariants.Go = 15
-kind_place kind.TheVariants.Halt = 16
 
 -- whether two kinds are one
 abbrev pub same_kind : EventKind → EventKind → Bool

@@ -1,5 +1,5 @@
 ghost use Rattle.std.specs.Prelude.{◌≡◌, ◌<◌, map};
-ghost use Rattle.grant_log.specs.Counts.{kind_place, count_of, no_counts, added, AreCounts};
+ghost use Rattle.grant_log.specs.Counts.{count_of, no_counts, added, AreCounts};
 
 use crate::log::Stamped;
 use message_net::EventKind;
@@ -8,32 +8,6 @@ use message_net::EventKind;
 #[derive(Clone, Copy, Debug, PartialEq, Eq)]
 pub struct Counts {
     pub kinds: [u64; 17],
-}
-
-/// The place of a kind among the seventeen.
-fn place(kind: EventKind) -> usize
-    ensures value { result ≡ kind_place kind }
-    ensures within { result < 17 }
-{
-    match kind {
-        EventKind::Instr => 0,
-        EventKind::Evict => 1,
-        EventKind::Arrive => 2,
-        EventKind::ReadReq => 3,
-        EventKind::ReadFwd => 4,
-        EventKind::DataReply => 5,
-        EventKind::RegReq => 6,
-        EventKind::RegFwd => 7,
-        EventKind::RegAck => 8,
-        EventKind::WriteBack => 9,
-        EventKind::WbAck => 10,
-        EventKind::Acquire => 11,
-        EventKind::Release => 12,
-        EventKind::Grant => 13,
-        EventKind::Arrived => 14,
-        EventKind::Go => 15,
-        EventKind::Halt => 16,
-    }
 }
 
 impl Counts {
@@ -48,7 +22,7 @@ impl Counts {
     pub fn count(&self, kind: EventKind) -> u64
         ensures { result ≡ count_of kind self.now }
     {
-        self.kinds[place(kind)]
+        self.kinds[kind.place()]
     }
 
     /// One more event of this kind. Its count is below the greatest of its type.
@@ -56,7 +30,7 @@ impl Counts {
         requires { count_of kind self.old < 18446744073709551615 }
         ensures { self.new ≡ added kind self.old }
     {
-        self.kinds[place(kind)] += 1;
+        self.kinds[kind.place()] += 1;
     }
 
     /// The counts of these entries.

@@ -1,18 +1,12 @@
 //! What the definitions come to, for whoever reasons about logs.
-ghost use Rattle.std.specs.Prelude.{◌≡◌, ℕ, ◌+◌, ◌<◌, if◌then◌else◌, List, length, filter, flat_map, sum};
+ghost use Rattle.std.specs.Prelude.{◌≡◌, ◌+◌, ◌<◌, if◌then◌else◌, List, length, filter, flat_map, sum};
 ghost use Rattle.message_net.specs.declared.actor.Actor.{Actor};
 ghost use Rattle.message_net.specs.declared.event.EventKind.{EventKind};
 ghost use Rattle.grant_log.specs.declared.counts.Counts.{Counts};
 ghost use Rattle.grant_log.specs.declared.log.Stamped.{Stamped};
 ghost use Rattle.grant_log.specs.Order.{IsBefore};
 ghost use Rattle.grant_log.specs.Log.{AreLogs, IsMerge, of_actor};
-ghost use Rattle.grant_log.specs.Counts.{kind_place, same_kind, count_of, added, AreCounts};
-
-/// Each kind has a place of its own among the seventeen.
-pub fn kinds_have_places_of_their_own()
-    ensures within { (k : EventKind) → kind_place k < 17 }
-    ensures own { (j k : EventKind) → kind_place j ≡ kind_place k → j ≡ k }
-{}
+ghost use Rattle.grant_log.specs.Counts.{same_kind, count_of, added, AreCounts};
 
 /// One more event raises the count of its kind by one, and no other.
 pub fn an_event_raises_its_kind_alone()

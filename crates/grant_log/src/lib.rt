@@ -12,6 +12,6 @@ mod log;
 pub use counts::Counts;
 pub use laws::{
     a_merge_is_the_only_one, a_merge_keeps_each_log, an_event_raises_its_kind_alone, counts_add_up,
-    kinds_have_places_of_their_own, stamps_come_first,
+    stamps_come_first,
 };
 pub use log::{Stamped, grants, merge};

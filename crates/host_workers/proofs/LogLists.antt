@@ -15,7 +15,8 @@ use Rattle.message_net.specs.declared.actor.Actor.{Actor}
 use Rattle.message_net.specs.Id.{same_actor}
 use Rattle.message_net.proofs.PoolLemmas.{same_actor-true, same_actor-refl}
 use Rattle.grant_log.specs.declared.log.Stamped.{Stamped}
-use Rattle.grant_log.specs.Order.{actor_order, entry_order, IsBefore}
+use Rattle.message_net.specs.Order.{actor_order}
+use Rattle.grant_log.specs.Order.{entry_order, IsBefore}
 use Rattle.grant_log.specs.Log.{IsLog, AreApart, AreLogs, IsMerge, of_actor}
 use Rattle.grant_log.proofs.OrderLemmas.{entry_order_total}
 use Rattle.grant_log.proofs.MergeLemmas.{AllPairs-tail}

@@ -1,4 +1,5 @@
--- The kind of event in which a message is handled.
+-- The kinds of event: the one in which a message is handled, and their order.
+use Rattle.std.specs.Prelude.{ℕ}
 use Rattle.message_net.specs.declared.message.Message as message
 use Rattle.message_net.specs.declared.message.Message.{Message}
 use Rattle.message_net.specs.declared.event.EventKind as kind
@@ -20,3 +21,23 @@ kind_of (message.TheVariants.Grant lock signature) = kind.TheVariants.Grant
 kind_of (message.TheVariants.Arrived core bad) = kind.TheVariants.Arrived
 kind_of (message.TheVariants.Go phase) = kind.TheVariants.Go
 kind_of message.TheVariants.Halt = kind.TheVariants.Halt
+
+-- the seventeen kinds in their order, each with its place: a core's own events, and then the messages
+abbrev pub kind_place : EventKind → ℕ
+kind_place kind.TheVariants.Instr = 0
+kind_place kind.TheVariants.Evict = 1
+kind_place kind.TheVariants.Arrive = 2
+kind_place kind.TheVariants.ReadReq = 3
+kind_place kind.TheVariants.ReadFwd = 4
+kind_place kind.TheVariants.DataReply = 5
+kind_place kind.TheVariants.RegReq = 6
+kind_place kind.TheVariants.RegFwd = 7
+kind_place kind.TheVariants.RegAck = 8
+kind_place kind.TheVariants.WriteBack = 9
+kind_place kind.TheVariants.WbAck = 10
+kind_place kind.TheVariants.Acquire = 11
+kind_place kind.TheVariants.Release = 12
+kind_place kind.TheVariants.Grant = 13
+kind_place kind.TheVariants.Arrived = 14
+kind_place kind.TheVariants.Go = 15
+kind_place kind.TheVariants.Halt = 16

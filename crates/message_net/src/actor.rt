@@ -13,7 +13,7 @@ pub enum Actor {
 }
 
 /// The name of a mail: its sender, and how many mails that sender had sent before.
-#[derive(Clone, Copy, Debug, PartialEq, Eq, PartialOrd, Ord)]
+#[derive(Clone, Copy, Debug, PartialEq, Eq)]
 pub struct MailId {
     pub sender: Actor,
     pub number: u32,

@@ -1,3 +1,6 @@
+ghost use Rattle.std.specs.Prelude.{◌≡◌, ◌<◌};
+ghost use Rattle.message_net.specs.Kind.{kind_place};
+
 use crate::actor::MailId;
 use dn_base::{CoreId, WordId};
 
@@ -14,8 +17,8 @@ pub enum Event {
     Handle(MailId),
 }
 
-/// The kinds of event: a core's own, and the handling of each kind of message.
-#[derive(Clone, Copy, Debug, PartialEq, Eq, PartialOrd, Ord)]
+/// The kinds of event: a core's own, and the handling of each kind of message. Counts and ticks stand in this order.
+#[derive(Clone, Copy, Debug, PartialEq, Eq)]
 pub enum EventKind {
     Instr,
     Evict,
@@ -34,4 +37,14 @@ pub enum EventKind {
     Arrived,
     Go,
     Halt,
+}
+
+impl EventKind {
+    /// The place of the kind among the seventeen.
+    pub fn place(self) -> usize
+        ensures value { result ≡ kind_place self }
+        ensures within { result < 17 }
+    {
+        self as usize
+    }
 }

@@ -1,12 +1,18 @@
 //! What posts and takes come to, for whoever reasons about mails in flight.
 ghost use Rattle.std.specs.Prelude.{◌≡◌, ℕ, ◌+◌, ◌<◌, ◌≤◌, ◌↔◌, Bool, List, length, slice_get, Some, None, true, sum_by, count_by, IsPermutation};
+ghost use Rattle.std.specs.Ordering.{nat_cmp};
 ghost use Rattle.message_net.specs.declared.actor.Actor.{Actor};
 ghost use Rattle.message_net.specs.declared.actor.MailId.{MailId};
+ghost use Rattle.message_net.specs.declared.event.EventKind.{EventKind};
 ghost use Rattle.message_net.specs.declared.message.Mail.{Mail};
 ghost use Rattle.message_net.specs.declared.message.Outgoing.{Outgoing};
 ghost use Rattle.message_net.specs.Id.{same_id};
 ghost use Rattle.message_net.specs.Pool.{count_of, AreDistinct, IsFound, posted, without, taken};
+ghost use Rattle.message_net.specs.Kind.{kind_place};
+ghost use Rattle.message_net.specs.Order.{actor_order};
 ghost use Rattle.message_net.specs.Mail.{has_actor, place_of, mails_of, all_mails};
+
+use crate::actor::Actor;
 
 /// Two ids pass the test exactly where they are equal.
 pub fn equal_ids_are_the_same()
@@ -46,6 +52,20 @@ pub fn actors_have_places_of_their_own()
     ensures within { (cores banks : ℕ) (a : Actor) → has_actor cores banks a ≡ true → place_of cores banks a < cores + banks + 1 }
     ensures own { (cores banks : ℕ) (a b : Actor) → has_actor cores banks a ≡ true → has_actor cores banks b ≡ true
         → place_of cores banks a ≡ place_of cores banks b → a ≡ b }
+{}
+
+/// Actors compare as cores first, then banks, each by number, then the keeper. The actors of a machine stand in the order of their
+/// places.
+pub fn actors_are_in_order()
+    ensures order { (a b : Actor) → ⟦<Actor as Ord>⟧.cmp a b ≡ actor_order a b }
+    ensures place { (cores banks : ℕ) (a b : Actor) → has_actor cores banks a ≡ true → has_actor cores banks b ≡ true
+        → actor_order a b ≡ nat_cmp (place_of cores banks a) (place_of cores banks b) }
+{}
+
+/// Each kind has a place of its own among the seventeen.
+pub fn kinds_have_places_of_their_own()
+    ensures within { (k : EventKind) → kind_place k < 17 }
+    ensures own { (j k : EventKind) → kind_place j ≡ kind_place k → j ≡ k }
 {}
 
 /// The same mails in another order weigh the same, whatever the weights are, and the same is taken from them and left of

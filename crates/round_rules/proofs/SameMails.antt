@@ -11,9 +11,8 @@ use Rattle.message_net.specs.declared.message.Message.{Message}
 use Rattle.message_net.specs.declared.message.Message.TheVariants.{ReadReq, ReadFwd, DataReply, RegReq, RegFwd, RegAck, WriteBack, WbAck, Acquire, Release, Grant, Arrived, Go, Halt}
 use Rattle.message_net.specs.declared.message.Mail.{Mail}
 use Rattle.message_net.specs.Id.{same_actor, same_id}
-use Rattle.message_net.specs.Kind.{kind_of}
+use Rattle.message_net.specs.Kind.{kind_of, kind_place}
 use Rattle.message_net.proofs.PoolLemmas.{same_actor-true, same_actor-refl, same_id-true, same_id-refl}
-use Rattle.grant_log.specs.Counts.{kind_place}
 use Rattle.machine_rules.specs.Flight.{bit}
 use Rattle.bank_hall.specs.declared.posted.Posted.{Posted}
 use Rattle.round_rules.proofs.Weights.{somewhere}

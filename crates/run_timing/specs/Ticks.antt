@@ -3,7 +3,7 @@ use Rattle.std.specs.Prelude.{ℕ, ◌≤◌, map, slice_index_or, List, Option,
 use Rattle.message_net.specs.declared.event.Event.{Event}
 use Rattle.message_net.specs.declared.event.EventKind as kind
 use Rattle.message_net.specs.declared.event.EventKind.{EventKind}
-use Rattle.grant_log.specs.Counts.{kind_place}
+use Rattle.message_net.specs.Kind.{kind_place}
 use Rattle.machine_rules.specs.State.{State}
 use Rattle.run_report.specs.Run.{all_kinds}
 use Rattle.run_timing.specs.declared.ticks.Ticks.{Ticks}
