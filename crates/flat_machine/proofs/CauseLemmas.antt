@@ -113,7 +113,7 @@ pub record IsResting (P : ProgramParts) (fuel : ℕ) (F : Flat) : Type 0 where
 all-pass : {X : Type 0} (p : X → Bool) (xs : List X) → list_all p xs ≡ true → All (λ x. p x ≡ true) xs
 all-pass p xs e k d within = true_from_ne_false (p (get_or xs k d)) (λ fails. true≢false (sym e ∙ list_all_at p xs k d within fails))
 
-none-passes : {X : Type 0} (p : X → Bool) (xs : List X) → list_any p xs ≡ false → All (λ x. p x ≡ false) xs
+pub none-passes : {X : Type 0} (p : X → Bool) (xs : List X) → list_any p xs ≡ false → All (λ x. p x ≡ false) xs
 none-passes p xs e k d within = false_from_ne_true (p (get_or xs k d)) (λ passes. true≢false (sym (list_any_at p xs k d within passes) ∙ e))
 
 all-settled : (P : ProgramParts) (fuel phase : ℕ) (ds : List TaskDecl) (m : List ℕ) → All (HasSettled P fuel) (run_all P fuel phase ds m).tasks

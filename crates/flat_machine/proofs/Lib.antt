@@ -12,4 +12,5 @@ pub mod SettleLaws
 pub mod KeptLaws
 pub mod ReachedLaws
 pub mod StartLaws
+pub mod LegalLaws
 pub mod LeastLaws

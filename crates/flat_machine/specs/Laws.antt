@@ -14,7 +14,7 @@ use Rattle.rv_core.specs.declared.ending.TaskEnd.{TaskEnd}
 use Rattle.rv_core.specs.declared.need.Need.{Need}
 use Rattle.rv_core.specs.declared.need.Need.TheVariants.{Acquire}
 use Rattle.flat_machine.specs.declared.ending.FlatEnd.{FlatEnd}
-use Rattle.flat_machine.specs.Step.{Started, At, fresh, segment}
+use Rattle.flat_machine.specs.Step.{Started, At, fresh, wish, segment}
 use Rattle.flat_machine.specs.Phases.{Flat, all_tasks, run_all}
 use Rattle.flat_machine.specs.Grants.{grants_from, so_far, is_whole}
 use Rattle.rv_core.specs.Ending.{is_waiting, is_trapped, outcome_of}
@@ -82,6 +82,16 @@ pub record IsOutOfFuel (fuel : ℕ) (ends : List TaskEnd) : Type 0 where
   pub spent : Any (λ (t : TaskEnd). (t.end ≡ shown.TheVariants.Fuel) × (t.retired ≡ fuel)) ends
   pub untrapped : All (λ (t : TaskEnd). is_trapped t.end ≡ false) ends
   pub unheld : All (λ (t : TaskEnd). is_waiting t.end ≡ false) ends
+
+-- a grant names the current phase, which is the last that has begun, a core whose task waits for the lock, and a lock that nobody
+-- holds
+pub record IsLegal (P : ProgramParts) (fuel : ℕ) (F : Flat) (g : Grant) : Type 0 where
+  pub current : g.phase.0 + 1 ≡ F.begun
+  pub task : Started
+  pub started : IsAmong F.tasks task
+  pub named : task.decl.core ≡ g.core
+  pub waits : wish P fuel task ≡ Some (Acquire g.lock)
+  pub free : All (λ (r : Started). holds r.state.held g.lock.0 ≡ false) (all_tasks F)
 
 -- the task r, at the place i among the tasks of its phase, wants a lock and is shown so, and the task at another place holds
 -- that lock

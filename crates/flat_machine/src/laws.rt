@@ -1,5 +1,5 @@
 //! What segments and lists of grants come to, for whoever compares other machines with the flat one.
-ghost use Rattle.std.specs.Prelude.{◌≡◌, ◌≢◌, ◌<◌, ℕ, List, [], ◌∷◌, ◌++◌, length, slice_get, slice_index, Some, None, true, false};
+ghost use Rattle.std.specs.Prelude.{◌≡◌, ◌≢◌, ◌<◌, ◌↔◌, ℕ, List, [], ◌∷◌, ◌++◌, length, slice_get, slice_index, Some, None, true, false};
 ghost use Rattle.std.specs.List.{All, AllPairs, Any, IsAmong};
 ghost use Rattle.dn_base.specs.declared.ids.Grant.{Grant};
 ghost use Rattle.dn_base.specs.declared.ids.LockId.{LockId};
@@ -16,7 +16,7 @@ ghost use Rattle.flat_machine.specs.Phases.{Flat, has_finished, settled, opened}
 ghost use Rattle.flat_machine.specs.Grants.{is_free, grant_of, go_on, with_task, so_far, is_whole, granted, granted_if, IsLeast};
 ghost use Rattle.rv_core.specs.Ending.{is_waiting};
 ghost use Rattle.flat_machine.specs.Ending.{end_of, flat_end};
-ghost use Rattle.flat_machine.specs.Laws.{at_memory, IsAtRest, AgreeOn, IsAlike, HoldsLess, IsLater, HoldApart, SameInEitherOrder, HasUsedUp, IsOutOfFuel, IsHeldUp, HasTasks, HasFront, StartAlone, IsEnded};
+ghost use Rattle.flat_machine.specs.Laws.{at_memory, IsAtRest, AgreeOn, IsAlike, HoldsLess, IsLater, HoldApart, SameInEitherOrder, HasUsedUp, IsOutOfFuel, IsHeldUp, HasTasks, HasFront, StartAlone, IsEnded, IsLegal};
 
 /// A segment changes no word but those that its task may store with the locks that it holds at the start. It only gives
 /// locks up.
@@ -75,6 +75,13 @@ pub fn one_more_grant_is_one_step()
 pub fn the_tasks_of_a_run_are_its_phases()
     ensures tasks { (P : ProgramParts) (fuel : ℕ) (gs : List Grant) (F : Flat) → so_far P fuel gs ≡ Some F → HasTasks P F }
     ensures rising { (P : ProgramParts) (fuel : ℕ) (gs : List Grant) (F : Flat) → IsProgram P → so_far P fuel gs ≡ Some F → AllPairs (λ (a b : Started). a.decl.core.0 < b.decl.core.0) F.tasks }
+{}
+
+/// After a list of grants, one more is legal exactly where it names the current phase, a core whose task waits for the lock, and a
+/// lock that nobody holds.
+pub fn a_grant_is_legal_where_its_task_waits_for_a_free_lock()
+    ensures { (P : ProgramParts) (fuel : ℕ) (gs : List Grant) (F : Flat) (g : Grant) → so_far P fuel gs ≡ Some F
+        → (granted P fuel g F ≢ None) ↔ IsLegal P fuel F g }
 {}
 
 /// A grant of a free lock to a task that wants it is legal, and goes on with just that task.
