@@ -21,3 +21,4 @@ pub mod LargeLemmas
 pub mod DeclaredLemmas
 pub mod WellFormed
 pub mod RegisterLemmas
+pub mod ValueLemmas

@@ -17,6 +17,8 @@ pub mod Program
 pub mod Tables
 pub mod Source
 pub mod Names
+-- What follows from it: what laws say.
+pub mod TwoWords
 -- How the assembler finds it, line by line: what private functions say.
 pub mod ShapeRow
 pub mod Gathering

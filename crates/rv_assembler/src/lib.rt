@@ -8,6 +8,7 @@ mod emission;
 mod fault;
 mod finishing;
 mod kind;
+mod language;
 mod laws;
 mod names;
 mod number;
@@ -20,6 +21,7 @@ mod uniting;
 
 pub use assembling::assemble;
 pub use fault::SourceFault;
+pub use language::two_words_make_their_value;
 pub use laws::{
     a_union_has_all_words, lines_of_good_form_are_few, names_may_be_declared,
     only_long_texts_are_too_large, programs_are_well_formed, what_stands_before_a_line_has_32_bits,
