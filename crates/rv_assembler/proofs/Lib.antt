@@ -22,3 +22,5 @@ pub mod DeclaredLemmas
 pub mod WellFormed
 pub mod RegisterLemmas
 pub mod ValueLemmas
+pub mod WordRows
+pub mod BaseLineLemmas

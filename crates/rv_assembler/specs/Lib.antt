@@ -19,6 +19,7 @@ pub mod Source
 pub mod Names
 -- What follows from it: what laws say.
 pub mod TwoWords
+pub mod BaseLine
 -- How the assembler finds it, line by line: what private functions say.
 pub mod ShapeRow
 pub mod Gathering

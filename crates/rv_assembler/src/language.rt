@@ -1,5 +1,6 @@
 //! Laws of the source language, by which statements are compared with one another: functions that do nothing, whose contracts say it.
 ghost use Rattle.std.specs.Prelude.{◌≡◌, ◌%◌, ◌^◌, ℕ, ℤ, List, Option, Some};
+ghost use Rattle.std.specs.List.{All};
 ghost use Rattle.src_text.specs.declared.token.Token.{Token};
 ghost use Rattle.rv_assembler.specs.declared.kind.Mnemonic.TheVariants.{Li, La};
 ghost use Rattle.rv_assembler.specs.declared.names.Meaning.{Meaning};
@@ -9,6 +10,7 @@ ghost use Rattle.rv_assembler.specs.Operand.{bytes_of, token_at, number_at, regi
 ghost use Rattle.rv_assembler.specs.Reading.{code_for};
 ghost use Rattle.rv_assembler.specs.Emission.{label_address, region_address, emission};
 ghost use Rattle.rv_assembler.specs.TwoWords.{MakesValue};
+ghost use Rattle.rv_assembler.specs.BaseLine.{pseudo_rows, HasBaseLine};
 
 /// The two words of `li` make its number modulo 2^32 in its register, by the meaning of LUI and ADDI; those of `la` make the
 /// address of its label, or of the first word of its region.
@@ -18,4 +20,9 @@ pub fn two_words_make_their_value()
         → MakesValue (register_at text ts 0) (label_address place % 2 ^ 32) (emission text names here (code_for text ts La)) }
     ensures region { (text : List ℕ) (names : List ℕ → Option Meaning) (here number start : ℕ) (len : ℤ) (ts : List Token) → names (bytes_of text (token_at ts 2)) ≡ Some (Region number start len)
         → MakesValue (register_at text ts 0) (region_address start % 2 ^ 32) (emission text names here (code_for text ts La)) }
+{}
+
+/// A line of a pseudo-instruction has the word of its base line, and the same fault where it has one, for all operands.
+pub fn a_pseudo_instruction_has_its_base_line()
+    ensures { All HasBaseLine pseudo_rows }
 {}
