@@ -36,7 +36,7 @@ late number place l h =
     let found = third (list_any is_bad (code_of l)) (list_any is_bad_number (lexemes_of 0 l)) (is_over_limit number l) _ _ _ over in
     (found.0, ap (λ (o : Option LineFault). line_with number (filter_map token_of (lexemes_of place l)) o) found.1)
 
-number-of : (number : ℕ) (ts : List Token) (o : Option LineFault) → (line_with number ts o).number ≡ number
+pub number-of : (number : ℕ) (ts : List Token) (o : Option LineFault) → (line_with number ts o).number ≡ number
 number-of number ts None = refl
 number-of number ts (Some f) = refl
 

@@ -20,7 +20,8 @@ use Rattle.rv_assembler.specs.Reading.{statement_of, statement_in, said, labelle
 use Rattle.rv_assembler.specs.First.{first_of}
 use Rattle.src_text.specs.Line.{lines_of}
 use Rattle.rv_assembler.specs.Adding.{no_draft, after, fault_of, unless_fault, total, total_of, program_in, names_of, draft_of, added}
-use Rattle.rv_assembler.specs.Fault.{out_of_range, doubled, unknown, misplaced, early_fault, over_limit, limit_fault}
+use Rattle.rv_assembler.specs.Fault.{out_of_range, unknown, misplaced, over_limit, limit_fault}
+use Rattle.rv_assembler.specs.Testing.{doubled_by_meaning, draft_fault}
 use Rattle.rv_assembler.specs.Source.{source}
 use Rattle.region_table.specs.Program.{ProgramParts}
 use Rattle.rv_assembler.proofs.AgreeLemmas.{source-added}
@@ -81,11 +82,11 @@ reading-small version text l =
     cond_both (nat_eq l.number version) _ (read_line (nat_lt 0 version) text l.number l.tokens l.fault) (λ (r : Reading). reading_large r ≡ false) (λ e. refl)
     (λ e. line-small (nat_lt 0 version) text l.number l.tokens l.fault)
 
-early-small : (text : List ℕ) (names : List ℕ → Option Meaning) (d : Draft) (s : Saying) → some_large (early_fault text names d s) ≡ false
+early-small : (text : List ℕ) (names : List ℕ → Option Meaning) (d : Draft) (s : Saying) → some_large (draft_fault text names d s) ≡ false
 early-small text names d s =
     let P : Option SourceFault → Type 0 = λ o. some_large o ≡ false in
     cond_both (out_of_range text names d s.statement) _ _ P (λ e. refl) (λ e.
-    cond_both (doubled text names d.count s) _ _ P (λ e. refl) (λ e.
+    cond_both (doubled_by_meaning text names d.count s) _ _ P (λ e. refl) (λ e.
     cond_both (unknown text names d.count.code s.statement) _ _ P (λ e. refl) (λ e.
     cond_both (misplaced d s.statement) _ _ P (λ e. refl) (λ e. refl))))
 
@@ -104,7 +105,7 @@ step-small : (v : Bool) (text : List ℕ) (names : List ℕ → Option Meaning) 
 step-small v text names d (Bad f) rs e h = e
 step-small v text names d (Good s) rs e h =
     unless-small (fault_of v text names d s) (total v text names (after text names d s.statement) rs)
-    (first-small (early_fault text names d s) (limit_fault v (after text names d s.statement) s.line) (early-small text names d s) (limit-small v (after text names d s.statement) s.line))
+    (first-small (draft_fault text names d s) (limit_fault v (after text names d s.statement) s.line) (early-small text names d s) (limit-small v (after text names d s.statement) s.line))
     (h (after text names d s.statement))
 
 total-small : (version : ℕ) (text : List ℕ) (names : List ℕ → Option Meaning) (ls : List Line) (d : Draft) → error_large (total_of version text names d ls) ≡ false

@@ -24,3 +24,5 @@ pub mod RegisterLemmas
 pub mod ValueLemmas
 pub mod WordRows
 pub mod BaseLineLemmas
+pub mod DoubledLemmas
+pub mod RisingLemmas

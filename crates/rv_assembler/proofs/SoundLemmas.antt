@@ -26,7 +26,8 @@ use Rattle.rv_assembler.specs.Operand.{bytes_of}
 use Rattle.src_text.specs.declared.token.TokenKind.{TokenKind}
 use Rattle.src_text.specs.declared.token.TokenKind as token
 use Rattle.rv_assembler.specs.Adding.{no_draft, after}
-use Rattle.rv_assembler.specs.Fault.{is_address, entry_far, are_cores, out_of_range, region_doubled, lock_doubled, name_doubled, label_of_doubled, doubled, unknown, misplaced, most_regions, over_limit, early_fault}
+use Rattle.rv_assembler.specs.Fault.{is_address, entry_far, are_cores, out_of_range, unknown, misplaced, most_regions, over_limit}
+use Rattle.rv_assembler.specs.Testing.{region_doubled, lock_doubled, name_doubled, label_of_doubled, doubled_by_meaning, draft_fault}
 use Rattle.rv_assembler.specs.Finishing.{stored, program_of}
 use Rattle.rv_assembler.specs.Whole.{IsWhole}
 use Rattle.rv_assembler.proofs.PhaseLemmas.{IsAligned, phases-well}
@@ -259,9 +260,9 @@ within version_2 d e =
       tasks = ltb-false 64 (length d.tasks) t.1;
     }
 
-pub sound-after : (text : List ℕ) (names : List ℕ → Option Meaning) (d : Draft) (s : Saying) → Sound names d → IsWithin d → early_fault text names d s ≡ None → Sound names (after text names d s.statement)
+pub sound-after : (text : List ℕ) (names : List ℕ → Option Meaning) (d : Draft) (s : Saying) → Sound names d → IsWithin d → draft_fault text names d s ≡ None → Sound names (after text names d s.statement)
 sound-after text names d s h w e =
-    let p = first-none (out_of_range text names d s.statement) (doubled text names d.count s) (unknown text names d.count.code s.statement) (misplaced d s.statement) _ _ _ _ e in
+    let p = first-none (out_of_range text names d s.statement) (doubled_by_meaning text names d.count s) (unknown text names d.count.code s.statement) (misplaced d s.statement) _ _ _ _ e in
     let q = or-none (label_of_doubled text names s.line s.label) (name_doubled text names d.count s.statement) p.1 in
     sound-statement text names d s.statement h p.0 q.1 w.words w.regions w.locks
 

@@ -31,7 +31,7 @@ use Rattle.rv_assembler.specs.Named.{no_cores, region_place, usage_of}
 use Rattle.rv_assembler.specs.Drafting.{next_claim, claimed, claims_for, values_for}
 use Rattle.rv_assembler.specs.Rows.{first_values, from_index, to_index, moved_by, uses_of}
 use Rattle.rv_assembler.proofs.IndexLemmas.{fits_from, fits-index, uses_from, uses-index}
-use Rattle.rv_assembler.specs.Fault.{stepped_fits, extent_far, word_far, out_of_range, doubled, unknown, misplaced, early_fault, over_limit, limit_fault}
+use Rattle.rv_assembler.specs.Fault.{stepped_fits, extent_far, word_far, out_of_range, doubled, unknown, misplaced, first_fault, early_fault, over_limit, limit_fault}
 use Rattle.rv_assembler.specs.Placed.{placed_behind}
 use Rattle.rv_assembler.specs.Counts.{region_words, data_size, code_words, data_words, regions_in, locks_in, phases_in, family_in}
 use Rattle.rv_assembler.specs.Declarations.{Declaration, label_by, named_by, declared_at, meaning_among, meaning_of}
@@ -394,8 +394,8 @@ within-limits v d line e = step (over_limit v d) e
     step false e = refl
 
 -- a line without a fault has no number out of its range
-pub in-range : (text : List ℕ) (names : List ℕ → Option Meaning) (d : Draft) (s : Saying) → early_fault text names d s ≡ None → out_of_range text names d s.statement ≡ false
-in-range text names d s e = (first-none (out_of_range text names d s.statement) (doubled text names d.count s) (unknown text names d.count.code s.statement) (misplaced d s.statement) _ _ _ _ e).0
+pub in-range : (again : Bool) (text : List ℕ) (names : List ℕ → Option Meaning) (d : Draft) (s : Saying) → first_fault again text names d s ≡ None → out_of_range text names d s.statement ≡ false
+in-range again text names d s e = (first-none (out_of_range text names d s.statement) again (unknown text names d.count.code s.statement) (misplaced d s.statement) _ _ _ _ e).0
 
 clean-from : (v : Bool) (text : List ℕ) (names : List ℕ → Option Meaning) (rs done : List Reading) (before : List Saying) → sayings done ≡ before → data_words before ≤ 65536 → filter_map (fault_at v text names) (placed_behind done rs) ≡ []
     → AreClean text names before (sayings rs) × (data_words (before ++ sayings rs) ≤ 65536)
@@ -405,13 +405,13 @@ clean-from v text names (Good s ∷ rs) done before same small e =
     let now : List Saying = before ++ s ∷ [] in
     let parts = none-of (line_fault v text names (sayings done) (Good s)) (filter_map (fault_at v text names) (placed_behind (done ++ Good s ∷ []) rs)) e in
     let here : line_fault v text names before (Good s) ≡ None = subst (λ (ss : List Saying). line_fault v text names ss (Good s) ≡ None) same parts.0 in
-    let none = both-none (early_fault text names (tables text names before) s) (limit_fault v (tables text names now) s.line) here in
+    let none = both-none (early_fault text names before s) (limit_fault v (tables text names now) s.line) here in
     let words : data_words now ≤ 65536 = (within v (tables text names now) (within-limits v (tables text names now) s.line none.1)).words in
     let said : sayings (done ++ Good s ∷ []) ≡ now = filter_map-append good done (Good s ∷ []) ∙ ap (λ (ss : List Saying). ss ++ s ∷ []) same in
     let rest = clean-from v text names rs (done ++ Good s ∷ []) now said words parts.1 in
     let all : data_words (now ++ sayings rs) ≡ data_words (before ++ s ∷ sayings rs) = ap data_words (append_assoc before (s ∷ []) (sayings rs)) in
     let small_all = rest.1 in
-    ((in-range text names (tables text names before) s none.0, rest.0), omega arith)
+    ((in-range (doubled text before s) text names (tables text names before) s none.0, rest.0), omega arith)
 
 clean-program : (v : Bool) (text : List ℕ) (rs : List Reading) → faults v text (meaning_of text (sayings rs)) rs ≡ []
     → finishing.program_of (wrapped_tables text (meaning_of text (sayings rs)) (sayings rs)) ≡ program_of (tables text (meaning_of text (sayings rs)) (sayings rs))

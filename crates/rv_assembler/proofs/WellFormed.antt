@@ -13,7 +13,8 @@ use Rattle.rv_assembler.specs.declared.reading.Reading.TheVariants.{Bad, Good}
 use Rattle.rv_assembler.specs.declared.names.Meaning.{Meaning}
 use Rattle.rv_assembler.specs.declared.draft.Draft.{Draft}
 use Rattle.rv_assembler.specs.Reading.{version_line, reading_of}
-use Rattle.rv_assembler.specs.Fault.{early_fault, limit_fault}
+use Rattle.rv_assembler.specs.Fault.{limit_fault}
+use Rattle.rv_assembler.specs.Testing.{draft_fault}
 use Rattle.rv_assembler.specs.Adding.{no_draft, after, fault_of, unless_fault, total, program_in, draft_of}
 use Rattle.rv_assembler.specs.Adding as adding
 use Rattle.rv_assembler.specs.Finishing.{program_of}
@@ -58,7 +59,7 @@ total-sound v text names d e (Good s ∷ rs) h is =
     by_fault : (o : Option SourceFault) → fault_of v text names d s ≡ o → unless_fault o (total v text names adds rs) ≡ Ok e → (IsSound names adds → total v text names adds rs ≡ Ok e → IsSound names e) → IsSound names e
     by_fault (Some f) o is rest = absurd cc
     by_fault None o is rest =
-        let none = both-none (early_fault text names d s) (limit_fault v adds s.line) o in
+        let none = both-none (draft_fault text names d s) (limit_fault v adds s.line) o in
         rest (record { sound = sound-after text names d s h.sound h.within none.0; within = within v adds (within-limits v adds s.line none.1) }) is
 
 draft-sound : (text : List ℕ) (d : Draft) → draft_of text ≡ Ok d → IsProgram (program_of d)

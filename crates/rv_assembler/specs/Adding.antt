@@ -22,7 +22,8 @@ use Rattle.rv_assembler.specs.Gathering.{more, no_count, counted, meaning_in}
 use Rattle.rv_assembler.specs.Emission.{emission, words_in}
 use Rattle.rv_assembler.specs.Named.{no_cores, region_place, usage_of}
 use Rattle.rv_assembler.specs.Drafting.{wrapped_entry, members, claims_for, values_for}
-use Rattle.rv_assembler.specs.Fault.{early_fault, limit_fault}
+use Rattle.rv_assembler.specs.Fault.{limit_fault}
+use Rattle.rv_assembler.specs.Testing.{draft_fault}
 use Rattle.rv_assembler.specs.Finishing.{program_of}
 
 abbrev pub no_draft : Draft
@@ -56,7 +57,7 @@ after text names d s = record (extended text names d s) { count = counted d.coun
 
 -- the first fault of a line of good form
 abbrev pub fault_of : Bool → List ℕ → (List ℕ → Option Meaning) → Draft → Saying → Option SourceFault
-fault_of version_2 text names d s = first_of (early_fault text names d s) (limit_fault version_2 (after text names d s.statement) s.line)
+fault_of version_2 text names d s = first_of (draft_fault text names d s) (limit_fault version_2 (after text names d s.statement) s.line)
 
 abbrev pub unless_fault : Option SourceFault → Result Draft SourceFault → Result Draft SourceFault
 unless_fault (Some f) r = Err f

@@ -1,5 +1,6 @@
 -- The names that some lines declare, and what a name means.
-use Rattle.std.specs.Prelude.{ℕ, List, [], ◌∷◌, ◌++◌, Option, Some, None, option_map, find, flat_map, bytes_eq}
+use Rattle.std.specs.Prelude.{ℕ, Bool, false, ◌||◌, List, [], ◌∷◌, ◌++◌, Option, Some, None, option_map, find, flat_map, bytes_eq}
+use Rattle.std.specs.List.{list_any}
 use Rattle.src_text.specs.declared.token.Token.{Token}
 use Rattle.rv_assembler.specs.declared.statement.Statement.{Statement}
 use Rattle.rv_assembler.specs.declared.statement.Statement as statement
@@ -34,6 +35,15 @@ declared_at text p = label_by text p.before p.here.line p.here.label ++ named_by
 
 abbrev pub declarations : List ℕ → List Saying → List Declaration
 declarations text ss = flat_map (declared_at text) (placed ss)
+
+-- whether one of these is a declaration of the name
+abbrev pub declares : List Declaration → List ℕ → Bool
+declares ds q = list_any (λ (d : Declaration). bytes_eq d.name q) ds
+
+-- whether one of these declares a name that is declared before it, by the earlier ones or by these
+abbrev pub declare_again : List Declaration → List Declaration → Bool
+declare_again earlier [] = false
+declare_again earlier (d ∷ ds) = declares earlier d.name || declare_again (earlier ++ d ∷ []) ds
 
 -- the first declaration of a name in a list
 abbrev pub meaning_among : List Declaration → List ℕ → Option Meaning

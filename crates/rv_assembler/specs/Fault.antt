@@ -16,7 +16,6 @@ use Rattle.rv_assembler.specs.declared.statement.Extent as extent
 use Rattle.rv_assembler.specs.declared.reading.Saying.{Saying}
 use Rattle.rv_assembler.specs.declared.names.Meaning.{Meaning}
 use Rattle.rv_assembler.specs.declared.names.Meaning as meaning
-use Rattle.rv_assembler.specs.declared.names.Count.{Count}
 use Rattle.rv_assembler.specs.declared.emission.Emission.{Emission}
 use Rattle.rv_assembler.specs.declared.emission.Emission.TheVariants.{OutOfRange, Unknown}
 use Rattle.rv_assembler.specs.declared.draft.Start.{Start}
@@ -26,6 +25,8 @@ use Rattle.rv_assembler.specs.Number.{count_of, is_within, is_length, is_interva
 use Rattle.rv_assembler.specs.Operand.{bytes_of}
 use Rattle.rv_assembler.specs.Emission.{emission, label_place}
 use Rattle.rv_assembler.specs.Named.{region_place, lock_number}
+use Rattle.rv_assembler.specs.Declarations.{declarations, declared_at, declare_again}
+use Rattle.rv_assembler.specs.Tables.{tables}
 
 abbrev pub is_far : Emission → Bool
 is_far OutOfRange = true
@@ -78,32 +79,9 @@ out_of_range text names d (statement.TheVariants.Tasks f) = family_far f
 out_of_range text names d (statement.TheVariants.Uses e) = extent_far (region_place (names (bytes_of text e.region))) e.extent d.family.count
 out_of_range text names d _ = false
 
--- A name means what the first line that declares it says. So a line declares a name that is declared before where the name means
--- something other than what this line says: the label of another line, or the region or lock of another number.
-abbrev pub label_doubled : Option Meaning → ℕ → Bool
-label_doubled (Some (meaning.TheVariants.Label first place)) line = not (first == line)
-label_doubled _ line = true
-
-abbrev pub region_doubled : Option Meaning → ℕ → Bool
-region_doubled (Some (meaning.TheVariants.Region first start len)) number = not (first == number)
-region_doubled _ number = true
-
-abbrev pub lock_doubled : Option Meaning → ℕ → Bool
-lock_doubled (Some (meaning.TheVariants.Lock first)) number = not (first == number)
-lock_doubled _ number = true
-
-abbrev pub name_doubled : List ℕ → (List ℕ → Option Meaning) → Count → Statement → Bool
-name_doubled text names c (statement.TheVariants.Region name len) = region_doubled (names (bytes_of text name)) c.regions
-name_doubled text names c (statement.TheVariants.Lock name) = lock_doubled (names (bytes_of text name)) c.locks
-name_doubled text names c _ = false
-
-abbrev pub label_of_doubled : List ℕ → (List ℕ → Option Meaning) → ℕ → Option Token → Bool
-label_of_doubled text names line None = false
-label_of_doubled text names line (Some t) = label_doubled (names (bytes_of text t)) line
-
--- DoubleName: the line declares a name that an earlier line declares, or one name twice
-abbrev pub doubled : List ℕ → (List ℕ → Option Meaning) → Count → Saying → Bool
-doubled text names c s = label_of_doubled text names s.line s.label || name_doubled text names c s.statement
+-- DoubleName: the line declares a name that an earlier line of good form declares, or one name twice
+abbrev pub doubled : List ℕ → List Saying → Saying → Bool
+doubled text before s = declare_again (declarations text before) (declared_at text (record { before = before; here = s }))
 
 abbrev pub entry_kind_lost : TokenKind → Option Meaning → Bool
 entry_kind_lost (token.TheVariants.Number n) m = false
@@ -149,14 +127,18 @@ over_limit version_2 d =
     nat_lt 16384 (length d.code) || (nat_lt 65536 d.count.words || (nat_lt (most_regions version_2) (length d.regions)
     || (nat_lt 32 (length d.locks) || (nat_lt 64 d.phases || nat_lt 64 (length d.tasks)))))
 
--- the first fault of a line, but for the limits
-abbrev pub early_fault : List ℕ → (List ℕ → Option Meaning) → Draft → Saying → Option SourceFault
-early_fault text names d s =
+-- the first fault of a line, but for the limits, where `again` is whether it declares a name that is declared
+abbrev pub first_fault : Bool → List ℕ → (List ℕ → Option Meaning) → Draft → Saying → Option SourceFault
+first_fault again text names d s =
     if out_of_range text names d s.statement then Some (fault.TheVariants.OutOfRange s.line)
-    else (if doubled text names d.count s then Some (fault.TheVariants.DoubleName s.line)
+    else (if again then Some (fault.TheVariants.DoubleName s.line)
     else (if unknown text names d.count.code s.statement then Some (fault.TheVariants.UnknownName s.line)
     else (if misplaced d s.statement then Some (fault.TheVariants.Misplaced s.line)
     else None)))
+
+-- the same by the lines of good form before it
+abbrev pub early_fault : List ℕ → (List ℕ → Option Meaning) → List Saying → Saying → Option SourceFault
+early_fault text names before s = first_fault (doubled text before s) text names (tables text names before) s
 
 abbrev pub limit_fault : Bool → Draft → ℕ → Option SourceFault
 limit_fault version_2 d line = if over_limit version_2 d then Some (fault.TheVariants.Limit line) else None

@@ -11,10 +11,10 @@ pub mod Named
 pub mod Rows
 pub mod Counts
 pub mod Declarations
-pub mod Fault
 pub mod Union
 pub mod Program
 pub mod Tables
+pub mod Fault
 pub mod Source
 pub mod Names
 -- What follows from it: what laws say.
@@ -25,6 +25,7 @@ pub mod ShapeRow
 pub mod Gathering
 pub mod Drafting
 pub mod Finishing
+pub mod Testing
 pub mod Adding
 pub mod Lookup
 pub mod Whole

@@ -32,7 +32,7 @@ sayings rs = filter_map good rs
 abbrev pub line_fault : Bool → List ℕ → (List ℕ → Option Meaning) → List Saying → Reading → Option SourceFault
 line_fault version_2 text names before (Bad f) = Some f
 line_fault version_2 text names before (Good s) =
-    first_of (early_fault text names (tables text names before) s) (limit_fault version_2 (tables text names (before ++ s ∷ [])) s.line)
+    first_of (early_fault text names before s) (limit_fault version_2 (tables text names (before ++ s ∷ [])) s.line)
 
 abbrev pub fault_at : Bool → List ℕ → (List ℕ → Option Meaning) → Placed Reading → Option SourceFault
 fault_at version_2 text names p = line_fault version_2 text names (sayings p.before) p.here

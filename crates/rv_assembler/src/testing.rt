@@ -2,7 +2,8 @@
 ghost use Rattle.std.specs.Prelude.{◌≡◌, ℕ, ◌-◌, ◌+◌, ◌<◌, ◌≤◌, List, Option, is_none, IsTrue, ℤ, pos, neg_ℤ, ◌+ℤ◌, ◌≤ℤ◌};
 ghost use Rattle.rv_assembler.specs.Lookup.{looked};
 ghost use Rattle.rv_assembler.specs.Number.{is_within};
-ghost use Rattle.rv_assembler.specs.Fault.{is_far, is_lost, stepped_fits, extent_far, family_far, is_address, entry_far, are_cores, word_far, out_of_range, label_doubled, region_doubled, lock_doubled, name_doubled, doubled, entry_lost, effect_lost, unknown, is_on, taken, misplaced, most_regions, over_limit, early_fault};
+ghost use Rattle.rv_assembler.specs.Fault.{is_far, is_lost, stepped_fits, extent_far, family_far, is_address, entry_far, are_cores, word_far, out_of_range, entry_lost, effect_lost, unknown, is_on, taken, misplaced, most_regions, over_limit};
+ghost use Rattle.rv_assembler.specs.Testing.{label_doubled, region_doubled, lock_doubled, name_doubled, doubled_by_meaning, draft_fault};
 ghost use Rattle.rv_assembler.specs.Operand.{bytes_of};
 ghost use Rattle.rv_assembler.specs.Emission.{emission, label_place};
 ghost use Rattle.rv_assembler.specs.Named.{region_place, lock_number};
@@ -179,7 +180,7 @@ fn name_doubled<'a>(text: &'a [u8], names: &Names<'a>, count: &Count, statement:
 
 /// Whether a name that the line declares is declared before.
 fn doubled<'a>(text: &'a [u8], names: &Names<'a>, count: &Count, saying: &Saying) -> bool
-    ensures { result ≡ doubled text.now (looked names.now) count.now saying.now }
+    ensures { result ≡ doubled_by_meaning text.now (looked names.now) count.now saying.now }
 {
     if let Some(label) = saying.label {
         if label_doubled(meaning_of(text, names, label), saying.line) {
@@ -294,7 +295,7 @@ pub(crate) fn early_fault<'a>(
     draft: &Draft,
     saying: &Saying,
 ) -> Option<SourceFault>
-    ensures { result ≡ early_fault text.now (looked names.now) draft.now saying.now }
+    ensures { result ≡ draft_fault text.now (looked names.now) draft.now saying.now }
 {
     let line = saying.line;
     if out_of_range(text, names, draft, &saying.statement) {

@@ -17,7 +17,8 @@ use Rattle.rv_assembler.specs.Gathering.{more}
 use Rattle.rv_assembler.specs.Size.{size_of}
 use Rattle.rv_assembler.specs.Emission.{emission, words_in}
 use Rattle.rv_assembler.specs.Adding.{after, total}
-use Rattle.rv_assembler.specs.Fault.{is_far, is_lost, early_fault, most_regions, over_limit}
+use Rattle.rv_assembler.specs.Fault.{is_far, is_lost, most_regions, over_limit}
+use Rattle.rv_assembler.specs.Testing.{draft_fault}
 use Rattle.rv_assembler.specs.Finishing.{program_of}
 use Rattle.rv_assembler.proofs.SourceLemmas.{total-more}
 use Rattle.rv_listing.specs.Instruction.{code_line}
@@ -77,7 +78,7 @@ other_limits v d =
     ltb 65536 d.count.words || (ltb (most_regions v) (length d.regions) || (ltb 32 (length d.locks) || (ltb 64 d.phases || ltb 64 (length d.tasks))))
 
 module _ (v : Bool) (text : List ℕ) (names : List ℕ → Option Meaning) where
-  word-fault : (d : Draft) (n : ℕ) (k : Code) (w : ℕ) → emission text names d.count.code k ≡ in_emission.TheVariants.One w → early_fault text names d (record { line = n; label = None; statement = in_statement.TheVariants.Instruction k }) ≡ None
+  word-fault : (d : Draft) (n : ℕ) (k : Code) (w : ℕ) → emission text names d.count.code k ≡ in_emission.TheVariants.One w → draft_fault text names d (record { line = n; label = None; statement = in_statement.TheVariants.Instruction k }) ≡ None
   word-fault d n k w e =
       ap (λ (x : Emission). cond (is_far x) (Some (fault.TheVariants.OutOfRange n)) (cond (is_lost x) (Some (fault.TheVariants.UnknownName n)) None)) e
 

@@ -19,7 +19,8 @@ use Rattle.rv_assembler.specs.Gathering.{more}
 use Rattle.rv_assembler.specs.Operand.{bytes_of}
 use Rattle.rv_assembler.specs.Counts.{region_words}
 use Rattle.rv_assembler.specs.Adding.{after, total}
-use Rattle.rv_assembler.specs.Fault.{region_doubled, lock_doubled, early_fault, most_regions, over_limit}
+use Rattle.rv_assembler.specs.Fault.{most_regions, over_limit}
+use Rattle.rv_assembler.specs.Testing.{region_doubled, lock_doubled, draft_fault}
 use Rattle.rv_assembler.proofs.SourceLemmas.{total-more}
 use Rattle.rv_listing.proofs.CodeLemmas.{wrapped-pos}
 use Rattle.rv_listing.proofs.ReadLemmas.{sayings}
@@ -65,7 +66,7 @@ same-region name start len r e f g =
 
 module _ (v : Bool) (text : List ℕ) (names : List ℕ → Option Meaning) where
   region-fault : (d : Draft) (n : ℕ) (t : Token) (r : Region) → 0 < r.len → r.len ≤ 65536 → names (bytes_of text t) ≡ Some (in_meaning.TheVariants.Region d.count.regions r.start (pos r.len))
-      → early_fault text names d (record { line = n; label = None; statement = region_statement t r }) ≡ None
+      → draft_fault text names d (record { line = n; label = None; statement = region_statement t r }) ≡ None
   region-fault d n t r l m e =
       ap (λ (b : Bool). cond (not b) (Some (fault.TheVariants.OutOfRange n)) (cond (region_doubled (names (bytes_of text t)) d.count.regions) (Some (fault.TheVariants.DoubleName n)) None)) (length-pos r.len l m)
       ∙ ap (λ (o : Option Meaning). cond (region_doubled o d.count.regions) (Some (fault.TheVariants.DoubleName n)) None) e
@@ -92,7 +93,7 @@ module _ (v : Bool) (text : List ℕ) (names : List ℕ → Option Meaning) wher
       total-more v text names d (record { line = n; label = None; statement = region_statement t r }) rs (region-fault d n t r l (omega arith) found) (ap (over_limit v) a ∙ within-limits v (add_region d r) w)
       ∙ ap (λ (x : Draft). total v text names x rs) a
 
-  lock-fault : (d : Draft) (n : ℕ) (t : Token) → names (bytes_of text t) ≡ Some (in_meaning.TheVariants.Lock d.count.locks) → early_fault text names d (record { line = n; label = None; statement = in_statement.TheVariants.Lock t }) ≡ None
+  lock-fault : (d : Draft) (n : ℕ) (t : Token) → names (bytes_of text t) ≡ Some (in_meaning.TheVariants.Lock d.count.locks) → draft_fault text names d (record { line = n; label = None; statement = in_statement.TheVariants.Lock t }) ≡ None
   lock-fault d n t e =
       ap (λ (o : Option Meaning). cond (lock_doubled o d.count.locks) (Some (fault.TheVariants.DoubleName n)) None) e
       ∙ ap (λ (b : Bool). cond (not b) (Some (fault.TheVariants.DoubleName n)) None) (same-number d.count.locks)

@@ -17,7 +17,8 @@ use Rattle.rv_assembler.specs.declared.statement.Statement as in_statement
 use Rattle.rv_assembler.specs.Number.{wrapped, is_within}
 use Rattle.rv_assembler.specs.Drafting.{members}
 use Rattle.rv_assembler.specs.Adding.{after, total}
-use Rattle.rv_assembler.specs.Fault.{entry_far, are_cores, is_on, taken, early_fault, over_limit}
+use Rattle.rv_assembler.specs.Fault.{entry_far, are_cores, is_on, taken, over_limit}
+use Rattle.rv_assembler.specs.Testing.{draft_fault}
 use Rattle.rv_assembler.specs.Program.{is_task}
 use Rattle.rv_assembler.proofs.SourceLemmas.{total-more}
 use Rattle.rv_listing.specs.Statement.{hexadecimal}
@@ -72,7 +73,7 @@ module _ (v : Bool) (text : List ℕ) (names : List ℕ → Option Meaning) (d :
   not-taken : taken d.tasks d.phases (task_family c e a start) ≡ false
   not-taken = one-taken d.phases c (task_family c e a start) d.tasks refl refl ∙ free
 
-  task-fault : (n : ℕ) → early_fault text names d (record { line = n; label = None; statement = in_statement.TheVariants.Tasks (task_family c e a start) }) ≡ None
+  task-fault : (n : ℕ) → draft_fault text names d (record { line = n; label = None; statement = in_statement.TheVariants.Tasks (task_family c e a start) }) ≡ None
   task-fault n =
       let rest = cond (eqb d.phases 0 || taken d.tasks d.phases (task_family c e a start)) (Some (fault.TheVariants.Misplaced n)) None in
       ap (λ (b : Bool). cond (not b || entry_far (Number (pos e))) (Some (fault.TheVariants.OutOfRange n)) rest) (cores-true c e a start core)

@@ -21,7 +21,8 @@ use Rattle.rv_assembler.specs.Operand.{bytes_of}
 use Rattle.rv_assembler.specs.Named.{no_cores, region_place, usage_of}
 use Rattle.rv_assembler.specs.Drafting.{claims_for}
 use Rattle.rv_assembler.specs.Adding.{after, total}
-use Rattle.rv_assembler.specs.Fault.{lock_lost, extent_far, early_fault, over_limit}
+use Rattle.rv_assembler.specs.Fault.{lock_lost, extent_far, over_limit}
+use Rattle.rv_assembler.specs.Testing.{draft_fault}
 use Rattle.rv_assembler.proofs.SourceLemmas.{total-more}
 use Rattle.rv_listing.proofs.CodeLemmas.{wrapped-pos}
 use Rattle.rv_listing.proofs.ReadLemmas.{sayings}
@@ -54,7 +55,7 @@ module _ (v : Bool) (text : List ℕ) (names : List ℕ → Option Meaning) (d :
 
   module _ (e : Effect) (r : Region) (k lo hi : ℕ) (u : Usage) (found : names (bytes_of text e.region) ≡ Some (in_meaning.TheVariants.Region k r.start (pos r.len))) (extent : e.extent ≡ in_extent.TheVariants.Part (pos lo) (pos hi))
       (usage : usage_of text names e ≡ Some u) (lock : lock_lost text names e.lock ≡ false) (some : lo < hi) (within : hi ≤ r.len) (ends : r.start + r.len ≤ 65536) (one : d.family.count ≡ 1) where
-    use-fault : (n : ℕ) → early_fault text names d (record { line = n; label = None; statement = in_statement.TheVariants.Uses e }) ≡ None
+    use-fault : (n : ℕ) → draft_fault text names d (record { line = n; label = None; statement = in_statement.TheVariants.Uses e }) ≡ None
     use-fault n =
         ap (λ (o : Option Meaning). cond (extent_far (region_place o) e.extent d.family.count) (Some (fault.TheVariants.OutOfRange n)) (cond (is_none (region_place o) || lock_lost text names e.lock) (Some (fault.TheVariants.UnknownName n)) (cond (eqb d.family.count 0) (Some (fault.TheVariants.Misplaced n)) None))) found
         ∙ ap (λ x. cond (extent_far (Some (record { start = r.start; len = pos r.len })) x d.family.count) (Some (fault.TheVariants.OutOfRange n)) (cond (lock_lost text names e.lock) (Some (fault.TheVariants.UnknownName n)) (cond (eqb d.family.count 0) (Some (fault.TheVariants.Misplaced n)) None))) extent

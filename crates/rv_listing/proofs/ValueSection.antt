@@ -17,7 +17,8 @@ use Rattle.rv_assembler.specs.Operand.{bytes_of}
 use Rattle.rv_assembler.specs.Named.{region_place}
 use Rattle.rv_assembler.specs.Drafting.{values_for}
 use Rattle.rv_assembler.specs.Adding.{after, total}
-use Rattle.rv_assembler.specs.Fault.{word_far, early_fault, over_limit}
+use Rattle.rv_assembler.specs.Fault.{word_far, over_limit}
+use Rattle.rv_assembler.specs.Testing.{draft_fault}
 use Rattle.rv_assembler.proofs.SourceLemmas.{total-more}
 use Rattle.rv_listing.proofs.CodeLemmas.{wrapped-pos}
 use Rattle.rv_listing.proofs.ReadLemmas.{sayings}
@@ -37,7 +38,7 @@ index-within i len l =
     rw (a, b) refl
 
 module _ (v : Bool) (text : List ℕ) (names : List ℕ → Option Meaning) (d : Draft) (t : Token) (r : Region) (k i x : ℕ) (found : names (bytes_of text t) ≡ Some (in_meaning.TheVariants.Region k r.start (pos r.len))) (within : i < r.len) (ends : r.start + r.len ≤ 65536) (small : x < 2 ^ 32) where
-  value-fault : (n : ℕ) → early_fault text names d (record { line = n; label = None; statement = value_statement t i x }) ≡ None
+  value-fault : (n : ℕ) → draft_fault text names d (record { line = n; label = None; statement = value_statement t i x }) ≡ None
   value-fault n =
       ap (λ (o : Option Meaning). cond (word_far (region_place o) (pos i)) (Some (fault.TheVariants.OutOfRange n)) (cond (is_none (region_place o)) (Some (fault.TheVariants.UnknownName n)) None)) found
       ∙ ap (λ (b : Bool). cond (not b) (Some (fault.TheVariants.OutOfRange n)) None) (index-within i r.len within)

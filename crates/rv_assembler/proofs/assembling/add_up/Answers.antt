@@ -1,13 +1,14 @@
 use Rattle.std.proofs.Common.{◌≡◌, false, None, nat_lt, sym, ◌∙◌}
 use Rattle.rv_assembler.specs.Lookup.{looked}
-use Rattle.rv_assembler.specs.Fault.{early_fault, over_limit}
+use Rattle.rv_assembler.specs.Fault.{over_limit}
+use Rattle.rv_assembler.specs.Testing.{draft_fault}
 use Rattle.rv_assembler.proofs.SoundLemmas.{sound-after, within, whole}
 use Rattle.rv_assembler.proofs.SourceLemmas.{line-more}
 use Rattle.rv_assembler.proofs.assembling.add_up.Goals as goal
 
 pub loop-line-preserved : goal.loop-line-preserved
 loop-line-preserved c =
-    let none : early_fault c.args.text.now (looked c.args.names.now) c.loop-line.draft c.in-Good.saying ≡ None = sym c.early_fault.ensures ∙ c.in_default.is in
+    let none : draft_fault c.args.text.now (looked c.args.names.now) c.loop-line.draft c.in-Good.saying ≡ None = sym c.early_fault.ensures ∙ c.in_default.is in
     let small : over_limit (nat_lt 0 c.args.version) c.add.new.self ≡ false = sym c.over_limit.ensures ∙ c.if-over_limit.false in
     record {
       rest = rw c.in_ok-add-in-Good.ensures
