@@ -26,3 +26,4 @@ pub mod WordRows
 pub mod BaseLineLemmas
 pub mod DoubledLemmas
 pub mod RisingLemmas
+pub mod FamilyLemmas

@@ -20,6 +20,7 @@ pub mod Names
 -- What follows from it: what laws say.
 pub mod TwoWords
 pub mod BaseLine
+pub mod FamilyLines
 -- How the assembler finds it, line by line: what private functions say.
 pub mod ShapeRow
 pub mod Gathering

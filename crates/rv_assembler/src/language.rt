@@ -1,16 +1,19 @@
 //! Laws of the source language, by which statements are compared with one another: functions that do nothing, whose contracts say it.
-ghost use Rattle.std.specs.Prelude.{◌≡◌, ◌%◌, ◌^◌, ℕ, ℤ, List, Option, Some};
+ghost use Rattle.std.specs.Prelude.{◌≡◌, ◌%◌, ◌^◌, ◌<◌, ℕ, ℤ, pos, List, Option, Some};
 ghost use Rattle.std.specs.List.{All};
 ghost use Rattle.src_text.specs.declared.token.Token.{Token};
 ghost use Rattle.rv_assembler.specs.declared.kind.Mnemonic.TheVariants.{Li, La};
 ghost use Rattle.rv_assembler.specs.declared.names.Meaning.{Meaning};
 ghost use Rattle.rv_assembler.specs.declared.names.Meaning.TheVariants.{Label, Region};
-ghost use Rattle.rv_assembler.specs.Number.{wrapped};
+ghost use Rattle.rv_assembler.specs.declared.statement.Effect.{Effect};
+ghost use Rattle.rv_assembler.specs.declared.draft.Cores.{Cores};
+ghost use Rattle.rv_assembler.specs.Number.{count_of, wrapped};
 ghost use Rattle.rv_assembler.specs.Operand.{bytes_of, token_at, number_at, register_at};
 ghost use Rattle.rv_assembler.specs.Reading.{code_for};
 ghost use Rattle.rv_assembler.specs.Emission.{label_address, region_address, emission};
 ghost use Rattle.rv_assembler.specs.TwoWords.{MakesValue};
 ghost use Rattle.rv_assembler.specs.BaseLine.{pseudo_rows, HasBaseLine};
+ghost use Rattle.rv_assembler.specs.FamilyLines.{IsTaskLine, HasTaskLines, HasUseLines};
 
 /// The two words of `li` make its number modulo 2^32 in its register, by the meaning of LUI and ADDI; those of `la` make the
 /// address of its label, or of the first word of its region.
@@ -25,4 +28,11 @@ pub fn two_words_make_their_value()
 /// A line of a pseudo-instruction has the word of its base line, and the same fault where it has one, for all operands.
 pub fn a_pseudo_instruction_has_its_base_line()
     ensures { All HasBaseLine pseudo_rows }
+{}
+
+/// The tasks of a line of `.forall` are those of its lines of `.task`, in their order, whose cores go on from its first one. An
+/// effect gives a family of tasks the words that it gives each of them by its own interval.
+pub fn a_family_has_the_rows_of_its_lines()
+    ensures tasks { (text : List ℕ) (ts : List Token) (core : ℕ) (lines : ℕ → List Token) → number_at ts 0 ≡ pos core → ((i : ℕ) → i < count_of (number_at ts 2) → IsTaskLine text ts i (lines i)) → HasTaskLines text ts lines }
+    ensures uses { (text : List ℕ) (phase : ℕ) (family : Cores) (e : Effect) → HasUseLines text phase family e }
 {}

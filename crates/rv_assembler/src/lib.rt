@@ -21,7 +21,10 @@ mod uniting;
 
 pub use assembling::assemble;
 pub use fault::SourceFault;
-pub use language::{a_pseudo_instruction_has_its_base_line, two_words_make_their_value};
+pub use language::{
+    a_family_has_the_rows_of_its_lines, a_pseudo_instruction_has_its_base_line,
+    two_words_make_their_value,
+};
 pub use laws::{
     a_union_has_all_words, lines_of_good_form_are_few, names_may_be_declared,
     only_long_texts_are_too_large, programs_are_well_formed, what_stands_before_a_line_has_32_bits,
