@@ -81,3 +81,5 @@ mod PlainLeaves
 mod LastTasks
 pub mod NoPhases
 pub mod BoundRuns
+pub mod Reordered
+pub mod ReorderedCoherent

@@ -74,13 +74,13 @@ release-counts S place m lock core s there is = rw (is, same-number lock.0, same
 one-holder : (d : CoreId) (c : ℕ) → 1 ≤ holder_count c (Some d) → d.0 ≡ c
 one-holder d c some = grind (arith, nat_tests, some)
 
-holder-of : (c : ℕ) (o : Option Lock) → 1 ≤ holder_in c o → (h : Lock) → o ≡ Some h → (d : CoreId) → h.holder ≡ Some d → d.0 ≡ c
+pub holder-of : (c : ℕ) (o : Option Lock) → 1 ≤ holder_in c o → (h : Lock) → o ≡ Some h → (d : CoreId) → h.holder ≡ Some d → d.0 ≡ c
 holder-of c o some h there d holds_it = one-holder d c (omega (arith, some, ap (holder_in c) there, ap (holder_count c) holds_it))
 
 -- ---- the one release of a lock
 
 -- what is read off a release is its signature
-release-is : (l : ℕ) (message : Message) (s : Signature) → release_in l message ≡ Some s → (lock : LockId) × (core : CoreId) × (message ≡ Release lock core s) × (lock.0 ≡ l)
+pub release-is : (l : ℕ) (message : Message) (s : Signature) → release_in l message ≡ Some s → (lock : LockId) × (core : CoreId) × (message ≡ Release lock core s) × (lock.0 ≡ l)
 release-is l (Release lock core t) s is = by_lock (lock.0 == l) refl is where
   by_lock : (x : Bool) → (lock.0 == l) ≡ x → (if x then Some t else None) ≡ Some s → (lk : LockId) × (c : CoreId) × (Release lock core t ≡ Release lk c s) × (lk.0 ≡ l)
   by_lock true e same = let one : t ≡ s = cc in (lock, core, ap (Release lock core) one, eqb-true lock.0 l e)
@@ -124,7 +124,7 @@ bit-most : (b : Bool) → bit b ≤ 1
 bit-most true = omega arith
 bit-most false = omega arith
 
-counts-of : (l d : ℕ) (m : Mail) (lock : LockId) (core : CoreId) (s : Signature) → m.message ≡ Release lock core s → lock.0 ≡ l → core.0 ≡ d → counted (releases l d) m ≡ 1
+pub counts-of : (l d : ℕ) (m : Mail) (lock : LockId) (core : CoreId) (s : Signature) → m.message ≡ Release lock core s → lock.0 ≡ l → core.0 ≡ d → counted (releases l d) m ≡ 1
 counts-of l d m lock core s says same own = rw (says) (grind (arith, nat_tests, same, own))
 
 carrying-le : (l w p d : ℕ) (ms : List Mail) → AreOf l d ms → (place : ℕ) (m : Mail) → slice_get ms place ≡ Some m → counted (is_carrying l w p) m ≤ counted (releases l d) m

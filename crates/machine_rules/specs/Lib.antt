@@ -7,3 +7,4 @@ pub mod Coherent
 pub mod Sound
 pub mod Rest
 pub mod Bound
+pub mod Reordered

@@ -11,6 +11,7 @@ ghost use Rattle.machine_rules.specs.Bound.{retired_in, started_in};
 ghost use Rattle.machine_rules.specs.Coherent.{Coherent};
 ghost use Rattle.machine_rules.specs.Rest.{IsAtRest};
 ghost use Rattle.machine_rules.specs.Sound.{IsReady, IsSound};
+ghost use Rattle.machine_rules.specs.Reordered.{IsReordered, GoOnAlike};
 
 /// A sound state stays sound at every event that may come, whatever the mails in flight say.
 pub fn a_state_stays_sound()
@@ -56,4 +57,11 @@ pub fn a_run_has_few_events()
 /// No run goes on for ever: within the limits of programs and of their fuel none has more events than this.
 pub fn no_run_goes_on_for_ever()
     ensures { (C : Setting) (events : List Event) → IsReady C → IsRun (opened C) events → length events ≤ 25169664 }
+{}
+
+/// The order of the mails in flight tells nothing: in another order the same events may come, tell the same and lead to states that
+/// differ in that order alone; the state is coherent or not as before, and it has the same runs.
+pub fn mails_may_stand_in_any_order()
+    ensures sound { (S T : State) (made : ℕ) → IsSound S made → IsReordered S T → IsSound T made }
+    ensures alike { (S T : State) (made : ℕ) → IsSound S made → IsReordered S T → GoOnAlike S T }
 {}
