@@ -23,7 +23,7 @@ use Rattle.bank_hall.specs.declared.port.PortIn.{PortIn}
 use Rattle.bank_hall.specs.declared.keeper.KeeperIn as keeper_in
 use Rattle.bank_hall.specs.declared.keeper.KeeperIn.{KeeperIn}
 use Rattle.bank_hall.specs.Stamps.{is_early}
-use Rattle.bank_hall.specs.Inbox.{place_in, taken}
+use Rattle.bank_hall.specs.Inbox.{picked_index, picked_out}
 use Rattle.bank_hall.specs.Note.{KeeperNote}
 use Rattle.bank_hall.specs.Banks as banks
 use Rattle.bank_hall.specs.Banks.{BankState, bank_actor, bank_handles, bank_stepped, bank_call}
@@ -56,20 +56,20 @@ bank_step_told s (Some p, inbox) rest = refl
 pub bank_goes_one : (s : BankState) (i : BankIn) (hs : List (Handling Handled)) (end : BankState) → BankGoes (bank_alone (bank_next s i)) hs end → BankGoes (bank_alone s) (bank_handling s i ++ hs) end
 unfolding bank_call
 bank_goes_one s (bank_in.TheVariants.Post p) hs end goes = goes
-bank_goes_one s (bank_in.TheVariants.Step pick) hs end goes = bank_step_goes s (taken (bank_may s) s.inbox pick) hs end (taken_may (bank_may s) s.inbox (place_in s.inbox pick) (slice_get s.inbox (place_in s.inbox pick))) goes
+bank_goes_one s (bank_in.TheVariants.Step pick) hs end goes = bank_step_goes s (picked_out (bank_may s) s.inbox pick) hs end (taken_may (bank_may s) s.inbox (picked_index s.inbox pick) (slice_get s.inbox (picked_index s.inbox pick))) goes
 
 pub bank_told_one : (s : BankState) (i : BankIn) (rest : List Handled) → cons_option (bank_told (bank_answer s i)) rest ≡ map (λ (g : Handling Handled). g.told) (bank_handling s i) ++ rest
 unfolding bank_call
 bank_told_one s (bank_in.TheVariants.Post p) rest = refl
-bank_told_one s (bank_in.TheVariants.Step pick) rest = bank_step_told s (taken (bank_may s) s.inbox pick) rest
+bank_told_one s (bank_in.TheVariants.Step pick) rest = bank_step_told s (picked_out (bank_may s) s.inbox pick) rest
 
 pub bank_mails_one : (f : Posted → ℕ) (s : BankState) (i : BankIn) → sum_by f (bank_next s i).inbox + sum_by (λ (g : Handling Handled). f g.mail) (bank_handling s i) ≡ sum_by f s.inbox + weight_of f (bank_put i)
 unfolding bank_call
 bank_mails_one f s (bank_in.TheVariants.Post p) = pushed f s.inbox p
 bank_mails_one f s (bank_in.TheVariants.Step pick) =
-    let place = place_in s.inbox pick in
+    let place = picked_index s.inbox pick in
     let found = slice_get s.inbox place in
-    let step = bank_step_weight f s (taken (bank_may s) s.inbox pick) (taken_none (bank_may s) s.inbox place found) in
+    let step = bank_step_weight f s (picked_out (bank_may s) s.inbox pick) (taken_none (bank_may s) s.inbox place found) in
     omega (arith, step, taken_weight f (bank_may s) s.inbox place found refl)
 
 pub bank_stamps : Stamps bank_may bank_does (λ (t : Handled). t.stamped) (λ (s : BankState). s.clock) (λ (s : BankState). bank_actor s.bank)
@@ -108,20 +108,20 @@ keeper_step_told s (Some p, inbox) rest = refl
 pub keeper_goes_one : (s : KeeperState) (i : KeeperIn) (hs : List (Handling KeeperNote)) (end : KeeperState) → KeeperGoes (keeper_alone (keeper_next s i)) hs end → KeeperGoes (keeper_alone s) (keeper_handling s i ++ hs) end
 unfolding keeper_call
 keeper_goes_one s (keeper_in.TheVariants.Post p) hs end goes = goes
-keeper_goes_one s (keeper_in.TheVariants.Step pick) hs end goes = keeper_step_goes s (taken (keeper_may s) s.inbox pick) hs end (taken_may (keeper_may s) s.inbox (place_in s.inbox pick) (slice_get s.inbox (place_in s.inbox pick))) goes
+keeper_goes_one s (keeper_in.TheVariants.Step pick) hs end goes = keeper_step_goes s (picked_out (keeper_may s) s.inbox pick) hs end (taken_may (keeper_may s) s.inbox (picked_index s.inbox pick) (slice_get s.inbox (picked_index s.inbox pick))) goes
 
 pub keeper_told_one : (s : KeeperState) (i : KeeperIn) (rest : List KeeperNote) → cons_option (keeper_told (keeper_answer s i)) rest ≡ map (λ (g : Handling KeeperNote). g.told) (keeper_handling s i) ++ rest
 unfolding keeper_call
 keeper_told_one s (keeper_in.TheVariants.Post p) rest = refl
-keeper_told_one s (keeper_in.TheVariants.Step pick) rest = keeper_step_told s (taken (keeper_may s) s.inbox pick) rest
+keeper_told_one s (keeper_in.TheVariants.Step pick) rest = keeper_step_told s (picked_out (keeper_may s) s.inbox pick) rest
 
 pub keeper_mails_one : (f : Posted → ℕ) (s : KeeperState) (i : KeeperIn) → sum_by f (keeper_next s i).inbox + sum_by (λ (g : Handling KeeperNote). f g.mail) (keeper_handling s i) ≡ sum_by f s.inbox + weight_of f (keeper_put i)
 unfolding keeper_call
 keeper_mails_one f s (keeper_in.TheVariants.Post p) = pushed f s.inbox p
 keeper_mails_one f s (keeper_in.TheVariants.Step pick) =
-    let place = place_in s.inbox pick in
+    let place = picked_index s.inbox pick in
     let found = slice_get s.inbox place in
-    let step = keeper_step_weight f s (taken (keeper_may s) s.inbox pick) (taken_none (keeper_may s) s.inbox place found) in
+    let step = keeper_step_weight f s (picked_out (keeper_may s) s.inbox pick) (taken_none (keeper_may s) s.inbox place found) in
     omega (arith, step, taken_weight f (keeper_may s) s.inbox place found refl)
 
 pub keeper_stamps : Stamps keeper_may keeper_does (λ (t : KeeperNote). t.stamped) (λ (s : KeeperState). s.clock) (λ (s : KeeperState). Keeper)
@@ -153,7 +153,7 @@ keeper_numbers s end (h ∷ hs) cores same goes =
 port_mails_one : (f : Posted → ℕ) (inbox : List Posted) (i : PortIn) → sum_by f (port_next inbox i) + weight_of f (port_took (port_answer inbox i)) ≡ sum_by f inbox + weight_of f (port_put i)
 unfolding port_call
 port_mails_one f inbox (port_in.TheVariants.Post p) = pushed f inbox p
-port_mails_one f inbox (port_in.TheVariants.Take pick) = taken_weight f is_early inbox (place_in inbox pick) (slice_get inbox (place_in inbox pick)) refl ∙ sym (plus_zero (sum_by f inbox))
+port_mails_one f inbox (port_in.TheVariants.Take pick) = taken_weight f is_early inbox (picked_index inbox pick) (slice_get inbox (picked_index inbox pick)) refl ∙ sym (plus_zero (sum_by f inbox))
 
 pub port_mails : (f : Posted → ℕ) (x y : List Posted) (h : List PortEntry) → Legal port_answer port_next x h y → sum_by f x + sum_by f (filter_map (λ (e : PortEntry). port_put e.input) h) ≡ sum_by f (filter_map (λ (e : PortEntry). port_took e.output) h) + sum_by f y
 port_mails f x y [] l = subst (λ z. sum_by f x + 0 ≡ 0 + sum_by f z) l (omega arith)
@@ -184,7 +184,7 @@ nothing_taken p e = absurd (subst is_none e tt) where
 port_early_one : (inbox : List Posted) (i : PortIn) (p : Posted) → port_took (port_answer inbox i) ≡ Some p → IsEarly p
 unfolding port_call
 port_early_one inbox (port_in.TheVariants.Post q) p e = nothing_taken p e
-port_early_one inbox (port_in.TheVariants.Take pick) p e = early_is p (taken_may is_early inbox (place_in inbox pick) (slice_get inbox (place_in inbox pick)) p e)
+port_early_one inbox (port_in.TheVariants.Take pick) p e = early_is p (taken_may is_early inbox (picked_index inbox pick) (slice_get inbox (picked_index inbox pick)) p e)
 
 pub port_early : (x y : List Posted) (h : List PortEntry) → Legal port_answer port_next x h y → All IsEarly (filter_map (λ (e : PortEntry). port_took e.output) h)
 port_early x y [] l = All-nil IsEarly

@@ -4,7 +4,7 @@ use Rattle.std.specs.List.{All}
 use Rattle.std.proofs.lemmas.List.Elements.{All-nil, All-cons, All-head, All-tail}
 use Rattle.turn_lock.specs.declared.entry.Entry.{Entry}
 use Rattle.turn_lock.specs.Passes.{Sharing, Token, IsPassOf, IsTold}
-use Rattle.bank_hall.specs.Rows.{Tokens, Fits, joined, AreTold}
+use Rattle.bank_hall.specs.Rows.{Tokens, HasPassesOf, joined, AreTold}
 
 module _ {X : Type 0} where
   abbrev held : X → Option X → X
@@ -49,21 +49,21 @@ module _ {O I U : Type 0} where
   joined-more (d ∷ ds) [] c left p at is = ap (λ k. k ∷ joined ds []) (sym is ∙ sym (ap (held d) at)) ∙ ap (λ l. d ∷ l) (joined-none ds)
   joined-more (d ∷ ds) (q ∷ column) c left p at is = ap (λ l. record d { passes = d.passes ++ q ∷ [] } ∷ l) (joined-more ds column c left p at is)
 
-  one_less : (turns : List (Sharing O)) (t : Sharing O) (c : Tokens O I U) (p : Token O I U) → Fits (turns ++ t ∷ []) (record c { passes = c.passes ++ p ∷ [] }) → Fits turns c × IsPassOf t p
+  one_less : (turns : List (Sharing O)) (t : Sharing O) (c : Tokens O I U) (p : Token O I U) → HasPassesOf (turns ++ t ∷ []) (record c { passes = c.passes ++ p ∷ [] }) → HasPassesOf turns c × IsPassOf t p
   one_less turns t c p fits =
       let same : length c.passes ≡ length turns = omega (arith, fits.count, length-append c.passes (p ∷ []), length-append turns (t ∷ [])) in
       let own = fits.each (length turns) t p (last turns t) (subst (λ n. slice_get (c.passes ++ p ∷ []) n ≡ Some p) same (last c.passes p)) in
       (record { count = same; each = λ i u k ui ki. fits.each i u k (front turns (t ∷ []) i u ui) (front c.passes (p ∷ []) i k ki) }, own.0)
 
   -- what the callers keep are passes of the other turns, and what they gave up are passes of the last
-  pub column_fits : (turns : List (Sharing O)) (t : Sharing O) (cs : List (Tokens O I U)) (column : List (Token O I U)) → length column ≡ length cs → All (Fits (turns ++ t ∷ [])) (joined cs column) → All (Fits turns) cs × All (IsPassOf t) column
-  column_fits turns t [] [] same all = (All-nil (Fits turns), All-nil (IsPassOf t))
+  pub column_fits : (turns : List (Sharing O)) (t : Sharing O) (cs : List (Tokens O I U)) (column : List (Token O I U)) → length column ≡ length cs → All (HasPassesOf (turns ++ t ∷ [])) (joined cs column) → All (HasPassesOf turns) cs × All (IsPassOf t) column
+  column_fits turns t [] [] same all = (All-nil (HasPassesOf turns), All-nil (IsPassOf t))
   column_fits turns t [] (p ∷ ps) same all = absurd (omega (arith, same))
   column_fits turns t (c ∷ cs) [] same all = absurd (omega (arith, same))
   column_fits turns t (c ∷ cs) (p ∷ ps) same all =
-      let here = one_less turns t c p (All-head (Fits (turns ++ t ∷ [])) (record c { passes = c.passes ++ p ∷ [] }) (joined cs ps) all) in
-      let rest = column_fits turns t cs ps (omega (arith, same)) (All-tail (Fits (turns ++ t ∷ [])) (record c { passes = c.passes ++ p ∷ [] }) (joined cs ps) all) in
-      (All-cons (Fits turns) c cs here.0 rest.0, All-cons (IsPassOf t) p ps here.1 rest.1)
+      let here = one_less turns t c p (All-head (HasPassesOf (turns ++ t ∷ [])) (record c { passes = c.passes ++ p ∷ [] }) (joined cs ps) all) in
+      let rest = column_fits turns t cs ps (omega (arith, same)) (All-tail (HasPassesOf (turns ++ t ∷ [])) (record c { passes = c.passes ++ p ∷ [] }) (joined cs ps) all) in
+      (All-cons (HasPassesOf turns) c cs here.0 rest.0, All-cons (IsPassOf t) p ps here.1 rest.1)
 
   told_last : (hs : List (List (Entry O I U))) (h : List (Entry O I U)) (ps : List (Token O I U)) (p : Token O I U) → AreTold hs ps → IsTold h p → AreTold (hs ++ h ∷ []) (ps ++ p ∷ [])
   told_last [] h [] p told own = (own, tt)
@@ -79,15 +79,15 @@ module _ {O I U : Type 0} where
       All-cons (λ (k : Tokens O I U). AreTold (hs ++ h ∷ []) k.passes) (record c { passes = c.passes ++ p ∷ [] }) (joined cs ps) (told_last hs h c.passes p (All-head (λ (k : Tokens O I U). AreTold hs k.passes) c cs told) (All-head (IsTold h) p ps own)) (column_told hs h cs ps (omega (arith, same)) (All-tail (λ (k : Tokens O I U). AreTold hs k.passes) c cs told) (All-tail (IsTold h) p ps own))
 
   -- callers of no turns are told nothing
-  pub told_none : (cs : List (Tokens O I U)) → All (Fits []) cs → All (λ (c : Tokens O I U). AreTold [] c.passes) cs
+  pub told_none : (cs : List (Tokens O I U)) → All (HasPassesOf []) cs → All (λ (c : Tokens O I U). AreTold [] c.passes) cs
   told_none [] fit = All-nil (λ (c : Tokens O I U). AreTold [] c.passes)
   told_none (c ∷ cs) fit =
-      let none = nothing c.passes (All-head (Fits []) c cs fit).count in
-      All-cons (λ (k : Tokens O I U). AreTold [] k.passes) c cs (subst (λ ps. AreTold [] ps) (sym none) tt) (told_none cs (All-tail (Fits []) c cs fit))
+      let none = nothing c.passes (All-head (HasPassesOf []) c cs fit).count in
+      All-cons (λ (k : Tokens O I U). AreTold [] k.passes) c cs (subst (λ ps. AreTold [] ps) (sym none) tt) (told_none cs (All-tail (HasPassesOf []) c cs fit))
 
   -- where there is a turn, each caller has a pass
-  pub some_pass : (turns : List (Sharing O)) (t : Sharing O) (cs : List (Tokens O I U)) → All (Fits (turns ++ t ∷ [])) cs → All (λ (c : Tokens O I U). 0 < length c.passes) cs
+  pub some_pass : (turns : List (Sharing O)) (t : Sharing O) (cs : List (Tokens O I U)) → All (HasPassesOf (turns ++ t ∷ [])) cs → All (λ (c : Tokens O I U). 0 < length c.passes) cs
   some_pass turns t [] fit = All-nil (λ (c : Tokens O I U). 0 < length c.passes)
   some_pass turns t (c ∷ cs) fit =
-      let here = (All-head (Fits (turns ++ t ∷ [])) c cs fit).count in
-      All-cons (λ (k : Tokens O I U). 0 < length k.passes) c cs (omega (arith, here, length-append turns (t ∷ []))) (some_pass turns t cs (All-tail (Fits (turns ++ t ∷ [])) c cs fit))
+      let here = (All-head (HasPassesOf (turns ++ t ∷ [])) c cs fit).count in
+      All-cons (λ (k : Tokens O I U). 0 < length k.passes) c cs (omega (arith, here, length-append turns (t ∷ []))) (some_pass turns t cs (All-tail (HasPassesOf (turns ++ t ∷ [])) c cs fit))

@@ -6,9 +6,9 @@ use Rattle.std.proofs.lemmas.List.Elements.{All-nil, All-cons, All-head, All-tai
 use Rattle.turn_lock.specs.declared.entry.Entry.{Entry}
 use Rattle.turn_lock.specs.History.{BeginsWith, Legal, calls_by}
 use Rattle.turn_lock.specs.Passes.{Sharing, Token, IsPassOf}
-use Rattle.bank_hall.specs.Rows.{Tokens, Fits, AreOpened, AreTold, AreClosed, AreAllCallers, made_by, made_of}
+use Rattle.bank_hall.specs.Rows.{Tokens, HasPassesOf, AreShared, AreTold, AreClosed, AreAllCallers, made_by, made_of}
 use Rattle.bank_hall.specs.Halls.{HallView, PassView, BankEntry, PortEntry, KeeperEntry, IsHallPass, AreNewPasses}
-use Rattle.bank_hall.specs.Closing.{AreAllHallPasses, IsClosedRow, IsToldPass, or_none, history_of, seen_by}
+use Rattle.bank_hall.specs.Closing.{AreAllHallPasses, IsClosedRow, IsToldPass, or_none, history_of, seen_by_pass}
 
 module _ {X : Type 0} where
   abbrev IsNothing : Option X → Type 0
@@ -46,7 +46,7 @@ module _ {O I U : Type 0} where
   told_calls n (h ∷ hs) (p ∷ ps) told same zero = subst (λ k. calls_by k h ≡ p.made) (same 0 p refl) told.0.1
   told_calls n (h ∷ hs) (p ∷ ps) told same (suc i) = told_calls n hs ps told.1 (λ j q at. same (suc j) q at) i
 
-  pub told_seen : (hs : List (List (Entry O I U))) (ps : List (Token O I U)) → AreTold hs ps → (i : ℕ) → BeginsWith (or_none (slice_get hs i)) (seen_by (slice_get ps i))
+  pub told_seen : (hs : List (List (Entry O I U))) (ps : List (Token O I U)) → AreTold hs ps → (i : ℕ) → BeginsWith (or_none (slice_get hs i)) (seen_by_pass (slice_get ps i))
   told_seen [] [] told i = ([], refl)
   told_seen [] (p ∷ ps) told i = absurd told
   told_seen (h ∷ hs) [] told i = absurd told
@@ -61,13 +61,13 @@ module _ {O I U : Type 0} where
   numbered (t ∷ ts) (q ∷ qs) n same each zero p at = (each 0 t p refl at).1
   numbered (t ∷ ts) (q ∷ qs) n same each (suc i) p at = numbered ts qs n (omega (arith, same)) (λ j u k uj kj. each (suc j) u k uj kj) i p at
 
-  pub calls_told : (turns : List (Sharing O)) (c : Tokens O I U) (hs : List (List (Entry O I U))) → Fits turns c → AreTold hs c.passes → (i : ℕ) → calls_by c.number (history_of hs i) ≡ made_of c i
+  pub calls_told : (turns : List (Sharing O)) (c : Tokens O I U) (hs : List (List (Entry O I U))) → HasPassesOf turns c → AreTold hs c.passes → (i : ℕ) → calls_by c.number (history_of hs i) ≡ made_of c i
   calls_told turns c hs fits told i = told_calls c.number hs c.passes told (numbered turns c.passes c.number fits.count fits.each) i
 
   -- the callers' passes of one row are all callers of it
-  pub row_callers : (turns turns' : List (Sharing O)) (row : PassView → Tokens O I U) (passes : List PassView) (rows : List (Tokens O I U)) → turns' ≡ turns → rows ≡ map row passes → All (λ p. Fits turns (row p)) passes → All (λ (t : Sharing O). t.passes ≡ length passes) turns → AreAllCallers turns' rows
+  pub row_callers : (turns turns' : List (Sharing O)) (row : PassView → Tokens O I U) (passes : List PassView) (rows : List (Tokens O I U)) → turns' ≡ turns → rows ≡ map row passes → All (λ p. HasPassesOf turns (row p)) passes → All (λ (t : Sharing O). t.passes ≡ length passes) turns → AreAllCallers turns' rows
   row_callers turns turns' row passes rows same apart fit shared = subst (λ ts. AreAllCallers ts rows) (sym same) (subst (AreAllCallers turns) (sym apart) (record {
-    fit = All-map (Fits turns) row passes fit;
+    fit = All-map (HasPassesOf turns) row passes fit;
     shared = subst (λ n. All (λ (t : Sharing O). t.passes ≡ n) turns) (sym (length-map passes row)) shared;
   }))
 
@@ -134,7 +134,7 @@ new_fit hall n [] new = All-nil (IsHallPass hall)
 new_fit hall n (p ∷ ps) new = All-cons (IsHallPass hall) p ps new.0.fits (new_fit hall (n + 1) ps new.1)
 
 -- the passes that a hall is opened with are all its passes
-pub opened_all : (hall : HallView) (banks : _) (ports : _) (keeper : _) (n : ℕ) (ps : List PassView) → length ps ≡ n → AreNewPasses hall 0 ps → AreOpened n banks hall.banks → AreOpened n ports hall.ports → AreOpened n keeper hall.keeper → AreAllHallPasses hall ps
+pub opened_all : (hall : HallView) (banks : _) (ports : _) (keeper : _) (n : ℕ) (ps : List PassView) → length ps ≡ n → AreNewPasses hall 0 ps → AreShared n banks hall.banks → AreShared n ports hall.ports → AreShared n keeper hall.keeper → AreAllHallPasses hall ps
 opened_all hall banks ports keeper n ps count new shared_banks shared_ports shared_keeper = record {
   fit = new_fit hall 0 ps new;
   banks_shared = subst (λ k. All (λ t. t.passes ≡ k) hall.banks) (sym count) shared_banks.shared;

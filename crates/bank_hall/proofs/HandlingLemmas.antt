@@ -12,8 +12,8 @@ use Rattle.grant_log.specs.declared.log.Stamped.{Stamped}
 use Rattle.turn_lock.specs.declared.entry.Entry.{Entry}
 use Rattle.turn_lock.specs.History.{Legal}
 use Rattle.bank_hall.specs.declared.posted.Posted.{Posted}
-use Rattle.bank_hall.specs.Stamps.{stamp_after, noted}
-use Rattle.bank_hall.specs.Inbox.{taken_at}
+use Rattle.bank_hall.specs.Stamps.{stamp_after, handling_note}
+use Rattle.bank_hall.specs.Inbox.{picked_out_at}
 use Rattle.bank_hall.specs.Handlings.{Handling, AreStamped, Goes, handlings_of}
 
 pub plus_zero : (n : ℕ) → n + 0 ≡ n
@@ -58,15 +58,15 @@ module _ {X : Type 0} where
   kept_by inbox place x false none = refl
   kept_by inbox place x true none = absurd (subst IsNothing (sym none) tt)
 
-pub taken_may : (may : Posted → Bool) (inbox : List Posted) (place : ℕ) (o : Option Posted) (p : Posted) → (taken_at may inbox place o).0 ≡ Some p → may p ≡ true
+pub taken_may : (may : Posted → Bool) (inbox : List Posted) (place : ℕ) (o : Option Posted) (p : Posted) → (picked_out_at may inbox place o).0 ≡ Some p → may p ≡ true
 taken_may may inbox place None p e = absurd (subst IsNothing e tt)
 taken_may may inbox place (Some q) p e = may_by may inbox place q p (may q) refl e
 
-pub taken_weight : (f : Posted → ℕ) (may : Posted → Bool) (inbox : List Posted) (place : ℕ) (o : Option Posted) → slice_get inbox place ≡ o → sum_by f (taken_at may inbox place o).1 + weight_of f (taken_at may inbox place o).0 ≡ sum_by f inbox
+pub taken_weight : (f : Posted → ℕ) (may : Posted → Bool) (inbox : List Posted) (place : ℕ) (o : Option Posted) → slice_get inbox place ≡ o → sum_by f (picked_out_at may inbox place o).1 + weight_of f (picked_out_at may inbox place o).0 ≡ sum_by f inbox
 taken_weight f may inbox place None at = plus_zero (sum_by f inbox)
 taken_weight f may inbox place (Some q) at = weight_by f inbox place q (may q) at
 
-pub taken_none : (may : Posted → Bool) (inbox : List Posted) (place : ℕ) (o : Option Posted) → (taken_at may inbox place o).0 ≡ None → (taken_at may inbox place o).1 ≡ inbox
+pub taken_none : (may : Posted → Bool) (inbox : List Posted) (place : ℕ) (o : Option Posted) → (picked_out_at may inbox place o).0 ≡ None → (picked_out_at may inbox place o).1 ≡ inbox
 taken_none may inbox place None none = refl
 taken_none may inbox place (Some q) none = kept_by inbox place q (may q) none
 
@@ -98,7 +98,7 @@ above c m = (omega (arith, le-max_left c m), omega (arith, le-max_right c m), λ
 module _ {S N : Type 0} (may : S → Posted → Bool) (does : S → Posted → S × Option N) (stamped : N → Stamped) (clock : S → ℕ) (actor : S → Actor) where
   pub record Stamps : Type 0 where
     pub limit : (s : S) (p : Posted) → may s p ≡ true → (clock s < 2 ^ 63) × (p.stamp < 2 ^ 63)
-    pub stamp : (s : S) (p : Posted) (t : N) → (does s p).1 ≡ Some t → stamped t ≡ noted (actor s) (stamp_after (clock s) p) p.mail
+    pub stamp : (s : S) (p : Posted) (t : N) → (does s p).1 ≡ Some t → stamped t ≡ handling_note (actor s) (stamp_after (clock s) p) p.mail
     pub clocks : (s : S) (p : Posted) → clock (does s p).0 ≡ stamp_after (clock s) p
     pub actors : (s : S) (p : Posted) → actor (does s p).0 ≡ actor s
 

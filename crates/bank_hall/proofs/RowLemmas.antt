@@ -7,7 +7,7 @@ use Rattle.std.proofs.lemmas.Bool.Decides.{nat_tests}
 use Rattle.turn_lock.specs.declared.entry.Entry.{Entry}
 use Rattle.turn_lock.specs.History.{Legal, EndsWith, entry, calls_by}
 use Rattle.turn_lock.specs.Passes.{Sharing, Token, IsPassOf, IsSamePass}
-use Rattle.bank_hall.specs.Rows.{Tokens, Fits, HasCalled, HasMade, made_by, made_of, one_call}
+use Rattle.bank_hall.specs.Rows.{Tokens, HasPassesOf, HasCalled, HasMade, made_by, made_of, one_call}
 
 module _ {X : Type 0} where
   abbrev held : X → Option X → X
@@ -60,16 +60,16 @@ module _ {O I U C : Type 0} (answer : C → I → U) (next : C → I → C) wher
 
 module _ {O I U : Type 0} where
   -- the passes still fit once one of them is the same pass after a call
-  pub keeps : (turns turns' : List (Sharing O)) (caller : Tokens O I U) (number : ℕ) (passes : List (Token O I U)) (place : ℕ) (turn : Sharing O) (before after : Token O I U) → turns' ≡ turns → record { number = number; passes = passes } ≡ caller → Fits turns caller → place < length turns → turn ≡ slice_index_or turns' place turn → before ≡ slice_index_or passes place before → IsSamePass before after → Fits turns (record { number = number; passes = slice_set passes place after }) × (number ≡ caller.number)
+  pub keeps : (turns turns' : List (Sharing O)) (caller : Tokens O I U) (number : ℕ) (passes : List (Token O I U)) (place : ℕ) (turn : Sharing O) (before after : Token O I U) → turns' ≡ turns → record { number = number; passes = passes } ≡ caller → HasPassesOf turns caller → place < length turns → turn ≡ slice_index_or turns' place turn → before ≡ slice_index_or passes place before → IsSamePass before after → HasPassesOf turns (record { number = number; passes = slice_set passes place after }) × (number ≡ caller.number)
   keeps turns turns' caller number passes place turn before after et ec fits within at_turn at_pass same =
-      let fits' : Fits turns (record { number = number; passes = passes }) = subst (Fits turns) (sym ec) fits in
+      let fits' : HasPassesOf turns (record { number = number; passes = passes }) = subst (HasPassesOf turns) (sym ec) fits in
       let here : slice_get turns place ≡ Some turn = subst (λ ts. slice_get ts place ≡ Some turn) et (stands turns' place turn (subst (λ ts. place < length ts) (sym et) within) at_turn) in
       let was : slice_get passes place ≡ Some before = stands passes place before (omega (arith, within, fits'.count)) at_pass in
       let old = fits'.each place turn before here was in (
         record { count = length-set passes place after ∙ fits'.count; each = λ i t k ti ki. by_place i t k ti old (at_cases passes place i after k ki) fits' here },
         ap (λ (k : Tokens O I U). k.number) ec,
       ) where
-        by_place : (i : ℕ) (t : Sharing O) (k : Token O I U) → slice_get turns i ≡ Some t → IsPassOf turn before × (before.number ≡ number) → ((place ≡ i) × (after ≡ k)) ⊎ (slice_get passes i ≡ Some k) → Fits turns (record { number = number; passes = passes }) → slice_get turns place ≡ Some turn → IsPassOf t k × (k.number ≡ number)
+        by_place : (i : ℕ) (t : Sharing O) (k : Token O I U) → slice_get turns i ≡ Some t → IsPassOf turn before × (before.number ≡ number) → ((place ≡ i) × (after ≡ k)) ⊎ (slice_get passes i ≡ Some k) → HasPassesOf turns (record { number = number; passes = passes }) → slice_get turns place ≡ Some turn → IsPassOf t k × (k.number ≡ number)
         by_place i t k ti old (inl here) fits' at =
             let is : turn ≡ t = ap (held turn) (sym at ∙ subst (λ j. slice_get turns j ≡ Some t) (sym here.0) ti) in
             let moved : IsPassOf turn after × (after.number ≡ number) = ((same.0 ∙ old.0.0, same.1 ∙ old.0.1), same.2 ∙ old.1) in
@@ -90,7 +90,7 @@ module _ {O I U : Type 0} where
         ap made_by (at_other passes place i after differ) ∙ sym (nil_right (made_by (slice_get passes i)))
 
 module _ {O I U C E : Type 0} (content : O → C) (answer : C → I → U) (next : C → I → C) where
-  pub called : (turns turns' : List (Sharing O)) (caller : Tokens O I U) (number : ℕ) (passes : List (Token O I U)) (place : ℕ) (turn : Sharing O) (before after : Token O I U) (input : I) (r : Result U E) → turns' ≡ turns → record { number = number; passes = passes } ≡ caller → Fits turns caller → place < length turns → turn ≡ slice_index_or turns' place turn → before ≡ slice_index_or passes place before → IsSamePass before after → OnOk r ((left : C) × Legal answer next (content turn.opening) after.seen left) → IfOk r (λ output. EndsWith before.seen (entry {O = O} before.number input output) after.seen) → IfOk r (λ output. after.made ≡ before.made ++ entry {O = O} before.number input output ∷ []) → OnOk r (calls_by after.number after.seen ≡ after.made) → IfOk r (λ output. HasCalled content answer next turns place (entry {O = O} caller.number input output) caller.passes (slice_set passes place after))
+  pub called : (turns turns' : List (Sharing O)) (caller : Tokens O I U) (number : ℕ) (passes : List (Token O I U)) (place : ℕ) (turn : Sharing O) (before after : Token O I U) (input : I) (r : Result U E) → turns' ≡ turns → record { number = number; passes = passes } ≡ caller → HasPassesOf turns caller → place < length turns → turn ≡ slice_index_or turns' place turn → before ≡ slice_index_or passes place before → IsSamePass before after → OnOk r ((left : C) × Legal answer next (content turn.opening) after.seen left) → IfOk r (λ output. EndsWith before.seen (entry {O = O} before.number input output) after.seen) → IfOk r (λ output. after.made ≡ before.made ++ entry {O = O} before.number input output ∷ []) → OnOk r (calls_by after.number after.seen ≡ after.made) → IfOk r (λ output. HasCalled content answer next turns place (entry {O = O} caller.number input output) caller.passes (slice_set passes place after))
   called turns turns' caller number passes place turn before after input (Err e) et ec fits within at_turn at_pass same legal seen made own = tt
   called turns turns' caller number passes place turn before after input (Ok output) et ec fits within at_turn at_pass same legal seen made own =
       let ps : passes ≡ caller.passes = ap (λ (k : Tokens O I U). k.passes) ec in
@@ -116,7 +116,7 @@ module _ {O I U C E : Type 0} (content : O → C) (answer : C → I → U) (next
         own = own;
       }
 
-  pub made_more : (turns turns' : List (Sharing O)) (caller : Tokens O I U) (number : ℕ) (passes : List (Token O I U)) (place : ℕ) (turn : Sharing O) (before after : Token O I U) (input : I) (r : Result U E) → turns' ≡ turns → record { number = number; passes = passes } ≡ caller → Fits turns caller → place < length turns → turn ≡ slice_index_or turns' place turn → before ≡ slice_index_or passes place before → IfOk r (λ output. after.made ≡ before.made ++ entry {O = O} before.number input output ∷ []) → IfOk r (λ output. HasMade caller (record { number = number; passes = slice_set passes place after }) (one_call place (entry {O = O} caller.number input output)))
+  pub made_more : (turns turns' : List (Sharing O)) (caller : Tokens O I U) (number : ℕ) (passes : List (Token O I U)) (place : ℕ) (turn : Sharing O) (before after : Token O I U) (input : I) (r : Result U E) → turns' ≡ turns → record { number = number; passes = passes } ≡ caller → HasPassesOf turns caller → place < length turns → turn ≡ slice_index_or turns' place turn → before ≡ slice_index_or passes place before → IfOk r (λ output. after.made ≡ before.made ++ entry {O = O} before.number input output ∷ []) → IfOk r (λ output. HasMade caller (record { number = number; passes = slice_set passes place after }) (one_call place (entry {O = O} caller.number input output)))
   made_more turns turns' caller number passes place turn before after input (Err e) et ec fits within at_turn at_pass made = tt
   made_more turns turns' caller number passes place turn before after input (Ok output) et ec fits within at_turn at_pass made =
       let ps : passes ≡ caller.passes = ap (λ (k : Tokens O I U). k.passes) ec in

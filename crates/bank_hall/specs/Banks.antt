@@ -11,8 +11,8 @@ use Rattle.bank_hall.specs.declared.bank.BankIn.{BankIn}
 use Rattle.bank_hall.specs.declared.bank.BankIn.TheVariants.{Post, Step}
 use Rattle.bank_hall.specs.declared.bank.BankOut.{BankOut}
 use Rattle.bank_hall.specs.declared.bank.BankOut.TheVariants.{Kept, Stepped}
-use Rattle.bank_hall.specs.Stamps.{may_handle, stamp_after, noted}
-use Rattle.bank_hall.specs.Inbox.{with_mail, taken}
+use Rattle.bank_hall.specs.Stamps.{may_handle, stamp_after, handling_note}
+use Rattle.bank_hall.specs.Inbox.{with_mail, picked_out}
 
 -- a bank with its inbox, the number of its next mail, and its clock
 pub record BankState : Type 0 where
@@ -44,7 +44,7 @@ abbrev pub bank_row : BankState → Posted → List Posted → BankParts × Opti
 bank_row s p inbox row = (
   record { bank = row.0; inbox = inbox; next = next_after s.next row.1; clock = stamp_after s.clock p },
   Some (record {
-    stamped = noted (bank_actor s.bank) (stamp_after s.clock p) p.mail;
+    stamped = handling_note (bank_actor s.bank) (stamp_after s.clock p) p.mail;
     reply = reply_of (bank_actor s.bank) s.next (stamp_after s.clock p) row.1;
   }),
 )
@@ -55,7 +55,7 @@ bank_handles s (Some p, inbox) = bank_row s p inbox (bank_gets s.bank p.mail.mes
 
 -- a step takes the mail that the pick names and handles it; where there is none, or the bank is spent, it changes nothing
 abbrev pub bank_steps : BankState → ℕ → BankState × Option Handled
-bank_steps s pick = bank_handles s (taken (may_handle s.clock s.next) s.inbox pick)
+bank_steps s pick = bank_handles s (picked_out (may_handle s.clock s.next) s.inbox pick)
 
 abbrev pub bank_stepped : BankState × Option Handled → BankState × BankOut
 bank_stepped row = (row.0, Stepped row.1)

@@ -4,7 +4,7 @@ use Rattle.turn_lock.specs.declared.entry.Entry.{Entry}
 use Rattle.turn_lock.specs.History.{BeginsWith, Legal, calls_by}
 use Rattle.turn_lock.specs.Passes.{Sharing, Token}
 use Rattle.bank_hall.specs.Rows.{Tokens, made_of}
-use Rattle.bank_hall.specs.Halls.{HallView, PassView, BankEntry, PortEntry, KeeperEntry, IsHallPass, number_of}
+use Rattle.bank_hall.specs.Halls.{HallView, PassView, BankEntry, PortEntry, KeeperEntry, IsHallPass, pass_number}
 
 -- These are all passes of the hall: each is one of its passes, and there are as many as it was started with. What `start` gives
 -- are all of them, and a pass stays one of them through each call
@@ -23,13 +23,13 @@ module _ {O I U : Type 0} where
   abbrev pub history_of : List (List (Entry O I U)) → ℕ → List (Entry O I U)
   history_of histories place = or_none (slice_get histories place)
 
-  abbrev pub seen_by : Option (Token O I U) → List (Entry O I U)
-  seen_by None = []
-  seen_by (Some pass) = pass.seen
+  abbrev pub seen_by_pass : Option (Token O I U) → List (Entry O I U)
+  seen_by_pass None = []
+  seen_by_pass (Some pass) = pass.seen
 
   -- the history that a caller has seen of the object at a place
   abbrev pub seen_of : Tokens O I U → ℕ → List (Entry O I U)
-  seen_of caller place = seen_by (slice_get caller.passes place)
+  seen_of caller place = seen_by_pass (slice_get caller.passes place)
 
 -- Each object of the row has its history: a single thread could have made it, from the object as it began to the one that is
 -- handed back, and each call in it is of one of so many callers
@@ -42,9 +42,9 @@ pub record IsClosedRow {O I U C : Type 0} (content : O → C) (answer : C → I 
 -- What the histories of a hall say of a pass: of each object, the pass's calls are just those that it made, in its order, and
 -- what it had seen is a beginning of the history
 pub record IsToldPass (banks : List (List BankEntry)) (ports : List (List PortEntry)) (keeper : List KeeperEntry) (pass : PassView) : Type 0 where
-  pub bank_calls : (b : ℕ) → calls_by (number_of pass) (history_of banks b) ≡ made_of pass.banks b
-  pub port_calls : (c : ℕ) → calls_by (number_of pass) (history_of ports c) ≡ made_of pass.ports c
-  pub keeper_calls : calls_by (number_of pass) keeper ≡ made_of pass.keeper 0
+  pub bank_calls : (b : ℕ) → calls_by (pass_number pass) (history_of banks b) ≡ made_of pass.banks b
+  pub port_calls : (c : ℕ) → calls_by (pass_number pass) (history_of ports c) ≡ made_of pass.ports c
+  pub keeper_calls : calls_by (pass_number pass) keeper ≡ made_of pass.keeper 0
   pub banks_seen : (b : ℕ) → BeginsWith (history_of banks b) (seen_of pass.banks b)
   pub ports_seen : (c : ℕ) → BeginsWith (history_of ports c) (seen_of pass.ports c)
   pub keeper_seen : BeginsWith keeper (seen_of pass.keeper 0)

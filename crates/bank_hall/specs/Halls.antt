@@ -21,7 +21,7 @@ use Rattle.bank_hall.specs.declared.keeper.KeeperOut as keeper_out
 use Rattle.bank_hall.specs.Banks.{BankState, BankActorParts, bank_call}
 use Rattle.bank_hall.specs.Ports.{PortParts, port_call}
 use Rattle.bank_hall.specs.Keepers.{KeeperState, KeeperActorParts, keeper_call}
-use Rattle.bank_hall.specs.Rows.{Tokens, Fits, HasCalled, made_of, one_call, no_call, AreOpened, IsNew}
+use Rattle.bank_hall.specs.Rows.{Tokens, HasPassesOf, HasCalled, made_of, one_call, no_call, AreShared, IsNew}
 
 -- the turns of a hall. The keeper's is a row of one
 pub record HallView : Type 0 where
@@ -46,15 +46,15 @@ KeeperEntry = Entry KeeperActorParts KeeperIn KeeperOut
 
 -- it is a pass of this hall: it has a pass of each turn, all with one number
 pub record IsHallPass (hall : HallView) (pass : PassView) : Type 0 where
-  pub banks : Fits hall.banks pass.banks
-  pub ports : Fits hall.ports pass.ports
-  pub keeper : Fits hall.keeper pass.keeper
+  pub banks : HasPassesOf hall.banks pass.banks
+  pub ports : HasPassesOf hall.ports pass.ports
+  pub keeper : HasPassesOf hall.keeper pass.keeper
   pub port_number : pass.ports.number ≡ pass.banks.number
   pub keeper_number : pass.keeper.number ≡ pass.banks.number
 
 -- a pass's number
-abbrev pub number_of : PassView → ℕ
-number_of pass = pass.banks.number
+abbrev pub pass_number : PassView → ℕ
+pass_number pass = pass.banks.number
 
 -- the hall has this actor
 abbrev pub HasActor : HallView → Actor → Type 0
@@ -120,17 +120,17 @@ keeper_next s input = (keeper_call s input).0
 
 -- one call of a bank by a pass, by what it is given and answers: the pass has seen a history that ends with it, and its other passes are as before
 pub record BankCall (hall : HallView) (bank : ℕ) (input : BankIn) (output : BankOut) (old new : PassView) : Type 0 where
-  pub call : HasCalled bank_state bank_answer bank_next hall.banks bank (entry (number_of old) input output) old.banks.passes new.banks.passes
+  pub call : HasCalled bank_state bank_answer bank_next hall.banks bank (entry (pass_number old) input output) old.banks.passes new.banks.passes
   pub ports : new.ports ≡ old.ports
   pub keeper : new.keeper ≡ old.keeper
 
 pub record PortCall (hall : HallView) (core : ℕ) (input : PortIn) (output : PortOut) (old new : PassView) : Type 0 where
-  pub call : HasCalled port_inbox port_answer port_next hall.ports core (entry (number_of old) input output) old.ports.passes new.ports.passes
+  pub call : HasCalled port_inbox port_answer port_next hall.ports core (entry (pass_number old) input output) old.ports.passes new.ports.passes
   pub banks : new.banks ≡ old.banks
   pub keeper : new.keeper ≡ old.keeper
 
 pub record KeeperCall (hall : HallView) (input : KeeperIn) (output : KeeperOut) (old new : PassView) : Type 0 where
-  pub call : HasCalled keeper_state keeper_answer keeper_next hall.keeper 0 (entry (number_of old) input output) old.keeper.passes new.keeper.passes
+  pub call : HasCalled keeper_state keeper_answer keeper_next hall.keeper 0 (entry (pass_number old) input output) old.keeper.passes new.keeper.passes
   pub banks : new.banks ≡ old.banks
   pub ports : new.ports ≡ old.ports
 
@@ -157,10 +157,10 @@ pub record AreHallParts (banks : List BankActorParts) (ports : List PortParts) (
   pub keeper_mails : IsInboxOf Keeper keeper.state.inbox
 
 -- the hall shares these parts among so many passes
-pub record IsOpenedHall (banks : List BankActorParts) (ports : List PortParts) (keeper : KeeperActorParts) (passes : ℕ) (hall : HallView) : Type 0 where
-  pub banks_shared : AreOpened passes banks hall.banks
-  pub ports_shared : AreOpened passes ports hall.ports
-  pub keeper_shared : AreOpened passes (keeper ∷ []) hall.keeper
+pub record IsSharedHall (banks : List BankActorParts) (ports : List PortParts) (keeper : KeeperActorParts) (passes : ℕ) (hall : HallView) : Type 0 where
+  pub banks_shared : AreShared passes banks hall.banks
+  pub ports_shared : AreShared passes ports hall.ports
+  pub keeper_shared : AreShared passes (keeper ∷ []) hall.keeper
 
 -- a pass of this hall with this number, which has seen nothing and made no call
 pub record IsNewPass (hall : HallView) (number : ℕ) (pass : PassView) : Type 0 where

@@ -19,7 +19,7 @@ use Rattle.bank_hall.specs.declared.keeper.KeeperIn.{KeeperIn}
 use Rattle.bank_hall.specs.declared.keeper.KeeperOut as keeper_out
 use Rattle.bank_hall.specs.declared.keeper.KeeperOut.{KeeperOut}
 use Rattle.bank_hall.specs.Stamps.{may_handle}
-use Rattle.bank_hall.specs.Inbox.{taken}
+use Rattle.bank_hall.specs.Inbox.{picked_out}
 use Rattle.bank_hall.specs.Note.{KeeperNote}
 use Rattle.bank_hall.specs.Banks.{BankState, bank_handles, bank_steps}
 use Rattle.bank_hall.specs.Keepers.{KeeperState, keeper_handles, keeper_steps}
@@ -73,7 +73,7 @@ BankGoes = Goes bank_may bank_does
 -- what one call of a bank handles
 abbrev pub bank_handling : BankState → BankIn → List (Handling Handled)
 bank_handling s (bank_in.TheVariants.Post p) = []
-bank_handling s (bank_in.TheVariants.Step pick) = handling_of (taken (bank_may s) s.inbox pick).0 (bank_steps s pick).1
+bank_handling s (bank_in.TheVariants.Step pick) = handling_of (picked_out (bank_may s) s.inbox pick).0 (bank_steps s pick).1
 
 -- what a bank handles in a history of its calls
 abbrev pub bank_handlings : BankState → List BankEntry → List (Handling Handled)
@@ -103,7 +103,7 @@ KeeperGoes = Goes keeper_may keeper_does
 
 abbrev pub keeper_handling : KeeperState → KeeperIn → List (Handling KeeperNote)
 keeper_handling s (keeper_in.TheVariants.Post p) = []
-keeper_handling s (keeper_in.TheVariants.Step pick) = handling_of (taken (keeper_may s) s.inbox pick).0 (keeper_steps s pick).1
+keeper_handling s (keeper_in.TheVariants.Step pick) = handling_of (picked_out (keeper_may s) s.inbox pick).0 (keeper_steps s pick).1
 
 abbrev pub keeper_handlings : KeeperState → List KeeperEntry → List (Handling KeeperNote)
 keeper_handlings = handlings_of keeper_handling keeper_next

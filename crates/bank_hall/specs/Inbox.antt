@@ -8,14 +8,14 @@ abbrev pub with_mail : List Posted → Posted → List Posted
 with_mail inbox p = inbox ++ p ∷ []
 
 -- the place that a pick names
-abbrev pub place_in : List Posted → ℕ → ℕ
-place_in inbox pick = pick % length inbox
+abbrev pub picked_index : List Posted → ℕ → ℕ
+picked_index inbox pick = pick % length inbox
 
 -- taking the mail at a place, if there is one and it may be taken: the mail, and the inbox in which the last one has moved into its place
-abbrev pub taken_at : (Posted → Bool) → List Posted → ℕ → Option Posted → Option Posted × List Posted
-taken_at may inbox place None = (None, inbox)
-taken_at may inbox place (Some p) = if may p then (Some p, swap_remove inbox place p) else (None, inbox)
+abbrev pub picked_out_at : (Posted → Bool) → List Posted → ℕ → Option Posted → Option Posted × List Posted
+picked_out_at may inbox place None = (None, inbox)
+picked_out_at may inbox place (Some p) = if may p then (Some p, swap_remove inbox place p) else (None, inbox)
 
 -- taking the mail that a pick names
-abbrev pub taken : (Posted → Bool) → List Posted → ℕ → Option Posted × List Posted
-taken may inbox pick = taken_at may inbox (place_in inbox pick) (slice_get inbox (place_in inbox pick))
+abbrev pub picked_out : (Posted → Bool) → List Posted → ℕ → Option Posted × List Posted
+picked_out may inbox pick = picked_out_at may inbox (picked_index inbox pick) (slice_get inbox (picked_index inbox pick))

@@ -9,8 +9,8 @@ use Rattle.bank_hall.specs.declared.keeper.KeeperIn.{KeeperIn}
 use Rattle.bank_hall.specs.declared.keeper.KeeperIn.TheVariants.{Post, Step}
 use Rattle.bank_hall.specs.declared.keeper.KeeperOut.{KeeperOut}
 use Rattle.bank_hall.specs.declared.keeper.KeeperOut.TheVariants.{Kept, Stepped}
-use Rattle.bank_hall.specs.Stamps.{may_handle, stamp_after, noted}
-use Rattle.bank_hall.specs.Inbox.{with_mail, taken}
+use Rattle.bank_hall.specs.Stamps.{may_handle, stamp_after, handling_note}
+use Rattle.bank_hall.specs.Inbox.{with_mail, picked_out}
 use Rattle.bank_hall.specs.Note.{KeeperNote}
 
 -- a keeper with its inbox, the number of its next mail, and its clock
@@ -26,14 +26,14 @@ pub record KeeperActorParts : Type 0 where
   pub spare : ℕ
 
 -- the number of its next mail after a verdict, which goes to each core or to none
-abbrev pub next_after : KeeperState → Verdict → ℕ
-next_after s verdict = s.next + letter_count verdict * length s.keeper.arrived
+abbrev pub next_after_verdict : KeeperState → Verdict → ℕ
+next_after_verdict s verdict = s.next + letter_count verdict * length s.keeper.arrived
 
 -- A mail was taken, and left this inbox. The keeper is then what `row` has first, with the verdict that `row` has second
 abbrev pub keeper_row : KeeperState → Posted → List Posted → Barrier × Verdict → KeeperState × Option KeeperNote
 keeper_row s p inbox row = (
-  record { keeper = row.0; inbox = inbox; next = next_after s row.1; clock = stamp_after s.clock p },
-  Some (record { stamped = noted Keeper (stamp_after s.clock p) p.mail; verdict = row.1; first = s.next }),
+  record { keeper = row.0; inbox = inbox; next = next_after_verdict s row.1; clock = stamp_after s.clock p },
+  Some (record { stamped = handling_note Keeper (stamp_after s.clock p) p.mail; verdict = row.1; first = s.next }),
 )
 
 abbrev pub keeper_handles : KeeperState → Option Posted × List Posted → KeeperState × Option KeeperNote
@@ -42,7 +42,7 @@ keeper_handles s (Some p, inbox) = keeper_row s p inbox (keeper_gets s.keeper p.
 
 -- a step takes the mail that the pick names and handles it; where there is none, or the keeper is spent, it changes nothing
 abbrev pub keeper_steps : KeeperState → ℕ → KeeperState × Option KeeperNote
-keeper_steps s pick = keeper_handles s (taken (may_handle s.clock s.next) s.inbox pick)
+keeper_steps s pick = keeper_handles s (picked_out (may_handle s.clock s.next) s.inbox pick)
 
 abbrev pub keeper_stepped : KeeperState × Option KeeperNote → KeeperState × KeeperOut
 keeper_stepped row = (row.0, Stepped row.1)

@@ -6,7 +6,7 @@ use Rattle.bank_hall.specs.declared.port.PortIn.TheVariants.{Post, Take}
 use Rattle.bank_hall.specs.declared.port.PortOut.{PortOut}
 use Rattle.bank_hall.specs.declared.port.PortOut.TheVariants.{Kept, Taken}
 use Rattle.bank_hall.specs.Stamps.{is_early}
-use Rattle.bank_hall.specs.Inbox.{with_mail, taken}
+use Rattle.bank_hall.specs.Inbox.{with_mail, picked_out}
 
 -- an inbox, and for how many more mails it has room
 pub record PortParts : Type 0 where
@@ -19,4 +19,4 @@ port_taken row = (row.1, Taken row.0)
 -- what a call leaves and answers: a mail is put into the inbox, or the one that the pick names is taken
 unfoldable pub port_call : List Posted → PortIn → List Posted × PortOut
 port_call inbox (Post p) = (with_mail inbox p, Kept)
-port_call inbox (Take pick) = port_taken (taken is_early inbox pick)
+port_call inbox (Take pick) = port_taken (picked_out is_early inbox pick)

@@ -10,7 +10,7 @@ pub record Tokens (O I U : Type 0) : Type 0 where
   pub passes : List (Token O I U)
 
 -- the caller's passes are passes of these turns, one of each, with its number
-pub record Fits {O I U : Type 0} (turns : List (Sharing O)) (caller : Tokens O I U) : Type 0 where
+pub record HasPassesOf {O I U : Type 0} (turns : List (Sharing O)) (caller : Tokens O I U) : Type 0 where
   pub count : length caller.passes ≡ length turns
   pub each : (i : ℕ) (turn : Sharing O) (pass : Token O I U) → slice_get turns i ≡ Some turn → slice_get caller.passes i ≡ Some pass → IsPassOf turn pass × (pass.number ≡ caller.number)
 
@@ -54,13 +54,13 @@ pub record HasCalled {O I U C : Type 0} (content : O → C) (answer : C → I �
   pub own : calls_by after.number after.seen ≡ after.made
 
 -- the turns share these objects, in their order, each among so many passes
-pub record AreOpened {O : Type 0} (passes : ℕ) (objects : List O) (turns : List (Sharing O)) : Type 0 where
+pub record AreShared {O : Type 0} (passes : ℕ) (objects : List O) (turns : List (Sharing O)) : Type 0 where
   pub opened : map (λ (t : Sharing O). t.opening) turns ≡ objects
   pub shared : All (λ (t : Sharing O). t.passes ≡ passes) turns
 
 -- a caller with this number, whose passes of these turns have seen nothing and made no call
 pub record IsNew {O I U : Type 0} (turns : List (Sharing O)) (number : ℕ) (caller : Tokens O I U) : Type 0 where
-  pub fits : Fits turns caller
+  pub fits : HasPassesOf turns caller
   pub numbered : caller.number ≡ number
   pub unused : All (λ (p : Token O I U). (p.seen ≡ []) × (p.made ≡ [])) caller.passes
 
@@ -97,5 +97,5 @@ module _ {O I U : Type 0} where
 
 -- these are all callers of these turns
 pub record AreAllCallers {O I U : Type 0} (turns : List (Sharing O)) (callers : List (Tokens O I U)) : Type 0 where
-  pub fit : All (Fits turns) callers
+  pub fit : All (HasPassesOf turns) callers
   pub shared : All (λ (t : Sharing O). t.passes ≡ length callers) turns

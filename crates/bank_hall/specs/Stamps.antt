@@ -12,8 +12,8 @@ abbrev pub is_early : Posted → Bool
 is_early p = nat_lt p.stamp (2 ^ 63)
 
 -- an actor with this clock and this number for its next mail that isn't spent
-abbrev pub goes_on : ℕ → ℕ → Bool
-goes_on clock next = nat_lt clock (2 ^ 63) && nat_lt next 4294967000
+abbrev pub has_numbers_left : ℕ → ℕ → Bool
+has_numbers_left clock next = nat_lt clock (2 ^ 63) && nat_lt next 4294967000
 
 -- whether a mail may be taken, by whether its actor goes on
 abbrev pub may_take : Bool → Posted → Bool
@@ -21,12 +21,12 @@ may_take going p = going && is_early p
 
 -- whether an actor with this clock and this number for its next mail may handle a mail
 abbrev pub may_handle : ℕ → ℕ → Posted → Bool
-may_handle clock next = may_take (goes_on clock next)
+may_handle clock next = may_take (has_numbers_left clock next)
 
 -- the stamp of handling a mail: one more than the greater of the actor's clock and the mail's stamp
 abbrev pub stamp_after : ℕ → Posted → ℕ
 stamp_after clock p = max clock p.stamp + 1
 
 -- what an actor notes of handling a mail
-abbrev pub noted : Actor → ℕ → Mail → Stamped
-noted actor stamp mail = record { stamp = stamp; actor = actor; event = Handle mail.id; kind = kind_of mail.message; granted = None }
+abbrev pub handling_note : Actor → ℕ → Mail → Stamped
+handling_note actor stamp mail = record { stamp = stamp; actor = actor; event = Handle mail.id; kind = kind_of mail.message; granted = None }

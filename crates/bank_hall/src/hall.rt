@@ -7,7 +7,7 @@ ghost use Rattle.bank_hall.specs.declared.port.PortIn.TheVariants.{Take};
 ghost use Rattle.bank_hall.specs.declared.port.PortOut.TheVariants.{Taken};
 ghost use Rattle.bank_hall.specs.declared.keeper.KeeperIn.TheVariants.{Step as KeeperStep};
 ghost use Rattle.bank_hall.specs.declared.keeper.KeeperOut.TheVariants.{Stepped as KeeperStepped};
-ghost use Rattle.bank_hall.specs.Halls.{IsHallPass, HasActor, HasMadeCalls, BankCall, PortCall, KeeperCall, PostCall, number_of, bank_calls, port_calls, keeper_calls, post_calls, AreHallParts, IsOpenedHall, AreNewPasses, passes_of, bank_state, bank_answer, bank_next, port_inbox, port_answer, port_next, keeper_state, keeper_answer, keeper_next};
+ghost use Rattle.bank_hall.specs.Halls.{IsHallPass, HasActor, HasMadeCalls, BankCall, PortCall, KeeperCall, PostCall, pass_number, bank_calls, port_calls, keeper_calls, post_calls, AreHallParts, IsSharedHall, AreNewPasses, passes_of, bank_state, bank_answer, bank_next, port_inbox, port_answer, port_next, keeper_state, keeper_answer, keeper_next};
 ghost use Rattle.bank_hall.specs.Closing.{AreAllHallPasses, IsClosedRow, IsToldPass};
 
 use crate::bank::{BankActor, BankIn, BankOut, Handled};
@@ -157,7 +157,7 @@ impl Hall {
         requires some { 1 ≤ passes }
         requires few { passes ≤ 17 }
         requires parts { AreHallParts parts.banks.items parts.ports.items parts.keeper }
-        ensures opened { IfOk result (λ r. IsOpenedHall parts.banks.items parts.ports.items parts.keeper passes r.0) }
+        ensures opened { IfOk result (λ r. IsSharedHall parts.banks.items parts.ports.items parts.keeper passes r.0) }
         ensures count { IfOk result (λ r. length r.1.items ≡ passes) }
         ensures new { IfOk result (λ r. AreNewPasses r.0 0 r.1.items) }
         ensures all { IfOk result (λ r. AreAllHallPasses r.0 r.1.items) }
@@ -197,9 +197,9 @@ impl Hall {
     ) -> Result<Option<Posted>, Memory>
         requires pass { IsHallPass self.now pass.old }
         requires port { core.0 < length self.now.ports }
-        ensures pass { IsHallPass self.now pass.new × (number_of pass.new ≡ number_of pass.old) }
+        ensures pass { IsHallPass self.now pass.new × (pass_number pass.new ≡ pass_number pass.old) }
         ensures call { IfOk result (λ taken. PortCall self.now core.0 (Take pick) (Taken taken) pass.old pass.new) }
-        ensures made { IfOk result (λ taken. HasMadeCalls pass.old pass.new (port_calls core.0 (entry (number_of pass.old) (Take pick) (Taken taken)))) }
+        ensures made { IfOk result (λ taken. HasMadeCalls pass.old pass.new (port_calls core.0 (entry (pass_number pass.old) (Take pick) (Taken taken)))) }
         ensures same { OnErr result (pass.new ≡ pass.old) }
     {
         let input = PortIn::Take { pick };
@@ -230,9 +230,9 @@ impl Hall {
     ) -> Result<Option<Handled>, Memory>
         requires pass { IsHallPass self.now pass.old }
         requires bank { bank.0 < length self.now.banks }
-        ensures pass { IsHallPass self.now pass.new × (number_of pass.new ≡ number_of pass.old) }
+        ensures pass { IsHallPass self.now pass.new × (pass_number pass.new ≡ pass_number pass.old) }
         ensures call { IfOk result (λ handled. BankCall self.now bank.0 (BankStep pick) (BankStepped handled) pass.old pass.new) }
-        ensures made { IfOk result (λ handled. HasMadeCalls pass.old pass.new (bank_calls bank.0 (entry (number_of pass.old) (BankStep pick) (BankStepped handled)))) }
+        ensures made { IfOk result (λ handled. HasMadeCalls pass.old pass.new (bank_calls bank.0 (entry (pass_number pass.old) (BankStep pick) (BankStepped handled)))) }
         ensures same { OnErr result (pass.new ≡ pass.old) }
     {
         let input = BankIn::Step { pick };
@@ -260,9 +260,9 @@ impl Hall {
         pick: u32,
     ) -> Result<Option<KeeperHandled>, Memory>
         requires pass { IsHallPass self.now pass.old }
-        ensures pass { IsHallPass self.now pass.new × (number_of pass.new ≡ number_of pass.old) }
+        ensures pass { IsHallPass self.now pass.new × (pass_number pass.new ≡ pass_number pass.old) }
         ensures call { IfOk result (λ handled. KeeperCall self.now (KeeperStep pick) (KeeperStepped handled) pass.old pass.new) }
-        ensures made { IfOk result (λ handled. HasMadeCalls pass.old pass.new (keeper_calls (entry (number_of pass.old) (KeeperStep pick) (KeeperStepped handled)))) }
+        ensures made { IfOk result (λ handled. HasMadeCalls pass.old pass.new (keeper_calls (entry (pass_number pass.old) (KeeperStep pick) (KeeperStepped handled)))) }
         ensures same { OnErr result (pass.new ≡ pass.old) }
     {
         let input = KeeperIn::Step { pick };
@@ -282,9 +282,9 @@ impl Hall {
     ) -> Result<(), (Memory, Posted)>
         requires pass { IsHallPass self.now pass.old }
         requires port { core.0 < length self.now.ports }
-        ensures pass { IsHallPass self.now pass.new × (number_of pass.new ≡ number_of pass.old) }
+        ensures pass { IsHallPass self.now pass.new × (pass_number pass.new ≡ pass_number pass.old) }
         ensures call { OnOk result (PostCall self.now posted (Core core) pass.old pass.new) }
-        ensures made { OnOk result (HasMadeCalls pass.old pass.new (post_calls (number_of pass.old) posted (Core core))) }
+        ensures made { OnOk result (HasMadeCalls pass.old pass.new (post_calls (pass_number pass.old) posted (Core core))) }
         ensures same { OnErr result (pass.new ≡ pass.old) }
         ensures back { IfErr result (λ e. e.1 ≡ posted) }
     {
@@ -308,9 +308,9 @@ impl Hall {
     ) -> Result<(), (Memory, Posted)>
         requires pass { IsHallPass self.now pass.old }
         requires bank { bank.0 < length self.now.banks }
-        ensures pass { IsHallPass self.now pass.new × (number_of pass.new ≡ number_of pass.old) }
+        ensures pass { IsHallPass self.now pass.new × (pass_number pass.new ≡ pass_number pass.old) }
         ensures call { OnOk result (PostCall self.now posted (Home bank) pass.old pass.new) }
-        ensures made { OnOk result (HasMadeCalls pass.old pass.new (post_calls (number_of pass.old) posted (Home bank))) }
+        ensures made { OnOk result (HasMadeCalls pass.old pass.new (post_calls (pass_number pass.old) posted (Home bank))) }
         ensures same { OnErr result (pass.new ≡ pass.old) }
         ensures back { IfErr result (λ e. e.1 ≡ posted) }
     {
@@ -332,9 +332,9 @@ impl Hall {
         posted: Posted,
     ) -> Result<(), (Memory, Posted)>
         requires pass { IsHallPass self.now pass.old }
-        ensures pass { IsHallPass self.now pass.new × (number_of pass.new ≡ number_of pass.old) }
+        ensures pass { IsHallPass self.now pass.new × (pass_number pass.new ≡ pass_number pass.old) }
         ensures call { OnOk result (PostCall self.now posted Keeper pass.old pass.new) }
-        ensures made { OnOk result (HasMadeCalls pass.old pass.new (post_calls (number_of pass.old) posted Keeper)) }
+        ensures made { OnOk result (HasMadeCalls pass.old pass.new (post_calls (pass_number pass.old) posted Keeper)) }
         ensures same { OnErr result (pass.new ≡ pass.old) }
         ensures back { IfErr result (λ e. e.1 ≡ posted) }
     {
@@ -359,9 +359,9 @@ impl Hall {
         requires pass { IsHallPass self.now pass.old }
         requires actor { HasActor self.now posted.mail.to }
         requires stamp { posted.stamp ≤ 2 ^ 63 }
-        ensures pass { IsHallPass self.now pass.new × (number_of pass.new ≡ number_of pass.old) }
+        ensures pass { IsHallPass self.now pass.new × (pass_number pass.new ≡ pass_number pass.old) }
         ensures call { OnOk result (PostCall self.now posted posted.mail.to pass.old pass.new) }
-        ensures made { OnOk result (HasMadeCalls pass.old pass.new (post_calls (number_of pass.old) posted posted.mail.to)) }
+        ensures made { OnOk result (HasMadeCalls pass.old pass.new (post_calls (pass_number pass.old) posted posted.mail.to)) }
         ensures same { OnErr result (pass.new ≡ pass.old) }
         ensures back { IfErr result (λ e. e.1 ≡ posted) }
     {

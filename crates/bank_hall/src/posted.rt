@@ -1,6 +1,6 @@
 ghost use Rattle.std.specs.Prelude.{◌≡◌, ◌^◌, ◌<◌, true, IfSome, IfNone, length, slice_get, Some, None, vec_len, vec_capacity};
-ghost use Rattle.bank_hall.specs.Stamps.{goes_on, may_take, stamp_after, noted};
-ghost use Rattle.bank_hall.specs.Inbox.{place_in, taken};
+ghost use Rattle.bank_hall.specs.Stamps.{has_numbers_left, may_take, stamp_after, handling_note};
+ghost use Rattle.bank_hall.specs.Inbox.{picked_index, picked_out};
 
 use grant_log::Stamped;
 use message_net::{Actor, Event, Mail};
@@ -21,15 +21,15 @@ const LAST_NUMBER: u32 = 4_294_967_000;
 /// Whether an actor with this clock and this number for its next mail isn't spent (this project's profile): both are below the
 /// numbers from which on it does nothing more.
 pub fn goes_on(clock: u64, next: u32) -> bool
-    ensures { result ≡ goes_on clock next }
+    ensures { result ≡ has_numbers_left clock next }
 {
     clock < LAST_STAMP && next < LAST_NUMBER
 }
 
 /// The place that a pick names; None in an empty inbox.
 fn place_of(inbox: &[Posted], pick: u32) -> Option<usize>
-    ensures some { IfSome result (λ place. (place ≡ place_in inbox.now pick) × (place < length inbox.now)) }
-    ensures none { IfNone result (slice_get inbox.now (place_in inbox.now pick) ≡ None) }
+    ensures some { IfSome result (λ place. (place ≡ picked_index inbox.now pick) × (place < length inbox.now)) }
+    ensures none { IfNone result (slice_get inbox.now (picked_index inbox.now pick) ≡ None) }
 {
     if inbox.is_empty() {
         return None;
@@ -40,9 +40,9 @@ fn place_of(inbox: &[Posted], pick: u32) -> Option<usize>
 /// Takes the mail that the pick names out of the inbox, where there is one with a stamp below 2^63, and its actor goes on. The
 /// last mail moves into the free place.
 pub(crate) fn take_picked(inbox: &mut Vec<Posted>, pick: u32, goes_on: bool) -> Option<Posted>
-    ensures mail { result ≡ (taken (may_take goes_on) inbox.old.items pick).0 }
-    ensures rest { inbox.new.items ≡ (taken (may_take goes_on) inbox.old.items pick).1 }
-    ensures room { IfSome result (λ posted. (goes_on ≡ true) × (posted.stamp < 2 ^ 63)) }
+    ensures mail { result ≡ (picked_out (may_take has_numbers_left) inbox.old.items pick).0 }
+    ensures rest { inbox.new.items ≡ (picked_out (may_take has_numbers_left) inbox.old.items pick).1 }
+    ensures room { IfSome result (λ posted. (has_numbers_left ≡ true) × (posted.stamp < 2 ^ 63)) }
 {
     let place = place_of(inbox.as_slice(), pick)?;
     if !goes_on || inbox[place].stamp >= LAST_STAMP {
@@ -66,7 +66,7 @@ pub fn stamp_of(clock: u64, posted: &Posted) -> u64
 
 /// What an actor notes of handling a mail.
 pub(crate) fn note(actor: Actor, stamp: u64, mail: &Mail) -> Stamped
-    ensures { result ≡ noted actor stamp mail.now }
+    ensures { result ≡ handling_note actor stamp mail.now }
 {
     Stamped {
         stamp,

@@ -1,6 +1,6 @@
 ghost use Rattle.std.specs.Prelude.{◌≡◌, ◌<◌, ◌≤◌, [], ◌∷◌, ◌++◌, length, map, All, IfOk, IfErr, OnOk, OnErr};
 ghost use Rattle.turn_lock.specs.History.{entry, Legal};
-ghost use Rattle.bank_hall.specs.Rows.{Fits, HasMade, HasCalled, one_call, AreOpened, AreNew, handed, joined, AreTold, AreClosed, AreAllCallers};
+ghost use Rattle.bank_hall.specs.Rows.{HasPassesOf, HasMade, HasCalled, one_call, AreShared, AreNew, handed, joined, AreTold, AreClosed, AreAllCallers};
 ghost use Rattle.turn_lock.specs.Passes.{AreFresh, AreAllPasses, IsTold};
 
 use dn_base::Memory;
@@ -135,7 +135,7 @@ impl<O: Object> Row<O> {
         O: Drop,
         requires some { 1 ≤ passes }
         requires few { passes ≤ 17 }
-        ensures opened { IfOk result (λ r. AreOpened passes objects.items r.0) }
+        ensures opened { IfOk result (λ r. AreShared passes objects.items r.0) }
         ensures count { IfOk result (λ r. length r.1.items ≡ passes) }
         ensures new { IfOk result (λ r. AreNew r.0 0 r.1.items) }
     {
@@ -161,10 +161,10 @@ impl<O: Object> Row<O> {
         input: O::In,
         inside: F,
     ) -> Result<O::Out, (Memory, O::In)>
-        requires caller { Fits self.now caller.old }
+        requires caller { HasPassesOf self.now caller.old }
         requires place { place < length self.now }
         requires inside { F.IsAlwaysCallable inside }
-        ensures caller { Fits self.now caller.new × (caller.new.number ≡ caller.old.number) }
+        ensures caller { HasPassesOf self.now caller.new × (caller.new.number ≡ caller.old.number) }
         ensures call { IfOk result (λ output. HasCalled O.content O.answer O.next self.now place (entry caller.old.number input output) caller.old.passes caller.new.passes) }
         ensures made { IfOk result (λ output. HasMade caller.old caller.new (one_call place (entry caller.old.number input output))) }
         ensures same { OnErr result (caller.new ≡ caller.old) }

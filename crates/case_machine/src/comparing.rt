@@ -1,4 +1,4 @@
-ghost use Rattle.command_words.specs.Command.{IsWithinLimits};
+ghost use Rattle.command_words.specs.Command.{OptionsInRange};
 
 use crate::opening::{open, options_of, program};
 use crate::stepping::Stepping;
@@ -20,7 +20,7 @@ fn loads_alike(
     events: &[Event],
     tasks: &[TaskLoads],
 ) -> Result<bool, Trouble>
-    requires { IsWithinLimits options.now }
+    requires { OptionsInRange options.now }
 {
     let machine = open(alloc, checked, options)?;
     let loads = replayed(alloc, &mut Stepping { machine }, events)?;
@@ -34,7 +34,7 @@ fn compared(
     options: &Options,
     run: &RunRecord,
 ) -> Result<Comparison, Trouble>
-    requires { IsWithinLimits options.now }
+    requires { OptionsInRange options.now }
 {
     let Some(end) = flat(alloc, &checked, options.fuel, run.grants.as_slice())? else {
         return Ok(Comparison::NoFlatRun);

@@ -1,5 +1,5 @@
 ghost use Rattle.std.specs.Prelude.{◌≡◌, IfOk};
-ghost use Rattle.command_words.specs.Command.{IsWithinLimits};
+ghost use Rattle.command_words.specs.Command.{OptionsInRange};
 
 use case_files::{BadForm, Case, Trouble};
 use command_words::{Options, WordsFault, read_words};
@@ -14,7 +14,7 @@ pub const NO_MACHINE: Trouble = Trouble::Form(BadForm::NoMachine);
 
 /// What the words of a case ask for.
 pub fn options_of(alloc: Global, case: &Case) -> Result<Options, Trouble>
-    ensures { IfOk result IsWithinLimits }
+    ensures { IfOk result OptionsInRange }
 {
     match read_words(alloc, case.words.as_slice()) {
         Ok(options) => Ok(options),
@@ -47,7 +47,7 @@ pub fn program(alloc: Global, text: &[u8]) -> Result<Checked, Trouble> {
 
 /// The machine of a program, as a run of these options begins.
 pub fn open(alloc: Global, checked: Checked, options: &Options) -> Result<Machine, Memory>
-    requires { IsWithinLimits options.now }
+    requires { OptionsInRange options.now }
     ensures { IfOk result (λ machine. machine.made ≡ 0) }
 {
     let shape = Shape {

@@ -1,4 +1,4 @@
-ghost use Rattle.command_words.specs.Command.{IsWithinLimits};
+ghost use Rattle.command_words.specs.Command.{OptionsInRange};
 
 use crate::opening::{open, options_of, program};
 use crate::stepping::Stepping;
@@ -26,7 +26,7 @@ fn is_told(
     output: &[u8],
     events: &[Event],
 ) -> Result<bool, Trouble>
-    requires { IsWithinLimits options.now }
+    requires { OptionsInRange options.now }
 {
     let mut machine = Stepping {
         machine: open(alloc, checked, options)?,

@@ -2,8 +2,8 @@
 use Rattle.std.proofs.Common.{refl, ◌≡◌, true}
 use Rattle.clap.specs.Words.{is_simple_and_free}
 use Rattle.clap.proofs.OnLiterals.{clap_on_literals}
-use Rattle.chart_top.specs.Command.{command}
+use Rattle.chart_top.specs.Command.{chart_command}
 
-pub is_free : is_simple_and_free command ≡ true
-unfolding command clap_on_literals
+pub is_free : is_simple_and_free chart_command ≡ true
+unfolding chart_command clap_on_literals
 is_free = refl

@@ -7,7 +7,7 @@ use Rattle.region_table.specs.Program.{ProgramParts}
 use Rattle.rv_core.specs.declared.ending.Ending.{Ending}
 use Rattle.message_net.specs.declared.event.Event.{Event}
 use Rattle.registration_protocol.specs.Node.{Setting}
-use Rattle.machine_rules.specs.State.{opened}
+use Rattle.machine_rules.specs.State.{initial_state}
 use Rattle.machine_rules.specs.Runs.{IsRun}
 use Rattle.grant_log.specs.declared.counts.Counts.{Counts}
 use Rattle.dn_base.specs.declared.ids.Grant.{Grant}
@@ -26,32 +26,32 @@ use Rattle.run_chart.specs.declared.drawing.Range.{Range}
 use Rattle.run_chart.specs.Charts.{IsChartOf}
 use Rattle.dn_top.specs.Documents.{shape_told, IsReplayIn}
 use Rattle.chart_top.specs.declared.options.Options.{Options}
-use Rattle.chart_top.specs.Answers.{IsReplayed, IsPicture, range_for, ticks_for}
+use Rattle.chart_top.specs.Answers.{IsCompleteTrace, IsPicture, range_for, chart_ticks}
 
 -- the events of a replayed document are a run of its machine
-run-on : (P : ProgramParts) (t : Trace) (ending : Ending) → IsReplayed P t ending → IsRunOn P (shape_told P t.shape) t.shape.fuel t.events
+run-on : (P : ProgramParts) (t : Trace) (ending : Ending) → IsCompleteTrace P t ending → IsRunOn P (shape_told P t.shape) t.shape.fuel t.events
 run-on P t ending is C told =
     let same : is.is.setting ≡ C = same-setting P (shape_told P t.shape) t.shape.fuel is.is.setting C is.is.told told in
-    subst (λ (D : Setting). IsRun (opened D) t.events) same is.is.is_true.run.complete.run
+    subst (λ (D : Setting). IsRun (initial_state D) t.events) same is.is.is_true.run.complete.run
 
 module _ (P : ProgramParts) (t : Trace) (s : Shape) (events : List Event) where
-  pub run-at : (ending : Ending) → s ≡ shape_told P t.shape → events ≡ t.events → IsReplayed P t ending → IsRunOn P s t.shape.fuel events
+  pub run-at : (ending : Ending) → s ≡ shape_told P t.shape → events ≡ t.events → IsCompleteTrace P t ending → IsRunOn P s t.shape.fuel events
   run-at ending shape are is =
       subst (λ (es : List Event). IsRunOn P s t.shape.fuel es) (sym are) (subst (λ (x : Shape). IsRunOn P x t.shape.fuel t.events) (sym shape) (run-on P t ending is))
 
   -- the replay of a shape and events that are the document's, by a program that is this one
   pub replayed-at : (Q R : ProgramParts) (ending : Ending) (grants : List Grant) (counts : Counts) (r : Replayed) → Q ≡ P → s ≡ shape_told Q t.shape → events ≡ t.events → R ≡ P
-      → IsReplayOf P s t.shape.fuel events r → r ≡ Complete ending grants counts → IsReplayed R t ending
+      → IsReplayOf P s t.shape.fuel events r → r ≡ Complete ending grants counts → IsCompleteTrace R t ending
   replayed-at Q R ending grants counts r program shape are same is complete =
       let at : s ≡ shape_told P t.shape = shape ∙ ap (λ (p : ProgramParts). shape_told p t.shape) program in
       let told : IsReplayIn P t (Complete ending grants counts) =
       subst (λ (x : Replayed). IsReplayIn P t x) complete
       (subst (λ (es : List Event). IsReplayOf P (shape_told P t.shape) t.shape.fuel es r) are (subst (λ (x : Shape). IsReplayOf P x t.shape.fuel events r) at is))
       in
-      subst (λ (p : ProgramParts). IsReplayed p t ending) (sym same) (record { grants = grants; counts = counts; is = told })
+      subst (λ (p : ProgramParts). IsCompleteTrace p t ending) (sym same) (record { grants = grants; counts = counts; is = told })
 
   pub picture-is : (Q : ProgramParts) (o : Options) (ending : Ending) (ticks : Ticks) (timing : Timing) (marks : List ℕ) (range : Range) (chart : Chart) (status : Status) (text : List ℕ) → Q ≡ P
-      → s ≡ shape_told P t.shape → events ≡ t.events → ticks ≡ ticks_for o → range ≡ range_for o → marks ≡ numbers_in timing.links.items → IsReplayed P t ending
+      → s ≡ shape_told P t.shape → events ≡ t.events → ticks ≡ chart_ticks o → range ≡ range_for o → marks ≡ numbers_in timing.links.items → IsCompleteTrace P t ending
       → IsTimingOf P s t.shape.fuel events ticks timing → IsChartOf Q s t.shape.fuel events range marks chart → status ≡ status_of ending.outcome → text ≡ svg_of chart
       → IsPicture P t o (record { status = status; bytes = text })
   picture-is Q o ending ticks timing marks range chart status text same shape are ticks_are range_is marks_are replayed times charted ends says =

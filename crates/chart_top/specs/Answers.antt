@@ -26,11 +26,11 @@ abbrev pub range_for : Options → Range
 range_for o = record { first = o.first; most = o.rows }
 
 -- the ticks that options give to the kinds of event: those of a core's own, those that a bank handles, and all others
-abbrev pub ticks_for : Options → Ticks
-ticks_for o = ticks_by o.tick_core o.tick_bank o.tick_mail
+abbrev pub chart_ticks : Options → Ticks
+chart_ticks o = ticks_by o.tick_core o.tick_bank o.tick_mail
 
 -- a trace's events are a complete run of its machine, which has this ending
-pub record IsReplayed (P : ProgramParts) (t : Trace) (ending : Ending) : Type 0 where
+pub record IsCompleteTrace (P : ProgramParts) (t : Trace) (ending : Ending) : Type 0 where
   pub grants : List Grant
   pub counts : Counts
   pub is : IsReplayIn P t (Complete ending grants counts)
@@ -39,9 +39,9 @@ pub record IsReplayed (P : ProgramParts) (t : Trace) (ending : Ending) : Type 0 
 -- run's longest chain are marked, and its status is that of the run's outcome
 pub record IsPicture (P : ProgramParts) (t : Trace) (o : Options) (out : Output) : Type 0 where
   pub ending : Ending
-  pub replayed : IsReplayed P t ending
+  pub replayed : IsCompleteTrace P t ending
   pub timing : Timing
-  pub times : IsTimingOf P (shape_told P t.shape) t.shape.fuel t.events (ticks_for o) timing
+  pub times : IsTimingOf P (shape_told P t.shape) t.shape.fuel t.events (chart_ticks o) timing
   pub chart : Chart
   pub is : IsChartOf P (shape_told P t.shape) t.shape.fuel t.events (range_for o) (numbers_in timing.links.items) chart
   pub answer : out ≡ record { status = status_of ending.outcome; bytes = svg_of chart }

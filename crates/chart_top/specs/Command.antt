@@ -7,8 +7,8 @@ use Rattle.command_words.specs.Words.{bare, faults_in, number_in, number_rule, v
 use Rattle.chart_top.specs.declared.options.Options.{Options}
 
 -- the command `chart` with its five options
-unfoldable pub command : App
-command =
+unfoldable pub chart_command : App
+chart_command =
     with_rule (with_rule (with_rule (with_rule (with_rule (bare (new_app (codes "chart")))
     (number_rule (codes "first") (codes "0")))
     (number_rule (codes "rows") (codes "1000")))
@@ -17,8 +17,8 @@ command =
     (number_rule (codes "tick-mail") (codes "5"))
 
 -- the options that the command's values give, where each number is in its range
-unfoldable pub options_from : List Row → Option Options
-options_from rows =
+unfoldable pub chart_options_from : List Row → Option Options
+chart_options_from rows =
     option_and_then (λ (first : ℕ).
     option_and_then (λ (most : ℕ).
     option_and_then (λ (tick_core : ℕ).
@@ -32,11 +32,11 @@ options_from rows =
     (number_in rows (codes "first") 0 4294967295)
 
 -- the options that these words ask for, where the command takes the words
-unfoldable pub options_of : List Text → Option Options
-options_of words = where_taken (faults_in command words) (options_from (values_in command words))
+unfoldable pub chart_options_of : List Text → Option Options
+chart_options_of words = where_taken (faults_in chart_command words) (chart_options_from (values_in chart_command words))
 
 -- each number is within its limits
-pub record IsWithinLimits (o : Options) : Type 0 where
+pub record ViewOptionsInRange (o : Options) : Type 0 where
   pub rows : IsInRange 1 4096 o.rows
   pub tick_core : IsInRange 1 1000000 o.tick_core
   pub tick_bank : IsInRange 1 1000000 o.tick_bank

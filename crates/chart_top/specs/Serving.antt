@@ -36,7 +36,7 @@ abbrev pub IsReplied : Options → List ℕ → DeviceState → DeviceState → 
 IsReplied o document before after told = IsGiven o document before after told ⊎ IsStarved before after told
 
 -- the document is what was read: to the source's end, or to one byte past the most that a document may have
-pub record IsServed (o : Options) (before after : Devices) (told : Status) : Type 0 where
+pub record IsDocumentServed (o : Options) (before after : Devices) (told : Status) : Type 0 where
   pub document : List ℕ
   pub read : IsRead before.source after.source 536870913 document
   pub reply : IsReplied o document before.sink after.sink told
@@ -52,7 +52,7 @@ Serves None before after told =
     IsUntouched before.source after.source × (IsWritten usage before.sink after.sink told ⊎ IsStarved before.sink after.sink told)
 Serves (Some o) before after told =
     GaveAtMost before.source after.source 536870913
-    × (IsServed o before after told ⊎ (IsUnread before after told ⊎ IsStarved before.sink after.sink told))
+    × (IsDocumentServed o before after told ⊎ (IsUnread before after told ⊎ IsStarved before.sink after.sink told))
 
 -- such a call ended with the exit code of the status that it told
 pub record HasEnded (wanted : Option Options) (before after : Devices) (code : ExitCode) : Type 0 where

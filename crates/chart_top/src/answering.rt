@@ -4,8 +4,8 @@ ghost use Rattle.run_timing.specs.Longest.{numbers_in};
 ghost use Rattle.run_timing.specs.Ticks.{AreWithinLimits};
 ghost use Rattle.dn_top.specs.Answers.{IsRefusedDocument, IsStop};
 ghost use Rattle.dn_top.specs.Documents.{IsNoRun, shape_told};
-ghost use Rattle.chart_top.specs.Answers.{IsAnswer, IsDrawn, IsPicture, IsReplayed, range_for, ticks_for};
-ghost use Rattle.chart_top.specs.Command.{IsWithinLimits};
+ghost use Rattle.chart_top.specs.Answers.{IsAnswer, IsDrawn, IsPicture, IsCompleteTrace, range_for, chart_ticks};
+ghost use Rattle.chart_top.specs.Command.{ViewOptionsInRange};
 
 use crate::options::Options;
 use dn_base::{Memory, Sequence, Shape, Status};
@@ -38,8 +38,8 @@ fn range_for(options: &Options) -> Range
 
 /// The ticks that the options give to each kind of event.
 fn ticks_for(options: &Options) -> Ticks
-    requires { IsWithinLimits options.now }
-    ensures value { result ≡ ticks_for options.now }
+    requires { ViewOptionsInRange options.now }
+    ensures value { result ≡ chart_ticks options.now }
     ensures limits { AreWithinLimits result }
 {
     Ticks::by_place(options.tick_core, options.tick_bank, options.tick_mail)
@@ -66,11 +66,11 @@ fn picture(
     first: Checked,
     second: Checked,
 ) -> Result<Output, Memory>
-    requires limits { IsWithinLimits options.now }
+    requires limits { ViewOptionsInRange options.now }
     requires told { IsTrace trace.now }
     requires same { second ≡ first }
     requires shape { shape ≡ shape_told first trace.now.shape }
-    requires replayed { IsReplayed first trace.now ending.now }
+    requires replayed { IsCompleteTrace first trace.now ending.now }
     ensures { IfOk result (IsPicture first trace.now options.now) }
 {
     let events = trace.events.as_slice();
@@ -94,7 +94,7 @@ fn draw_again(
     first: Checked,
     second: Checked,
 ) -> Result<Output, Stop>
-    requires limits { IsWithinLimits options.now }
+    requires limits { ViewOptionsInRange options.now }
     requires told { IsTrace trace.now }
     requires first { first ≡ checked }
     requires second { second ≡ checked }
@@ -125,7 +125,7 @@ fn draw_again(
 
 /// The picture of a document's run.
 fn drawn(alloc: Global, options: &Options, document: &[u8]) -> Result<Output, Stop>
-    requires { IsWithinLimits options.now }
+    requires { ViewOptionsInRange options.now }
     ensures ok { IfOk result (IsDrawn options.now document.now) }
     ensures stop { IfErr result (IsStop (IsRefusedDocument document.now)) }
 {
@@ -145,7 +145,7 @@ fn drawn(alloc: Global, options: &Options, document: &[u8]) -> Result<Output, St
 /// # Errors
 /// `Memory` where there is no room for the run, its chart or the text.
 pub fn answer(alloc: Global, options: &Options, document: &[u8]) -> Result<Output, Memory>
-    requires { IsWithinLimits options.now }
+    requires { ViewOptionsInRange options.now }
     ensures { IfOk result (IsAnswer options.now document.now) }
 {
     match drawn(alloc, options, document) {

@@ -1,7 +1,7 @@
 ghost use Rattle.std.specs.Prelude.{map, string_bytes};
 ghost use Rattle.dn_top.specs.ExitCodes.{IsExitCode};
 ghost use Rattle.dn_top.specs.Outside.{devices};
-ghost use Rattle.chart_top.specs.Command.{options_of};
+ghost use Rattle.chart_top.specs.Command.{chart_options_of};
 ghost use Rattle.chart_top.specs.Serving.{HasEnded};
 
 use crate::serving::chart_main;
@@ -19,7 +19,7 @@ fn ended<S: Source, K: Sink>(
     source: &mut S,
     sink: &mut K,
 ) -> ExitCode
-    ensures { HasEnded (options_of (map string_bytes words.now))
+    ensures { HasEnded (chart_options_of (map string_bytes words.now))
         (devices (S.content source.old) (S.faults source.old) (K.content sink.old) (K.faults sink.old))
         (devices (S.content source.new) (S.faults source.new) (K.content sink.new) (K.faults sink.new)) result }
 {

@@ -2,7 +2,7 @@ ghost use Rattle.std.specs.Prelude.{ℕ, List, Some, IfOk, map, string_bytes};
 ghost use Rattle.dn_top.specs.Outside.{device, devices};
 ghost use Rattle.chart_top.specs.declared.options.Options.{Options as OptionsOf};
 ghost use Rattle.chart_top.specs.Answers.{IsAnswer};
-ghost use Rattle.chart_top.specs.Command.{IsWithinLimits, options_of};
+ghost use Rattle.chart_top.specs.Command.{ViewOptionsInRange, chart_options_of};
 ghost use Rattle.chart_top.specs.Serving.{IsReplied, IsWritten, Serves, usage};
 
 use crate::answering::{Output, answer};
@@ -49,7 +49,7 @@ fn draw<S: Source, K: Sink>(
     source: &mut S,
     sink: &mut K,
 ) -> Status
-    requires { IsWithinLimits options.now }
+    requires { ViewOptionsInRange options.now }
     ensures { Serves (Some options.now)
         (devices (S.content source.old) (S.faults source.old) (K.content sink.old) (K.faults sink.old))
         (devices (S.content source.new) (S.faults source.new) (K.content sink.new) (K.faults sink.new)) result }
@@ -73,7 +73,7 @@ pub fn chart_main<S: Source, K: Sink>(
     source: &mut S,
     sink: &mut K,
 ) -> Status
-    ensures serves { Serves (options_of (map string_bytes words.now))
+    ensures serves { Serves (chart_options_of (map string_bytes words.now))
         (devices (S.content source.old) (S.faults source.old) (K.content sink.old) (K.faults sink.old))
         (devices (S.content source.new) (S.faults source.new) (K.content sink.new) (K.faults sink.new)) result }
 {

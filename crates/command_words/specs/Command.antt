@@ -74,7 +74,7 @@ unfoldable pub options_of : List Text → Option Options
 options_of words = where_taken (faults_in command words) (options_from (values_in command words))
 
 -- each number is within its limits
-pub record IsWithinLimits (o : Options) : Type 0 where
+pub record OptionsInRange (o : Options) : Type 0 where
   pub workers : IsInRange 1 16 o.workers
   pub banks : IsInRange 1 16 o.banks
   pub sets : IsInRange 1 256 o.sets

@@ -1,6 +1,6 @@
 ghost use Rattle.std.specs.Prelude.{◌≡◌, IfOk, IfErr, map, string_bytes, Some, None, option_map};
 ghost use Rattle.clap.specs.Words.{rows_of, found_of, first_of};
-ghost use Rattle.command_words.specs.Command.{mode_named, mode_in, options_from, options_of, IsWithinLimits};
+ghost use Rattle.command_words.specs.Command.{mode_named, mode_in, options_from, options_of, OptionsInRange};
 ghost use Rattle.command_words.specs.declared.words.WordsFault.TheVariants.{Usage};
 
 use crate::command::denovo;
@@ -48,7 +48,7 @@ fn mode(matches: &ArgMatches<'_>) -> Option<Mode>
 #[tactic(auto, unfolding(crate::specs::Command::options_from))]
 fn options(matches: &ArgMatches<'_>) -> Option<Options>
     ensures value { result ≡ options_from (rows_of (found_of matches.now)) }
-    ensures limits { (o : _) → result ≡ Some o → IsWithinLimits o }
+    ensures limits { (o : _) → result ≡ Some o → OptionsInRange o }
 {
     Some(Options {
         mode: mode(matches)?,
@@ -76,7 +76,7 @@ fn options(matches: &ArgMatches<'_>) -> Option<Options>
 #[tactic(auto, unfolding(crate::specs::Command::options_of), using(crate::proofs::Commands::is_free, crate::proofs::Commands::not_taken))]
 pub fn read_words(alloc: Global, words: &[String]) -> Result<Options, WordsFault>
     ensures taken { IfOk result (λ options. options_of (map string_bytes words.now) ≡ Some options) }
-    ensures limits { IfOk result IsWithinLimits }
+    ensures limits { IfOk result OptionsInRange }
     ensures usage { IfErr result (λ fault. fault ≡ Usage → options_of (map string_bytes words.now) ≡ None) }
 {
     match options(&matches_by(denovo(alloc)?, words)?) {

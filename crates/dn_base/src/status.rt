@@ -1,5 +1,5 @@
 ghost use Rattle.std.specs.Prelude.{◌≡◌};
-ghost use Rattle.dn_base.specs.Status.{code_of, status_of};
+ghost use Rattle.dn_base.specs.Status.{exit_code_of, status_of};
 
 /// How the program ended, as its exit code tells it.
 #[derive(Clone, Copy, Debug, PartialEq, Eq)]
@@ -37,7 +37,7 @@ pub enum Outcome {
 impl Status {
     /// The exit code, from 0 to 8.
     pub fn code(self) -> u8
-        ensures { result ≡ code_of self }
+        ensures { result ≡ exit_code_of self }
     {
         self as u8
     }

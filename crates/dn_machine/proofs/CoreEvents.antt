@@ -19,7 +19,7 @@ use Rattle.registration_protocol.specs.Node.{NodeParts, Setting}
 use Rattle.registration_protocol.specs.Fit.{Fits}
 use Rattle.registration_protocol.specs.OwnEvents.{may_instr, may_evict, may_arrive, instructed, evicted, arrives, own_event}
 use Rattle.machine_rules.specs.State.{State}
-use Rattle.machine_rules.specs.Next.{next, enabled, sends, core_does, bank_does, place_in, numbers_with, when_there, told, kind_in, seen_in, granted_in}
+use Rattle.machine_rules.specs.Next.{next, enabled, sends, core_does, bank_does, actor_index_in, numbers_with, when_there, observed, kind_in, seen_in, granted_in}
 use Rattle.dn_machine.proofs.ListItems.{get-set, get-put}
 use Rattle.dn_machine.proofs.OwnRow.{row-set}
 use Rattle.dn_machine.specs.Content.{in_row, IsWhole}
@@ -59,15 +59,15 @@ arrive-next S core n there = rw there refl
 
 -- what they tell
 pub instr-told : (S : State) (core : CoreId) (n : NodeParts) → slice_get S.nodes core.0 ≡ Some n
-    → told S (Instr core) ≡ record { kind = kind.TheVariants.Instr; seen = (instructed S.setting n).1.seen; granted = None }
+    → observed S (Instr core) ≡ record { kind = kind.TheVariants.Instr; seen = (instructed S.setting n).1.seen; granted = None }
 unfolding kind_in seen_in granted_in
 instr-told S core n there = rw there refl
 
-pub evict-told : (S : State) (core : CoreId) (word : WordId) → told S (Evict core word) ≡ record { kind = kind.TheVariants.Evict; seen = None; granted = None }
+pub evict-told : (S : State) (core : CoreId) (word : WordId) → observed S (Evict core word) ≡ record { kind = kind.TheVariants.Evict; seen = None; granted = None }
 unfolding kind_in seen_in granted_in
 evict-told S core word = refl
 
-pub arrive-told : (S : State) (core : CoreId) → told S (Arrive core) ≡ record { kind = kind.TheVariants.Arrive; seen = None; granted = None }
+pub arrive-told : (S : State) (core : CoreId) → observed S (Arrive core) ≡ record { kind = kind.TheVariants.Arrive; seen = None; granted = None }
 unfolding kind_in seen_in granted_in
 arrive-told S core = refl
 
@@ -123,6 +123,6 @@ pub core-sent : (S : State) (core : CoreId) (m : NodeParts) (after : List NodePa
 core-sent S core m after out sent is same = rw (is, same) refl
 
 pub bank-sent : (S : State) (bank : ℕ) (from : Actor) (b : BankParts) (after : List BankParts) (out sent : Option Outgoing) (place : ℕ) (mails : List Mail) (numbers : List ℕ)
-    → after ≡ slice_set S.banks bank b → out ≡ sent → place ≡ place_in S from → mails ≡ mails_with from (slice_index S.numbers place) out S.mails → numbers ≡ numbers_with place out S.numbers
+    → after ≡ slice_set S.banks bank b → out ≡ sent → place ≡ actor_index_in S from → mails ≡ mails_with from (slice_index S.numbers place) out S.mails → numbers ≡ numbers_with place out S.numbers
     → record S { banks = after; mails = mails; numbers = numbers } ≡ bank_does S bank b sent from
 bank-sent S bank from b after out sent place mails numbers is same at_place posted counted = rw (posted, counted, is, same, at_place) refl

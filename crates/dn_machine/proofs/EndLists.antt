@@ -7,7 +7,7 @@ use Rattle.region_table.specs.declared.declared.TaskDecl.{TaskDecl}
 use Rattle.region_table.specs.declared.declared.Phase.{Phase}
 use Rattle.rv_core.specs.declared.ending.TaskEnd.{TaskEnd}
 use Rattle.run_agreement.specs.Agreed.{listed}
-use Rattle.dn_machine.specs.Ends.{EndTable, place_of, end_in, noted_ends}
+use Rattle.dn_machine.specs.Ends.{EndTable, end_index, end_in, noted_ends}
 
 -- an item or none before the others
 cons-listed : {X : Type 0} (o : Option X) (xs : List X) → cons_option o xs ≡ listed o ++ xs
@@ -29,11 +29,11 @@ task-more f out ds i d all item low is =
 
 -- one more phase
 pub phase-more : (table : EndTable) (out : List TaskEnd) (number : ℕ) (ps : List Phase) (i : ℕ) (p : Phase) (all : List TaskEnd) → p ≡ get_or ps i p → i < length ps → out ++ noted_ends table number (drop i ps) ≡ all
-    → (out ++ filter_map (λ (d : TaskDecl). end_in (slice_get table (place_of number d.core.0))) p.tasks) ++ noted_ends table (number + 1) (drop (i + 1) ps) ≡ all
+    → (out ++ filter_map (λ (d : TaskDecl). end_in (slice_get table (end_index number d.core.0))) p.tasks) ++ noted_ends table (number + 1) (drop (i + 1) ps) ≡ all
 phase-more table out number ps i p all item low is =
     let left : noted_ends table number (drop i ps)
-    ≡ filter_map (λ (d : TaskDecl). end_in (slice_get table (place_of number d.core.0))) p.tasks ++ noted_ends table (number + 1) (drop (i + 1) ps) =
+    ≡ filter_map (λ (d : TaskDecl). end_in (slice_get table (end_index number d.core.0))) p.tasks ++ noted_ends table (number + 1) (drop (i + 1) ps) =
     ap (noted_ends table number) (drop-one ps i p low ∙ ap (λ (x : Phase). x ∷ drop (i + 1) ps) (sym item)) in
-    append_assoc out (filter_map (λ (d : TaskDecl). end_in (slice_get table (place_of number d.core.0))) p.tasks) (noted_ends table (number + 1) (drop (i + 1) ps))
+    append_assoc out (filter_map (λ (d : TaskDecl). end_in (slice_get table (end_index number d.core.0))) p.tasks) (noted_ends table (number + 1) (drop (i + 1) ps))
     ∙ ap (λ (xs : List TaskEnd). out ++ xs) (sym left)
     ∙ is

@@ -4,7 +4,7 @@ use Rattle.std.proofs.Math.Nat.{mul-le-mul}
 use Rattle.message_net.specs.declared.event.Event.{Event}
 use Rattle.phase_barrier.specs.Barrier.{all_arrived}
 use Rattle.machine_rules.specs.State.{State}
-use Rattle.machine_rules.specs.Next.{next, enabled, place_in}
+use Rattle.machine_rules.specs.Next.{next, enabled, actor_index_in}
 use Rattle.machine_rules.specs.Flight.{bit}
 use Rattle.machine_rules.specs.Sound.{rounds}
 use Rattle.machine_rules.proofs.MachineMails.{unused}
@@ -36,7 +36,7 @@ whole-kept S made kept few =
           record {
             room = omega (arith, kept.sound.mails, kept.most, letters, few);
             few = λ place. omega (arith, kept.sound.sent place, kept.most, letters, few);
-            fresh = λ from number least. unused (place_in S) S.numbers S.mails from number kept.sound.machine.numbered least;
+            fresh = λ from number least. unused (actor_index_in S) S.numbers S.mails from number kept.sound.machine.numbered least;
           };
     }
 

@@ -11,11 +11,11 @@ use Rattle.message_net.specs.declared.event.Event.{Event}
 use Rattle.message_net.specs.declared.event.EventKind.{EventKind}
 use Rattle.message_net.specs.Kind.{kind_place}
 use Rattle.grant_log.specs.declared.counts.Counts.{Counts}
-use Rattle.grant_log.specs.Counts.{same_kind, count_of, no_counts, added, AreCounts}
+use Rattle.grant_log.specs.Counts.{same_kind, kind_count, no_counts, added, AreCounts}
 use Rattle.grant_log.proofs.CountLemmas.{place_within, AreCounts-added}
-use Rattle.registration_protocol.specs.Node.{NodeParts, Setting, opened as opened_node}
+use Rattle.registration_protocol.specs.Node.{NodeParts, Setting, initial_node as opened_node}
 use Rattle.registration_protocol.specs.OwnEvents.{end_of}
-use Rattle.machine_rules.specs.State.{State, opened}
+use Rattle.machine_rules.specs.State.{State, initial_state}
 use Rattle.machine_rules.specs.Next.{next, granted_in, kind_in}
 use Rattle.machine_rules.specs.Runs.{after, grants_of, kinds_of, end_in_phase}
 use Rattle.machine_rules.proofs.OpenedFacts.{opened-node, opened-setting}
@@ -23,7 +23,7 @@ use Rattle.run_agreement.specs.Agreed.{listed}
 use Rattle.dn_machine.specs.declared.log.Happened.{Happened}
 use Rattle.dn_machine.specs.declared.log.Log.{Log}
 use Rattle.dn_machine.specs.Ends.{no_ends, AreLastEnds}
-use Rattle.dn_machine.specs.Log.{HasCome, noted, no_log, IsLogOf}
+use Rattle.dn_machine.specs.Log.{HasCome, with_event, no_log, IsLogOf}
 use Rattle.dn_machine.proofs.Noted.{AreInPlace, noted-ends}
 
 -- ---- what is read off
@@ -57,12 +57,12 @@ count-most p (k ∷ ks) = omega (arith, sum_by-cons (λ x. cond (p x) 1 0) k ks,
   one false = omega arith
 
 -- a count is no more than there are events
-pub count-within : (S : State) (events : List Event) (counts : Counts) (k : EventKind) → AreCounts (kinds_of S events) counts → count_of k counts ≤ length events
+pub count-within : (S : State) (events : List Event) (counts : Counts) (k : EventKind) → AreCounts (kinds_of S events) counts → kind_count k counts ≤ length events
 count-within S events counts k are = omega (arith, are k, count-most (same_kind k) (kinds_of S events), kinds-length S events)
 
 -- ---- one event more
 
-pub log-more : (S T : State) (events : List Event) (log : Log) (h : Happened) → length log.counts.kinds ≡ 17 → AreInPlace T → HasCome (after S events) T h → IsLogOf S events log → IsLogOf S (events ++ h.event ∷ []) (noted h log)
+pub log-more : (S T : State) (events : List Event) (log : Log) (h : Happened) → length log.counts.kinds ≡ 17 → AreInPlace T → HasCome (after S events) T h → IsLogOf S events log → IsLogOf S (events ++ h.event ∷ []) (with_event h log)
 log-more S T events log h all well come is =
     let place : kind_place h.told.kind < length log.counts.kinds = rw all (place_within h.told.kind) in
     let kind : h.told.kind ≡ kind_in (after S events) h.event = ap (λ t. t.kind) come.told in
@@ -89,13 +89,13 @@ new-shows C core = by_decl (declared C.program 0 core) where
   by_decl None = refl
   by_decl (Some d) = refl
 
-no-end : (C : Setting) (phase core : ℕ) → end_in_phase phase (slice_get (opened C).nodes core) ≡ None
-no-end C phase core = by_node (slice_get (opened C).nodes core) refl where
+no-end : (C : Setting) (phase core : ℕ) → end_in_phase phase (slice_get (initial_state C).nodes core) ≡ None
+no-end C phase core = by_node (slice_get (initial_state C).nodes core) refl where
   by_test : (t : Bool) → cond t (end_of (opened_node C core) (opened_node C core).task) None ≡ None
   by_test true = new-shows C core
   by_test false = refl
 
-  by_node : (o : Option NodeParts) → slice_get (opened C).nodes core ≡ o → end_in_phase phase o ≡ None
+  by_node : (o : Option NodeParts) → slice_get (initial_state C).nodes core ≡ o → end_in_phase phase o ≡ None
   by_node None there = refl
   by_node (Some n) there = rw ((opened-node C core n there).is) (by_test ((opened_node C core).phase == phase))
 
@@ -104,15 +104,15 @@ no-item x zero i low = absurd (omega (arith, low))
 no-item x (suc k) zero low = refl
 no-item x (suc k) (suc i) low = no-item x k i (omega (arith, low))
 
-pub log-opened : (C : Setting) → IsLogOf (opened C) [] (no_log (length C.program.phases))
+pub log-opened : (C : Setting) → IsLogOf (initial_state C) [] (no_log (length C.program.phases))
 log-opened C = record { events = refl; granted = refl; counted = λ k. none k; ends = ends } where
-  none : (k : EventKind) → count_of k no_counts ≡ 0
+  none : (k : EventKind) → kind_count k no_counts ≡ 0
   none k = grind arith
 
   none_yet : Option TaskEnd
   none_yet = None
 
-  ends : AreLastEnds (opened C) [] (no_ends (length C.program.phases))
+  ends : AreLastEnds (initial_state C) [] (no_ends (length C.program.phases))
   ends phase core low small =
       no-item none_yet (16 * length C.program.phases) (16 * phase + core) (omega (arith, small, low, ap (λ (x : Setting). length x.program.phases) (opened-setting C)))
       ∙ ap (λ (o : Option TaskEnd). Some o) (sym (no-end C phase core))

@@ -6,7 +6,7 @@ use Rattle.dn_base.specs.declared.ids.WordId.{WordId}
 use Rattle.message_net.specs.declared.event.Event.{Event}
 use Rattle.message_net.specs.declared.event.Event.TheVariants.{Instr, Evict, Arrive, Handle}
 use Rattle.message_net.specs.declared.message.Mail.{Mail}
-use Rattle.message_net.specs.Pool.{AreDistinct, taken, without}
+use Rattle.message_net.specs.Pool.{AreDistinct, removed, without_mail_at}
 use Rattle.message_net.proofs.PoolLemmas.{taken-of_id}
 use Rattle.registration_protocol.specs.Node.{NodeParts, Setting, need_now}
 use Rattle.registration_protocol.specs.OwnEvents.{may_instr, may_evict, may_arrive, me, wanted_by, victim_for, eviction_of, eviction, arrival, first_of, own_event}
@@ -58,11 +58,11 @@ known-core C nodes own e known (place, there) =
 -- ---- mails
 
 -- the mail at a place is the one that is taken by its id
-pub taken-there : (mails : List Mail) (place : ℕ) (m : Mail) (rest : List Mail) → AreDistinct mails → slice_get mails place ≡ Some m → rest ≡ without place mails
-    → ((taken m.id mails).0 ≡ Some m) × (rest ≡ (taken m.id mails).1)
+pub taken-there : (mails : List Mail) (place : ℕ) (m : Mail) (rest : List Mail) → AreDistinct mails → slice_get mails place ≡ Some m → rest ≡ without_mail_at place mails
+    → ((removed m.id mails).0 ≡ Some m) × (rest ≡ (removed m.id mails).1)
 taken-there mails place m rest distinct there left = let is = taken-of_id mails place m distinct there in (rw is refl, rw is left)
 
-pub handled-core : (S : State) (m : Mail) → (taken m.id S.mails).0 ≡ Some m → core_in S (Handle m.id) ≡ core_of (Some m.to)
+pub handled-core : (S : State) (m : Mail) → (removed m.id S.mails).0 ≡ Some m → core_in S (Handle m.id) ≡ core_of (Some m.to)
 unfolding actor_in
 handled-core S m took = rw took refl
 

@@ -13,7 +13,7 @@ use Rattle.message_net.specs.declared.event.Event.{Event}
 use Rattle.message_net.specs.declared.event.Event.TheVariants.{Instr, Evict, Arrive, Handle}
 use Rattle.message_net.specs.declared.message.Mail.{Mail}
 use Rattle.message_net.specs.declared.message.Message.{Message}
-use Rattle.message_net.specs.Pool.{taken}
+use Rattle.message_net.specs.Pool.{removed}
 use Rattle.registry_bank.specs.Bank.{BankParts}
 use Rattle.registration_protocol.specs.Node.{NodeParts}
 use Rattle.registration_protocol.specs.OwnEvents.{end_of, end_by, shown_by}
@@ -21,35 +21,35 @@ use Rattle.rv_core.specs.declared.task.TaskState.{TaskState}
 use Rattle.rv_core.specs.declared.ending.EndShown.{EndShown}
 use Rattle.machine_rules.specs.State.{State}
 use Rattle.machine_rules.specs.Next.{next, does_instr, does_evict, does_arrive, core_gets, bank_handles, gets, handles}
-use Rattle.machine_rules.specs.Runs.{after, later, end_in_phase, last_end, ends_from}
-use Rattle.dn_machine.specs.Actors.{goes_to, actor_in}
-use Rattle.dn_machine.specs.Ends.{EndTable, place_of, with_end, AreLastEnds, end_at, end_in, noted_ends}
+use Rattle.machine_rules.specs.Runs.{after, newer_or, end_in_phase, last_end, ends_from}
+use Rattle.dn_machine.specs.Actors.{receiver_of, actor_in}
+use Rattle.dn_machine.specs.Ends.{EndTable, end_index, with_end, AreLastEnds, end_at, end_in, noted_ends}
 use Rattle.dn_machine.specs.Log.{core_of, core_in, end_there}
 use Rattle.dn_machine.proofs.ListItems.{get-set, get-put}
 
 -- ---- how a task stood last, with one event more
 
-later-twice : {X : Type 0} (a b c : Option X) → later (later a b) c ≡ later a (later b c)
+later-twice : {X : Type 0} (a b c : Option X) → newer_or (newer_or a b) c ≡ newer_or a (newer_or b c)
 later-twice None b c = refl
 later-twice (Some x) b c = refl
 
-later-same : {X : Type 0} (a : Option X) → a ≡ later a a
+later-same : {X : Type 0} (a : Option X) → a ≡ newer_or a a
 later-same None = refl
 later-same (Some x) = refl
 
 pub last-more : (phase core : ℕ) (S : State) (events : List Event) (e : Event)
-    → last_end phase core S (events ++ e ∷ []) ≡ later (end_in_phase phase (slice_get (next (after S events) e).nodes core)) (last_end phase core S events)
+    → last_end phase core S (events ++ e ∷ []) ≡ newer_or (end_in_phase phase (slice_get (next (after S events) e).nodes core)) (last_end phase core S events)
 last-more phase core S [] e = refl
 last-more phase core S (x ∷ xs) e =
-    ap (λ (o : Option TaskEnd). later o (end_in_phase phase (slice_get S.nodes core))) (last-more phase core (next S x) xs e)
+    ap (λ (o : Option TaskEnd). newer_or o (end_in_phase phase (slice_get S.nodes core))) (last-more phase core (next S x) xs e)
     ∙ later-twice (end_in_phase phase (slice_get (next (after (next S x) xs) e).nodes core)) (last_end phase core (next S x) xs) (end_in_phase phase (slice_get S.nodes core))
 
 -- what the last state shows of a task is in it
 last-shown : (phase core : ℕ) (S : State) (events : List Event)
-    → last_end phase core S events ≡ later (end_in_phase phase (slice_get (after S events).nodes core)) (last_end phase core S events)
+    → last_end phase core S events ≡ newer_or (end_in_phase phase (slice_get (after S events).nodes core)) (last_end phase core S events)
 last-shown phase core S [] = later-same (end_in_phase phase (slice_get S.nodes core))
 last-shown phase core S (x ∷ xs) =
-    ap (λ (o : Option TaskEnd). later o (end_in_phase phase (slice_get S.nodes core))) (last-shown phase core (next S x) xs)
+    ap (λ (o : Option TaskEnd). newer_or o (end_in_phase phase (slice_get S.nodes core))) (last-shown phase core (next S x) xs)
     ∙ later-twice (end_in_phase phase (slice_get (after (next S x) xs).nodes core)) (last_end phase core (next S x) xs) (end_in_phase phase (slice_get S.nodes core))
 
 -- ---- an event changes one core's node at the most
@@ -94,7 +94,7 @@ gets-frame S (Core c) message core other = core-frame S c message core (slice_ge
 gets-frame S (Bank b) message core other = bank-frame S (Bank b) b.0 message core (slice_get S.banks b.0)
 gets-frame S Keeper message core other = refl
 
-handles-frame : (S : State) (took : Option Mail × List Mail) (core : ℕ) → NotOf (core_of (goes_to took.0)) core → slice_get (handles S took).nodes core ≡ slice_get S.nodes core
+handles-frame : (S : State) (took : Option Mail × List Mail) (core : ℕ) → NotOf (core_of (receiver_of took.0)) core → slice_get (handles S took).nodes core ≡ slice_get S.nodes core
 handles-frame S (None, rest) core other = refl
 handles-frame S (Some m, rest) core other = gets-frame (record S { mails = rest }) m.to m.message core other
 
@@ -103,7 +103,7 @@ unfolding next actor_in
 next-frame S (Instr c) core other = instr-frame S c core (slice_get S.nodes c.0) other
 next-frame S (Evict c word) core other = evict-frame S c word core (slice_get S.nodes c.0) other
 next-frame S (Arrive c) core other = arrive-frame S c core (slice_get S.nodes c.0) other
-next-frame S (Handle id) core other = handles-frame S (taken id S.mails) core other
+next-frame S (Handle id) core other = handles-frame S (removed id S.mails) core other
 
 -- ---- the table
 
@@ -130,33 +130,33 @@ none-in phase n none = by_test (n.phase == phase) where
   by_test false = refl
 
 -- the end of another core or phase is elsewhere
-pub elsewhere : (table : EndTable) (x : TaskEnd) (phase core : ℕ) → x.core.0 < 16 → core < 16 → ((x.phase.0 ≡ phase) → (x.core.0 ≡ core) → ⊥) → slice_get (with_end (Some x) table) (place_of phase core) ≡ slice_get table (place_of phase core)
+pub elsewhere : (table : EndTable) (x : TaskEnd) (phase core : ℕ) → x.core.0 < 16 → core < 16 → ((x.phase.0 ≡ phase) → (x.core.0 ≡ core) → ⊥) → slice_get (with_end (Some x) table) (end_index phase core) ≡ slice_get table (end_index phase core)
 elsewhere table x phase core low small other =
-    other-put table (place_of x.phase.0 x.core.0) (place_of phase core) (Some x) (by_test (place_of x.phase.0 x.core.0 == place_of phase core) refl)
+    other-put table (end_index x.phase.0 x.core.0) (end_index phase core) (Some x) (by_test (end_index x.phase.0 x.core.0 == end_index phase core) refl)
   where
-    by_test : (t : Bool) → (place_of x.phase.0 x.core.0 == place_of phase core) ≡ t → (place_of x.phase.0 x.core.0 == place_of phase core) ≡ false
+    by_test : (t : Bool) → (end_index x.phase.0 x.core.0 == end_index phase core) ≡ t → (end_index x.phase.0 x.core.0 == end_index phase core) ≡ false
     by_test false e = e
     by_test true e =
         let same : 16 * x.phase.0 + x.core.0 ≡ 16 * phase + core = grind (arith, nat_tests) in
         absurd (other (omega (arith, same, low, small)) (omega (arith, same, low, small)))
 
 -- the place of the end itself
-there : (table : EndTable) (x : TaskEnd) (phase core : ℕ) (old : Option TaskEnd) → x.phase.0 ≡ phase → x.core.0 ≡ core → slice_get table (place_of phase core) ≡ Some old
-    → slice_get (with_end (Some x) table) (place_of phase core) ≡ Some (Some x)
+there : (table : EndTable) (x : TaskEnd) (phase core : ℕ) (old : Option TaskEnd) → x.phase.0 ≡ phase → x.core.0 ≡ core → slice_get table (end_index phase core) ≡ Some old
+    → slice_get (with_end (Some x) table) (end_index phase core) ≡ Some (Some x)
 there table x phase core old in_phase of_core is =
-    let inside = slice_get_within table (place_of phase core) old is in
-    let same : place_of x.phase.0 x.core.0 ≡ place_of phase core = omega (arith, in_phase, of_core) in
-    rw same (get-put table (place_of phase core) (Some x) inside)
+    let inside = slice_get_within table (end_index phase core) old is in
+    let same : end_index x.phase.0 x.core.0 ≡ end_index phase core = omega (arith, in_phase, of_core) in
+    rw same (get-put table (end_index phase core) (Some x) inside)
 
 -- ---- one event more
 
 -- the end that is shown of a core by a node in its place
 node-noted : (S : State) (events : List Event) (table : EndTable) (phase core : ℕ) (n : NodeParts) → n.core ≡ core → core < 16
-    → slice_get table (place_of phase core) ≡ Some (last_end phase core S events)
-    → slice_get (with_end (end_of n n.task) table) (place_of phase core) ≡ Some (later (end_in_phase phase (Some n)) (last_end phase core S events))
+    → slice_get table (end_index phase core) ≡ Some (last_end phase core S events)
+    → slice_get (with_end (end_of n n.task) table) (end_index phase core) ≡ Some (newer_or (end_in_phase phase (Some n)) (last_end phase core S events))
 node-noted S events table phase core n place small is = by_end (end_of n n.task) refl where
   by_test : (x : TaskEnd) (t : Bool) → end_of n n.task ≡ Some x → IsEndOf n x → (n.phase == phase) ≡ t
-      → slice_get (with_end (Some x) table) (place_of phase core) ≡ Some (later (cond t (end_of n n.task) None) (last_end phase core S events))
+      → slice_get (with_end (Some x) table) (end_index phase core) ≡ Some (newer_or (cond t (end_of n n.task) None) (last_end phase core S events))
   by_test x true e of test =
       let here : x.phase.0 ≡ phase = grind (arith, nat_tests, of.phase, test) in
       rw e (there table x phase core (last_end phase core S events) here (of.core ∙ place) is)
@@ -164,7 +164,7 @@ node-noted S events table phase core n place small is = by_end (end_of n n.task)
       elsewhere table x phase core (omega (arith, of.core, place, small)) small (λ same _. absurd (let hit : (n.phase == phase) ≡ true = grind (arith, nat_tests, of.phase, same) in cc)) ∙ is
 
   by_end : (o : Option TaskEnd) → end_of n n.task ≡ o
-      → slice_get (with_end o table) (place_of phase core) ≡ Some (later (end_in_phase phase (Some n)) (last_end phase core S events))
+      → slice_get (with_end o table) (end_index phase core) ≡ Some (newer_or (end_in_phase phase (Some n)) (last_end phase core S events))
   by_end None e = rw (none-in phase n e) is
   by_end (Some x) e = by_test x (n.phase == phase) e (end-of n x e) refl
 
@@ -175,27 +175,27 @@ pub record AreInPlace (S : State) : Type 0 where
 
 -- of a core that the event doesn't change nothing new is noted
 other-noted : (S : State) (events : List Event) (table : EndTable) (e : Event) (phase core : ℕ) → slice_get (next (after S events) e).nodes core ≡ slice_get (after S events).nodes core
-    → slice_get table (place_of phase core) ≡ Some (last_end phase core S events)
-    → slice_get table (place_of phase core) ≡ Some (later (end_in_phase phase (slice_get (next (after S events) e).nodes core)) (last_end phase core S events))
+    → slice_get table (end_index phase core) ≡ Some (last_end phase core S events)
+    → slice_get table (end_index phase core) ≡ Some (newer_or (end_in_phase phase (slice_get (next (after S events) e).nodes core)) (last_end phase core S events))
 other-noted S events table e phase core frame is = rw frame (is ∙ ap (λ (o : Option TaskEnd). Some o) (last-shown phase core S events))
 
 core-noted : (S : State) (events : List Event) (table : EndTable) (e : Event) (c : CoreId) (phase core : ℕ) → AreInPlace (next (after S events) e) → core_in (after S events) e ≡ Some c → core < 16
-    → slice_get table (place_of phase core) ≡ Some (last_end phase core S events)
-    → slice_get (with_end (end_at (slice_get (next (after S events) e).nodes c.0)) table) (place_of phase core)
-    ≡ Some (later (end_in_phase phase (slice_get (next (after S events) e).nodes core)) (last_end phase core S events))
+    → slice_get table (end_index phase core) ≡ Some (last_end phase core S events)
+    → slice_get (with_end (end_at (slice_get (next (after S events) e).nodes c.0)) table) (end_index phase core)
+    ≡ Some (newer_or (end_in_phase phase (slice_get (next (after S events) e).nodes core)) (last_end phase core S events))
 core-noted S events table e c phase core well own small is = by_core (c.0 == core) refl where
   T : State
   T = next (after S events) e
 
   same_node : c.0 ≡ core → (o : Option NodeParts) → slice_get T.nodes core ≡ o
-      → slice_get (with_end (end_at o) table) (place_of phase core) ≡ Some (later (end_in_phase phase o) (last_end phase core S events))
+      → slice_get (with_end (end_at o) table) (end_index phase core) ≡ Some (newer_or (end_in_phase phase o) (last_end phase core S events))
   same_node here None e = is
   same_node here (Some n) e = node-noted S events table phase core n (well.place core n e) small is
 
-  other_end : NotOf (Some c) core → (o : Option NodeParts) → slice_get T.nodes c.0 ≡ o → slice_get (with_end (end_at o) table) (place_of phase core) ≡ slice_get table (place_of phase core)
+  other_end : NotOf (Some c) core → (o : Option NodeParts) → slice_get T.nodes c.0 ≡ o → slice_get (with_end (end_at o) table) (end_index phase core) ≡ slice_get table (end_index phase core)
   other_end other None e = refl
   other_end other (Some n) e = by_end (end_of n n.task) refl where
-    by_end : (x : Option TaskEnd) → end_of n n.task ≡ x → slice_get (with_end x table) (place_of phase core) ≡ slice_get table (place_of phase core)
+    by_end : (x : Option TaskEnd) → end_of n n.task ≡ x → slice_get (with_end x table) (end_index phase core) ≡ slice_get table (end_index phase core)
     by_end None shown = refl
     by_end (Some x) shown =
         let of = end-of n x shown in
@@ -205,7 +205,7 @@ core-noted S events table e c phase core well own small is = by_core (c.0 == cor
         (λ _ same. other (ap (λ (k : ℕ). let y : CoreId = record { 0 = k } in Some y) (sym place ∙ sym of.core ∙ same)))
 
   by_core : (t : Bool) → (c.0 == core) ≡ t
-      → slice_get (with_end (end_at (slice_get T.nodes c.0)) table) (place_of phase core) ≡ Some (later (end_in_phase phase (slice_get T.nodes core)) (last_end phase core S events))
+      → slice_get (with_end (end_at (slice_get T.nodes c.0)) table) (end_index phase core) ≡ Some (newer_or (end_in_phase phase (slice_get T.nodes core)) (last_end phase core S events))
   by_core true test =
       let same : c.0 ≡ core = grind (arith, nat_tests, test) in
       rw same (same_node same (slice_get T.nodes core) refl)
@@ -217,12 +217,12 @@ core-noted S events table e c phase core well own small is = by_core (c.0 == cor
 pub noted-ends : (S : State) (events : List Event) (table : EndTable) (e : Event) → AreInPlace (next (after S events) e) → AreLastEnds S events table
     → AreLastEnds S (events ++ e ∷ []) (with_end (end_there (next (after S events) e) (core_in (after S events) e)) table)
 noted-ends S events table e well are phase core low small = by_core (core_in (after S events) e) refl ∙ sym (ap (λ (o : Option TaskEnd). Some o) (last-more phase core S events e)) where
-  is : slice_get table (place_of phase core) ≡ Some (last_end phase core S events)
+  is : slice_get table (end_index phase core) ≡ Some (last_end phase core S events)
   is = are phase core low small
 
   by_core : (o : Option CoreId) → core_in (after S events) e ≡ o
-      → slice_get (with_end (end_there (next (after S events) e) o) table) (place_of phase core)
-      ≡ Some (later (end_in_phase phase (slice_get (next (after S events) e).nodes core)) (last_end phase core S events))
+      → slice_get (with_end (end_there (next (after S events) e) o) table) (end_index phase core)
+      ≡ Some (newer_or (end_in_phase phase (slice_get (next (after S events) e).nodes core)) (last_end phase core S events))
   by_core None own = other-noted S events table e phase core (next-frame (after S events) e core (λ eq. none-some (record { 0 = core }) (sym own ∙ eq))) is
   by_core (Some c) own = core-noted S events table e c phase core well own small is
 
@@ -234,7 +234,7 @@ pub listed : (S : State) (events : List Event) (table : EndTable) (phase : ℕ) 
     → noted_ends table phase ps ≡ ends_from phase ps S events
 listed S events table phase [] are inside few = refl
 listed S events table phase (p ∷ ps) are inside few =
-    both (filter_map (λ (d : TaskDecl). end_in (slice_get table (place_of phase d.core.0))) p.tasks)
+    both (filter_map (λ (d : TaskDecl). end_in (slice_get table (end_index phase d.core.0))) p.tasks)
     (filter_map (λ (d : TaskDecl). last_end phase d.core.0 S events) p.tasks)
     (noted_ends table (phase + 1) ps)
     (ends_from (phase + 1) ps S events)
@@ -248,8 +248,8 @@ listed S events table phase (p ∷ ps) are inside few =
     low = omega (arith, inside)
 
     tasks : (ds : List TaskDecl) → ((d : TaskDecl) (k : ℕ) → slice_get ds k ≡ Some d → d.core.0 < 16)
-        → filter_map (λ (d : TaskDecl). end_in (slice_get table (place_of phase d.core.0))) ds ≡ filter_map (λ (d : TaskDecl). last_end phase d.core.0 S events) ds
+        → filter_map (λ (d : TaskDecl). end_in (slice_get table (end_index phase d.core.0))) ds ≡ filter_map (λ (d : TaskDecl). last_end phase d.core.0 S events) ds
     tasks [] small = refl
     tasks (d ∷ ds) small =
-        ap (λ (o : Option (Option TaskEnd)). cons_option (end_in o) (filter_map (λ (x : TaskDecl). end_in (slice_get table (place_of phase x.core.0))) ds)) (are phase d.core.0 low (small d 0 refl))
+        ap (λ (o : Option (Option TaskEnd)). cons_option (end_in o) (filter_map (λ (x : TaskDecl). end_in (slice_get table (end_index phase x.core.0))) ds)) (are phase d.core.0 low (small d 0 refl))
         ∙ ap (cons_option (last_end phase d.core.0 S events)) (tasks ds (λ x k there. small x (suc k) there))

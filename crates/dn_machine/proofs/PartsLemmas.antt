@@ -5,8 +5,8 @@ use Rattle.message_net.specs.declared.event.Event.{Event}
 use Rattle.message_net.specs.declared.message.Mail.{Mail}
 use Rattle.message_net.proofs.Orders.{holds-permuted, AreDistinct-permuted}
 use Rattle.registration_protocol.specs.Node.{Setting}
-use Rattle.machine_rules.specs.State.{State, opened}
-use Rattle.machine_rules.specs.Next.{next, place_in}
+use Rattle.machine_rules.specs.State.{State, initial_state}
+use Rattle.machine_rules.specs.Next.{next, actor_index_in}
 use Rattle.machine_rules.specs.Sound.{IsMachine, IsSound}
 use Rattle.machine_rules.specs.Runs.{after, IsRun}
 use Rattle.machine_rules.proofs.RunsKept.{same-setting}
@@ -34,7 +34,7 @@ machine-reordered S mails moved good =
       numbered = numbered;
     }
   where
-    numbered : (place : ℕ) (m : Mail) → slice_get mails place ≡ Some m → m.id.number < slice_index S.numbers (place_in S m.id.sender)
+    numbered : (place : ℕ) (m : Mail) → slice_get mails place ≡ Some m → m.id.number < slice_index S.numbers (actor_index_in S m.id.sender)
     numbered place m here =
         let before = holds-permuted mails S.mails m place (IsPermutation-sym S.mails mails moved) here in
         good.numbered before.0 m before.1
@@ -63,8 +63,8 @@ none-reordered S T none same = by_mails T.mails refl where
       let empty : length S.mails ≡ 0 = ap length none in
       absurd (omega (arith, long, some, empty))
 
-opened-none : (C : Setting) → (opened C).mails ≡ []
-unfolding opened
+opened-none : (C : Setting) → (initial_state C).mails ≡ []
+unfolding initial_state
 opened-none C = refl
 
 pub kept-reordered : (S T : State) (made : ℕ) → IsKept S made → IsReordered S T → IsKept T made
@@ -76,10 +76,10 @@ kept-reordered S T made kept same =
       first = first;
     }
   where
-    first : made ≡ 0 → T ≡ opened T.setting
+    first : made ≡ 0 → T ≡ initial_state T.setting
     first none =
         let before = kept.first none in
-        none-reordered S T (ap (λ (U : State). U.mails) before ∙ opened-none S.setting) same ∙ before ∙ ap (λ (U : State). opened U.setting) (sym same.rest)
+        none-reordered S T (ap (λ (U : State). U.mails) before ∙ opened-none S.setting) same ∙ before ∙ ap (λ (U : State). initial_state U.setting) (sym same.rest)
 
 pub kept-run : (S : State) (made : ℕ) (events : List Event) → IsKept S made → IsRun S events → IsKept (after S events) (made + length events)
 kept-run S made [] kept run = subst (IsKept S) (none made) kept where

@@ -11,7 +11,7 @@ use Rattle.rand_pcg.specs.Lcg.{Lcg}
 use Rattle.message_net.specs.declared.event.Event.{Event}
 use Rattle.grant_log.proofs.CountLemmas.{length-added}
 use Rattle.registration_protocol.specs.Node.{Setting}
-use Rattle.machine_rules.specs.State.{State, opened}
+use Rattle.machine_rules.specs.State.{State, initial_state}
 use Rattle.machine_rules.specs.Next.{next}
 use Rattle.machine_rules.specs.Runs.{after, IsRun, IsCompleteRun, memory_after, begun_in, ending_of_run}
 use Rattle.machine_rules.specs.Memory.{memory_of}
@@ -30,9 +30,9 @@ use Rattle.dn_machine.specs.declared.log.Happened.{Happened}
 use Rattle.dn_machine.specs.declared.log.Log.{Log}
 use Rattle.dn_machine.specs.declared.record.RunRecord.{RunRecord}
 use Rattle.dn_machine.specs.Ends.{EndTable, AreLastEnds, noted_ending}
-use Rattle.dn_machine.specs.Run.{IsRecord, OfEachFront, IsTrueAfter, AgreesAfter, IsRunOf, IsSeedsRunOf}
+use Rattle.dn_machine.specs.Run.{IsRecord, OfEachFront, IsTrueAfter, AgreesAfter, IsMachinesRun, IsSeedsRunOf}
 use Rattle.dn_machine.specs.Kept.{IsKept}
-use Rattle.dn_machine.specs.Log.{HasCome, no_log, noted, IsLogOf, HasRun}
+use Rattle.dn_machine.specs.Log.{HasCome, no_log, with_event, IsLogOf, HasRun}
 use Rattle.dn_machine.specs.Pick.{pick}
 use Rattle.dn_machine.specs.Schedule.{generator_of, word_of, after_word, after_words, ArePicked}
 use Rattle.dn_machine.proofs.KeptLemmas.{kept-next}
@@ -58,36 +58,36 @@ picked-run S made g (e ∷ es) sound are =
 
 -- the events so far of a run by a seed are those that its words have picked, they are noted, and the generator is behind these words
 pub record IsOnTheWay (C : Setting) (seed : ℕ) (g : Lcg) (T : State) (log : Log) : Type 0 where
-  pub picked : ArePicked (opened C) (generator_of seed) log.events
+  pub picked : ArePicked (initial_state C) (generator_of seed) log.events
   pub words : g ≡ after_words log.events (generator_of seed)
-  pub leads : T ≡ after (opened C) log.events
+  pub leads : T ≡ after (initial_state C) log.events
   pub kept : IsKept T (length log.events)
   pub all : length log.counts.kinds ≡ 17
-  pub logged : IsLogOf (opened C) log.events log
+  pub logged : IsLogOf (initial_state C) log.events log
 
-pub begins : (C : Setting) (seed : ℕ) (T : State) → T ≡ opened C → IsKept T 0 → IsOnTheWay C seed (generator_of seed) T (no_log (length C.program.phases))
+pub begins : (C : Setting) (seed : ℕ) (T : State) → T ≡ initial_state C → IsKept T 0 → IsOnTheWay C seed (generator_of seed) T (no_log (length C.program.phases))
 begins C seed T opens kept = record { picked = tt; words = refl; leads = opens; kept = kept; all = refl; logged = log-opened C }
 
 pub goes-on : (C : Setting) (seed : ℕ) (g : Lcg) (S T : State) (log : Log) (h : Happened) → IsOnTheWay C seed g S log → pick S (word_of g) ≡ Some h.event → HasCome S T h
-    → T.setting ≡ S.setting → IsOnTheWay C seed (after_word g) T (noted h log)
+    → T.setting ≡ S.setting → IsOnTheWay C seed (after_word g) T (with_event h log)
 goes-on C seed g S T log h way pick_is come setting =
     let may = pick-comes S (word_of g) h.event way.kept.sound.machine pick_is in
     let kept : IsKept T (length log.events + 1) = kept-next S T (length log.events) h.event way.kept may setting come.next in
-    let there : pick (after (opened C) log.events) (word_of (after_words log.events (generator_of seed))) ≡ Some h.event = rw (← way.leads, ← way.words) pick_is in
+    let there : pick (after (initial_state C) log.events) (word_of (after_words log.events (generator_of seed))) ≡ Some h.event = rw (← way.leads, ← way.words) pick_is in
     let one_more : length (log.events ++ h.event ∷ []) ≡ length log.events + 1 = omega (arith, length-append log.events (h.event ∷ [])) in
     record {
-      picked = picked-more (opened C) (generator_of seed) log.events h.event way.picked there;
+      picked = picked-more (initial_state C) (generator_of seed) log.events h.event way.picked there;
       words = ap after_word way.words ∙ sym (after_words-more (generator_of seed) log.events h.event);
-      leads = come.next ∙ ap (λ (x : State). next x h.event) way.leads ∙ sym (after-more (opened C) log.events h.event);
+      leads = come.next ∙ ap (λ (x : State). next x h.event) way.leads ∙ sym (after-more (initial_state C) log.events h.event);
       kept = subst (IsKept T) (sym one_more) kept;
       all = length-added h.told.kind log.counts ∙ way.all;
-      logged = log-more (opened C) T log.events log h way.all (in-place T (length log.events + 1) kept) (rw (← way.leads) come) way.logged;
+      logged = log-more (initial_state C) T log.events log h way.all (in-place T (length log.events + 1) kept) (rw (← way.leads) come) way.logged;
     }
 
-pub ends : (C : Setting) (seed : ℕ) (g : Lcg) (T : State) (log : Log) → IsOnTheWay C seed g T log → pick T (word_of g) ≡ None → HasRun (opened C) seed T log
+pub ends : (C : Setting) (seed : ℕ) (g : Lcg) (T : State) (log : Log) → IsOnTheWay C seed g T log → pick T (word_of g) ≡ None → HasRun (initial_state C) seed T log
 ends C seed g T log way none =
-    let there : pick (after (opened C) log.events) (word_of (after_words log.events (generator_of seed))) ≡ None = rw (← way.leads, ← way.words) none in
-    record { scheduled = picked-all (opened C) (generator_of seed) log.events way.picked there; leads = way.leads; machine = way.kept.sound.machine; logged = way.logged }
+    let there : pick (after (initial_state C) log.events) (word_of (after_words log.events (generator_of seed))) ≡ None = rw (← way.leads, ← way.words) none in
+    record { scheduled = picked-all (initial_state C) (generator_of seed) log.events way.picked there; leads = way.leads; machine = way.kept.sound.machine; logged = way.logged }
 
 -- ---- the record
 
@@ -106,27 +106,27 @@ take-item (y ∷ xs) (suc k) zero x there = there
 take-item (y ∷ xs) (suc k) (suc i) x there = take-item xs k i x there
 
 -- the ending that the noted ends and the last state tell is that of the run
-pub ending-true : (C : Setting) (T : State) (events : List Event) (table : EndTable) → IsProgram C.program → T ≡ after (opened C) events → AreLastEnds (opened C) events table
-    → noted_ending table T ≡ ending_of_run (opened C) events
+pub ending-true : (C : Setting) (T : State) (events : List Event) (table : EndTable) → IsProgram C.program → T ≡ after (initial_state C) events → AreLastEnds (initial_state C) events table
+    → noted_ending table T ≡ ending_of_run (initial_state C) events
 ending-true C T events table program leads are =
     rw leads
-    (ap (λ (ends : List TaskEnd). ending_of ends (memory_of (after (opened C) events)))
-    (listed (opened C) events table 0 (begun_in (after (opened C) events)) are inside few))
+    (ap (λ (ends : List TaskEnd). ending_of ends (memory_of (after (initial_state C) events)))
+    (listed (initial_state C) events table 0 (begun_in (after (initial_state C) events)) are inside few))
   where
-    setting : (after (opened C) events).setting ≡ C
-    setting = run-setting (opened C) events ∙ opened-setting C
+    setting : (after (initial_state C) events).setting ≡ C
+    setting = run-setting (initial_state C) events ∙ opened-setting C
 
-    phases : (after (opened C) events).setting.program.phases ≡ C.program.phases
+    phases : (after (initial_state C) events).setting.program.phases ≡ C.program.phases
     phases = ap (λ (x : Setting). x.program.phases) setting
 
-    inside : 0 + length (begun_in (after (opened C) events)) ≤ length (opened C).setting.program.phases
+    inside : 0 + length (begun_in (after (initial_state C) events)) ≤ length (initial_state C).setting.program.phases
     inside =
-        let most = length-take ((after (opened C) events).keeper.phase + 1) (after (opened C) events).setting.program.phases in
+        let most = length-take ((after (initial_state C) events).keeper.phase + 1) (after (initial_state C) events).setting.program.phases in
         omega (arith, most, ap (λ (ps : List Phase). length ps) phases, ap (λ (x : Setting). length x.program.phases) (opened-setting C))
 
-    few : (i : ℕ) (p : Phase) (d : TaskDecl) (k : ℕ) → slice_get (begun_in (after (opened C) events)) i ≡ Some p → slice_get p.tasks k ≡ Some d → d.core.0 < 16
+    few : (i : ℕ) (p : Phase) (d : TaskDecl) (k : ℕ) → slice_get (begun_in (after (initial_state C) events)) i ≡ Some p → slice_get p.tasks k ≡ Some d → d.core.0 < 16
     few i p d k there task =
-        let at' : slice_get C.program.phases i ≡ Some p = rw (← phases) (take-item (after (opened C) events).setting.program.phases ((after (opened C) events).keeper.phase + 1) i p there) in
+        let at' : slice_get C.program.phases i ≡ Some p = rw (← phases) (take-item (after (initial_state C) events).setting.program.phases ((after (initial_state C) events).keeper.phase + 1) i p there) in
         let well = all-item (IsPhase (length C.program.memory) (length C.program.locks)) C.program.phases i p program.each_phase at' in
         (all-item (IsTask (length C.program.memory) (length C.program.locks)) p.tasks k d well.tasks task).core
 
@@ -134,8 +134,8 @@ ending-true C T events table program leads are =
 abbrev pub recorded : Log → Ending → RunRecord
 recorded log ending = record { events = log.events; grants = log.grants; counts = log.counts; ending = ending }
 
-pub record-true : (C : Setting) (seed : ℕ) (T : State) (log : Log) (ending : Ending) → IsProgram C.program → HasRun (opened C) seed T log → ending ≡ noted_ending log.ends T
-    → IsRecord (opened C) (recorded log ending)
+pub record-true : (C : Setting) (seed : ℕ) (T : State) (log : Log) (ending : Ending) → IsProgram C.program → HasRun (initial_state C) seed T log → ending ≡ noted_ending log.ends T
+    → IsRecord (initial_state C) (recorded log ending)
 record-true C seed T log ending program run is =
     record {
       granted = run.logged.granted;
@@ -149,18 +149,18 @@ front-run : (S : State) (front rest : List Event) → IsRun S (front ++ rest) �
 front-run S [] rest run = tt
 front-run S (e ∷ es) rest run = (run.0, front-run (next S e) es rest run.1)
 
-pub fronts-true : (C : Setting) (events : List Event) → IsReady C → IsRun (opened C) events → OfEachFront (IsTrueAfter (opened C)) events
+pub fronts-true : (C : Setting) (events : List Event) → IsReady C → IsRun (initial_state C) events → OfEachFront (IsTrueAfter (initial_state C)) events
 fronts-true C events ready run front rest parts =
-    let shorter : IsRun (opened C) front = front-run (opened C) front rest (subst (IsRun (opened C)) parts run) in
-    let first : (opened C).setting.program.memory ≡ C.program.memory = ap (λ (x : Setting). x.program.memory) (opened-setting C) in
+    let shorter : IsRun (initial_state C) front = front-run (initial_state C) front rest (subst (IsRun (initial_state C)) parts run) in
+    let first : (initial_state C).setting.program.memory ≡ C.program.memory = ap (λ (x : Setting). x.program.memory) (opened-setting C) in
     record {
       coherent = run-coherent C front ready shorter;
-      words = run-shows C front ready shorter ∙ ap (λ (m : List ℕ). memory_after m (opened C) front) (sym first);
-      reads = λ e seen may is. run-loads C front e seen ready shorter may is ∙ ap (λ (m : List ℕ). slice_index (memory_after m (opened C) front) seen.word.0) (sym first);
+      words = run-shows C front ready shorter ∙ ap (λ (m : List ℕ). memory_after m (initial_state C) front) (sym first);
+      reads = λ e seen may is. run-loads C front e seen ready shorter may is ∙ ap (λ (m : List ℕ). slice_index (memory_after m (initial_state C) front) seen.word.0) (sym first);
     }
 
-pub fronts-agree : (C : Setting) (events : List Event) → IsReady C → IsRun (opened C) events → OfEachFront (AgreesAfter C) events
-fronts-agree C events ready run front rest parts = prefix-agrees C front ready (front-run (opened C) front rest (subst (IsRun (opened C)) parts run))
+pub fronts-agree : (C : Setting) (events : List Event) → IsReady C → IsRun (initial_state C) events → OfEachFront (AgreesAfter C) events
+fronts-agree C events ready run front rest parts = prefix-agrees C front ready (front-run (initial_state C) front rest (subst (IsRun (initial_state C)) parts run))
 
 -- a sound state is of a ready setting
 pub ready-of : (S : State) (made : ℕ) → IsSound S made → IsReady S.setting
@@ -172,10 +172,10 @@ ready-of S made sound = record { context = sound.machine.context; program = soun
 pub way-few : (C : Setting) (seed : ℕ) (g : Lcg) (T : State) (log : Log) → IsReady C → IsOnTheWay C seed g T log → length log.events ≤ 25169664
 way-few C seed g T log ready way =
     run-ends C log.events ready
-    (picked-run (opened C) 0 (generator_of seed) log.events (opened-sound C ready.context ready.program ready.checked) way.picked)
+    (picked-run (initial_state C) 0 (generator_of seed) log.events (opened-sound C ready.context ready.program ready.checked) way.picked)
 
 -- all that is promised of a complete run and its record
-pub complete-run-of : (C : Setting) (r : RunRecord) → IsReady C → IsCompleteRun (opened C) r.events → IsRecord (opened C) r → IsRunOf (opened C) r
+pub complete-run-of : (C : Setting) (r : RunRecord) → IsReady C → IsCompleteRun (initial_state C) r.events → IsRecord (initial_state C) r → IsMachinesRun (initial_state C) r
 complete-run-of C r ready complete is =
     let same = opened-setting C in
     record {
@@ -187,14 +187,14 @@ complete-run-of C r ready complete is =
       flat = subst (λ (x : Setting). HasFlatEnd x r.events) (sym same) (end-agrees C r.events ready complete);
       few =
           record {
-            few = subst (λ (x : Setting). length r.events ≤ 12 * (retired_in (opened C) r.events + started_in (opened C) r.events) + 3 * (x.shape.cores * length x.program.phases)) (sym same) (run-few C r.events ready complete.run);
+            few = subst (λ (x : Setting). length r.events ≤ 12 * (retired_in (initial_state C) r.events + started_in (initial_state C) r.events) + 3 * (x.shape.cores * length x.program.phases)) (sym same) (run-few C r.events ready complete.run);
             most = run-ends C r.events ready complete.run;
           };
     }
 
 -- all that is promised of the record of the run of a seed
-pub run-of : (C : Setting) (seed : ℕ) (T : State) (log : Log) (ending : Ending) → IsReady C → HasRun (opened C) seed T log → ending ≡ noted_ending log.ends T
-    → IsSeedsRunOf (opened C) seed (recorded log ending)
+pub run-of : (C : Setting) (seed : ℕ) (T : State) (log : Log) (ending : Ending) → IsReady C → HasRun (initial_state C) seed T log → ending ≡ noted_ending log.ends T
+    → IsSeedsRunOf (initial_state C) seed (recorded log ending)
 run-of C seed T log ending ready run is =
-    let complete = picked-complete (opened C) 0 (generator_of seed) log.events (opened-sound C ready.context ready.program ready.checked) run.scheduled in
+    let complete = picked-complete (initial_state C) 0 (generator_of seed) log.events (opened-sound C ready.context ready.program ready.checked) run.scheduled in
     record { scheduled = run.scheduled; run = complete-run-of C (recorded log ending) ready complete (record-true C seed T log ending ready.program run is) }

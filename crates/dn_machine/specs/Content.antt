@@ -7,7 +7,7 @@ use Rattle.registration_protocol.specs.Node.{NodeParts, Setting}
 use Rattle.registration_protocol.specs.Fit.{IsContext, Fits}
 use Rattle.registration_protocol.specs.OwnEvents.{own_event}
 use Rattle.machine_rules.specs.State.{State}
-use Rattle.machine_rules.specs.Next.{place_in}
+use Rattle.machine_rules.specs.Next.{actor_index_in}
 use Rattle.dn_machine.specs.declared.content.Content.{Content}
 
 -- the state of a machine of a setting with this content
@@ -28,7 +28,7 @@ KnowsOwn C c = c.own ≡ in_row (map (own_event C) c.nodes.items)
 pub record MaySend (S : State) : Type 0 where
   pub room : length S.mails + S.setting.shape.cores < 4294967295
   pub few : (place : ℕ) → slice_index S.numbers place + S.setting.shape.cores < 4294967295
-  pub fresh : (from : Actor) (number : ℕ) → slice_index S.numbers (place_in S from) ≤ number → count_of (record { sender = from; number = number }) S.mails ≡ 0
+  pub fresh : (from : Actor) (number : ℕ) → slice_index S.numbers (actor_index_in S from) ≤ number → count_of (record { sender = from; number = number }) S.mails ≡ 0
 
 -- each node fits the setting, and there are as many numbers as actors
 pub record IsWhole (S : State) : Type 0 where

@@ -26,18 +26,18 @@ EndTable = List (Option TaskEnd)
 abbrev pub no_ends : ℕ → EndTable
 no_ends phases = replicate (16 * phases) None
 
-abbrev pub place_of : ℕ → ℕ → ℕ
-place_of phase core = 16 * phase + core
+abbrev pub end_index : ℕ → ℕ → ℕ
+end_index phase core = 16 * phase + core
 
 -- an end is noted in its place
 abbrev pub with_end : Option TaskEnd → EndTable → EndTable
 with_end None table = table
-with_end (Some e) table = slice_set table (place_of e.phase.0 e.core.0) (Some e)
+with_end (Some e) table = slice_set table (end_index e.phase.0 e.core.0) (Some e)
 
 -- the table has for each task how it stood when its node last had it
 abbrev pub AreLastEnds : State → List Event → EndTable → Type 0
 AreLastEnds S events table =
-    (phase core : ℕ) → phase < length S.setting.program.phases → core < 16 → slice_get table (place_of phase core) ≡ Some (last_end phase core S events)
+    (phase core : ℕ) → phase < length S.setting.program.phases → core < 16 → slice_get table (end_index phase core) ≡ Some (last_end phase core S events)
 
 -- the end in a place, if there is one
 abbrev pub end_in : Option (Option TaskEnd) → Option TaskEnd
@@ -48,7 +48,7 @@ end_in (Some e) = e
 abbrev pub noted_ends : EndTable → ℕ → List Phase → List TaskEnd
 noted_ends table phase [] = []
 noted_ends table phase (p ∷ ps) =
-    filter_map (λ (d : TaskDecl). end_in (slice_get table (place_of phase d.core.0))) p.tasks ++ noted_ends table (phase + 1) ps
+    filter_map (λ (d : TaskDecl). end_in (slice_get table (end_index phase d.core.0))) p.tasks ++ noted_ends table (phase + 1) ps
 
 -- the ending that the table and the last state tell
 abbrev pub noted_ending : EndTable → State → Ending

@@ -8,7 +8,7 @@ use Rattle.message_net.specs.declared.event.Event.{Event}
 use Rattle.message_net.specs.declared.event.Event.TheVariants.{Instr, Evict, Arrive, Handle}
 use Rattle.grant_log.specs.Counts.{no_counts, added, AreCounts}
 use Rattle.machine_rules.specs.State.{State}
-use Rattle.machine_rules.specs.Next.{next, told}
+use Rattle.machine_rules.specs.Next.{next, observed}
 use Rattle.machine_rules.specs.Runs.{after, grants_of, kinds_of}
 use Rattle.machine_rules.specs.Sound.{IsMachine}
 use Rattle.run_agreement.specs.Agreed.{listed}
@@ -44,7 +44,7 @@ end_there T (Some core) = end_at (slice_get T.nodes core.0)
 -- an event came in a state: what it told, and how the task of the core that it changed stands then
 pub record HasCome (S T : State) (h : Happened) : Type 0 where
   pub next : T ≡ next S h.event
-  pub told : h.told ≡ told S h.event
+  pub told : h.told ≡ observed S h.event
   pub end : h.end ≡ end_there T (core_in S h.event)
 
 -- the log of no event, for a program of so many phases
@@ -52,8 +52,8 @@ abbrev pub no_log : ℕ → Log
 no_log phases = record { events = []; grants = []; counts = no_counts; ends = no_ends phases }
 
 -- the log with one event more
-abbrev pub noted : Happened → Log → Log
-noted h log =
+abbrev pub with_event : Happened → Log → Log
+with_event h log =
     record {
       events = log.events ++ h.event ∷ [];
       grants = log.grants ++ listed h.told.granted;

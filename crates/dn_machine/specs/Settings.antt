@@ -5,7 +5,7 @@ use Rattle.region_table.specs.Program.{ProgramParts}
 use Rattle.region_table.specs.Plan.{ArePlans}
 use Rattle.message_net.specs.declared.event.Event.{Event}
 use Rattle.registration_protocol.specs.Node.{Setting}
-use Rattle.machine_rules.specs.State.{opened}
+use Rattle.machine_rules.specs.State.{initial_state}
 use Rattle.machine_rules.specs.Runs.{IsRun}
 use Rattle.dn_machine.specs.Plans.{AreInOneForm}
 
@@ -20,4 +20,4 @@ pub record IsSettingOf (P : ProgramParts) (machine : Shape) (most : ℕ) (C : Se
 
 -- the events are a run of the opened machine of this program, shape and fuel
 abbrev pub IsRunOn : ProgramParts → Shape → ℕ → List Event → Type 0
-IsRunOn P machine most events = (C : Setting) → IsSettingOf P machine most C → IsRun (opened C) events
+IsRunOn P machine most events = (C : Setting) → IsSettingOf P machine most C → IsRun (initial_state C) events

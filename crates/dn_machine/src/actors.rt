@@ -1,7 +1,7 @@
 ghost use Rattle.std.specs.Prelude.{◌≡◌, ◌≤◌, true, Some};
 ghost use Rattle.message_net.specs.Mail.{has_actor};
-ghost use Rattle.message_net.specs.Pool.{count_of, taken};
-ghost use Rattle.machine_rules.specs.Next.{enabled, number_of};
+ghost use Rattle.message_net.specs.Pool.{count_of, removed};
+ghost use Rattle.machine_rules.specs.Next.{enabled, next_number};
 ghost use Rattle.dn_machine.specs.Actors.{actor_in};
 
 use crate::machine::Machine;
@@ -11,7 +11,7 @@ use message_net::{Actor, Event, Mail, MailId, Pool};
 /// The mail with this id, which is in flight.
 fn mail_with(pool: &Pool, id: MailId) -> Mail
     requires { 1 ≤ count_of id pool.now.mails }
-    ensures { (taken id pool.now.mails).0 ≡ Some result }
+    ensures { (removed id pool.now.mails).0 ≡ Some result }
 {
     let _count = pool.count();
     let mut place = 0;
@@ -40,7 +40,7 @@ impl Machine {
     /// The number of an actor's next mail; the actor is one of the machine's.
     pub fn next_mail(&self, actor: Actor) -> u32
         requires { has_actor self.now.state.setting.shape.cores self.now.state.setting.shape.banks actor ≡ true }
-        ensures { result ≡ number_of self.now.state actor }
+        ensures { result ≡ next_number self.now.state actor }
     {
         let place = actor.place(self.shape.cores, self.shape.banks);
         next_number(&self.content.numbers, place)

@@ -4,7 +4,7 @@ ghost use Rattle.message_net.specs.declared.event.Event.TheVariants.{Instr as An
 ghost use Rattle.registration_protocol.specs.Node.{NodeParts};
 ghost use Rattle.registration_protocol.specs.OwnEvents.{own_event};
 ghost use Rattle.registration_protocol.specs.Setting.{setting};
-ghost use Rattle.machine_rules.specs.Next.{sends, next, enabled, gets, granted_at, granted_by, told, core_gets, bank_handles, keeper_handles};
+ghost use Rattle.machine_rules.specs.Next.{sends, next, enabled, gets, grant_of_mail, granted_by, observed, core_gets, bank_handles, keeper_handles};
 ghost use Rattle.phase_barrier.specs.Barrier.{keeper_gets};
 ghost use Rattle.dn_machine.specs.Content.{state_of, KnowsOwn, IsWhole};
 
@@ -56,7 +56,7 @@ impl Content {
         requires may { enabled (state_of (setting context.now) self.old) (AnInstr core) ≡ true }
         requires spare { 1 ≤ self.old.pool.spare }
         ensures state { state_of (setting context.now) self.new ≡ next (state_of (setting context.now) self.old) (AnInstr core) }
-        ensures told { result ≡ told (state_of (setting context.now) self.old) (AnInstr core) }
+        ensures told { result ≡ observed (state_of (setting context.now) self.old) (AnInstr core) }
         ensures known { KnowsOwn (setting context.now) self.new }
     {
         let step = instruct_at(&mut self.nodes, core.0 as usize, context);
@@ -75,7 +75,7 @@ impl Content {
         requires may { enabled (state_of (setting context.now) self.old) (AnEvict core word) ≡ true }
         requires spare { 1 ≤ self.old.pool.spare }
         ensures state { state_of (setting context.now) self.new ≡ next (state_of (setting context.now) self.old) (AnEvict core word) }
-        ensures told { result ≡ told (state_of (setting context.now) self.old) (AnEvict core word) }
+        ensures told { result ≡ observed (state_of (setting context.now) self.old) (AnEvict core word) }
         ensures known { KnowsOwn (setting context.now) self.new }
     {
         let sent = evict_at(&mut self.nodes, core.0 as usize, context, word);
@@ -90,7 +90,7 @@ impl Content {
         requires may { enabled (state_of (setting context.now) self.old) (AnArrive core) ≡ true }
         requires spare { 1 ≤ self.old.pool.spare }
         ensures state { state_of (setting context.now) self.new ≡ next (state_of (setting context.now) self.old) (AnArrive core) }
-        ensures told { result ≡ told (state_of (setting context.now) self.old) (AnArrive core) }
+        ensures told { result ≡ observed (state_of (setting context.now) self.old) (AnArrive core) }
         ensures known { KnowsOwn (setting context.now) self.new }
     {
         let sent = arrive_at(&mut self.nodes, core.0 as usize, context);
@@ -158,7 +158,7 @@ impl Content {
         requires known { KnowsOwn (setting context.now) self.old }
         requires spare { (setting context.now).shape.cores ≤ self.old.pool.spare }
         ensures state { state_of (setting context.now) self.new ≡ gets (state_of (setting context.now) self.old) to message }
-        ensures granted { result ≡ granted_at (state_of (setting context.now) self.old) to message }
+        ensures granted { result ≡ grant_of_mail (state_of (setting context.now) self.old) to message }
         ensures known { KnowsOwn (setting context.now) self.new }
     {
         match to {
@@ -181,7 +181,7 @@ impl Content {
         requires may { enabled (state_of (setting context.now) self.old) (HandleOf id) ≡ true }
         requires spare { (setting context.now).shape.cores ≤ self.old.pool.spare }
         ensures state { state_of (setting context.now) self.new ≡ next (state_of (setting context.now) self.old) (HandleOf id) }
-        ensures told { result ≡ told (state_of (setting context.now) self.old) (HandleOf id) }
+        ensures told { result ≡ observed (state_of (setting context.now) self.old) (HandleOf id) }
         ensures known { KnowsOwn (setting context.now) self.new }
     {
         match self.pool.take(id) {
@@ -204,7 +204,7 @@ impl Content {
         requires may { enabled (state_of (setting context.now) self.old) event ≡ true }
         requires spare { (setting context.now).shape.cores ≤ self.old.pool.spare }
         ensures state { state_of (setting context.now) self.new ≡ next (state_of (setting context.now) self.old) event }
-        ensures told { result ≡ told (state_of (setting context.now) self.old) event }
+        ensures told { result ≡ observed (state_of (setting context.now) self.old) event }
         ensures known { KnowsOwn (setting context.now) self.new }
     {
         match event {

@@ -2,12 +2,12 @@
 ghost use Rattle.std.specs.Prelude.{◌≡◌, ◌↔◌, ℕ, List, Some, None, true};
 ghost use Rattle.message_net.specs.declared.event.Event.{Event};
 ghost use Rattle.registration_protocol.specs.Node.{Setting};
-ghost use Rattle.machine_rules.specs.State.{State, opened};
+ghost use Rattle.machine_rules.specs.State.{State, initial_state};
 ghost use Rattle.machine_rules.specs.Next.{enabled};
 ghost use Rattle.machine_rules.specs.Runs.{IsOver, IsCompleteRun};
 ghost use Rattle.machine_rules.specs.Sound.{IsMachine, IsReady, IsSound};
 ghost use Rattle.dn_machine.specs.Pick.{pick};
-ghost use Rattle.dn_machine.specs.Run.{IsRecord, IsRunOf};
+ghost use Rattle.dn_machine.specs.Run.{IsRecord, IsMachinesRun};
 ghost use Rattle.dn_machine.specs.Schedule.{IsScheduled};
 ghost use Rattle.dn_machine.specs.declared.record.RunRecord.{RunRecord};
 
@@ -26,5 +26,5 @@ pub fn a_seed_gives_one_complete_run()
 /// Whoever picks the events, a complete run of the opened machine comes to all that is promised of runs, if the record tells what is
 /// read off its events.
 pub fn a_complete_run_keeps_the_promises_of_runs()
-    ensures { (C : Setting) (r : RunRecord) → IsReady C → IsCompleteRun (opened C) r.events → IsRecord (opened C) r → IsRunOf (opened C) r }
+    ensures { (C : Setting) (r : RunRecord) → IsReady C → IsCompleteRun (initial_state C) r.events → IsRecord (initial_state C) r → IsMachinesRun (initial_state C) r }
 {}

@@ -1,9 +1,9 @@
 ghost use Rattle.std.specs.Prelude.{◌≡◌, ◌+◌, ◌*◌, ◌<◌, ◌≤◌, ◌++◌, length, slice_get, Some, OnOk, IfOk};
 ghost use Rattle.std.specs.List.{filter_map};
-ghost use Rattle.grant_log.specs.Counts.{count_of};
-ghost use Rattle.dn_machine.specs.Ends.{no_ends, with_end, end_in, place_of, noted_ends};
+ghost use Rattle.grant_log.specs.Counts.{kind_count};
+ghost use Rattle.dn_machine.specs.Ends.{no_ends, with_end, end_in, end_index, noted_ends};
 ghost use Rattle.run_agreement.specs.Agreed.{listed};
-ghost use Rattle.dn_machine.specs.Log.{no_log, noted};
+ghost use Rattle.dn_machine.specs.Log.{no_log, with_event};
 
 use crate::record::RunRecord;
 use dn_base::{Grant, MOST_CORES, Memory, Sequence};
@@ -72,8 +72,8 @@ impl Log {
     /// # Errors
     /// `Memory` where there is no room; the log is then of no more use.
     pub fn note(&mut self, happened: Happened) -> Result<(), Memory>
-        requires { count_of happened.told.kind self.old.counts < 18446744073709551615 }
-        ensures { OnOk result (self.new ≡ noted happened self.old) }
+        requires { kind_count happened.told.kind self.old.counts < 18446744073709551615 }
+        ensures { OnOk result (self.new ≡ with_event happened self.old) }
     {
         self.events.push(happened.event)?;
         if let Some(grant) = happened.told.granted {
@@ -132,7 +132,7 @@ fn push_ends(
     tasks: &[TaskDecl],
 ) -> Result<(), Memory>
     requires { phase ≤ 64 }
-    ensures { OnOk result (out.new ≡ out.old ++ filter_map (λ d. end_in (slice_get table.now (place_of phase d.core.0))) tasks.now) }
+    ensures { OnOk result (out.new ≡ out.old ++ filter_map (λ d. end_in (slice_get table.now (end_index phase d.core.0))) tasks.now) }
 {
     for task in tasks {
         let place = MOST_CORES * phase + task.core.0 as usize;

@@ -2,10 +2,10 @@ ghost use Rattle.std.specs.Prelude.{◌≡◌, ◌↔◌, ◌+◌, ◌<◌, ◌�
 ghost use Rattle.region_table.specs.Program.{cores_of};
 ghost use Rattle.registration_protocol.specs.Setting.{setting};
 ghost use Rattle.machine_rules.specs.Memory.{word_value};
-ghost use Rattle.machine_rules.specs.Next.{next, enabled, told};
+ghost use Rattle.machine_rules.specs.Next.{next, enabled, observed};
 ghost use Rattle.machine_rules.specs.Runs.{IsOver};
 ghost use Rattle.dn_machine.specs.Ends.{end_at};
-ghost use Rattle.dn_machine.specs.Kept.{IsKept, IsOpened};
+ghost use Rattle.dn_machine.specs.Kept.{IsKept, IsInitialMachine};
 ghost use Rattle.dn_machine.specs.Pick.{pick};
 ghost use Rattle.dn_machine.specs.Run.{IsSeedsRunOf};
 
@@ -90,7 +90,7 @@ impl Machine {
         requires most_ways { shape.ways ≤ 16 }
         requires some_fuel { 1 ≤ fuel }
         requires most_fuel { fuel ≤ 32768 }
-        ensures { IfOk result (IsOpened checked shape fuel) }
+        ensures { IfOk result (IsInitialMachine checked shape fuel) }
     {
         let program = checked.program();
         a_program_is_well_formed(program);
@@ -134,7 +134,7 @@ impl Machine {
         requires made { self.old.made < 4000000000 }
         ensures state { OnOk result (self.new.state ≡ next self.old.state event) }
         ensures made { OnOk result (self.new.made ≡ self.old.made + 1) }
-        ensures told { IfOk result (λ stepped. stepped ≡ told self.old.state event) }
+        ensures told { IfOk result (λ stepped. stepped ≡ observed self.old.state event) }
         ensures err { OnErr result (self.new ≡ self.old) }
     {
         self.content.reserve(self.shape.cores)?;

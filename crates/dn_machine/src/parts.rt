@@ -1,7 +1,7 @@
 ghost use Rattle.std.specs.Prelude.{◌≡◌, ℕ, ◌+◌, ◌≤◌, List, length};
 ghost use Rattle.message_net.specs.declared.event.Event.{Event};
 ghost use Rattle.registration_protocol.specs.Node.{Setting};
-ghost use Rattle.machine_rules.specs.State.{State, opened};
+ghost use Rattle.machine_rules.specs.State.{State, initial_state};
 ghost use Rattle.machine_rules.specs.Runs.{after, IsRun};
 ghost use Rattle.machine_rules.specs.Sound.{IsReady};
 ghost use Rattle.dn_machine.specs.Kept.{IsKept};
@@ -112,7 +112,7 @@ impl Machine {
 /// The opened machine of a checked program is in a state that a machine may have; so is whatever a run makes of such a state,
 /// and the same state with its mails in another order.
 pub fn what_a_run_leaves_is_kept()
-    ensures opened { (C : Setting) → IsReady C → 1 ≤ C.shape.cores → C.shape.cores ≤ 16 → IsKept (opened C) 0 }
+    ensures opened { (C : Setting) → IsReady C → 1 ≤ C.shape.cores → C.shape.cores ≤ 16 → IsKept (initial_state C) 0 }
     ensures run { (S : State) (made : ℕ) (events : List Event) → IsKept S made → IsRun S events → IsKept (after S events) (made + length events) }
     ensures reordered { (S T : State) (made : ℕ) → IsKept S made → IsReordered S T → IsKept T made }
 {}

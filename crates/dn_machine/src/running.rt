@@ -4,7 +4,7 @@ ghost use Rattle.message_net.specs.declared.event.Event.TheVariants.{Handle as H
 ghost use Rattle.message_net.specs.Pool.{AreDistinct};
 ghost use Rattle.registration_protocol.specs.Node.{Setting};
 ghost use Rattle.registration_protocol.specs.Setting.{setting};
-ghost use Rattle.machine_rules.specs.State.{opened};
+ghost use Rattle.machine_rules.specs.State.{initial_state};
 ghost use Rattle.machine_rules.specs.Next.{enabled};
 ghost use Rattle.machine_rules.specs.Sound.{IsMachine};
 ghost use Rattle.dn_machine.specs.declared.log.Happened.{Happened as CameOf};
@@ -150,11 +150,11 @@ impl Content {
         seed: u32,
         log: &mut Log,
     ) -> Result<(), Memory>
-        requires opened { state_of (setting context.now) self.old ≡ opened (setting context.now) }
+        requires opened { state_of (setting context.now) self.old ≡ initial_state (setting context.now) }
         requires kept { IsKept (state_of (setting context.now) self.old) 0 }
         requires known { KnowsOwn (setting context.now) self.old }
         requires empty { log.old ≡ no_log (length (setting context.now).program.phases) }
-        ensures { OnOk result (HasRun (opened (setting context.now)) seed (state_of (setting context.now) self.new) log.new) }
+        ensures { OnOk result (HasRun (initial_state (setting context.now)) seed (state_of (setting context.now) self.new) log.new) }
     {
         let mut words = generator(seed as u64);
         'events: while let Some(happened) = self.advance(context, draw(&mut words))? {
@@ -199,10 +199,10 @@ pub(crate) fn run_opened(
     content: Content,
     seed: u32,
 ) -> Result<RunRecord, Memory>
-    requires opened { state_of (setting context.now) content ≡ opened (setting context.now) }
+    requires opened { state_of (setting context.now) content ≡ initial_state (setting context.now) }
     requires kept { IsKept (state_of (setting context.now) content) 0 }
     requires known { KnowsOwn (setting context.now) content }
-    ensures { IfOk result (IsSeedsRunOf (opened (setting context.now)) seed) }
+    ensures { IfOk result (IsSeedsRunOf (initial_state (setting context.now)) seed) }
 {
     let mut content = content;
     let program = context.program;

@@ -1,13 +1,13 @@
 ghost use Rattle.std.specs.Prelude.{◌≡◌, ◌+◌, ◌<◌, ◌≤◌, ℕ, map, replicate, length, slice_get, Some, IfOk};
 ghost use Rattle.std.specs.List.{range_with_len};
 ghost use Rattle.region_table.specs.Program.{IsProgram};
-ghost use Rattle.registry_bank.specs.Bank.{opened_bank};
+ghost use Rattle.registry_bank.specs.Bank.{initial_bank};
 ghost use Rattle.effect_checker.specs.Checked.{IsChecked};
 ghost use Rattle.registration_protocol.specs.Fit.{IsContext, Fits};
-ghost use Rattle.registration_protocol.specs.Node.{NodeParts, opened};
+ghost use Rattle.registration_protocol.specs.Node.{NodeParts, initial_node};
 ghost use Rattle.registration_protocol.specs.OwnEvents.{own_event};
 ghost use Rattle.registration_protocol.specs.Setting.{setting};
-ghost use Rattle.machine_rules.specs.State.{opened as opened_machine};
+ghost use Rattle.machine_rules.specs.State.{initial_state as opened_machine};
 ghost use Rattle.dn_machine.specs.Content.{state_of, in_row, KnowsOwn};
 
 use crate::content::Content;
@@ -23,7 +23,7 @@ use std::alloc::Global;
 /// The nodes as a run begins, in the order of their cores.
 pub(crate) fn new_nodes(alloc: Global, context: &Context<'_>) -> Result<Vec<Node>, Memory>
     requires { IsContext (setting context.now) }
-    ensures { IfOk result (λ nodes. nodes.items ≡ map (opened (setting context.now)) (range_with_len 0 (setting context.now).shape.cores)) }
+    ensures { IfOk result (λ nodes. nodes.items ≡ map (initial_node (setting context.now)) (range_with_len 0 (setting context.now).shape.cores)) }
 {
     let mut nodes = Vec::new(alloc);
     for core in 0..context.shape.cores {
@@ -44,7 +44,7 @@ pub(crate) fn new_banks(
     requires cores { shape.cores ≤ 16 }
     requires memory { length memory.now ≤ 65536 }
     requires locks { locks ≤ 32 }
-    ensures { IfOk result (λ banks. banks.items ≡ map (λ (bank : ℕ). opened_bank bank shape.banks shape.cores memory.now locks) (range_with_len 0 shape.banks)) }
+    ensures { IfOk result (λ banks. banks.items ≡ map (λ (bank : ℕ). initial_bank bank shape.banks shape.cores memory.now locks) (range_with_len 0 shape.banks)) }
 {
     let mut banks = Vec::new(alloc);
     for bank in 0..shape.banks {

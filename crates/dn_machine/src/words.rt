@@ -1,7 +1,7 @@
 ghost use Rattle.std.specs.Prelude.{◌≡◌, ◌<◌, IfOk, slice_get};
 ghost use Rattle.registration_protocol.specs.Setting.{setting};
 ghost use Rattle.machine_rules.specs.State.{entry_in, home_at};
-ghost use Rattle.machine_rules.specs.Memory.{pending_among, value_of, kept_value, word_value, memory_of};
+ghost use Rattle.machine_rules.specs.Memory.{pending_among, value_in_entry, kept_value, word_value, memory_of};
 ghost use Rattle.dn_machine.specs.Content.{state_of};
 
 use crate::content::Content;
@@ -31,7 +31,7 @@ fn pending_among(nodes: &[Node], word: WordId) -> Option<u32>
 
 /// The value of an entry.
 fn value_of(entry: Option<Entry>) -> u32
-    ensures { result ≡ value_of entry }
+    ensures { result ≡ value_in_entry entry }
 {
     match entry {
         None => 0,
@@ -43,7 +43,7 @@ fn value_of(entry: Option<Entry>) -> u32
 
 /// The value of the entry that a core has of a word.
 fn value_at(nodes: &[Node], core: CoreId, word: WordId) -> u32
-    ensures { result ≡ value_of (entry_in word.0 (slice_get nodes.now core.0)) }
+    ensures { result ≡ value_in_entry (entry_in word.0 (slice_get nodes.now core.0)) }
 {
     match nodes.get(core.0 as usize) {
         Some(node) => value_of(node.entry(word)),

@@ -10,7 +10,7 @@ use Rattle.dn_top.specs.declared.output.Output.{Output}
 use Rattle.dn_top.specs.declared.serving.Answer.{Answer}
 use Rattle.dn_top.specs.Answers.{answered, most_read, IsRefusal, IsAnswer, IsOutcome, usage_line}
 use Rattle.dn_top.specs.Outside.{DeviceState, Devices, Failed, GaveAtMost, IsUntouched, Took, TookNothing, TookFront}
-use Rattle.dn_top.specs.Serving.{text_for, most_asked, IsRunWith, HandsBack, HasDone, HasRefused, HasFailed, HasStatus, has_stopped, Serves, IsFinished, IsReplied, IsStarved, IsUnread, IsDoneBy, bare}
+use Rattle.dn_top.specs.Serving.{text_to_answer, most_asked, IsRunWithStatus, HandsBack, HasDone, HasRefused, HasFailed, HasStatus, has_stopped, Serves, IsWritten, IsReplied, IsStarved, IsUnread, IsDoneBy, without_run}
 use Rattle.dn_top.proofs.Statuses.{other, outcome-other, answer-other, answer-done, answer-refused, answer-no_run, done-comes, done-plain, done-run}
 use Rattle.dn_top.proofs.Fronts.{AnswersAlike, taken-alike}
 
@@ -46,7 +46,7 @@ module _ (o : Options) (before after : DeviceState) (text : List ℕ) (answer : 
   written : IsReplied o before after text answer → other answer.status ≡ false → Written
   written (inl given) plain = by_finish given.finished
     where
-      by_finish : IsFinished before after given.out answer → Written
+      by_finish : IsWritten before after given.out answer → Written
       by_finish (inl (e, took)) = record { out = given.out; is = given.is; ends = status_at answer _ e; run = run_at answer _ e; took = took }
       by_finish (inr (e, failed, front)) = let bad : other answer.status ≡ true = ap other (status_at answer _ e) in cc
   written (inr starved) plain = let bad : other answer.status ≡ true = ap other (status_at answer _ starved.memory) in cc
@@ -61,7 +61,7 @@ module _ (o : Options) (before after : DeviceState) (text : List ℕ) (answer : 
   stopped : IsReplied o before after text answer → answer.status ≡ status.TheVariants.WriteFault → Stopped
   stopped (inl given) r = by_finish given.finished
     where
-      by_finish : IsFinished before after given.out answer → Stopped
+      by_finish : IsWritten before after given.out answer → Stopped
       by_finish (inl (e, took)) = absurd (unlike o text given.out status.TheVariants.WriteFault given.is refl (sym (status_at answer _ e) ∙ r))
       by_finish (inr (e, failed, front)) = record { out = given.out; is = given.is; failed = failed; front = front }
   stopped (inr starved) r = let bad : status.TheVariants.Memory ≡ status.TheVariants.WriteFault = sym (status_at answer _ starved.memory) ∙ r in cc
@@ -70,7 +70,7 @@ module _ (o : Options) (before after : DeviceState) (text : List ℕ) (answer : 
   starved-nothing : IsReplied o before after text answer → answer.status ≡ status.TheVariants.Memory → TookNothing before after
   starved-nothing (inl given) r = by_finish given.finished
     where
-      by_finish : IsFinished before after given.out answer → TookNothing before after
+      by_finish : IsWritten before after given.out answer → TookNothing before after
       by_finish (inl (e, took)) = absurd (unlike o text given.out status.TheVariants.Memory given.is refl (sym (status_at answer _ e) ∙ r))
       by_finish (inr (e, failed, front)) = let bad : status.TheVariants.WriteFault ≡ status.TheVariants.Memory = sym (status_at answer _ e) ∙ r in cc
   starved-nothing (inr starved) r = starved.nothing
@@ -79,7 +79,7 @@ module _ (o : Options) (before after : DeviceState) (text : List ℕ) (answer : 
   never : (u : Status) → IsReplied o before after text answer → other u ≡ true → u ≢ status.TheVariants.WriteFault → u ≢ status.TheVariants.Memory → answer.status ≢ u
   never u (inl given) bad no_fault no_memory r = by_finish given.finished
     where
-      by_finish : IsFinished before after given.out answer → ⊥
+      by_finish : IsWritten before after given.out answer → ⊥
       by_finish (inl (e, took)) = unlike o text given.out u given.is bad (sym (status_at answer _ e) ∙ r)
       by_finish (inr (e, failed, front)) = no_fault (sym r ∙ status_at answer _ e)
   never u (inr starved) bad no_fault no_memory r = no_memory (sym r ∙ status_at answer _ starved.memory)
@@ -88,7 +88,7 @@ module _ (o : Options) (before after : DeviceState) (text : List ℕ) (answer : 
   finished : IsReplied o before after text answer → (Failed before after → ⊥) → HasStatus o text answer.status ⊎ (answer.status ≡ status.TheVariants.Memory)
   finished (inl given) calm = by_finish given.finished
     where
-      by_finish : IsFinished before after given.out answer → HasStatus o text answer.status ⊎ (answer.status ≡ status.TheVariants.Memory)
+      by_finish : IsWritten before after given.out answer → HasStatus o text answer.status ⊎ (answer.status ≡ status.TheVariants.Memory)
       by_finish (inl (e, took)) = inl (record { out = given.out; answer = given.is; ends = status_at answer _ e })
       by_finish (inr (e, failed, front)) = absurd (calm failed)
   finished (inr starved) calm = inr (status_at answer _ starved.memory)
@@ -97,7 +97,7 @@ module _ (o : Options) (before after : DeviceState) (text : List ℕ) (answer : 
   replied-no_run : IsReplied o before after text answer → (IsOutcome answer.status → ⊥) → answer.run ≡ None
   replied-no_run (inl given) none = by_finish given.finished
     where
-      by_finish : IsFinished before after given.out answer → answer.run ≡ None
+      by_finish : IsWritten before after given.out answer → answer.run ≡ None
       by_finish (inl (e, took)) =
           run_at answer _ e
           ∙ answer-no_run o text given.out given.is (λ is. none (subst IsOutcome (sym (status_at answer _ e)) is))
@@ -124,13 +124,13 @@ module _ (o : Options) (before after : Devices) (answer : Answer) where
   answer-alike text t out a (inl d) = inl (a.done out d)
   answer-alike text t out a (inr r) = inr (refusal-alike text t out a r)
 
-  done-clause : IsDoneBy o before after answer → IsOutcome answer.status → IfSome (text_for o before.source) (λ t. HasDone o before after t answer)
+  done-clause : IsDoneBy o before after answer → IsOutcome answer.status → IfSome (text_to_answer o before.source) (λ t. HasDone o before after t answer)
   done-clause (inr none) is = let plain = outcome-other answer.status is in let bad = no_text-other none in absurd cc
   done-clause (inl served) is =
       let w = written o before.sink after.sink served.text answer served.reply (outcome-other answer.status is) in
       let there : IsOutcome w.out.status = (is.0, sym w.ends ∙ is.1) in
       let done = answer-done o served.text w.out w.is there in
-      if-some (text_for o before.source) (λ t. Alike served.text t) (λ t. HasDone o before after t answer)
+      if-some (text_to_answer o before.source) (λ t. Alike served.text t) (λ t. HasDone o before after t answer)
       (λ t a. record { out = w.out; done = a.done w.out done; read = a.read w.out (a.done w.out done); took = w.took; ends = w.ends; run = w.run })
       (taken-alike o before.source after.source served.text served.taken)
 
@@ -140,29 +140,29 @@ module _ (o : Options) (before after : Devices) (answer : Answer) where
       let w = written o before.sink after.sink served.text answer served.reply (outcome-other answer.status is) in
       let there : IsOutcome w.out.status = (is.0, sym w.ends ∙ is.1) in
       let done = answer-done o served.text w.out w.is there in
-      let run : IfSome w.out.run (IsRunWith o.mode o answer.status) = subst (λ (s : Status). IfSome w.out.run (IsRunWith o.mode o s)) (sym w.ends) (done-run o.mode o served.text w.out done) in
+      let run : IfSome w.out.run (IsRunWithStatus o.mode o answer.status) = subst (λ (s : Status). IfSome w.out.run (IsRunWithStatus o.mode o s)) (sym w.ends) (done-run o.mode o served.text w.out done) in
       record {
         comes = ap is_some w.run ∙ done-comes o.mode o served.text w.out done;
-        run = subst (λ (r : Option RunRecord). IfSome r (IsRunWith o.mode o answer.status)) (sym w.run) run;
+        run = subst (λ (r : Option RunRecord). IfSome r (IsRunWithStatus o.mode o answer.status)) (sym w.run) run;
         done = λ none. w.ends ∙ done-plain o.mode o served.text w.out done none;
       }
 
-  refused-clause : IsDoneBy o before after answer → answer.status ≡ status.TheVariants.SourceRefused → IfSome (text_for o before.source) (λ t. HasRefused o before after t)
+  refused-clause : IsDoneBy o before after answer → answer.status ≡ status.TheVariants.SourceRefused → IfSome (text_to_answer o before.source) (λ t. HasRefused o before after t)
   refused-clause (inr none) r = let plain = ap other r in let bad = no_text-other none in absurd cc
   refused-clause (inl served) r =
       let w = written o before.sink after.sink served.text answer served.reply (ap other r) in
       let refused = answer-refused o served.text w.out w.is (sym w.ends ∙ r) in
-      if-some (text_for o before.source) (λ t. Alike served.text t) (λ t. HasRefused o before after t)
+      if-some (text_to_answer o before.source) (λ t. Alike served.text t) (λ t. HasRefused o before after t)
       (λ t a. record { out = w.out; refusal = refusal-alike served.text t w.out a refused; took = w.took })
       (taken-alike o before.source after.source served.text served.taken)
 
-  failed-clause : IsDoneBy o before after answer → answer.status ≡ status.TheVariants.WriteFault → Failed before.sink after.sink × IfSome (text_for o before.source) (λ t. HasFailed o before after t)
+  failed-clause : IsDoneBy o before after answer → answer.status ≡ status.TheVariants.WriteFault → Failed before.sink after.sink × IfSome (text_to_answer o before.source) (λ t. HasFailed o before after t)
   failed-clause (inr (inl is)) r = let bad : status.TheVariants.ReadFault ≡ status.TheVariants.WriteFault = sym (status_at answer _ is.fault) ∙ r in absurd cc
   failed-clause (inr (inr is)) r = let bad : status.TheVariants.Memory ≡ status.TheVariants.WriteFault = sym (status_at answer _ is.memory) ∙ r in absurd cc
   failed-clause (inl served) r =
       let w = stopped o before.sink after.sink served.text answer served.reply r in (
         w.failed,
-        if-some (text_for o before.source) (λ t. Alike served.text t) (λ t. HasFailed o before after t)
+        if-some (text_to_answer o before.source) (λ t. Alike served.text t) (λ t. HasFailed o before after t)
             (λ t a. record { out = w.out; answer = answer-alike served.text t w.out a w.is; front = w.front })
             (taken-alike o before.source after.source served.text served.taken),
       )
@@ -189,7 +189,7 @@ module _ (o : Options) (before after : Devices) (answer : Answer) where
   no_run-clause (inr (inl is)) none = run_at answer _ is.fault
   no_run-clause (inr (inr is)) none = run_at answer _ is.memory
 
-  complete-clause : IsDoneBy o before after answer → (t : List ℕ) → text_for o before.source ≡ Some t → (Failed before.source after.source → ⊥) → (Failed before.sink after.sink → ⊥)
+  complete-clause : IsDoneBy o before after answer → (t : List ℕ) → text_to_answer o before.source ≡ Some t → (Failed before.source after.source → ⊥) → (Failed before.sink after.sink → ⊥)
       → HasStatus o t answer.status ⊎ (answer.status ≡ status.TheVariants.Memory)
   complete-clause (inr (inl is)) t e calm_source calm_sink = absurd (calm_source is.failed)
   complete-clause (inr (inr is)) t e calm_source calm_sink = inr (status_at answer _ is.memory)
@@ -199,7 +199,7 @@ module _ (o : Options) (before after : Devices) (answer : Answer) where
       by_reply : HasStatus o served.text answer.status ⊎ (answer.status ≡ status.TheVariants.Memory) → HasStatus o t answer.status ⊎ (answer.status ≡ status.TheVariants.Memory)
       by_reply (inr m) = inr m
       by_reply (inl h) =
-          let a = at-some (text_for o before.source) t (λ (x : List ℕ). Alike served.text x) e (taken-alike o before.source after.source served.text served.taken) in
+          let a = at-some (text_to_answer o before.source) t (λ (x : List ℕ). Alike served.text x) e (taken-alike o before.source after.source served.text served.taken) in
           inl (record { out = h.out; answer = answer-alike served.text t h.out a h.answer; ends = h.ends })
 
 -- ---- the clauses of a call
@@ -232,13 +232,13 @@ serves-options wanted o before after answer e h few unread =
       complete = λ p f text is calm_source calm_sink. by_options p (same_options o p wanted e f) text is calm_source calm_sink;
     }
   where
-    by_options : (p : Options) → o ≡ p → (t : List ℕ) → text_for p before.source ≡ Some t → (Failed before.source after.source → ⊥) → (Failed before.sink after.sink → ⊥)
+    by_options : (p : Options) → o ≡ p → (t : List ℕ) → text_to_answer p before.source ≡ Some t → (Failed before.source after.source → ⊥) → (Failed before.sink after.sink → ⊥)
         → HasStatus p t answer.status ⊎ (answer.status ≡ status.TheVariants.Memory)
-    by_options p same = subst (λ (p : Options). (t : List ℕ) → text_for p before.source ≡ Some t → (Failed before.source after.source → ⊥) → (Failed before.sink after.sink → ⊥) → HasStatus p t answer.status ⊎ (answer.status ≡ status.TheVariants.Memory)) same (complete-clause o before after answer h)
+    by_options p same = subst (λ (p : Options). (t : List ℕ) → text_to_answer p before.source ≡ Some t → (Failed before.source after.source → ⊥) → (Failed before.sink after.sink → ⊥) → HasStatus p t answer.status ⊎ (answer.status ≡ status.TheVariants.Memory)) same (complete-clause o before after answer h)
 
 -- words that are refused
 pub serves-usage : (wanted : Option Options) (before after : Devices) (answer : Answer) → wanted ≡ None → IsUntouched before.source after.source
-    → IsFinished before.sink after.sink (answered status.TheVariants.Usage usage_line) answer → Serves wanted before after answer
+    → IsWritten before.sink after.sink (answered status.TheVariants.Usage usage_line) answer → Serves wanted before after answer
 serves-usage wanted before after answer none untouched (inl (is, took)) =
     let e = status_at answer _ is in
     record {
@@ -280,7 +280,7 @@ untouched-few before after (Some most) untouched =
 
 -- words for which there was no memory
 pub serves-memory : (wanted : Option Options) (before after : Devices) (answer : Answer) → IsUntouched before.source after.source → TookNothing before.sink after.sink
-    → answer ≡ bare status.TheVariants.Memory → Serves wanted before after answer
+    → answer ≡ without_run status.TheVariants.Memory → Serves wanted before after answer
 serves-memory wanted before after answer untouched nothing is =
     let e = status_at answer _ is in
     record {

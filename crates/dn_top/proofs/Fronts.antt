@@ -17,7 +17,7 @@ use Rattle.command_words.specs.declared.options.Options.{Options}
 use Rattle.dn_top.specs.declared.output.Output.{Output}
 use Rattle.dn_top.specs.Answers.{HasProgram, HasChecked, IsNoProgram, IsUnfit, IsReplayed, IsRefusedDocument, done_in, refused_in, most_read}
 use Rattle.dn_top.specs.Outside.{DeviceState, IsRead}
-use Rattle.dn_top.specs.Serving.{text_by, text_for, read_by, taken_by, IsTaken}
+use Rattle.dn_top.specs.Serving.{text_by, text_to_answer, read_by, obtained_by, IsObtained}
 use Rattle.dn_top.proofs.OneReplay.{no-fault_of_document}
 
 -- ---- texts that are too large
@@ -173,10 +173,10 @@ answers-read mode.TheVariants.Prove o before after text t most e is read =
     record { done = λ out. checked-alike text t _ a.same; refused = λ line. unfit-alike text t line a.same; read = λ out h. a.whole h.program h.is }
 
 -- the text that was taken is answered as the text that the options are about
-pub taken-alike : (o : Options) (before after : DeviceState) (text : List ℕ) → IsTaken o before after text → IfSome (text_for o before) (λ t. AnswersAlike o.mode o before after text t)
+pub taken-alike : (o : Options) (before after : DeviceState) (text : List ℕ) → IsObtained o before after text → IfSome (text_to_answer o before) (λ t. AnswersAlike o.mode o before after text t)
 taken-alike o before after text taken = by_most (most_read o.mode) refl taken
   where
-    by_most : (x : Option ℕ) → most_read o.mode ≡ x → taken_by x o.size before after text → IfSome (text_by x o.size before.bytes) (λ t. AnswersAlike o.mode o before after text t)
+    by_most : (x : Option ℕ) → most_read o.mode ≡ x → obtained_by x o.size before after text → IfSome (text_by x o.size before.bytes) (λ t. AnswersAlike o.mode o before after text t)
     by_most None e h =
         record {
           done = λ out d. subst (λ (x : List ℕ). done_in o.mode o x out) h.0 d;

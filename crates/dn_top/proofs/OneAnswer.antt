@@ -6,11 +6,11 @@ use Rattle.dn_base.specs.declared.status.Status as status
 use Rattle.dn_base.specs.Status.{status_of}
 use Rattle.region_table.specs.Program.{ProgramParts}
 use Rattle.flat_machine.specs.declared.ending.FlatEnd.{FlatEnd}
-use Rattle.flat_machine.specs.Phases.{opened}
+use Rattle.flat_machine.specs.Phases.{initial_flat}
 use Rattle.flat_machine.specs.Ending.{flat_end}
 use Rattle.flat_machine.proofs.RunLemmas.{least-one}
 use Rattle.run_report.specs.Answer.{answer_of}
-use Rattle.run_report.specs.Grants.{grants_of}
+use Rattle.run_report.specs.Grants.{grant_lines}
 use Rattle.run_report.specs.Summary.{checked_of}
 use Rattle.command_words.specs.declared.options.Mode.{Mode}
 use Rattle.command_words.specs.declared.options.Mode as mode
@@ -28,11 +28,11 @@ use Rattle.dn_top.proofs.OneReplay.{traced-one, replayed-one, refused_document-o
 -- ---- by the mode
 
 abbrev flat_output : FlatEnd → List Grant → Output
-flat_output e gs = answered (status_of e.ending.outcome) (answer_of e.ending ++ grants_of gs)
+flat_output e gs = answered (status_of e.ending.outcome) (answer_of e.ending ++ grant_lines gs)
 
 flat_run-one : (P : ProgramParts) (fuel : ℕ) (out other : Output) → IsFlatRun P fuel out → IsFlatRun P fuel other → out ≡ other
 flat_run-one P fuel out other is also =
-    let grants : is.grants ≡ also.grants = least-one P fuel (Some (opened P fuel)) is.grants also.grants is.least also.least in
+    let grants : is.grants ≡ also.grants = least-one P fuel (Some (initial_flat P fuel)) is.grants also.grants is.least also.least in
     let end : is.end ≡ also.end = one-end is.end also.end (sym is.flat ∙ ap (λ (gs : List Grant). flat_end P fuel gs) grants ∙ also.flat) in
     is.answer
     ∙ ap (λ (e : FlatEnd). flat_output e is.grants) end

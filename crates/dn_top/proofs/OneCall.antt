@@ -7,7 +7,7 @@ use Rattle.dn_top.specs.declared.output.Output.{Output}
 use Rattle.dn_top.specs.declared.serving.Answer.{Answer}
 use Rattle.dn_top.specs.Answers.{IsAnswer, IsOutcome}
 use Rattle.dn_top.specs.Outside.{Devices, Took}
-use Rattle.dn_top.specs.Serving.{text_for, ForText, HasDone, HasRefused, answer_to}
+use Rattle.dn_top.specs.Serving.{text_to_answer, ForText, HasDone, HasRefused, answer_to}
 use Rattle.dn_top.specs.Laws.{Call, IsAnswered, IsDecided, GaveOneOutput}
 use Rattle.dn_top.proofs.Statuses.{outcome_refused}
 use Rattle.dn_top.proofs.Clauses.{at-some, same_options}
@@ -18,11 +18,11 @@ answer-same a b s r =
     let e : record { status = a.status; run = a.run } ≡ b = rw (s, r) refl in e
 
 -- what is said of the text of the options that are wanted
-of_text : (o : Options) (text : List ℕ) (before : Devices) (Holds : Options → List ℕ → Type 0) → text_for o before.source ≡ Some text → ForText (Some o) before.source Holds → Holds o text
+of_text : (o : Options) (text : List ℕ) (before : Devices) (Holds : Options → List ℕ → Type 0) → text_to_answer o before.source ≡ Some text → ForText (Some o) before.source Holds → Holds o text
 of_text o text before Holds about h =
     let same : h.options ≡ o = same_options h.options o (Some o) h.asked refl in
-    let there : IfSome (text_for o before.source) (Holds o) = subst (λ (p : Options). IfSome (text_for p before.source) (Holds p)) same h.text in
-    at-some (text_for o before.source) text (Holds o) about there
+    let there : IfSome (text_to_answer o before.source) (Holds o) = subst (λ (p : Options). IfSome (text_to_answer p before.source) (Holds p)) same h.text in
+    at-some (text_to_answer o before.source) text (Holds o) about there
 
 -- the output of a call: the text's answer, which was written and handed back
 record IsGivenBy (o : Options) (text : List ℕ) (c : Call) : Type 0 where

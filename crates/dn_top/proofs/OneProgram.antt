@@ -11,7 +11,7 @@ use Rattle.region_table.specs.Program.{ProgramParts}
 use Rattle.rv_assembler.specs.Source.{source}
 use Rattle.rv_assembler.specs.declared.fault.SourceFault.{SourceFault}
 use Rattle.effect_checker.specs.Checked.{IsCheckedPhase, IsChecked}
-use Rattle.effect_checker.specs.Faults.{numbers_of, phase_of, phase_at, IsFault, IsFaultAmong, IsLeastFault, IsUpTo}
+use Rattle.effect_checker.specs.Faults.{numbers_of, fault_phase, phase_at, IsFault, IsFaultAmong, IsLeastFault, IsUpTo}
 use Rattle.effect_checker.specs.declared.fault.CheckFault.{CheckFault}
 use Rattle.effect_checker.specs.declared.fault.CheckFault.TheVariants.{PlainConflict, GuardedPlain, TwoLocks}
 use Rattle.run_report.specs.declared.refusal.Refusal as refusal
@@ -104,7 +104,7 @@ no-fault_among p (GuardedPlain phase lock core w) is h = is.guarded lock.0 core.
 no-fault_among p (TwoLocks phase a b w) is h = let same = is.one_lock a.0 b.0 w.0 h.1 h.2 in omega (arith, same, h.0)
 
 no-fault : (P : ProgramParts) (f : CheckFault) → IsChecked P → IsFault P f → ⊥
-no-fault P f is h = no-fault_among (phase_at P (phase_of f)) f (at-place P.phases (phase_of f) (record { tasks = [] }) is no-tasks) h
+no-fault P f is h = no-fault_among (phase_at P (fault_phase f)) f (at-place P.phases (fault_phase f) (record { tasks = [] }) is no-tasks) h
 
 -- ---- a text and its program
 

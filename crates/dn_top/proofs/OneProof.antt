@@ -8,7 +8,7 @@ use Rattle.region_table.specs.Program.{ProgramParts}
 use Rattle.effect_checker.specs.Least.{IsFirstPair, IsFirst}
 use Rattle.effect_prover.specs.declared.proved.Proved.{Proved}
 use Rattle.effect_prover.specs.declared.proved.Proved.TheVariants.{Inside, Unbounded}
-use Rattle.effect_prover.specs.Answer.{IsAnswer as IsProversAnswer, IsUnbounded, proved_text}
+use Rattle.effect_prover.specs.Answer.{IsProversAnswer, IsUnbounded, proved_text}
 use Rattle.effect_prover.proofs.TableLemmas.{not-both}
 use Rattle.dn_top.specs.declared.output.Output.{Output}
 use Rattle.dn_top.specs.Answers.{IsProof, answered}

@@ -2,7 +2,7 @@
 use Rattle.std.proofs.Common.{◌≡◌, ◌⊎◌, inl, inr, ℕ, List, Result, Ok, Err, sym, ap, subst, ◌∙◌}
 use Rattle.region_table.specs.Program.{ProgramParts}
 use Rattle.registration_protocol.specs.Node.{Setting}
-use Rattle.machine_rules.specs.State.{opened}
+use Rattle.machine_rules.specs.State.{initial_state}
 use Rattle.dn_machine.specs.Run.{IsRecord}
 use Rattle.dn_machine.specs.declared.record.RunRecord.{RunRecord}
 use Rattle.dn_machine.proofs.OneSetting.{same-setting}
@@ -67,8 +67,8 @@ replayed_run-one : (P : ProgramParts) (t : Trace) (out other : Output) → IsRep
 replayed_run-one P t out other is also =
     let same : is.is.setting ≡ also.is.setting = same-setting P (shape_told P t.shape) t.shape.fuel is.is.setting also.is.setting is.is.asked also.is.asked in
     let run : is.run ≡ also.run =
-    one-record (opened also.is.setting) is.run also.run (is.events ∙ sym also.events) is.is.each_kind also.is.each_kind
-    (subst (λ (C : Setting). IsRecord (opened C) is.run) same is.is.machine.is_true)
+    one-record (initial_state also.is.setting) is.run also.run (is.events ∙ sym also.events) is.is.each_kind also.is.each_kind
+    (subst (λ (C : Setting). IsRecord (initial_state C) is.run) same is.is.machine.is_true)
     also.is.machine.is_true
     in
     is.answer ∙ ap (λ (r : RunRecord). output_of_run (reported r) r) run ∙ sym also.answer

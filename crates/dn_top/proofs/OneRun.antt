@@ -5,7 +5,7 @@ use Rattle.message_net.specs.declared.event.Event.{Event}
 use Rattle.grant_log.specs.Counts.{AreCounts}
 use Rattle.grant_log.proofs.TotalLemmas.{one_counts}
 use Rattle.registration_protocol.specs.Node.{Setting}
-use Rattle.machine_rules.specs.State.{State, opened}
+use Rattle.machine_rules.specs.State.{State, initial_state}
 use Rattle.machine_rules.specs.Runs.{kinds_of, grants_of, ending_of_run}
 use Rattle.dn_machine.specs.Run.{IsRecord, IsSeedsRunOf}
 use Rattle.dn_machine.specs.Schedule.{generator_of}
@@ -39,15 +39,15 @@ same-record : (S : State) (seed : ℕ) (r s : RunRecord) → length r.counts.kin
 same-record S seed r s each other is also =
     one-record S r s (picked-one S (generator_of seed) r.events s.events is.scheduled also.scheduled) each other is.run.is_true also.run.is_true
 
-by-seed : (P : ProgramParts) (o : Options) (r : RunRecord) (is : IsRunFor P o r) → o.workers ≡ 1 → IsSeedsRunOf (opened is.run.setting) o.seed r
+by-seed : (P : ProgramParts) (o : Options) (r : RunRecord) (is : IsRunFor P o r) → o.workers ≡ 1 → IsSeedsRunOf (initial_state is.run.setting) o.seed r
 by-seed P o r is one = record { scheduled = is.scheduled one; run = is.run.machine }
 
 -- a program and options have one run, by one worker
 pub one-run : (P : ProgramParts) (o : Options) (r s : RunRecord) → o.workers ≡ 1 → IsRunFor P o r → IsRunFor P o s → r ≡ s
 one-run P o r s one is also =
     let same : is.run.setting ≡ also.run.setting = same-setting P (shape_for P o) o.fuel is.run.setting also.run.setting is.run.asked also.run.asked in
-    same-record (opened also.run.setting) o.seed r s is.run.each_kind also.run.each_kind
-    (subst (λ (C : Setting). IsSeedsRunOf (opened C) o.seed r) same (by-seed P o r is one))
+    same-record (initial_state also.run.setting) o.seed r s is.run.each_kind also.run.each_kind
+    (subst (λ (C : Setting). IsSeedsRunOf (initial_state C) o.seed r) same (by-seed P o r is one))
     (by-seed P o s also one)
 
 -- so what is printed of it is the same

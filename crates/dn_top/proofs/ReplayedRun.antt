@@ -4,10 +4,10 @@ use Rattle.dn_base.specs.declared.ids.Shape.{Shape}
 use Rattle.region_table.specs.Program.{ProgramParts, IsProgram}
 use Rattle.message_net.specs.declared.event.Event.{Event}
 use Rattle.registration_protocol.specs.Node.{Setting}
-use Rattle.machine_rules.specs.State.{opened}
+use Rattle.machine_rules.specs.State.{initial_state}
 use Rattle.machine_rules.proofs.OpenedFacts.{opened-setting}
 use Rattle.run_agreement.specs.Ends.{HasFlatEnd}
-use Rattle.dn_machine.specs.Run.{IsRunOf as IsMachinesRun}
+use Rattle.dn_machine.specs.Run.{IsMachinesRun}
 use Rattle.dn_machine.specs.declared.record.RunRecord.{RunRecord}
 use Rattle.run_replay.specs.declared.trace.Trace.{Trace}
 use Rattle.run_replay.specs.declared.replaying.Replayed.{Replayed}
@@ -26,11 +26,11 @@ replay-at P Q t s events r program shape are is =
 
 -- a complete run, with what is promised of runs
 module _ (P : ProgramParts) (t : Trace) (r : RunRecord) where
-  pub machines-run : r.events ≡ t.events → (is : IsReplayIn P t (Complete r.ending r.grants r.counts)) → IsMachinesRun (opened is.setting) r
+  pub machines-run : r.events ≡ t.events → (is : IsReplayIn P t (Complete r.ending r.grants r.counts)) → IsMachinesRun (initial_state is.setting) r
   machines-run events is =
-      subst (λ (es : List Event). IsMachinesRun (opened is.setting) (record { events = es; grants = r.grants; counts = r.counts; ending = r.ending })) (sym events) is.is_true.run
+      subst (λ (es : List Event). IsMachinesRun (initial_state is.setting) (record { events = es; grants = r.grants; counts = r.counts; ending = r.ending })) (sym events) is.is_true.run
 
-  flat-end : (is : IsReplayIn P t (Complete r.ending r.grants r.counts)) → IsMachinesRun (opened is.setting) r → HasFlatEnd is.setting r.events
+  flat-end : (is : IsReplayIn P t (Complete r.ending r.grants r.counts)) → IsMachinesRun (initial_state is.setting) r → HasFlatEnd is.setting r.events
   flat-end is machine = subst (λ (C : Setting). HasFlatEnd C r.events) (opened-setting is.setting) machine.flat
 
   pub run-again : r.events ≡ t.events → IsReplayIn P t (Complete r.ending r.grants r.counts) → IsRunOf P (shape_told P t.shape) t.shape.fuel r

@@ -21,16 +21,16 @@ use Rattle.flat_machine.specs.Ending.{flat_end, task_end}
 use Rattle.flat_machine.proofs.CauseLemmas.{run-ended}
 use Rattle.flat_machine.proofs.ReachedLaws.{reached-tasks}
 use Rattle.flat_machine.proofs.RunLemmas.{alone-only}
-use Rattle.machine_rules.specs.State.{State, opened}
+use Rattle.machine_rules.specs.State.{State, initial_state}
 use Rattle.machine_rules.specs.Memory.{memory_of, word_value}
 use Rattle.machine_rules.specs.Next.{next}
 use Rattle.machine_rules.specs.Runs.{after, kinds_of, grants_of, IsRun}
 use Rattle.machine_rules.proofs.RunsKept.{run-setting}
 use Rattle.machine_rules.proofs.OpenedFacts.{opened-setting}
 use Rattle.run_agreement.specs.Ends.{HasFlatEnd}
-use Rattle.dn_machine.specs.Kept.{Made, IsKept, IsOpened}
+use Rattle.dn_machine.specs.Kept.{Made, IsKept, IsInitialMachine}
 use Rattle.dn_machine.specs.Settings.{IsSettingOf}
-use Rattle.dn_machine.specs.Run.{IsRecord, IsRunOf as IsMachinesRun, IsSeedsRunOf}
+use Rattle.dn_machine.specs.Run.{IsRecord, IsMachinesRun, IsSeedsRunOf}
 use Rattle.dn_machine.specs.declared.record.RunRecord.{RunRecord}
 use Rattle.dn_machine.proofs.RunLemmas.{ready-of}
 use Rattle.run_replay.specs.Document.{IsTold}
@@ -83,7 +83,7 @@ without-grants P fuel (g ∷ gs) e none is = let no_run = alone-only P fuel g gs
 -- what the machine says of a run, said of the setting that it was opened in
 module _ (P : ProgramParts) (s : Shape) (fuel : ℕ) (C : Setting) (r : RunRecord) where
   -- the flat machine's run by the grants that the record has
-  has-flat_run : IsRecord (opened C) r → HasFlatEnd C r.events → HasFlatRun C r
+  has-flat_run : IsRecord (initial_state C) r → HasFlatEnd C r.events → HasFlatRun C r
   has-flat_run is flat =
       record {
         end' = flat.end';
@@ -116,17 +116,17 @@ module _ (P : ProgramParts) (s : Shape) (fuel : ℕ) (C : Setting) (r : RunRecor
             ∙ ap Some flat.ending;
       }
 
-  pub run-of : IsSettingOf P s fuel C → IsMachinesRun (opened C) r → HasFlatEnd C r.events → length r.counts.kinds ≡ 17 → IsRunOf P s fuel r
+  pub run-of : IsSettingOf P s fuel C → IsMachinesRun (initial_state C) r → HasFlatEnd C r.events → length r.counts.kinds ≡ 17 → IsRunOf P s fuel r
   run-of asked machine flat each =
       let by_grants = has-flat_run machine.is_true flat in
       record { setting = C; asked = asked; machine = machine; each_kind = each; flat = by_grants; caused = has-cause asked by_grants; lock_free = has-no_grants asked by_grants }
 
-  pub can-print : IsProgram C.program → IsRecord (opened C) r → HasFlatEnd C r.events → length r.counts.kinds ≡ 17 → length r.events < 18446744073709551616 → IsPrintable r
+  pub can-print : IsProgram C.program → IsRecord (initial_state C) r → HasFlatEnd C r.events → length r.counts.kinds ≡ 17 → length r.events < 18446744073709551616 → IsPrintable r
   can-print program is flat kinds few =
-      let memory = ap (λ (e : Ending). length e.memory) is.ends ∙ shown-words (opened C) r.events ∙ ap (λ (D : Setting). length D.program.memory) (opened-setting C) in
+      let memory = ap (λ (e : Ending). length e.memory) is.ends ∙ shown-words (initial_state C) r.events ∙ ap (λ (D : Setting). length D.program.memory) (opened-setting C) in
       let tasks = ap (λ (e : Ending). length e.tasks) (is.ends ∙ sym flat.ending) in
-      let most = ended-tasks C.program C.fuel (grants_of (opened C) r.events) flat.end' flat.run in
-      let all = all_counted (kinds_of (opened C) r.events) r.counts kinds is.counted ∙ kinds-length (opened C) r.events in
+      let most = ended-tasks C.program C.fuel (grants_of (initial_state C) r.events) flat.end' flat.run in
+      let all = all_counted (kinds_of (initial_state C) r.events) r.counts kinds is.counted ∙ kinds-length (initial_state C) r.events in
       record {
         words = omega (arith, memory, program.memory);
         tasks = omega (arith, tasks, most, program.tasks);
@@ -136,10 +136,10 @@ module _ (P : ProgramParts) (s : Shape) (fuel : ℕ) (C : Setting) (r : RunRecor
 -- ---- from what the calls of the machine say
 
 module _ (P : ProgramParts) (o : Options) (m : Made) (r : RunRecord) where
-  at-opened : (Holds : State → Type 0) → IsOpened P (shape_for P o) o.fuel m → Holds m.state → Holds (opened m.state.setting)
+  at-opened : (Holds : State → Type 0) → IsInitialMachine P (shape_for P o) o.fuel m → Holds m.state → Holds (initial_state m.state.setting)
   at-opened Holds at h = subst Holds at.state h
 
-  asked-for : IsOpened P (shape_for P o) o.fuel m → IsKept m.state m.made → IsSettingOf P (shape_for P o) o.fuel m.state.setting
+  asked-for : IsInitialMachine P (shape_for P o) o.fuel m → IsKept m.state m.made → IsSettingOf P (shape_for P o) o.fuel m.state.setting
   asked-for at kept =
       record {
         program = at.program_is;
@@ -150,33 +150,33 @@ module _ (P : ProgramParts) (o : Options) (m : Made) (r : RunRecord) where
       }
 
   -- the one of a seed
-  pub is-run_by_seed : IsOpened P (shape_for P o) o.fuel m → IsKept m.state m.made → IsSeedsRunOf m.state o.seed r → length r.counts.kinds ≡ 17 → IsRunFor P o r
+  pub is-run_by_seed : IsInitialMachine P (shape_for P o) o.fuel m → IsKept m.state m.made → IsSeedsRunOf m.state o.seed r → length r.counts.kinds ≡ 17 → IsRunFor P o r
   unfolding run-of
   is-run_by_seed at kept run each =
-      let there : IsSeedsRunOf (opened m.state.setting) o.seed r = at-opened (λ S. IsSeedsRunOf S o.seed r) at run in
+      let there : IsSeedsRunOf (initial_state m.state.setting) o.seed r = at-opened (λ S. IsSeedsRunOf S o.seed r) at run in
       record { run = run-of P (shape_for P o) o.fuel m.state.setting r (asked-for at kept) there.run run.run.flat each; scheduled = λ _. there.scheduled }
 
   -- one of several workers
-  pub is-run_by_workers : IsOpened P (shape_for P o) o.fuel m → IsKept m.state m.made → IsMachinesRun m.state r → length r.counts.kinds ≡ 17 → o.workers ≢ 1 → IsRunFor P o r
+  pub is-run_by_workers : IsInitialMachine P (shape_for P o) o.fuel m → IsKept m.state m.made → IsMachinesRun m.state r → length r.counts.kinds ≡ 17 → o.workers ≢ 1 → IsRunFor P o r
   is-run_by_workers at kept run each several =
       record {
         run = run-of P (shape_for P o) o.fuel m.state.setting r (asked-for at kept) (at-opened (λ S. IsMachinesRun S r) at run) run.flat each;
         scheduled = λ one. absurd (several one);
       }
 
-  pub is-printable : IsOpened P (shape_for P o) o.fuel m → IsKept m.state m.made → IsRecord m.state r → HasFlatEnd m.state.setting r.events → length r.counts.kinds ≡ 17
+  pub is-printable : IsInitialMachine P (shape_for P o) o.fuel m → IsKept m.state m.made → IsRecord m.state r → HasFlatEnd m.state.setting r.events → length r.counts.kinds ≡ 17
       → length r.events < 18446744073709551616 → IsPrintable r
   is-printable at kept is flat kinds few =
       can-print P (shape_for P o) o.fuel m.state.setting r kept.sound.machine.program (at-opened (λ S. IsRecord S r) at is) flat kinds few
 
   -- the events are within the limits of a document
-  pub all-told : IsOpened P (shape_for P o) o.fuel m → IsKept m.state m.made → IsRun m.state r.events → All IsTold r.events
+  pub all-told : IsInitialMachine P (shape_for P o) o.fuel m → IsKept m.state m.made → IsRun m.state r.events → All IsTold r.events
   all-told at kept run =
       run-told m.state.setting r.events (ready-of m.state m.made kept.sound) kept.most (at-opened (λ S. IsRun S r.events) at run)
 
 -- the machine was opened in the shape of the checked program
-pub at_shape : (P Q : ProgramParts) (o : Options) (s : Shape) (m : Made) → IsOpened P s o.fuel m → s ≡ shape_for Q o → Q ≡ P → IsOpened P (shape_for P o) o.fuel m
-at_shape P Q o s m at is same = subst (λ (s : Shape). IsOpened P s o.fuel m) (is ∙ ap (λ (p : ProgramParts). shape_for p o) same) at
+pub at_shape : (P Q : ProgramParts) (o : Options) (s : Shape) (m : Made) → IsInitialMachine P s o.fuel m → s ≡ shape_for Q o → Q ≡ P → IsInitialMachine P (shape_for P o) o.fuel m
+at_shape P Q o s m at is same = subst (λ (s : Shape). IsInitialMachine P s o.fuel m) (is ∙ ap (λ (p : ProgramParts). shape_for p o) same) at
 
 -- ---- two runs without locks
 

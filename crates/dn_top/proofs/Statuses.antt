@@ -9,7 +9,7 @@ use Rattle.command_words.specs.declared.options.Mode.{Mode}
 use Rattle.command_words.specs.declared.options.Mode as mode
 use Rattle.command_words.specs.declared.options.Options.{Options}
 use Rattle.dn_top.specs.declared.output.Output.{Output}
-use Rattle.dn_top.specs.Serving.{IsRunWith}
+use Rattle.dn_top.specs.Serving.{IsRunWithStatus}
 use Rattle.dn_top.specs.Answers.{done_in, makes_run, runs_tasks, IsDone, IsRefusal, IsAnswer, IsOutcome}
 
 -- whether a status is a refusal's
@@ -91,9 +91,9 @@ done-plain mode.TheVariants.Prove o text out h none = status_in out _ h.holds.an
 
 -- the run is one that the mode makes
 abbrev RunsWell : Mode → Options → Output → Type 0
-RunsWell m o out = IfSome out.run (IsRunWith m o out.status)
+RunsWell m o out = IfSome out.run (IsRunWithStatus m o out.status)
 
-pub done-run : (m : Mode) (o : Options) (text : List ℕ) (out : Output) → done_in m o text out → IfSome out.run (IsRunWith m o out.status)
+pub done-run : (m : Mode) (o : Options) (text : List ℕ) (out : Output) → done_in m o text out → IfSome out.run (IsRunWithStatus m o out.status)
 done-run mode.TheVariants.Run o text out h =
     subst (RunsWell mode.TheVariants.Run o) (sym h.holds.answer) (record { program = h.program; checked = h.checked; run = h.holds.is; ends = refl })
 done-run mode.TheVariants.Work o text out h =

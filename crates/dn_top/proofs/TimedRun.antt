@@ -4,7 +4,7 @@ use Rattle.dn_base.specs.declared.ids.Shape.{Shape}
 use Rattle.region_table.specs.Program.{ProgramParts}
 use Rattle.message_net.specs.declared.event.Event.{Event}
 use Rattle.registration_protocol.specs.Node.{Setting}
-use Rattle.machine_rules.specs.State.{opened}
+use Rattle.machine_rules.specs.State.{initial_state}
 use Rattle.machine_rules.specs.Runs.{IsRun}
 use Rattle.dn_machine.specs.declared.record.RunRecord.{RunRecord}
 use Rattle.dn_machine.specs.Settings.{IsRunOn}
@@ -19,7 +19,7 @@ use Rattle.dn_top.specs.Runs.{shape_for, ticks_for, IsAnyRunFor}
 run-on : (P : ProgramParts) (o : Options) (r : RunRecord) → IsAnyRunFor P o r → IsRunOn P (shape_for P o) o.fuel r.events
 run-on P o r is C told =
     let same : is.setting ≡ C = same-setting P (shape_for P o) o.fuel is.setting C is.asked told in
-    subst (λ (D : Setting). IsRun (opened D) r.events) same is.machine.complete.run
+    subst (λ (D : Setting). IsRun (initial_state D) r.events) same is.machine.complete.run
 
 -- the same of a shape and events that are these
 shape-is : (Q P : ProgramParts) (o : Options) (s : Shape) → Q ≡ P → s ≡ shape_for Q o → s ≡ shape_for P o

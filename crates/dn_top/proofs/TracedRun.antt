@@ -6,13 +6,13 @@ use Rattle.rv_assembler.specs.Source.{source}
 use Rattle.dn_machine.specs.declared.record.RunRecord.{RunRecord}
 use Rattle.run_replay.specs.Document.{IsTold, IsTrace, IsTraceShape}
 use Rattle.command_words.specs.declared.options.Options.{Options}
-use Rattle.command_words.specs.Command.{IsWithinLimits}
+use Rattle.command_words.specs.Command.{OptionsInRange}
 use Rattle.dn_top.specs.Runs.{IsAnyRunFor}
 use Rattle.dn_top.specs.Documents.{sizes_of, trace_of}
 use Rattle.dn_top.proofs.Fronts.{source-small}
 
 -- the machine's size and the fuel of options are within the limits of a document
-sizes-within : (o : Options) → IsWithinLimits o → IsTraceShape (sizes_of o)
+sizes-within : (o : Options) → OptionsInRange o → IsTraceShape (sizes_of o)
 sizes-within o l =
     record {
       banks = record { low = omega (arith, l.banks); high = omega (arith, l.banks) };
@@ -22,7 +22,7 @@ sizes-within o l =
     }
 
 -- so is all that the document of a run tells
-pub trace-told : (P : ProgramParts) (o : Options) (text : List ℕ) (r : RunRecord) → IsWithinLimits o → source text ≡ Ok P → IsAnyRunFor P o r → All IsTold r.events → IsTrace (trace_of o text r)
+pub trace-told : (P : ProgramParts) (o : Options) (text : List ℕ) (r : RunRecord) → OptionsInRange o → source text ≡ Ok P → IsAnyRunFor P o r → All IsTold r.events → IsTrace (trace_of o text r)
 trace-told P o text r limits is run told =
     record {
       head = record { shape = sizes-within o limits; text = source-small text P is; count = run.machine.few.most };

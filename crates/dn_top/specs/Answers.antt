@@ -8,20 +8,20 @@ use Rattle.dn_base.specs.Status.{status_of}
 use Rattle.region_table.specs.Program.{ProgramParts}
 use Rattle.rv_assembler.specs.declared.fault.SourceFault.{SourceFault}
 use Rattle.rv_assembler.specs.Source.{source}
-use Rattle.rv_listing.specs.Law.{IsWithinLimits}
-use Rattle.rv_listing.specs.Listing.{listed_lines, listed}
+use Rattle.rv_listing.specs.Law.{FitsSourceLimits}
+use Rattle.rv_listing.specs.Listing.{listed_lines, listing_of}
 use Rattle.effect_checker.specs.declared.fault.CheckFault.{CheckFault}
 use Rattle.effect_checker.specs.Checked.{IsChecked}
 use Rattle.effect_checker.specs.Faults.{IsLeastFault}
 use Rattle.effect_prover.specs.declared.proved.Proved.{Proved}
 use Rattle.effect_prover.specs.declared.proved.Proved.TheVariants.{Inside}
-use Rattle.effect_prover.specs.Answer.{IsAnswer as IsProversAnswer, RunsInside, proved_text}
+use Rattle.effect_prover.specs.Answer.{IsProversAnswer, RunsInside, proved_text}
 use Rattle.flat_machine.specs.declared.ending.FlatEnd.{FlatEnd}
 use Rattle.flat_machine.specs.Grants.{IsLeast}
 use Rattle.flat_machine.specs.Ending.{flat_end}
 use Rattle.run_report.specs.declared.refusal.Refusal as refusal
 use Rattle.run_report.specs.Answer.{answer_of}
-use Rattle.run_report.specs.Grants.{grants_of}
+use Rattle.run_report.specs.Grants.{grant_lines}
 use Rattle.run_report.specs.Refusal.{refusal_of}
 use Rattle.run_report.specs.Summary.{checked_of}
 use Rattle.command_words.specs.declared.options.Mode.{Mode}
@@ -85,12 +85,12 @@ pub record IsFlatRun (program : ProgramParts) (fuel : ℕ) (out : Output) : Type
   pub end : FlatEnd
   pub flat : flat_end program fuel grants ≡ Some end
   pub caused : IsCaused program fuel grants end.ending
-  pub answer : out ≡ answered (status_of end.ending.outcome) (answer_of end.ending ++ grants_of grants)
+  pub answer : out ≡ answered (status_of end.ending.outcome) (answer_of end.ending ++ grant_lines grants)
 
 -- the program's listing, which is a text of just this program, if it is within the limits of a text
 pub record IsListing (program : ProgramParts) (out : Output) : Type 0 where
-  pub answer : out ≡ answered status.TheVariants.Done (listed program)
-  pub again : IsWithinLimits (listed_lines program) → source (listed program) ≡ Ok program
+  pub answer : out ≡ answered status.TheVariants.Done (listing_of program)
+  pub again : FitsSourceLimits (listed_lines program) → source (listing_of program) ≡ Ok program
 
 -- what the prover says of the program's effects; where it says that they are kept, no run ends a task by a trap outside
 pub record IsProof (program : ProgramParts) (out : Output) : Type 0 where
@@ -113,8 +113,8 @@ IsRefusedDocument document line =
 -- ---- the run of a text
 
 -- r is a run of the text's checked program on the machine that the options ask for, picked as they ask
-abbrev pub HasRun : Options → List ℕ → RunRecord → Type 0
-HasRun o text r = HasChecked text (λ P. IsRunFor P o r)
+abbrev pub IsRunOfText : Options → List ℕ → RunRecord → Type 0
+IsRunOfText o text r = HasChecked text (λ P. IsRunFor P o r)
 
 -- the same, whoever picked its events
 abbrev pub HasAnyRun : Options → List ℕ → RunRecord → Type 0

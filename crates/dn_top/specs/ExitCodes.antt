@@ -3,7 +3,7 @@ use Rattle.std.specs.Prelude.{◌≡◌, ◌⊎◌, Option}
 use Rattle.std.specs.Process.{exit_status}
 use Rattle.std.specs.declared.process.ExitCode.{ExitCode}
 use Rattle.dn_base.specs.declared.status.Status.{Status}
-use Rattle.dn_base.specs.Status.{code_of}
+use Rattle.dn_base.specs.Status.{exit_code_of}
 use Rattle.command_words.specs.declared.options.Options.{Options}
 use Rattle.dn_top.specs.declared.serving.Answer.{Answer}
 use Rattle.dn_top.specs.Outside.{Devices}
@@ -11,7 +11,7 @@ use Rattle.dn_top.specs.Serving.{Serves}
 
 -- the exit code of a status
 abbrev pub IsCodeOf : Status → ExitCode → Type 0
-IsCodeOf status code = exit_status code ≡ code_of status
+IsCodeOf status code = exit_status code ≡ exit_code_of status
 
 -- the exit code of some status, or 9: the runtime couldn't give the command words
 abbrev pub IsExitCode : ExitCode → Type 0

@@ -5,7 +5,7 @@ use Rattle.command_words.specs.declared.options.Options.{Options}
 use Rattle.dn_top.specs.declared.serving.Answer.{Answer}
 use Rattle.dn_top.specs.Answers.{IsOutcome, picks_events}
 use Rattle.dn_top.specs.Outside.{Devices, Took}
-use Rattle.dn_top.specs.Serving.{text_for, Serves}
+use Rattle.dn_top.specs.Serving.{text_to_answer, Serves}
 
 -- ---- what is decided
 
@@ -23,7 +23,7 @@ pub record Call : Type 0 where
 
 -- these options are wanted, this is the text that they are about, and its exit code is that of an outcome or of a refusal
 pub record IsAnswered (o : Options) (text : List ℕ) (c : Call) : Type 0 where
-  pub about : text_for o c.before.source ≡ Some text
+  pub about : text_to_answer o c.before.source ≡ Some text
   pub serves : Serves (Some o) c.before c.after c.answer
   pub ends : IsOutcome c.answer.status ⊎ (c.answer.status ≡ status.TheVariants.SourceRefused)
 

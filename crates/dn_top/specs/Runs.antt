@@ -8,10 +8,10 @@ use Rattle.rv_core.specs.declared.ending.Ending.{Ending}
 use Rattle.registration_protocol.specs.Node.{Setting}
 use Rattle.flat_machine.specs.declared.ending.FlatEnd.{FlatEnd}
 use Rattle.flat_machine.specs.Ending.{flat_end}
-use Rattle.machine_rules.specs.State.{opened}
+use Rattle.machine_rules.specs.State.{initial_state}
 use Rattle.machine_rules.specs.Runs.{all_loads}
 use Rattle.dn_machine.specs.Settings.{IsSettingOf}
-use Rattle.dn_machine.specs.Run.{IsRunOf as IsMachinesRun}
+use Rattle.dn_machine.specs.Run.{IsMachinesRun}
 use Rattle.dn_machine.specs.Schedule.{IsScheduled}
 use Rattle.dn_machine.specs.declared.record.RunRecord.{RunRecord}
 use Rattle.run_report.specs.Run.{report_of}
@@ -26,8 +26,8 @@ use Rattle.dn_top.specs.declared.output.Output.{Output}
 use Rattle.dn_top.specs.Causes.{IsCaused}
 
 -- the same options, by one worker
-abbrev pub alone : Options → Options
-alone o = record o { workers = 1 }
+abbrev pub with_one_worker : Options → Options
+with_one_worker o = record o { workers = 1 }
 
 -- ---- the machine that options ask for
 
@@ -42,7 +42,7 @@ shape_for P o = record { cores = cores_of P; banks = o.banks; sets = o.sets; way
 pub record HasFlatRun (C : Setting) (r : RunRecord) : Type 0 where
   pub end' : FlatEnd
   pub value : flat_end C.program C.fuel r.grants ≡ Some end'
-  pub loads : end'.loads ≡ all_loads (opened C) r.events
+  pub loads : end'.loads ≡ all_loads (initial_state C) r.events
   pub ending : end'.ending ≡ r.ending
 
 -- how the flat machine's run by no grants ends: nothing but the program and the fuel decides it
@@ -63,7 +63,7 @@ pub record IsRunOf (P : ProgramParts) (shape : Shape) (fuel : ℕ) (r : RunRecor
   pub asked : IsSettingOf P shape fuel setting
   -- its events are a complete run of the opened machine, at rest behind it, coherent after each of them, whose loads are fronts
   -- of one thread's; and its grants, counts and ending are read off them
-  pub machine : IsMachinesRun (opened setting) r
+  pub machine : IsMachinesRun (initial_state setting) r
   -- there is a count of each of the seventeen kinds of event
   pub each_kind : length r.counts.kinds ≡ 17
   -- one thread on one memory that takes the critical sections in the order of its grants loads the same and ends the same
@@ -81,7 +81,7 @@ IsAnyRunFor P o r = IsRunOf P (shape_for P o) o.fuel r
 -- which event comes first
 pub record IsRunFor (P : ProgramParts) (o : Options) (r : RunRecord) : Type 0 where
   pub run : IsAnyRunFor P o r
-  pub scheduled : o.workers ≡ 1 → IsScheduled (opened run.setting) o.seed r.events
+  pub scheduled : o.workers ≡ 1 → IsScheduled (initial_state run.setting) o.seed r.events
 
 -- ---- its output
 

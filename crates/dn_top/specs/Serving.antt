@@ -28,8 +28,8 @@ abbrev pub text_by : Option ℕ → ℕ → Option (List ℕ) → Option (List �
 text_by None size told = Some (work_of size)
 text_by (Some most) size told = told
 
-abbrev pub text_for : Options → DeviceState → Option (List ℕ)
-text_for o source = text_by (most_read o.mode) o.size source.bytes
+abbrev pub text_to_answer : Options → DeviceState → Option (List ℕ)
+text_to_answer o source = text_by (most_read o.mode) o.size source.bytes
 
 -- the source was left alone where the text is generated, and else read to its end
 abbrev pub read_by : Option ℕ → DeviceState → DeviceState → Type 0
@@ -40,7 +40,7 @@ read_by (Some most) before after = after.bytes ≡ Some []
 pub record ForText (wanted : Option Options) (source : DeviceState) (Holds : Options → List ℕ → Type 0) : Type 0 where
   pub options : Options
   pub asked : wanted ≡ Some options
-  pub text : IfSome (text_for options source) (Holds options)
+  pub text : IfSome (text_to_answer options source) (Holds options)
 
 -- ---- what a status says of a text
 
@@ -75,7 +75,7 @@ pub record HasStatus (o : Options) (text : List ℕ) (s : Status) : Type 0 where
 -- a sink that failed took a front of the line that refuses the words, or of the answer to the text that they ask for
 abbrev pub has_stopped : Option Options → Devices → Devices → Type 0
 has_stopped None before after = TookFront before.sink after.sink usage_line
-has_stopped (Some o) before after = IfSome (text_for o before.source) (HasFailed o before after)
+has_stopped (Some o) before after = IfSome (text_to_answer o before.source) (HasFailed o before after)
 
 -- r is a run of the program on the machine that the options ask for, by one worker the one of their seed; in the mode replay a
 -- document tells how large the machine is, and which events come
@@ -84,7 +84,7 @@ is_run_in mode.TheVariants.Replay P o r = (s : TraceShape) × IsTraceShape s × 
 is_run_in m P o r = IsRunFor P o r
 
 -- r is a run of a checked program, and the status is that of its outcome
-pub record IsRunWith (m : Mode) (o : Options) (s : Status) (r : RunRecord) : Type 0 where
+pub record IsRunWithStatus (m : Mode) (o : Options) (s : Status) (r : RunRecord) : Type 0 where
   pub program : ProgramParts
   pub checked : IsChecked program
   pub run : is_run_in m program o r
@@ -94,7 +94,7 @@ pub record IsRunWith (m : Mode) (o : Options) (s : Status) (r : RunRecord) : Typ
 -- task is run the outcome is Done
 pub record HandsBack (o : Options) (answer : Answer) : Type 0 where
   pub comes : is_some answer.run ≡ makes_run o.mode
-  pub run : IfSome answer.run (IsRunWith o.mode o answer.status)
+  pub run : IfSome answer.run (IsRunWithStatus o.mode o answer.status)
   pub done : runs_tasks o.mode ≡ false → answer.status ≡ status.TheVariants.Done
 
 -- how many bytes the program reads at most: None where the words are refused or their mode generates its text
@@ -130,7 +130,7 @@ pub record Serves (wanted : Option Options) (before after : Devices) (answer : A
   -- and never gives more than one byte past the most that a text, or in the mode replay a document, may have
   pub few : IfSome (most_asked wanted) (GaveAtMost before.source after.source)
   -- options and a text that the source tells have their answer's status, unless a device failed or there was no memory
-  pub complete : (o : Options) → wanted ≡ Some o → (text : List ℕ) → text_for o before.source ≡ Some text
+  pub complete : (o : Options) → wanted ≡ Some o → (text : List ℕ) → text_to_answer o before.source ≡ Some text
       → ¬ Failed before.source after.source → ¬ Failed before.sink after.sink
       → HasStatus o text answer.status ⊎ (answer.status ≡ status.TheVariants.Memory)
 
@@ -145,46 +145,46 @@ status_of_read reading.TheVariants.NoMemory = status.TheVariants.Memory
 abbrev pub answer_to : Output → Answer
 answer_to out = record { status = out.status; run = out.run }
 
-abbrev pub bare : Status → Answer
-bare s = record { status = s; run = None }
+abbrev pub without_run : Status → Answer
+without_run s = record { status = s; run = None }
 
 -- the output was written and the answer is its status and run, or the sink failed and took a front of its bytes
-abbrev pub IsFinished : DeviceState → DeviceState → Output → Answer → Type 0
-IsFinished before after out answer =
+abbrev pub IsWritten : DeviceState → DeviceState → Output → Answer → Type 0
+IsWritten before after out answer =
     ((answer ≡ answer_to out) × Took before after out.bytes)
-    ⊎ ((answer ≡ bare status.TheVariants.WriteFault) × Failed before after × TookFront before after out.bytes)
+    ⊎ ((answer ≡ without_run status.TheVariants.WriteFault) × Failed before after × TookFront before after out.bytes)
 
 -- the output for a text was made, and written as far as the sink took it
 pub record IsGiven (o : Options) (before after : DeviceState) (text : List ℕ) (answer : Answer) : Type 0 where
   pub out : Output
   pub is : IsAnswer o text out
-  pub finished : IsFinished before after out answer
+  pub finished : IsWritten before after out answer
 
 -- there was no memory, and nothing was written
 pub record IsStarved (before after : DeviceState) (answer : Answer) : Type 0 where
-  pub memory : answer ≡ bare status.TheVariants.Memory
+  pub memory : answer ≡ without_run status.TheVariants.Memory
   pub nothing : TookNothing before after
 
 abbrev pub IsReplied : Options → DeviceState → DeviceState → List ℕ → Answer → Type 0
 IsReplied o before after text answer = IsGiven o before after text answer ⊎ IsStarved before after answer
 
 -- the text was generated, or it was read
-abbrev pub taken_by : Option ℕ → ℕ → DeviceState → DeviceState → List ℕ → Type 0
-taken_by None size before after text = (text ≡ work_of size) × IsUntouched before after
-taken_by (Some most) size before after text = IsRead before after most text
+abbrev pub obtained_by : Option ℕ → ℕ → DeviceState → DeviceState → List ℕ → Type 0
+obtained_by None size before after text = (text ≡ work_of size) × IsUntouched before after
+obtained_by (Some most) size before after text = IsRead before after most text
 
-abbrev pub IsTaken : Options → DeviceState → DeviceState → List ℕ → Type 0
-IsTaken o before after text = taken_by (most_read o.mode) o.size before after text
+abbrev pub IsObtained : Options → DeviceState → DeviceState → List ℕ → Type 0
+IsObtained o before after text = obtained_by (most_read o.mode) o.size before after text
 
 -- the text was taken and replied to
 pub record IsServed (o : Options) (before after : Devices) (answer : Answer) : Type 0 where
   pub text : List ℕ
-  pub taken : IsTaken o before.source after.source text
+  pub taken : IsObtained o before.source after.source text
   pub reply : IsReplied o before.sink after.sink text answer
 
 -- the source failed, and nothing was written
 pub record IsUnread (before after : Devices) (answer : Answer) : Type 0 where
-  pub fault : answer ≡ bare status.TheVariants.ReadFault
+  pub fault : answer ≡ without_run status.TheVariants.ReadFault
   pub failed : Failed before.source after.source
   pub nothing : TookNothing before.sink after.sink
 

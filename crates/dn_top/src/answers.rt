@@ -2,8 +2,8 @@ ghost use Rattle.std.specs.Prelude.{◌≡◌, ◌≢◌, ◌≤◌, IfOk, IfErr
 ghost use Rattle.region_table.specs.Program.{names_of};
 ghost use Rattle.rv_assembler.specs.Names.{AreDeclaredNames};
 ghost use Rattle.run_report.specs.Summary.{checked_of as counts_of};
-ghost use Rattle.command_words.specs.Command.{IsWithinLimits};
-ghost use Rattle.dn_top.specs.Runs.{alone};
+ghost use Rattle.command_words.specs.Command.{OptionsInRange};
+ghost use Rattle.dn_top.specs.Runs.{with_one_worker};
 ghost use Rattle.dn_top.specs.Answers.{IsAnswer, IsFlatRun, IsListing, IsOutputOf, IsProof, IsStop, answered, done_in, refused_in};
 
 use crate::documents::{replay_document, trace_run};
@@ -61,8 +61,8 @@ fn prove_effects(alloc: Global, checked: &Checked) -> Result<Output, Memory>
 
 /// What each mode does with a text, on this thread alone.
 fn done_alone(alloc: Global, options: &Options, text: &[u8]) -> Result<Output, Stop>
-    requires { IsWithinLimits options.now }
-    ensures done { IfOk result (done_in options.now.mode (alone options.now) text.now) }
+    requires { OptionsInRange options.now }
+    ensures done { IfOk result (done_in options.now.mode (with_one_worker options.now) text.now) }
     ensures stop { IfErr result (IsStop (refused_in options.now.mode text.now)) }
 {
     match options.mode {
@@ -92,7 +92,7 @@ fn done_by_workers<R: Threads + Wait + Sync, G: Gate + Sync>(
     text: &[u8],
     gate: &G,
 ) -> Result<Output, Stop>
-    requires limits { IsWithinLimits options.now }
+    requires limits { OptionsInRange options.now }
     requires several { options.now.workers ≢ 1 }
     ensures done { IfOk result (done_in options.now.mode options.now text.now) }
     ensures stop { IfErr result (IsStop (refused_in options.now.mode text.now)) }
@@ -137,8 +137,8 @@ fn output_from(done: Result<Output, Stop>) -> Result<Output, Memory>
 /// # Errors
 /// `Memory` where there is no room for the program, its run or the answer.
 pub(crate) fn output_alone(alloc: Global, options: &Options, text: &[u8]) -> Result<Output, Memory>
-    requires { IsWithinLimits options.now }
-    ensures { IfOk result (IsAnswer (alone options.now) text.now) }
+    requires { OptionsInRange options.now }
+    ensures { IfOk result (IsAnswer (with_one_worker options.now) text.now) }
 {
     output_from(done_alone(alloc, options, text))
 }
@@ -154,7 +154,7 @@ pub(crate) fn output_by_workers<R: Threads + Wait + Sync, G: Gate + Sync>(
     text: &[u8],
     gate: &G,
 ) -> Result<Output, Memory>
-    requires limits { IsWithinLimits options.now }
+    requires limits { OptionsInRange options.now }
     requires several { options.now.workers ≢ 1 }
     ensures { IfOk result (IsAnswer options.now text.now) }
 {

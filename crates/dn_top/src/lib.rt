@@ -3,10 +3,10 @@
 
 ghost use Rattle.std.specs.Prelude.{◌≡◌, map, string_bytes, None, IfSome};
 ghost use Rattle.std.specs.Option.{option_map};
-ghost use Rattle.command_words.specs.Command.{IsWithinLimits, options_of};
+ghost use Rattle.command_words.specs.Command.{OptionsInRange, options_of};
 ghost use Rattle.dn_top.specs.Answers.{most_read};
 ghost use Rattle.dn_top.specs.Outside.{GaveAtMost, IsUntouched, device, devices};
-ghost use Rattle.dn_top.specs.Runs.{alone};
+ghost use Rattle.dn_top.specs.Runs.{with_one_worker};
 ghost use Rattle.dn_top.specs.Serving.{IsDoneBy, Serves};
 
 use dn_base::{Gate, Sink, Source, Status};
@@ -58,7 +58,7 @@ pub fn answer_words<S: Source, K: Sink>(
     source: &mut S,
     sink: &mut K,
 ) -> Answer
-    ensures serves { Serves (option_map alone (options_of (map string_bytes words.now)))
+    ensures serves { Serves (option_map with_one_worker (options_of (map string_bytes words.now)))
         (devices (S.content source.old) (S.faults source.old) (K.content sink.old) (K.faults sink.old))
         (devices (S.content source.new) (S.faults source.new) (K.content sink.new) (K.faults sink.new)) result }
 {
@@ -78,7 +78,7 @@ fn answer_options<R: Threads + Wait + Sync, S: Source, K: Sink, G: Gate + Sync>(
     sink: &mut K,
     gate: &G,
 ) -> Answer
-    requires { IsWithinLimits options.now }
+    requires { OptionsInRange options.now }
     ensures served { IsDoneBy options.now
         (devices (S.content source.old) (S.faults source.old) (K.content sink.old) (K.faults sink.old))
         (devices (S.content source.new) (S.faults source.new) (K.content sink.new) (K.faults sink.new)) result }

@@ -1,8 +1,8 @@
 ghost use Rattle.std.specs.Prelude.{◌≡◌, ◌+◌, IfOk, IfErr, IfSome};
-ghost use Rattle.command_words.specs.Command.{IsWithinLimits};
+ghost use Rattle.command_words.specs.Command.{OptionsInRange};
 ghost use Rattle.dn_top.specs.Answers.{most_read};
 ghost use Rattle.dn_top.specs.Outside.{Failed as HasFailed, GaveAtMost, IsRead, IsUntouched, device};
-ghost use Rattle.dn_top.specs.Serving.{IsTaken};
+ghost use Rattle.dn_top.specs.Serving.{IsObtained};
 ghost use Rattle.dn_top.specs.declared.reading.ReadError.TheVariants.{NoMemory};
 
 use command_words::{Mode, Options};
@@ -58,8 +58,8 @@ pub(crate) fn take_text<S: Source>(
     options: &Options,
     source: &mut S,
 ) -> Result<Vec<u8>, ReadError>
-    requires { IsWithinLimits options.now }
-    ensures text { IfOk result (λ text. IsTaken options.now (device (S.content source.old) (S.faults source.old)) (device (S.content source.new) (S.faults source.new)) text.items) }
+    requires { OptionsInRange options.now }
+    ensures text { IfOk result (λ text. IsObtained options.now (device (S.content source.old) (S.faults source.old)) (device (S.content source.new) (S.faults source.new)) text.items) }
     ensures failed { IfErr result (λ error. error ≡ ReadError.Failed
         → HasFailed (device (S.content source.old) (S.faults source.old)) (device (S.content source.new) (S.faults source.new))) }
     ensures few { IfSome (most_read options.now.mode) (GaveAtMost (device (S.content source.old) (S.faults source.old)) (device (S.content source.new) (S.faults source.new))) }

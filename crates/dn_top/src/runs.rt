@@ -1,12 +1,12 @@
 ghost use Rattle.std.specs.Prelude.{◌≡◌, ◌≤◌, ◌++◌, All, length, IfOk, IfErr};
-ghost use Rattle.command_words.specs.Command.{IsWithinLimits};
+ghost use Rattle.command_words.specs.Command.{OptionsInRange};
 ghost use Rattle.run_report.specs.Summary.{summary_of};
 ghost use Rattle.run_replay.specs.Document.{IsTold, IsTrace};
 ghost use Rattle.run_timing.specs.Text.{timing_of};
 ghost use Rattle.run_timing.specs.Ticks.{AreWithinLimits};
-ghost use Rattle.dn_top.specs.Answers.{HasAnyRun, HasChecked, HasRun, IsStop, IsUnfit};
+ghost use Rattle.dn_top.specs.Answers.{HasAnyRun, HasChecked, IsRunOfText, IsStop, IsUnfit};
 ghost use Rattle.dn_top.specs.Documents.{trace_of};
-ghost use Rattle.dn_top.specs.Runs.{IsAnyRunFor, IsPrintable, IsRunFor, IsTimedFor, alone, output_of_run, reported, shape_for, summed_up, ticks_for};
+ghost use Rattle.dn_top.specs.Runs.{IsAnyRunFor, IsPrintable, IsRunFor, IsTimedFor, with_one_worker, output_of_run, reported, shape_for, summed_up, ticks_for};
 
 use crate::output::Output;
 use crate::programs::{Stop, checked_of};
@@ -42,8 +42,8 @@ pub(crate) fn has_each_kind(counts: &Counts)
 
 /// Runs a checked program on the machine that the options ask for, by their seed, on this thread alone.
 fn machine_run(alloc: Global, options: &Options, checked: Checked) -> Result<RunRecord, Memory>
-    requires { IsWithinLimits options.now }
-    ensures run { IfOk result (IsRunFor checked (alone options.now)) }
+    requires { OptionsInRange options.now }
+    ensures run { IfOk result (IsRunFor checked (with_one_worker options.now)) }
     ensures told { IfOk result (λ run. All IsTold run.events) }
     ensures printable { IfOk result IsPrintable }
 {
@@ -58,8 +58,8 @@ fn machine_run(alloc: Global, options: &Options, checked: Checked) -> Result<Run
 
 /// The run of a text's program by one worker.
 pub(crate) fn run_alone(alloc: Global, options: &Options, text: &[u8]) -> Result<RunRecord, Stop>
-    requires { IsWithinLimits options.now }
-    ensures run { IfOk result (HasRun (alone options.now) text.now) }
+    requires { OptionsInRange options.now }
+    ensures run { IfOk result (IsRunOfText (with_one_worker options.now) text.now) }
     ensures told { IfOk result (λ run. IsTrace (trace_of options.now text.now run)) }
     ensures printable { IfOk result IsPrintable }
     ensures stop { IfErr result (IsStop (IsUnfit text.now)) }
@@ -98,7 +98,7 @@ pub(crate) fn sum_up_run(alloc: Global, run: RunRecord) -> Result<Output, Memory
 
 /// The ticks that the options give to each kind of event.
 fn ticks_of(options: &Options) -> Ticks
-    requires { IsWithinLimits options.now }
+    requires { OptionsInRange options.now }
     ensures value { result ≡ ticks_for options.now }
     ensures limits { AreWithinLimits result }
 {
@@ -123,7 +123,7 @@ fn time_run_of(
     checked: Checked,
     run: RunRecord,
 ) -> Result<Output, Memory>
-    requires limits { IsWithinLimits options.now }
+    requires limits { OptionsInRange options.now }
     requires run { IsAnyRunFor checked options.now run }
     requires printable { IsPrintable run }
     ensures { IfOk result (IsTimedFor checked options.now run) }
@@ -152,7 +152,7 @@ pub(crate) fn time_text_run(
     text: &[u8],
     run: RunRecord,
 ) -> Result<Output, Stop>
-    requires limits { IsWithinLimits options.now }
+    requires limits { OptionsInRange options.now }
     requires run { HasAnyRun options.now text.now run }
     requires printable { IsPrintable run }
     ensures ok { IfOk result (λ out. HasChecked text.now (λ P. IsTimedFor P options.now run out)) }

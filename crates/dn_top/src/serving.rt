@@ -1,10 +1,10 @@
 ghost use Rattle.std.specs.Prelude.{◌≡◌, ◌≢◌, ℕ, List, None, IfOk, IfSome};
 ghost use Rattle.command_words.specs.declared.options.Options.{Options as OptionsOf};
-ghost use Rattle.command_words.specs.Command.{IsWithinLimits};
+ghost use Rattle.command_words.specs.Command.{OptionsInRange};
 ghost use Rattle.dn_top.specs.Answers.{IsAnswer, answered, most_read, usage_line};
 ghost use Rattle.dn_top.specs.Outside.{GaveAtMost, IsUntouched, device, devices};
-ghost use Rattle.dn_top.specs.Runs.{alone};
-ghost use Rattle.dn_top.specs.Serving.{bare, IsDoneBy, IsFinished, IsReplied, status_of_read};
+ghost use Rattle.dn_top.specs.Runs.{with_one_worker};
+ghost use Rattle.dn_top.specs.Serving.{without_run, IsDoneBy, IsWritten, IsReplied, status_of_read};
 
 use crate::answers::{output_alone, output_by_workers};
 use crate::output::Output;
@@ -29,14 +29,14 @@ pub struct Answer {
 
 /// The answer that is a status alone.
 pub(crate) fn status_only(status: Status) -> Answer
-    ensures { result ≡ bare status }
+    ensures { result ≡ without_run status }
 {
     Answer { status, run: None }
 }
 
 /// Writes the bytes, and answers this status and run, or `WriteFault` where the sink failed.
 fn finish<K: Sink>(sink: &mut K, bytes: &[u8], status: Status, run: Option<RunRecord>) -> Answer
-    ensures { IsFinished (device (K.content sink.old) (K.faults sink.old)) (device (K.content sink.new) (K.faults sink.new)) (record { status = status; bytes = bytes.now; run = run }) result }
+    ensures { IsWritten (device (K.content sink.old) (K.faults sink.old)) (device (K.content sink.new) (K.faults sink.new)) (record { status = status; bytes = bytes.now; run = run }) result }
 {
     match write_text(sink, bytes) {
         Ok(()) => Answer { status, run },
@@ -47,7 +47,7 @@ fn finish<K: Sink>(sink: &mut K, bytes: &[u8], status: Status, run: Option<RunRe
 /// Refuses the command words.
 #[tactic(auto, unfolding(run_report::specs::Refusal::refusal_of))]
 pub(crate) fn refuse_words<K: Sink>(sink: &mut K) -> Answer
-    ensures { IsFinished (device (K.content sink.old) (K.faults sink.old)) (device (K.content sink.new) (K.faults sink.new)) (answered Status.Usage usage_line) result }
+    ensures { IsWritten (device (K.content sink.old) (K.faults sink.old)) (device (K.content sink.new) (K.faults sink.new)) (answered Status.Usage usage_line) result }
 {
     finish(sink, b"refused usage\n", Status::Usage, None)
 }
@@ -65,7 +65,7 @@ fn reply<K: Sink>(sink: &mut K, output: Result<Output, Memory>) -> Answer
 
 /// The answer where there is no text.
 fn unread(error: ReadError) -> Answer
-    ensures { result ≡ bare (status_of_read error) }
+    ensures { result ≡ without_run (status_of_read error) }
 {
     match error {
         ReadError::Failed => status_only(Status::ReadFault),
@@ -80,8 +80,8 @@ pub(crate) fn answer_alone<S: Source, K: Sink>(
     source: &mut S,
     sink: &mut K,
 ) -> Answer
-    requires { IsWithinLimits options.now }
-    ensures served { IsDoneBy (alone options.now)
+    requires { OptionsInRange options.now }
+    ensures served { IsDoneBy (with_one_worker options.now)
         (devices (S.content source.old) (S.faults source.old) (K.content sink.old) (K.faults sink.old))
         (devices (S.content source.new) (S.faults source.new) (K.content sink.new) (K.faults sink.new)) result }
     ensures few { IfSome (most_read options.now.mode) (GaveAtMost (device (S.content source.old) (S.faults source.old)) (device (S.content source.new) (S.faults source.new))) }
@@ -103,7 +103,7 @@ pub(crate) fn answer_by_workers<R: Threads + Wait + Sync, S: Source, K: Sink, G:
     sink: &mut K,
     gate: &G,
 ) -> Answer
-    requires limits { IsWithinLimits options.now }
+    requires limits { OptionsInRange options.now }
     requires several { options.now.workers ≢ 1 }
     ensures served { IsDoneBy options.now
         (devices (S.content source.old) (S.faults source.old) (K.content sink.old) (K.faults sink.old))

@@ -1,8 +1,8 @@
 //! Runs that host threads make.
 ghost use Rattle.std.specs.Prelude.{◌≢◌, All, IfOk, IfErr};
-ghost use Rattle.command_words.specs.Command.{IsWithinLimits};
+ghost use Rattle.command_words.specs.Command.{OptionsInRange};
 ghost use Rattle.run_replay.specs.Document.{IsTold, IsTrace};
-ghost use Rattle.dn_top.specs.Answers.{HasRun, IsStop, IsUnfit};
+ghost use Rattle.dn_top.specs.Answers.{IsRunOfText, IsStop, IsUnfit};
 ghost use Rattle.dn_top.specs.Documents.{trace_of};
 ghost use Rattle.dn_top.specs.Runs.{IsPrintable, IsRunFor};
 
@@ -25,7 +25,7 @@ fn machine_run_by_workers<R: Threads + Wait + Sync, G: Gate + Sync>(
     checked: Checked,
     gate: &G,
 ) -> Result<RunRecord, Memory>
-    requires limits { IsWithinLimits options.now }
+    requires limits { OptionsInRange options.now }
     requires several { options.now.workers ≢ 1 }
     ensures run { IfOk result (IsRunFor checked options.now) }
     ensures told { IfOk result (λ run. All IsTold run.events) }
@@ -48,9 +48,9 @@ pub(crate) fn run_by_workers<R: Threads + Wait + Sync, G: Gate + Sync>(
     text: &[u8],
     gate: &G,
 ) -> Result<RunRecord, Stop>
-    requires limits { IsWithinLimits options.now }
+    requires limits { OptionsInRange options.now }
     requires several { options.now.workers ≢ 1 }
-    ensures run { IfOk result (HasRun options.now text.now) }
+    ensures run { IfOk result (IsRunOfText options.now text.now) }
     ensures told { IfOk result (λ run. IsTrace (trace_of options.now text.now run)) }
     ensures printable { IfOk result IsPrintable }
     ensures stop { IfErr result (IsStop (IsUnfit text.now)) }

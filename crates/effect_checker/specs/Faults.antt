@@ -20,10 +20,10 @@ abbrev pub AreTwoLocks : List TaskDecl → ℕ → ℕ → ℕ → Type 0
 AreTwoLocks tasks a b w = (a < b) × IsTrue (lock_guards tasks a w) × IsTrue (lock_guards tasks b w)
 
 -- the number of the phase that a fault names
-abbrev pub phase_of : CheckFault → ℕ
-phase_of (PlainConflict phase a b w) = phase.0
-phase_of (GuardedPlain phase lock core w) = phase.0
-phase_of (TwoLocks phase a b w) = phase.0
+abbrev pub fault_phase : CheckFault → ℕ
+fault_phase (PlainConflict phase a b w) = phase.0
+fault_phase (GuardedPlain phase lock core w) = phase.0
+fault_phase (TwoLocks phase a b w) = phase.0
 
 -- tasks of one phase contend for a word as the fault says
 abbrev pub IsFaultAmong : List TaskDecl → CheckFault → Type 0
@@ -37,7 +37,7 @@ phase_at program number = slice_index_or program.phases number (record { tasks =
 
 -- the program has this fault
 abbrev pub IsFault : ProgramParts → CheckFault → Type 0
-IsFault program f = IsFaultAmong (phase_at program (phase_of f)).tasks f
+IsFault program f = IsFaultAmong (phase_at program (fault_phase f)).tasks f
 
 -- the numbers that order faults: the phase, the kind, the two numbers that the fault names, and the word
 abbrev pub numbers_of : CheckFault → List ℕ

@@ -6,7 +6,7 @@ use Rattle.region_table.specs.declared.declared.TaskDecl.{TaskDecl}
 use Rattle.region_table.specs.Plan.{uses_plainly}
 use Rattle.effect_checker.specs.declared.fault.CheckFault.{CheckFault}
 use Rattle.effect_checker.specs.Checked.{writes_plainly, lock_guards}
-use Rattle.effect_checker.specs.Faults.{phase_of, IsFaultAmong, numbers_of, IsUpTo}
+use Rattle.effect_checker.specs.Faults.{fault_phase, IsFaultAmong, numbers_of, IsUpTo}
 
 -- the word passes the test, and no lesser one does
 pub record IsLeastWord (test : ℕ → Bool) (word : ℕ) : Type 0 where
@@ -46,6 +46,6 @@ exposes tasks lock user w = lock_guards tasks lock w && uses_plainly user w
 
 -- the fault is the first one among the tasks of phase number `phase`
 pub record IsFirstAmong (phase : ℕ) (tasks : List TaskDecl) (f : CheckFault) : Type 0 where
-  pub here : phase_of f ≡ phase
+  pub here : fault_phase f ≡ phase
   pub fault : IsFaultAmong tasks f
-  pub first : (g : CheckFault) → phase_of g ≡ phase → IsFaultAmong tasks g → IsUpTo (numbers_of f) (numbers_of g)
+  pub first : (g : CheckFault) → fault_phase g ≡ phase → IsFaultAmong tasks g → IsUpTo (numbers_of f) (numbers_of g)

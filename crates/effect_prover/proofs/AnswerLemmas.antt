@@ -18,7 +18,7 @@ use Rattle.effect_prover.specs.declared.proved.Proved.{Proved}
 use Rattle.effect_prover.specs.declared.proved.Proved.TheVariants.{Inside, Unbounded}
 use Rattle.effect_prover.specs.Table.{Table, row_at, address_at, instr_of, IsLeastTable}
 use Rattle.effect_prover.specs.Inside.{IsInside, IsInsideAt, AreInside, IsOutsideAt, IsFirstOutside}
-use Rattle.effect_prover.specs.Answer.{IsProvenTask, IsProven, IsUnbounded, IsUnprovenTask, IsTaskAnswer, IsUnprovenPhase, IsPhaseAnswer, IsAnswer, RunsInside}
+use Rattle.effect_prover.specs.Answer.{IsProvenTask, IsProven, IsUnbounded, IsUnprovenTask, IsTaskAnswer, IsUnprovenPhase, IsPhaseAnswer, IsProversAnswer, RunsInside}
 use Rattle.effect_prover.proofs.TableLemmas.{one-least}
 
 -- ---- one word
@@ -216,7 +216,7 @@ phases-all P phases n same past h k d within =
     h k (get_or P.phases k d) (omega arith) (slice_get-get_or P.phases k d within)
 
 -- what a sound proof says of the answer
-pub sound-answer : (P : ProgramParts) (r : Result Proved Memory) → (IsProven P → RunsInside P) → IfOk r (IsAnswer P) → IfOk r (λ answer. answer ≡ Inside → RunsInside P)
+pub sound-answer : (P : ProgramParts) (r : Result Proved Memory) → (IsProven P → RunsInside P) → IfOk r (IsProversAnswer P) → IfOk r (λ answer. answer ≡ Inside → RunsInside P)
 sound-answer P (Ok Inside) f h = λ e. f h
 sound-answer P (Ok (Unbounded phase core pc)) f h = λ e. absurd (cc)
 sound-answer P (Err m) f h = tt

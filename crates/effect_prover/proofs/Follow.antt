@@ -3,7 +3,7 @@ use Rattle.std.proofs.Common.{◌≡◌, ℕ, ◌^◌, ◌<◌, Bool, true, fals
 use Rattle.std.proofs.lemmas.Bool.{ltb-true, cond_both, or_cases, and_parts, cases_eq}
 use Rattle.std.proofs.lemmas.List.{length-set, length-replicate, get_or-set_same, get_or-set_other, get_or-replicate}
 use Rattle.region_table.specs.declared.declared.TaskDecl.{TaskDecl}
-use Rattle.rv_core.specs.Access.{holds}
+use Rattle.rv_core.specs.Access.{is_held}
 use Rattle.rv_core.specs.Registers.{value_in, with_value}
 use Rattle.rv_core.specs.Task.{started}
 use Rattle.flat_machine.specs.Laws.{HoldsLess}
@@ -11,7 +11,7 @@ use Rattle.effect_prover.specs.declared.range.Range.{Range}
 use Rattle.effect_prover.specs.declared.row.Row.{Row}
 use Rattle.effect_prover.specs.Range.{Has, one, is_one, is_empty}
 use Rattle.effect_prover.specs.Row.{range_of, with_range, start_row, IsBelow, IsUnder}
-use Rattle.effect_prover.specs.Successors.{narrowed, with_lock, without_lock, after_acquire, after_release}
+use Rattle.effect_prover.specs.Successors.{narrowed, held_with, held_without, held_after_acquire, held_after_release}
 use Rattle.effect_prover.proofs.RangeLemmas.{has-in, one-has, one-is}
 use Rattle.effect_prover.proofs.RowLemmas.{with-has, with-held, less-itself, less-trans, none-less, with-less, more-less, without-less}
 
@@ -92,22 +92,22 @@ lies-held regs held row now known h k = record { count = h.count; values = h.val
 
 -- ---- locks
 
-pub acquire-holds : (locks known held lock : ℕ) (y : Range) → Has y lock → HoldsLess known held → HoldsLess (after_acquire locks known y) (bit_or held (2 ^ lock))
+pub acquire-holds : (locks known held lock : ℕ) (y : Range) → Has y lock → HoldsLess known held → HoldsLess (held_after_acquire locks known y) (bit_or held (2 ^ lock))
 acquire-holds locks known held lock y h less =
-    cond_both (is_one y && nat_lt y.lo locks) (with_lock known y.lo) known (λ (n : ℕ). HoldsLess n (bit_or held (2 ^ lock)))
+    cond_both (is_one y && nat_lt y.lo locks) (held_with known y.lo) known (λ (n : ℕ). HoldsLess n (bit_or held (2 ^ lock)))
     (λ e.
     let is = one-is y lock (and_parts (is_one y) (nat_lt y.lo locks) e).0 h in
-    subst (λ (n : ℕ). HoldsLess (with_lock known n) (bit_or held (2 ^ lock))) is (with-less known held lock less))
+    subst (λ (n : ℕ). HoldsLess (held_with known n) (bit_or held (2 ^ lock))) is (with-less known held lock less))
     (λ e. more-less known held lock less)
 
-pub release-holds : (known held lock : ℕ) (y : Range) → Has y lock → holds held lock ≡ true → HoldsLess known held → HoldsLess (after_release known y) (bit_xor held (2 ^ lock))
+pub release-holds : (known held lock : ℕ) (y : Range) → Has y lock → is_held held lock ≡ true → HoldsLess known held → HoldsLess (held_after_release known y) (bit_xor held (2 ^ lock))
 release-holds known held lock y h there less =
-    cond_both (is_one y) (without_lock known y.lo) 0 (λ (n : ℕ). HoldsLess n (bit_xor held (2 ^ lock)))
+    cond_both (is_one y) (held_without known y.lo) 0 (λ (n : ℕ). HoldsLess n (bit_xor held (2 ^ lock)))
     (λ e.
     let is = one-is y lock e h in
-    let gone : without_lock held lock ≡ bit_xor held (2 ^ lock) = rw there refl in
-    subst (λ (n : ℕ). HoldsLess (without_lock known n) (bit_xor held (2 ^ lock))) is
-    (subst (HoldsLess (without_lock known lock)) gone (without-less known held lock less)))
+    let gone : held_without held lock ≡ bit_xor held (2 ^ lock) = rw there refl in
+    subst (λ (n : ℕ). HoldsLess (held_without known n) (bit_xor held (2 ^ lock))) is
+    (subst (HoldsLess (held_without known lock)) gone (without-less known held lock less)))
     (λ e. none-less (bit_xor held (2 ^ lock)))
 
 -- ---- the start

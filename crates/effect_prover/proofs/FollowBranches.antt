@@ -12,7 +12,7 @@ use Rattle.effect_prover.specs.declared.row.Row.{Row}
 use Rattle.effect_prover.specs.declared.successors.Successors.{Successors}
 use Rattle.effect_prover.specs.Range.{Has, is_one, common, below, above, at_least, at_most}
 use Rattle.effect_prover.specs.Row.{range_of}
-use Rattle.effect_prover.specs.Successors.{goes_on, jumps, narrowed, where_equal, where_less, where_not_less, where_different, are_low, less_branches, not_less_branches, any_branches, branches, branch_on}
+use Rattle.effect_prover.specs.Successors.{falls_through, jumps, narrowed, where_equal, where_less, where_not_less, where_different, are_low, less_branches, not_less_branches, any_branches, branches, branch_on}
 use Rattle.effect_prover.proofs.RangeLemmas.{one-is}
 use Rattle.effect_prover.proofs.RowLemmas.{with-length}
 use Rattle.effect_prover.proofs.Follow.{Lies, LiesAt, narrowed-lies}
@@ -140,11 +140,11 @@ pub branch-lies : (test : Cond) (regs : List ℕ) (held : ℕ) (row : Row) (a b 
     → (taken : Bool) → taken_of test (value_in regs a) (value_in regs b) ≡ taken → LiesAt regs held (way taken (branch_on test row a b))
 branch-lies test regs held row a b count j k h taken e = by_same (a == b) refl
   where
-    one_way : (s : Bool) → s ≡ taken → LiesAt regs held (way taken (if s then jumps row else goes_on row))
+    one_way : (s : Bool) → s ≡ taken → LiesAt regs held (way taken (if s then jumps row else falls_through row))
     one_way true is = subst (λ (t : Bool). LiesAt regs held (way t (jumps row))) is h
-    one_way false is = subst (λ (t : Bool). LiesAt regs held (way t (goes_on row))) is h
+    one_way false is = subst (λ (t : Bool). LiesAt regs held (way t (falls_through row))) is h
 
-    by_same : (s : Bool) → (a == b) ≡ s → LiesAt regs held (way taken (if s then (if taken_of test 0 0 then jumps row else goes_on row) else branches test row a b))
+    by_same : (s : Bool) → (a == b) ≡ s → LiesAt regs held (way taken (if s then (if taken_of test 0 0 then jumps row else falls_through row) else branches test row a b))
     by_same true is =
         let same = eqb-true a b is in
         let zero_taken : taken_of test 0 0 ≡ taken =

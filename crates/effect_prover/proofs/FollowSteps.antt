@@ -6,7 +6,7 @@ use Rattle.region_table.specs.Program.{ProgramParts}
 use Rattle.region_table.specs.declared.declared.TaskDecl.{TaskDecl}
 use Rattle.rv_isa.specs.Encoding.{decoded}
 use Rattle.rv_isa.specs.Meaning.{alu_of, taken_of}
-use Rattle.rv_isa.specs.Range.{Fits, HasRegisters}
+use Rattle.rv_isa.specs.Range.{IsEncodable, HasRegisters}
 use Rattle.rv_isa.specs.Table.{is_shift}
 use Rattle.rv_isa.specs.Word.{pattern}
 use Rattle.rv_isa.specs.declared.instr.Instr.{Instr}
@@ -16,12 +16,12 @@ use Rattle.rv_isa.proofs.RowLemmas.{decoded-row}
 use Rattle.rv_core.specs.declared.task.TaskState.{TaskState}
 use Rattle.rv_core.specs.declared.task.TrapKind as kind
 use Rattle.rv_core.specs.declared.need.Need.TheVariants.{Acquire, Release}
-use Rattle.rv_core.specs.Access.{holds}
+use Rattle.rv_core.specs.Access.{is_held}
 use Rattle.rv_core.specs.Kinds.{IsLoad, IsAdvance}
 use Rattle.rv_core.specs.Need.{need_of, fetch_need, word_need, instr_need, call_need, traps, address_of, jump_target}
 use Rattle.rv_core.specs.Place.{code_at, data_at, size_of, extended}
 use Rattle.rv_core.specs.Registers.{value_in}
-use Rattle.rv_core.specs.Step.{read_instr, next_pc, goes_to, with_locks, after_call, after_instr, after, advanced, after_load, loaded_of, after_store, merged_of}
+use Rattle.rv_core.specs.Step.{read_instr, next_pc, jumped_to, with_locks, after_call, after_instr, after_fetch, advanced, after_load, loaded_of, after_store, merged_of}
 use Rattle.rv_core.specs.Task.{started}
 use Rattle.rv_core.proofs.Needs.{fuelled, neither, no_load, first_taken, second_taken, load-tells, IsLoading}
 use Rattle.flat_machine.specs.Laws.{HoldsLess}
@@ -30,7 +30,7 @@ use Rattle.effect_prover.specs.declared.row.Row.{Row}
 use Rattle.effect_prover.specs.declared.successors.Successors.{Successors}
 use Rattle.effect_prover.specs.Range.{Has, one, is_one, computed, computed_imm}
 use Rattle.effect_prover.specs.Row.{range_of, start_row, IsRow}
-use Rattle.effect_prover.specs.Successors.{stays, goes_on, branch_on, loadable, after_acquire, after_release, calls, successors}
+use Rattle.effect_prover.specs.Successors.{no_successors, falls_through, branch_on, loadable, held_after_acquire, held_after_release, calls, successors}
 use Rattle.effect_prover.specs.Table.{Table, row_at, address_at, instr_of, target_of, IsPassedOn, IsClosed}
 use Rattle.effect_prover.specs.Inside.{IsInside, AreInside}
 use Rattle.effect_prover.proofs.FollowWords.{extended-has, replaced-small}
@@ -57,7 +57,7 @@ pub record IsReached (P : ProgramParts) (d : TaskDecl) (table : Table) (t : Task
   pub lies : Lies t.regs t.held row
   pub within : t.pc + 4 < 2 ^ 32
   pub registers : HasRegisters i
-  pub fits : Fits i
+  pub fits : IsEncodable i
   pub passes : IsPassedOn table t.pc i (successors (length P.locks) t.pc row i)
   pub inside : IsInside P d row i
 
@@ -131,7 +131,7 @@ next-is t h = omega arith
 
 -- a call after which the task goes on acquires the lock, or releases it, which is held then
 abbrev Calls : TaskState → ℕ → ℕ → Type 0
-Calls t number lock = (number ≡ 1) ⊎ ((number ≡ 2) × (holds t.held lock ≡ true))
+Calls t number lock = (number ≡ 1) ⊎ ((number ≡ 2) × (is_held t.held lock ≡ true))
 
 call-known : (P : ProgramParts) (t : TaskState) (number lock : ℕ) → IsAdvance (call_need P t number lock) → Calls t number lock
 call-known P t number lock k =
@@ -143,29 +143,29 @@ call-known P t number lock k =
     by_number (number == 1) refl low some has_lock.1
   where
     by_number : (b : Bool) → (number == 1) ≡ b → number ≤ 2 → (number ≡ 0 → ⊥)
-        → IsAdvance (if b then (if holds t.held lock then traps t kind.TheVariants.Held lock else Acquire (record { 0 = lock }))
-        else (if holds t.held lock then Release (record { 0 = lock }) else traps t kind.TheVariants.NotHeld lock))
+        → IsAdvance (if b then (if is_held t.held lock then traps t kind.TheVariants.Held lock else Acquire (record { 0 = lock }))
+        else (if is_held t.held lock then Release (record { 0 = lock }) else traps t kind.TheVariants.NotHeld lock))
         → Calls t number lock
     by_number true e low some k = inl (eqb-true number 1 e)
     by_number false e low some k =
         let other = eqb-false number 1 e in
-        inr (grind (arith, some, other), (first_taken IsAdvance (holds t.held lock) _ _ (λ x. x) k).0)
+        inr (grind (arith, some, other), (first_taken IsAdvance (is_held t.held lock) _ _ (λ x. x) k).0)
 
 -- the row after a call has the locks that are held then
 call-lies : (locks : ℕ) (regs : List ℕ) (held : ℕ) (row : Row) (number now : ℕ) (x y : Range) → Has x number → Lies regs held row → (number ≡ 1) ⊎ (number ≡ 2)
-    → (number ≡ 1 → HoldsLess (after_acquire locks row.held y) now) → (number ≡ 2 → HoldsLess (after_release row.held y) now) → LiesAt regs now (calls locks row x y).next
+    → (number ≡ 1 → HoldsLess (held_after_acquire locks row.held y) now) → (number ≡ 2 → HoldsLess (held_after_release row.held y) now) → LiesAt regs now (calls locks row x y).next
 call-lies locks regs held row number now x y known h some acquires releases =
-    let lies : (held' : ℕ) → HoldsLess held' now → LiesAt regs now (goes_on (record row { held = held' })).next = λ held' less. lies-held regs held row now held' h less in
-    let acquired : Successors = goes_on (record row { held = after_acquire locks row.held y }) in
-    let released : Successors = goes_on (record row { held = after_release row.held y }) in
-    cond_both (is_one x) (if x.lo == 1 then acquired else if x.lo == 2 then released else stays) (goes_on (record row { held = 0 })) (λ (s : Successors). LiesAt regs now s.next)
+    let lies : (held' : ℕ) → HoldsLess held' now → LiesAt regs now (falls_through (record row { held = held' })).next = λ held' less. lies-held regs held row now held' h less in
+    let acquired : Successors = falls_through (record row { held = held_after_acquire locks row.held y }) in
+    let released : Successors = falls_through (record row { held = held_after_release row.held y }) in
+    cond_both (is_one x) (if x.lo == 1 then acquired else if x.lo == 2 then released else no_successors) (falls_through (record row { held = 0 })) (λ (s : Successors). LiesAt regs now s.next)
     (λ e.
     let is = one-is x number e known in
-    cond_both (x.lo == 1) acquired (if x.lo == 2 then released else stays) (λ (s : Successors). LiesAt regs now s.next)
-    (λ f. lies (after_acquire locks row.held y) (acquires (is ∙ eqb-true x.lo 1 f)))
+    cond_both (x.lo == 1) acquired (if x.lo == 2 then released else no_successors) (λ (s : Successors). LiesAt regs now s.next)
+    (λ f. lies (held_after_acquire locks row.held y) (acquires (is ∙ eqb-true x.lo 1 f)))
     (λ f.
-    cond_both (x.lo == 2) released stays (λ (s : Successors). LiesAt regs now s.next)
-    (λ g. lies (after_release row.held y) (releases (is ∙ eqb-true x.lo 2 g)))
+    cond_both (x.lo == 2) released no_successors (λ (s : Successors). LiesAt regs now s.next)
+    (λ g. lies (held_after_release row.held y) (releases (is ∙ eqb-true x.lo 2 g)))
     (λ g. absurd (⊎_elim (λ (one' : number ≡ 1). eqb-false x.lo 1 f (sym is ∙ one')) (λ (two : number ≡ 2). eqb-false x.lo 2 g (sym is ∙ two)) some))))
     (λ e. lies 0 (none-less now))
 
@@ -188,7 +188,7 @@ call-goes P t here h p called = by_some called
     goes : TaskState → Type 0
     goes = Goes t.pc Ecall (calls (length P.locks) here (range_of here 17) (range_of here 10))
 
-    by_some : (number ≡ 1) ⊎ ((number ≡ 2) × (holds t.held lock ≡ true)) → goes (after_call t number lock)
+    by_some : (number ≡ 1) ⊎ ((number ≡ 2) × (is_held t.held lock ≡ true)) → goes (after_call t number lock)
     by_some (inl one') =
         let same : after_call t number lock ≡ with_locks t (bit_or t.held (2 ^ lock)) = rw (eq-eqb number 1 one') refl in
         subst goes (sym same)
@@ -208,7 +208,7 @@ call-goes P t here h p called = by_some called
 
 -- ---- every form that loads nothing
 
-after-goes : (P : ProgramParts) (d : TaskDecl) (t : TaskState) (row : Row) (i : Instr) → IsRow row → Lies t.regs t.held row → t.pc + 4 < 2 ^ 32 → HasRegisters i → Fits i → IsInside P d row i
+after-goes : (P : ProgramParts) (d : TaskDecl) (t : TaskState) (row : Row) (i : Instr) → IsRow row → Lies t.regs t.held row → t.pc + 4 < 2 ^ 32 → HasRegisters i → IsEncodable i → IsInside P d row i
     → IsAdvance (instr_need P d t i) → Goes t.pc i (successors (length P.locks) t.pc row i) (after_instr t i)
 after-goes P d t row (Lui rd imm) hr h p g f n k =
     inl (next-is t p, lies-written t.regs t.held row rd (imm * 4096 % 2 ^ 32) (one (imm * 4096 % 2 ^ 32)) hr.count h (one-has (imm * 4096 % 2 ^ 32)))
@@ -221,7 +221,7 @@ after-goes P d t row (Jalr rd base offset) hr h p g f n k = absurd n
 after-goes P d t row (Branch test a b offset) hr h p g f n k = by_test (taken_of test (value_in t.regs a) (value_in t.regs b)) refl
   where
     by_test : (taken : Bool) → taken_of test (value_in t.regs a) (value_in t.regs b) ≡ taken
-        → Goes t.pc (Branch test a b offset) (branch_on test row a b) (goes_to t (if taken then jump_target t offset else next_pc t))
+        → Goes t.pc (Branch test a b offset) (branch_on test row a b) (jumped_to t (if taken then jump_target t offset else next_pc t))
     by_test true e = inr (refl, branch-lies test t.regs t.held row a b hr.count g.0 g.1 h true e)
     by_test false e = inl (next-is t p, branch-lies test t.regs t.held row a b hr.count g.0 g.1 h false e)
 after-goes P d t row (Load width rd base offset) hr h p g f n k =
@@ -264,14 +264,14 @@ pub advanced-follows : (P : ProgramParts) (d : TaskDecl) (table : Table) (fuel :
 unfolding advanced
 advanced-follows P d table fuel t safe follows k = by_word (code_at P.code t.pc) refl (fuelled P d fuel t IsAdvance (λ x. x) k).1
   where
-    by_instr : (word : ℕ) → code_at P.code t.pc ≡ Some word → (o : Option Instr) → decoded word ≡ o → IsAdvance (word_need P d t word o) → Follows P table (after t o)
+    by_instr : (word : ℕ) → code_at P.code t.pc ≡ Some word → (o : Option Instr) → decoded word ≡ o → IsAdvance (word_need P d t word o) → Follows P table (after_fetch t o)
     by_instr word e None is k = absurd k
     by_instr word e (Some i) is k =
         let at' = reached-at P d table t word i safe follows e is in
         goes-follows P d table t.pc i (successors (length P.locks) t.pc at'.row i) (after_instr t i) safe at'.passes
         (after-goes P d t at'.row i at'.row_is at'.lies at'.within at'.registers at'.fits at'.inside k)
 
-    by_word : (o : Option ℕ) → code_at P.code t.pc ≡ o → IsAdvance (fetch_need P d t o) → Follows P table (after t (read_instr o))
+    by_word : (o : Option ℕ) → code_at P.code t.pc ≡ o → IsAdvance (fetch_need P d t o) → Follows P table (after_fetch t (read_instr o))
     by_word None e k = absurd k
     by_word (Some word) e k = by_instr word e (decoded word) refl k
 

@@ -6,15 +6,15 @@ use Rattle.std.proofs.lemmas.Bool.Decides.{nat_tests}
 use Rattle.std.proofs.lemmas.List.Sums.{sum_by-cons}
 use Rattle.std.proofs.lemmas.Nat.{and_le_l}
 use Rattle.std.proofs.lemmas.Nat.Bits.{bit_at_and, bit_at-lt}
-use Rattle.rv_core.specs.Access.{holds}
+use Rattle.rv_core.specs.Access.{is_held}
 use Rattle.rv_core.proofs.HeldLemmas.{holds-bit}
 use Rattle.flat_machine.specs.Laws.{HoldsLess}
 use Rattle.effect_prover.specs.declared.range.Range.{Range}
 use Rattle.effect_prover.specs.declared.row.Row.{Row}
-use Rattle.effect_prover.specs.Range.{IsIn, IsRange, one}
+use Rattle.effect_prover.specs.Range.{LiesWithin, IsRange, one}
 use Rattle.effect_prover.specs.Row.{range_of, IsRow, IsBelow, IsUnder}
 use Rattle.effect_prover.specs.Table.{IsEnd, IsHeadRange}
-use Rattle.effect_prover.specs.Sweep.{IsEndUpTo, IsEndFrom, IsJoined, IsRowJoined, range_room, row_room, room_of}
+use Rattle.effect_prover.specs.Sweep.{IsEndUpTo, IsEndFrom, IsJoinedRange, IsRowJoined, range_room, row_room, room_of}
 use Rattle.effect_prover.proofs.RangeLemmas.{in-itself}
 
 made-range : (a b c d : ℕ) → a ≡ c → b ≡ d → ◌≡◌ {A = Range} (record { lo = a; hi = b }) (record { lo = c; hi = d })
@@ -31,7 +31,7 @@ same_row x y p q = made-row x.ranges x.held y.ranges y.held p q
 
 -- at a head the joined range goes from end to end
 pub head-joined : (head : Bool) (argument : ℕ) (old given : Range) (lo hi e f : ℕ) → IsRange old → IsRange given → head ≡ true → lo ≡ min old.lo given.lo → hi ≡ max old.hi given.hi
-    → lo ≢ hi → IsEndUpTo argument lo e → IsEndFrom argument hi f → IsJoined head argument old given (record { lo = e; hi = f })
+    → lo ≢ hi → IsEndUpTo argument lo e → IsEndFrom argument hi f → IsJoinedRange head argument old given (record { lo = e; hi = f })
 head-joined head argument old given lo hi e f ho hg is_head low high apart up from =
     record {
       first = record { low = omega arith; high = omega arith };
@@ -41,7 +41,7 @@ head-joined head argument old given lo hi e f ho hg is_head low high apart up fr
       least = λ all headed p q. least all (headed is_head) p q;
     }
   where
-    least : (all : Range) → IsHeadRange argument all → IsIn old all → IsIn given all → IsIn (record { lo = e; hi = f }) all
+    least : (all : Range) → IsHeadRange argument all → LiesWithin old all → LiesWithin given all → LiesWithin (record { lo = e; hi = f }) all
     least all (inl same) p q = absurd (apart (omega arith))
     least all (inr ends) p q =
         let below = up.greatest all.lo ends.0 (omega arith) in
@@ -50,7 +50,7 @@ head-joined head argument old given lo hi e f ho hg is_head low high apart up fr
 
 -- ---- locks that are held for sure on both ways
 
-pub holds-both : (a b k : ℕ) → holds (bit_and a b) k ≡ (holds a k && holds b k)
+pub holds-both : (a b k : ℕ) → is_held (bit_and a b) k ≡ (is_held a k && is_held b k)
 holds-both a b k =
     rw (holds-bit (bit_and a b) k, holds-bit a k, holds-bit b k, bit_at_and a b k) (
     let x = bit_at-lt a k in
@@ -59,11 +59,11 @@ holds-both a b k =
 
 both-less : (a b : ℕ) → HoldsLess (bit_and a b) a
 both-less a b =
-    record { among = λ k e. (and_parts (holds a k) (holds b k) (sym (holds-both a b k) ∙ e)).0 }
+    record { among = λ k e. (and_parts (is_held a k) (is_held b k) (sym (holds-both a b k) ∙ e)).0 }
 
 both-less_right : (a b : ℕ) → HoldsLess (bit_and a b) b
 both-less_right a b =
-    record { among = λ k e. (and_parts (holds a k) (holds b k) (sym (holds-both a b k) ∙ e)).1 }
+    record { among = λ k e. (and_parts (is_held a k) (is_held b k) (sym (holds-both a b k) ∙ e)).1 }
 
 -- ---- joined rows
 
@@ -76,13 +76,13 @@ joined-row head argument old given new ho hg j =
       held = let l = and_le_l old.held given.held in let is = j.held in let small = ho.held in omega arith;
     }
   where
-    first : IsJoined head argument (range_of old 0) (range_of given 0) (range_of new 0)
+    first : IsJoinedRange head argument (range_of old 0) (range_of given 0) (range_of new 0)
     first = j.ranges 0 (omega arith)
 
-    at_zero : (x : Range) → x ≡ one 0 → IsIn x (one 0)
-    at_zero x e = subst (λ (y : Range). IsIn y (one 0)) (sym e) (in-itself (one 0))
+    at_zero : (x : Range) → x ≡ one 0 → LiesWithin x (one 0)
+    at_zero x e = subst (λ (y : Range). LiesWithin y (one 0)) (sym e) (in-itself (one 0))
 
-    none : (x : Range) → IsRange x → IsIn x (one 0) → x ≡ one 0
+    none : (x : Range) → IsRange x → LiesWithin x (one 0) → x ≡ one 0
     none x k h = same_range x (one 0) (omega arith) (omega arith)
 
 pub joined-first : (head : Bool) (argument : ℕ) (old given new : Row) → IsRowJoined head argument old given new → IsBelow old new
@@ -99,7 +99,7 @@ joined-least head argument old given new all j headed p q =
     record {
       ranges = λ r within. (j.ranges r within).least (range_of all r) (λ e. headed e r within) (p.ranges r within) (q.ranges r within);
       locks = subst (HoldsLess all.held) (sym j.held)
-          (record { among = λ k e. holds-both old.held given.held k ∙ and_from (holds old.held k) (holds given.held k) (p.locks.among k e) (q.locks.among k e) });
+          (record { among = λ k e. holds-both old.held given.held k ∙ and_from (is_held old.held k) (is_held given.held k) (p.locks.among k e) (q.locks.among k e) });
     }
 
 -- ---- room
@@ -107,7 +107,7 @@ joined-least head argument old given new all j headed p q =
 -- two lists of ranges of which the second are wider
 record AreWider (xs ys : List Range) : Type 0 where
   count : length xs ≡ length ys
-  each : (k : ℕ) → k < length xs → IsIn (slice_index_or xs k (one 0)) (slice_index_or ys k (one 0))
+  each : (k : ℕ) → k < length xs → LiesWithin (slice_index_or xs k (one 0)) (slice_index_or ys k (one 0))
   ranges : (k : ℕ) → k < length xs → IsRange (slice_index_or xs k (one 0)) × IsRange (slice_index_or ys k (one 0))
 
 wider-tail : (x y : Range) (xs ys : List Range) → AreWider (x ∷ xs) (y ∷ ys) → AreWider xs ys
@@ -121,7 +121,7 @@ wider-room [] (y ∷ ys) h = let e = h.count in absurd (omega arith)
 wider-room (x ∷ xs) [] h = let e = h.count in absurd (omega arith)
 wider-room (x ∷ xs) (y ∷ ys) h =
     let rest = wider-room xs ys (wider-tail x y xs ys h) in
-    let here : IsIn x y = h.each 0 (omega arith) in
+    let here : LiesWithin x y = h.each 0 (omega arith) in
     let sound : IsRange x × IsRange y = h.ranges 0 (omega arith) in
     let one' = sound.0 in
     let two = sound.1 in
@@ -136,7 +136,7 @@ wider-same (x ∷ xs) [] h l = let e = h.count in absurd (omega arith)
 wider-same (x ∷ xs) (y ∷ ys) h l =
     let tail = wider-tail x y xs ys h in
     let more = wider-room xs ys tail in
-    let here : IsIn x y = h.each 0 (omega arith) in
+    let here : LiesWithin x y = h.each 0 (omega arith) in
     let sound : IsRange x × IsRange y = h.ranges 0 (omega arith) in
     let one' = sound.0 in
     let two = sound.1 in

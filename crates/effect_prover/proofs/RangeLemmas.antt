@@ -13,17 +13,17 @@ use Rattle.rv_isa.specs.Meaning.{amount, signed, alu_of}
 use Rattle.rv_isa.specs.declared.instr.AluOp.{AluOp}
 use Rattle.rv_isa.specs.declared.instr.AluOp.TheVariants.{Add, Sub, Sll, Slt, Sltu, Xor, Srl, Sra, Or, And}
 use Rattle.effect_prover.specs.declared.range.Range.{Range}
-use Rattle.effect_prover.specs.Range.{Has, IsIn, IsRange, one, every, is_one, is_empty, wrapped, shifted_left, shifted_right, form, form_imm, computed, computed_imm, common, below, above, at_least, at_most}
+use Rattle.effect_prover.specs.Range.{Has, LiesWithin, IsRange, one, every, is_one, is_empty, wrapped_range, shifted_left, shifted_right, form, form_imm, computed, computed_imm, common, below, above, at_least, at_most}
 
 -- ---- ranges and numbers
 
-pub in-itself : (a : Range) → IsIn a a
+pub in-itself : (a : Range) → LiesWithin a a
 in-itself a = record { low = omega arith; high = omega arith }
 
-pub in-trans : (a b c : Range) → IsIn a b → IsIn b c → IsIn a c
+pub in-trans : (a b c : Range) → LiesWithin a b → LiesWithin b c → LiesWithin a c
 in-trans a b c h k = record { low = omega arith; high = omega arith }
 
-pub has-in : (a b : Range) (n : ℕ) → IsIn a b → Has a n → Has b n
+pub has-in : (a b : Range) (n : ℕ) → LiesWithin a b → Has a n → Has b n
 has-in a b n h k = record { low = omega arith; high = omega arith }
 
 pub one-has : (n : ℕ) → Has (one n) n
@@ -38,41 +38,41 @@ every-range = record { some = omega arith; within = omega arith }
 pub every-has : (n : ℕ) → n < 2 ^ 32 → Has every n
 every-has n h = record { low = omega arith; high = omega arith }
 
-pub every-in : (a : Range) → IsRange a → IsIn a every
+pub every-in : (a : Range) → IsRange a → LiesWithin a every
 every-in a h = record { low = omega arith; high = omega arith }
 
 pub has-small : (a : Range) (n : ℕ) → IsRange a → Has a n → n < 2 ^ 32
 has-small a n h k = omega arith
 
 -- the number is in a range that has another range where it has both its ends
-pub one-in : (a : Range) (n : ℕ) → Has a n → IsIn (one n) a
+pub one-in : (a : Range) (n : ℕ) → Has a n → LiesWithin (one n) a
 one-in a n h = record { low = h.low; high = h.high }
 
 -- ---- sums with wrap
 
-pub wrapped-has : (least v greatest : ℕ) → least ≤ v → v ≤ greatest → Has (wrapped least greatest) (v % 2 ^ 32)
+pub wrapped-has : (least v greatest : ℕ) → least ≤ v → v ≤ greatest → Has (wrapped_range least greatest) (v % 2 ^ 32)
 wrapped-has least v greatest low high =
     cond_both (least / 2 ^ 32 == greatest / 2 ^ 32) (record { lo = least % 2 ^ 32; hi = greatest % 2 ^ 32 }) every
     (λ (a : Range). Has a (v % 2 ^ 32))
     (λ e. let same = eqb-true (least / 2 ^ 32) (greatest / 2 ^ 32) e in record { low = omega arith; high = omega arith })
     (λ e. record { low = omega arith; high = omega arith })
 
-pub wrapped-range : (least greatest : ℕ) → least ≤ greatest → IsRange (wrapped least greatest)
+pub wrapped-range : (least greatest : ℕ) → least ≤ greatest → IsRange (wrapped_range least greatest)
 wrapped-range least greatest h =
     cond_both (least / 2 ^ 32 == greatest / 2 ^ 32) (record { lo = least % 2 ^ 32; hi = greatest % 2 ^ 32 }) every
     IsRange
     (λ e. let same = eqb-true (least / 2 ^ 32) (greatest / 2 ^ 32) e in record { some = omega arith; within = omega arith })
     (λ e. every-range)
 
-pub wrapped-in : (least greatest low high : ℕ) → low ≤ least → least ≤ greatest → greatest ≤ high → IsIn (wrapped least greatest) (wrapped low high)
+pub wrapped-in : (least greatest low high : ℕ) → low ≤ least → least ≤ greatest → greatest ≤ high → LiesWithin (wrapped_range least greatest) (wrapped_range low high)
 wrapped-in least greatest low high l m h =
     cond_both (low / 2 ^ 32 == high / 2 ^ 32) (record { lo = low % 2 ^ 32; hi = high % 2 ^ 32 }) every
-    (λ (a : Range). IsIn (wrapped least greatest) a)
+    (λ (a : Range). LiesWithin (wrapped_range least greatest) a)
     (λ e.
     let same = eqb-true (low / 2 ^ 32) (high / 2 ^ 32) e in
     let both : (least / 2 ^ 32 == greatest / 2 ^ 32) ≡ true = eq-eqb (least / 2 ^ 32) (greatest / 2 ^ 32) (omega arith) in
     rw both (record { low = omega arith; high = omega arith }))
-    (λ e. every-in (wrapped least greatest) (wrapped-range least greatest m))
+    (λ e. every-in (wrapped_range least greatest) (wrapped-range least greatest m))
 
 -- ---- operations
 
@@ -142,7 +142,7 @@ form-has And a b x y ra rb h k =
     record { low = omega arith; high = omega arith }
 
 -- wider operands have wider results
-pub form-in : (op : AluOp) (a b c d : Range) → IsRange a → IsRange b → IsIn a c → IsIn b d → IsIn (form op a b) (form op c d)
+pub form-in : (op : AluOp) (a b c d : Range) → IsRange a → IsRange b → LiesWithin a c → LiesWithin b d → LiesWithin (form op a b) (form op c d)
 form-in Add a b c d ra rb h k = wrapped-in (a.lo + b.lo) (a.hi + b.hi) (c.lo + d.lo) (c.hi + d.hi) (omega arith) (omega arith) (omega arith)
 form-in Sub a b c d ra rb h k =
     wrapped-in (a.lo + 2 ^ 32 - b.hi) (a.hi + 2 ^ 32 - b.lo) (c.lo + 2 ^ 32 - d.hi) (c.hi + 2 ^ 32 - d.lo) (omega arith) (omega arith) (omega arith)
@@ -195,12 +195,12 @@ form_imm-has Sra a n x ra k h = form-has Sra a (one n) x n ra (one-range n k) h 
 form_imm-has Or a n x ra k h = form-has Or a (one n) x n ra (one-range n k) h (one-has n)
 form_imm-has And a n x ra k h = form-has And a (one n) x n ra (one-range n k) h (one-has n)
 
-pub form_imm-in : (op : AluOp) (a c : Range) (n : ℕ) → IsRange a → n < 2 ^ 32 → IsIn a c → IsIn (form_imm op a n) (form_imm op c n)
+pub form_imm-in : (op : AluOp) (a c : Range) (n : ℕ) → IsRange a → n < 2 ^ 32 → LiesWithin a c → LiesWithin (form_imm op a n) (form_imm op c n)
 form_imm-in Add a c n ra k h = form-in Add a (one n) c (one n) ra (one-range n k) h (in-itself (one n))
 form_imm-in Sub a c n ra k h = form-in Sub a (one n) c (one n) ra (one-range n k) h (in-itself (one n))
 form_imm-in Sll a c n ra k h =
     cond_both (nat_lt (c.hi * 2 ^ amount n) (2 ^ 32)) (record { lo = c.lo * 2 ^ amount n; hi = c.hi * 2 ^ amount n }) every
-    (λ (z : Range). IsIn (form_imm Sll a n) z)
+    (λ (z : Range). LiesWithin (form_imm Sll a n) z)
     (λ e.
     let l = ltb-true (c.hi * 2 ^ amount n) (2 ^ 32) e in
     let low = shift-less c.lo a.lo (amount n) h.low in
@@ -239,13 +239,13 @@ computed-has op a b x y ra rb h k =
 low-has : (a : Range) → IsRange a → Has a a.lo
 low-has a h = record { low = omega arith; high = h.some }
 
-pub computed-in : (op : AluOp) (a b c d : Range) → IsRange a → IsRange b → IsRange c → IsRange d → IsIn a c → IsIn b d → IsIn (computed op a b) (computed op c d)
+pub computed-in : (op : AluOp) (a b c d : Range) → IsRange a → IsRange b → IsRange c → IsRange d → LiesWithin a c → LiesWithin b d → LiesWithin (computed op a b) (computed op c d)
 computed-in op a b c d ra rb rc rd h k =
-    cond_both (is_one a && is_one b) (one (alu_of op a.lo b.lo)) (form op a b) (λ (z : Range). IsIn z (computed op c d))
+    cond_both (is_one a && is_one b) (one (alu_of op a.lo b.lo)) (form op a b) (λ (z : Range). LiesWithin z (computed op c d))
     (λ e. one-in (computed op c d) (alu_of op a.lo b.lo)
     (computed-has op c d a.lo b.lo rc rd (has-in a c a.lo h (low-has a ra)) (has-in b d b.lo k (low-has b rb))))
     (λ e.
-    cond_both (is_one c && is_one d) (one (alu_of op c.lo d.lo)) (form op c d) (λ (z : Range). IsIn (form op a b) z)
+    cond_both (is_one c && is_one d) (one (alu_of op c.lo d.lo)) (form op c d) (λ (z : Range). LiesWithin (form op a b) z)
     (λ f. absurd (
     let parts = and_parts (is_one c) (is_one d) f in
     let ca = eqb-true c.lo c.hi parts.0 in
@@ -265,12 +265,12 @@ computed_imm-has op a n x ra k h =
     (λ e. rw (one-is a x e h) (one-has (alu_of op a.lo n)))
     (λ e. form_imm-has op a n x ra k h)
 
-pub computed_imm-in : (op : AluOp) (a c : Range) (n : ℕ) → IsRange a → IsRange c → n < 2 ^ 32 → IsIn a c → IsIn (computed_imm op a n) (computed_imm op c n)
+pub computed_imm-in : (op : AluOp) (a c : Range) (n : ℕ) → IsRange a → IsRange c → n < 2 ^ 32 → LiesWithin a c → LiesWithin (computed_imm op a n) (computed_imm op c n)
 computed_imm-in op a c n ra rc k h =
-    cond_both (is_one a) (one (alu_of op a.lo n)) (form_imm op a n) (λ (z : Range). IsIn z (computed_imm op c n))
+    cond_both (is_one a) (one (alu_of op a.lo n)) (form_imm op a n) (λ (z : Range). LiesWithin z (computed_imm op c n))
     (λ e. one-in (computed_imm op c n) (alu_of op a.lo n) (computed_imm-has op c n a.lo rc k (has-in a c a.lo h (low-has a ra))))
     (λ e.
-    cond_both (is_one c) (one (alu_of op c.lo n)) (form_imm op c n) (λ (z : Range). IsIn (form_imm op a n) z)
+    cond_both (is_one c) (one (alu_of op c.lo n)) (form_imm op c n) (λ (z : Range). LiesWithin (form_imm op a n) z)
     (λ f. absurd (let ca = eqb-true c.lo c.hi f in true≢false (sym (eq-eqb a.lo a.hi (omega arith)) ∙ e)))
     (λ f. form_imm-in op a c n ra k h))
 

@@ -4,15 +4,15 @@ use Rattle.std.proofs.lemmas.Bool.{true≢false, false≢true, eqb-true, eqb-fal
 use Rattle.std.proofs.lemmas.List.{length-set, get_or-set_same, get_or-set_other, get_or-replicate, length-replicate}
 use Rattle.std.proofs.lemmas.Nat.{or_lt, xor_lt, pow_below}
 use Rattle.region_table.specs.declared.declared.TaskDecl.{TaskDecl}
-use Rattle.rv_core.specs.Access.{holds}
+use Rattle.rv_core.specs.Access.{is_held}
 use Rattle.rv_core.proofs.HeldLemmas.{holds-none, holds-acquired, holds-released}
 use Rattle.rv_core.proofs.HighLocks.{holds-high}
 use Rattle.flat_machine.specs.Laws.{HoldsLess}
 use Rattle.effect_prover.specs.declared.range.Range.{Range}
 use Rattle.effect_prover.specs.declared.row.Row.{Row}
-use Rattle.effect_prover.specs.Range.{one, IsIn, IsRange}
+use Rattle.effect_prover.specs.Range.{one, LiesWithin, IsRange}
 use Rattle.effect_prover.specs.Row.{x0, range_of, with_range, start_row, IsRow, IsBelow, IsUnder}
-use Rattle.effect_prover.specs.Successors.{with_lock, without_lock}
+use Rattle.effect_prover.specs.Successors.{held_with, held_without}
 use Rattle.effect_prover.proofs.RangeLemmas.{in-itself, in-trans, one-range}
 
 pub ruleset high_locks = holds-high
@@ -128,24 +128,24 @@ under-trans (Some x) None c h k = absurd h
 under-trans (Some x) (Some y) None h k = absurd k
 under-trans (Some x) (Some y) (Some z) h k = below-trans x y z h k
 
-pub with-below : (row all : Row) (rd : ℕ) (x y : Range) → IsRow row → IsRow all → IsBelow row all → IsIn x y → IsBelow (with_range row rd x) (with_range all rd y)
+pub with-below : (row all : Row) (rd : ℕ) (x y : Range) → IsRow row → IsRow all → IsBelow row all → LiesWithin x y → IsBelow (with_range row rd x) (with_range all rd y)
 with-below row all rd x y hr ha h k =
     let one_count = hr.count in
     let other_count = ha.count in
     let one_held = with-held row rd x in
     let other_held = with-held all rd y in
     record {
-      ranges = λ r within. with-pair row all rd x y r (omega arith) (omega arith) IsIn k (h.ranges r within);
+      ranges = λ r within. with-pair row all rd x y r (omega arith) (omega arith) LiesWithin k (h.ranges r within);
       locks = subst (λ (n : ℕ). HoldsLess n (with_range row rd x).held) (sym other_held) (subst (HoldsLess all.held) (sym one_held) h.locks);
     }
 
 -- a row in which one register is narrowed stays below
-pub narrow-below : (row all : Row) (rd : ℕ) (x : Range) → IsRow row → IsBelow row all → IsIn x (range_of all rd) → IsBelow (with_range row rd x) all
+pub narrow-below : (row all : Row) (rd : ℕ) (x : Range) → IsRow row → IsBelow row all → LiesWithin x (range_of all rd) → IsBelow (with_range row rd x) all
 narrow-below row all rd x hr h k =
     let count = hr.count in
     let same = with-held row rd x in
     record {
-      ranges = λ r within. with-has row rd x r (omega arith) (λ (v : Range). IsIn v (range_of all r)) (λ (e : r ≡ rd). subst (λ (n : ℕ). IsIn x (range_of all n)) (sym e) k) (h.ranges r within);
+      ranges = λ r within. with-has row rd x r (omega arith) (λ (v : Range). LiesWithin v (range_of all r)) (λ (e : r ≡ rd). subst (λ (n : ℕ). LiesWithin x (range_of all n)) (sym e) k) (h.ranges r within);
       locks = subst (HoldsLess all.held) (sym same) h.locks;
     }
 
@@ -157,45 +157,45 @@ held-below row all held other h k = record { ranges = h.ranges; locks = k }
 pub none-less : (held : ℕ) → HoldsLess 0 held
 none-less held = record { among = λ lock h. absurd (false≢true (sym (holds-none lock) ∙ h)) }
 
-pub holds-without : (held lock k : ℕ) → holds (without_lock held lock) k ≡ (not (k == lock) && holds held k)
-holds-without held lock k = by_test (holds held lock) refl
+pub holds-without : (held lock k : ℕ) → is_held (held_without held lock) k ≡ (not (k == lock) && is_held held k)
+holds-without held lock k = by_test (is_held held lock) refl
   where
-    by_test : (b : Bool) → holds held lock ≡ b → holds (if b then bit_xor held (2 ^ lock) else held) k ≡ (not (k == lock) && holds held k)
+    by_test : (b : Bool) → is_held held lock ≡ b → is_held (if b then bit_xor held (2 ^ lock) else held) k ≡ (not (k == lock) && is_held held k)
     by_test true e = holds-released held lock k e
     by_test false e =
         ⊎_elim
-        (λ (same : k ≡ lock). let none : holds held k ≡ false = subst (λ (n : ℕ). holds held n ≡ false) (sym same) e in
+        (λ (same : k ≡ lock). let none : is_held held k ≡ false = subst (λ (n : ℕ). is_held held n ≡ false) (sym same) e in
         rw (none, eq-eqb k lock same) refl)
         (λ (apart : k ≡ lock → ⊥). rw (ne_eqb k lock apart) refl)
         (cases_eq k lock)
 
-pub without-less : (held all lock : ℕ) → HoldsLess held all → HoldsLess (without_lock held lock) (without_lock all lock)
+pub without-less : (held all lock : ℕ) → HoldsLess held all → HoldsLess (held_without held lock) (held_without all lock)
 without-less held all lock h =
     record {
       among = λ k e.
-          let parts = and_parts (not (k == lock)) (holds held k) (sym (holds-without held lock k) ∙ e) in
-          holds-without all lock k ∙ and_from (not (k == lock)) (holds all k) parts.0 (h.among k parts.1);
+          let parts = and_parts (not (k == lock)) (is_held held k) (sym (holds-without held lock k) ∙ e) in
+          holds-without all lock k ∙ and_from (not (k == lock)) (is_held all k) parts.0 (h.among k parts.1);
     }
 
-pub with-less : (held all lock : ℕ) → HoldsLess held all → HoldsLess (with_lock held lock) (with_lock all lock)
+pub with-less : (held all lock : ℕ) → HoldsLess held all → HoldsLess (held_with held lock) (held_with all lock)
 with-less held all lock h =
     record {
       among = λ k e.
           holds-acquired all lock k
-          ∙ ⊎_elim (λ (l : (k == lock) ≡ true). or_left (k == lock) (holds all k) l) (λ (l : holds held k ≡ true). or_right (k == lock) (holds all k) (h.among k l))
-          (or_cases (k == lock) (holds held k) (sym (holds-acquired held lock k) ∙ e));
+          ∙ ⊎_elim (λ (l : (k == lock) ≡ true). or_left (k == lock) (is_held all k) l) (λ (l : is_held held k ≡ true). or_right (k == lock) (is_held all k) (h.among k l))
+          (or_cases (k == lock) (is_held held k) (sym (holds-acquired held lock k) ∙ e));
     }
 
-pub more-less : (held all lock : ℕ) → HoldsLess held all → HoldsLess held (with_lock all lock)
+pub more-less : (held all lock : ℕ) → HoldsLess held all → HoldsLess held (held_with all lock)
 more-less held all lock h =
-    record { among = λ k e. holds-acquired all lock k ∙ or_right (k == lock) (holds all k) (h.among k e) }
+    record { among = λ k e. holds-acquired all lock k ∙ or_right (k == lock) (is_held all k) (h.among k e) }
 
-pub with-small : (held lock : ℕ) → held < 2 ^ 32 → lock < 32 → with_lock held lock < 2 ^ 32
+pub with-small : (held lock : ℕ) → held < 2 ^ 32 → lock < 32 → held_with held lock < 2 ^ 32
 with-small held lock h k = or_lt 32 held (2 ^ lock) h (pow_below lock 32 k)
 
-pub without-small : (held lock : ℕ) → held < 2 ^ 32 → without_lock held lock < 2 ^ 32
+pub without-small : (held lock : ℕ) → held < 2 ^ 32 → held_without held lock < 2 ^ 32
 without-small held lock h =
-    cond_both (holds held lock) (bit_xor held (2 ^ lock)) held (λ (n : ℕ). n < 2 ^ 32)
+    cond_both (is_held held lock) (bit_xor held (2 ^ lock)) held (λ (n : ℕ). n < 2 ^ 32)
     (λ e.
     ⊎_elim
     (λ (low : lock < 32). xor_lt 32 held (2 ^ lock) h (pow_below lock 32 low))

@@ -16,7 +16,7 @@ use Rattle.rv_core.specs.declared.task.End as cause
 use Rattle.rv_core.specs.declared.task.TrapKind as kind
 use Rattle.rv_core.specs.declared.need.Need.{Need}
 use Rattle.rv_core.specs.declared.need.Need as need
-use Rattle.rv_core.specs.Access.{holds, least_held, may_load, may_store}
+use Rattle.rv_core.specs.Access.{is_held, least_held, may_load, may_store}
 use Rattle.rv_core.specs.Need.{need_of, fetch_need, word_need, instr_need, jump_need, load_need, store_need, call_need, when_aligned, traps, address_of, jump_target}
 use Rattle.rv_core.specs.Place.{code_at, data_at, size_of, is_whole}
 use Rattle.rv_core.specs.Registers.{value_in}
@@ -58,7 +58,7 @@ jump-tame : (t : TaskState) (target : ℕ) → IsTameNeed (jump_need t target)
 jump-tame t target = cond_both (target % 4 == 0) need.TheVariants.Local (traps t kind.TheVariants.Target target) IsTameNeed (λ e. tt) (λ e. tt)
 
 call-tame : (P : ProgramParts) (t : TaskState) (number lock : ℕ) → IsTameNeed (call_need P t number lock)
-call-tame P t number lock = by_tests (nat_lt 2 number) (number == 0) (t.held == 0) (nat_le (length P.locks) lock) (number == 1) (holds t.held lock)
+call-tame P t number lock = by_tests (nat_lt 2 number) (number == 0) (t.held == 0) (nat_le (length P.locks) lock) (number == 1) (is_held t.held lock)
   where
     by_tests : (a b c d e f : Bool) → IsTameNeed (
         if a then traps t kind.TheVariants.Call number

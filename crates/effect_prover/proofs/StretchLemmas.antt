@@ -9,7 +9,7 @@ use Rattle.rv_isa.specs.declared.instr.Width.{Width}
 use Rattle.rv_isa.specs.declared.instr.Width as width
 use Rattle.region_table.specs.declared.interval.Interval.{Interval}
 use Rattle.region_table.specs.Words.{has, in_interval}
-use Rattle.rv_core.specs.Access.{holds, under}
+use Rattle.rv_core.specs.Access.{is_held, under}
 use Rattle.rv_core.proofs.HighLocks.{holds-high}
 use Rattle.rv_core.specs.Place.{data_at, size_of}
 use Rattle.effect_prover.specs.declared.range.Range.{Range}
@@ -60,13 +60,13 @@ pub stretch-same : (a b : ℕ → Bool) (word e : ℕ) → ((w : ℕ) → b w �
 stretch-same a b word e same h = record { from = h.from; all = λ w l m. same w ∙ h.all w l m; none = λ f. same word ∙ h.none f }
 
 -- a set whose lock is held, and one whose lock isn't
-pub stretch-held : (held lock : ℕ) (is : List Interval) (word e : ℕ) → holds held lock ≡ true → IsStretch (has is) word e → IsStretch (λ w. holds held lock && has is w) word e
-stretch-held held lock is word e h s = stretch-same (has is) (λ w. holds held lock && has is w) word e (λ w. ap (λ (b : Bool). b && has is w) h) s
+pub stretch-held : (held lock : ℕ) (is : List Interval) (word e : ℕ) → is_held held lock ≡ true → IsStretch (has is) word e → IsStretch (λ w. is_held held lock && has is w) word e
+stretch-held held lock is word e h s = stretch-same (has is) (λ w. is_held held lock && has is w) word e (λ w. ap (λ (b : Bool). b && has is w) h) s
 
-pub stretch-free : (held lock : ℕ) (is : List Interval) (word : ℕ) → holds held lock ≡ false → IsStretch (λ w. holds held lock && has is w) word word
-stretch-free held lock is word h = stretch-none (λ w. holds held lock && has is w) word (ap (λ (b : Bool). b && has is word) h)
+pub stretch-free : (held lock : ℕ) (is : List Interval) (word : ℕ) → is_held held lock ≡ false → IsStretch (λ w. is_held held lock && has is w) word word
+stretch-free held lock is word h = stretch-none (λ w. is_held held lock && has is w) word (ap (λ (b : Bool). b && has is word) h)
 
-pub stretch-high : (held lock : ℕ) (is : List Interval) (word : ℕ) → held < 2 ^ 32 → 32 ≤ lock → IsStretch (λ w. holds held lock && has is w) word word
+pub stretch-high : (held lock : ℕ) (is : List Interval) (word : ℕ) → held < 2 ^ 32 → 32 ≤ lock → IsStretch (λ w. is_held held lock && has is w) word word
 stretch-high held lock is word small high = stretch-free held lock is word (holds-high held lock small high)
 
 or-none : (a : Bool) → (a || false) ≡ a
@@ -78,25 +78,25 @@ or-assoc true b c = refl
 or-assoc false b c = refl
 
 -- one more set
-under-push : (ss : List (List Interval)) (s : List Interval) (first held w : ℕ) → under (ss ++ s ∷ []) first held w ≡ (under ss first held w || (holds held (first + length ss) && has s w))
+under-push : (ss : List (List Interval)) (s : List Interval) (first held w : ℕ) → under (ss ++ s ∷ []) first held w ≡ (under ss first held w || (is_held held (first + length ss) && has s w))
 under-push [] s first held w =
-    or-none (holds held first && has s w) ∙ ap (λ (n : ℕ). holds held n && has s w) (let e : first ≡ first + 0 = omega arith in e)
+    or-none (is_held held first && has s w) ∙ ap (λ (n : ℕ). is_held held n && has s w) (let e : first ≡ first + 0 = omega arith in e)
 under-push (t ∷ ss) s first held w =
-    let here : Bool = holds held first && has t w in
+    let here : Bool = is_held held first && has t w in
     let rest : Bool = under ss (first + 1) held w in
     ap (λ (b : Bool). here || b) (under-push ss s (first + 1) held w)
-    ∙ or-assoc here rest (holds held (first + 1 + length ss) && has s w)
-    ∙ ap (λ (n : ℕ). (here || rest) || (holds held n && has s w)) (let e : first + 1 + length ss ≡ first + suc (length ss) = omega arith in e)
+    ∙ or-assoc here rest (is_held held (first + 1 + length ss) && has s w)
+    ∙ ap (λ (n : ℕ). (here || rest) || (is_held held n && has s w)) (let e : first + 1 + length ss ≡ first + suc (length ss) = omega arith in e)
 
 pub stretch-push : (sets : List (List Interval)) (k : ℕ) (s : List Interval) (held word e f : ℕ) → s ≡ get_or sets k s → k < length sets → IsStretch (under (take k sets) 0 held) word e
-    → IsStretch (λ w. holds held k && has s w) word f → IsStretch (under (take (k + 1) sets) 0 held) word (max e f)
+    → IsStretch (λ w. is_held held k && has s w) word f → IsStretch (under (take (k + 1) sets) 0 held) word (max e f)
 stretch-push sets k s held word e f is within h g =
-    stretch-same (λ w. under (take k sets) 0 held w || (holds held k && has s w)) (under (take (k + 1) sets) 0 held) word (max e f)
+    stretch-same (λ w. under (take k sets) 0 held w || (is_held held k && has s w)) (under (take (k + 1) sets) 0 held) word (max e f)
     (λ w.
     ap (λ (ss : List (List Interval)). under ss 0 held w) (take_more sets k s within ∙ ap (λ (x : List Interval). take k sets ++ x ∷ []) (sym is))
     ∙ under-push (take k sets) s 0 held w
-    ∙ ap (λ (n : ℕ). under (take k sets) 0 held w || (holds held n && has s w)) (let l = length-take-le k sets (omega arith) in let e : 0 + length (take k sets) ≡ k = omega arith in e))
-    (stretch-or (under (take k sets) 0 held) (λ w. holds held k && has s w) word e f h g)
+    ∙ ap (λ (n : ℕ). under (take k sets) 0 held w || (is_held held n && has s w)) (let l = length-take-le k sets (omega arith) in let e : 0 + length (take k sets) ≡ k = omega arith in e))
+    (stretch-or (under (take k sets) 0 held) (λ w. is_held held k && has s w) word e f h g)
 
 pub stretch-first : (sets : List (List Interval)) (held word : ℕ) → IsStretch (under (take 0 sets) 0 held) word word
 stretch-first sets held word = stretch-none (under (take 0 sets) 0 held) word refl

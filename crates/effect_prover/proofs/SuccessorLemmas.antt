@@ -7,7 +7,7 @@ use Rattle.std.proofs.lemmas.Nat.{mod_below}
 use lib.IntN.{ℤ, pos, negsuc}
 use Rattle.rv_isa.specs.Meaning.{taken_of}
 use Rattle.rv_isa.specs.Word.{pattern}
-use Rattle.rv_isa.specs.Range.{IsSigned, IsAmount, IsOperand, Fits, HasRegisters}
+use Rattle.rv_isa.specs.Range.{IsSigned, IsAmount, IsOperand, IsEncodable, HasRegisters}
 use Rattle.rv_isa.specs.Table.{is_shift}
 use Rattle.rv_isa.specs.declared.instr.AluOp.{AluOp}
 use Rattle.rv_isa.specs.declared.instr.Cond.{Cond}
@@ -20,9 +20,9 @@ use Rattle.flat_machine.specs.Laws.{HoldsLess}
 use Rattle.effect_prover.specs.declared.range.Range.{Range}
 use Rattle.effect_prover.specs.declared.row.Row.{Row}
 use Rattle.effect_prover.specs.declared.successors.Successors.{Successors}
-use Rattle.effect_prover.specs.Range.{IsIn, IsRange, one, every, is_one, is_empty, computed, computed_imm, common, below, above, at_least, at_most}
+use Rattle.effect_prover.specs.Range.{LiesWithin, IsRange, one, every, is_one, is_empty, computed, computed_imm, common, below, above, at_least, at_most}
 use Rattle.effect_prover.specs.Row.{a0, a7, range_of, with_range, IsRow, IsBelow, IsUnder}
-use Rattle.effect_prover.specs.Successors.{stays, goes_on, jumps, narrowed, where_equal, where_less, where_not_less, where_different, are_low, less_branches, not_less_branches, any_branches, branches, branch_on, loadable, with_lock, without_lock, after_acquire, after_release, calls, successors}
+use Rattle.effect_prover.specs.Successors.{no_successors, falls_through, jumps, narrowed, where_equal, where_less, where_not_less, where_different, are_low, less_branches, not_less_branches, any_branches, branches, branch_on, loadable, held_with, held_without, held_after_acquire, held_after_release, calls, successors}
 use Rattle.effect_prover.proofs.RangeLemmas.{in-itself, one-range, every-range, computed-range, computed-in, computed_imm-range, computed_imm-in}
 use Rattle.effect_prover.proofs.RowLemmas.{with-row, held-row, below-itself, with-below, narrow-below, held-below, none-less, without-less, with-less, more-less, with-small, without-small}
 
@@ -40,13 +40,13 @@ pub record AreRows (s : Successors) : Type 0 where
   pub next : IsRowIn s.next
   pub target : IsRowIn s.target
 
-goes-under : (row all : Row) → IsBelow row all → AreUnder (goes_on row) (goes_on all)
+goes-under : (row all : Row) → IsBelow row all → AreUnder (falls_through row) (falls_through all)
 goes-under row all h = record { next = h; target = tt }
 
-goes-row : (row : Row) → IsRow row → AreRows (goes_on row)
+goes-row : (row : Row) → IsRow row → AreRows (falls_through row)
 goes-row row h = record { next = h; target = tt }
 
-stays-under : (t : Successors) → AreUnder stays t
+stays-under : (t : Successors) → AreUnder no_successors t
 stays-under t = record { next = tt; target = tt }
 
 -- ---- narrowed rows
@@ -62,7 +62,7 @@ narrowed-row row a x b y h j k =
     let some = kept x y e in
     with-row (with_range row a x) b y (with-row row a x h (record { some = some.0; within = j })) (record { some = some.1; within = k }))
 
-narrowed-under : (row all : Row) (a : ℕ) (x u : Range) (b : ℕ) (y v : Range) → IsRow row → IsRow all → IsBelow row all → u.hi < 2 ^ 32 → v.hi < 2 ^ 32 → IsIn x u → IsIn y v
+narrowed-under : (row all : Row) (a : ℕ) (x u : Range) (b : ℕ) (y v : Range) → IsRow row → IsRow all → IsBelow row all → u.hi < 2 ^ 32 → v.hi < 2 ^ 32 → LiesWithin x u → LiesWithin y v
     → IsUnder (narrowed row a x b y) (narrowed all a u b v)
 narrowed-under row all a x u b y v hr ha h su sv p q =
     cond_both (is_empty x || is_empty y) None (Some (with_range (with_range row a x) b y)) (λ (z : Option Row). IsUnder z (narrowed all a u b v))
@@ -84,7 +84,7 @@ narrowed-under row all a x u b y v hr ha h su sv p q =
     (with-below row all a x u hr ha h p) q))
 
 -- a row whose registers are narrowed lies below each row above it
-narrowed-within : (row all : Row) (a : ℕ) (x : Range) (b : ℕ) (y : Range) → IsRow row → IsBelow row all → x.hi < 2 ^ 32 → IsIn x (range_of all a) → IsIn y (range_of all b)
+narrowed-within : (row all : Row) (a : ℕ) (x : Range) (b : ℕ) (y : Range) → IsRow row → IsBelow row all → x.hi < 2 ^ 32 → LiesWithin x (range_of all a) → LiesWithin y (range_of all b)
     → IsUnder (narrowed row a x b y) (Some all)
 narrowed-within row all a x b y hr h sx p q =
     cond_both (is_empty x || is_empty y) None (Some (with_range (with_range row a x) b y)) (λ (z : Option Row). IsUnder z (Some all))
@@ -102,8 +102,8 @@ record ArePair (row all : Row) (a b : ℕ) : Type 0 where
   second : IsRange (range_of row b)
   first_all : IsRange (range_of all a)
   second_all : IsRange (range_of all b)
-  first_in : IsIn (range_of row a) (range_of all a)
-  second_in : IsIn (range_of row b) (range_of all b)
+  first_in : LiesWithin (range_of row a) (range_of all a)
+  second_in : LiesWithin (range_of row b) (range_of all b)
 
 pair : (row all : Row) (a b : ℕ) → IsRow row → IsRow all → IsBelow row all → a < 32 → b < 32 → ArePair row all a b
 pair row all a b hr ha h j k =
@@ -137,7 +137,7 @@ not_less-under row all a b p =
     b (at_most (range_of row b) (range_of row a)) (at_most (range_of all b) (range_of all a)) p.row_is p.all_is p.under (omega arith) (omega arith)
     (record { low = omega arith; high = omega arith }) (record { low = omega arith; high = omega arith })
 
-same_one : (x y u v : Range) → IsRange x → IsRange y → IsIn x u → IsIn y v → (is_one u && is_one v && u.lo == v.lo) ≡ true → (is_one x && is_one y && x.lo == y.lo) ≡ true
+same_one : (x y u v : Range) → IsRange x → IsRange y → LiesWithin x u → LiesWithin y v → (is_one u && is_one v && u.lo == v.lo) ≡ true → (is_one x && is_one y && x.lo == y.lo) ≡ true
 same_one x y u v hx hy p q e =
     let first = hx.some in
     let second = hy.some in
@@ -210,7 +210,7 @@ branches-under Ge row all a b p =
 branch-under : (test : Cond) (row all : Row) (a b : ℕ) → IsRow row → IsRow all → IsBelow row all → a < 32 → b < 32 → AreUnder (branch_on test row a b) (branch_on test all a b)
 branch-under test row all a b hr ha h j k = by_test (a == b) (taken_of test 0 0)
   where
-    by_test : (s t : Bool) → AreUnder (if s then (if t then jumps row else goes_on row) else branches test row a b) (if s then (if t then jumps all else goes_on all) else branches test all a b)
+    by_test : (s t : Bool) → AreUnder (if s then (if t then jumps row else falls_through row) else branches test row a b) (if s then (if t then jumps all else falls_through all) else branches test all a b)
     by_test true true = record { next = tt; target = h }
     by_test true false = goes-under row all h
     by_test false t = branches-under test row all a b (pair row all a b hr ha h j k)
@@ -246,115 +246,115 @@ branches-rows test row a b h j k = by_test test
 branch-rows : (test : Cond) (row : Row) (a b : ℕ) → IsRow row → a < 32 → b < 32 → AreRows (branch_on test row a b)
 branch-rows test row a b h j k = by_test (a == b) (taken_of test 0 0)
   where
-    by_test : (s t : Bool) → AreRows (if s then (if t then jumps row else goes_on row) else branches test row a b)
+    by_test : (s t : Bool) → AreRows (if s then (if t then jumps row else falls_through row) else branches test row a b)
     by_test true true = record { next = tt; target = h }
     by_test true false = goes-row row h
     by_test false t = branches-rows test row a b h (h.each a j) (h.each b k)
 
 -- ---- calls
 
-same_number : (x u : Range) → IsRange x → IsIn x u → is_one u ≡ true → (is_one x ≡ true) × (x.lo ≡ u.lo)
+same_number : (x u : Range) → IsRange x → LiesWithin x u → is_one u ≡ true → (is_one x ≡ true) × (x.lo ≡ u.lo)
 same_number x u h p e =
     let same = eqb-true u.lo u.hi e in
     (eq-eqb x.lo x.hi (omega arith), omega arith)
 
-acquire-less : (locks held all : ℕ) (x u : Range) → IsRange x → IsIn x u → HoldsLess all held → HoldsLess (after_acquire locks all u) (after_acquire locks held x)
+acquire-less : (locks held all : ℕ) (x u : Range) → IsRange x → LiesWithin x u → HoldsLess all held → HoldsLess (held_after_acquire locks all u) (held_after_acquire locks held x)
 acquire-less locks held all x u h p less =
-    cond_both (is_one u && nat_lt u.lo locks) (with_lock all u.lo) all (λ (n : ℕ). HoldsLess n (after_acquire locks held x))
+    cond_both (is_one u && nat_lt u.lo locks) (held_with all u.lo) all (λ (n : ℕ). HoldsLess n (held_after_acquire locks held x))
     (λ e.
     let parts = and_parts (is_one u) (nat_lt u.lo locks) e in
     let number = same_number x u h p parts.0 in
     let both : (is_one x && nat_lt x.lo locks) ≡ true =
     and_from (is_one x) (nat_lt x.lo locks) number.0 (subst (λ (n : ℕ). nat_lt n locks ≡ true) (sym number.1) parts.1) in
-    rw both (subst (λ (n : ℕ). HoldsLess (with_lock all u.lo) (with_lock held n)) (sym number.1) (with-less all held u.lo less)))
-    (λ e. cond_both (is_one x && nat_lt x.lo locks) (with_lock held x.lo) held (HoldsLess all) (λ f. more-less all held x.lo less) (λ f. less))
+    rw both (subst (λ (n : ℕ). HoldsLess (held_with all u.lo) (held_with held n)) (sym number.1) (with-less all held u.lo less)))
+    (λ e. cond_both (is_one x && nat_lt x.lo locks) (held_with held x.lo) held (HoldsLess all) (λ f. more-less all held x.lo less) (λ f. less))
 
-release-less : (held all : ℕ) (x u : Range) → IsRange x → IsIn x u → HoldsLess all held → HoldsLess (after_release all u) (after_release held x)
+release-less : (held all : ℕ) (x u : Range) → IsRange x → LiesWithin x u → HoldsLess all held → HoldsLess (held_after_release all u) (held_after_release held x)
 release-less held all x u h p less =
-    cond_both (is_one u) (without_lock all u.lo) 0 (λ (n : ℕ). HoldsLess n (after_release held x))
+    cond_both (is_one u) (held_without all u.lo) 0 (λ (n : ℕ). HoldsLess n (held_after_release held x))
     (λ e.
     let number = same_number x u h p e in
     let one' = number.0 in
-    rw one' (subst (λ (n : ℕ). HoldsLess (without_lock all u.lo) (without_lock held n)) (sym number.1) (without-less all held u.lo less)))
-    (λ e. none-less (after_release held x))
+    rw one' (subst (λ (n : ℕ). HoldsLess (held_without all u.lo) (held_without held n)) (sym number.1) (without-less all held u.lo less)))
+    (λ e. none-less (held_after_release held x))
 
 -- an ECALL with this number
 known : ℕ → Row → ℕ → Range → Successors
 known locks row number lock =
-    if number == 1 then goes_on (record row { held = after_acquire locks row.held lock })
-    else if number == 2 then goes_on (record row { held = after_release row.held lock })
-    else stays
+    if number == 1 then falls_through (record row { held = held_after_acquire locks row.held lock })
+    else if number == 2 then falls_through (record row { held = held_after_release row.held lock })
+    else no_successors
 
-calls-known : (locks : ℕ) (row : Row) (x y : Range) → calls locks row x y ≡ (if is_one x then known locks row x.lo y else goes_on (record row { held = 0 }))
+calls-known : (locks : ℕ) (row : Row) (x y : Range) → calls locks row x y ≡ (if is_one x then known locks row x.lo y else falls_through (record row { held = 0 }))
 unfolding known
 calls-known locks row x y = refl
 
-known-under : (locks : ℕ) (row all : Row) (number : ℕ) (y v : Range) → IsRange y → IsIn y v → IsBelow row all → AreUnder (known locks row number y) (known locks all number v)
+known-under : (locks : ℕ) (row all : Row) (number : ℕ) (y v : Range) → IsRange y → LiesWithin y v → IsBelow row all → AreUnder (known locks row number y) (known locks all number v)
 unfolding known
 known-under locks row all number y v k q h = by_test (number == 1) (number == 2)
   where
     by_test : (s t : Bool) → AreUnder
-        (if s then goes_on (record row { held = after_acquire locks row.held y }) else if t then goes_on (record row { held = after_release row.held y }) else stays)
-        (if s then goes_on (record all { held = after_acquire locks all.held v }) else if t then goes_on (record all { held = after_release all.held v }) else stays)
+        (if s then falls_through (record row { held = held_after_acquire locks row.held y }) else if t then falls_through (record row { held = held_after_release row.held y }) else no_successors)
+        (if s then falls_through (record all { held = held_after_acquire locks all.held v }) else if t then falls_through (record all { held = held_after_release all.held v }) else no_successors)
     by_test true t =
-        goes-under (record row { held = after_acquire locks row.held y }) (record all { held = after_acquire locks all.held v })
-        (held-below row all (after_acquire locks row.held y) (after_acquire locks all.held v) h (acquire-less locks row.held all.held y v k q h.locks))
+        goes-under (record row { held = held_after_acquire locks row.held y }) (record all { held = held_after_acquire locks all.held v })
+        (held-below row all (held_after_acquire locks row.held y) (held_after_acquire locks all.held v) h (acquire-less locks row.held all.held y v k q h.locks))
     by_test false true =
-        goes-under (record row { held = after_release row.held y }) (record all { held = after_release all.held v })
-        (held-below row all (after_release row.held y) (after_release all.held v) h (release-less row.held all.held y v k q h.locks))
-    by_test false false = stays-under stays
+        goes-under (record row { held = held_after_release row.held y }) (record all { held = held_after_release all.held v })
+        (held-below row all (held_after_release row.held y) (held_after_release all.held v) h (release-less row.held all.held y v k q h.locks))
+    by_test false false = stays-under no_successors
 
 -- whatever the number, no lock may be held after
-known-within : (locks : ℕ) (row all : Row) (number : ℕ) (y : Range) → IsBelow row all → AreUnder (known locks row number y) (goes_on (record all { held = 0 }))
+known-within : (locks : ℕ) (row all : Row) (number : ℕ) (y : Range) → IsBelow row all → AreUnder (known locks row number y) (falls_through (record all { held = 0 }))
 unfolding known
 known-within locks row all number y h = by_test (number == 1) (number == 2)
   where
-    lax : (held : ℕ) → AreUnder (goes_on (record row { held = held })) (goes_on (record all { held = 0 }))
+    lax : (held : ℕ) → AreUnder (falls_through (record row { held = held })) (falls_through (record all { held = 0 }))
     lax held = goes-under (record row { held = held }) (record all { held = 0 }) (held-below row all held 0 h (none-less held))
 
     by_test : (s t : Bool) → AreUnder
-        (if s then goes_on (record row { held = after_acquire locks row.held y }) else if t then goes_on (record row { held = after_release row.held y }) else stays)
-        (goes_on (record all { held = 0 }))
-    by_test true t = lax (after_acquire locks row.held y)
-    by_test false true = lax (after_release row.held y)
-    by_test false false = stays-under (goes_on (record all { held = 0 }))
+        (if s then falls_through (record row { held = held_after_acquire locks row.held y }) else if t then falls_through (record row { held = held_after_release row.held y }) else no_successors)
+        (falls_through (record all { held = 0 }))
+    by_test true t = lax (held_after_acquire locks row.held y)
+    by_test false true = lax (held_after_release row.held y)
+    by_test false false = stays-under (falls_through (record all { held = 0 }))
 
-calls-under : (locks : ℕ) (row all : Row) (x u y v : Range) → IsRange x → IsRange y → IsIn x u → IsIn y v → IsBelow row all → AreUnder (calls locks row x y) (calls locks all u v)
+calls-under : (locks : ℕ) (row all : Row) (x u y v : Range) → IsRange x → IsRange y → LiesWithin x u → LiesWithin y v → IsBelow row all → AreUnder (calls locks row x y) (calls locks all u v)
 calls-under locks row all x u y v j k p q h =
     subst (λ (z : Successors). AreUnder z (calls locks all u v)) (sym (calls-known locks row x y))
-    (subst (AreUnder (if is_one x then known locks row x.lo y else goes_on (record row { held = 0 }))) (sym (calls-known locks all u v)) (
-    cond_both (is_one u) (known locks all u.lo v) (goes_on (record all { held = 0 })) (AreUnder (if is_one x then known locks row x.lo y else goes_on (record row { held = 0 })))
+    (subst (AreUnder (if is_one x then known locks row x.lo y else falls_through (record row { held = 0 }))) (sym (calls-known locks all u v)) (
+    cond_both (is_one u) (known locks all u.lo v) (falls_through (record all { held = 0 })) (AreUnder (if is_one x then known locks row x.lo y else falls_through (record row { held = 0 })))
     (λ e.
     let number = same_number x u j p e in
     let one' = number.0 in
     rw one' (subst (λ (n : ℕ). AreUnder (known locks row n y) (known locks all u.lo v)) (sym number.1) (known-under locks row all u.lo y v k q h)))
     (λ e.
-    cond_both (is_one x) (known locks row x.lo y) (goes_on (record row { held = 0 })) (λ (z : Successors). AreUnder z (goes_on (record all { held = 0 })))
+    cond_both (is_one x) (known locks row x.lo y) (falls_through (record row { held = 0 })) (λ (z : Successors). AreUnder z (falls_through (record all { held = 0 })))
     (λ f. known-within locks row all x.lo y h)
     (λ f. goes-under (record row { held = 0 }) (record all { held = 0 }) (held-below row all 0 0 h (none-less 0))))))
 
-acquire-small : (locks held : ℕ) (x : Range) → locks ≤ 32 → held < 2 ^ 32 → after_acquire locks held x < 2 ^ 32
+acquire-small : (locks held : ℕ) (x : Range) → locks ≤ 32 → held < 2 ^ 32 → held_after_acquire locks held x < 2 ^ 32
 acquire-small locks held x l h =
-    cond_both (is_one x && nat_lt x.lo locks) (with_lock held x.lo) held (λ (n : ℕ). n < 2 ^ 32)
+    cond_both (is_one x && nat_lt x.lo locks) (held_with held x.lo) held (λ (n : ℕ). n < 2 ^ 32)
     (λ e.
     let parts = and_parts (is_one x) (nat_lt x.lo locks) e in
     let low = ltb-true x.lo locks parts.1 in
     with-small held x.lo h (omega arith))
     (λ e. h)
 
-release-small : (held : ℕ) (x : Range) → held < 2 ^ 32 → after_release held x < 2 ^ 32
-release-small held x h = cond_both (is_one x) (without_lock held x.lo) 0 (λ (n : ℕ). n < 2 ^ 32) (λ e. without-small held x.lo h) (λ e. omega arith)
+release-small : (held : ℕ) (x : Range) → held < 2 ^ 32 → held_after_release held x < 2 ^ 32
+release-small held x h = cond_both (is_one x) (held_without held x.lo) 0 (λ (n : ℕ). n < 2 ^ 32) (λ e. without-small held x.lo h) (λ e. omega arith)
 
 calls-rows : (locks : ℕ) (row : Row) (x y : Range) → locks ≤ 32 → IsRow row → AreRows (calls locks row x y)
 calls-rows locks row x y l h = by_test (is_one x) (x.lo == 1) (x.lo == 2)
   where
     by_test : (q s t : Bool) → AreRows
-        (if q then (if s then goes_on (record row { held = after_acquire locks row.held y }) else if t then goes_on (record row { held = after_release row.held y }) else stays)
-        else goes_on (record row { held = 0 }))
+        (if q then (if s then falls_through (record row { held = held_after_acquire locks row.held y }) else if t then falls_through (record row { held = held_after_release row.held y }) else no_successors)
+        else falls_through (record row { held = 0 }))
     by_test true true t =
-        goes-row (record row { held = after_acquire locks row.held y }) (held-row row (after_acquire locks row.held y) h (acquire-small locks row.held y l h.held))
+        goes-row (record row { held = held_after_acquire locks row.held y }) (held-row row (held_after_acquire locks row.held y) h (acquire-small locks row.held y l h.held))
     by_test true false true =
-        goes-row (record row { held = after_release row.held y }) (held-row row (after_release row.held y) h (release-small row.held y h.held))
+        goes-row (record row { held = held_after_release row.held y }) (held-row row (held_after_release row.held y) h (release-small row.held y h.held))
     by_test true false false = record { next = tt; target = tt }
     by_test false s t = goes-row (record row { held = 0 }) (held-row row (0) h (omega arith))
 
@@ -380,7 +380,7 @@ pub operand-small : (b : Bool) (z : ℤ) → IsOperand b z → pattern z < 2 ^ 3
 operand-small true z h = amount-small z h
 operand-small false z h = signed-small z h
 
-pub successors-under : (locks pc : ℕ) (row all : Row) (i : Instr) → HasRegisters i → Fits i → IsRow row → IsRow all → IsBelow row all
+pub successors-under : (locks pc : ℕ) (row all : Row) (i : Instr) → HasRegisters i → IsEncodable i → IsRow row → IsRow all → IsBelow row all
     → AreUnder (successors locks pc row i) (successors locks pc all i)
 successors-under locks pc row all (Lui rd imm) g f hr ha h =
     let x : Range = one (imm * 4096 % 2 ^ 32) in
@@ -390,7 +390,7 @@ successors-under locks pc row all (Auipc rd imm) g f hr ha h =
     goes-under (with_range row rd x) (with_range all rd x) (with-below row all rd x x hr ha h (in-itself x))
 successors-under locks pc row all (Jal rd offset) g f hr ha h =
     record { next = tt; target = with-below row all rd (one (pc + 4)) (one (pc + 4)) hr ha h (in-itself (one (pc + 4))) }
-successors-under locks pc row all (Jalr rd base offset) g f hr ha h = stays-under stays
+successors-under locks pc row all (Jalr rd base offset) g f hr ha h = stays-under no_successors
 successors-under locks pc row all (Branch test a b offset) g f hr ha h = branch-under test row all a b hr ha h g.0 g.1
 successors-under locks pc row all (Load w rd base offset) g f hr ha h =
     goes-under (with_range row rd (loadable w)) (with_range all rd (loadable w)) (with-below row all rd (loadable w) (loadable w) hr ha h (in-itself (loadable w)))
@@ -411,9 +411,9 @@ successors-under locks pc row all Fence g f hr ha h = goes-under row all h
 successors-under locks pc row all Ecall g f hr ha h =
     calls-under locks row all (range_of row a7) (range_of all a7) (range_of row a0) (range_of all a0) (hr.each 17 (omega arith)) (hr.each 10 (omega arith))
     (h.ranges 17 (omega arith)) (h.ranges 10 (omega arith)) h
-successors-under locks pc row all Ebreak g f hr ha h = stays-under stays
+successors-under locks pc row all Ebreak g f hr ha h = stays-under no_successors
 
-pub successors-rows : (locks pc : ℕ) (row : Row) (i : Instr) → locks ≤ 32 → pc + 4 < 2 ^ 32 → HasRegisters i → Fits i → IsRow row → AreRows (successors locks pc row i)
+pub successors-rows : (locks pc : ℕ) (row : Row) (i : Instr) → locks ≤ 32 → pc + 4 < 2 ^ 32 → HasRegisters i → IsEncodable i → IsRow row → AreRows (successors locks pc row i)
 successors-rows locks pc row (Lui rd imm) l p g f h =
     let x : Range = one (imm * 4096 % 2 ^ 32) in
     goes-row (with_range row rd x) (with-row row rd x h (one-range (imm * 4096 % 2 ^ 32) (mod_below (imm * 4096) (2 ^ 32) (omega arith))))

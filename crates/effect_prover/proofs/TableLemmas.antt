@@ -10,7 +10,7 @@ use Rattle.std.specs.List.{All}
 use Rattle.region_table.specs.Tasks.{IsDeclaration}
 use Rattle.region_table.specs.declared.declared.Phase.{Phase}
 use Rattle.region_table.proofs.TaskLemmas.{declared-tells}
-use Rattle.rv_core.specs.Access.{holds}
+use Rattle.rv_core.specs.Access.{is_held}
 use Rattle.rv_core.proofs.HeldLemmas.{holds-bit}
 use Rattle.flat_machine.specs.Laws.{HoldsLess}
 use Rattle.effect_prover.specs.Answer.{IsProvenTask, IsProven, IsUnbounded}
@@ -18,7 +18,7 @@ use Rattle.std.specs.Option.{IfSome}
 use Rattle.std.proofs.lemmas.Option.{none-some, same_Some, slice_get_past, get_or_from_slice_get}
 use Rattle.region_table.specs.Program.{ProgramParts}
 use Rattle.region_table.specs.declared.declared.TaskDecl.{TaskDecl}
-use Rattle.rv_isa.specs.Range.{Fits, HasRegisters}
+use Rattle.rv_isa.specs.Range.{IsEncodable, HasRegisters}
 use Rattle.rv_isa.specs.declared.instr.Instr.{Instr}
 use Rattle.rv_core.specs.Step.{read_instr}
 use Rattle.effect_prover.specs.declared.range.Range.{Range}
@@ -27,8 +27,8 @@ use Rattle.effect_prover.specs.declared.successors.Successors.{Successors}
 use Rattle.effect_prover.specs.Range.{one}
 use Rattle.effect_prover.specs.Row.{range_of, start_row, IsRow, IsBelow, IsUnder}
 use Rattle.effect_prover.specs.Successors.{successors}
-use Rattle.effect_prover.specs.Table.{Table, row_at, address_at, instr_of, target_of, IsHead, IsHeadRange, IsTable, Covers, IsPassedOn, IsClosed, IsLeastTable}
-use Rattle.effect_prover.specs.Sweep.{IsRowJoined, IsJoinedTo, row_room, room_of, room, HasHeads, is_pending, IsTableUnder, IsBelowAll, HasPassed, IsSwept, CoversAt, IsGiven, IsPut, IsHeadBefore, AreMarked}
+use Rattle.effect_prover.specs.Table.{Table, row_at, address_at, instr_of, target_of, IsLoopHead, IsHeadRange, IsTable, Covers, IsPassedOn, IsClosed, IsLeastTable}
+use Rattle.effect_prover.specs.Sweep.{IsRowJoined, IsJoinedTo, row_room, room_of, table_room, HasHeads, row_is_pending, IsTableUnder, IsBelowAll, HasPassedOn, IsSwept, CoversAt, IsRowGiven, IsPut, IsHeadBefore, AreMarked}
 use Rattle.effect_prover.proofs.RowLemmas.{under-itself, under-trans}
 use Rattle.effect_prover.proofs.JoinLemmas.{joined-row, joined-first, joined-second, joined-least, grown-room, row-room, same_row, same_range}
 use Rattle.effect_prover.proofs.SuccessorLemmas.{successors-under, IsRowIn}
@@ -100,7 +100,7 @@ to-room head argument (Some old) given row ho hg j apart =
 
 -- nothing was to be given
 pub nothing-given : (P : ProgramParts) (d : TaskDecl) (t : Table) (p : List Bool) (address : Option ℕ) (given : Option Row) (cursor : ℕ) → IsTable P d t → CoversAt t address given
-    → IsGiven P d t p address given cursor t p cursor
+    → IsRowGiven P d t p address given cursor t p cursor
 nothing-given P d t p address given cursor shape covers =
     record {
       words = refl;
@@ -155,9 +155,9 @@ put-covers head argument old place given new address at' h a e i within is =
 pub put-given : (P : ProgramParts) (d : TaskDecl) (heads : List Bool) (old new : Table) (was : List Bool) (place address : ℕ) (given : Row) (cursor next : ℕ)
     → HasHeads P.code heads → IsTable P d old → length was ≡ length old → place < length old → address ≡ address_at place → IsRow given
     → IsPut (slice_index_or heads place false) d.arg old place given new true → next ≤ cursor → next ≤ place
-    → IsGiven P d old was (Some address) (Some given) cursor new (slice_set was place true) next
+    → IsRowGiven P d old was (Some address) (Some given) cursor new (slice_set was place true) next
 put-given P d heads old new was place address given cursor next known shape marks within at' hg h below early =
-    subst (λ (t : Table). IsGiven P d old was (Some address) (Some given) cursor t (slice_set was place true) next) (sym h.table)
+    subst (λ (t : Table). IsRowGiven P d old was (Some address) (Some given) cursor t (slice_set was place true) next) (sym h.table)
     (record {
       words = length-set old place (Some row);
       marks = length-set was place true;
@@ -195,10 +195,10 @@ put-given P d heads old new was place address given cursor next known shape mark
     rows i = written old place (Some row) i within (λ (o : Option Row). (x : Row) → o ≡ Some x → IsRow x)
         (λ s x e. subst IsRow (same_Some row x e) (to-row head d.arg (row_at old place) given row old_row hg h.joined)) (λ s x e. shape.rows i x e)
 
-    headed : (i : ℕ) (x : Row) → IsHead P.code i → row_at (slice_set old place (Some row)) i ≡ Some x → (r : ℕ) → r < 32 → IsHeadRange d.arg (range_of x r)
+    headed : (i : ℕ) (x : Row) → IsLoopHead P.code i → row_at (slice_set old place (Some row)) i ≡ Some x → (r : ℕ) → r < 32 → IsHeadRange d.arg (range_of x r)
     headed i x is = written old place (Some row) i within (λ (o : Option Row). o ≡ Some x → (r : ℕ) → r < 32 → IsHeadRange d.arg (range_of x r))
         (λ s e r low. subst (λ (y : Row). IsHeadRange d.arg (range_of y r)) (same_Some row x e)
-        (to-heads d.arg head (row_at old place) given row h.joined ((known.tells place place_within).1 (subst (IsHead P.code) s is)) r low))
+        (to-heads d.arg head (row_at old place) given row h.joined ((known.tells place place_within).1 (subst (IsLoopHead P.code) s is)) r low))
         (λ s e. shape.heads i x is e)
 
     least : (all : Table) → IsTable P d all → IsTableUnder old all → CoversAt all (Some address) (Some given) → IsUnder (Some row) (row_at all place)
@@ -207,11 +207,11 @@ put-given P d heads old new was place address given cursor next known shape mark
         (λ z e is. sound.heads place z ((known.tells place place_within).0 is) e) (under place)
         (covered address refl place (let a = sound.words in let b = shape.words in omega arith) at')
 
-    marked : (i : ℕ) → is_pending (slice_set was place true) i ≡ false → i ≡ place → ⊥
+    marked : (i : ℕ) → row_is_pending (slice_set was place true) i ≡ false → i ≡ place → ⊥
     marked i e s =
-        true≢false (sym (get_or-set_same was place true false (omega arith)) ∙ subst (λ (k : ℕ). is_pending (slice_set was place true) k ≡ false) s e)
+        true≢false (sym (get_or-set_same was place true false (omega arith)) ∙ subst (λ (k : ℕ). row_is_pending (slice_set was place true) k ≡ false) s e)
 
-    falls : room (slice_set old place (Some row)) < room old
+    falls : table_room (slice_set old place (Some row)) < table_room old
     falls =
         let sum = sum_by-set room_of old place (Some row) None within in
         let less = to-room head d.arg (row_at old place) given row old_row hg h.joined (h.changed refl) in
@@ -221,7 +221,7 @@ put-given P d heads old new was place address given cursor next known shape mark
 
 -- the word at the cursor isn't pending any more, as it has passed its row on
 pub swept-next : (P : ProgramParts) (d : TaskDecl) (t : Table) (p q : List Bool) (cursor : ℕ) → IsSwept P d t p cursor → length q ≡ length p
-    → ((i : ℕ) → i ≢ cursor → is_pending q i ≡ is_pending p i) → is_pending q cursor ≡ false → HasPassed P t cursor → IsSwept P d t q (cursor + 1)
+    → ((i : ℕ) → i ≢ cursor → row_is_pending q i ≡ row_is_pending p i) → row_is_pending q cursor ≡ false → HasPassedOn P t cursor → IsSwept P d t q (cursor + 1)
 swept-next P d t p q cursor h same others here passed =
     record {
       shape = h.shape;
@@ -229,18 +229,18 @@ swept-next P d t p q cursor h same others here passed =
       marks = same ∙ h.marks;
       passed = λ i e.
           ⊎_elim
-          (λ (s : i ≡ cursor). subst (HasPassed P t) (sym s) passed)
+          (λ (s : i ≡ cursor). subst (HasPassedOn P t) (sym s) passed)
           (λ (apart : i ≡ cursor → ⊥). h.passed i (sym (others i apart) ∙ e))
           (cases_eq i cursor);
       before = λ i l.
           ⊎_elim
-          (λ (s : i ≡ cursor). subst (λ (k : ℕ). is_pending q k ≡ false) (sym s) here)
+          (λ (s : i ≡ cursor). subst (λ (k : ℕ). row_is_pending q k ≡ false) (sym s) here)
           (λ (apart : i ≡ cursor → ⊥). others i apart ∙ h.before i (omega arith))
           (cases_eq i cursor);
     }
 
 -- what a word gives is covered by each closed table above it
-gives-below : (P : ProgramParts) (d : TaskDecl) (t all : Table) (i : ℕ) (row : Row) (instr : Instr) → HasRegisters instr → Fits instr → IsTable P d t → IsClosed P d all → IsTableUnder t all
+gives-below : (P : ProgramParts) (d : TaskDecl) (t all : Table) (i : ℕ) (row : Row) (instr : Instr) → HasRegisters instr → IsEncodable instr → IsTable P d t → IsClosed P d all → IsTableUnder t all
     → row_at t i ≡ Some row → instr_of P.code i ≡ Some instr → IsPassedOn all (address_at i) instr (successors (length P.locks) (address_at i) row instr)
 gives-below P d t all i row instr regs fits shape closed under reached there = by_row (row_at all i) refl (subst (λ (o : Option Row). IsUnder o (row_at all i)) reached (under i))
   where
@@ -257,11 +257,11 @@ gives-below P d t all i row instr regs fits shape closed under reached there = b
         }
 
 -- a word whose row was given to both its successors has passed it on, unless it grew itself
-pub two-given : (P : ProgramParts) (d : TaskDecl) (t t1 t2 : Table) (p q q1 q2 : List Bool) (cursor c1 c2 : ℕ) (row : Row) (instr : Instr) → HasRegisters instr → Fits instr
-    → IsSwept P d t p cursor → length q ≡ length p → ((i : ℕ) → i ≢ cursor → is_pending q i ≡ is_pending p i) → is_pending q cursor ≡ false
+pub two-given : (P : ProgramParts) (d : TaskDecl) (t t1 t2 : Table) (p q q1 q2 : List Bool) (cursor c1 c2 : ℕ) (row : Row) (instr : Instr) → HasRegisters instr → IsEncodable instr
+    → IsSwept P d t p cursor → length q ≡ length p → ((i : ℕ) → i ≢ cursor → row_is_pending q i ≡ row_is_pending p i) → row_is_pending q cursor ≡ false
     → row_at t cursor ≡ Some row → instr_of P.code cursor ≡ Some instr
-    → IsGiven P d t q (Some (address_at cursor + 4)) (successors (length P.locks) (address_at cursor) row instr).next (cursor + 1) t1 q1 c1
-    → IsGiven P d t1 q1 (target_of (address_at cursor) instr) (successors (length P.locks) (address_at cursor) row instr).target c1 t2 q2 c2
+    → IsRowGiven P d t q (Some (address_at cursor + 4)) (successors (length P.locks) (address_at cursor) row instr).next (cursor + 1) t1 q1 c1
+    → IsRowGiven P d t1 q1 (target_of (address_at cursor) instr) (successors (length P.locks) (address_at cursor) row instr).target c1 t2 q2 c2
     → IsSwept P d t2 q2 c2
 two-given P d t t1 t2 p q q1 q2 cursor c1 c2 row instr regs fits h same others here reached there g1 g2 =
     record {
@@ -277,7 +277,7 @@ two-given P d t t1 t2 p q q1 q2 cursor c1 c2 row instr regs fits h same others h
           let e0 = g1.unmarked i e1 in
           let kept : row_at t2 i ≡ row_at t i = g2.same i e ∙ g1.same i e1 in
           ⊎_elim
-          (λ (at' : i ≡ cursor). subst (HasPassed P t2) (sym at') (passed (subst (λ (k : ℕ). row_at t2 k ≡ row_at t k) at' kept)))
+          (λ (at' : i ≡ cursor). subst (HasPassedOn P t2) (sym at') (passed (subst (λ (k : ℕ). row_at t2 k ≡ row_at t k) at' kept)))
           (λ (apart : i ≡ cursor → ⊥). λ x j is read.
           passed-grows t t2 (address_at i) j (successors (length P.locks) (address_at i) x j) words grows
           (h.passed i (sym (others i apart) ∙ e0) x j (sym kept ∙ is) read))
@@ -288,7 +288,7 @@ two-given P d t t1 t2 p q q1 q2 cursor c1 c2 row instr regs fits h same others h
           let unmarked = g2.before i l ∙ g1.before i (omega arith) in
           unmarked
           ∙ ⊎_elim
-          (λ (at' : i ≡ cursor). subst (λ (k : ℕ). is_pending q k ≡ false) (sym at') here)
+          (λ (at' : i ≡ cursor). subst (λ (k : ℕ). row_is_pending q k ≡ false) (sym at') here)
           (λ (apart : i ≡ cursor → ⊥). others i apart ∙ h.before i (omega arith))
           (cases_eq i cursor);
     }
@@ -302,7 +302,7 @@ two-given P d t t1 t2 p q q1 q2 cursor c1 c2 row instr regs fits h same others h
     grows : IsTableUnder t t2
     grows = table-trans t t1 t2 g1.grows g2.grows
 
-    passed : row_at t2 cursor ≡ row_at t cursor → HasPassed P t2 cursor
+    passed : row_at t2 cursor ≡ row_at t cursor → HasPassedOn P t2 cursor
     passed kept x j is read =
         let row_is : row ≡ x = same_Some row x (sym reached ∙ sym kept ∙ is) in
         let instr_is : instr ≡ j = same_Some instr j (sym there ∙ read) in
@@ -328,18 +328,18 @@ sweep-falls n before after at' next within step falls less =
 
 -- the same with names for the successors and the addresses
 pub two-passed : (P : ProgramParts) (d : TaskDecl) (t t1 t2 : Table) (p q1 q2 : List Bool) (cursor c1 c2 : ℕ) (row : Row) (instr : Instr) (pc : ℕ) (aim : Option ℕ) (s : Successors)
-    → HasRegisters instr → Fits instr → IsSwept P d t p cursor → cursor < length p → row_at t cursor ≡ Some row → instr_of P.code cursor ≡ Some instr
+    → HasRegisters instr → IsEncodable instr → IsSwept P d t p cursor → cursor < length p → row_at t cursor ≡ Some row → instr_of P.code cursor ≡ Some instr
     → pc ≡ address_at cursor → aim ≡ target_of pc instr → s ≡ successors (length P.locks) (address_at cursor) row instr
-    → IsGiven P d t (slice_set p cursor false) (Some (pc + 4)) s.next (cursor + 1) t1 q1 c1
-    → IsGiven P d t1 q1 aim s.target c1 t2 q2 c2
+    → IsRowGiven P d t (slice_set p cursor false) (Some (pc + 4)) s.next (cursor + 1) t1 q1 c1
+    → IsRowGiven P d t1 q1 aim s.target c1 t2 q2 c2
     → IsSwept P d t2 q2 c2
 two-passed P d t t1 t2 p q1 q2 cursor c1 c2 row instr pc aim s regs fits h within reached there at' aims is g1 g2 =
     two-given P d t t1 t2 p (slice_set p cursor false) q1 q2 cursor c1 c2 row instr regs fits h
     (length-set p cursor false) (λ i apart. get_or-set_other p cursor i false false apart) (get_or-set_same p cursor false false within) reached there
-    (subst (λ (z : Successors). IsGiven P d t (slice_set p cursor false) (Some (address_at cursor + 4)) z.next (cursor + 1) t1 q1 c1) is
-    (subst (λ (k : ℕ). IsGiven P d t (slice_set p cursor false) (Some (k + 4)) s.next (cursor + 1) t1 q1 c1) at' g1))
-    (subst (λ (z : Successors). IsGiven P d t1 q1 (target_of (address_at cursor) instr) z.target c1 t2 q2 c2) is
-    (subst (λ (o : Option ℕ). IsGiven P d t1 q1 o s.target c1 t2 q2 c2) (aims ∙ ap (λ (k : ℕ). target_of k instr) at') g2))
+    (subst (λ (z : Successors). IsRowGiven P d t (slice_set p cursor false) (Some (address_at cursor + 4)) z.next (cursor + 1) t1 q1 c1) is
+    (subst (λ (k : ℕ). IsRowGiven P d t (slice_set p cursor false) (Some (k + 4)) s.next (cursor + 1) t1 q1 c1) at' g1))
+    (subst (λ (z : Successors). IsRowGiven P d t1 q1 (target_of (address_at cursor) instr) z.target c1 t2 q2 c2) is
+    (subst (λ (o : Option ℕ). IsRowGiven P d t1 q1 o s.target c1 t2 q2 c2) (aims ∙ ap (λ (k : ℕ). target_of k instr) at') g2))
 
 pub known-rows : (o : Option Row) → IsRowIn o → IfSome o IsRow
 known-rows None h = tt
@@ -363,7 +363,7 @@ replicated n i =
     (λ (past : n ≤ i). get_or_past (replicate n None) i None (let l : length (replicate {A = Option Row} n None) ≡ n = length-replicate n None in omega arith))
     (cases_lt i n)
 
-unmarked : (n i : ℕ) → is_pending (replicate n false) i ≡ false
+unmarked : (n i : ℕ) → row_is_pending (replicate n false) i ≡ false
 unmarked n i =
     ⊎_elim
     (λ (inside : i < n). get_or-replicate n i false false inside)
@@ -380,7 +380,7 @@ empty-table P d n e =
     }
 
 pub swept-first : (P : ProgramParts) (d : TaskDecl) (n : ℕ) (t : Table) (p : List Bool) (cursor : ℕ) (start : Row) → n ≡ length P.code → start ≡ start_row d
-    → IsGiven P d (replicate n None) (replicate n false) (Some d.entry) (Some start) n t p cursor → IsSwept P d t p cursor
+    → IsRowGiven P d (replicate n None) (replicate n false) (Some d.entry) (Some start) n t p cursor → IsSwept P d t p cursor
 swept-first P d n t p cursor start count is g =
     record {
       shape = g.shape;
@@ -408,7 +408,7 @@ swept-least P d t p cursor h past entry =
 
 -- ---- heads
 
-head-within : (code : List ℕ) (i : ℕ) (h : IsHead code i) → h.place < length code
+head-within : (code : List ℕ) (i : ℕ) (h : IsLoopHead code i) → h.place < length code
 head-within code i h =
     ⊎_elim
     (λ (inside : h.place < length code). inside)
@@ -453,7 +453,7 @@ pub mark-one : (code : List ℕ) (n head : ℕ) (heads : List Bool) (instr : Ins
 mark-one code n head heads instr same there aims early within h i l =
     ⊎_elim
     (λ (here : i ≡ head). (
-      λ e. record { head = subst (IsHead code) (sym here) (record { place = n; later = early; instr = instr; there = there; aims = aims }); before = at_place here },
+      λ e. record { head = subst (IsLoopHead code) (sym here) (record { place = n; later = early; instr = instr; there = there; aims = aims }); before = at_place here },
       λ k. subst (λ (j : ℕ). slice_index_or (slice_set heads head true) j false ≡ true) (sym here) (get_or-set_same heads head true false (omega arith)),
     ))
     (λ (apart : i ≡ head → ⊥).
@@ -472,7 +472,7 @@ mark-one code n head heads instr same there aims early within h i l =
     ))
     (cases_eq i head)
   where
-    at_place : (here : i ≡ head) → (subst (IsHead code) (sym here) (record { place = n; later = early; instr = instr; there = there; aims = aims })).place < n + 1
+    at_place : (here : i ≡ head) → (subst (IsLoopHead code) (sym here) (record { place = n; later = early; instr = instr; there = there; aims = aims })).place < n + 1
     at_place here = omega arith
 
 pub ruleset sweeping = nothing-given
@@ -482,10 +482,10 @@ pub ruleset sweeping = nothing-given
 held-same : (a b : ℕ) → HoldsLess a b → HoldsLess b a → a ≡ b
 held-same a b h k = same_from_bits a b (λ i. by_bits i (bit_at a i) (bit_at b i) refl refl (bit_at-lt a i) (bit_at-lt b i))
   where
-    held_bit : (n i : ℕ) → bit_at n i ≡ 1 → holds n i ≡ true
+    held_bit : (n i : ℕ) → bit_at n i ≡ 1 → is_held n i ≡ true
     held_bit n i e = holds-bit n i ∙ eq-eqb (bit_at n i) 1 e
 
-    bit_held : (n i : ℕ) → holds n i ≡ true → bit_at n i ≡ 1
+    bit_held : (n i : ℕ) → is_held n i ≡ true → bit_at n i ≡ 1
     bit_held n i e = eqb-true (bit_at n i) 1 (sym (holds-bit n i) ∙ e)
 
     by_bits : (i x y : ℕ) → bit_at a i ≡ x → bit_at b i ≡ y → bit_at a i < 2 → bit_at b i < 2 → bit_at a i ≡ bit_at b i

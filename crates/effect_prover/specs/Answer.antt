@@ -72,9 +72,9 @@ pub record IsUnbounded (P : ProgramParts) (phase core pc : ℕ) : Type 0 where
   pub outside : IsInside P decl row instr → ⊥
 
 -- the answer is right: all tasks are proven, or this is the least phase, core and pc that isn't inside
-abbrev pub IsAnswer : ProgramParts → Proved → Type 0
-IsAnswer P Inside = IsProven P
-IsAnswer P (Unbounded phase core pc) = IsFirst (IsUnbounded P) phase.0 core.0 pc
+abbrev pub IsProversAnswer : ProgramParts → Proved → Type 0
+IsProversAnswer P Inside = IsProven P
+IsProversAnswer P (Unbounded phase core pc) = IsFirst (IsUnbounded P) phase.0 core.0 pc
 
 -- the task hasn't ended by a trap outside
 abbrev pub IsTame : Option End → Type 0

@@ -11,7 +11,7 @@ pub record Has (range : Range) (n : ℕ) : Type 0 where
   pub high : n ≤ range.hi
 
 -- each number of the first range lies in the second
-pub record IsIn (inner outer : Range) : Type 0 where
+pub record LiesWithin (inner outer : Range) : Type 0 where
   pub low : outer.lo ≤ inner.lo
   pub high : inner.hi ≤ outer.hi
 
@@ -36,8 +36,8 @@ is_empty range = nat_lt range.hi range.lo
 
 -- whole-number results from `least` to `greatest`, modulo 2^32: where both lie in one stretch of 2^32 numbers from a
 -- multiple of 2^32 on, the results keep their order, and else they can be any number
-abbrev pub wrapped : ℕ → ℕ → Range
-wrapped least greatest =
+abbrev pub wrapped_range : ℕ → ℕ → Range
+wrapped_range least greatest =
     if least / 2 ^ 32 == greatest / 2 ^ 32 then record { lo = least % 2 ^ 32; hi = greatest % 2 ^ 32 } else every
 
 -- a shift to the left by n that may lose no bit
@@ -49,8 +49,8 @@ shifted_right a n = record { lo = a.lo / 2 ^ n; hi = a.hi / 2 ^ n }
 
 -- the results of an operation on the numbers of two ranges
 abbrev pub form : AluOp → Range → Range → Range
-form Add a b = wrapped (a.lo + b.lo) (a.hi + b.hi)
-form Sub a b = wrapped (a.lo + 2 ^ 32 - b.hi) (a.hi + 2 ^ 32 - b.lo)
+form Add a b = wrapped_range (a.lo + b.lo) (a.hi + b.hi)
+form Sub a b = wrapped_range (a.lo + 2 ^ 32 - b.hi) (a.hi + 2 ^ 32 - b.lo)
 form Sll a b = every
 form Slt a b = record { lo = 0; hi = 1 }
 form Sltu a b = record { lo = 0; hi = 1 }

@@ -4,7 +4,7 @@ use Rattle.region_table.specs.declared.declared.TaskDecl.{TaskDecl}
 use Rattle.flat_machine.specs.Laws.{HoldsLess}
 use Rattle.effect_prover.specs.declared.range.Range.{Range}
 use Rattle.effect_prover.specs.declared.row.Row.{Row}
-use Rattle.effect_prover.specs.Range.{one, IsIn, IsRange}
+use Rattle.effect_prover.specs.Range.{one, LiesWithin, IsRange}
 
 -- the registers that a row, a task's start and a call name: the constant 0, the first argument, and the number of the call
 abbrev pub x0 : ℕ
@@ -37,7 +37,7 @@ pub record IsRow (row : Row) : Type 0 where
 
 -- the second row contains the first: each of its ranges contains the first's, and its locks are among the first's
 pub record IsBelow (row all : Row) : Type 0 where
-  pub ranges : (r : ℕ) → r < 32 → IsIn (range_of row r) (range_of all r)
+  pub ranges : (r : ℕ) → r < 32 → LiesWithin (range_of row r) (range_of all r)
   pub locks : HoldsLess all.held row.held
 
 -- the same of rows that may be missing, as at a word that isn't reached

@@ -8,7 +8,7 @@ use Rattle.rv_isa.specs.declared.instr.Width.{Width}
 use Rattle.rv_isa.specs.declared.instr.Width as width
 use Rattle.rv_isa.specs.declared.instr.Instr.{Instr}
 use Rattle.rv_isa.specs.declared.instr.Instr.TheVariants.{Lui, Auipc, Jal, Jalr, Branch, Load, Store, OpImm, Op, Fence, Ecall, Ebreak}
-use Rattle.rv_core.specs.Access.{holds}
+use Rattle.rv_core.specs.Access.{is_held}
 use Rattle.effect_prover.specs.declared.range.Range.{Range}
 use Rattle.effect_prover.specs.declared.row.Row.{Row}
 use Rattle.effect_prover.specs.declared.successors.Successors.{Successors}
@@ -16,11 +16,11 @@ use Rattle.effect_prover.specs.Range.{one, every, is_one, is_empty, computed, co
 use Rattle.effect_prover.specs.Row.{a0, a7, range_of, with_range}
 
 -- the task can't go on, only to the next word, or only to the instruction's target
-abbrev pub stays : Successors
-stays = record { next = None; target = None }
+abbrev pub no_successors : Successors
+no_successors = record { next = None; target = None }
 
-abbrev pub goes_on : Row → Successors
-goes_on row = record { next = Some row; target = None }
+abbrev pub falls_through : Row → Successors
+falls_through row = record { next = Some row; target = None }
 
 abbrev pub jumps : Row → Successors
 jumps row = record { next = None; target = Some row }
@@ -73,7 +73,7 @@ branches Ge row a b = if are_low row a b then not_less_branches row a b else any
 -- a branch of a register with itself goes one way
 abbrev pub branch_on : Cond → Row → ℕ → ℕ → Successors
 branch_on test row a b =
-    if a == b then (if taken_of test 0 0 then jumps row else goes_on row) else branches test row a b
+    if a == b then (if taken_of test 0 0 then jumps row else falls_through row) else branches test row a b
 
 -- what a load can put into its register
 abbrev pub loadable : Width → Range
@@ -84,40 +84,40 @@ loadable width.TheVariants.Bu = record { lo = 0; hi = 255 }
 loadable width.TheVariants.Hu = record { lo = 0; hi = 65535 }
 
 -- these locks with another one, and without one
-abbrev pub with_lock : ℕ → ℕ → ℕ
-with_lock held lock = bit_or held (2 ^ lock)
+abbrev pub held_with : ℕ → ℕ → ℕ
+held_with held lock = bit_or held (2 ^ lock)
 
-abbrev pub without_lock : ℕ → ℕ → ℕ
-without_lock held lock = if holds held lock then bit_xor held (2 ^ lock) else held
+abbrev pub held_without : ℕ → ℕ → ℕ
+held_without held lock = if is_held held lock then bit_xor held (2 ^ lock) else held
 
 -- the locks that are held for sure once a lock of this range was acquired, or released, in a program with `locks` locks
-abbrev pub after_acquire : ℕ → ℕ → Range → ℕ
-after_acquire locks held lock = if is_one lock && nat_lt lock.lo locks then with_lock held lock.lo else held
+abbrev pub held_after_acquire : ℕ → ℕ → Range → ℕ
+held_after_acquire locks held lock = if is_one lock && nat_lt lock.lo locks then held_with held lock.lo else held
 
-abbrev pub after_release : ℕ → Range → ℕ
-after_release held lock = if is_one lock then without_lock held lock.lo else 0
+abbrev pub held_after_release : ℕ → Range → ℕ
+held_after_release held lock = if is_one lock then held_without held lock.lo else 0
 
 -- an ECALL with a number of the first range in a7 and a lock of the second in a0: 1 acquires the lock, 2 releases it, and
 -- the task doesn't go on from any other number; where the number isn't known, neither are the locks
 abbrev pub calls : ℕ → Row → Range → Range → Successors
 calls locks row number lock =
     if is_one number then
-    (if number.lo == 1 then goes_on (record row { held = after_acquire locks row.held lock })
-    else if number.lo == 2 then goes_on (record row { held = after_release row.held lock })
-    else stays)
-    else goes_on (record row { held = 0 })
+    (if number.lo == 1 then falls_through (record row { held = held_after_acquire locks row.held lock })
+    else if number.lo == 2 then falls_through (record row { held = held_after_release row.held lock })
+    else no_successors)
+    else falls_through (record row { held = 0 })
 
 -- the successors of an instruction at the address pc that is reached with a row
 abbrev pub successors : ℕ → ℕ → Row → Instr → Successors
-successors locks pc row (Lui rd imm) = goes_on (with_range row rd (one (imm * 4096 % 2 ^ 32)))
-successors locks pc row (Auipc rd imm) = goes_on (with_range row rd (one ((pc + imm * 4096) % 2 ^ 32)))
+successors locks pc row (Lui rd imm) = falls_through (with_range row rd (one (imm * 4096 % 2 ^ 32)))
+successors locks pc row (Auipc rd imm) = falls_through (with_range row rd (one ((pc + imm * 4096) % 2 ^ 32)))
 successors locks pc row (Jal rd offset) = jumps (with_range row rd (one (pc + 4)))
-successors locks pc row (Jalr rd base offset) = stays
+successors locks pc row (Jalr rd base offset) = no_successors
 successors locks pc row (Branch test a b offset) = branch_on test row a b
-successors locks pc row (Load width rd base offset) = goes_on (with_range row rd (loadable width))
-successors locks pc row (Store width src base offset) = goes_on row
-successors locks pc row (OpImm op rd a imm) = goes_on (with_range row rd (computed_imm op (range_of row a) (pattern imm)))
-successors locks pc row (Op op rd a b) = goes_on (with_range row rd (computed op (range_of row a) (range_of row b)))
-successors locks pc row Fence = goes_on row
+successors locks pc row (Load width rd base offset) = falls_through (with_range row rd (loadable width))
+successors locks pc row (Store width src base offset) = falls_through row
+successors locks pc row (OpImm op rd a imm) = falls_through (with_range row rd (computed_imm op (range_of row a) (pattern imm)))
+successors locks pc row (Op op rd a b) = falls_through (with_range row rd (computed op (range_of row a) (range_of row b)))
+successors locks pc row Fence = falls_through row
 successors locks pc row Ecall = calls locks row (range_of row a7) (range_of row a0)
-successors locks pc row Ebreak = stays
+successors locks pc row Ebreak = no_successors

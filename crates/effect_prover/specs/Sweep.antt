@@ -5,10 +5,10 @@ use Rattle.region_table.specs.declared.declared.TaskDecl.{TaskDecl}
 use Rattle.rv_isa.specs.declared.instr.Instr.{Instr}
 use Rattle.effect_prover.specs.declared.range.Range.{Range}
 use Rattle.effect_prover.specs.declared.row.Row.{Row}
-use Rattle.effect_prover.specs.Range.{IsIn, IsRange}
+use Rattle.effect_prover.specs.Range.{LiesWithin, IsRange}
 use Rattle.effect_prover.specs.Row.{range_of, start_row, IsUnder}
 use Rattle.effect_prover.specs.Successors.{successors}
-use Rattle.effect_prover.specs.Table.{Table, row_at, address_at, instr_of, target_of, IsHead, IsEnd, IsHeadRange, IsTable, Covers, IsPassedOn, IsClosed}
+use Rattle.effect_prover.specs.Table.{Table, row_at, address_at, instr_of, target_of, IsLoopHead, IsEnd, IsHeadRange, IsTable, Covers, IsPassedOn, IsClosed}
 
 -- ---- joined ranges and rows
 
@@ -24,17 +24,17 @@ pub record IsEndFrom (argument n e : ℕ) : Type 0 where
   pub least : (f : ℕ) → IsEnd argument f → n ≤ f → e ≤ f
 
 -- the least range with all numbers of two ranges; at a head, the least that is a head's
-pub record IsJoined (head : Bool) (argument : ℕ) (old given new : Range) : Type 0 where
-  pub first : IsIn old new
-  pub second : IsIn given new
+pub record IsJoinedRange (head : Bool) (argument : ℕ) (old given new : Range) : Type 0 where
+  pub first : LiesWithin old new
+  pub second : LiesWithin given new
   pub range : IsRange new
   pub head_range : head ≡ true → IsHeadRange argument new
-  pub least : (all : Range) → (head ≡ true → IsHeadRange argument all) → IsIn old all → IsIn given all → IsIn new all
+  pub least : (all : Range) → (head ≡ true → IsHeadRange argument all) → LiesWithin old all → LiesWithin given all → LiesWithin new all
 
 -- the least row that contains two rows
 pub record IsRowJoined (head : Bool) (argument : ℕ) (old given new : Row) : Type 0 where
   pub count : length new.ranges ≡ 32
-  pub ranges : (r : ℕ) → r < 32 → IsJoined head argument (range_of old r) (range_of given r) (range_of new r)
+  pub ranges : (r : ℕ) → r < 32 → IsJoinedRange head argument (range_of old r) (range_of given r) (range_of new r)
   pub held : new.held ≡ bit_and old.held given.held
 
 -- the same where there may be no row yet
@@ -56,19 +56,19 @@ abbrev pub room_of : Option Row → ℕ
 room_of None = 141733920768
 room_of (Some row) = row_room row
 
-abbrev pub room : Table → ℕ
-room table = sum_by room_of table
+abbrev pub table_room : Table → ℕ
+table_room table = sum_by room_of table
 
 -- ---- heads and marks
 
 -- these tell which code words are heads
 pub record HasHeads (code : List ℕ) (heads : List Bool) : Type 0 where
   pub words : length heads ≡ length code
-  pub tells : (i : ℕ) → i < length code → (slice_index_or heads i false ≡ true) ↔ IsHead code i
+  pub tells : (i : ℕ) → i < length code → (slice_index_or heads i false ≡ true) ↔ IsLoopHead code i
 
 -- one of the first n code words makes the word a head
 pub record IsHeadBefore (code : List ℕ) (n i : ℕ) : Type 0 where
-  pub head : IsHead code i
+  pub head : IsLoopHead code i
   pub before : head.place < n
 
 -- the heads by the first n code words are marked
@@ -76,8 +76,8 @@ abbrev pub AreMarked : List ℕ → ℕ → List Bool → Type 0
 AreMarked code n heads = (i : ℕ) → i < length code → (slice_index_or heads i false ≡ true) ↔ IsHeadBefore code n i
 
 -- whether a word's row has still to be passed on
-abbrev pub is_pending : List Bool → ℕ → Bool
-is_pending pending i = slice_index_or pending i false
+abbrev pub row_is_pending : List Bool → ℕ → Bool
+row_is_pending pending i = slice_index_or pending i false
 
 -- ---- the sweep
 
@@ -90,8 +90,8 @@ abbrev pub IsBelowAll : ProgramParts → TaskDecl → Table → Type 0
 IsBelowAll P d table = (all : Table) → IsClosed P d all → IsTableUnder table all
 
 -- the rows of the word's successors contain what it gives them
-abbrev pub HasPassed : ProgramParts → Table → ℕ → Type 0
-HasPassed P table i =
+abbrev pub HasPassedOn : ProgramParts → Table → ℕ → Type 0
+HasPassedOn P table i =
     (row : Row) (instr : Instr) → row_at table i ≡ Some row → instr_of P.code i ≡ Some instr
     → IsPassedOn table (address_at i) instr (successors (length P.locks) (address_at i) row instr)
 
@@ -100,8 +100,8 @@ pub record IsSwept (P : ProgramParts) (d : TaskDecl) (table : Table) (pending : 
   pub shape : IsTable P d table
   pub least : IsBelowAll P d table
   pub marks : length pending ≡ length table
-  pub passed : (i : ℕ) → is_pending pending i ≡ false → HasPassed P table i
-  pub before : (i : ℕ) → i < cursor → is_pending pending i ≡ false
+  pub passed : (i : ℕ) → row_is_pending pending i ≡ false → HasPassedOn P table i
+  pub before : (i : ℕ) → i < cursor → row_is_pending pending i ≡ false
 
 -- what is given to an address, if there is one, is covered there
 abbrev pub CoversAt : Table → Option ℕ → Option Row → Type 0
@@ -109,19 +109,19 @@ CoversAt table address given = (a : ℕ) → address ≡ Some a → Covers table
 
 -- a row was given to an address: the table grew as little as it had to, and each row that grew is pending; the sweep goes on
 -- at the least such word, or at the cursor
-pub record IsGiven (P : ProgramParts) (d : TaskDecl) (old : Table) (was : List Bool) (address : Option ℕ) (given : Option Row) (cursor : ℕ) (new : Table) (pending : List Bool) (next : ℕ) : Type 0 where
+pub record IsRowGiven (P : ProgramParts) (d : TaskDecl) (old : Table) (was : List Bool) (address : Option ℕ) (given : Option Row) (cursor : ℕ) (new : Table) (pending : List Bool) (next : ℕ) : Type 0 where
   pub words : length new ≡ length old
   pub marks : length pending ≡ length was
   pub shape : IsTable P d new
   pub grows : IsTableUnder old new
   pub covers : CoversAt new address given
   pub least : (all : Table) → IsTable P d all → IsTableUnder old all → CoversAt all address given → IsTableUnder new all
-  pub same : (i : ℕ) → is_pending pending i ≡ false → row_at new i ≡ row_at old i
-  pub unmarked : (i : ℕ) → is_pending pending i ≡ false → is_pending was i ≡ false
-  pub before : (i : ℕ) → i < next → is_pending pending i ≡ is_pending was i
+  pub same : (i : ℕ) → row_is_pending pending i ≡ false → row_at new i ≡ row_at old i
+  pub unmarked : (i : ℕ) → row_is_pending pending i ≡ false → row_is_pending was i ≡ false
+  pub before : (i : ℕ) → i < next → row_is_pending pending i ≡ row_is_pending was i
   pub within : next ≤ cursor
-  pub room_falls : room new ≤ room old
-  pub room_less : next < cursor → room new < room old
+  pub room_falls : table_room new ≤ table_room old
+  pub room_less : next < cursor → table_room new < table_room old
 
 -- a row was joined to the row at a place, which grew where `grew` says so
 pub record IsPut (head : Bool) (argument : ℕ) (old : Table) (place : ℕ) (given : Row) (new : Table) (grew : Bool) : Type 0 where

@@ -34,7 +34,7 @@ target_of pc (Branch test a b offset) = Some ((pc + pattern offset) % 2 ^ 32)
 target_of pc _ = None
 
 -- a head is a code word at which a branch or JAL at the same or a later address aims: each loop without a JALR has one
-pub record IsHead (code : List ℕ) (i : ℕ) : Type 0 where
+pub record IsLoopHead (code : List ℕ) (i : ℕ) : Type 0 where
   pub place : ℕ
   pub later : i ≤ place
   pub instr : Instr
@@ -54,7 +54,7 @@ IsHeadRange argument range = (range.lo ≡ range.hi) ⊎ (IsEnd argument range.l
 pub record IsTable (P : ProgramParts) (d : TaskDecl) (table : Table) : Type 0 where
   pub words : length table ≡ length P.code
   pub rows : (i : ℕ) (row : Row) → row_at table i ≡ Some row → IsRow row
-  pub heads : (i : ℕ) (row : Row) → IsHead P.code i → row_at table i ≡ Some row → (r : ℕ) → r < 32 → IsHeadRange d.arg (range_of row r)
+  pub heads : (i : ℕ) (row : Row) → IsLoopHead P.code i → row_at table i ≡ Some row → (r : ℕ) → r < 32 → IsHeadRange d.arg (range_of row r)
 
 -- the row at an address, where a code word stands there, contains what is given
 abbrev pub Covers : Table → ℕ → Option Row → Type 0

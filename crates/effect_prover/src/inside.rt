@@ -1,7 +1,7 @@
 //! Whether a load or store that is reached with a row stays within what its task may use.
 ghost use Rattle.std.specs.Prelude.{◌≡◌, ℕ, ◌%◌, ◌<◌, ◌≤◌, ◌&&◌, Decides, length, slice_get};
 ghost use Rattle.region_table.specs.Words.{has};
-ghost use Rattle.rv_core.specs.Access.{holds, under, may_load, may_store};
+ghost use Rattle.rv_core.specs.Access.{is_held, under, may_load, may_store};
 ghost use Rattle.rv_core.specs.Place.{size_of};
 ghost use Rattle.effect_prover.specs.Row.{IsRow};
 ghost use Rattle.effect_prover.specs.Inside.{AreAllowed, addresses, IsInside};
@@ -49,7 +49,7 @@ fn end_in(set: &WordSet, word: u32) -> u32
 #[tactic(auto, using(crate::proofs::StretchLemmas::stretches))]
 fn end_held(held: u32, lock: usize, set: &WordSet, word: u32) -> u32
     requires { word < 65536 }
-    ensures { IsStretch (λ w. holds held lock && has set.now w) word result }
+    ensures { IsStretch (λ w. is_held held lock && has set.now w) word result }
 {
     if lock >= 32 {
         return word;

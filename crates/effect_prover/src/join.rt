@@ -3,7 +3,7 @@
 ghost use Rattle.std.specs.Prelude.{◌≡◌, ◌≤◌, ◌<◌, min, max};
 ghost use Rattle.effect_prover.specs.Range.{IsRange};
 ghost use Rattle.effect_prover.specs.Row.{IsRow};
-ghost use Rattle.effect_prover.specs.Sweep.{IsEndUpTo, IsEndFrom, IsJoined, IsRowJoined};
+ghost use Rattle.effect_prover.specs.Sweep.{IsEndUpTo, IsEndFrom, IsJoinedRange, IsRowJoined};
 
 use crate::range::Range;
 use crate::row::Row;
@@ -64,7 +64,7 @@ impl Range {
     pub(crate) fn joined(self, given: Range, head: bool, argument: u32) -> Range
         requires old { IsRange self }
         requires given { IsRange given }
-        ensures { IsJoined head argument self given result }
+        ensures { IsJoinedRange head argument self given result }
     {
         let lo = lesser(self.lo, given.lo);
         let hi = greater(self.hi, given.hi);

@@ -8,7 +8,7 @@ ghost use Rattle.effect_prover.specs.Row.{IsRow};
 ghost use Rattle.effect_prover.specs.Table.{row_at};
 ghost use Rattle.effect_prover.specs.Inside.{IsInsideAt, IsFirstOutside};
 ghost use Rattle.effect_prover.specs.Sweep.{HasHeads};
-ghost use Rattle.effect_prover.specs.Answer.{IsAnswer, RunsInside, IsTaskAnswer, IsPhaseAnswer};
+ghost use Rattle.effect_prover.specs.Answer.{IsProversAnswer, RunsInside, IsTaskAnswer, IsPhaseAnswer};
 
 use crate::inside::is_inside;
 use crate::laws::a_proven_program_runs_inside;
@@ -107,7 +107,7 @@ fn check_phases(
     requires program { IsProgram program.now }
     requires phases { phases.now ≡ program.now.phases }
     requires heads { HasHeads program.now.code heads.now }
-    ensures { IfOk result (IsAnswer program.now) }
+    ensures { IfOk result (IsProversAnswer program.now) }
 {
     for (number, phase) in phases.iter().enumerate() {
         if let Some(found) = check_tasks(alloc, program, phase.tasks.as_slice(), heads)? {
@@ -125,7 +125,7 @@ fn check_phases(
 fn prove_program(alloc: Global, program: &Program) -> Result<Proved, Memory>
     requires program { IsProgram program.now }
     requires words { HasWords program.now }
-    ensures value { IfOk result (IsAnswer program.now) }
+    ensures value { IfOk result (IsProversAnswer program.now) }
     ensures sound { IfOk result (λ answer. answer ≡ Inside → RunsInside program.now) }
 {
     a_proven_program_runs_inside();
@@ -143,7 +143,7 @@ fn prove_program(alloc: Global, program: &Program) -> Result<Proved, Memory>
 /// `Memory` where there is no room for a table.
 pub fn prove(alloc: Global, checked: &Checked) -> Result<Proved, Memory>
     // in the least table of every task every instruction is inside, or this is the least place that isn't
-    ensures value { IfOk result (IsAnswer checked.now) }
+    ensures value { IfOk result (IsProversAnswer checked.now) }
 
     // after the answer Inside no run of the program ends a task by a trap outside
     ensures sound { IfOk result (λ answer. answer ≡ Inside → RunsInside checked.now) }

@@ -1,7 +1,7 @@
 //! Ranges of numbers, and the arithmetic of RV32I on them.
 ghost use Rattle.std.specs.Prelude.{◌≡◌, ℕ, Decides, ◌+◌, ◌-◌, ◌<◌, ◌≤◌, ◌^◌};
 ghost use Rattle.rv_isa.specs.Meaning.{alu_of};
-ghost use Rattle.effect_prover.specs.Range.{Has, IsRange, one, every, is_one, wrapped, shifted_left, shifted_right, form, form_imm, computed, computed_imm, common, below, above, at_least, at_most};
+ghost use Rattle.effect_prover.specs.Range.{Has, IsRange, one, every, is_one, wrapped_range, shifted_left, shifted_right, form, form_imm, computed, computed_imm, common, below, above, at_least, at_most};
 
 use rv_isa::{AluOp, alu};
 
@@ -59,7 +59,7 @@ impl Range {
 
     /// Whole-number results from `least` to `greatest`, modulo 2^32.
     fn wrapped(least: u64, greatest: u64) -> Range
-        ensures { result ≡ wrapped least greatest }
+        ensures { result ≡ wrapped_range least greatest }
     {
         if least / NUMBERS == greatest / NUMBERS {
             Range {
@@ -73,7 +73,7 @@ impl Range {
 
     /// The sums of its numbers and the other's.
     fn plus(self, other: Range) -> Range
-        ensures { result ≡ wrapped (self.lo + other.lo) (self.hi + other.hi) }
+        ensures { result ≡ wrapped_range (self.lo + other.lo) (self.hi + other.hi) }
     {
         Range::wrapped(
             u64::from(self.lo) + u64::from(other.lo),
@@ -83,7 +83,7 @@ impl Range {
 
     /// Its numbers less the other's.
     fn minus(self, other: Range) -> Range
-        ensures { result ≡ wrapped (self.lo + 2 ^ 32 - other.hi) (self.hi + 2 ^ 32 - other.lo) }
+        ensures { result ≡ wrapped_range (self.lo + 2 ^ 32 - other.hi) (self.hi + 2 ^ 32 - other.lo) }
     {
         Range::wrapped(
             u64::from(self.lo) + NUMBERS - u64::from(other.hi),

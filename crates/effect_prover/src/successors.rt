@@ -1,8 +1,8 @@
 //! Where a task can go on from an instruction, by the form of the instruction.
 ghost use Rattle.std.specs.Prelude.{◌≡◌, ◌^◌, ◌≤◌, ◌<◌, ◌+◌};
-ghost use Rattle.rv_isa.specs.Range.{Fits, HasRegisters};
+ghost use Rattle.rv_isa.specs.Range.{IsEncodable, HasRegisters};
 ghost use Rattle.effect_prover.specs.Row.{with_range, IsRow};
-ghost use Rattle.effect_prover.specs.Successors.{stays, goes_on, jumps, where_equal, where_less, where_not_less, where_different, are_low, less_branches, not_less_branches, any_branches, branches, branch_on, loadable, with_lock, without_lock, after_acquire, after_release, calls, successors};
+ghost use Rattle.effect_prover.specs.Successors.{no_successors, falls_through, jumps, where_equal, where_less, where_not_less, where_different, are_low, less_branches, not_less_branches, any_branches, branches, branch_on, loadable, held_with, held_without, held_after_acquire, held_after_release, calls, successors};
 
 use crate::join::{greater, lesser};
 use crate::range::Range;
@@ -21,7 +21,7 @@ pub struct Successors {
 impl Successors {
     /// Nowhere.
     fn stays() -> Successors
-        ensures { result ≡ stays }
+        ensures { result ≡ no_successors }
     {
         Successors {
             next: None,
@@ -31,7 +31,7 @@ impl Successors {
 
     /// At the next word alone.
     fn goes_on(row: &Row) -> Successors
-        ensures { result ≡ goes_on row.now }
+        ensures { result ≡ falls_through row.now }
     {
         Successors {
             next: Some(*row),
@@ -53,7 +53,7 @@ impl Successors {
 /// These locks without one; a lock from 32 on is never held.
 #[tactic(auto, using(crate::proofs::RowLemmas::high_locks))]
 fn without_lock(held: u32, lock: u32) -> u32
-    ensures { result ≡ without_lock held lock }
+    ensures { result ≡ held_without held lock }
 {
     if lock >= 32 {
         held
@@ -213,7 +213,7 @@ impl Row {
     /// The locks that are held for sure once a lock of this range was acquired.
     fn after_acquire(&self, locks: u32, lock: Range) -> u32
         requires { locks ≤ 32 }
-        ensures { result ≡ after_acquire locks self.now.held lock }
+        ensures { result ≡ held_after_acquire locks self.now.held lock }
     {
         if lock.is_one() && lock.lo < locks {
             self.held | (1 << lock.lo)
@@ -224,7 +224,7 @@ impl Row {
 
     /// The locks that are held for sure once a lock of this range was released.
     fn after_release(&self, lock: Range) -> u32
-        ensures { result ≡ after_release self.now.held lock }
+        ensures { result ≡ held_after_release self.now.held lock }
     {
         if lock.is_one() {
             without_lock(self.held, lock.lo)
@@ -252,7 +252,7 @@ impl Row {
     /// The row with another range of a register, at the next word.
     fn goes_on_with(&self, rd: Reg, range: Range) -> Successors
         requires { IsRow self.now }
-        ensures { result ≡ goes_on (with_range self.now rd range) }
+        ensures { result ≡ falls_through (with_range self.now rd range) }
     {
         Successors::goes_on(&self.with(rd, range))
     }

@@ -1,12 +1,12 @@
 //! The sweep over the words of a table that reaches the least closed one.
 ghost use Rattle.std.specs.Prelude.{◌≡◌, ◌↔◌, ℕ, ◌+◌, ◌-◌, ◌*◌, ◌<◌, ◌≤◌, ◌^◌, true, false, Decides, Some, None, length, replicate, IfOk, IfSome, IfNone, option_copied};
 ghost use Rattle.region_table.specs.Program.{ProgramParts, IsProgram};
-ghost use Rattle.rv_isa.specs.Range.{Fits, HasRegisters};
+ghost use Rattle.rv_isa.specs.Range.{IsEncodable, HasRegisters};
 ghost use Rattle.effect_prover.specs.Row.{start_row, IsRow};
 ghost use Rattle.effect_prover.specs.Successors.{successors};
 ghost use Rattle.effect_prover.specs.declared.row.Row.{Row};
 ghost use Rattle.effect_prover.specs.Table.{row_at, address_at, instr_of, target_of, Covers, IsTable, IsLeastTable};
-ghost use Rattle.effect_prover.specs.Sweep.{HasHeads, IsJoinedTo, IsPut, IsTableUnder, IsSwept, IsGiven, AreMarked, room};
+ghost use Rattle.effect_prover.specs.Sweep.{HasHeads, IsJoinedTo, IsPut, IsTableUnder, IsSwept, IsRowGiven, AreMarked, table_room};
 
 use crate::row::Row;
 use crate::successors::Successors;
@@ -106,7 +106,7 @@ fn give(
     requires shape { IsTable program.now task.now rows.old }
     requires marks { length pending.old ≡ length rows.old }
     requires given { IfSome given.now IsRow }
-    ensures { IsGiven program.now task.now rows.old pending.old address given.now cursor rows.new pending.new result }
+    ensures { IsRowGiven program.now task.now rows.old pending.old address given.now cursor rows.new pending.new result }
 {
     let (Some(address), Some(row)) = (address, given) else {
         return cursor;
@@ -126,7 +126,7 @@ fn give(
 pub(crate) fn instr_at(program: &Program, place: usize) -> Option<Instr>
     requires { place < length program.now.code }
     ensures value { result ≡ instr_of program.now.code place }
-    ensures fitting { IfSome result (λ i. HasRegisters i × Fits i) }
+    ensures fitting { IfSome result (λ i. HasRegisters i × IsEncodable i) }
 {
     decode(program.code.as_slice()[place])
 }
@@ -137,7 +137,7 @@ fn successors_at(program: &Program, place: usize, row: &Row, instr: &Instr) -> S
     requires within { place < length program.now.code }
     requires row { IsRow row.now }
     requires registers { HasRegisters instr.now }
-    requires fitting { Fits instr.now }
+    requires fitting { IsEncodable instr.now }
     ensures value { result ≡ successors (length program.now.locks) (address_at place) row.now instr.now }
     ensures next { IfSome result.next IsRow }
     ensures target { IfSome result.target IsRow }
@@ -161,8 +161,8 @@ fn pass(
     ensures swept { IsSwept program.now task.now rows.new pending.new result }
     ensures grows { IsTableUnder rows.old rows.new }
     ensures next { result ≤ at + 1 }
-    ensures room_falls { room rows.new ≤ room rows.old }
-    ensures room_less { result ≤ at → room rows.new < room rows.old }
+    ensures room_falls { table_room rows.new ≤ table_room rows.old }
+    ensures room_less { result ≤ at → table_room rows.new < table_room rows.old }
 {
     if !pending[at] {
         return at + 1;

@@ -10,16 +10,16 @@ use Rattle.rv_core.specs.declared.need.Need as need
 use Rattle.flat_machine.specs.declared.ending.TaskLoads.{TaskLoads}
 use Rattle.flat_machine.specs.Step.{Started, wish}
 use Rattle.flat_machine.specs.Phases.{Flat, all_tasks, next_phase, settled}
-use Rattle.flat_machine.specs.Grants.{grant_by, grant_of, first_or, first_grant, next_grant, is_whole, so_far}
-use Rattle.flat_machine.specs.Ending.{task_loads, loads_of, end_of, flat_end}
-use Rattle.flat_machine.specs.Laws.{at_memory, IsAtRest, StandsLater, AreLater}
+use Rattle.flat_machine.specs.Grants.{grant_by, grant_of, first_or, first_grant, next_grant, grants_are_whole, so_far}
+use Rattle.flat_machine.specs.Ending.{task_loads, flat_loads_of, flat_end_of, flat_end}
+use Rattle.flat_machine.specs.Laws.{at_memory, EndsSegment, StandsLater, AreLater}
 use Rattle.flat_machine.proofs.CauseLemmas.{whole-ends}
 use Rattle.flat_machine.proofs.Frames.{segment-frame}
 use Rattle.flat_machine.proofs.PhaseLemmas.{settled-still}
 use Rattle.flat_machine.proofs.ReachedLaws.{are-more, settled-later}
 use Rattle.flat_machine.proofs.Rights.{not-true, both-ways}
 use Rattle.flat_machine.proofs.SegmentLaws.{later-itself, segment-later}
-use Rattle.flat_agreement.specs.Worlds.{AreFronts, stores, loads, alone, LeadsTo, LeadsToRun, IsResting, IsStopped, AreStopped}
+use Rattle.flat_agreement.specs.Worlds.{AreFronts, stores, loads, segment_alone, LeadsTo, LeadsToRun, IsResting, IsStopped, AreStopped}
 use Rattle.flat_agreement.proofs.Places.{map-place, place-map}
 use Rattle.flat_agreement.proofs.Keeping.{AreSeparate}
 use Rattle.flat_agreement.proofs.Settled.{rest-same}
@@ -37,7 +37,7 @@ leads-later : (P : ProgramParts) (fuel : ℕ) (W F : Flat) → LeadsTo P fuel W 
 leads-later P fuel W F h i r at' =
     subst (λ (xs : List Started). StandsLater (xs ++ F.tasks) i r) h.past
     (behind-later W.past W.tasks F.tasks
-    (λ j q there. record { task = (alone P fuel W.memory q).task; there = h.tasks j q there; later = segment-later P fuel (at_memory q W.memory) })
+    (λ j q there. record { task = (segment_alone P fuel W.memory q).task; there = h.tasks j q there; later = segment-later P fuel (at_memory q W.memory) })
     i r at')
 
 -- each task of the world stands at its place in the run, later
@@ -46,7 +46,7 @@ run-later P fuel gs W F h reached =
     let is : settled P fuel h.flat ≡ F = same_Some (settled P fuel h.flat) F (sym h.run ∙ reached) in
     subst (AreLater W) is (are-more W h.flat (settled P fuel h.flat) (leads-later P fuel W h.flat h.leads) (settled-later P fuel h.flat))
 
-later-fronts : (W F : Flat) → AreLater W F → AreFronts (loads_of W) (loads_of F)
+later-fronts : (W F : Flat) → AreLater W F → AreFronts (flat_loads_of W) (flat_loads_of F)
 later-fronts W F h i x at' =
     let r = map-place task_loads (all_tasks W) i x at' in
     let now = h i r.0 r.1 in
@@ -60,17 +60,17 @@ later-fronts W F h i x at' =
     }
 
 -- the loads of each task so far are a front of its loads in the run
-pub run-fronts : (P : ProgramParts) (fuel : ℕ) (gs : List Grant) (W F : Flat) → LeadsToRun P fuel gs W → so_far P fuel gs ≡ Some F → AreFronts (loads_of W) (loads_of F)
+pub run-fronts : (P : ProgramParts) (fuel : ℕ) (gs : List Grant) (W F : Flat) → LeadsToRun P fuel gs W → so_far P fuel gs ≡ Some F → AreFronts (flat_loads_of W) (flat_loads_of F)
 run-fronts P fuel gs W F h reached = later-fronts W F (run-later P fuel gs W F h reached)
 
 -- ---- words
 
 -- a word that a task may load comes to the value of F by that task alone
 pub load-known : (P : ProgramParts) (fuel : ℕ) (W F : Flat) (i : ℕ) (r : Started) (w : ℕ) → AreSeparate W.tasks → slice_get W.tasks i ≡ Some r → loads r w ≡ true → LeadsTo P fuel W F
-    → slice_index (alone P fuel W.memory r).memory w ≡ slice_index F.memory w
+    → slice_index (segment_alone P fuel W.memory r).memory w ≡ slice_index F.memory w
 load-known P fuel W F i r w apart there may h = by_right (stores r w) refl
   where
-    by_right : (b : Bool) → stores r w ≡ b → slice_index (alone P fuel W.memory r).memory w ≡ slice_index F.memory w
+    by_right : (b : Bool) → stores r w ≡ b → slice_index (segment_alone P fuel W.memory r).memory w ≡ slice_index F.memory w
     by_right true e = h.stored i r w there e
     by_right false e =
         segment-frame P fuel (at_memory r W.memory) w e
@@ -80,7 +80,7 @@ load-known P fuel W F i r w apart there may h = by_right (stores r w) refl
 
 -- ---- the end
 
-stopped-rest : (tasks : List Started) (o : Option Need) → IsStopped tasks o → IsAtRest o
+stopped-rest : (tasks : List Started) (o : Option Need) → IsStopped tasks o → EndsSegment o
 stopped-rest tasks None k = tt
 stopped-rest tasks (Some (need.TheVariants.Acquire lock)) k = tt
 stopped-rest tasks (Some need.TheVariants.Local) k = absurd k
@@ -105,7 +105,7 @@ no-first P fuel tasks (r ∷ rs) stop =
     ap (λ (o : Option Grant). first_or o (first_grant P fuel tasks rs)) (stopped-grant tasks r (wish P fuel r) (stop zero r refl))
     ∙ no-first P fuel tasks rs (λ i q at'. stop (suc i) q at')
 
-pub stopped-whole : (P : ProgramParts) (fuel : ℕ) (W : Flat) → AreStopped P fuel W → is_whole P fuel W ≡ true
+pub stopped-whole : (P : ProgramParts) (fuel : ℕ) (W : Flat) → AreStopped P fuel W → grants_are_whole P fuel W ≡ true
 unfolding next_grant
 stopped-whole P fuel W stop = ap (λ (o : Option Grant). is_none o) (no-first P fuel W.tasks W.tasks stop)
 
@@ -115,7 +115,7 @@ run-reaches P fuel gs W h rest last =
     let same : W ≡ h.flat = rest-same P fuel W h.flat rest h.leads in
     h.run ∙ ap (λ (F : Flat). Some (settled P fuel F)) (sym same) ∙ ap Some (settled-still P fuel W last)
 
-pub run-ends : (P : ProgramParts) (fuel : ℕ) (gs : List Grant) (W : Flat) → LeadsToRun P fuel gs W → AreStopped P fuel W → next_phase P W ≡ None → flat_end P fuel gs ≡ Some (end_of P fuel W)
+pub run-ends : (P : ProgramParts) (fuel : ℕ) (gs : List Grant) (W : Flat) → LeadsToRun P fuel gs W → AreStopped P fuel W → next_phase P W ≡ None → flat_end P fuel gs ≡ Some (flat_end_of P fuel W)
 run-ends P fuel gs W h stop last =
     let rest : IsResting P fuel W = λ i r there. stopped-rest W.tasks (wish P fuel r) (stop i r there) in
     whole-ends P fuel gs W (run-reaches P fuel gs W h rest last) (stopped-whole P fuel W stop)

@@ -10,14 +10,14 @@ use Rattle.dn_base.specs.declared.ids.Grant.{Grant}
 use Rattle.region_table.specs.Program.{ProgramParts, IsProgram, tasks_of}
 use Rattle.region_table.specs.declared.declared.TaskDecl.{TaskDecl}
 use Rattle.region_table.specs.declared.declared.Phase.{Phase}
-use Rattle.rv_core.specs.Access.{holds, may_store}
+use Rattle.rv_core.specs.Access.{is_held, may_store}
 use Rattle.effect_checker.specs.Checked.{IsChecked}
 use Rattle.flat_machine.specs.Step.{Started, fresh, IsWithin}
-use Rattle.flat_machine.specs.Phases.{Flat, all_tasks, run_all, begin, has_finished, next_phase, settled, initial, opened}
+use Rattle.flat_machine.specs.Phases.{Flat, all_tasks, run_all, begin, has_finished, next_phase, settled, initial, initial_flat}
 use Rattle.flat_machine.specs.Laws.{HasTasks, first_segment, StartAlone}
 use Rattle.flat_machine.proofs.PhaseLemmas.{settled-more}
 use Rattle.flat_machine.proofs.StartLaws.{start-alone}
-use Rattle.flat_agreement.specs.Worlds.{IsWorld, stores, alone, LeadsTo, LeadsToRun, with_phase}
+use Rattle.flat_agreement.specs.Worlds.{IsWorld, stores, segment_alone, LeadsTo, LeadsToRun, with_phase}
 use Rattle.flat_agreement.proofs.Places.{map-place, place-map}
 use Rattle.flat_agreement.proofs.Settled.{rest-same, finished-rest}
 
@@ -71,7 +71,7 @@ world-phase P fuel W p there h =
       within = λ i r at'. let d = map-place (fresh W.begun) p.tasks i r at' in subst (IsWithin fuel) d.2 (λ e. omega arith);
       held = λ i j a b apart at_a at_b lock x y.
           let d = map-place (fresh W.begun) p.tasks i a at_a in
-          let none : holds (fresh W.begun d.0).state.held lock ≡ true = subst (λ (r : Started). holds r.state.held lock ≡ true) (sym d.2) x in
+          let none : is_held (fresh W.begun d.0).state.held lock ≡ true = subst (λ (r : Started). is_held r.state.held lock ≡ true) (sym d.2) x in
           false≢true none;
     }
 
@@ -91,12 +91,12 @@ phase-leads P fuel W p words h =
       flat_words = h.words ∙ words;
       tasks = λ i r at'.
           let d = map-place (fresh W.begun) p.tasks i r at' in
-          ap (λ (l : List Started). slice_get l i) h.each ∙ place-map first p.tasks i d.0 d.1 ∙ ap (λ (x : Started). Some (alone P fuel m x).task) d.2;
+          ap (λ (l : List Started). slice_get l i) h.each ∙ place-map first p.tasks i d.0 d.1 ∙ ap (λ (x : Started). Some (segment_alone P fuel m x).task) d.2;
       stored = λ i r w at' may.
           let d = map-place (fresh W.begun) p.tasks i r at' in
           let among : IsAmong p.tasks d.0 = (i, (slice_get_within p.tasks i d.0 d.1, sym (get_or_from_slice_get p.tasks i d.0 d.0 d.1))) in
           let own : may_store d.0 0 w ≡ true = subst (λ (x : Started). stores x w ≡ true) (sym d.2) may in
-          ap (λ (x : Started). slice_index (alone P fuel m x).memory w) (sym d.2) ∙ sym (h.stored d.0 w among own);
+          ap (λ (x : Started). slice_index (segment_alone P fuel m x).memory w) (sym d.2) ∙ sym (h.stored d.0 w among own);
       kept = λ w none.
           sym (h.kept w (λ k e within.
           let d : TaskDecl = get_or p.tasks k e in
@@ -139,7 +139,7 @@ initial-world P fuel =
     }
 
 pub run-opens : (P : ProgramParts) (fuel : ℕ) → LeadsToRun P fuel [] (initial P)
-unfolding opened
+unfolding initial_flat
 run-opens P fuel =
     record {
       world = initial-world P fuel;

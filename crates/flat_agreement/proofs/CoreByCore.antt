@@ -12,15 +12,15 @@ use Rattle.region_table.specs.declared.declared.TaskDecl.{TaskDecl}
 use Rattle.region_table.specs.declared.declared.Phase.{Phase}
 use Rattle.rv_core.specs.declared.need.Need.{Need}
 use Rattle.rv_core.specs.declared.need.Need.TheVariants.{Local, Load, Store, Acquire, Release, End}
-use Rattle.rv_core.specs.Access.{holds}
+use Rattle.rv_core.specs.Access.{is_held}
 use Rattle.effect_checker.specs.Checked.{IsChecked}
 use Rattle.flat_machine.specs.Step.{Started, At, fresh, wish, step_by, flat_step}
 use Rattle.flat_machine.specs.Phases.{Flat, has_finished, next_phase, initial}
 use Rattle.flat_machine.specs.Grants.{is_free, grant_of, with_task}
-use Rattle.flat_machine.specs.Ending.{end_of, flat_end}
+use Rattle.flat_machine.specs.Ending.{flat_end_of, flat_end}
 use Rattle.flat_machine.specs.Laws.{at_memory}
-use Rattle.flat_agreement.specs.Worlds.{LeadsToRun, acquired, IsStopped}
-use Rattle.flat_agreement.specs.Cores.{world_of, ChangesOne, done_by, IsFreeAmong, IsStoppedAmong, IsAgreed}
+use Rattle.flat_agreement.specs.Worlds.{LeadsToRun, past_acquire, IsStopped}
+use Rattle.flat_agreement.specs.Cores.{world_of, ChangesOne, step_of_task, IsFreeAmong, IsStoppedAmong, IsAgreed}
 use Rattle.flat_agreement.proofs.Places.{set-there, set-other, set-length, same-places, map-place, place-map}
 use Rattle.flat_agreement.proofs.Holding.{cores-apart}
 use Rattle.flat_agreement.proofs.Granting.{run-step, run-grant}
@@ -75,12 +75,12 @@ agreed-same P fuel gs phase past p old new m same h =
 
 -- a task does what it needs
 pub agreed-step : (P : ProgramParts) (fuel : ℕ) (gs : List Grant) (phase : ℕ) (past : List Started) (p : Phase) (d : TaskDecl) (need : Need) (old new : TaskDecl → Started) (m : List ℕ)
-    → IsProgram P → IsChecked P → IsAmong p.tasks d → wish P fuel (old d) ≡ Some need → ChangesOne d (done_by P old d m need).task old new
-    → IsAgreed P fuel gs phase past p old m → IsAgreed P fuel gs phase past p new (done_by P old d m need).memory
+    → IsProgram P → IsChecked P → IsAmong p.tasks d → wish P fuel (old d) ≡ Some need → ChangesOne d (step_of_task P old d m need).task old new
+    → IsAgreed P fuel gs phase past p old m → IsAgreed P fuel gs phase past p new (step_of_task P old d m need).memory
 agreed-step P fuel gs phase past p d need old new m is checked among wants change h =
     let W : Flat = world_of phase past p old m in
     let start : At = at_memory (old d) m in
-    let done : At = done_by P old d m need in
+    let done : At = step_of_task P old d m need in
     let goes : flat_step P fuel start ≡ done = ap (step_by P start) wants in
     let at' : slice_get W.tasks among.0 ≡ Some (old d) = place-map old p.tasks among.0 d (among-at p.tasks d among) in
     let next : LeadsToRun P fuel gs (with_task W among.0 (flat_step P fuel start)) = run-step P fuel gs W among.0 (old d) is checked at' h.leads in
@@ -92,7 +92,7 @@ agreed-step P fuel gs phase past p d need old new m is checked among wants chang
 -- a lock that no task of the phase holds is free
 pub free-among : (p : Phase) (task : TaskDecl → Started) (lock : ℕ) → IsFreeAmong p task lock → is_free (map task p.tasks) lock ≡ true
 free-among p task lock free =
-    let test : Started → Bool = λ r. holds r.state.held lock in
+    let test : Started → Bool = λ r. is_held r.state.held lock in
     let none : list_any test (map task p.tasks) ≡ false =
     list_any_none test (map task p.tasks)
     (λ j r within.
@@ -104,7 +104,7 @@ free-among p task lock free =
 
 -- a task acquires the free lock that it wants
 pub agreed-grant : (P : ProgramParts) (fuel : ℕ) (gs : List Grant) (phase : ℕ) (past : List Started) (p : Phase) (d : TaskDecl) (lock : LockId) (old new : TaskDecl → Started) (m : List ℕ)
-    → IsProgram P → IsChecked P → IsAmong p.tasks d → wish P fuel (old d) ≡ Some (Acquire lock) → IsFreeAmong p old lock.0 → ChangesOne d (acquired P (old d)) old new
+    → IsProgram P → IsChecked P → IsAmong p.tasks d → wish P fuel (old d) ≡ Some (Acquire lock) → IsFreeAmong p old lock.0 → ChangesOne d (past_acquire P (old d)) old new
     → IsAgreed P fuel gs phase past p old m → IsAgreed P fuel (gs ++ grant_of (old d) lock ∷ []) phase past p new m
 agreed-grant P fuel gs phase past p d lock old new m is checked among wants free change h =
     let W : Flat = world_of phase past p old m in
@@ -112,7 +112,7 @@ agreed-grant P fuel gs phase past p d lock old new m is checked among wants free
     let next = run-grant P fuel gs W among.0 (old d) lock is checked at' wants (free-among p old lock.0 free) h.leads in
     record {
       there = h.there;
-      leads = subst (LeadsToRun P fuel (gs ++ grant_of (old d) lock ∷ [])) (changed-world P phase past p d (at_memory (acquired P (old d)) m) old new m is h.there among change) next;
+      leads = subst (LeadsToRun P fuel (gs ++ grant_of (old d) lock ∷ [])) (changed-world P phase past p d (at_memory (past_acquire P (old d)) m) old new m is h.there among change) next;
     }
 
 -- ---- phases
@@ -161,9 +161,9 @@ unfinished-phase P phase past p task m d among fails =
     ap choice some
 
 -- a lock that a task of the phase holds isn't free
-pub held-among : (p : Phase) (task : TaskDecl → Started) (lock : ℕ) (e : TaskDecl) → IsAmong p.tasks e → holds (task e).state.held lock ≡ true → is_free (map task p.tasks) lock ≡ false
+pub held-among : (p : Phase) (task : TaskDecl → Started) (lock : ℕ) (e : TaskDecl) → IsAmong p.tasks e → is_held (task e).state.held lock ≡ true → is_free (map task p.tasks) lock ≡ false
 held-among p task lock e among has =
-    let test : Started → Bool = λ r. holds r.state.held lock in
+    let test : Started → Bool = λ r. is_held r.state.held lock in
     let at' : slice_get (map task p.tasks) among.0 ≡ Some (task e) = place-map task p.tasks among.0 e (among-at p.tasks e among) in
     let is : get_or (map task p.tasks) among.0 (task e) ≡ task e = get_or_from_slice_get (map task p.tasks) among.0 (task e) (task e) at' in
     ap not (list_any_at test (map task p.tasks) among.0 (task e) (slice_get_within (map task p.tasks) among.0 (task e) at') (ap test is ∙ has))
@@ -181,7 +181,7 @@ stopped-among p task (Some (End by)) k = absurd k
 
 pub agreed-ends : (P : ProgramParts) (fuel : ℕ) (gs : List Grant) (phase : ℕ) (past : List Started) (p : Phase) (task : TaskDecl → Started) (m : List ℕ)
     → ((d : TaskDecl) → IsAmong p.tasks d → IsStoppedAmong p task (wish P fuel (task d))) → next_phase P (world_of phase past p task m) ≡ None
-    → IsAgreed P fuel gs phase past p task m → flat_end P fuel gs ≡ Some (end_of P fuel (world_of phase past p task m))
+    → IsAgreed P fuel gs phase past p task m → flat_end P fuel gs ≡ Some (flat_end_of P fuel (world_of phase past p task m))
 agreed-ends P fuel gs phase past p task m stop last h =
     run-ends P fuel gs (world_of phase past p task m) h.leads
     (λ i r at'.
@@ -191,6 +191,6 @@ agreed-ends P fuel gs phase past p task m stop last h =
     last
 
 -- a program without phases
-pub none-ends : (P : ProgramParts) (fuel : ℕ) → length P.phases ≡ 0 → flat_end P fuel [] ≡ Some (end_of P fuel (initial P))
+pub none-ends : (P : ProgramParts) (fuel : ℕ) → length P.phases ≡ 0 → flat_end P fuel [] ≡ Some (flat_end_of P fuel (initial P))
 none-ends P fuel none =
     run-ends P fuel [] (initial P) (run-opens P fuel) (λ i r at'. absurd (none-some r at')) (slice_get_past P.phases 0 (omega arith))

@@ -14,7 +14,7 @@ use Rattle.region_table.specs.Program.{ProgramParts, IsPhase, IsProgram}
 use Rattle.region_table.specs.declared.declared.TaskDecl.{TaskDecl}
 use Rattle.region_table.specs.declared.declared.Phase.{Phase}
 use Rattle.rv_core.specs.declared.need.Need.TheVariants.{Acquire}
-use Rattle.rv_core.specs.Access.{holds}
+use Rattle.rv_core.specs.Access.{is_held}
 use Rattle.rv_core.specs.Kinds.{IsAdvance}
 use Rattle.rv_core.proofs.HeldLemmas.{holds-acquired}
 use Rattle.rv_core.proofs.Completions.{advanced-held, advanced-retired, fuel-left}
@@ -28,7 +28,7 @@ use Rattle.flat_machine.proofs.Rest.{wish-open}
 use Rattle.flat_machine.proofs.Rights.{wish-need, step-after}
 use Rattle.flat_machine.proofs.SegmentLaws.{step-later, same-later}
 use Rattle.flat_machine.proofs.Separation.{keeps-out}
-use Rattle.flat_agreement.specs.Worlds.{IsWorld, stepped, acquired, with_lock}
+use Rattle.flat_agreement.specs.Worlds.{IsWorld, stepped, past_acquire, world_after_grant}
 use Rattle.flat_agreement.proofs.Places.{by-place}
 use Rattle.flat_agreement.proofs.Keeping.{AreSeparate, step-size}
 
@@ -173,9 +173,9 @@ world-step P fuel W i r there h =
 -- ---- a grant
 
 -- a lock that is free is held by no task
-pub free-lacks : (tasks : List Started) (lock j : ℕ) (q : Started) → is_free tasks lock ≡ true → slice_get tasks j ≡ Some q → holds q.state.held lock ≡ true → ⊥
+pub free-lacks : (tasks : List Started) (lock j : ℕ) (q : Started) → is_free tasks lock ≡ true → slice_get tasks j ≡ Some q → is_held q.state.held lock ≡ true → ⊥
 free-lacks tasks lock j q free at' has =
-    let test : Started → Bool = λ r. holds r.state.held lock in
+    let test : Started → Bool = λ r. is_held r.state.held lock in
     let is : get_or tasks j q ≡ q = get_or_from_slice_get tasks j q q at' in
     let some : list_any test tasks ≡ true = list_any_at test tasks j q (slice_get_within tasks j q at') (ap test is ∙ has) in
     false≢true (sym (ap not some) ∙ free)
@@ -184,12 +184,12 @@ same-number : (a b : ℕ) → (a == b) ≡ true → a ≡ b
 same-number a b e = grind (arith, nat_tests)
 
 -- the task holds the lock that it acquires, beside those that it held
-pub acquired-holds : (P : ProgramParts) (fuel : ℕ) (r : Started) (lock : LockId) (k : ℕ) → wish P fuel r ≡ Some (Acquire lock) → holds (acquired P r).state.held k ≡ ((k == lock.0) || holds r.state.held k)
+pub acquired-holds : (P : ProgramParts) (fuel : ℕ) (r : Started) (lock : LockId) (k : ℕ) → wish P fuel r ≡ Some (Acquire lock) → is_held (past_acquire P r).state.held k ≡ ((k == lock.0) || is_held r.state.held k)
 acquired-holds P fuel r lock k wants =
-    let held : (acquired P r).state.held ≡ bit_or r.state.held (2 ^ lock.0) = advanced-held P r.decl fuel r.state (Acquire lock) (wish-need P fuel r (Acquire lock) wants) tt in
-    ap (λ (x : ℕ). holds x k) held ∙ holds-acquired r.state.held lock.0 k
+    let held : (past_acquire P r).state.held ≡ bit_or r.state.held (2 ^ lock.0) = advanced-held P r.decl fuel r.state (Acquire lock) (wish-need P fuel r (Acquire lock) wants) tt in
+    ap (λ (x : ℕ). is_held x k) held ∙ holds-acquired r.state.held lock.0 k
 
-acquired-within : (P : ProgramParts) (fuel : ℕ) (r : Started) (lock : LockId) → wish P fuel r ≡ Some (Acquire lock) → IsWithin fuel r → IsWithin fuel (acquired P r)
+acquired-within : (P : ProgramParts) (fuel : ℕ) (r : Started) (lock : LockId) → wish P fuel r ≡ Some (Acquire lock) → IsWithin fuel r → IsWithin fuel (past_acquire P r)
 acquired-within P fuel r lock wants within on =
     let needs = wish-need P fuel r (Acquire lock) wants in
     let opened = wish-open P fuel r (Acquire lock) wants in
@@ -198,17 +198,17 @@ acquired-within P fuel r lock wants within on =
     omega arith
 
 pub world-grant : (P : ProgramParts) (fuel : ℕ) (W : Flat) (i : ℕ) (r : Started) (lock : LockId) → slice_get W.tasks i ≡ Some r → wish P fuel r ≡ Some (Acquire lock) → is_free W.tasks lock.0 ≡ true
-    → IsWorld P fuel W → IsWorld P fuel (with_lock P W i r)
+    → IsWorld P fuel W → IsWorld P fuel (world_after_grant P W i r)
 world-grant P fuel W i r lock there wants free h =
-    fits-world P fuel W i r (at_memory (acquired P r) W.memory) (record {
+    fits-world P fuel W i r (at_memory (past_acquire P r) W.memory) (record {
       there = there;
-      later = same-later r (acquired P r) refl refl refl;
+      later = same-later r (past_acquire P r) refl refl refl;
       words = h.words;
       within = acquired-within P fuel r lock wants (h.within i r there);
       held =
           λ j q away at' k x y.
           ⊎_elim
-          (λ (own : (k == lock.0) ≡ true). free-lacks W.tasks lock.0 j q free at' (subst (λ (l : ℕ). holds q.state.held l ≡ true) (same-number k lock.0 own) y))
-          (λ (had : holds r.state.held k ≡ true). h.held i j r q (λ e. away (sym e)) there at' k had y)
-          (or_cases (k == lock.0) (holds r.state.held k) (sym (acquired-holds P fuel r lock k wants) ∙ x));
+          (λ (own : (k == lock.0) ≡ true). free-lacks W.tasks lock.0 j q free at' (subst (λ (l : ℕ). is_held q.state.held l ≡ true) (same-number k lock.0 own) y))
+          (λ (had : is_held r.state.held k ≡ true). h.held i j r q (λ e. away (sym e)) there at' k had y)
+          (or_cases (k == lock.0) (is_held r.state.held k) (sym (acquired-holds P fuel r lock k wants) ∙ x));
     }) h

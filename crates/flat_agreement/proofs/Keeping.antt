@@ -10,12 +10,12 @@ use Rattle.rv_core.specs.Access.{may_store}
 use Rattle.flat_machine.specs.Step.{Started, At, wish, step_by, flat_step, segment, IsWithin}
 use Rattle.flat_machine.specs.Phases.{Flat}
 use Rattle.flat_machine.specs.Grants.{with_task}
-use Rattle.flat_machine.specs.Laws.{at_memory, IsAtRest}
+use Rattle.flat_machine.specs.Laws.{at_memory, EndsSegment}
 use Rattle.flat_machine.proofs.Rest.{segment-step}
 use Rattle.flat_machine.proofs.Rights.{may_store-less, store-loads, not-true, both-ways, step-after}
 use Rattle.flat_machine.proofs.Frames.{Agree, KeepsOut, step-frame, segment-frame, segment-alike, segment-size, no-store, other-kept}
 use Rattle.flat_machine.proofs.SegmentLaws.{segment-still}
-use Rattle.flat_agreement.specs.Worlds.{stores, loads, alone, LeadsTo, stepped}
+use Rattle.flat_agreement.specs.Worlds.{stores, loads, segment_alone, LeadsTo, stepped}
 use Rattle.flat_agreement.proofs.Places.{by-place, set-there, set-other, set-length}
 
 -- no two of the tasks may use one word unless both only load it
@@ -62,11 +62,11 @@ step-kept P fuel W F i r apart there within h =
       words = size;
       flat_words = h.flat_words;
       tasks =
-          by-place (λ (j : ℕ) (q : Started). slice_get F.tasks j ≡ Some (alone P fuel s.memory q).task) W.tasks i s.task
+          by-place (λ (j : ℕ) (q : Started). slice_get F.tasks j ≡ Some (segment_alone P fuel s.memory q).task) W.tasks i s.task
           (λ q at'. h.tasks i r there ∙ ap (λ (x : At). Some x.task) (sym same))
           (λ j q away at'. h.tasks j q at' ∙ ap Some (sym (alike j q away at').task));
       stored =
-          λ j q w at' may. by-place (λ (j : ℕ) (q : Started). stores q w ≡ true → slice_index (alone P fuel s.memory q).memory w ≡ slice_index F.memory w) W.tasks i s.task
+          λ j q w at' may. by-place (λ (j : ℕ) (q : Started). stores q w ≡ true → slice_index (segment_alone P fuel s.memory q).memory w ≡ slice_index F.memory w) W.tasks i s.task
           (λ q at' may. ap (λ (x : At). slice_index x.memory w) same ∙ h.stored i r w there (stores-before P fuel start w may))
           (λ j q away at' may. (alike j q away at').kept w (step-frame P fuel start w (no-store q r w (apart j i q r away at' there) may)) ∙ h.stored j q w at' may)
           j q at' may;
@@ -90,7 +90,7 @@ step-kept P fuel W F i r apart there within h =
     by_right w spent others false lacks = step-frame P fuel (at_memory r W.memory) w lacks ∙ h.kept w (all_others w lacks others)
 
 -- a word that the task at place i may load has the value of F, where that task is at rest
-rested-word : (P : ProgramParts) (fuel : ℕ) (W F : Flat) (i : ℕ) (r : Started) (w : ℕ) → slice_get W.tasks i ≡ Some r → IsAtRest (wish P fuel r) → LeadsTo P fuel W F
+rested-word : (P : ProgramParts) (fuel : ℕ) (W F : Flat) (i : ℕ) (r : Started) (w : ℕ) → slice_get W.tasks i ≡ Some r → EndsSegment (wish P fuel r) → LeadsTo P fuel W F
     → ((j : ℕ) (q : Started) → j ≢ i → slice_get W.tasks j ≡ Some q → stores q w ≡ false) → slice_index W.memory w ≡ slice_index F.memory w
 rested-word P fuel W F i r w there rest h others = by_right (stores r w) refl
   where
@@ -102,12 +102,12 @@ rested-word P fuel W F i r w there rest h others = by_right (stores r w) refl
         (λ (away : j ≡ i → ⊥). others j q away at') (cases_eq j i))
 
 -- a new task in the place of one at rest, which goes on in F, keeps that the world leads to F
-pub replace-kept : (P : ProgramParts) (fuel : ℕ) (W F : Flat) (i : ℕ) (r a : Started) → AreSeparate (slice_set W.tasks i a) → slice_get W.tasks i ≡ Some r → IsAtRest (wish P fuel r) → LeadsTo P fuel W F
-    → LeadsTo P fuel (with_task W i (at_memory a W.memory)) (with_task F i (alone P fuel F.memory a))
+pub replace-kept : (P : ProgramParts) (fuel : ℕ) (W F : Flat) (i : ℕ) (r a : Started) → AreSeparate (slice_set W.tasks i a) → slice_get W.tasks i ≡ Some r → EndsSegment (wish P fuel r) → LeadsTo P fuel W F
+    → LeadsTo P fuel (with_task W i (at_memory a W.memory)) (with_task F i (segment_alone P fuel F.memory a))
 replace-kept P fuel W F i r a apart there rest h =
     let m : List ℕ = W.memory in
     let n : List ℕ = F.memory in
-    let s : At = alone P fuel n a in
+    let s : At = segment_alone P fuel n a in
     let now : slice_get (slice_set W.tasks i a) i ≡ Some a = set-there W.tasks i a r there in
     let from : (j : ℕ) (q : Started) → j ≢ i → slice_get W.tasks j ≡ Some q → KeepsOut q a = λ j q away at'. apart j i q a away (set-other W.tasks i j a away ∙ at') now in
     let into : (j : ℕ) (q : Started) → j ≢ i → slice_get W.tasks j ≡ Some q → KeepsOut a q = λ j q away at'. apart i j a q (λ e. away (sym e)) now (set-other W.tasks i j a away ∙ at') in
@@ -117,7 +117,7 @@ replace-kept P fuel W F i r a apart there rest h =
           (λ j q away at'. not-true (stores q w) (λ e. both-ways (loads a w) ((from j q away at').out w e) may));
     } in
     let alike = segment-alike P fuel a m n h.words h.flat_words agree in
-    let there' : slice_get F.tasks i ≡ Some (alone P fuel m r).task = h.tasks i r there in
+    let there' : slice_get F.tasks i ≡ Some (segment_alone P fuel m r).task = h.tasks i r there in
     record {
       begun = h.begun;
       past = h.past;
@@ -125,11 +125,11 @@ replace-kept P fuel W F i r a apart there rest h =
       words = h.words;
       flat_words = segment-size P fuel a n h.flat_words;
       tasks =
-          by-place (λ (j : ℕ) (q : Started). slice_get (slice_set F.tasks i s.task) j ≡ Some (alone P fuel m q).task) W.tasks i a
-          (λ q at'. set-there F.tasks i s.task (alone P fuel m r).task there' ∙ ap Some (sym alike.task))
+          by-place (λ (j : ℕ) (q : Started). slice_get (slice_set F.tasks i s.task) j ≡ Some (segment_alone P fuel m q).task) W.tasks i a
+          (λ q at'. set-there F.tasks i s.task (segment_alone P fuel m r).task there' ∙ ap Some (sym alike.task))
           (λ j q away at'. set-other F.tasks i j s.task away ∙ h.tasks j q at');
       stored =
-          λ j q w at' may. by-place (λ (j : ℕ) (q : Started). stores q w ≡ true → slice_index (alone P fuel m q).memory w ≡ slice_index s.memory w) W.tasks i a
+          λ j q w at' may. by-place (λ (j : ℕ) (q : Started). stores q w ≡ true → slice_index (segment_alone P fuel m q).memory w ≡ slice_index s.memory w) W.tasks i a
           (λ q at' may. alike.kept w (agree.on w (store-loads a.decl a.state.held w may)))
           (λ j q away at' may. h.stored j q w at' may ∙ sym (segment-frame P fuel (at_memory a n) w (no-store q a w (from j q away at') may)))
           j q at' may;

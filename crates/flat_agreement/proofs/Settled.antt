@@ -9,7 +9,7 @@ use Rattle.region_table.specs.Program.{ProgramParts}
 use Rattle.rv_core.specs.declared.task.End.{End}
 use Rattle.flat_machine.specs.Step.{Started, At, wish_unless}
 use Rattle.flat_machine.specs.Phases.{Flat, finished_by, has_finished}
-use Rattle.flat_machine.specs.Laws.{at_memory, IsAtRest}
+use Rattle.flat_machine.specs.Laws.{at_memory, EndsSegment}
 use Rattle.flat_machine.proofs.SegmentLaws.{segment-still}
 use Rattle.flat_agreement.specs.Worlds.{stores, LeadsTo, IsResting}
 use Rattle.flat_agreement.proofs.Places.{same-places}
@@ -55,7 +55,7 @@ rest-same P fuel W F rest h = same-flat W F h.begun h.past (rested-tasks P fuel 
 pub finished-rest : (P : ProgramParts) (fuel : ℕ) (W : Flat) → list_all has_finished W.tasks ≡ true → IsResting P fuel W
 finished-rest P fuel W done i r there = by_end r.state.end refl
   where
-    by_end : (o : Option End) → r.state.end ≡ o → IsAtRest (wish_unless P fuel r o)
+    by_end : (o : Option End) → r.state.end ≡ o → EndsSegment (wish_unless P fuel r o)
     by_end (Some by) e = tt
     by_end None e =
         let is : get_or W.tasks i r ≡ r = get_or_from_slice_get W.tasks i r r there in

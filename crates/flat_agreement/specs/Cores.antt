@@ -5,7 +5,7 @@ use Rattle.dn_base.specs.declared.ids.Grant.{Grant}
 use Rattle.region_table.specs.Program.{ProgramParts}
 use Rattle.region_table.specs.declared.declared.TaskDecl.{TaskDecl}
 use Rattle.region_table.specs.declared.declared.Phase.{Phase}
-use Rattle.rv_core.specs.Access.{holds}
+use Rattle.rv_core.specs.Access.{is_held}
 use Rattle.rv_core.specs.declared.need.Need.{Need}
 use Rattle.rv_core.specs.declared.need.Need.TheVariants.{Acquire}
 use Rattle.flat_machine.specs.Step.{Started, At, step_by}
@@ -23,18 +23,18 @@ pub record ChangesOne (d : TaskDecl) (x : Started) (old new : TaskDecl → Start
   pub others : (e : TaskDecl) → e.core.0 ≢ d.core.0 → new e ≡ old e
 
 -- the instruction by which the task d does what it needs, on a memory
-abbrev pub done_by : ProgramParts → (TaskDecl → Started) → TaskDecl → List ℕ → Need → At
-done_by P task d m need = step_by P (at_memory (task d) m) (Some need)
+abbrev pub step_of_task : ProgramParts → (TaskDecl → Started) → TaskDecl → List ℕ → Need → At
+step_of_task P task d m need = step_by P (at_memory (task d) m) (Some need)
 
 -- no task of the phase holds the lock
 abbrev pub IsFreeAmong : Phase → (TaskDecl → Started) → ℕ → Type 0
-IsFreeAmong p task lock = (e : TaskDecl) → IsAmong p.tasks e → holds (task e).state.held lock ≡ true → ⊥
+IsFreeAmong p task lock = (e : TaskDecl) → IsAmong p.tasks e → is_held (task e).state.held lock ≡ true → ⊥
 
 -- some task of the phase holds the lock
 pub record IsHeldAmong (p : Phase) (task : TaskDecl → Started) (lock : ℕ) : Type 0 where
   pub by : TaskDecl
   pub among : IsAmong p.tasks by
-  pub holds : holds (task by).state.held lock ≡ true
+  pub holds : is_held (task by).state.held lock ≡ true
 
 -- a task has ended, or wants a lock that a task of the phase holds
 abbrev pub IsStoppedAmong : Phase → (TaskDecl → Started) → Option Need → Type 0

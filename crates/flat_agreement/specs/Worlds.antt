@@ -12,7 +12,7 @@ use Rattle.flat_machine.specs.declared.ending.TaskLoads.{TaskLoads}
 use Rattle.flat_machine.specs.Step.{Started, At, fresh, wish, in_state, flat_step, segment, IsWithin}
 use Rattle.flat_machine.specs.Phases.{Flat, settled}
 use Rattle.flat_machine.specs.Grants.{is_free, with_task, so_far}
-use Rattle.flat_machine.specs.Laws.{at_memory, IsAtRest, HoldApart, HasTasks}
+use Rattle.flat_machine.specs.Laws.{at_memory, EndsSegment, HoldApart, HasTasks}
 
 -- A world is a value of the type `Flat`: how many phases have begun, the tasks of the phases before the last of them, those of
 -- that one, and one memory. A state of the flat machine is a world in which every task has gone on as far as it can.
@@ -26,8 +26,8 @@ abbrev pub loads : Started → ℕ → Bool
 loads r w = may_load r.decl r.state.held w
 
 -- what a task comes to where it goes on alone, on the memory m
-abbrev pub alone : ProgramParts → ℕ → List ℕ → Started → At
-alone P fuel m r = segment P fuel (at_memory r m)
+abbrev pub segment_alone : ProgramParts → ℕ → List ℕ → Started → At
+segment_alone P fuel m r = segment P fuel (at_memory r m)
 
 -- the tasks of a world are those of the phases that have begun, none has retired more instructions than it may, and no lock is
 -- held by two tasks of the last phase
@@ -45,8 +45,8 @@ pub record LeadsTo (P : ProgramParts) (fuel : ℕ) (W F : Flat) : Type 0 where
   pub count : length W.tasks ≡ length F.tasks
   pub words : length W.memory ≡ length P.memory
   pub flat_words : length F.memory ≡ length P.memory
-  pub tasks : (i : ℕ) (r : Started) → slice_get W.tasks i ≡ Some r → slice_get F.tasks i ≡ Some (alone P fuel W.memory r).task
-  pub stored : (i : ℕ) (r : Started) (w : ℕ) → slice_get W.tasks i ≡ Some r → stores r w ≡ true → slice_index (alone P fuel W.memory r).memory w ≡ slice_index F.memory w
+  pub tasks : (i : ℕ) (r : Started) → slice_get W.tasks i ≡ Some r → slice_get F.tasks i ≡ Some (segment_alone P fuel W.memory r).task
+  pub stored : (i : ℕ) (r : Started) (w : ℕ) → slice_get W.tasks i ≡ Some r → stores r w ≡ true → slice_index (segment_alone P fuel W.memory r).memory w ≡ slice_index F.memory w
   pub kept : (w : ℕ) → ((i : ℕ) (r : Started) → slice_get W.tasks i ≡ Some r → stores r w ≡ false) → slice_index W.memory w ≡ slice_index F.memory w
 
 -- the world leads to the flat machine's run by the grants
@@ -61,12 +61,12 @@ abbrev pub stepped : ProgramParts → ℕ → Flat → ℕ → Started → Flat
 stepped P fuel W i r = with_task W i (flat_step P fuel (at_memory r W.memory))
 
 -- the task once it has acquired the lock that it wants
-abbrev pub acquired : ProgramParts → Started → Started
-acquired P r = in_state r (advanced P r.state)
+abbrev pub past_acquire : ProgramParts → Started → Started
+past_acquire P r = in_state r (advanced P r.state)
 
 -- the world once the task r at place i has acquired the lock that it wants
-abbrev pub with_lock : ProgramParts → Flat → ℕ → Started → Flat
-with_lock P W i r = with_task W i (at_memory (acquired P r) W.memory)
+abbrev pub world_after_grant : ProgramParts → Flat → ℕ → Started → Flat
+world_after_grant P W i r = with_task W i (at_memory (past_acquire P r) W.memory)
 
 -- the world at the beginning of the next phase
 abbrev pub with_phase : Flat → Phase → Flat
@@ -75,7 +75,7 @@ with_phase W p =
 
 -- every task of the last phase has ended or wants a lock
 abbrev pub IsResting : ProgramParts → ℕ → Flat → Type 0
-IsResting P fuel W = (i : ℕ) (r : Started) → slice_get W.tasks i ≡ Some r → IsAtRest (wish P fuel r)
+IsResting P fuel W = (i : ℕ) (r : Started) → slice_get W.tasks i ≡ Some r → EndsSegment (wish P fuel r)
 
 -- a task has ended, or wants a lock that some task holds
 abbrev pub IsStopped : List Started → Option Need → Type 0

@@ -12,10 +12,10 @@ ghost use Rattle.effect_checker.specs.Checked.{IsChecked};
 ghost use Rattle.flat_machine.specs.Step.{Started, fresh, wish};
 ghost use Rattle.flat_machine.specs.Phases.{Flat, has_finished, next_phase, settled, initial};
 ghost use Rattle.flat_machine.specs.Grants.{is_free, grant_of, so_far};
-ghost use Rattle.flat_machine.specs.Ending.{loads_of, end_of, flat_end};
+ghost use Rattle.flat_machine.specs.Ending.{flat_loads_of, flat_end_of, flat_end};
 ghost use Rattle.flat_machine.specs.Laws.{AreLater};
-ghost use Rattle.flat_agreement.specs.Worlds.{AreFronts, loads, alone, LeadsTo, LeadsToRun, stepped, acquired, with_lock, with_phase, IsResting, AreStopped};
-ghost use Rattle.flat_agreement.specs.Cores.{world_of, ChangesOne, done_by, IsFreeAmong, IsStoppedAmong, IsAgreed};
+ghost use Rattle.flat_agreement.specs.Worlds.{AreFronts, loads, segment_alone, LeadsTo, LeadsToRun, stepped, past_acquire, world_after_grant, with_phase, IsResting, AreStopped};
+ghost use Rattle.flat_agreement.specs.Cores.{world_of, ChangesOne, step_of_task, IsFreeAmong, IsStoppedAmong, IsAgreed};
 
 /// Before the first phase the world is the program's memory, and it leads to the run by no grants.
 pub fn a_world_leads_to_the_run_at_first()
@@ -33,7 +33,7 @@ pub fn a_step_keeps_the_run()
 pub fn a_grant_is_the_next_of_the_run()
     ensures { (P : ProgramParts) (fuel : ℕ) (gs : List Grant) (W : Flat) (i : ℕ) (r : Started) (lock : LockId) → IsProgram P → IsChecked P → slice_get W.tasks i ≡ Some r
         → wish P fuel r ≡ Some (Acquire lock) → is_free W.tasks lock.0 ≡ true → LeadsToRun P fuel gs W
-        → LeadsToRun P fuel (gs ++ grant_of r lock ∷ []) (with_lock P W i r) }
+        → LeadsToRun P fuel (gs ++ grant_of r lock ∷ []) (world_after_grant P W i r) }
 {}
 
 /// Where all tasks have finished and a phase is left, the world at the beginning of that phase leads to the same run.
@@ -47,13 +47,13 @@ pub fn the_beginning_of_a_phase_keeps_the_run()
 pub fn the_loads_of_a_task_are_a_front_of_its_loads_in_the_run()
     ensures value { (P : ProgramParts) (fuel : ℕ) (gs : List Grant) (W : Flat) → (lead : LeadsToRun P fuel gs W) → so_far P fuel gs ≡ Some (settled P fuel lead.flat) }
     ensures later { (P : ProgramParts) (fuel : ℕ) (gs : List Grant) (W F : Flat) → LeadsToRun P fuel gs W → so_far P fuel gs ≡ Some F → AreLater W F }
-    ensures fronts { (P : ProgramParts) (fuel : ℕ) (gs : List Grant) (W F : Flat) → LeadsToRun P fuel gs W → so_far P fuel gs ≡ Some F → AreFronts (loads_of W) (loads_of F) }
+    ensures fronts { (P : ProgramParts) (fuel : ℕ) (gs : List Grant) (W F : Flat) → LeadsToRun P fuel gs W → so_far P fuel gs ≡ Some F → AreFronts (flat_loads_of W) (flat_loads_of F) }
 {}
 
 /// A word that a task may load, with the locks that it holds, comes to the value that it has in the run by that task alone.
 pub fn a_word_comes_to_its_value_in_the_run_by_its_task_alone()
     ensures { (P : ProgramParts) (fuel : ℕ) (gs : List Grant) (W : Flat) (i : ℕ) (r : Started) (w : ℕ) → IsProgram P → IsChecked P → (lead : LeadsToRun P fuel gs W)
-        → slice_get W.tasks i ≡ Some r → loads r w ≡ true → slice_index (alone P fuel W.memory r).memory w ≡ slice_index lead.flat.memory w }
+        → slice_get W.tasks i ≡ Some r → loads r w ≡ true → slice_index (segment_alone P fuel W.memory r).memory w ≡ slice_index lead.flat.memory w }
 {}
 
 /// Where all tasks have come to rest the world is the state to which it leads; and where no phase can begin it is the state of
@@ -67,7 +67,7 @@ pub fn a_world_at_rest_is_the_state_of_the_run()
 /// the run by them is the world's: how its tasks stand, their loads, and its memory.
 pub fn a_world_that_stops_has_the_end_of_the_run()
     ensures { (P : ProgramParts) (fuel : ℕ) (gs : List Grant) (W : Flat) → LeadsToRun P fuel gs W → AreStopped P fuel W → next_phase P W ≡ None
-        → flat_end P fuel gs ≡ Some (end_of P fuel W) }
+        → flat_end P fuel gs ≡ Some (flat_end_of P fuel W) }
 {}
 
 /// The first phase begins with each of its tasks at its start, on the program's memory.
@@ -78,8 +78,8 @@ pub fn the_first_phase_is_agreed()
 /// A core whose task does what it needs keeps the run, where the tasks of the other cores stay as they are.
 pub fn what_a_core_does_keeps_the_run()
     ensures { (P : ProgramParts) (fuel : ℕ) (gs : List Grant) (phase : ℕ) (past : List Started) (p : Phase) (d : TaskDecl) (need : Need) (old new : TaskDecl → Started) (m : List ℕ)
-        → IsProgram P → IsChecked P → IsAmong p.tasks d → wish P fuel (old d) ≡ Some need → ChangesOne d (done_by P old d m need).task old new
-        → IsAgreed P fuel gs phase past p old m → IsAgreed P fuel gs phase past p new (done_by P old d m need).memory }
+        → IsProgram P → IsChecked P → IsAmong p.tasks d → wish P fuel (old d) ≡ Some need → ChangesOne d (step_of_task P old d m need).task old new
+        → IsAgreed P fuel gs phase past p old m → IsAgreed P fuel gs phase past p new (step_of_task P old d m need).memory }
 {}
 
 /// Where the tasks of a phase stand as they stood, the run is the same.
@@ -91,7 +91,7 @@ pub fn what_changes_no_task_keeps_the_run()
 /// A core whose task acquires the lock that it wants, and that no task of the phase holds, makes the next grant of the run.
 pub fn what_a_core_acquires_is_the_next_grant()
     ensures { (P : ProgramParts) (fuel : ℕ) (gs : List Grant) (phase : ℕ) (past : List Started) (p : Phase) (d : TaskDecl) (lock : LockId) (old new : TaskDecl → Started) (m : List ℕ)
-        → IsProgram P → IsChecked P → IsAmong p.tasks d → wish P fuel (old d) ≡ Some (Acquire lock) → IsFreeAmong p old lock.0 → ChangesOne d (acquired P (old d)) old new
+        → IsProgram P → IsChecked P → IsAmong p.tasks d → wish P fuel (old d) ≡ Some (Acquire lock) → IsFreeAmong p old lock.0 → ChangesOne d (past_acquire P (old d)) old new
         → IsAgreed P fuel gs phase past p old m → IsAgreed P fuel (gs ++ grant_of (old d) lock ∷ []) phase past p new m }
 {}
 
@@ -116,6 +116,6 @@ pub fn no_phase_begins()
 pub fn a_phase_that_stops_has_the_end_of_the_run()
     ensures stops { (P : ProgramParts) (fuel : ℕ) (gs : List Grant) (phase : ℕ) (past : List Started) (p : Phase) (task : TaskDecl → Started) (m : List ℕ)
         → ((d : TaskDecl) → IsAmong p.tasks d → IsStoppedAmong p task (wish P fuel (task d))) → next_phase P (world_of phase past p task m) ≡ None
-        → IsAgreed P fuel gs phase past p task m → flat_end P fuel gs ≡ Some (end_of P fuel (world_of phase past p task m)) }
-    ensures none { (P : ProgramParts) (fuel : ℕ) → length P.phases ≡ 0 → flat_end P fuel [] ≡ Some (end_of P fuel (initial P)) }
+        → IsAgreed P fuel gs phase past p task m → flat_end P fuel gs ≡ Some (flat_end_of P fuel (world_of phase past p task m)) }
+    ensures none { (P : ProgramParts) (fuel : ℕ) → length P.phases ≡ 0 → flat_end P fuel [] ≡ Some (flat_end_of P fuel (initial P)) }
 {}

@@ -20,19 +20,19 @@ use Rattle.rv_core.specs.declared.need.Need as need
 use Rattle.rv_core.specs.declared.ending.EndShown.{EndShown}
 use Rattle.rv_core.specs.declared.ending.EndShown as shown
 use Rattle.rv_core.specs.declared.ending.TaskEnd.{TaskEnd}
-use Rattle.rv_core.specs.Access.{holds}
+use Rattle.rv_core.specs.Access.{is_held}
 use Rattle.rv_core.specs.Kinds.{IsAdvance, EndsByFuel}
 use Rattle.rv_core.specs.Need.{need_of}
 use Rattle.rv_core.specs.Step.{advanced, loaded_of}
 use Rattle.rv_core.specs.Task.{stopped}
 use Rattle.rv_core.proofs.Needs.{need-fuel}
 use Rattle.flat_machine.specs.declared.ending.FlatEnd.{FlatEnd}
-use Rattle.flat_machine.specs.Step.{Started, At, fresh, wish, wish_unless, in_state, step_by, flat_step, flat_steps, segment, IsWithin, IsAcquire, IsWaiting}
-use Rattle.flat_machine.specs.Phases.{Flat, run_all, begin, finished_by, has_finished, settle, settled, initial, opened}
-use Rattle.flat_machine.specs.Grants.{grant_by, grant_for, can_take, go_on, with_task, resumed, granted_at, granted, granted_if, grants_from, so_far, first_or, first_grant, next_grant, is_whole}
+use Rattle.flat_machine.specs.Step.{Started, At, fresh, wish, wish_unless, in_state, step_by, flat_step, flat_steps, segment, IsWithin, IsAcquire, WantsLock}
+use Rattle.flat_machine.specs.Phases.{Flat, run_all, begin, finished_by, has_finished, settle, settled, initial, initial_flat}
+use Rattle.flat_machine.specs.Grants.{grant_by, grant_for, can_take, go_on, with_task, resumed, granted_at, granted, granted_if, grants_from, so_far, first_or, first_grant, next_grant, grants_are_whole}
 use Rattle.rv_core.specs.Ending.{is_waiting, is_trapped, is_spent, outcome_of}
-use Rattle.flat_machine.specs.Ending.{shown_by, shown_of, task_end, end_of, whole_only, flat_end}
-use Rattle.flat_machine.specs.Laws.{IsAtRest, HasUsedUp, IsOutOfFuel, IsHeldUp, IsEnded}
+use Rattle.flat_machine.specs.Ending.{wait_shown, shown_of, task_end, flat_end_of, whole_only, flat_end}
+use Rattle.flat_machine.specs.Laws.{EndsSegment, HasUsedUp, IsOutOfFuel, IsHeldUp, IsEnded}
 use Rattle.flat_machine.proofs.Rest.{IsLess, advanced-more, loaded-more, wish-open, step-less, rest-still, segment-rest}
 use Rattle.flat_machine.proofs.Rights.{wish-need, told}
 use Rattle.flat_machine.proofs.PhaseLemmas.{begin-past}
@@ -53,7 +53,7 @@ fresh-steady : (fuel phase : ℕ) (d : TaskDecl) → IsSteady fuel (fresh phase 
 fresh-steady fuel phase d = record { within = λ e. omega arith; spent = λ e. absurd (none-some cause.TheVariants.Fuel e) }
 
 open-spent : (fuel : ℕ) (t : TaskState) → t.end ≡ None → EndsSpent fuel t
-open-spent fuel t opened e = absurd (none-some cause.TheVariants.Fuel (sym opened ∙ e))
+open-spent fuel t initial_flat e = absurd (none-some cause.TheVariants.Fuel (sym initial_flat ∙ e))
 
 stopped-spent : (P : ProgramParts) (d : TaskDecl) (fuel : ℕ) (t : TaskState) (by : End) → need_of P d fuel t ≡ need.TheVariants.End by → EndsSpent fuel (stopped by t)
 stopped-spent P d fuel t cause.TheVariants.Fuel is e = (need-fuel P d fuel t).0 (subst EndsByFuel (sym is) tt)
@@ -82,7 +82,7 @@ step-spent P fuel s spent = by_wish (wish P fuel s.task) refl
 pub step-within : (P : ProgramParts) (fuel : ℕ) (s : At) → IsWithin fuel s.task → IsWithin fuel (flat_step P fuel s).task
 step-within P fuel s within = by_step (step-less P fuel s within)
   where
-    by_step : IsAtRest (wish P fuel s.task) ⊎ IsLess fuel s.task.state (flat_step P fuel s).task.state → IsWithin fuel (flat_step P fuel s).task
+    by_step : EndsSegment (wish P fuel s.task) ⊎ IsLess fuel s.task.state (flat_step P fuel s).task.state → IsWithin fuel (flat_step P fuel s).task
     by_step (inl rest) = subst (λ (x : At). IsWithin fuel x.task) (sym (rest-still P fuel s rest)) within
     by_step (inr less) = less.within
 
@@ -93,7 +93,7 @@ steps-steady P fuel (suc n) s h =
 
 -- the task has come to rest
 pub record HasSettled (P : ProgramParts) (fuel : ℕ) (r : Started) : Type 0 where
-  pub rest : IsAtRest (wish P fuel r)
+  pub rest : EndsSegment (wish P fuel r)
   pub steady : IsSteady fuel r
 
 segment-steady : (P : ProgramParts) (fuel : ℕ) (s : At) → IsSteady fuel s.task → IsSteady fuel (segment P fuel s).task
@@ -146,8 +146,8 @@ settle-resting P fuel (p ∷ left) F h =
     by_test true e later = later e
     by_test false e later = h
 
-pub opened-resting : (P : ProgramParts) (fuel : ℕ) → IsResting P fuel (opened P fuel)
-unfolding opened
+pub opened-resting : (P : ProgramParts) (fuel : ℕ) → IsResting P fuel (initial_flat P fuel)
+unfolding initial_flat
 opened-resting P fuel =
     settle-resting P fuel (drop 0 P.phases) (initial P) (record { past = All-nil (λ (r : Started). has_finished r ≡ true); tasks = All-nil (HasSettled P fuel) })
 
@@ -162,7 +162,7 @@ acquire-advances (need.TheVariants.Release lock) k = absurd k
 acquire-advances (need.TheVariants.End by) k = absurd k
 
 -- a task that acquires the lock that it wants has had fuel for it
-acquired-steady : (P : ProgramParts) (fuel : ℕ) (r : Started) → IsWaiting P fuel r → IsWithin fuel r → IsSteady fuel (in_state r (advanced P r.state))
+acquired-steady : (P : ProgramParts) (fuel : ℕ) (r : Started) → WantsLock P fuel r → IsWithin fuel r → IsSteady fuel (in_state r (advanced P r.state))
 acquired-steady P fuel r waits within =
     let n : Need = need_of P r.decl fuel r.state in
     let wanted : wish P fuel r ≡ Some n = ap (wish_unless P fuel r) waits.open' in
@@ -172,7 +172,7 @@ acquired-steady P fuel r waits within =
     let unspent = more.unspent in
     record { within = λ e. omega arith; spent = open-spent fuel (advanced P r.state) (more.kept ∙ waits.open') }
 
-with_task-resting : (P : ProgramParts) (fuel : ℕ) (F : Flat) (i : ℕ) (r : Started) → IsResting P fuel F → slice_get F.tasks i ≡ Some r → IsWaiting P fuel r
+with_task-resting : (P : ProgramParts) (fuel : ℕ) (F : Flat) (i : ℕ) (r : Started) → IsResting P fuel F → slice_get F.tasks i ≡ Some r → WantsLock P fuel r
     → IsResting P fuel (with_task F i (go_on P fuel r F.memory))
 with_task-resting P fuel F i r h there waits =
     let is : get_or F.tasks i r ≡ r = get_or_from_slice_get F.tasks i r r there in
@@ -180,13 +180,13 @@ with_task-resting P fuel F i r h there waits =
     let after = segment-settled P fuel (record { task = in_state r (advanced P r.state); memory = F.memory }) (acquired-steady P fuel r waits before.steady.within) in
     record { past = h.past; tasks = All-set (HasSettled P fuel) F.tasks i (go_on P fuel r F.memory).task after h.tasks }
 
-resumed-resting : (P : ProgramParts) (fuel : ℕ) (F : Flat) (i : ℕ) → IsResting P fuel F → ((d : Started) → IsWaiting P fuel (get_or F.tasks i d)) → IsResting P fuel (resumed P fuel F i (slice_get F.tasks i))
+resumed-resting : (P : ProgramParts) (fuel : ℕ) (F : Flat) (i : ℕ) → IsResting P fuel F → ((d : Started) → WantsLock P fuel (get_or F.tasks i d)) → IsResting P fuel (resumed P fuel F i (slice_get F.tasks i))
 resumed-resting P fuel F i h waits = by_place (slice_get F.tasks i) refl
   where
     by_place : (o : Option Started) → slice_get F.tasks i ≡ o → IsResting P fuel (resumed P fuel F i o)
     by_place None e = h
     by_place (Some r) e =
-        with_task-resting P fuel F i r h e (subst (IsWaiting P fuel) (get_or_from_slice_get F.tasks i r r e) (waits r))
+        with_task-resting P fuel F i r h e (subst (WantsLock P fuel) (get_or_from_slice_get F.tasks i r r e) (waits r))
 
 pub granted-resting : (P : ProgramParts) (fuel : ℕ) (g : Grant) (F G : Flat) → IsResting P fuel F → granted P fuel g F ≡ Some G → IsResting P fuel G
 unfolding granted
@@ -210,7 +210,7 @@ grants-resting P fuel o (g ∷ gs) h G e = grants-resting P fuel (granted_if P f
 
 pub run-resting : (P : ProgramParts) (fuel : ℕ) (gs : List Grant) (F : Flat) → so_far P fuel gs ≡ Some F → IsResting P fuel F
 run-resting P fuel gs =
-    grants-resting P fuel (Some (opened P fuel)) gs (λ G e. subst (IsResting P fuel) (same_Some (opened P fuel) G e) (opened-resting P fuel))
+    grants-resting P fuel (Some (initial_flat P fuel)) gs (λ G e. subst (IsResting P fuel) (same_Some (initial_flat P fuel) G e) (opened-resting P fuel))
 
 pub run-past : (P : ProgramParts) (fuel : ℕ) (gs : List Grant) (F : Flat) → so_far P fuel gs ≡ Some F → All (λ (r : Started). has_finished r ≡ true) F.past
 run-past P fuel gs F e = (run-resting P fuel gs F e).past
@@ -229,7 +229,7 @@ finished-spent P fuel r = by_end r.state.end
 settled-spent : (P : ProgramParts) (fuel : ℕ) (r : Started) → HasSettled P fuel r → HasUsedUp fuel (task_end P fuel r)
 settled-spent P fuel r h = by_end r.state.end refl h.rest
   where
-    by_need : (n : Need) → IsAtRest (Some n) → shown_by n ≡ shown.TheVariants.Fuel → r.state.retired ≡ fuel
+    by_need : (n : Need) → EndsSegment (Some n) → wait_shown n ≡ shown.TheVariants.Fuel → r.state.retired ≡ fuel
     by_need (need.TheVariants.Acquire lock) rest e = absurd (cc)
     by_need need.TheVariants.Local rest e = absurd rest
     by_need (need.TheVariants.Load word) rest e = absurd rest
@@ -237,7 +237,7 @@ settled-spent P fuel r h = by_end r.state.end refl h.rest
     by_need (need.TheVariants.Release lock) rest e = absurd rest
     by_need (need.TheVariants.End by) rest e = absurd rest
 
-    by_end : (o : Option End) → r.state.end ≡ o → IsAtRest (wish_unless P fuel r o) → shown_of P fuel r o ≡ shown.TheVariants.Fuel → r.state.retired ≡ fuel
+    by_end : (o : Option End) → r.state.end ≡ o → EndsSegment (wish_unless P fuel r o) → shown_of P fuel r o ≡ shown.TheVariants.Fuel → r.state.retired ≡ fuel
     by_end (Some cause.TheVariants.Finished) is rest e = absurd (cc)
     by_end (Some cause.TheVariants.Fuel) is rest e = h.steady.spent is
     by_end (Some (cause.TheVariants.Trap kind pc value)) is rest e = absurd (cc)
@@ -253,8 +253,8 @@ all-spent P fuel F h =
 
 -- ---- the ending of a run
 
-ended-by : (P : ProgramParts) (fuel : ℕ) (gs : List Grant) (F : Flat) → so_far P fuel gs ≡ Some F → is_whole P fuel F ≡ true → IsEnded P fuel gs (end_of P fuel F)
-unfolding end_of
+ended-by : (P : ProgramParts) (fuel : ℕ) (gs : List Grant) (F : Flat) → so_far P fuel gs ≡ Some F → grants_are_whole P fuel F ≡ true → IsEnded P fuel gs (flat_end_of P fuel F)
+unfolding flat_end_of
 ended-by P fuel gs F e whole = record { last = F; leads = e; whole = whole; tasks = refl; memory = refl; outcome = refl; loads = refl }
 
 -- the end of a whole run is that of its last state
@@ -265,13 +265,13 @@ run-ended P fuel gs e ends = by_run (so_far P fuel gs) refl ends
     by_run : (o : Option Flat) → so_far P fuel gs ≡ o → whole_only P fuel o ≡ Some e → IsEnded P fuel gs e
     by_run None is k = absurd (none-some e k)
     by_run (Some F) is k =
-        let parts = cond_some (is_whole P fuel F) (end_of P fuel F) e k in
+        let parts = cond_some (grants_are_whole P fuel F) (flat_end_of P fuel F) e k in
         subst (IsEnded P fuel gs) parts.1 (ended-by P fuel gs F is parts.0)
 
-pub whole-ends : (P : ProgramParts) (fuel : ℕ) (gs : List Grant) (F : Flat) → so_far P fuel gs ≡ Some F → is_whole P fuel F ≡ true → flat_end P fuel gs ≡ Some (end_of P fuel F)
+pub whole-ends : (P : ProgramParts) (fuel : ℕ) (gs : List Grant) (F : Flat) → so_far P fuel gs ≡ Some F → grants_are_whole P fuel F ≡ true → flat_end P fuel gs ≡ Some (flat_end_of P fuel F)
 unfolding flat_end
 whole-ends P fuel gs F is whole =
-    let choice : Bool → Option FlatEnd = λ b. if b then Some (end_of P fuel F) else None in
+    let choice : Bool → Option FlatEnd = λ b. if b then Some (flat_end_of P fuel F) else None in
     ap (whole_only P fuel) is ∙ ap choice whole
 
 pub run-spent : (P : ProgramParts) (fuel : ℕ) (gs : List Grant) (e : FlatEnd) → flat_end P fuel gs ≡ Some e → All (HasUsedUp fuel) e.ending.tasks
@@ -352,8 +352,8 @@ finished-ended r = by_end r.state.end
     by_end (Some by) e = refl
     by_end None e = absurd (false≢true e)
 
-end-outcome : (P : ProgramParts) (fuel : ℕ) (F : Flat) → (end_of P fuel F).ending.outcome ≡ outcome_of (map (task_end P fuel) (F.past ++ F.tasks))
-unfolding end_of
+end-outcome : (P : ProgramParts) (fuel : ℕ) (F : Flat) → (flat_end_of P fuel F).ending.outcome ≡ outcome_of (map (task_end P fuel) (F.past ++ F.tasks))
+unfolding flat_end_of
 end-outcome P fuel F = refl
 
 no-waiter : (P : ProgramParts) (fuel : ℕ) (F : Flat) → IsResting P fuel F → list_any (λ (r : Started). is_none r.state.end) F.tasks ≡ false
@@ -371,7 +371,7 @@ no-end : (o : Option End) → is_none o ≡ true → o ≡ None
 no-end None e = refl
 no-end (Some by) e = absurd (false≢true e)
 
-pub run-waiter : (P : ProgramParts) (fuel : ℕ) (gs : List Grant) (F : Flat) → so_far P fuel gs ≡ Some F → (end_of P fuel F).ending.outcome ≡ outcome.TheVariants.Stuck
+pub run-waiter : (P : ProgramParts) (fuel : ℕ) (gs : List Grant) (F : Flat) → so_far P fuel gs ≡ Some F → (flat_end_of P fuel F).ending.outcome ≡ outcome.TheVariants.Stuck
     → Any (λ (r : Started). r.state.end ≡ None) F.tasks
 run-waiter P fuel gs F leads is =
     let goes_on : Started → Bool = λ r. is_none r.state.end in
@@ -402,16 +402,16 @@ taken true g e = refl
 taken false g e = absurd (none-some g (sym e))
 
 held-up : (P : ProgramParts) (fuel : ℕ) (tasks : List Started) (i : ℕ) (r : Started) → first_grant P fuel tasks tasks ≡ None → slice_get tasks i ≡ Some r → r.state.end ≡ None
-    → IsAtRest (wish P fuel r) → IsHeldUp P fuel tasks i r
-held-up P fuel tasks i r none there opened rest =
-    by_need (need_of P r.decl fuel r.state) refl (subst IsAtRest wanted rest)
+    → EndsSegment (wish P fuel r) → IsHeldUp P fuel tasks i r
+held-up P fuel tasks i r none there initial_flat rest =
+    by_need (need_of P r.decl fuel r.state) refl (subst EndsSegment wanted rest)
   where
     wanted : wish P fuel r ≡ Some (need_of P r.decl fuel r.state)
-    wanted = ap (wish_unless P fuel r) opened
+    wanted = ap (wish_unless P fuel r) initial_flat
 
     by_lock : (lock : LockId) → need_of P r.decl fuel r.state ≡ need.TheVariants.Acquire lock → IsHeldUp P fuel tasks i r
     by_lock lock is =
-        let held : Started → Bool = λ t. holds t.state.held lock.0 in
+        let held : Started → Bool = λ t. is_held t.state.held lock.0 in
         let wants : wish P fuel r ≡ Some (need.TheVariants.Acquire lock) = wanted ∙ ap Some is in
         let no_grant : grant_by tasks r (Some (need.TheVariants.Acquire lock)) ≡ None = ap (grant_by tasks r) (sym wants) ∙ no-grant_at P fuel tasks tasks i r none there in
         let one = Any-from_list_any held tasks (taken (list_any held tasks) (record { phase = r.phase; core = r.decl.core; lock = lock }) no_grant) in
@@ -420,7 +420,7 @@ held-up P fuel tasks i r none there opened rest =
         record {
           lock = lock;
           wants = is;
-          shows = ap (shown_of P fuel r) opened ∙ ap shown_by is;
+          shows = ap (shown_of P fuel r) initial_flat ∙ ap wait_shown is;
           place = one.0;
           apart = λ (same : one.0 ≡ i).
               let itself : one.1 ≡ r = same_Some one.1 r (sym at' ∙ ap (slice_get tasks) same ∙ there) in
@@ -430,7 +430,7 @@ held-up P fuel tasks i r none there opened rest =
           holding = one.4;
         }
 
-    by_need : (n : Need) → need_of P r.decl fuel r.state ≡ n → IsAtRest (Some n) → IsHeldUp P fuel tasks i r
+    by_need : (n : Need) → need_of P r.decl fuel r.state ≡ n → EndsSegment (Some n) → IsHeldUp P fuel tasks i r
     by_need (need.TheVariants.Acquire lock) is k = by_lock lock is
     by_need need.TheVariants.Local is k = absurd k
     by_need (need.TheVariants.Load word) is k = absurd k
@@ -442,13 +442,13 @@ no-next : (o : Option Grant) → is_none o ≡ true → o ≡ None
 no-next None e = refl
 no-next (Some g) e = absurd (false≢true e)
 
-whole-none : (P : ProgramParts) (fuel : ℕ) (F : Flat) → is_whole P fuel F ≡ true → first_grant P fuel F.tasks F.tasks ≡ None
+whole-none : (P : ProgramParts) (fuel : ℕ) (F : Flat) → grants_are_whole P fuel F ≡ true → first_grant P fuel F.tasks F.tasks ≡ None
 unfolding next_grant
 whole-none P fuel F whole = no-next (first_grant P fuel F.tasks F.tasks) whole
 
-pub run-held_up : (P : ProgramParts) (fuel : ℕ) (gs : List Grant) (F : Flat) → so_far P fuel gs ≡ Some F → is_whole P fuel F ≡ true
+pub run-held_up : (P : ProgramParts) (fuel : ℕ) (gs : List Grant) (F : Flat) → so_far P fuel gs ≡ Some F → grants_are_whole P fuel F ≡ true
     → (i : ℕ) (r : Started) → slice_get F.tasks i ≡ Some r → r.state.end ≡ None → IsHeldUp P fuel F.tasks i r
-run-held_up P fuel gs F leads whole i r there opened =
+run-held_up P fuel gs F leads whole i r there initial_flat =
     let is : get_or F.tasks i r ≡ r = get_or_from_slice_get F.tasks i r r there in
     let calm : HasSettled P fuel r = subst (HasSettled P fuel) is ((run-resting P fuel gs F leads).tasks i r (slice_get_within F.tasks i r there)) in
-    held-up P fuel F.tasks i r (whole-none P fuel F whole) there opened calm.rest
+    held-up P fuel F.tasks i r (whole-none P fuel F whole) there initial_flat calm.rest

@@ -11,12 +11,12 @@ use Rattle.rv_core.specs.declared.task.End.{End}
 use Rattle.rv_core.specs.declared.need.Need.{Need}
 use Rattle.rv_core.specs.declared.need.Need as need
 use Rattle.rv_core.specs.Need.{need_of}
-use Rattle.flat_machine.specs.Step.{Started, wish_unless, IsAcquire, IsWaiting}
+use Rattle.flat_machine.specs.Step.{Started, wish_unless, IsAcquire, WantsLock}
 use Rattle.flat_machine.specs.Phases.{Flat}
 use Rattle.flat_machine.specs.Grants.{grant_by, grant_for, is_grant, can_take, granted_at, granted, grants_from, first_or, first_grant, next_grant}
 
 -- a task that can take a grant waits for its lock
-pub can_take-waits : (P : ProgramParts) (fuel : ℕ) (tasks : List Started) (g : Grant) (r : Started) → can_take P fuel tasks g r ≡ true → IsWaiting P fuel r
+pub can_take-waits : (P : ProgramParts) (fuel : ℕ) (tasks : List Started) (g : Grant) (r : Started) → can_take P fuel tasks g r ≡ true → WantsLock P fuel r
 can_take-waits P fuel tasks g r e = by_end r.state.end refl e
   where
     by_need : (n : Need) → need_of P r.decl fuel r.state ≡ n → is_grant g (grant_by tasks r (Some n)) ≡ true → IsAcquire (need_of P r.decl fuel r.state)
@@ -27,11 +27,11 @@ can_take-waits P fuel tasks g r e = by_end r.state.end refl e
     by_need (need.TheVariants.Release lock) is e = absurd (cc)
     by_need (need.TheVariants.End cause) is e = absurd (cc)
 
-    by_end : (o : Option End) → r.state.end ≡ o → is_grant g (grant_by tasks r (wish_unless P fuel r o)) ≡ true → IsWaiting P fuel r
+    by_end : (o : Option End) → r.state.end ≡ o → is_grant g (grant_by tasks r (wish_unless P fuel r o)) ≡ true → WantsLock P fuel r
     by_end None is e = record { open' = is; wants = by_need (need_of P r.decl fuel r.state) refl e }
     by_end (Some by) is e = absurd (cc)
 
-pub place-waits : (P : ProgramParts) (fuel : ℕ) (tasks : List Started) (g : Grant) (i : ℕ) → position (can_take P fuel tasks g) tasks ≡ Some i → (d : Started) → IsWaiting P fuel (get_or tasks i d)
+pub place-waits : (P : ProgramParts) (fuel : ℕ) (tasks : List Started) (g : Grant) (i : ℕ) → position (can_take P fuel tasks g) tasks ≡ Some i → (d : Started) → WantsLock P fuel (get_or tasks i d)
 place-waits P fuel tasks g i e d = can_take-waits P fuel tasks g (get_or tasks i d) (position-Some (can_take P fuel tasks g) tasks i d e).1
 
 -- ---- lists of grants

@@ -10,8 +10,8 @@ use Rattle.region_table.specs.Program.{ProgramParts}
 use Rattle.region_table.specs.declared.declared.TaskDecl.{TaskDecl}
 use Rattle.region_table.specs.declared.declared.Phase.{Phase}
 use Rattle.rv_core.specs.Step.{advanced}
-use Rattle.flat_machine.specs.Step.{Started, At, fresh, in_state, flat_step, flat_steps, segment, IsWaiting}
-use Rattle.flat_machine.specs.Phases.{Flat, Ran, run_all, begin, settled, initial, opened}
+use Rattle.flat_machine.specs.Step.{Started, At, fresh, in_state, flat_step, flat_steps, segment, WantsLock}
+use Rattle.flat_machine.specs.Phases.{Flat, Ran, run_all, begin, settled, initial, initial_flat}
 use Rattle.flat_machine.specs.Grants.{can_take, go_on, with_task, resumed, granted_at, granted, granted_if, grants_from, so_far}
 use Rattle.flat_machine.proofs.GrantLemmas.{can_take-waits}
 use Rattle.flat_machine.proofs.SettleLaws.{BeginKeeps, settled-kept}
@@ -22,8 +22,8 @@ pub record RunKeeps (P : ProgramParts) (fuel : ℕ) (K : Flat → Type 0) : Type
   pub begins : BeginKeeps P fuel K
   pub resumes : (F : Flat) (g : Grant) (i : ℕ) (r : Started) → slice_get F.tasks i ≡ Some r → can_take P fuel F.tasks g r ≡ true → K F → K (with_task F i (go_on P fuel r F.memory))
 
-pub opened-kept : (P : ProgramParts) (fuel : ℕ) (K : Flat → Type 0) → RunKeeps P fuel K → K (opened P fuel)
-unfolding opened
+pub opened-kept : (P : ProgramParts) (fuel : ℕ) (K : Flat → Type 0) → RunKeeps P fuel K → K (initial_flat P fuel)
+unfolding initial_flat
 opened-kept P fuel K h = settled-kept P fuel K (initial P) h.begins h.starts
 
 pub granted-kept : (P : ProgramParts) (fuel : ℕ) (K : Flat → Type 0) → RunKeeps P fuel K → (g : Grant) (F G : Flat) → K F → granted P fuel g F ≡ Some G → K G
@@ -54,7 +54,7 @@ grants-kept P fuel K h o (g ∷ gs) k G e = grants-kept P fuel K h (granted_if P
 
 pub so_far-kept : (P : ProgramParts) (fuel : ℕ) (K : Flat → Type 0) → RunKeeps P fuel K → (gs : List Grant) (F : Flat) → so_far P fuel gs ≡ Some F → K F
 so_far-kept P fuel K h gs F e =
-    grants-kept P fuel K h (Some (opened P fuel)) gs (λ G is. subst K (same_Some (opened P fuel) G is) (opened-kept P fuel K h)) F e
+    grants-kept P fuel K h (Some (initial_flat P fuel)) gs (λ G is. subst K (same_Some (initial_flat P fuel) G is) (opened-kept P fuel K h)) F e
 
 -- ---- what each step keeps of a task and of the memory
 
@@ -64,7 +64,7 @@ pub record StepsKeep (P : ProgramParts) (fuel : ℕ) (Q : Started → Type 0) (M
   pub memory : M P.memory
   pub starts : (k : ℕ) (p : Phase) (d : TaskDecl) → slice_get P.phases k ≡ Some p → IsAmong p.tasks d → Q (fresh k d)
   pub steps : (s : At) → Q s.task → M s.memory → Q (flat_step P fuel s).task × M (flat_step P fuel s).memory
-  pub acquires : (r : Started) → IsWaiting P fuel r → Q r → Q (in_state r (advanced P r.state))
+  pub acquires : (r : Started) → WantsLock P fuel r → Q r → Q (in_state r (advanced P r.state))
 
 pub record AllHave (Q : Started → Type 0) (M : List ℕ → Type 0) (F : Flat) : Type 0 where
   pub past : All Q F.past

@@ -11,8 +11,8 @@ use Rattle.region_table.specs.declared.declared.Phase.{Phase}
 use Rattle.rv_core.specs.declared.need.Need.{Need}
 use Rattle.rv_core.specs.Need.{need_of}
 use Rattle.rv_core.specs.Step.{advanced}
-use Rattle.flat_machine.specs.Step.{Started, At, fresh, wish, wish_unless, in_state, segment, room, IsWithin, IsWaiting}
-use Rattle.flat_machine.specs.Phases.{Flat, run_all, begin, settled, opened, work}
+use Rattle.flat_machine.specs.Step.{Started, At, fresh, wish, wish_unless, in_state, segment, room, IsWithin, WantsLock}
+use Rattle.flat_machine.specs.Phases.{Flat, run_all, begin, settled, initial_flat, work}
 use Rattle.flat_machine.specs.Grants.{can_take, go_on, with_task, resumed, granted_at, granted, next_grant, IsLeastFrom, IsLeast}
 use Rattle.flat_machine.proofs.Rest.{more-less, advanced-more}
 use Rattle.flat_machine.proofs.GrantLemmas.{can_take-waits, next-legal}
@@ -50,7 +50,7 @@ settled-work P fuel F =
 
 -- ---- a grant
 
-go_on-room : (P : ProgramParts) (fuel : ℕ) (r : Started) (m : List ℕ) → IsWaiting P fuel r → IsWithin fuel r → room fuel (go_on P fuel r m).task < room fuel r
+go_on-room : (P : ProgramParts) (fuel : ℕ) (r : Started) (m : List ℕ) → WantsLock P fuel r → IsWithin fuel r → room fuel (go_on P fuel r m).task < room fuel r
 go_on-room P fuel r m waits within =
     let n : Need = need_of P r.decl fuel r.state in
     let wanted : wish P fuel r ≡ Some n = ap (wish_unless P fuel r) waits.open' in
@@ -59,7 +59,7 @@ go_on-room P fuel r m waits within =
     let after = segment-room P fuel (record { task = in_state r (advanced P r.state); memory = m }) less.within in
     omega (arith, after.room)
 
-resumed-work : (P : ProgramParts) (fuel : ℕ) (F : Flat) (i : ℕ) (r : Started) → slice_get F.tasks i ≡ Some r → IsWaiting P fuel r → IsWithin fuel r
+resumed-work : (P : ProgramParts) (fuel : ℕ) (F : Flat) (i : ℕ) (r : Started) → slice_get F.tasks i ≡ Some r → WantsLock P fuel r → IsWithin fuel r
     → work P fuel (with_task F i (go_on P fuel r F.memory)) < work P fuel F
 resumed-work P fuel F i r there waits within =
     let inside = slice_get_within F.tasks i r there in
@@ -125,5 +125,5 @@ least-from P fuel (suc n) F h few = by_next (next_grant P fuel F) refl (least-fr
 -- each program has a least list
 pub least-exists : (P : ProgramParts) (fuel : ℕ) → (gs : List Grant) × IsLeast P fuel gs
 least-exists P fuel =
-    let found = least-from P fuel (suc (work P fuel (opened P fuel))) (opened P fuel) (opened-resting P fuel) (omega arith) in
+    let found = least-from P fuel (suc (work P fuel (initial_flat P fuel))) (initial_flat P fuel) (opened-resting P fuel) (omega arith) in
     (found.grants, found.least)

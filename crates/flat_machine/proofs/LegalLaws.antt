@@ -18,14 +18,14 @@ use Rattle.rv_core.specs.declared.task.End.{End}
 use Rattle.rv_core.specs.declared.task.End as cause
 use Rattle.rv_core.specs.declared.need.Need.{Need}
 use Rattle.rv_core.specs.declared.need.Need as need
-use Rattle.rv_core.specs.Access.{holds}
+use Rattle.rv_core.specs.Access.{is_held}
 use Rattle.rv_core.specs.Kinds.{IsAdvance}
 use Rattle.rv_core.specs.Need.{need_of}
 use Rattle.rv_core.specs.Step.{advanced, loaded_of}
 use Rattle.rv_core.specs.Task.{stopped}
 use Rattle.rv_core.proofs.Completions.{finished-holds_none}
 use Rattle.rv_core.proofs.HeldLemmas.{holds-none}
-use Rattle.flat_machine.specs.Step.{Started, At, fresh, wish, wish_unless, step_by, flat_step, IsWaiting}
+use Rattle.flat_machine.specs.Step.{Started, At, fresh, wish, wish_unless, step_by, flat_step, WantsLock}
 use Rattle.flat_machine.specs.Phases.{Flat, finished_by, has_finished, settled}
 use Rattle.flat_machine.specs.Grants.{is_free, grant_of, grant_by, is_grant, can_take, resumed, granted_at, granted, so_far}
 use Rattle.flat_machine.specs.Laws.{HasTasks, IsLegal}
@@ -67,7 +67,7 @@ step-free P fuel s free = by_wish (wish P fuel s.task) refl
     by_wish (Some (need.TheVariants.End by)) e =
         stopped-free P s.task.decl fuel s.task.state by (wish-need P fuel s.task (need.TheVariants.End by) e)
 
-acquired-free : (P : ProgramParts) (fuel : ℕ) (r : Started) → IsWaiting P fuel r → EndsFree (advanced P r.state)
+acquired-free : (P : ProgramParts) (fuel : ℕ) (r : Started) → WantsLock P fuel r → EndsFree (advanced P r.state)
 acquired-free P fuel r waits =
     let n : Need = need_of P r.decl fuel r.state in
     let wanted : wish P fuel r ≡ Some n = ap (wish_unless P fuel r) waits.open' in
@@ -83,7 +83,7 @@ finished-end r e = by_end r.state.end e
     by_end (Some (cause.TheVariants.Trap kind pc value)) e = absurd (cc)
 
 -- the tasks of the phases before hold no lock
-past-free : (P : ProgramParts) (fuel lock : ℕ) (gs : List Grant) (F : Flat) → so_far P fuel gs ≡ Some F → All (λ (r : Started). holds r.state.held lock ≡ false) F.past
+past-free : (P : ProgramParts) (fuel lock : ℕ) (gs : List Grant) (F : Flat) → so_far P fuel gs ≡ Some F → All (λ (r : Started). is_held r.state.held lock ≡ false) F.past
 past-free P fuel lock gs F e k d within =
     let r : Started = get_or F.past k d in
     let kept = run-kept P fuel (λ (x : Started). EndsFree x.state) (λ m. Unit {0}) (record {
@@ -93,7 +93,7 @@ past-free P fuel lock gs F e k d within =
       acquires = λ x waits free. acquired-free P fuel x waits;
     }) gs F e in
     let none : r.state.held ≡ 0 = kept.past k d within (finished-end r (run-past P fuel gs F e k d within)) in
-    ap (λ h. holds h lock) none ∙ holds-none lock
+    ap (λ h. is_held h lock) none ∙ holds-none lock
 
 -- ---- which task takes a grant
 
@@ -166,7 +166,7 @@ phase-here P F r h among =
 legal : (P : ProgramParts) (fuel : ℕ) (gs : List Grant) (F : Flat) (g : Grant) → so_far P fuel gs ≡ Some F → (r : Started) → IsAmong F.tasks r → can_take P fuel F.tasks g r ≡ true → IsLegal P fuel F g
 legal P fuel gs F g e r among passes =
     let h = takes P fuel F.tasks g r passes in
-    let holds_it : Started → Bool = λ x. holds x.state.held g.lock.0 in
+    let holds_it : Started → Bool = λ x. is_held x.state.held g.lock.0 in
     let here = phase-here P F r (reached-tasks P fuel gs F e) among in
     let phase = h.phase in
     record {
@@ -195,7 +195,7 @@ unfolding granted
 legal-granted P fuel gs F g e h = by_place (position (can_take P fuel F.tasks g) F.tasks) refl
   where
     holds_it : Started → Bool
-    holds_it x = holds x.state.held g.lock.0
+    holds_it x = is_held x.state.held g.lock.0
 
     taker : Takes P fuel F.tasks g h.task
     taker =

@@ -8,7 +8,7 @@ use Rattle.region_table.specs.Program.{ProgramParts, tasks_of}
 use Rattle.region_table.specs.declared.declared.TaskDecl.{TaskDecl}
 use Rattle.region_table.specs.declared.declared.Phase.{Phase}
 use Rattle.flat_machine.specs.Step.{Started, At, fresh, segment, room, IsWithin}
-use Rattle.flat_machine.specs.Phases.{Flat, Ran, ran_first, run_all, begin, has_finished, next_phase, settle, settled, work, IsSound}
+use Rattle.flat_machine.specs.Phases.{Flat, Ran, ran_first, run_all, begin, has_finished, next_phase, settle, settled, work, IsSoundFlat}
 
 -- these tasks, and then those that ran
 abbrev pub with_front : List Started → Ran → Ran
@@ -98,7 +98,7 @@ pub begin-past : (P : ProgramParts) (fuel : ℕ) (phase : Phase) (F : Flat) → 
 unfolding begin
 begin-past P fuel phase F = refl
 
-pub begin-sound : (P : ProgramParts) (fuel : ℕ) (phase : Phase) (F G : Flat) → HasBegun P fuel phase F G → IsSound P fuel F → IsSound P fuel G
+pub begin-sound : (P : ProgramParts) (fuel : ℕ) (phase : Phase) (F G : Flat) → HasBegun P fuel phase F G → IsSoundFlat P fuel F → IsSoundFlat P fuel G
 begin-sound P fuel phase F G h sound =
     let begun : G.begun ≡ F.begun + 1 = ap (λ (x : Flat). x.begun) h.value ∙ begin-begun P fuel phase F in
     let past : length G.past ≡ length F.past + length F.tasks =

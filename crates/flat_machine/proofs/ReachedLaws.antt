@@ -17,7 +17,7 @@ use Rattle.rv_core.specs.declared.need.Need.{Need}
 use Rattle.rv_core.specs.declared.need.Need as need
 use Rattle.rv_core.specs.Step.{advanced}
 use Rattle.flat_machine.specs.Step.{Started, At, fresh, wish, in_state, segment}
-use Rattle.flat_machine.specs.Phases.{Flat, all_tasks, run_all, begin, settled, opened}
+use Rattle.flat_machine.specs.Phases.{Flat, all_tasks, run_all, begin, settled, initial_flat}
 use Rattle.flat_machine.specs.Grants.{is_free, grant_of, grant_by, is_grant, can_take, go_on, with_task, resumed, granted_at, granted, granted_if, grants_from, so_far}
 use Rattle.flat_machine.specs.Laws.{IsLater, StandsLater, AreLater, HasTasks, HasFront}
 use Rattle.flat_machine.proofs.GrantLemmas.{same-grant, grants-none}
@@ -277,7 +277,7 @@ grants-later P fuel F (g ∷ gs) G e = by_grant (granted P fuel g F) refl e (λ 
 
 -- each front of a list with a value has a value, and the tasks stand at their places later
 pub front-has : (P : ProgramParts) (fuel : ℕ) (gs hs : List Grant) (F : Flat) → so_far P fuel (gs ++ hs) ≡ Some F → HasFront P fuel gs hs F
-front-has P fuel gs hs F e = by_front (so_far P fuel gs) refl (sym (grants-append P fuel (Some (opened P fuel)) gs hs) ∙ e)
+front-has P fuel gs hs F e = by_front (so_far P fuel gs) refl (sym (grants-append P fuel (Some (initial_flat P fuel)) gs hs) ∙ e)
   where
     by_front : (o : Option Flat) → so_far P fuel gs ≡ o → grants_from P fuel o hs ≡ Some F → HasFront P fuel gs hs F
     by_front None is e = absurd (none-some F (sym (grants-none P fuel hs) ∙ e))

@@ -10,11 +10,11 @@ use Rattle.rv_core.specs.declared.task.End as cause
 use Rattle.rv_core.specs.declared.need.Need.{Need}
 use Rattle.rv_core.specs.declared.need.Need as need
 use Rattle.rv_core.specs.Kinds.{IsLoad, IsAdvance}
-use Rattle.rv_core.specs.Step.{after, after_load, after_call, with_locks, advanced, loaded_of, instr_at}
+use Rattle.rv_core.specs.Step.{after_fetch, after_load, after_call, with_locks, advanced, loaded_of, instr_at}
 use Rattle.rv_core.specs.Task.{stopped}
 use Rattle.rv_core.proofs.Needs.{fuelled, advance-tells, load-tells}
-use Rattle.flat_machine.specs.Step.{Started, At, wish, wish_unless, step_by, flat_step, flat_steps, segment, room_by, room, IsWithin, IsStill}
-use Rattle.flat_machine.specs.Laws.{IsAtRest}
+use Rattle.flat_machine.specs.Step.{Started, At, wish, wish_unless, step_by, flat_step, flat_steps, segment, room_by, room, IsWithin, IsUnmoved}
+use Rattle.flat_machine.specs.Laws.{EndsSegment}
 use Rattle.flat_machine.proofs.StepLemmas.{steps-still}
 use Rattle.flat_machine.proofs.Rights.{wish-need}
 
@@ -27,7 +27,7 @@ call-end t number lock = by_number (number == 1)
     by_number true = refl
     by_number false = refl
 
-after-end : (t : TaskState) (i : Option Instr) → (after t i).end ≡ t.end
+after-end : (t : TaskState) (i : Option Instr) → (after_fetch t i).end ≡ t.end
 after-end t None = refl
 after-end t (Some instr.TheVariants.Ecall) = call-end t (slice_index t.regs 17) (slice_index t.regs 10)
 after-end t (Some (instr.TheVariants.Lui rd imm)) = refl
@@ -104,7 +104,7 @@ open-room fuel retired (Some by) e = absurd (none-some by (sym e))
 pub more-less : (fuel : ℕ) (t u : TaskState) → t.end ≡ None → t.retired ≤ fuel → IsOneMore fuel t u → IsLess fuel t u
 more-less fuel t u opened within h =
     let before = open-room fuel t.retired t.end opened in
-    let after = open-room fuel u.retired u.end (h.kept ∙ opened) in
+    let after_fetch = open-room fuel u.retired u.end (h.kept ∙ opened) in
     let apart = h.unspent in
     let one = h.retired in
     record { room = omega arith; within = λ e. omega arith }
@@ -122,14 +122,14 @@ stopped-some (cause.TheVariants.Trap kind pc value) t e = none-some _ (sym e)
 stopped-less : (fuel : ℕ) (by : End) (t : TaskState) → t.end ≡ None → t.retired ≤ fuel → IsLess fuel t (stopped by t)
 stopped-less fuel by t opened within =
     let before = open-room fuel t.retired t.end opened in
-    let after = stopped-room fuel by t in
+    let after_fetch = stopped-room fuel by t in
     record { room = omega arith; within = λ e. absurd (stopped-some by t e) }
 
 -- a task is at rest, or goes on with less room
-pub step-less : (P : ProgramParts) (fuel : ℕ) (s : At) → IsWithin fuel s.task → IsAtRest (wish P fuel s.task) ⊎ IsLess fuel s.task.state (flat_step P fuel s).task.state
+pub step-less : (P : ProgramParts) (fuel : ℕ) (s : At) → IsWithin fuel s.task → EndsSegment (wish P fuel s.task) ⊎ IsLess fuel s.task.state (flat_step P fuel s).task.state
 step-less P fuel s within = by_wish (wish P fuel s.task) refl
   where
-    by_wish : (o : Option Need) → wish P fuel s.task ≡ o → IsAtRest o ⊎ IsLess fuel s.task.state (step_by P s o).task.state
+    by_wish : (o : Option Need) → wish P fuel s.task ≡ o → EndsSegment o ⊎ IsLess fuel s.task.state (step_by P s o).task.state
     by_wish None e = inl tt
     by_wish (Some (need.TheVariants.Acquire lock)) e = inl tt
     by_wish (Some need.TheVariants.Local) e =
@@ -148,10 +148,10 @@ step-less P fuel s within = by_wish (wish P fuel s.task) refl
         let o = wish-open P fuel s.task (need.TheVariants.End by) e in
         inr (stopped-less fuel by s.task.state o (within o))
 
-pub rest-still : (P : ProgramParts) (fuel : ℕ) (s : At) → IsAtRest (wish P fuel s.task) → IsStill P fuel s
+pub rest-still : (P : ProgramParts) (fuel : ℕ) (s : At) → EndsSegment (wish P fuel s.task) → IsUnmoved P fuel s
 rest-still P fuel s rest = by_wish (wish P fuel s.task) rest
   where
-    by_wish : (o : Option Need) → IsAtRest o → step_by P s o ≡ s
+    by_wish : (o : Option Need) → EndsSegment o → step_by P s o ≡ s
     by_wish None rest = refl
     by_wish (Some (need.TheVariants.Acquire lock)) rest = refl
     by_wish (Some need.TheVariants.Local) rest = absurd rest
@@ -162,20 +162,20 @@ rest-still P fuel s rest = by_wish (wish P fuel s.task) rest
 
 -- ---- a segment
 
-stays-at-rest : (P : ProgramParts) (fuel n : ℕ) (s : At) → IsAtRest (wish P fuel s.task) → IsAtRest (wish P fuel (flat_steps P fuel n s).task)
-stays-at-rest P fuel n s rest = subst (λ (x : At). IsAtRest (wish P fuel x.task)) (sym (steps-still P fuel n s (rest-still P fuel s rest))) rest
+stays-at-rest : (P : ProgramParts) (fuel n : ℕ) (s : At) → EndsSegment (wish P fuel s.task) → EndsSegment (wish P fuel (flat_steps P fuel n s).task)
+stays-at-rest P fuel n s rest = subst (λ (x : At). EndsSegment (wish P fuel x.task)) (sym (steps-still P fuel n s (rest-still P fuel s rest))) rest
 
-steps-rest : (P : ProgramParts) (fuel n : ℕ) (s : At) → IsWithin fuel s.task → room fuel s.task ≤ n → IsAtRest (wish P fuel (flat_steps P fuel n s).task)
+steps-rest : (P : ProgramParts) (fuel n : ℕ) (s : At) → IsWithin fuel s.task → room fuel s.task ≤ n → EndsSegment (wish P fuel (flat_steps P fuel n s).task)
 steps-rest P fuel zero s within few = by_step (step-less P fuel s within)
   where
-    by_step : IsAtRest (wish P fuel s.task) ⊎ IsLess fuel s.task.state (flat_step P fuel s).task.state → IsAtRest (wish P fuel s.task)
+    by_step : EndsSegment (wish P fuel s.task) ⊎ IsLess fuel s.task.state (flat_step P fuel s).task.state → EndsSegment (wish P fuel s.task)
     by_step (inl rest) = rest
     by_step (inr less) = let h = less.room in absurd (omega arith)
 steps-rest P fuel (suc n) s within few =
     by_step (λ (within' : IsWithin fuel (flat_step P fuel s).task) (few' : room fuel (flat_step P fuel s).task ≤ n). steps-rest P fuel n (flat_step P fuel s) within' few') (step-less P fuel s within)
   where
-    by_step : (IsWithin fuel (flat_step P fuel s).task → room fuel (flat_step P fuel s).task ≤ n → IsAtRest (wish P fuel (flat_steps P fuel n (flat_step P fuel s)).task))
-        → IsAtRest (wish P fuel s.task) ⊎ IsLess fuel s.task.state (flat_step P fuel s).task.state → IsAtRest (wish P fuel (flat_steps P fuel n (flat_step P fuel s)).task)
+    by_step : (IsWithin fuel (flat_step P fuel s).task → room fuel (flat_step P fuel s).task ≤ n → EndsSegment (wish P fuel (flat_steps P fuel n (flat_step P fuel s)).task))
+        → EndsSegment (wish P fuel s.task) ⊎ IsLess fuel s.task.state (flat_step P fuel s).task.state → EndsSegment (wish P fuel (flat_steps P fuel n (flat_step P fuel s)).task)
     by_step later (inl rest) = stays-at-rest P fuel (suc n) s rest
     by_step later (inr less) = let h = less.room in later less.within (omega arith)
 
@@ -183,7 +183,7 @@ room-most : (fuel retired : ℕ) (o : Option End) → room_by fuel retired o ≤
 room-most fuel retired None = omega arith
 room-most fuel retired (Some by) = omega arith
 
-pub segment-rest : (P : ProgramParts) (fuel : ℕ) (s : At) → IsWithin fuel s.task → IsAtRest (wish P fuel (segment P fuel s).task)
+pub segment-rest : (P : ProgramParts) (fuel : ℕ) (s : At) → IsWithin fuel s.task → EndsSegment (wish P fuel (segment P fuel s).task)
 unfolding segment
 segment-rest P fuel s within = steps-rest P fuel (suc fuel) s within (room-most fuel s.task.state.retired s.task.state.end)
 

@@ -12,7 +12,7 @@ use Rattle.rv_core.specs.declared.task.End.{End}
 use Rattle.rv_core.specs.declared.task.End as cause
 use Rattle.rv_core.specs.declared.need.Need.{Need}
 use Rattle.rv_core.specs.declared.need.Need as need
-use Rattle.rv_core.specs.Access.{holds, under, may_load, may_store}
+use Rattle.rv_core.specs.Access.{is_held, under, may_load, may_store}
 use Rattle.rv_core.specs.Kinds.{IsLoad, Allowed}
 use Rattle.rv_core.specs.Need.{need_of}
 use Rattle.rv_core.specs.Step.{loaded_of}
@@ -24,14 +24,14 @@ use Rattle.flat_machine.specs.Laws.{HoldsLess}
 -- ---- held locks and words
 
 pub same-less : (held all : ℕ) → held ≡ all → HoldsLess held all
-same-less held all e = record { among = λ lock h. subst (λ (x : ℕ). holds x lock ≡ true) e h }
+same-less held all e = record { among = λ lock h. subst (λ (x : ℕ). is_held x lock ≡ true) e h }
 
 -- a lock that is held is given up
-pub release-less : (held lock : ℕ) → holds held lock ≡ true → HoldsLess (bit_xor held (2 ^ lock)) held
+pub release-less : (held lock : ℕ) → is_held held lock ≡ true → HoldsLess (bit_xor held (2 ^ lock)) held
 release-less held lock there =
     record {
       among = λ k h.
-          ⊎_elim (λ (e : k ≡ lock). subst (λ (x : ℕ). holds held x ≡ true) (sym e) there)
+          ⊎_elim (λ (e : k ≡ lock). subst (λ (x : ℕ). is_held held x ≡ true) (sym e) there)
           (λ (apart : k ≡ lock → ⊥). ap (nat_lt 0) (sym (and_xor_apart (2 ^ k) held (2 ^ lock) (pow_apart lock k (λ e. apart (sym e))))) ∙ h)
           (cases_eq k lock);
     }
@@ -40,14 +40,14 @@ under-less : (ss : List (List Interval)) (first held all w : ℕ) → HoldsLess 
 under-less [] first held all w less e = e
 under-less (s ∷ ss) first held all w less e =
     let rest = under-less ss (first + 1) held all w less in
-    let here : Bool = holds all first && has s w in
+    let here : Bool = is_held all first && has s w in
     let later : Bool = under ss (first + 1) all w in
     ⊎_elim
-    (λ (both : (holds held first && has s w) ≡ true).
-    let parts = and_parts (holds held first) (has s w) both in
-    or_left here later (and_from (holds all first) (has s w) (less.among first parts.0) parts.1))
+    (λ (both : (is_held held first && has s w) ≡ true).
+    let parts = and_parts (is_held held first) (has s w) both in
+    or_left here later (and_from (is_held all first) (has s w) (less.among first parts.0) parts.1))
     (λ (behind : under ss (first + 1) held w ≡ true). or_right here later (rest behind))
-    (or_cases (holds held first && has s w) (under ss (first + 1) held w) e)
+    (or_cases (is_held held first && has s w) (under ss (first + 1) held w) e)
 
 or-less : (a b c : Bool) → (b ≡ true → c ≡ true) → (a || b) ≡ true → (a || c) ≡ true
 or-less a b c f e = ⊎_elim (λ (h : a ≡ true). or_left a c h) (λ (h : b ≡ true). or_right a c (f h)) (or_cases a b e)

@@ -9,9 +9,9 @@ use Rattle.rv_core.specs.declared.need.Need.{Need}
 use Rattle.rv_core.specs.declared.need.Need as need
 use Rattle.flat_machine.specs.declared.ending.FlatEnd.{FlatEnd}
 use Rattle.flat_machine.specs.Step.{Started, wish}
-use Rattle.flat_machine.specs.Phases.{Flat, opened}
+use Rattle.flat_machine.specs.Phases.{Flat, initial_flat}
 use Rattle.flat_machine.specs.Grants.{grant_by, grant_for, is_grant, can_take, granted_at, granted, granted_if, grants_from, first_or, first_grant, next_grant, IsStoppedAt, IsLeastFrom, IsLeast}
-use Rattle.flat_machine.specs.Ending.{end_of, whole_only, flat_end}
+use Rattle.flat_machine.specs.Ending.{flat_end_of, whole_only, flat_end}
 use Rattle.flat_machine.proofs.Rights.{told}
 use Rattle.flat_machine.proofs.GrantLemmas.{grants-none}
 
@@ -54,18 +54,18 @@ least-runs P fuel (Some F) [] h = record { last = F; leads = refl; whole = h }
 least-runs P fuel (Some F) (g ∷ gs) h =
     let r = least-runs P fuel (granted P fuel g F) gs h.1 in record { last = r.last; leads = r.leads; whole = r.whole }
 
-whole-end : (P : ProgramParts) (fuel : ℕ) (F : Flat) → next_grant P fuel F ≡ None → whole_only P fuel (Some F) ≡ Some (end_of P fuel F)
+whole-end : (P : ProgramParts) (fuel : ℕ) (F : Flat) → next_grant P fuel F ≡ None → whole_only P fuel (Some F) ≡ Some (flat_end_of P fuel F)
 whole-end P fuel F none =
-    let choice : Option Grant → Option FlatEnd = λ o. cond (is_none o) (Some (end_of P fuel F)) None in ap choice none
+    let choice : Option Grant → Option FlatEnd = λ o. cond (is_none o) (Some (flat_end_of P fuel F)) None in ap choice none
 
-pub run-ends : (P : ProgramParts) (fuel : ℕ) (gs : List Grant) (r : IsRun P fuel (Some (opened P fuel)) gs) → flat_end P fuel gs ≡ Some (end_of P fuel r.last)
+pub run-ends : (P : ProgramParts) (fuel : ℕ) (gs : List Grant) (r : IsRun P fuel (Some (initial_flat P fuel)) gs) → flat_end P fuel gs ≡ Some (flat_end_of P fuel r.last)
 unfolding flat_end
 run-ends P fuel gs r = ap (whole_only P fuel) r.leads ∙ whole-end P fuel r.last r.whole
 
 pub least-has_run : (P : ProgramParts) (fuel : ℕ) (gs : List Grant) → IsLeast P fuel gs → flat_end P fuel gs ≢ None
 least-has_run P fuel gs h none =
-    let r = least-runs P fuel (Some (opened P fuel)) gs h in
-    none-some (end_of P fuel r.last) (sym none ∙ run-ends P fuel gs r)
+    let r = least-runs P fuel (Some (initial_flat P fuel)) gs h in
+    none-some (flat_end_of P fuel r.last) (sym none ∙ run-ends P fuel gs r)
 
 pub least-one : (P : ProgramParts) (fuel : ℕ) (o : Option Flat) (gs hs : List Grant) → IsLeastFrom P fuel o gs → IsLeastFrom P fuel o hs → gs ≡ hs
 least-one P fuel None gs hs h k = absurd h
@@ -110,11 +110,11 @@ no-granted : (P : ProgramParts) (fuel : ℕ) (g : Grant) (F : Flat) → length P
 unfolding granted
 no-granted P fuel g F none = ap (granted_at P fuel F) (no-place P fuel F.tasks F.tasks g (position (can_take P fuel F.tasks g) F.tasks) none refl)
 
-pub alone-runs : (P : ProgramParts) (fuel : ℕ) → length P.locks ≡ 0 → flat_end P fuel [] ≡ Some (end_of P fuel (opened P fuel))
+pub alone-runs : (P : ProgramParts) (fuel : ℕ) → length P.locks ≡ 0 → flat_end P fuel [] ≡ Some (flat_end_of P fuel (initial_flat P fuel))
 unfolding flat_end next_grant
-alone-runs P fuel none = whole-end P fuel (opened P fuel) (no-first P fuel (opened P fuel).tasks (opened P fuel).tasks none)
+alone-runs P fuel none = whole-end P fuel (initial_flat P fuel) (no-first P fuel (initial_flat P fuel).tasks (initial_flat P fuel).tasks none)
 
 pub alone-only : (P : ProgramParts) (fuel : ℕ) (g : Grant) (gs : List Grant) → length P.locks ≡ 0 → flat_end P fuel (g ∷ gs) ≡ None
 unfolding flat_end
 alone-only P fuel g gs none =
-    ap (λ (o : Option Flat). whole_only P fuel (grants_from P fuel o gs)) (no-granted P fuel g (opened P fuel) none) ∙ ap (whole_only P fuel) (grants-none P fuel gs)
+    ap (λ (o : Option Flat). whole_only P fuel (grants_from P fuel o gs)) (no-granted P fuel g (initial_flat P fuel) none) ∙ ap (whole_only P fuel) (grants-none P fuel gs)

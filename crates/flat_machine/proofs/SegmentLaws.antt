@@ -6,13 +6,13 @@ use Rattle.region_table.specs.Program.{ProgramParts}
 use Rattle.rv_core.specs.declared.need.Need.{Need}
 use Rattle.rv_core.specs.declared.need.Need as need
 use Rattle.flat_machine.specs.Step.{Started, At, wish, step_by, flat_step, flat_steps, segment, room, IsWithin}
-use Rattle.flat_machine.specs.Laws.{IsAtRest, HoldsLess, IsLater}
+use Rattle.flat_machine.specs.Laws.{EndsSegment, HoldsLess, IsLater}
 use Rattle.flat_machine.proofs.StepLemmas.{steps-still}
 use Rattle.flat_machine.proofs.Rest.{IsLess, step-less, rest-still}
 use Rattle.flat_machine.proofs.Rights.{IsAfter, after-itself, step-after}
 
 -- a task at rest has no segment left
-pub segment-still : (P : ProgramParts) (fuel : ℕ) (s : At) → IsAtRest (wish P fuel s.task) → segment P fuel s ≡ s
+pub segment-still : (P : ProgramParts) (fuel : ℕ) (s : At) → EndsSegment (wish P fuel s.task) → segment P fuel s ≡ s
 unfolding segment
 segment-still P fuel s rest = steps-still P fuel (suc fuel) s (rest-still P fuel s rest)
 
@@ -82,7 +82,7 @@ pub record IsNoMore (fuel : ℕ) (r after : Started) : Type 0 where
 step-room : (P : ProgramParts) (fuel : ℕ) (s : At) → IsWithin fuel s.task → IsNoMore fuel s.task (flat_step P fuel s).task
 step-room P fuel s within = by_step (step-less P fuel s within)
   where
-    by_step : IsAtRest (wish P fuel s.task) ⊎ IsLess fuel s.task.state (flat_step P fuel s).task.state → IsNoMore fuel s.task (flat_step P fuel s).task
+    by_step : EndsSegment (wish P fuel s.task) ⊎ IsLess fuel s.task.state (flat_step P fuel s).task.state → IsNoMore fuel s.task (flat_step P fuel s).task
     by_step (inl rest) = subst (λ (x : At). IsNoMore fuel s.task x.task) (sym (rest-still P fuel s rest)) (record { room = omega arith; within = within })
     by_step (inr less) = let h = less.room in record { room = omega arith; within = less.within }
 

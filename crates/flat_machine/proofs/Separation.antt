@@ -8,7 +8,7 @@ use Rattle.region_table.specs.Plan.{uses_plainly, task_guards}
 use Rattle.region_table.specs.declared.interval.Interval.{Interval}
 use Rattle.region_table.specs.declared.declared.TaskDecl.{TaskDecl}
 use Rattle.region_table.specs.declared.declared.Phase.{Phase}
-use Rattle.rv_core.specs.Access.{holds, under, may_load, may_store}
+use Rattle.rv_core.specs.Access.{is_held, under, may_load, may_store}
 use Rattle.effect_checker.specs.Checked.{IsChecked, writes_plainly}
 use Rattle.effect_checker.proofs.SeparationLemmas.{phase-checked, plain_words_apart, guarded_words_apart, locks_apart}
 use Rattle.flat_machine.specs.Step.{Started, flat_step, segment}
@@ -19,7 +19,7 @@ use Rattle.flat_machine.proofs.Frames.{KeepsOut, second-task, swapped-memory, ot
 -- a lock that is held, and whose set in a list that begins with that of lock `first` has the word
 pub record IsUnder (ss : List (List Interval)) (first held w : ℕ) : Type 0 where
   pub place : ℕ
-  pub holds : holds held (first + place) ≡ true
+  pub holds : is_held held (first + place) ≡ true
   pub has : has (get_or ss place []) w ≡ true
 
 pub under-some : (ss : List (List Interval)) (first held w : ℕ) → under ss first held w ≡ true → IsUnder ss first held w
@@ -27,26 +27,26 @@ under-some [] first held w e = absurd (false≢true e)
 under-some (s ∷ ss) first held w e =
     let later = under-some ss (first + 1) held w in
     ⊎_elim
-    (λ (both : (holds held first && has s w) ≡ true).
-    let parts = and_parts (holds held first) (has s w) both in
+    (λ (both : (is_held held first && has s w) ≡ true).
+    let parts = and_parts (is_held held first) (has s w) both in
     let here : first ≡ first + 0 = omega arith in
-    let found : IsUnder (s ∷ ss) first held w = record { place = 0; holds = subst (λ (l : ℕ). holds held l ≡ true) here parts.0; has = parts.1 } in
+    let found : IsUnder (s ∷ ss) first held w = record { place = 0; holds = subst (λ (l : ℕ). is_held held l ≡ true) here parts.0; has = parts.1 } in
     found)
     (λ (behind : under ss (first + 1) held w ≡ true).
     let u = later behind in
     let there : first + 1 + u.place ≡ first + suc u.place = omega arith in
-    let found : IsUnder (s ∷ ss) first held w = record { place = suc u.place; holds = subst (λ (l : ℕ). holds held l ≡ true) there u.holds; has = u.has } in
+    let found : IsUnder (s ∷ ss) first held w = record { place = suc u.place; holds = subst (λ (l : ℕ). is_held held l ≡ true) there u.holds; has = u.has } in
     found)
-    (or_cases (holds held first && has s w) (under ss (first + 1) held w) e)
+    (or_cases (is_held held first && has s w) (under ss (first + 1) held w) e)
 
 -- a lock that the task holds guards the word for it
 record IsGuarded (d : TaskDecl) (held w : ℕ) : Type 0 where
   lock : ℕ
-  holds : holds held lock ≡ true
+  holds : is_held held lock ≡ true
   guards : task_guards d lock w ≡ true
 
-in_hand : (held place : ℕ) → holds held (0 + place) ≡ true → holds held place ≡ true
-in_hand held place h = let e : 0 + place ≡ place = omega arith in subst (λ (l : ℕ). holds held l ≡ true) e h
+in_hand : (held place : ℕ) → is_held held (0 + place) ≡ true → is_held held place ≡ true
+in_hand held place h = let e : 0 + place ≡ place = omega arith in subst (λ (l : ℕ). is_held held l ≡ true) e h
 
 writes-guarded : (d : TaskDecl) (held w : ℕ) → under d.effects.guarded_writes 0 held w ≡ true → IsGuarded d held w
 writes-guarded d held w e =
@@ -102,7 +102,7 @@ no-word P p a b w h (inl writes) (inr g) =
 no-word P p a b w h (inr g) (inl uses) = guarded_words_apart p a.decl b.decl g.lock w (phase-checked P p h.checked h.phase) h.first h.second g.guards uses
 no-word P p a b w h (inr g) (inr k) =
     let same = locks_apart p a.decl b.decl g.lock k.lock w (phase-checked P p h.checked h.phase) h.first h.second g.guards k.guards in
-    h.held g.lock g.holds (subst (λ (l : ℕ). holds b.state.held l ≡ true) (sym same) k.holds)
+    h.held g.lock g.holds (subst (λ (l : ℕ). is_held b.state.held l ≡ true) (sym same) k.holds)
 
 pub keeps-out : (P : ProgramParts) (p : Phase) (a b : Started) → AreApart P p a b → KeepsOut a b
 keeps-out P p a b h =

@@ -5,7 +5,7 @@ use Rattle.std.proofs.lemmas.Bool.{false≢true}
 use Rattle.region_table.specs.Program.{ProgramParts, IsPhase, IsProgram}
 use Rattle.region_table.specs.declared.declared.TaskDecl.{TaskDecl}
 use Rattle.region_table.specs.declared.declared.Phase.{Phase}
-use Rattle.rv_core.specs.Access.{holds, may_store}
+use Rattle.rv_core.specs.Access.{is_held, may_store}
 use Rattle.effect_checker.specs.Checked.{IsChecked}
 use Rattle.flat_machine.specs.Step.{Started, At, fresh}
 use Rattle.flat_machine.specs.Phases.{run_all}
@@ -84,7 +84,7 @@ run-stored P fuel phase (x ∷ ds) n m (suc i) d w in_n in_m apart agree within 
 
 -- ---- a phase of a checked program
 
-holds-none : (lock : ℕ) → holds 0 lock ≡ true → ⊥
+holds-none : (lock : ℕ) → is_held 0 lock ≡ true → ⊥
 holds-none lock h = false≢true h
 
 decls-apart : (P : ProgramParts) (p : Phase) (phase : ℕ) → IsChecked P → IsAmong P.phases p → AllPairs (λ (a b : TaskDecl). a.core.0 < b.core.0) p.tasks → AllPairs (BothKeepOut phase) p.tasks

@@ -6,9 +6,9 @@ use Rattle.rv_core.specs.declared.task.TaskState.{TaskState}
 use Rattle.rv_core.specs.declared.need.Need.{Need}
 use Rattle.rv_core.specs.declared.need.Need.TheVariants.{Local, Load, Store, Acquire, Release, End}
 use Rattle.rv_core.specs.Kinds.{Allowed}
-use Rattle.flat_machine.specs.Step.{At, flat_step, flat_steps, IsStill, HasLock}
+use Rattle.flat_machine.specs.Step.{At, flat_step, flat_steps, IsUnmoved, HasLock}
 
-pub steps-still : (P : ProgramParts) (fuel n : ℕ) (s : At) → IsStill P fuel s → flat_steps P fuel n s ≡ s
+pub steps-still : (P : ProgramParts) (fuel n : ℕ) (s : At) → IsUnmoved P fuel s → flat_steps P fuel n s ≡ s
 steps-still P fuel zero s still = refl
 steps-still P fuel (suc n) s still = ap (flat_steps P fuel n) still ∙ steps-still P fuel n s still
 

@@ -14,17 +14,17 @@ use Rattle.flat_machine.specs.declared.ending.FlatEnd.{FlatEnd}
 use Rattle.flat_machine.specs.declared.ending.TaskLoads.{TaskLoads}
 use Rattle.flat_machine.specs.Step.{Started}
 use Rattle.flat_machine.specs.Phases.{Flat, all_tasks}
-use Rattle.flat_machine.specs.Grants.{so_far, is_whole}
+use Rattle.flat_machine.specs.Grants.{so_far, grants_are_whole}
 
 -- a task that stands still and hasn't ended waits for the lock that it wants; other needs don't occur there
-abbrev pub shown_by : Need → EndShown
-shown_by (need.TheVariants.Acquire lock) = shown.TheVariants.Waits lock
-shown_by _ = shown.TheVariants.Fuel
+abbrev pub wait_shown : Need → EndShown
+wait_shown (need.TheVariants.Acquire lock) = shown.TheVariants.Waits lock
+wait_shown _ = shown.TheVariants.Fuel
 
 -- how a task stands
 abbrev pub shown_of : ProgramParts → ℕ → Started → Option End → EndShown
 shown_of P fuel r (Some by) = shown_end by
-shown_of P fuel r None = shown_by (need_of P r.decl fuel r.state)
+shown_of P fuel r None = wait_shown (need_of P r.decl fuel r.state)
 
 abbrev pub task_end : ProgramParts → ℕ → Started → TaskEnd
 task_end P fuel r =
@@ -34,19 +34,19 @@ abbrev pub task_loads : Started → TaskLoads
 task_loads r = record { phase = r.phase; core = r.decl.core; loads = r.loads }
 
 -- how all tasks that have started stand, and what they have loaded
-abbrev pub ends_of : ProgramParts → ℕ → Flat → List TaskEnd
-ends_of P fuel F = map (task_end P fuel) (all_tasks F)
+abbrev pub flat_ends_of : ProgramParts → ℕ → Flat → List TaskEnd
+flat_ends_of P fuel F = map (task_end P fuel) (all_tasks F)
 
-abbrev pub loads_of : Flat → List TaskLoads
-loads_of F = map task_loads (all_tasks F)
+abbrev pub flat_loads_of : Flat → List TaskLoads
+flat_loads_of F = map task_loads (all_tasks F)
 
 -- the ending and the loads of all tasks that started, in the order of their phases and cores
-unfoldable pub end_of : ProgramParts → ℕ → Flat → FlatEnd
-end_of P fuel F = record { ending = ending_of (ends_of P fuel F) F.memory; loads = loads_of F }
+unfoldable pub flat_end_of : ProgramParts → ℕ → Flat → FlatEnd
+flat_end_of P fuel F = record { ending = ending_of (flat_ends_of P fuel F) F.memory; loads = flat_loads_of F }
 
 abbrev pub whole_only : ProgramParts → ℕ → Option Flat → Option FlatEnd
 whole_only P fuel None = None
-whole_only P fuel (Some F) = if is_whole P fuel F then Some (end_of P fuel F) else None
+whole_only P fuel (Some F) = if grants_are_whole P fuel F then Some (flat_end_of P fuel F) else None
 
 -- the run of a program by a list of grants; None where the list isn't legal or isn't whole
 unfoldable pub flat_end : ProgramParts → ℕ → List Grant → Option FlatEnd

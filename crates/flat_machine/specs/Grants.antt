@@ -6,14 +6,14 @@ use Rattle.dn_base.specs.declared.ids.LockId.{LockId}
 use Rattle.region_table.specs.Program.{ProgramParts}
 use Rattle.rv_core.specs.declared.need.Need.{Need}
 use Rattle.rv_core.specs.declared.need.Need.TheVariants.{Acquire}
-use Rattle.rv_core.specs.Access.{holds}
+use Rattle.rv_core.specs.Access.{is_held}
 use Rattle.rv_core.specs.Step.{advanced}
 use Rattle.flat_machine.specs.Step.{Started, At, wish, in_state, segment}
-use Rattle.flat_machine.specs.Phases.{Flat, settled, opened}
+use Rattle.flat_machine.specs.Phases.{Flat, settled, initial_flat}
 
 -- whether no task holds the lock
 abbrev pub is_free : List Started → ℕ → Bool
-is_free tasks lock = not (list_any (λ (r : Started). holds r.state.held lock) tasks)
+is_free tasks lock = not (list_any (λ (r : Started). is_held r.state.held lock) tasks)
 
 -- the grant of a lock to a task: in its phase, to its core
 abbrev pub grant_of : Started → LockId → Grant
@@ -69,7 +69,7 @@ grants_from P fuel o (g ∷ gs) = grants_from P fuel (granted_if P fuel o g) gs
 
 -- the machine after a list of grants; None where one of them isn't legal
 abbrev pub so_far : ProgramParts → ℕ → List Grant → Option Flat
-so_far P fuel gs = grants_from P fuel (Some (opened P fuel)) gs
+so_far P fuel gs = grants_from P fuel (Some (initial_flat P fuel)) gs
 
 -- from F on the grants of the list were given up to the first that isn't legal, and G is the machine before that one
 pub record IsStoppedAt (P : ProgramParts) (fuel : ℕ) (F : Flat) (gs : List Grant) (G : Flat) : Type 0 where
@@ -93,8 +93,8 @@ unfoldable pub next_grant : ProgramParts → ℕ → Flat → Option Grant
 next_grant P fuel F = first_grant P fuel F.tasks F.tasks
 
 -- whether the grants so far are a whole list
-abbrev pub is_whole : ProgramParts → ℕ → Flat → Bool
-is_whole P fuel F = is_none (next_grant P fuel F)
+abbrev pub grants_are_whole : ProgramParts → ℕ → Flat → Bool
+grants_are_whole P fuel F = is_none (next_grant P fuel F)
 
 -- from here on each grant of the list is the next one, and after the last the list is whole
 abbrev pub IsLeastFrom : ProgramParts → ℕ → Option Flat → List Grant → Type 0
@@ -104,4 +104,4 @@ IsLeastFrom P fuel (Some F) (g ∷ gs) = (next_grant P fuel F ≡ Some g) × IsL
 
 -- each grant of the list is the first that can be taken then, and none can be taken after the last
 abbrev pub IsLeast : ProgramParts → ℕ → List Grant → Type 0
-IsLeast P fuel gs = IsLeastFrom P fuel (Some (opened P fuel)) gs
+IsLeast P fuel gs = IsLeastFrom P fuel (Some (initial_flat P fuel)) gs

@@ -7,7 +7,7 @@ use Rattle.dn_base.specs.declared.ids.LockId.{LockId}
 use Rattle.region_table.specs.Program.{ProgramParts, tasks_of}
 use Rattle.region_table.specs.declared.declared.TaskDecl.{TaskDecl}
 use Rattle.region_table.specs.declared.declared.Phase.{Phase}
-use Rattle.rv_core.specs.Access.{holds, may_store}
+use Rattle.rv_core.specs.Access.{is_held, may_store}
 use Rattle.rv_core.specs.Need.{need_of}
 use Rattle.rv_core.specs.declared.ending.EndShown as shown
 use Rattle.rv_core.specs.declared.ending.TaskEnd.{TaskEnd}
@@ -16,18 +16,18 @@ use Rattle.rv_core.specs.declared.need.Need.TheVariants.{Acquire}
 use Rattle.flat_machine.specs.declared.ending.FlatEnd.{FlatEnd}
 use Rattle.flat_machine.specs.Step.{Started, At, fresh, wish, segment}
 use Rattle.flat_machine.specs.Phases.{Flat, all_tasks, run_all}
-use Rattle.flat_machine.specs.Grants.{grants_from, so_far, is_whole}
+use Rattle.flat_machine.specs.Grants.{grants_from, so_far, grants_are_whole}
 use Rattle.rv_core.specs.Ending.{is_waiting, is_trapped, outcome_of}
-use Rattle.flat_machine.specs.Ending.{shown_of, ends_of, loads_of}
+use Rattle.flat_machine.specs.Ending.{shown_of, flat_ends_of, flat_loads_of}
 
 abbrev pub at_memory : Started → List ℕ → At
 at_memory r m = record { task = r; memory = m }
 
 -- the task has ended or wants a lock
-abbrev pub IsAtRest : Option Need → Type 0
-IsAtRest None = Unit {0}
-IsAtRest (Some (Acquire lock)) = Unit {0}
-IsAtRest _ = ⊥
+abbrev pub EndsSegment : Option Need → Type 0
+EndsSegment None = Unit {0}
+EndsSegment (Some (Acquire lock)) = Unit {0}
+EndsSegment _ = ⊥
 
 -- two memories have the same values in the words that pass a test
 abbrev pub AgreeOn : (ℕ → Bool) → List ℕ → List ℕ → Type 0
@@ -42,7 +42,7 @@ pub record IsAlike (m n : List ℕ) (a b : At) : Type 0 where
 
 -- the first locks are among the second
 pub record HoldsLess (held all : ℕ) : Type 0 where
-  pub among : (lock : ℕ) → holds held lock ≡ true → holds all lock ≡ true
+  pub among : (lock : ℕ) → is_held held lock ≡ true → is_held all lock ≡ true
 
 -- the second is the first task later: it has done the same loads, and maybe more
 pub record IsLater (r later : Started) : Type 0 where
@@ -63,7 +63,7 @@ AreLater F G = (i : ℕ) (r : Started) → slice_get (all_tasks F) i ≡ Some r 
 
 -- no lock is held by both
 abbrev pub HoldApart : ℕ → ℕ → Type 0
-HoldApart a b = (lock : ℕ) → holds a lock ≡ true → holds b lock ≡ true → ⊥
+HoldApart a b = (lock : ℕ) → is_held a lock ≡ true → is_held b lock ≡ true → ⊥
 
 -- the segments of two tasks come to the same in either order: the same tasks, with the same states and loads, and the same
 -- memory; and each task to what it comes to alone
@@ -91,7 +91,7 @@ pub record IsLegal (P : ProgramParts) (fuel : ℕ) (F : Flat) (g : Grant) : Type
   pub started : IsAmong F.tasks task
   pub named : task.decl.core ≡ g.core
   pub waits : wish P fuel task ≡ Some (Acquire g.lock)
-  pub free : All (λ (r : Started). holds r.state.held g.lock.0 ≡ false) (all_tasks F)
+  pub free : All (λ (r : Started). is_held r.state.held g.lock.0 ≡ false) (all_tasks F)
 
 -- the task r, at the place i among the tasks of its phase, wants a lock and is shown so, and the task at another place holds
 -- that lock
@@ -103,7 +103,7 @@ pub record IsHeldUp (P : ProgramParts) (fuel : ℕ) (tasks : List Started) (i : 
   pub apart : place ≢ i
   pub holder : Started
   pub there : slice_get tasks place ≡ Some holder
-  pub holding : holds holder.state.held lock.0 ≡ true
+  pub holding : is_held holder.state.held lock.0 ≡ true
 
 -- the tasks that have started are those of the phases that have begun, in their order; those of the last of these phases are
 -- in it, and those before them in earlier ones
@@ -139,8 +139,8 @@ pub record StartAlone (P : ProgramParts) (fuel phase : ℕ) (tasks : List TaskDe
 pub record IsEnded (P : ProgramParts) (fuel : ℕ) (gs : List Grant) (e : FlatEnd) : Type 0 where
   pub last : Flat
   pub leads : so_far P fuel gs ≡ Some last
-  pub whole : is_whole P fuel last ≡ true
-  pub tasks : e.ending.tasks ≡ ends_of P fuel last
+  pub whole : grants_are_whole P fuel last ≡ true
+  pub tasks : e.ending.tasks ≡ flat_ends_of P fuel last
   pub memory : e.ending.memory ≡ last.memory
   pub outcome : e.ending.outcome ≡ outcome_of e.ending.tasks
-  pub loads : e.loads ≡ loads_of last
+  pub loads : e.loads ≡ flat_loads_of last

@@ -69,8 +69,8 @@ abbrev pub initial : ProgramParts → Flat
 initial P = record { begun = 0; past = []; tasks = []; memory = P.memory }
 
 -- the machine before any grant
-unfoldable pub opened : ProgramParts → ℕ → Flat
-opened P fuel = settled P fuel (initial P)
+unfoldable pub initial_flat : ProgramParts → ℕ → Flat
+initial_flat P fuel = settled P fuel (initial P)
 
 -- how many instructions and ends are left at the most: of the tasks that have started, and of those of the phases that
 -- haven't begun
@@ -78,7 +78,7 @@ abbrev pub work : ProgramParts → ℕ → Flat → ℕ
 work P fuel F = sum_by (room fuel) F.tasks + length (tasks_of (drop F.begun P.phases)) * (fuel + 1)
 
 -- what holds of the machine at each point of a run
-pub record IsSound (P : ProgramParts) (fuel : ℕ) (F : Flat) : Type 0 where
+pub record IsSoundFlat (P : ProgramParts) (fuel : ℕ) (F : Flat) : Type 0 where
   pub words : length F.memory ≡ length P.memory
   pub begun : F.begun ≤ length P.phases
   pub within : All (IsWithin fuel) F.tasks

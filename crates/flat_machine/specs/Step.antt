@@ -92,10 +92,10 @@ IsAcquire (need.TheVariants.Acquire lock) = Unit {0}
 IsAcquire _ = ⊥
 
 -- the task goes on, and wants a lock
-pub record IsWaiting (P : ProgramParts) (fuel : ℕ) (r : Started) : Type 0 where
+pub record WantsLock (P : ProgramParts) (fuel : ℕ) (r : Started) : Type 0 where
   pub open' : r.state.end ≡ None
   pub wants : IsAcquire (need_of P r.decl fuel r.state)
 
 -- nothing that the task can do changes it or the memory
-abbrev pub IsStill : ProgramParts → ℕ → At → Type 0
-IsStill P fuel s = flat_step P fuel s ≡ s
+abbrev pub IsUnmoved : ProgramParts → ℕ → At → Type 0
+IsUnmoved P fuel s = flat_step P fuel s ≡ s

@@ -12,11 +12,11 @@ ghost use Rattle.rv_core.specs.declared.need.Need.TheVariants.{Acquire};
 ghost use Rattle.effect_checker.specs.Checked.{IsChecked};
 ghost use Rattle.flat_machine.specs.declared.ending.FlatEnd.{FlatEnd};
 ghost use Rattle.flat_machine.specs.Step.{Started, At, wish, flat_step, segment, IsWithin};
-ghost use Rattle.flat_machine.specs.Phases.{Flat, has_finished, settled, opened};
-ghost use Rattle.flat_machine.specs.Grants.{is_free, grant_of, go_on, with_task, so_far, is_whole, granted, granted_if, IsLeast};
+ghost use Rattle.flat_machine.specs.Phases.{Flat, has_finished, settled, initial_flat};
+ghost use Rattle.flat_machine.specs.Grants.{is_free, grant_of, go_on, with_task, so_far, grants_are_whole, granted, granted_if, IsLeast};
 ghost use Rattle.rv_core.specs.Ending.{is_waiting};
-ghost use Rattle.flat_machine.specs.Ending.{end_of, flat_end};
-ghost use Rattle.flat_machine.specs.Laws.{at_memory, IsAtRest, AgreeOn, IsAlike, HoldsLess, IsLater, HoldApart, SameInEitherOrder, HasUsedUp, IsOutOfFuel, IsHeldUp, HasTasks, HasFront, StartAlone, IsEnded, IsLegal};
+ghost use Rattle.flat_machine.specs.Ending.{flat_end_of, flat_end};
+ghost use Rattle.flat_machine.specs.Laws.{at_memory, EndsSegment, AgreeOn, IsAlike, HoldsLess, IsLater, HoldApart, SameInEitherOrder, HasUsedUp, IsOutOfFuel, IsHeldUp, HasTasks, HasFront, StartAlone, IsEnded, IsLegal};
 
 /// A segment changes no word but those that its task may store with the locks that it holds at the start. It only gives
 /// locks up.
@@ -34,7 +34,7 @@ pub fn a_segment_reads_its_words()
 
 /// A segment ends where its task has ended or wants a lock, and a step of the task before it makes no difference.
 pub fn a_segment_comes_to_rest()
-    ensures rest { (P : ProgramParts) (fuel : ℕ) (s : At) → IsWithin fuel s.task → IsAtRest (wish P fuel (segment P fuel s).task) }
+    ensures rest { (P : ProgramParts) (fuel : ℕ) (s : At) → IsWithin fuel s.task → EndsSegment (wish P fuel (segment P fuel s).task) }
     ensures step { (P : ProgramParts) (fuel : ℕ) (s : At) → IsWithin fuel s.task → segment P fuel (flat_step P fuel s) ≡ segment P fuel s }
 {}
 
@@ -56,7 +56,7 @@ pub fn segments_run_in_either_order()
 pub fn a_segment_adds_loads_and_gives_locks_up()
     ensures later { (P : ProgramParts) (fuel : ℕ) (s : At) → IsLater s.task (segment P fuel s).task }
     ensures held { (P : ProgramParts) (fuel : ℕ) (s : At) → HoldsLess (segment P fuel s).task.state.held s.task.state.held }
-    ensures still { (P : ProgramParts) (fuel : ℕ) (s : At) → IsAtRest (wish P fuel s.task) → segment P fuel s ≡ s }
+    ensures still { (P : ProgramParts) (fuel : ℕ) (s : At) → EndsSegment (wish P fuel s.task) → segment P fuel s ≡ s }
 {}
 
 /// No phase can begin once those that may have begun, nor while a task of the last one hasn't ended.
@@ -113,7 +113,7 @@ pub fn the_least_list_has_a_run()
 
 /// A program without locks has one run, which takes no grants and is a function of the program and the fuel.
 pub fn without_locks_there_is_one_run()
-    ensures run { (P : ProgramParts) (fuel : ℕ) → length P.locks ≡ 0 → flat_end P fuel [] ≡ Some (end_of P fuel (opened P fuel)) }
+    ensures run { (P : ProgramParts) (fuel : ℕ) → length P.locks ≡ 0 → flat_end P fuel [] ≡ Some (flat_end_of P fuel (initial_flat P fuel)) }
     ensures only { (P : ProgramParts) (fuel : ℕ) (g : Grant) (gs : List Grant) → length P.locks ≡ 0 → flat_end P fuel (g ∷ gs) ≡ None }
 {}
 
@@ -121,7 +121,7 @@ pub fn without_locks_there_is_one_run()
 /// a list that leads to a state in which no task can take a grant has that end.
 pub fn the_end_of_a_run_shows_its_last_state()
     ensures shows { (P : ProgramParts) (fuel : ℕ) (gs : List Grant) (e : FlatEnd) → flat_end P fuel gs ≡ Some e → IsEnded P fuel gs e }
-    ensures whole { (P : ProgramParts) (fuel : ℕ) (gs : List Grant) (F : Flat) → so_far P fuel gs ≡ Some F → is_whole P fuel F ≡ true → flat_end P fuel gs ≡ Some (end_of P fuel F) }
+    ensures whole { (P : ProgramParts) (fuel : ℕ) (gs : List Grant) (F : Flat) → so_far P fuel gs ≡ Some F → grants_are_whole P fuel F ≡ true → flat_end P fuel gs ≡ Some (flat_end_of P fuel F) }
 {}
 
 /// In the ending of a run each task that is shown as out of fuel has retired just as many instructions as it may. A run whose
@@ -135,11 +135,11 @@ pub fn a_task_out_of_fuel_has_used_it_up()
 /// holds. The tasks of the phases before have all finished. A run that is stuck shows a task that waits, and in its last phase
 /// there is a task that hasn't ended.
 pub fn a_task_that_waits_wants_a_held_lock()
-    ensures waits { (P : ProgramParts) (fuel : ℕ) (gs : List Grant) (F : Flat) → so_far P fuel gs ≡ Some F → is_whole P fuel F ≡ true
+    ensures waits { (P : ProgramParts) (fuel : ℕ) (gs : List Grant) (F : Flat) → so_far P fuel gs ≡ Some F → grants_are_whole P fuel F ≡ true
         → (i : ℕ) (r : Started) → slice_get F.tasks i ≡ Some r → r.state.end ≡ None → IsHeldUp P fuel F.tasks i r }
     ensures past { (P : ProgramParts) (fuel : ℕ) (gs : List Grant) (F : Flat) → so_far P fuel gs ≡ Some F → All (λ (r : Started). has_finished r ≡ true) F.past }
     ensures stuck { (P : ProgramParts) (fuel : ℕ) (gs : List Grant) (e : FlatEnd) → flat_end P fuel gs ≡ Some e → e.ending.outcome ≡ Stuck
         → Any (λ (t : TaskEnd). is_waiting t.end ≡ true) e.ending.tasks }
-    ensures waiter { (P : ProgramParts) (fuel : ℕ) (gs : List Grant) (F : Flat) → so_far P fuel gs ≡ Some F → (end_of P fuel F).ending.outcome ≡ Stuck
+    ensures waiter { (P : ProgramParts) (fuel : ℕ) (gs : List Grant) (F : Flat) → so_far P fuel gs ≡ Some F → (flat_end_of P fuel F).ending.outcome ≡ Stuck
         → Any (λ (r : Started). r.state.end ≡ None) F.tasks }
 {}

@@ -1,11 +1,11 @@
 ghost use Rattle.std.specs.Prelude.{◌≡◌, ◌≤◌, ◌<◌, ℕ, ◌+◌, ◌*◌, ◌++◌, ◌&&◌, true, false, None, Some, length, drop, map, sum_by, slice_get, option_copied, IfOk, IfSome, IfNone, position};
 ghost use Rattle.std.specs.List.{All, HoldsAt, list_any, list_all};
-ghost use Rattle.rv_core.specs.Access.{holds};
+ghost use Rattle.rv_core.specs.Access.{is_held};
 ghost use Rattle.rv_core.specs.Decoded.{IsDecoded};
-ghost use Rattle.flat_machine.specs.Step.{At, Started, segment, in_state, room, IsWithin, IsWaiting};
-ghost use Rattle.flat_machine.specs.Phases.{Flat, Ran, run_all, begin, has_finished, next_phase, settled, opened, initial, work, IsSound};
+ghost use Rattle.flat_machine.specs.Step.{At, Started, segment, in_state, room, IsWithin, WantsLock};
+ghost use Rattle.flat_machine.specs.Phases.{Flat, Ran, run_all, begin, has_finished, next_phase, settled, initial_flat, initial, work, IsSoundFlat};
 ghost use Rattle.flat_machine.specs.Grants.{is_free, grant_by, grant_for, is_grant, can_take, first_grant, next_grant, resumed, granted, grants_from, IsStoppedAt, IsLeastFrom};
-ghost use Rattle.flat_machine.specs.Ending.{end_of};
+ghost use Rattle.flat_machine.specs.Ending.{flat_end_of};
 
 use crate::ending::{FlatEnd, push_ends, push_loads};
 use crate::running::{Running, start};
@@ -155,7 +155,7 @@ impl<'a> Machine<'a> {
     /// The machine before the first phase.
     fn initial(alloc: Global, program: &Program) -> Result<Machine<'a>, Memory>
         ensures value { IfOk result (λ machine. machine ≡ initial program.now) }
-        ensures sound { IfOk result (IsSound program.now 0) }
+        ensures sound { IfOk result (IsSoundFlat program.now 0) }
         ensures locks { length program.now.locks ≤ 32 }
         ensures words { length program.now.memory ≤ 65536 }
     {
@@ -225,9 +225,9 @@ impl<'a> Machine<'a> {
     ) -> Result<(), Memory>
         requires code { IsDecoded program.now code.now }
         requires fuel { fuel ≤ 32768 }
-        requires sound { IsSound program.now fuel self.old }
+        requires sound { IsSoundFlat program.now fuel self.old }
         ensures value { IfOk result (λ done. self.new ≡ settled program.now fuel self.old) }
-        ensures sound { IfOk result (λ done. IsSound program.now fuel self.new) }
+        ensures sound { IfOk result (λ done. IsSoundFlat program.now fuel self.new) }
         ensures work { IfOk result (λ done. work program.now fuel self.new ≤ work program.now fuel self.old) }
     {
         'phases: while let Some(phase) = self.next_phase(program) {
@@ -237,7 +237,7 @@ impl<'a> Machine<'a> {
     }
 
     /// The machine before any grant.
-    #[tactic(auto, unfolding(crate::specs::Phases::opened))]
+    #[tactic(auto, unfolding(crate::specs::Phases::initial_flat))]
     pub(crate) fn open(
         alloc: Global,
         program: &'a Program,
@@ -246,8 +246,8 @@ impl<'a> Machine<'a> {
     ) -> Result<Machine<'a>, Memory>
         requires code { IsDecoded program.now code.now }
         requires fuel { fuel ≤ 32768 }
-        ensures value { IfOk result (λ machine. machine ≡ opened program.now fuel) }
-        ensures sound { IfOk result (IsSound program.now fuel) }
+        ensures value { IfOk result (λ machine. machine ≡ initial_flat program.now fuel) }
+        ensures sound { IfOk result (IsSoundFlat program.now fuel) }
         ensures locks { length program.now.locks ≤ 32 }
         ensures words { length program.now.memory ≤ 65536 }
     {
@@ -266,11 +266,11 @@ impl<'a> Machine<'a> {
     ) -> Result<(), Memory>
         requires code { IsDecoded program.now code.now }
         requires fuel { fuel ≤ 32768 }
-        requires sound { IsSound program.now fuel self.old }
+        requires sound { IsSoundFlat program.now fuel self.old }
         requires place { place < length self.old.tasks }
-        requires wants { HoldsAt (IsWaiting program.now fuel) self.old.tasks place }
+        requires wants { HoldsAt (WantsLock program.now fuel) self.old.tasks place }
         ensures value { IfOk result (λ done. self.new ≡ resumed program.now fuel self.old place (slice_get self.old.tasks place)) }
-        ensures sound { IfOk result (λ done. IsSound program.now fuel self.new) }
+        ensures sound { IfOk result (λ done. IsSoundFlat program.now fuel self.new) }
         ensures work { IfOk result (λ done. work program.now fuel self.new < work program.now fuel self.old) }
     {
         let running = &mut self.tasks[place];
@@ -293,11 +293,11 @@ impl<'a> Machine<'a> {
         requires code { IsDecoded program.now code.now }
         requires fuel { fuel ≤ 32768 }
         requires locks { length program.now.locks ≤ 32 }
-        requires sound { IsSound program.now fuel self.old }
+        requires sound { IsSoundFlat program.now fuel self.old }
         ensures legal { result ≡ Ok true → granted program.now fuel given self.old ≡ Some self.new }
         ensures illegal { result ≡ Ok false → granted program.now fuel given self.old ≡ None }
         ensures kept { result ≡ Ok false → self.new ≡ self.old }
-        ensures sound { IfOk result (λ legal. IsSound program.now fuel self.new) }
+        ensures sound { IfOk result (λ legal. IsSoundFlat program.now fuel self.new) }
         ensures work { result ≡ Ok true → work program.now fuel self.new < work program.now fuel self.old }
     {
         let Some(place) = place_of(program, fuel, self.tasks.as_slice(), given) else {
@@ -320,11 +320,11 @@ impl<'a> Machine<'a> {
         requires code { IsDecoded program.now code.now }
         requires fuel { fuel ≤ 32768 }
         requires locks { length program.now.locks ≤ 32 }
-        requires sound { IsSound program.now fuel self.old }
+        requires sound { IsSoundFlat program.now fuel self.old }
         ensures legal { result ≡ Ok true → grants_from program.now fuel (Some self.old) grants.now ≡ Some self.new }
         ensures illegal { result ≡ Ok false → grants_from program.now fuel (Some self.old) grants.now ≡ None }
         ensures stops { result ≡ Ok false → IsStoppedAt program.now fuel self.old grants.now self.new }
-        ensures sound { IfOk result (λ legal. IsSound program.now fuel self.new) }
+        ensures sound { IfOk result (λ legal. IsSoundFlat program.now fuel self.new) }
     {
         for given in grants {
             if !self.grant(alloc, program, code, fuel, *given)? {
@@ -346,10 +346,10 @@ impl<'a> Machine<'a> {
         requires code { IsDecoded program.now code.now }
         requires fuel { fuel ≤ 32768 }
         requires locks { length program.now.locks ≤ 32 }
-        requires sound { IsSound program.now fuel self.old }
+        requires sound { IsSoundFlat program.now fuel self.old }
         requires next { next_grant program.now fuel self.old ≡ Some next }
         ensures value { IfOk result (λ done. granted program.now fuel next self.old ≡ Some self.new) }
-        ensures sound { IfOk result (λ done. IsSound program.now fuel self.new) }
+        ensures sound { IfOk result (λ done. IsSoundFlat program.now fuel self.new) }
         ensures work { IfOk result (λ done. work program.now fuel self.new < work program.now fuel self.old) }
     {
         let _legal = self.grant(alloc, program, code, fuel, next)?;
@@ -367,11 +367,11 @@ impl<'a> Machine<'a> {
         requires code { IsDecoded program.now code.now }
         requires fuel { fuel ≤ 32768 }
         requires locks { length program.now.locks ≤ 32 }
-        requires sound { IsSound program.now fuel self.old }
+        requires sound { IsSoundFlat program.now fuel self.old }
         ensures least { IfOk result (λ grants. IsLeastFrom program.now fuel (Some self.old) grants.items) }
         ensures leads { IfOk result (λ grants. grants_from program.now fuel (Some self.old) grants.items ≡ Some self.new) }
         ensures whole { IfOk result (λ grants. next_grant program.now fuel self.new ≡ None) }
-        ensures sound { IfOk result (λ grants. IsSound program.now fuel self.new) }
+        ensures sound { IfOk result (λ grants. IsSoundFlat program.now fuel self.new) }
     {
         let mut grants = Vec::new(alloc);
         'grants: while let Some(next) = self.next_grant(program, fuel) {
@@ -391,16 +391,16 @@ impl<'a> Machine<'a> {
     }
 
     /// The end of the run.
-    #[tactic(auto, unfolding(crate::specs::Ending::end_of))]
+    #[tactic(auto, unfolding(crate::specs::Ending::flat_end_of))]
     pub(crate) fn finish(
         self,
         alloc: Global,
         program: &Program,
         fuel: u32,
     ) -> Result<FlatEnd, Memory>
-        requires sound { IsSound program.now fuel self }
+        requires sound { IsSoundFlat program.now fuel self }
         requires words { length program.now.memory ≤ 65536 }
-        ensures value { IfOk result (λ end. end ≡ end_of program.now fuel self.entry) }
+        ensures value { IfOk result (λ end. end ≡ flat_end_of program.now fuel self.entry) }
         ensures within { IfOk result (λ end. (length end.ending.memory ≤ 65536) × (length end.ending.tasks ≤ 64)) }
     {
         let mut tasks = Sequence::new(alloc);

@@ -1,9 +1,9 @@
 ghost use Rattle.std.specs.Prelude.{◌≡◌, ◌≤◌, ◌<◌, Some, length, IfOk, IfSome, true, false};
-ghost use Rattle.rv_core.specs.Access.{holds};
+ghost use Rattle.rv_core.specs.Access.{is_held};
 ghost use Rattle.rv_core.specs.Decoded.{IsDecoded};
 ghost use Rattle.rv_core.specs.Kinds.{Allowed};
 ghost use Rattle.rv_core.specs.Step.{advanced};
-ghost use Rattle.flat_machine.specs.Step.{At, fresh, wish, in_state, flat_step, segment, room, IsWithin, HasLock, IsWaiting, IsStill};
+ghost use Rattle.flat_machine.specs.Step.{At, fresh, wish, in_state, flat_step, segment, room, IsWithin, HasLock, WantsLock, IsUnmoved};
 ghost use Rattle.flat_machine.specs.Phases.{has_finished};
 
 use dn_base::{LoadSeen, Memory, PhaseId, Sequence, WordId};
@@ -77,7 +77,7 @@ impl Running<'_> {
         ensures value { IfOk result (λ went. let before : At = record { task = self.old; memory = memory.old.items } in
             record { task = self.new; memory = memory.new.items } ≡ flat_step program.now fuel before) }
         ensures still { IfOk result (λ went. went ≡ false → let before : At = record { task = self.old; memory = memory.old.items } in
-            IsStill program.now fuel before) }
+            IsUnmoved program.now fuel before) }
         ensures gone { IfOk result (λ went. went ≡ true → room fuel self.new < room fuel self.old) }
         ensures words { length memory.new.items ≡ length program.now.memory }
         ensures within { IsWithin fuel self.new }
@@ -113,7 +113,7 @@ impl Running<'_> {
     pub(crate) fn acquire(&mut self, program: &Program, fuel: u32)
         requires fuel { fuel ≤ 32768 }
         requires within { IsWithin fuel self.old }
-        requires wants { IsWaiting program.now fuel self.old }
+        requires wants { WantsLock program.now fuel self.old }
         ensures value { self.new ≡ in_state self.old (advanced program.now self.old.state) }
         ensures within { IsWithin fuel self.new }
         ensures room { room fuel self.new < room fuel self.old }

@@ -11,7 +11,7 @@ use Rattle.message_net.specs.declared.actor.Actor.TheVariants.{Core, Bank, Keepe
 use Rattle.message_net.specs.Id.{same_actor}
 use Rattle.grant_log.specs.declared.log.Stamped.{Stamped}
 use Rattle.grant_log.specs.Order.{IsBefore}
-use Rattle.grant_log.specs.Log.{IsLog, AreApart, AreLogs, IsMerge, of_actor}
+use Rattle.grant_log.specs.Log.{IsLog, AreOfOtherActors, AreLogs, IsMerge, of_actor}
 use Rattle.grant_log.proofs.OrderLemmas.{by_stamp}
 use Rattle.grant_log.proofs.MergeLemmas.{AllPairs-tail}
 use Rattle.grant_log.proofs.SameLemmas.{same_entries}
@@ -77,7 +77,7 @@ none_of a (log ∷ logs) never =
 -- an actor's entries, log after log, are in strict order
 rising_of : (a : Actor) (logs : List (List Stamped)) → AreLogs logs → AllPairs IsBefore (filter (of_actor a) (flat_map (λ log. log) logs))
 rising_of a [] are = λ i j d before within. absurd (omega arith)
-rising_of a (log ∷ logs) are = by_first (filter (of_actor a) log) refl (rising_of a logs (record { each = All-tail IsLog log logs are.each; apart = AllPairs-tail AreApart log logs are.apart })) where
+rising_of a (log ∷ logs) are = by_first (filter (of_actor a) log) refl (rising_of a logs (record { each = All-tail IsLog log logs are.each; apart = AllPairs-tail AreOfOtherActors log logs are.apart })) where
   joined : filter (of_actor a) (flat_map (λ log. log) (log ∷ logs)) ≡ filter (of_actor a) log ++ filter (of_actor a) (flat_map (λ log. log) logs)
   joined = filter-append (of_actor a) log (flat_map (λ log. log) logs)
 

@@ -8,24 +8,24 @@ use Rattle.message_net.specs.declared.event.EventKind.{EventKind}
 use Rattle.message_net.specs.Kind.{kind_place}
 use Rattle.grant_log.specs.declared.log.Stamped.{Stamped}
 use Rattle.grant_log.specs.declared.counts.Counts.{Counts}
-use Rattle.grant_log.specs.Counts.{same_kind, count_of, added, AreCounts}
+use Rattle.grant_log.specs.Counts.{same_kind, kind_count, added, AreCounts}
 
 -- each kind has a place among the seventeen
 pub place_within : (k : EventKind) → kind_place k < 17
 place_within k = grind arith
 
 -- one more event of a kind raises that kind's count, and no other
-count_of-added : (j k : EventKind) (counts : Counts) → kind_place k < length counts.kinds → count_of j (added k counts) ≡ count_of j counts + cond (same_kind j k) 1 0
+count_of-added : (j k : EventKind) (counts : Counts) → kind_place k < length counts.kinds → kind_count j (added k counts) ≡ kind_count j counts + cond (same_kind j k) 1 0
 count_of-added j k counts within = by_test (same_kind j k) refl where
-  by_test : (t : Bool) → same_kind j k ≡ t → count_of j (added k counts) ≡ count_of j counts + cond t 1 0
+  by_test : (t : Bool) → same_kind j k ≡ t → kind_count j (added k counts) ≡ kind_count j counts + cond t 1 0
   by_test true e =
       let same : kind_place j ≡ kind_place k = grind (arith, nat_tests) in
-      rw same (get_or-set_same counts.kinds (kind_place k) (count_of k counts + 1) 0 within)
+      rw same (get_or-set_same counts.kinds (kind_place k) (kind_count k counts + 1) 0 within)
   by_test false e =
       let other : kind_place j ≢ kind_place k = grind (arith, nat_tests) in
-      get_or-set_other counts.kinds (kind_place k) (kind_place j) (count_of k counts + 1) 0 other ∙ omega arith
+      get_or-set_other counts.kinds (kind_place k) (kind_place j) (kind_count k counts + 1) 0 other ∙ omega arith
 
-pub raises : (j k : EventKind) (counts : Counts) → length counts.kinds ≡ 17 → count_of j (added k counts) ≡ count_of j counts + cond (same_kind j k) 1 0
+pub raises : (j k : EventKind) (counts : Counts) → length counts.kinds ≡ 17 → kind_count j (added k counts) ≡ kind_count j counts + cond (same_kind j k) 1 0
 raises j k counts all = count_of-added j k counts (rw all (place_within k))
 
 -- the count of a list with one more event
@@ -38,7 +38,7 @@ AreCounts-added kinds k counts within told j =
     count_of-added j k counts within ∙ omega (arith, told j, count_by-push (same_kind j) kinds k)
 
 pub length-added : (k : EventKind) (counts : Counts) → length (added k counts).kinds ≡ length counts.kinds
-length-added k counts = length-set counts.kinds (kind_place k) (count_of k counts + 1)
+length-added k counts = length-set counts.kinds (kind_place k) (kind_count k counts + 1)
 
 -- the kinds of one more entry
 kinds_more : (entries : List Stamped) (i : ℕ) (d : Stamped) → i < length entries → map (λ (e : Stamped). e.kind) (take (i + 1) entries) ≡ map (λ (e : Stamped). e.kind) (take i entries) ++ (get_or entries i d).kind ∷ []

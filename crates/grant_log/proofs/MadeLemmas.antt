@@ -9,7 +9,7 @@ use Rattle.dn_base.specs.declared.ids.BankId.{BankId}
 use Rattle.dn_base.specs.declared.ids.CoreId.{CoreId}
 use Rattle.message_net.specs.Order.{group, number}
 use Rattle.grant_log.specs.declared.log.Stamped.{Stamped}
-use Rattle.grant_log.specs.Log.{IsLog, AreApart, AreLogs}
+use Rattle.grant_log.specs.Log.{IsLog, AreOfOtherActors, AreLogs}
 
 nothing : {X : Type 0} (P : X → Type 0) → All P []
 nothing P k d within = absurd (omega arith)
@@ -19,15 +19,15 @@ no_pairs R i j d before within = absurd (omega arith)
 
 -- no log
 pub no_logs : AreLogs []
-no_logs = record { each = nothing IsLog; apart = no_pairs AreApart }
+no_logs = record { each = nothing IsLog; apart = no_pairs AreOfOtherActors }
 
 -- one more log
-pub one_more_log : (log : List Stamped) (logs : List (List Stamped)) → IsLog log → All (AreApart log) logs → AreLogs logs → AreLogs (log ∷ logs)
+pub one_more_log : (log : List Stamped) (logs : List (List Stamped)) → IsLog log → All (AreOfOtherActors log) logs → AreLogs logs → AreLogs (log ∷ logs)
 one_more_log log logs is apart are =
-    record { each = All-cons IsLog log logs is are.each; apart = AllPairs-cons AreApart log logs apart are.apart }
+    record { each = All-cons IsLog log logs is are.each; apart = AllPairs-cons AreOfOtherActors log logs apart are.apart }
 
 -- logs of different actors are apart
-pub apart_by_actors : (a b : Actor) (log other : List Stamped) → a ≢ b → All (λ (e : Stamped). e.actor ≡ a) log → All (λ (e : Stamped). e.actor ≡ b) other → AreApart log other
+pub apart_by_actors : (a b : Actor) (log other : List Stamped) → a ≢ b → All (λ (e : Stamped). e.actor ≡ a) log → All (λ (e : Stamped). e.actor ≡ b) other → AreOfOtherActors log other
 apart_by_actors a b log other differ of_a of_b k d within n e inside same = differ (sym (of_a k d within) ∙ same ∙ of_b n e inside)
 
 -- logs of one and of two entries
@@ -60,8 +60,8 @@ pub three_logs : (a b c : Actor) (x y z v w : Stamped) → a ≢ b → a ≢ c �
     → y.stamp < z.stamp → v.stamp < w.stamp → AreLogs ((x ∷ []) ∷ (y ∷ z ∷ []) ∷ (v ∷ w ∷ []) ∷ [])
 three_logs a b c x y z v w ab ac bc xa yb zb vc wc rises also =
     one_more_log (x ∷ []) ((y ∷ z ∷ []) ∷ (v ∷ w ∷ []) ∷ []) (one_entry x)
-    (All-cons (AreApart (x ∷ [])) (y ∷ z ∷ []) ((v ∷ w ∷ []) ∷ []) (apart_by_actors a b (x ∷ []) (y ∷ z ∷ []) ab (made_one a x xa) (made_two b y z yb zb))
-    (All-cons (AreApart (x ∷ [])) (v ∷ w ∷ []) [] (apart_by_actors a c (x ∷ []) (v ∷ w ∷ []) ac (made_one a x xa) (made_two c v w vc wc)) (nothing (AreApart (x ∷ [])))))
+    (All-cons (AreOfOtherActors (x ∷ [])) (y ∷ z ∷ []) ((v ∷ w ∷ []) ∷ []) (apart_by_actors a b (x ∷ []) (y ∷ z ∷ []) ab (made_one a x xa) (made_two b y z yb zb))
+    (All-cons (AreOfOtherActors (x ∷ [])) (v ∷ w ∷ []) [] (apart_by_actors a c (x ∷ []) (v ∷ w ∷ []) ac (made_one a x xa) (made_two c v w vc wc)) (nothing (AreOfOtherActors (x ∷ [])))))
     (one_more_log (y ∷ z ∷ []) ((v ∷ w ∷ []) ∷ []) (two_entries y z (yb ∙ sym zb) rises)
-    (All-cons (AreApart (y ∷ z ∷ [])) (v ∷ w ∷ []) [] (apart_by_actors b c (y ∷ z ∷ []) (v ∷ w ∷ []) bc (made_two b y z yb zb) (made_two c v w vc wc)) (nothing (AreApart (y ∷ z ∷ []))))
-    (one_more_log (v ∷ w ∷ []) [] (two_entries v w (vc ∙ sym wc) also) (nothing (AreApart (v ∷ w ∷ []))) no_logs))
+    (All-cons (AreOfOtherActors (y ∷ z ∷ [])) (v ∷ w ∷ []) [] (apart_by_actors b c (y ∷ z ∷ []) (v ∷ w ∷ []) bc (made_two b y z yb zb) (made_two c v w vc wc)) (nothing (AreOfOtherActors (y ∷ z ∷ []))))
+    (one_more_log (v ∷ w ∷ []) [] (two_entries v w (vc ∙ sym wc) also) (nothing (AreOfOtherActors (v ∷ w ∷ []))) no_logs))

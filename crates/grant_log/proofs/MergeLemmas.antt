@@ -13,7 +13,7 @@ use Rattle.std.proofs.lemmas.List.{get_or-take, length-take-le}
 use Rattle.message_net.specs.declared.actor.Actor.{Actor}
 use Rattle.grant_log.specs.declared.log.Stamped.{Stamped}
 use Rattle.grant_log.specs.Order.{entry_order, IsBefore}
-use Rattle.grant_log.specs.Log.{IsLog, AreApart, AreLogs, IsMerge}
+use Rattle.grant_log.specs.Log.{IsLog, AreOfOtherActors, AreLogs, IsMerge}
 use Rattle.grant_log.proofs.OrderLemmas.{entry_order_total, tied}
 
 abbrev actor : Stamped → Actor
@@ -94,7 +94,7 @@ none_later p (log ∷ logs) never =
     ∙ omega (arith, never 0 log (omega arith), none_later p logs (λ k d within. never (suc k) d (omega arith)))
 
 -- an entry of a log and one of a log of another actor don't both have one actor
-no_more : (e : Stamped) (log other : List Stamped) → AreApart log other → 1 ≤ count_by (ties e) log → count_by (ties e) other ≡ 0
+no_more : (e : Stamped) (log other : List Stamped) → AreOfOtherActors log other → 1 ≤ count_by (ties e) log → count_by (ties e) other ≡ 0
 no_more e log other apart counted =
     let found = some (ties e) log counted in
     let x = found.1 in
@@ -105,7 +105,7 @@ no_more e log other apart counted =
 pub logs_have_one : (e : Stamped) (logs : List (List Stamped)) → AreLogs logs → count_by (ties e) (flat_map (λ log. log) logs) ≤ 1
 logs_have_one e [] are = omega arith
 logs_have_one e (log ∷ logs) are =
-    by_count (count_by (ties e) log) refl (logs_have_one e logs (record { each = All-tail IsLog log logs are.each; apart = AllPairs-tail AreApart log logs are.apart })) where
+    by_count (count_by (ties e) log) refl (logs_have_one e logs (record { each = All-tail IsLog log logs are.each; apart = AllPairs-tail AreOfOtherActors log logs are.apart })) where
       joined : count_by (ties e) (flat_map (λ log. log) (log ∷ logs)) ≡ count_by (ties e) log + count_by (ties e) (flat_map (λ log. log) logs)
       joined = sum_by-append (λ x. cond (ties e x) 1 0) log (flat_map (λ log. log) logs)
 

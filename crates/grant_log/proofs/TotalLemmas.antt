@@ -8,7 +8,7 @@ use Rattle.message_net.specs.declared.event.EventKind as kind
 use Rattle.message_net.specs.declared.event.EventKind.{EventKind}
 use Rattle.message_net.specs.Kind.{kind_place}
 use Rattle.grant_log.specs.declared.counts.Counts.{Counts}
-use Rattle.grant_log.specs.Counts.{same_kind, count_of, no_counts, added, AreCounts}
+use Rattle.grant_log.specs.Counts.{same_kind, kind_count, no_counts, added, AreCounts}
 use Rattle.grant_log.proofs.CountLemmas.{raises, place_within, length-added}
 
 -- what is true at the place of each kind is true at each of the seventeen places
@@ -36,7 +36,7 @@ every_place P all (suc (suc (suc (suc (suc (suc (suc (suc (suc (suc (suc (suc (s
 pub one_more_in_all : (k : EventKind) (counts : Counts) → length counts.kinds ≡ 17 → sum (added k counts).kinds ≡ sum counts.kinds + 1
 one_more_in_all k counts all =
     let place : kind_place k < length counts.kinds = rw all (place_within k) in
-    omega (arith, sum_by-set (λ n. n) counts.kinds (kind_place k) (count_of k counts + 1) 0 place)
+    omega (arith, sum_by-set (λ n. n) counts.kinds (kind_place k) (kind_count k counts + 1) 0 place)
 
 -- the counts of a list, event by event
 abbrev counted : List EventKind → Counts
@@ -49,7 +49,7 @@ counted-all (k ∷ kinds) = length-added k (counted kinds) ∙ counted-all kinds
 
 counted-told : (kinds : List EventKind) → AreCounts kinds (counted kinds)
 counted-told [] j = none j where
-  none : (j : EventKind) → count_of j no_counts ≡ 0
+  none : (j : EventKind) → kind_count j no_counts ≡ 0
   none j = get_or-replicate 17 (kind_place j) 0 0 (place_within j)
 counted-told (k ∷ kinds) j =
     raises j k (counted kinds) (counted-all kinds)

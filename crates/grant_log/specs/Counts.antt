@@ -6,11 +6,11 @@ use Rattle.grant_log.specs.declared.counts.Counts.{Counts}
 
 -- whether two kinds are one
 abbrev pub same_kind : EventKind → EventKind → Bool
-same_kind a b = kind_place a == kind_place b
+same_kind a b = kind_index a == kind_index b
 
 -- the count of a kind
-abbrev pub count_of : EventKind → Counts → ℕ
-count_of k counts = slice_index_or counts.kinds (kind_place k) 0
+abbrev pub kind_count : EventKind → Counts → ℕ
+kind_count k counts = slice_index_or counts.kinds (kind_index k) 0
 
 -- no event of any kind
 abbrev pub no_counts : Counts
@@ -18,8 +18,8 @@ no_counts = record { kinds = replicate 17 0 }
 
 -- one more event of a kind
 abbrev pub added : EventKind → Counts → Counts
-added k counts = record { kinds = slice_set counts.kinds (kind_place k) (count_of k counts + 1) }
+added k counts = record { kinds = slice_set counts.kinds (kind_index k) (kind_count k counts + 1) }
 
 -- the counts of a list of events: each kind's is how many events are of that kind
 abbrev pub AreCounts : List EventKind → Counts → Type 0
-AreCounts kinds counts = (k : EventKind) → count_of k counts ≡ count_by (same_kind k) kinds
+AreCounts kinds counts = (k : EventKind) → kind_count k counts ≡ count_by (same_kind k) kinds

@@ -11,13 +11,13 @@ abbrev pub IsLog : List Stamped → Type 0
 IsLog log = AllPairs (λ (a b : Stamped). (a.actor ≡ b.actor) × (a.stamp < b.stamp)) log
 
 -- two logs are of different actors
-abbrev pub AreApart : List Stamped → List Stamped → Type 0
-AreApart log other = All (λ (a : Stamped). All (λ (b : Stamped). a.actor ≢ b.actor) other) log
+abbrev pub AreOfOtherActors : List Stamped → List Stamped → Type 0
+AreOfOtherActors log other = All (λ (a : Stamped). All (λ (b : Stamped). a.actor ≢ b.actor) other) log
 
 -- logs of which no two are of one actor
 pub record AreLogs (logs : List (List Stamped)) : Type 0 where
   pub each : All IsLog logs
-  pub apart : AllPairs AreApart logs
+  pub apart : AllPairs AreOfOtherActors logs
 
 -- the entries of all logs, each before all that follow it in their order
 pub record IsMerge (logs : List (List Stamped)) (merged : List Stamped) : Type 0 where

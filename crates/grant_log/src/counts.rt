@@ -1,5 +1,5 @@
 ghost use Rattle.std.specs.Prelude.{◌≡◌, ◌<◌, map};
-ghost use Rattle.grant_log.specs.Counts.{count_of, no_counts, added, AreCounts};
+ghost use Rattle.grant_log.specs.Counts.{kind_count, no_counts, added, AreCounts};
 
 use crate::log::Stamped;
 use message_net::EventKind;
@@ -20,14 +20,14 @@ impl Counts {
 
     /// How many events of this kind there were.
     pub fn count(&self, kind: EventKind) -> u64
-        ensures { result ≡ count_of kind self.now }
+        ensures { result ≡ kind_count kind self.now }
     {
         self.kinds[kind.place()]
     }
 
     /// One more event of this kind. Its count is below the greatest of its type.
     pub fn add(&mut self, kind: EventKind)
-        requires { count_of kind self.old < 18446744073709551615 }
+        requires { kind_count kind self.old < 18446744073709551615 }
         ensures { self.new ≡ added kind self.old }
     {
         self.kinds[kind.place()] += 1;

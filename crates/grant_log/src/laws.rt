@@ -6,12 +6,12 @@ ghost use Rattle.grant_log.specs.declared.counts.Counts.{Counts};
 ghost use Rattle.grant_log.specs.declared.log.Stamped.{Stamped};
 ghost use Rattle.grant_log.specs.Order.{IsBefore};
 ghost use Rattle.grant_log.specs.Log.{AreLogs, IsMerge, of_actor};
-ghost use Rattle.grant_log.specs.Counts.{same_kind, count_of, added, AreCounts};
+ghost use Rattle.grant_log.specs.Counts.{same_kind, kind_count, added, AreCounts};
 
 /// One more event raises the count of its kind by one, and no other.
 pub fn an_event_raises_its_kind_alone()
     ensures kind { (j k : EventKind) (counts : Counts) → length counts.kinds ≡ 17
-        → count_of j (added k counts) ≡ count_of j counts + (if same_kind j k then 1 else 0) }
+        → kind_count j (added k counts) ≡ kind_count j counts + (if same_kind j k then 1 else 0) }
     ensures sum { (k : EventKind) (counts : Counts) → length counts.kinds ≡ 17 → sum (added k counts).kinds ≡ sum counts.kinds + 1 }
 {}
 

@@ -13,7 +13,7 @@ use Rattle.machine_rules.specs.State.{State}
 use Rattle.bank_hall.specs.declared.posted.Posted.{Posted}
 use Rattle.bank_hall.specs.declared.bank.Handled.{Handled}
 use Rattle.bank_hall.specs.Note.{KeeperNote}
-use Rattle.bank_hall.specs.Stamps.{goes_on as may_go}
+use Rattle.bank_hall.specs.Stamps.{has_numbers_left as may_go}
 use Rattle.round_rules.specs.Members.{ActorParts, NodeIs, Member}
 use Rattle.round_rules.specs.Steps.{Done, Goes, clock_after}
 use Rattle.round_rules.specs.Acts.{Act, Stepped, Kept, is_act_of}
@@ -27,7 +27,7 @@ use Rattle.round_rules.proofs.SameMails.{itself}
 use Rattle.host_workers.specs.declared.crew.BankLog.{BankLog}
 use Rattle.host_workers.specs.declared.finishing.Finished.{Finished}
 use Rattle.host_workers.specs.declared.owned.Owned.{Owned}
-use Rattle.host_workers.specs.Crews.{held_of, goes_on}
+use Rattle.host_workers.specs.Crews.{held_of, owned_has_numbers}
 use Rattle.host_workers.specs.Pass.{IsKeptOf}
 use Rattle.host_workers.specs.Rosters.{core_actor, bank_actor}
 use Rattle.host_workers.specs.Finishing.{IsRoundLeft}
@@ -41,7 +41,7 @@ node-back (NodeIs n) = Some n
 node-back _ = None
 
 -- where a worker goes on with a core whose first take gave nothing, the core's own event comes next
-own-next : (C : Setting) (S : State) (core : CoreId) (o : Owned) (rest : List Act) (first : List Act) → slice_get S.nodes core.0 ≡ Some o.node → goes_on o ≡ true
+own-next : (C : Setting) (S : State) (core : CoreId) (o : Owned) (rest : List Act) (first : List Act) → slice_get S.nodes core.0 ≡ Some o.node → owned_has_numbers o ≡ true
     → (p : IsCorePass C first core (held_of o)) → OwnComesNext C S core p.taken (own_acts core (may_go (clock_after o.clock (taken_steps p.taken)) p.next) (own_event C p.node) p.done ++ rest)
 own-next C S core o rest first at goes p = by p.taken p.handled where
   by : (taken : Option (Posted × Done)) → Goes C (Core core) o.clock (held_member (held_of o)) (taken_steps taken) (record { parts = NodeIs p.node; next = p.next })
@@ -78,7 +78,7 @@ module _ (S M : State) (made workers : ℕ) (f : Finished) (left : IsRoundLeft S
       let fresh = left.opened.fresh.cores core.0 o.0 o.1 in
       let next : o.0.next < 4294967000 =
       subst (λ n. n < 4294967000) (ap (λ l. slice_index l core.0) (sym (together.same-numbers S M made workers f left)) ∙ sym fresh.next_is) (reached-numbers C S core.0 few-cores left.stands.reached) in
-      let goes : goes_on o.0 ≡ true =
+      let goes : owned_has_numbers o.0 ≡ true =
       ap (λ n. may_go n o.0.next) fresh.clock ∙ ap (λ b. nat_lt 0 (2 ^ 63) && b) (is-below o.0.next 4294967000 next) in
       let pass : IsCorePass C acts.0 core (held_of o.0) = subst (λ c. IsCorePass C acts.0 c (held_of o.0)) is ((w.begun.turns first.0 o.0 before).turn goes) in
       let node : slice_get S.nodes core.0 ≡ Some o.0.node = ap (λ l. slice_get l core.0) (sym (together.same-nodes S M made workers f left)) ∙ fresh.node in

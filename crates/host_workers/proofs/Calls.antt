@@ -9,8 +9,8 @@ use Rattle.registration_protocol.specs.Node.{Setting}
 use Rattle.bank_hall.specs.declared.posted.Posted.{Posted}
 use Rattle.bank_hall.specs.Note.{KeeperNote, letter_to}
 use Rattle.bank_hall.specs.Rows.{made_of}
-use Rattle.bank_hall.specs.Halls.{PassView, Calls, HasMadeCalls, number_of}
-use Rattle.round_rules.specs.Acts.{Act, no_calls, and_then, try_calls, posting, postings, sent_by, done_in, act_calls, calls_in, events_in}
+use Rattle.bank_hall.specs.Halls.{PassView, Calls, HasMadeCalls, pass_number}
+use Rattle.round_rules.specs.Acts.{Act, no_calls, and_then, try_calls, posting, postings, posted_by, act_done, act_calls, calls_in, events_in}
 use Rattle.round_rules.proofs.Appended.{calls-follow}
 use Rattle.host_workers.specs.Work.{HasActed}
 
@@ -68,18 +68,18 @@ pub acted-none : (C : Setting) (p : PassView) → HasActed C p p [] 0
 acted-none C p = record { calls = made-none p; counted = refl }
 
 -- one act: its take or step, and then the posts of what its event sent
-pub acted-one : (C : Setting) (a b c : PassView) (act : Act) (count : ℕ) → HasMadeCalls a b (try_calls (number_of a) act) → number_of b ≡ number_of a
-    → HasMadeCalls b c (postings C.shape (number_of b) (sent_by (done_in C.shape act))) → count ≡ length (events_in C.shape (act ∷ [])) → HasActed C a c (act ∷ []) count
+pub acted-one : (C : Setting) (a b c : PassView) (act : Act) (count : ℕ) → HasMadeCalls a b (try_calls (pass_number a) act) → pass_number b ≡ pass_number a
+    → HasMadeCalls b c (postings C.shape (pass_number b) (posted_by (act_done C.shape act))) → count ≡ length (events_in C.shape (act ∷ [])) → HasActed C a c (act ∷ []) count
 acted-one C a b c act count tries same posts counted = record {
-  calls = made-alone a c (act_calls C.shape (number_of a) act) (made-split a b c (act_calls C.shape (number_of a) act) (try_calls (number_of a) act) (postings C.shape (number_of a) (sent_by (done_in C.shape act))) (splits-both _ _) tries (subst (λ n. HasMadeCalls b c (postings C.shape n (sent_by (done_in C.shape act)))) same posts));
+  calls = made-alone a c (act_calls C.shape (pass_number a) act) (made-split a b c (act_calls C.shape (pass_number a) act) (try_calls (pass_number a) act) (postings C.shape (pass_number a) (posted_by (act_done C.shape act))) (splits-both _ _) tries (subst (λ n. HasMadeCalls b c (postings C.shape n (posted_by (act_done C.shape act)))) same posts));
   counted = counted;
 }
 
 -- acts after others
-pub acted-both : (C : Setting) (a b c : PassView) (xs ys : List Act) (m n : ℕ) → HasActed C a b xs m → number_of b ≡ number_of a → HasActed C b c ys n → HasActed C a c (xs ++ ys) (m + n)
+pub acted-both : (C : Setting) (a b c : PassView) (xs ys : List Act) (m n : ℕ) → HasActed C a b xs m → pass_number b ≡ pass_number a → HasActed C b c ys n → HasActed C a c (xs ++ ys) (m + n)
 acted-both C a b c xs ys m n one same two = record {
-  calls = calls-follow C.shape (number_of a) xs ys a b c one.calls (subst (λ k. HasMadeCalls b c (calls_in C.shape k ys)) same two.calls);
-  counted = ap (λ k. k + n) one.counted ∙ (ap (λ k. length (events_in C.shape xs) + k) two.counted ∙ (sym (length-append (events_in C.shape xs) (events_in C.shape ys)) ∙ ap length (sym (filter_map-append (done_in C.shape) xs ys))));
+  calls = calls-follow C.shape (pass_number a) xs ys a b c one.calls (subst (λ k. HasMadeCalls b c (calls_in C.shape k ys)) same two.calls);
+  counted = ap (λ k. k + n) one.counted ∙ (ap (λ k. length (events_in C.shape xs) + k) two.counted ∙ (sym (length-append (events_in C.shape xs) (events_in C.shape ys)) ∙ ap length (sym (filter_map-append (act_done C.shape) xs ys))));
 }
 
 range-more : (from n : ℕ) → range_with_len from (suc n) ≡ range_with_len from n ++ (from + n) ∷ []
@@ -95,12 +95,12 @@ listed-cons (Some y) = refl
 
 -- the keeper's letter to one core more was posted
 pub letters-more : (a b c : PassView) (shape : Shape) (note : KeeperNote) (core : ℕ)
-    → HasMadeCalls a b (postings shape (number_of a) (filter_map (letter_to note) (range_with_len 0 core))) → number_of b ≡ number_of a
-    → HasMadeCalls b c (postings shape (number_of b) (option_to_list (letter_to note core)))
-    → HasMadeCalls a c (postings shape (number_of a) (filter_map (letter_to note) (range_with_len 0 (core + 1))))
+    → HasMadeCalls a b (postings shape (pass_number a) (filter_map (letter_to note) (range_with_len 0 core))) → pass_number b ≡ pass_number a
+    → HasMadeCalls b c (postings shape (pass_number b) (option_to_list (letter_to note core)))
+    → HasMadeCalls a c (postings shape (pass_number a) (filter_map (letter_to note) (range_with_len 0 (core + 1))))
 letters-more a b c shape note core had same one =
     let first = filter_map (letter_to note) (range_with_len 0 core) in
     let all : filter_map (letter_to note) (range_with_len 0 (core + 1)) ≡ first ++ option_to_list (letter_to note core) =
     ap (filter_map (letter_to note)) (range-next core) ∙ (filter_map-append (letter_to note) (range_with_len 0 core) (core ∷ []) ∙ ap (λ (l : List Posted). first ++ l) (sym (listed-cons (letter_to note core)))) in
-    subst (λ l. HasMadeCalls a c (postings shape (number_of a) l)) (sym all)
-    (made-split a b c _ _ _ (posts-split shape (number_of a) first (option_to_list (letter_to note core))) had (subst (λ k. HasMadeCalls b c (postings shape k (option_to_list (letter_to note core)))) same one))
+    subst (λ l. HasMadeCalls a c (postings shape (pass_number a) l)) (sym all)
+    (made-split a b c _ _ _ (posts-split shape (pass_number a) first (option_to_list (letter_to note core))) had (subst (λ k. HasMadeCalls b c (postings shape k (option_to_list (letter_to note core)))) same one))

@@ -12,7 +12,7 @@ use Rattle.grant_log.specs.declared.log.Stamped.{Stamped}
 use Rattle.message_net.specs.declared.actor.Actor.{Actor}
 use Rattle.message_net.specs.declared.actor.Actor.TheVariants.{Core, Bank, Keeper}
 use Rattle.registration_protocol.specs.Node.{Setting}
-use Rattle.bank_hall.specs.Halls.{PassView, number_of}
+use Rattle.bank_hall.specs.Halls.{PassView, pass_number}
 use Rattle.round_rules.specs.Acts.{Act, actor_of, is_act_of, tried_in, events_in, note_of}
 use Rattle.round_rules.specs.Passes.{own_acts, tries_of}
 use Rattle.round_rules.specs.Steps.{Done}
@@ -20,8 +20,8 @@ use Rattle.message_net.specs.declared.event.Event.{Event}
 use Rattle.host_workers.specs.declared.crew.BankLog.{BankLog}
 use Rattle.host_workers.specs.declared.crew.Crew.{Crew}
 use Rattle.host_workers.specs.declared.owned.Owned.{Owned}
-use Rattle.host_workers.specs.Crews.{held_of, core_of, bank_of, goes_on, keeper_log, IsOwned, IsCrew}
-use Rattle.host_workers.specs.Work.{AreOf, IsServed, IsStepped, IsKept, HasDone, HaveDone, Each, joined}
+use Rattle.host_workers.specs.Crews.{held_of, owned_core, bank_of, owned_has_numbers, keeper_log, IsOwned, IsCrew}
+use Rattle.host_workers.specs.Work.{AreOf, IsCoreServed, IsStepped, IsKeeperServed, HasDone, HaveDone, Each, in_one_list}
 use Rattle.host_workers.specs.Pass.{actors_of, tries_by, IsActOf, IsKeptOf, HasMore, HasWorked}
 use Rattle.host_workers.proofs.Calls.{acted-both}
 use Rattle.host_workers.proofs.Filters.{filter-own, filter-other, gone-by, turn-by}
@@ -65,7 +65,7 @@ keeper-core core e = subst (in_group 2) e tt
 keeper-bank : (bank : BankId) → Keeper ≢ Bank bank
 keeper-bank bank e = subst (in_group 2) e tt
 
-served-are : (C : Setting) (o p : Owned) (acts : List Act) → IsServed C o p acts → AreOf (core_actor o) acts
+served-are : (C : Setting) (o p : Owned) (acts : List Act) → IsCoreServed C o p acts → AreOf (core_actor o) acts
 served-are C o p acts s = s.own
 
 stepped-are : (C : Setting) (b d : BankLog) (acts : List Act) → IsStepped C b d acts → AreOf (bank_actor b) acts
@@ -84,17 +84,17 @@ own-tries core true None done = refl
 own-tries core false (Some e) done = refl
 own-tries core false None done = refl
 
-served-tries : (C : Setting) (o p : Owned) (acts : List Act) → IsServed C o p acts → filter_map tried_in acts ≡ (if goes_on o then Core o.core ∷ [] else [])
-served-tries C o p acts s = by (goes_on o) refl where
-  by : (b : Bool) → goes_on o ≡ b → filter_map tried_in acts ≡ (if b then Core o.core ∷ [] else [])
+served-tries : (C : Setting) (o p : Owned) (acts : List Act) → IsCoreServed C o p acts → filter_map tried_in acts ≡ (if owned_has_numbers o then Core o.core ∷ [] else [])
+served-tries C o p acts s = by (owned_has_numbers o) refl where
+  by : (b : Bool) → owned_has_numbers o ≡ b → filter_map tried_in acts ≡ (if b then Core o.core ∷ [] else [])
   by true e = let t = s.turn e in ap (filter_map tried_in) t.acts_are ∙ ap (λ l. Core o.core ∷ l) (own-tries o.core _ _ t.done)
   by false e = ap (filter_map tried_in) (s.stays e)
 
-cores-tries : (C : Setting) (olds nows : List Owned) (parts : List (List Act)) → Each (IsServed C) olds nows parts → filter_map tried_in (joined parts) ≡ map Core (map core_of (filter goes_on olds))
+cores-tries : (C : Setting) (olds nows : List Owned) (parts : List (List Act)) → Each (IsCoreServed C) olds nows parts → filter_map tried_in (in_one_list parts) ≡ map Core (map owned_core (filter owned_has_numbers olds))
 cores-tries C [] [] [] each = refl
 cores-tries C (o ∷ olds) (n ∷ nows) (part ∷ parts) each =
-    filter_map-append tried_in part (joined parts) ∙ (rw (served-tries C o n part each.0, cores-tries C olds nows parts each.1) (with-first (goes_on o) (filter goes_on olds))) where
-      with-first : (b : Bool) (rest : List Owned) → (if b then Core o.core ∷ [] else []) ++ map Core (map core_of rest) ≡ map Core (map core_of (if b then o ∷ rest else rest))
+    filter_map-append tried_in part (in_one_list parts) ∙ (rw (served-tries C o n part each.0, cores-tries C olds nows parts each.1) (with-first (owned_has_numbers o) (filter owned_has_numbers olds))) where
+      with-first : (b : Bool) (rest : List Owned) → (if b then Core o.core ∷ [] else []) ++ map Core (map owned_core rest) ≡ map Core (map owned_core (if b then o ∷ rest else rest))
       with-first true rest = refl
       with-first false rest = refl
 cores-tries C [] [] (part ∷ parts) each = absurd each
@@ -102,11 +102,11 @@ cores-tries C [] (n ∷ nows) parts each = absurd each
 cores-tries C (o ∷ olds) [] parts each = absurd each
 cores-tries C (o ∷ olds) (n ∷ nows) [] each = absurd each
 
-banks-tries : (C : Setting) (olds nows : List BankLog) (parts : List (List Act)) → Each (IsStepped C) olds nows parts → filter_map tried_in (joined parts) ≡ map Bank (map bank_of olds)
+banks-tries : (C : Setting) (olds nows : List BankLog) (parts : List (List Act)) → Each (IsStepped C) olds nows parts → filter_map tried_in (in_one_list parts) ≡ map Bank (map bank_of olds)
 banks-tries C [] [] [] each = refl
 banks-tries C (o ∷ olds) (n ∷ nows) (part ∷ parts) each =
     let here : filter_map tried_in part ≡ Bank o.bank ∷ [] = ap (filter_map tried_in) each.0.acts_are in
-    filter_map-append tried_in part (joined parts) ∙ (rw (here, banks-tries C olds nows parts each.1) refl)
+    filter_map-append tried_in part (in_one_list parts) ∙ (rw (here, banks-tries C olds nows parts each.1) refl)
 banks-tries C [] [] (part ∷ parts) each = absurd each
 banks-tries C [] (n ∷ nows) parts each = absurd each
 banks-tries C (o ∷ olds) [] parts each = absurd each
@@ -116,31 +116,31 @@ abbrev keeper_if : Bool → List Actor
 keeper_if true = Keeper ∷ []
 keeper_if false = []
 
-kept-tries : (C : Setting) (x y : Option (List Stamped)) (acts : List Act) → IsKept C x y acts → filter_map tried_in acts ≡ keeper_if (is_some x)
+kept-tries : (C : Setting) (x y : Option (List Stamped)) (acts : List Act) → IsKeeperServed C x y acts → filter_map tried_in acts ≡ keeper_if (is_some x)
 kept-tries C None None acts k = ap (filter_map tried_in) k
 kept-tries C (Some x) (Some y) acts k = ap (filter_map tried_in) k.acts_are
 kept-tries C None (Some y) acts k = absurd k
 kept-tries C (Some x) None acts k = absurd k
 
-kept-are : (C : Setting) (x y : Option (List Stamped)) (acts : List Act) → IsKept C x y acts → AreOf Keeper acts
+kept-are : (C : Setting) (x y : Option (List Stamped)) (acts : List Act) → IsKeeperServed C x y acts → AreOf Keeper acts
 kept-are C None None acts k = subst (AreOf Keeper) (sym k) tt
 kept-are C (Some x) (Some y) acts k = subst (AreOf Keeper) (sym k.acts_are) (refl, tt)
 kept-are C None (Some y) acts k = absurd k
 kept-are C (Some x) None acts k = absurd k
 
-kept-more : (C : Setting) (x y : Option (List Stamped)) (acts : List Act) → IsKept C x y acts → HasMore (map note_of (events_in C.shape acts)) x y
+kept-more : (C : Setting) (x y : Option (List Stamped)) (acts : List Act) → IsKeeperServed C x y acts → HasMore (map note_of (events_in C.shape acts)) x y
 kept-more C None None acts k = tt
 kept-more C (Some x) (Some y) acts k = k.log
 kept-more C None (Some y) acts k = absurd k
 kept-more C (Some x) None acts k = absurd k
 
-kept-of : (C : Setting) (x y : Option (List Stamped)) (acts own : List Act) → IsKept C x y own → filter (is_act_of Keeper) acts ≡ own → IsKeptOf acts (is_some x)
+kept-of : (C : Setting) (x y : Option (List Stamped)) (acts own : List Act) → IsKeeperServed C x y own → filter (is_act_of Keeper) acts ≡ own → IsKeptOf acts (is_some x)
 kept-of C None None acts own k is = is ∙ k
 kept-of C (Some x) (Some y) acts own k is = (k.pick, k.note, is ∙ k.acts_are)
 kept-of C None (Some y) acts own k is = absurd k
 kept-of C (Some x) None acts own k is = absurd k
 
-kept-among : (C : Setting) (all : List Actor) (x y : Option (List Stamped)) (acts : List Act) → IsKept C x y acts → (is_some x ≡ true → Contains all Keeper) → All (λ act. Contains all (actor_of act)) acts
+kept-among : (C : Setting) (all : List Actor) (x y : Option (List Stamped)) (acts : List Act) → IsKeeperServed C x y acts → (is_some x ≡ true → Contains all Keeper) → All (λ act. Contains all (actor_of act)) acts
 kept-among C all None None acts k has = subst (All (λ act. Contains all (actor_of act))) (sym k) (λ i d within. absurd (omega (arith, within)))
 kept-among C all (Some x) (Some y) acts k has = subst (All (λ act. Contains all (actor_of act))) (sym k.acts_are) (All-cons (λ act. Contains all (actor_of act)) _ [] (has refl) (λ i d within. absurd (omega (arith, within))))
 kept-among C all None (Some y) acts k has = absurd k
@@ -193,18 +193,18 @@ rises f number olds nows same rise = λ i j d before within.
 
 module _ (C : Setting) (a b c d : PassView) (had has : Crew) (m n k : ℕ)
     (crew : IsCrew C had)
-    (served : HaveDone (IsServed C) C a b had.cores.items has.cores.items m)
+    (served : HaveDone (IsCoreServed C) C a b had.cores.items has.cores.items m)
     (stepped : HaveDone (IsStepped C) C b c had.banks.items has.banks.items n)
-    (kept : HasDone (IsKept C) C c d (keeper_log had) (keeper_log has) k) where
+    (kept : HasDone (IsKeeperServed C) C c d (keeper_log had) (keeper_log has) k) where
   abbrev all_acts : List Act
-  all_acts = (joined served.parts ++ joined stepped.parts) ++ kept.acts
+  all_acts = (in_one_list served.parts ++ in_one_list stepped.parts) ++ kept.acts
 
-  split : (actor : Actor) → filter (is_act_of actor) all_acts ≡ (filter (is_act_of actor) (joined served.parts) ++ filter (is_act_of actor) (joined stepped.parts)) ++ filter (is_act_of actor) kept.acts
-  split actor = filter-append (is_act_of actor) (joined served.parts ++ joined stepped.parts) kept.acts ∙ ap (λ l. l ++ filter (is_act_of actor) kept.acts) (filter-append (is_act_of actor) (joined served.parts) (joined stepped.parts))
+  split : (actor : Actor) → filter (is_act_of actor) all_acts ≡ (filter (is_act_of actor) (in_one_list served.parts) ++ filter (is_act_of actor) (in_one_list stepped.parts)) ++ filter (is_act_of actor) kept.acts
+  split actor = filter-append (is_act_of actor) (in_one_list served.parts ++ in_one_list stepped.parts) kept.acts ∙ ap (λ l. l ++ filter (is_act_of actor) kept.acts) (filter-append (is_act_of actor) (in_one_list served.parts) (in_one_list stepped.parts))
 
-  of-core : (i : ℕ) (o p : Owned) → slice_get had.cores.items i ≡ Some o → slice_get has.cores.items i ≡ Some p → (own : List Act) × (filter (is_act_of (Core o.core)) all_acts ≡ own) × IsServed C o p own
+  of-core : (i : ℕ) (o p : Owned) → slice_get had.cores.items i ≡ Some o → slice_get has.cores.items i ≡ Some p → (own : List Act) × (filter (is_act_of (Core o.core)) all_acts ≡ own) × IsCoreServed C o p own
   of-core i o p at now =
-      let found = own-of core_actor (IsServed C) (served-are C) had.cores.items has.cores.items served.parts served.each (cores-apart had.cores.items crew.cores_rise) i o p at now in
+      let found = own-of core_actor (IsCoreServed C) (served-are C) had.cores.items has.cores.items served.parts served.each (cores-apart had.cores.items crew.cores_rise) i o p at now in
       let no-bank = none-of bank_actor (IsStepped C) (stepped-are C) (Core o.core) had.banks.items has.banks.items stepped.parts stepped.each (λ j q there. core-bank o.core q.bank) in
       let no-keeper = filter-other (Core o.core) Keeper kept.acts (core-keeper o.core) (kept-are C (keeper_log had) (keeper_log has) kept.acts kept.does) in
       (found.0, split (Core o.core) ∙ (rw (found.1, no-bank, no-keeper) (append-nil (found.0 ++ []) ∙ append-nil found.0)), found.2)
@@ -212,13 +212,13 @@ module _ (C : Setting) (a b c d : PassView) (had has : Crew) (m n k : ℕ)
   of-bank : (i : ℕ) (o p : BankLog) → slice_get had.banks.items i ≡ Some o → slice_get has.banks.items i ≡ Some p → (own : List Act) × (filter (is_act_of (Bank o.bank)) all_acts ≡ own) × IsStepped C o p own
   of-bank i o p at now =
       let found = own-of bank_actor (IsStepped C) (stepped-are C) had.banks.items has.banks.items stepped.parts stepped.each (banks-apart had.banks.items crew.banks_rise) i o p at now in
-      let no-core = none-of core_actor (IsServed C) (served-are C) (Bank o.bank) had.cores.items has.cores.items served.parts served.each (λ j q there. bank-core o.bank q.core) in
+      let no-core = none-of core_actor (IsCoreServed C) (served-are C) (Bank o.bank) had.cores.items has.cores.items served.parts served.each (λ j q there. bank-core o.bank q.core) in
       let no-keeper = filter-other (Bank o.bank) Keeper kept.acts (bank-keeper o.bank) (kept-are C (keeper_log had) (keeper_log has) kept.acts kept.does) in
       (found.0, split (Bank o.bank) ∙ (rw (found.1, no-core, no-keeper) (append-nil found.0)), found.2)
 
   of-keeper : filter (is_act_of Keeper) all_acts ≡ kept.acts
   of-keeper =
-      let no-core = none-of core_actor (IsServed C) (served-are C) Keeper had.cores.items has.cores.items served.parts served.each (λ j q there. keeper-core q.core) in
+      let no-core = none-of core_actor (IsCoreServed C) (served-are C) Keeper had.cores.items has.cores.items served.parts served.each (λ j q there. keeper-core q.core) in
       let no-bank = none-of bank_actor (IsStepped C) (stepped-are C) Keeper had.banks.items has.banks.items stepped.parts stepped.each (λ j q there. keeper-bank q.bank) in
       let own = filter-own Keeper kept.acts (kept-are C (keeper_log had) (keeper_log has) kept.acts kept.does) in
       split Keeper ∙ (rw (no-core, no-bank, own) refl)
@@ -226,41 +226,41 @@ module _ (C : Setting) (a b c d : PassView) (had has : Crew) (m n k : ℕ)
   tried : filter_map tried_in all_acts ≡ tries_by had
   tried =
       let keeper = kept-tries C (keeper_log had) (keeper_log has) kept.acts kept.does ∙ ap keeper_if (is_some-map _ had.keeper) in
-      filter_map-append tried_in (joined served.parts ++ joined stepped.parts) kept.acts
-      ∙ (ap (λ l. l ++ filter_map tried_in kept.acts) (filter_map-append tried_in (joined served.parts) (joined stepped.parts))
-      ∙ (rw (cores-tries C had.cores.items has.cores.items served.parts served.each, banks-tries C had.banks.items has.banks.items stepped.parts stepped.each, keeper) (tries-are (map core_of (filter goes_on had.cores.items)) (map bank_of had.banks.items) (is_some had.keeper))))
+      filter_map-append tried_in (in_one_list served.parts ++ in_one_list stepped.parts) kept.acts
+      ∙ (ap (λ l. l ++ filter_map tried_in kept.acts) (filter_map-append tried_in (in_one_list served.parts) (in_one_list stepped.parts))
+      ∙ (rw (cores-tries C had.cores.items has.cores.items served.parts served.each, banks-tries C had.banks.items has.banks.items stepped.parts stepped.each, keeper) (tries-are (map owned_core (filter owned_has_numbers had.cores.items)) (map bank_of had.banks.items) (is_some had.keeper))))
 
-  actors-are : (map Core (map core_of had.cores.items) ++ map Bank (map bank_of had.banks.items)) ++ keeper_if (is_some had.keeper) ≡ actors_of had
-  actors-are = tries-are (map core_of had.cores.items) (map bank_of had.banks.items) (is_some had.keeper)
+  actors-are : (map Core (map owned_core had.cores.items) ++ map Bank (map bank_of had.banks.items)) ++ keeper_if (is_some had.keeper) ≡ actors_of had
+  actors-are = tries-are (map owned_core had.cores.items) (map bank_of had.banks.items) (is_some had.keeper)
 
   core-among : (i : ℕ) (o : Owned) → slice_get had.cores.items i ≡ Some o → Contains (actors_of had) (Core o.core)
-  core-among i o at = subst (λ l. Contains l (Core o.core)) actors-are (Contains-append_left _ (keeper_if (is_some had.keeper)) (Core o.core) (Contains-append_left (map Core (map core_of had.cores.items)) (map Bank (map bank_of had.banks.items)) (Core o.core) (map_map-has Core core_of had.cores.items i o at)))
+  core-among i o at = subst (λ l. Contains l (Core o.core)) actors-are (Contains-append_left _ (keeper_if (is_some had.keeper)) (Core o.core) (Contains-append_left (map Core (map owned_core had.cores.items)) (map Bank (map bank_of had.banks.items)) (Core o.core) (map_map-has Core owned_core had.cores.items i o at)))
 
   bank-among : (i : ℕ) (o : BankLog) → slice_get had.banks.items i ≡ Some o → Contains (actors_of had) (Bank o.bank)
-  bank-among i o at = subst (λ l. Contains l (Bank o.bank)) actors-are (Contains-append_left _ (keeper_if (is_some had.keeper)) (Bank o.bank) (Contains-append_right (map Core (map core_of had.cores.items)) (map Bank (map bank_of had.banks.items)) (Bank o.bank) (map_map-has Bank bank_of had.banks.items i o at)))
+  bank-among i o at = subst (λ l. Contains l (Bank o.bank)) actors-are (Contains-append_left _ (keeper_if (is_some had.keeper)) (Bank o.bank) (Contains-append_right (map Core (map owned_core had.cores.items)) (map Bank (map bank_of had.banks.items)) (Bank o.bank) (map_map-has Bank bank_of had.banks.items i o at)))
 
   keeper-among : is_some (keeper_log had) ≡ true → Contains (actors_of had) Keeper
   keeper-among e =
       let there : is_some had.keeper ≡ true = sym (is_some-map _ had.keeper) ∙ e in
       let one : Contains (keeper_if (is_some had.keeper)) Keeper = subst (λ t. Contains (keeper_if t) Keeper) (sym there) (0, omega arith, refl) in
-      subst (λ l. Contains l Keeper) actors-are (Contains-append_right (map Core (map core_of had.cores.items) ++ map Bank (map bank_of had.banks.items)) (keeper_if (is_some had.keeper)) Keeper one)
+      subst (λ l. Contains l Keeper) actors-are (Contains-append_right (map Core (map owned_core had.cores.items) ++ map Bank (map bank_of had.banks.items)) (keeper_if (is_some had.keeper)) Keeper one)
 
   own-acts : All (IsActOf had) all_acts
   own-acts =
-      All-append (IsActOf had) (joined served.parts ++ joined stepped.parts) kept.acts
-      (All-append (IsActOf had) (joined served.parts) (joined stepped.parts)
-      (all-among core_actor (IsServed C) (served-are C) (actors_of had) had.cores.items has.cores.items served.parts served.each core-among)
+      All-append (IsActOf had) (in_one_list served.parts ++ in_one_list stepped.parts) kept.acts
+      (All-append (IsActOf had) (in_one_list served.parts) (in_one_list stepped.parts)
+      (all-among core_actor (IsCoreServed C) (served-are C) (actors_of had) had.cores.items has.cores.items served.parts served.each core-among)
       (all-among bank_actor (IsStepped C) (stepped-are C) (actors_of had) had.banks.items has.banks.items stepped.parts stepped.each bank-among))
       (kept-among C (actors_of had) (keeper_log had) (keeper_log has) kept.acts kept.does keeper-among)
 
-  same-cores : map core_of has.cores.items ≡ map core_of had.cores.items
-  same-cores = each-map (IsServed C) core_of (λ o p acts s. s.core) had.cores.items has.cores.items served.parts served.each
+  same-cores : map owned_core has.cores.items ≡ map owned_core had.cores.items
+  same-cores = each-map (IsCoreServed C) owned_core (λ o p acts s. s.core) had.cores.items has.cores.items served.parts served.each
 
   same-banks : map bank_of has.banks.items ≡ map bank_of had.banks.items
   same-banks = each-map (IsStepped C) bank_of (λ o p acts s. s.bank) had.banks.items has.banks.items stepped.parts stepped.each
 
   long : length has.cores.items ≡ length had.cores.items
-  long = sym (length-map has.cores.items core_of) ∙ (ap length same-cores ∙ length-map had.cores.items core_of)
+  long = sym (length-map has.cores.items owned_core) ∙ (ap length same-cores ∙ length-map had.cores.items owned_core)
 
   -- the core stands in its place still
   has-core : (i : ℕ) (o : Owned) → slice_get had.cores.items i ≡ Some o → (p : Owned) × (slice_get has.cores.items i ≡ Some p)
@@ -273,9 +273,9 @@ module _ (C : Setting) (a b c d : PassView) (had has : Crew) (m n k : ℕ)
   has-bank : (i : ℕ) (o : BankLog) → slice_get had.banks.items i ≡ Some o → (p : BankLog) × (slice_get has.banks.items i ≡ Some p)
   has-bank i o at = (get_or has.banks.items i o, slice_get-get_or has.banks.items i o (omega (arith, long-banks, slice_get_within had.banks.items i o at)))
 
-  pub worked : number_of b ≡ number_of a → number_of c ≡ number_of b → has.worker ≡ had.worker → HasWorked C a d had has ((m + n) + k)
+  pub worked : pass_number b ≡ pass_number a → pass_number c ≡ pass_number b → has.worker ≡ had.worker → HasWorked C a d had has ((m + n) + k)
   worked same-b same-c worker =
-      let acted = acted-both C a c d (joined served.parts ++ joined stepped.parts) kept.acts (m + n) k (acted-both C a b c (joined served.parts) (joined stepped.parts) m n served.acted same-b stepped.acted) (same-c ∙ same-b) kept.acted in record {
+      let acted = acted-both C a c d (in_one_list served.parts ++ in_one_list stepped.parts) kept.acts (m + n) k (acted-both C a b c (in_one_list served.parts) (in_one_list stepped.parts) m n served.acted same-b stepped.acted) (same-c ∙ same-b) kept.acted in record {
         acts = all_acts;
         work = record {
           calls = acted.calls;
@@ -301,8 +301,8 @@ module _ (C : Setting) (a b c d : PassView) (had has : Crew) (m n k : ℕ)
 
   pub crew-kept : IsCrew C has
   crew-kept = record {
-    cores = each-all (IsServed C) (IsOwned C) (λ o p acts owned s. record { inside = subst (λ (core : CoreId). core.0 < C.shape.cores) (sym s.core) owned.inside; fits = s.fits }) had.cores.items has.cores.items served.parts served.each crew.cores;
-    cores_rise = rises core_of (λ (core : CoreId). core.0) had.cores.items has.cores.items same-cores crew.cores_rise;
+    cores = each-all (IsCoreServed C) (IsOwned C) (λ o p acts owned s. record { inside = subst (λ (core : CoreId). core.0 < C.shape.cores) (sym s.core) owned.inside; fits = s.fits }) had.cores.items has.cores.items served.parts served.each crew.cores;
+    cores_rise = rises owned_core (λ (core : CoreId). core.0) had.cores.items has.cores.items same-cores crew.cores_rise;
     banks = each-all (IsStepped C) (λ (o : BankLog). o.bank.0 < C.shape.banks) (λ o p acts inside s. subst (λ (bank : BankId). bank.0 < C.shape.banks) (sym s.bank) inside) had.banks.items has.banks.items stepped.parts stepped.each crew.banks;
     banks_rise = rises bank_of (λ (bank : BankId). bank.0) had.banks.items has.banks.items same-banks crew.banks_rise;
   }

@@ -7,17 +7,17 @@ use Rattle.region_table.specs.Tasks.{declared}
 use Rattle.rv_core.specs.declared.ending.TaskEnd.{TaskEnd}
 use Rattle.message_net.specs.declared.event.Event.{Event}
 use Rattle.registration_protocol.specs.Node.{NodeParts, Setting}
-use Rattle.machine_rules.specs.State.{State, opened}
+use Rattle.machine_rules.specs.State.{State, initial_state}
 use Rattle.machine_rules.specs.Next.{next, enabled}
-use Rattle.machine_rules.specs.Runs.{after, IsRun, read_off, later, end_in_phase, last_end}
+use Rattle.machine_rules.specs.Runs.{after, IsRun, read_off, newer_or, end_in_phase, last_end}
 use Rattle.machine_rules.specs.Sound.{IsReady, IsMachine}
 use Rattle.machine_rules.proofs.OpenedFacts.{opened-setting, opened-node}
 use Rattle.machine_rules.proofs.RunsKept.{memory_over, same-setting, run-setting}
 use Rattle.machine_rules.proofs.RunsCoherent.{first_memory, run-all}
-use Rattle.dn_machine.specs.Ends.{EndTable, place_of, with_end, no_ends, AreLastEnds}
+use Rattle.dn_machine.specs.Ends.{EndTable, end_index, with_end, no_ends, AreLastEnds}
 use Rattle.dn_machine.proofs.LogLemmas.{log-opened}
 use Rattle.dn_machine.proofs.ScheduleLaws.{after-more}
-use Rattle.round_rules.specs.Rounds.{end_told}
+use Rattle.round_rules.specs.Rounds.{end_observed}
 use Rattle.host_workers.specs.Ends.{with_ends}
 use Rattle.host_workers.proofs.EndPlaces.{own-noted, other-noted}
 use Rattle.host_workers.proofs.EndsNoted.{IsNoted, IsLast, stays-noted, begins-noted, arrives-noted}
@@ -25,26 +25,26 @@ use Rattle.host_workers.proofs.EndsMoved.{Way, Stayed, Began, Arrived, MovesNode
 
 -- ---- how a task stood last
 
-later-twice : {X : Type 0} (a b c : Option X) → later (later a b) c ≡ later a (later b c)
+later-twice : {X : Type 0} (a b c : Option X) → newer_or (newer_or a b) c ≡ newer_or a (newer_or b c)
 later-twice None b c = refl
 later-twice (Some x) b c = refl
 
-later-same : {X : Type 0} (a : Option X) → a ≡ later a a
+later-same : {X : Type 0} (a : Option X) → a ≡ newer_or a a
 later-same None = refl
 later-same (Some x) = refl
 
 last-more : (phase core : ℕ) (S : State) (events : List Event) (e : Event)
-    → last_end phase core S (events ++ e ∷ []) ≡ later (end_in_phase phase (slice_get (next (after S events) e).nodes core)) (last_end phase core S events)
+    → last_end phase core S (events ++ e ∷ []) ≡ newer_or (end_in_phase phase (slice_get (next (after S events) e).nodes core)) (last_end phase core S events)
 last-more phase core S [] e = refl
 last-more phase core S (x ∷ xs) e =
-    ap (λ (o : Option TaskEnd). later o (end_in_phase phase (slice_get S.nodes core))) (last-more phase core (next S x) xs e)
+    ap (λ (o : Option TaskEnd). newer_or o (end_in_phase phase (slice_get S.nodes core))) (last-more phase core (next S x) xs e)
     ∙ later-twice (end_in_phase phase (slice_get (next (after (next S x) xs) e).nodes core)) (last_end phase core (next S x) xs) (end_in_phase phase (slice_get S.nodes core))
 
 pub last-shown : (phase core : ℕ) (S : State) (events : List Event)
-    → last_end phase core S events ≡ later (end_in_phase phase (slice_get (after S events).nodes core)) (last_end phase core S events)
+    → last_end phase core S events ≡ newer_or (end_in_phase phase (slice_get (after S events).nodes core)) (last_end phase core S events)
 last-shown phase core S [] = later-same (end_in_phase phase (slice_get S.nodes core))
 last-shown phase core S (x ∷ xs) =
-    ap (λ (o : Option TaskEnd). later o (end_in_phase phase (slice_get S.nodes core))) (last-shown phase core (next S x) xs)
+    ap (λ (o : Option TaskEnd). newer_or o (end_in_phase phase (slice_get S.nodes core))) (last-shown phase core (next S x) xs)
     ∙ later-twice (end_in_phase phase (slice_get (after (next S x) xs).nodes core)) (last_end phase core (next S x) xs) (end_in_phase phase (slice_get S.nodes core))
 
 -- ---- what the table has of a core's task of a phase
@@ -60,33 +60,33 @@ pub record IsNotedAt (phase : ℕ) (node : Option NodeParts) (there : Option (Op
 
 pub record AreNoted (S : State) (events : List Event) (table : EndTable) : Type 0 where
   pub each : (phase core : ℕ) → phase < length S.setting.program.phases → core < 16
-      → IsNotedAt phase (slice_get (after S events).nodes core) (slice_get table (place_of phase core)) (last_end phase core S events)
+      → IsNotedAt phase (slice_get (after S events).nodes core) (slice_get table (end_index phase core)) (last_end phase core S events)
 
 -- ---- one event more
 
 -- a node that stays what it was
-same-node : (phase : ℕ) (o : Option NodeParts) (there : Option (Option TaskEnd)) (last : Option TaskEnd) → last ≡ later (end_in_phase phase o) last → IsNotedAt phase o there last
-    → IsNotedAt phase o there (later (end_in_phase phase o) last)
+same-node : (phase : ℕ) (o : Option NodeParts) (there : Option (Option TaskEnd)) (last : Option TaskEnd) → last ≡ newer_or (end_in_phase phase o) last → IsNotedAt phase o there last
+    → IsNotedAt phase o there (newer_or (end_in_phase phase o) last)
 same-node phase o there last shown noted = subst (IsNotedAt phase o there) shown noted
 
 -- the node that the event changes
 own-node : (table : EndTable) (told : Option TaskEnd) (phase core : ℕ) (n m : NodeParts) (last : Option TaskEnd) → n.core ≡ core → core < 16 → (m.phase ≡ n.phase → m.task ≡ None → n.task ≡ None)
-    → IsLast phase n last → Way n m told → IsNotedAt phase (Some n) (slice_get table (place_of phase core)) last
-    → IsNotedAt phase (Some m) (slice_get (with_end told table) (place_of phase core)) (later (end_in_phase phase (Some m)) last)
+    → IsLast phase n last → Way n m told → IsNotedAt phase (Some n) (slice_get table (end_index phase core)) last
+    → IsNotedAt phase (Some m) (slice_get (with_end told table) (end_index phase core)) (newer_or (end_in_phase phase (Some m)) last)
 own-node table told phase core n m last place small tasks shown (Stayed none stays) noted =
     rw none (record { seen = noted.seen; is = noted.is; noted = stays-noted phase n m noted.seen last (tasks stays.phase) stays shown noted.noted })
 own-node table told phase core n m last place small tasks shown (Began none begins) noted =
     rw none (record { seen = noted.seen; is = noted.is; noted = begins-noted phase n m noted.seen last begins noted.noted })
 own-node table told phase core n m last place small tasks shown (Arrived ended arrives) noted =
     rw ended (record {
-      seen = later (end_in_phase phase (Some n)) noted.seen;
+      seen = newer_or (end_in_phase phase (Some n)) noted.seen;
       is = own-noted table n phase core noted.seen place small noted.is;
       noted = arrives-noted phase n m noted.seen last arrives shown noted.noted;
     })
 
 -- the table of another core
 other-table : (table : EndTable) (told : Option TaskEnd) (phase core : ℕ) (n m : NodeParts) → n.core < 16 → core < 16 → (n.core ≡ core → ⊥) → Way n m told
-    → slice_get (with_end told table) (place_of phase core) ≡ slice_get table (place_of phase core)
+    → slice_get (with_end told table) (end_index phase core) ≡ slice_get table (end_index phase core)
 other-table table told phase core n m low small other (Stayed none stays) = rw none refl
 other-table table told phase core n m low small other (Began none begins) = rw none refl
 other-table table told phase core n m low small other (Arrived ended arrives) = rw ended (other-noted table n phase core low small other)
@@ -106,22 +106,22 @@ seated S machine most =
     }
 
 event-noted : (S T : State) (told : Option TaskEnd) (table : EndTable) (phase core : ℕ) (last : Option TaskEnd) → AreSeated S → AreSeated T → T.setting ≡ S.setting → core < 16
-    → last ≡ later (end_in_phase phase (slice_get S.nodes core)) last
+    → last ≡ newer_or (end_in_phase phase (slice_get S.nodes core)) last
     → LeavesNodes S T told ⊎ MovesNode S T told
-    → IsNotedAt phase (slice_get S.nodes core) (slice_get table (place_of phase core)) last
-    → IsNotedAt phase (slice_get T.nodes core) (slice_get (with_end told table) (place_of phase core)) (later (end_in_phase phase (slice_get T.nodes core)) last)
+    → IsNotedAt phase (slice_get S.nodes core) (slice_get table (end_index phase core)) last
+    → IsNotedAt phase (slice_get T.nodes core) (slice_get (with_end told table) (end_index phase core)) (newer_or (end_in_phase phase (slice_get T.nodes core)) last)
 event-noted S T told table phase core last before now setting small shown (inl leaves) noted =
-    rw (leaves.none, leaves.nodes) (same-node phase (slice_get S.nodes core) (slice_get table (place_of phase core)) last shown noted)
+    rw (leaves.none, leaves.nodes) (same-node phase (slice_get S.nodes core) (slice_get table (end_index phase core)) last shown noted)
 event-noted S T told table phase core last before now setting small shown (inr moves) noted = by_core (moves.core == core) refl where
   by_core : (t : Bool) → (moves.core == core) ≡ t
-      → IsNotedAt phase (slice_get T.nodes core) (slice_get (with_end told table) (place_of phase core)) (later (end_in_phase phase (slice_get T.nodes core)) last)
+      → IsNotedAt phase (slice_get T.nodes core) (slice_get (with_end told table) (end_index phase core)) (newer_or (end_in_phase phase (slice_get T.nodes core)) last)
   by_core false test =
       let stays : slice_get T.nodes core ≡ slice_get S.nodes core = rw (test) at (moves.nodes core) in
       let low : moves.old.core < 16 = omega (arith, before.place moves.core moves.old moves.found, slice_get_within S.nodes moves.core moves.old moves.found, before.few) in
       let apart : moves.old.core ≡ core → ⊥ =
       λ same. absurd (let hit : (moves.core == core) ≡ true = grind (arith, nat_tests, same, before.place moves.core moves.old moves.found) in cc) in
       let kept = other-table table told phase core moves.old moves.new low small apart moves.way in
-      rw (stays, kept) (same-node phase (slice_get S.nodes core) (slice_get table (place_of phase core)) last shown noted)
+      rw (stays, kept) (same-node phase (slice_get S.nodes core) (slice_get table (end_index phase core)) last shown noted)
   by_core true test =
       let here : moves.core ≡ core = grind (arith, nat_tests, test) in
       let is : slice_get T.nodes core ≡ Some moves.new = rw (test) at (moves.nodes core) in
@@ -140,38 +140,38 @@ pub run-more : (S : State) (events : List Event) (e : Event) → IsRun S events 
 run-more S [] e run may = (may, tt)
 run-more S (x ∷ xs) e run may = (run.0, run-more (next S x) xs e run.1 may)
 
-reached-seated : (C : Setting) (events : List Event) → IsReady C → C.shape.cores ≤ 16 → IsRun (opened C) events → AreSeated (after (opened C) events)
+reached-seated : (C : Setting) (events : List Event) → IsReady C → C.shape.cores ≤ 16 → IsRun (initial_state C) events → AreSeated (after (initial_state C) events)
 reached-seated C events ready most run =
-    let setting : (after (opened C) events).setting ≡ C = run-setting (opened C) events ∙ opened-setting C in
-    seated (after (opened C) events) (run-all C events ready run).1.machine (subst (λ (D : Setting). D.shape.cores ≤ 16) (sym setting) most)
+    let setting : (after (initial_state C) events).setting ≡ C = run-setting (initial_state C) events ∙ opened-setting C in
+    seated (after (initial_state C) events) (run-all C events ready run).1.machine (subst (λ (D : Setting). D.shape.cores ≤ 16) (sym setting) most)
 
-noted-more : (C : Setting) (events : List Event) (e : Event) (table : EndTable) → IsReady C → C.shape.cores ≤ 16 → IsRun (opened C) events → enabled (after (opened C) events) e ≡ true
-    → AreNoted (opened C) events table → AreNoted (opened C) (events ++ e ∷ []) (with_end (end_told (after (opened C) events) e) table)
+noted-more : (C : Setting) (events : List Event) (e : Event) (table : EndTable) → IsReady C → C.shape.cores ≤ 16 → IsRun (initial_state C) events → enabled (after (initial_state C) events) e ≡ true
+    → AreNoted (initial_state C) events table → AreNoted (initial_state C) (events ++ e ∷ []) (with_end (end_observed (after (initial_state C) events) e) table)
 noted-more C events e table ready most run may noted = record { each = each } where
   S : State
-  S = after (opened C) events
+  S = after (initial_state C) events
 
   T : State
   T = next S e
 
-  more : after (opened C) (events ++ e ∷ []) ≡ T
-  more = after-more (opened C) events e
+  more : after (initial_state C) (events ++ e ∷ []) ≡ T
+  more = after-more (initial_state C) events e
 
   before : AreSeated S
   before = reached-seated C events ready most run
 
   now : AreSeated T
-  now = subst AreSeated more (reached-seated C (events ++ e ∷ []) ready most (run-more (opened C) events e run may))
+  now = subst AreSeated more (reached-seated C (events ++ e ∷ []) ready most (run-more (initial_state C) events e run may))
 
-  goes : LeavesNodes S T (end_told S e) ⊎ MovesNode S T (end_told S e)
-  goes = moved S e (all-rest S (memory_over (first_memory C) (opened C) events) (run-all C events ready run).1) may
+  goes : LeavesNodes S T (end_observed S e) ⊎ MovesNode S T (end_observed S e)
+  goes = moved S e (all-rest S (memory_over (first_memory C) (initial_state C) events) (run-all C events ready run).1) may
 
-  each : (phase core : ℕ) → phase < length (opened C).setting.program.phases → core < 16
-      → IsNotedAt phase (slice_get (after (opened C) (events ++ e ∷ [])).nodes core) (slice_get (with_end (end_told S e) table) (place_of phase core)) (last_end phase core (opened C) (events ++ e ∷ []))
+  each : (phase core : ℕ) → phase < length (initial_state C).setting.program.phases → core < 16
+      → IsNotedAt phase (slice_get (after (initial_state C) (events ++ e ∷ [])).nodes core) (slice_get (with_end (end_observed S e) table) (end_index phase core)) (last_end phase core (initial_state C) (events ++ e ∷ []))
   each phase core low small =
-      rw (more, last-more phase core (opened C) events e)
-      (event-noted S T (end_told S e) table phase core (last_end phase core (opened C) events) before now (same-setting S e) small
-      (last-shown phase core (opened C) events) goes (noted.each phase core low small))
+      rw (more, last-more phase core (initial_state C) events e)
+      (event-noted S T (end_observed S e) table phase core (last_end phase core (initial_state C) events) before now (same-setting S e) small
+      (last-shown phase core (initial_state C) events) goes (noted.each phase core low small))
 
 -- ---- as a run begins
 
@@ -192,10 +192,10 @@ new-noted phase n last first absent none =
       never = λ low. none;
     }
 
-pub first-noted : (C : Setting) → AreNoted (opened C) [] (no_ends (length (opened C).setting.program.phases))
+pub first-noted : (C : Setting) → AreNoted (initial_state C) [] (no_ends (length (initial_state C).setting.program.phases))
 first-noted C = record { each = each } where
   phases : ℕ
-  phases = length (opened C).setting.program.phases
+  phases = length (initial_state C).setting.program.phases
 
   none_yet : Option TaskEnd
   none_yet = None
@@ -203,25 +203,25 @@ first-noted C = record { each = each } where
   same : phases ≡ length C.program.phases
   same = ap (λ (x : Setting). length x.program.phases) (opened-setting C)
 
-  ends : AreLastEnds (opened C) [] (no_ends phases)
-  ends = subst (λ (k : ℕ). AreLastEnds (opened C) [] (no_ends k)) (sym same) (log-opened C).ends
+  ends : AreLastEnds (initial_state C) [] (no_ends phases)
+  ends = subst (λ (k : ℕ). AreLastEnds (initial_state C) [] (no_ends k)) (sym same) (log-opened C).ends
 
-  empty : (phase core : ℕ) → phase < phases → core < 16 → slice_get (no_ends phases) (place_of phase core) ≡ Some None
+  empty : (phase core : ℕ) → phase < phases → core < 16 → slice_get (no_ends phases) (end_index phase core) ≡ Some None
   empty phase core low small = no-item none_yet (16 * phases) (16 * phase + core) (omega (arith, small, low))
 
-  last_none : (phase core : ℕ) → phase < phases → core < 16 → last_end phase core (opened C) [] ≡ None
-  last_none phase core low small = same_Some (last_end phase core (opened C) []) None (sym (ends phase core low small) ∙ empty phase core low small)
+  last_none : (phase core : ℕ) → phase < phases → core < 16 → last_end phase core (initial_state C) [] ≡ None
+  last_none phase core low small = same_Some (last_end phase core (initial_state C) []) None (sym (ends phase core low small) ∙ empty phase core low small)
 
-  by_node : (phase core : ℕ) → last_end phase core (opened C) [] ≡ None → (o : Option NodeParts) → slice_get (opened C).nodes core ≡ o → noted_by phase o None (last_end phase core (opened C) [])
+  by_node : (phase core : ℕ) → last_end phase core (initial_state C) [] ≡ None → (o : Option NodeParts) → slice_get (initial_state C).nodes core ≡ o → noted_by phase o None (last_end phase core (initial_state C) [])
   by_node phase core last None found = (refl, last)
   by_node phase core last (Some n) found =
       let new = opened-node C core n found in
-      new-noted phase n (last_end phase core (opened C) []) (ap (λ (x : NodeParts). x.phase) new.is) (ap (λ (x : NodeParts). x.arrived) new.is) last
+      new-noted phase n (last_end phase core (initial_state C) []) (ap (λ (x : NodeParts). x.phase) new.is) (ap (λ (x : NodeParts). x.arrived) new.is) last
 
   each : (phase core : ℕ) → phase < phases → core < 16
-      → IsNotedAt phase (slice_get (opened C).nodes core) (slice_get (no_ends phases) (place_of phase core)) (last_end phase core (opened C) [])
+      → IsNotedAt phase (slice_get (initial_state C).nodes core) (slice_get (no_ends phases) (end_index phase core)) (last_end phase core (initial_state C) [])
   each phase core low small =
-      record { seen = None; is = empty phase core low small; noted = by_node phase core (last_none phase core low small) (slice_get (opened C).nodes core) refl }
+      record { seen = None; is = empty phase core low small; noted = by_node phase core (last_none phase core low small) (slice_get (initial_state C).nodes core) refl }
 
 -- ---- all events
 
@@ -231,26 +231,26 @@ nil-behind {X} (x ∷ xs) = ap (λ (ys : List X). x ∷ ys) (nil-behind xs)
 
 -- what is told by the first event is noted before the rest
 told-first : (S : State) (e : Event) (es : List Event) (table : EndTable)
-    → with_ends (read_off end_told S (e ∷ es)) table ≡ with_ends (read_off end_told (next S e) es) (with_end (end_told S e) table)
-told-first S e es table = by_end (end_told S e) refl where
-  by_end : (o : Option TaskEnd) → end_told S e ≡ o → with_ends (read_off end_told S (e ∷ es)) table ≡ with_ends (read_off end_told (next S e) es) (with_end o table)
+    → with_ends (read_off end_observed S (e ∷ es)) table ≡ with_ends (read_off end_observed (next S e) es) (with_end (end_observed S e) table)
+told-first S e es table = by_end (end_observed S e) refl where
+  by_end : (o : Option TaskEnd) → end_observed S e ≡ o → with_ends (read_off end_observed S (e ∷ es)) table ≡ with_ends (read_off end_observed (next S e) es) (with_end o table)
   by_end None is = rw is refl
   by_end (Some x) is = rw is refl
 
-along : (C : Setting) (front rest : List Event) (table : EndTable) → IsReady C → C.shape.cores ≤ 16 → IsRun (opened C) front → IsRun (after (opened C) front) rest
-    → AreNoted (opened C) front table → AreNoted (opened C) (front ++ rest) (with_ends (read_off end_told (after (opened C) front) rest) table)
+along : (C : Setting) (front rest : List Event) (table : EndTable) → IsReady C → C.shape.cores ≤ 16 → IsRun (initial_state C) front → IsRun (after (initial_state C) front) rest
+    → AreNoted (initial_state C) front table → AreNoted (initial_state C) (front ++ rest) (with_ends (read_off end_observed (after (initial_state C) front) rest) table)
 along C front [] table ready most run tail noted = rw (nil-behind front) noted
 along C front (e ∷ es) table ready most run tail noted =
-    let more = after-more (opened C) front e in
-    let behind = along C (front ++ e ∷ []) es (with_end (end_told (after (opened C) front) e) table) ready most (run-more (opened C) front e run tail.0)
+    let more = after-more (initial_state C) front e in
+    let behind = along C (front ++ e ∷ []) es (with_end (end_observed (after (initial_state C) front) e) table) ready most (run-more (initial_state C) front e run tail.0)
     (subst (λ (U : State). IsRun U es) (sym more) tail.1) (noted-more C front e table ready most run tail.0 noted) in
     let together : (front ++ e ∷ []) ++ es ≡ front ++ e ∷ es = append_assoc front (e ∷ []) es in
-    let same : with_ends (read_off end_told (after (opened C) front) (e ∷ es)) table
-    ≡ with_ends (read_off end_told (after (opened C) (front ++ e ∷ [])) es) (with_end (end_told (after (opened C) front) e) table) =
-    told-first (after (opened C) front) e es table
-    ∙ ap (λ (U : State). with_ends (read_off end_told U es) (with_end (end_told (after (opened C) front) e) table)) (sym more) in
+    let same : with_ends (read_off end_observed (after (initial_state C) front) (e ∷ es)) table
+    ≡ with_ends (read_off end_observed (after (initial_state C) (front ++ e ∷ [])) es) (with_end (end_observed (after (initial_state C) front) e) table) =
+    told-first (after (initial_state C) front) e es table
+    ∙ ap (λ (U : State). with_ends (read_off end_observed U es) (with_end (end_observed (after (initial_state C) front) e) table)) (sym more) in
     rw (same, ← together) behind
 
-pub run-noted : (C : Setting) (events : List Event) → IsReady C → C.shape.cores ≤ 16 → IsRun (opened C) events
-    → AreNoted (opened C) events (with_ends (read_off end_told (opened C) events) (no_ends (length (opened C).setting.program.phases)))
-run-noted C events ready most run = along C [] events (no_ends (length (opened C).setting.program.phases)) ready most tt run (first-noted C)
+pub run-noted : (C : Setting) (events : List Event) → IsReady C → C.shape.cores ≤ 16 → IsRun (initial_state C) events
+    → AreNoted (initial_state C) events (with_ends (read_off end_observed (initial_state C) events) (no_ends (length (initial_state C).setting.program.phases)))
+run-noted C events ready most run = along C [] events (no_ends (length (initial_state C).setting.program.phases)) ready most tt run (first-noted C)

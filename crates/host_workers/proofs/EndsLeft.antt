@@ -16,8 +16,8 @@ use Rattle.round_rules.specs.declared.end_seen.EndSeen.{EndSeen}
 use Rattle.round_rules.specs.Steps.{Done}
 use Rattle.round_rules.specs.Acts.{note_of}
 use Rattle.round_rules.specs.Passes.{end_seen, seen_at}
-use Rattle.round_rules.specs.Rounds.{core_at, done_by, end_in}
-use Rattle.host_workers.specs.Ends.{IsEarlier, EndIsOfCore, AreEndsOf, left_of, first_at, behind_at, end_by, left_behind}
+use Rattle.round_rules.specs.Rounds.{core_at, done_by, end_of_done}
+use Rattle.host_workers.specs.Ends.{IsStampedBefore, EndIsOfCore, AreEndsOf, left_of, first_at, behind_at, end_at_stamp, left_behind}
 
 -- ---- the ends of a core's events
 
@@ -82,7 +82,7 @@ other-seen a d ds other = ap (λ (t : Bool). filter_map end_seen (cond t (d ∷ 
 pub record IsOnTheWay (ends : List (List EndSeen)) (rest : ℕ → List EndSeen) (told : List Done) (here : ℕ) (noted : List TaskEnd) : Type 0 where
   pub left : (core : ℕ) → core < length ends → rest core ≡ seen_of (core_at core) (drop here told)
   pub none : (core : ℕ) → length ends ≤ core → rest core ≡ []
-  pub out : noted ++ filter_map end_in (drop here told) ≡ filter_map end_in told
+  pub out : noted ++ filter_map end_of_done (drop here told) ≡ filter_map end_of_done told
 
 -- the event that is told at a place
 record IsAt (merged : List Stamped) (told : List Done) (here : ℕ) (e : Stamped) (d : Done) (rest : List Done) : Type 0 where
@@ -123,13 +123,13 @@ at-entry merged ends told here e are low is = (
         let at : get_or told (here + 1 + i) blank ≡ x = sym (get_or-drop (here + 1) told i blank) ∙ get_or_from_slice_get (drop (here + 1) told) i x blank there in
         let shown : get_or merged (here + 1 + i) e ≡ x.stamped = sym (note (here + 1 + i) place) ∙ ap (λ (y : Done). y.stamped) at in
         let first : get_or merged here e ≡ e = sym is in
-        let rises : IsEarlier (get_or merged here e) (get_or merged (here + 1 + i) e) = are.rising here (here + 1 + i) e (omega arith) (omega (arith, place, long)) in
-        let rises_here : IsEarlier e x.stamped = subst (λ (y : Stamped). IsEarlier e y) shown (subst (λ (y : Stamped). IsEarlier y (get_or merged (here + 1 + i) e)) first rises) in
+        let rises : IsStampedBefore (get_or merged here e) (get_or merged (here + 1 + i) e) = are.rising here (here + 1 + i) e (omega arith) (omega (arith, place, long)) in
+        let rises_here : IsStampedBefore e x.stamped = subst (λ (y : Stamped). IsStampedBefore e y) shown (subst (λ (y : Stamped). IsStampedBefore y (get_or merged (here + 1 + i) e)) first rises) in
         rises_here (sym same)
 
 -- the end that is taken is the one that the event tells
 taken-end : (ends : List (List EndSeen)) (left : ℕ → List EndSeen) (told rest : List Done) (here : ℕ) (out : List TaskEnd) (e : Stamped) (d : Done) (merged : List Stamped)
-    → IsAt merged told here e d rest → EndIsOfCore (length ends) d → IsOnTheWay ends left told here out → end_by e.actor e.stamp left ≡ d.end
+    → IsAt merged told here e d rest → EndIsOfCore (length ends) d → IsOnTheWay ends left told here out → end_at_stamp e.actor e.stamp left ≡ d.end
 taken-end ends left told rest here out e d merged at of way = by_actor e.actor refl where
   by_end : (a : Actor) → e.actor ≡ a → ((core : ℕ) → core < length ends → a ≡ core_at core → ⊥) → (o : Option TaskEnd) → d.end ≡ o → None ≡ d.end
   by_end a of_it other None is = sym is
@@ -153,7 +153,7 @@ taken-end ends left told rest here out e d merged at of way = by_actor e.actor r
       number : (c : _) (core : ℕ) → Core c ≡ core_at core → c.0 ≡ core
       number c core same = cc
 
-  by_actor : (a : Actor) → e.actor ≡ a → end_by a e.stamp left ≡ d.end
+  by_actor : (a : Actor) → e.actor ≡ a → end_at_stamp a e.stamp left ≡ d.end
   by_actor (Core c) of_it = by_place c of_it (nat_lt c.0 (length ends)) refl
   by_actor (Bank b) of_it = by_end (Bank b) of_it (λ core low same. cc) d.end refl
   by_actor Keeper of_it = by_end Keeper of_it (λ core low same. cc) d.end refl
@@ -200,7 +200,7 @@ same-item (x ∷ xs) (suc i) d e low = same-item xs i d e (omega (arith, low))
 
 -- one entry more: what is taken at it is noted
 pub entry-more : (merged : List Stamped) (ends : List (List EndSeen)) (left now : ℕ → List EndSeen) (told : List Done) (here : ℕ) (d : Stamped) (out more : List TaskEnd) (taken : Option TaskEnd)
-    → AreEndsOf merged ends told → here < length merged → taken ≡ end_by (get_or merged here d).actor (get_or merged here d).stamp left
+    → AreEndsOf merged ends told → here < length merged → taken ≡ end_at_stamp (get_or merged here d).actor (get_or merged here d).stamp left
     → ((core : ℕ) → now core ≡ left_behind (get_or merged here d).actor (get_or merged here d).stamp left core)
     → more ≡ out ++ option_to_list taken → IsOnTheWay ends left told here out → IsOnTheWay ends now told (here + 1) more
 entry-more merged ends left now told here d out more taken are low took behind noted way =
@@ -225,11 +225,11 @@ entry-more merged ends left now told here d out more taken are low took behind n
     one None xs = refl
     one (Some x) xs = refl
 
-    now_out : more ++ filter_map end_in (drop (here + 1) told) ≡ filter_map end_in told
+    now_out : more ++ filter_map end_of_done (drop (here + 1) told) ≡ filter_map end_of_done told
     now_out =
-        ap (λ (xs : List TaskEnd). xs ++ filter_map end_in (drop (here + 1) told)) (noted ∙ ap (λ (o : Option TaskEnd). out ++ option_to_list o) ended)
-        ∙ (append_assoc out (option_to_list at.0.end) (filter_map end_in (drop (here + 1) told))
-        ∙ (ap (λ (xs : List TaskEnd). out ++ xs) (one at.0.end (filter_map end_in (drop (here + 1) told)) ∙ ap (filter_map end_in) (sym at.1.is))
+        ap (λ (xs : List TaskEnd). xs ++ filter_map end_of_done (drop (here + 1) told)) (noted ∙ ap (λ (o : Option TaskEnd). out ++ option_to_list o) ended)
+        ∙ (append_assoc out (option_to_list at.0.end) (filter_map end_of_done (drop (here + 1) told))
+        ∙ (ap (λ (xs : List TaskEnd). out ++ xs) (one at.0.end (filter_map end_of_done (drop (here + 1) told)) ∙ ap (filter_map end_of_done) (sym at.1.is))
         ∙ way.out))
 
 -- ---- as the walk begins and ends
@@ -270,10 +270,10 @@ nil-behind [] = refl
 nil-behind {X} (x ∷ xs) = ap (λ (ys : List X). x ∷ ys) (nil-behind xs)
 
 pub ended : (merged : List Stamped) (ends : List (List EndSeen)) (left : ℕ → List EndSeen) (told : List Done) (here : ℕ) (out : List TaskEnd) → length merged ≤ here → AreEndsOf merged ends told
-    → IsOnTheWay ends left told here out → out ≡ filter_map end_in told
+    → IsOnTheWay ends left told here out → out ≡ filter_map end_of_done told
 ended merged ends left told here out high are way =
     let long : length told ≤ here = omega (arith, high, length-map told note_of, ap (λ (l : List Stamped). length l) are.notes) in
-    sym (nil-behind out) ∙ (ap (λ (ds : List Done). out ++ filter_map end_in ds) (sym (no-more told here long)) ∙ way.out)
+    sym (nil-behind out) ∙ (ap (λ (ds : List Done). out ++ filter_map end_of_done ds) (sym (no-more told here long)) ∙ way.out)
 
 -- ---- the next end of a core
 

@@ -21,15 +21,15 @@ use Rattle.machine_rules.specs.State.{State}
 use Rattle.machine_rules.specs.Next.{next, enabled, when_there}
 use Rattle.machine_rules.proofs.Invariant.{Invariant}
 use Rattle.machine_rules.proofs.Steps.{Handled, handled, instr-step, evict-step, arrive-step, core-step, bank-step, keeper-step}
-use Rattle.round_rules.specs.Rounds.{end_told, end_there}
-use Rattle.host_workers.specs.Ends.{standing}
+use Rattle.round_rules.specs.Rounds.{end_observed, end_of_node}
+use Rattle.host_workers.specs.Ends.{node_standing}
 use Rattle.host_workers.proofs.Standing.{Stays, Begins, Arrives, RestsThere, instr-stays, evict-stays, arrive-arrives, gets-on}
 
 -- what the node of a core becomes, where an event tells this of its task
 pub data Way (n m : NodeParts) (told : Option TaskEnd) : Type 0 where
   Stayed : told ≡ None → Stays n m → Way n m told
   Began : told ≡ None → Begins n m → Way n m told
-  Arrived : told ≡ standing n → Arrives n m → Way n m told
+  Arrived : told ≡ node_standing n → Arrives n m → Way n m told
 
 -- an event of one core, whose node n becomes m
 pub record MovesNode (S T : State) (told : Option TaskEnd) : Type 0 where
@@ -72,12 +72,12 @@ evict-moved S core word may =
     let step = evict-step S core word at.0 at.1 in
     record { core = core.0; old = at.0; new = (evicted S.setting at.0 word).0; found = at.1; nodes = step.nodes; way = Stayed refl (evict-stays S.setting at.0 word) }
 
-arrive-moved : (S : State) (core : CoreId) → enabled S (Arrive core) ≡ true → MovesNode S (next S (Arrive core)) (end_told S (Arrive core))
+arrive-moved : (S : State) (core : CoreId) → enabled S (Arrive core) ≡ true → MovesNode S (next S (Arrive core)) (end_observed S (Arrive core))
 unfolding enabled
 arrive-moved S core may =
     let at = there-node may_arrive (slice_get S.nodes core.0) may in
     let step = arrive-step S core at.0 at.1 in
-    record { core = core.0; old = at.0; new = (arrives at.0).0; found = at.1; nodes = step.nodes; way = Arrived (ap end_there at.1) (arrive-arrives at.0 at.2) }
+    record { core = core.0; old = at.0; new = (arrives at.0).0; found = at.1; nodes = step.nodes; way = Arrived (ap end_of_node at.1) (arrive-arrives at.0 at.2) }
 
 -- ---- the handling of a mail
 
@@ -120,7 +120,7 @@ handle-moved S id rest may = by_mail (handled S id may) where
 
 -- ---- every event
 
-pub moved : (S : State) (e : Event) → AllRestThere S → enabled S e ≡ true → LeavesNodes S (next S e) (end_told S e) ⊎ MovesNode S (next S e) (end_told S e)
+pub moved : (S : State) (e : Event) → AllRestThere S → enabled S e ≡ true → LeavesNodes S (next S e) (end_observed S e) ⊎ MovesNode S (next S e) (end_observed S e)
 moved S (Instr core) rest may = inr (instr-moved S core may)
 moved S (Evict core word) rest may = inr (evict-moved S core word may)
 moved S (Arrive core) rest may = inr (arrive-moved S core may)

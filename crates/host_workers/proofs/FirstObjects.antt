@@ -8,7 +8,7 @@ use Rattle.std.proofs.lemmas.Option.{slice_get_within, get_or_from_slice_get, sl
 use Rattle.message_net.specs.declared.actor.Actor.TheVariants.{Keeper}
 use Rattle.message_net.specs.declared.message.Mail.{Mail}
 use Rattle.machine_rules.specs.State.{State}
-use Rattle.machine_rules.specs.Next.{number_of}
+use Rattle.machine_rules.specs.Next.{next_number}
 use Rattle.machine_rules.specs.Sound.{IsMachine}
 use Rattle.bank_hall.specs.declared.posted.Posted.{Posted}
 use Rattle.bank_hall.specs.Banks.{BankActorParts}
@@ -48,7 +48,7 @@ module _ (S : State) (mails : List Mail) (inboxes : InboxParts) (bank_objects : 
   port-inbox c port here =
       at-range (λ k. inbox_at_first mails (core_at k)) S.setting.shape.cores c port.inbox (ap (λ l. slice_get l c) (sym (objects.port_inboxes ∙ first.cores)) ∙ slice_get-map port_mails ports c ∙ ap (option_map port_mails) here)
 
-  bank-next : (b : ℕ) (object : BankActorParts) → slice_get bank_objects b ≡ Some object → object.state.next ≡ number_of S (bank_at b)
+  bank-next : (b : ℕ) (object : BankActorParts) → slice_get bank_objects b ≡ Some object → object.state.next ≡ next_number S (bank_at b)
   bank-next b object here =
       let there : slice_get (map bank_number bank_objects) b ≡ Some object.state.next = slice_get-map bank_number bank_objects b ∙ ap (option_map bank_number) here in
       sym (get_or_from_slice_get (map bank_number bank_objects) b object.state.next 0 there)
@@ -56,7 +56,7 @@ module _ (S : State) (mails : List Mail) (inboxes : InboxParts) (bank_objects : 
       ∙ ap (λ l. get_or l b 0) objects.numbers
       ∙ get_or-drop S.setting.shape.cores S.numbers b 0
 
-  keeper-next : keeper_object.state.next ≡ number_of S Keeper
+  keeper-next : keeper_object.state.next ≡ next_number S Keeper
   keeper-next =
       sym (get_or_push (map bank_number bank_objects) keeper_object.state.next 0 S.setting.shape.banks (length-map bank_objects bank_number ∙ count-banks))
       ∙ ap (λ l. get_or l S.setting.shape.banks 0) objects.numbers

@@ -17,7 +17,7 @@ use Rattle.message_net.proofs.PoolLemmas.{same_actor-true, same_actor-refl}
 use Rattle.grant_log.specs.declared.log.Stamped.{Stamped}
 use Rattle.message_net.specs.Order.{actor_order}
 use Rattle.grant_log.specs.Order.{entry_order, IsBefore}
-use Rattle.grant_log.specs.Log.{IsLog, AreApart, AreLogs, IsMerge, of_actor}
+use Rattle.grant_log.specs.Log.{IsLog, AreOfOtherActors, AreLogs, IsMerge, of_actor}
 use Rattle.grant_log.proofs.OrderLemmas.{entry_order_total}
 use Rattle.grant_log.proofs.MergeLemmas.{AllPairs-tail}
 use Rattle.grant_log.proofs.ActorLemmas.{each_kept}
@@ -128,14 +128,14 @@ module _ (log_of : Actor → List Stamped) where
   abbrev pub IsOwn : Actor → Type 0
   IsOwn a = IsLog (log_of a) × All (IsOf a) (log_of a)
 
-  apart : (a b : Actor) → All (IsOf a) (log_of a) → All (IsOf b) (log_of b) → a ≢ b → AreApart (log_of a) (log_of b)
+  apart : (a b : Actor) → All (IsOf a) (log_of a) → All (IsOf b) (log_of b) → a ≢ b → AreOfOtherActors (log_of a) (log_of b)
   apart a b first second differ i d within j e inside same = differ (sym (first i d within) ∙ (same ∙ second j e inside))
 
   -- each actor has a log of its own
   pub logs-apart : (actors : List Actor) → AllPairs (λ a b. a ≢ b) actors → All IsOwn actors → AreLogs (map log_of actors)
   logs-apart actors differ own = record {
     each = All-map IsLog log_of actors (λ k d within. (own k d within).0);
-    apart = pairs-mapped AreApart log_of actors (λ i j d before within.
+    apart = pairs-mapped AreOfOtherActors log_of actors (λ i j d before within.
         apart (get_or actors i d) (get_or actors j d) (own i d (omega (arith, before, within))).1 (own j d within).1 (differ i j d before within));
   }
 

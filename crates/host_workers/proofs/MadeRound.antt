@@ -32,7 +32,7 @@ use Rattle.round_rules.specs.Owners.{AreOwners}
 use Rattle.round_rules.specs.Entries.{AreAnswers, AreGivenMails}
 use Rattle.round_rules.specs.NextNumbers.{AreNumbersLow}
 use Rattle.round_rules.specs.Rounds as rules
-use Rattle.round_rules.specs.Rounds.{owner, actors, core_at, bank_at, mail_in, noted_event, events_of, end_in, IsReached, IsJoined, IsRoundOf, AreInboxes}
+use Rattle.round_rules.specs.Rounds.{owner, actors, core_at, bank_at, mail_in, noted_event, events_of, end_of_done, IsReached, IsJoined, IsRoundOf, AreInboxes}
 use Rattle.round_rules.proofs.Mapped.{long-map, map-map, same-places}
 use Rattle.round_rules.proofs.MachineParts.{there}
 use Rattle.round_rules.proofs.MachineMoves.{reached-inside}
@@ -44,7 +44,7 @@ use Rattle.round_rules.proofs.Owning.{have-owners}
 use Rattle.round_rules.proofs.Telling.{answers-told, mails-given}
 use Rattle.round_rules.proofs.MailsSent.{numbers-low}
 use Rattle.host_workers.specs.declared.finishing.Finished.{Finished}
-use Rattle.host_workers.specs.Ends.{IsEarlier, AreEndsOf}
+use Rattle.host_workers.specs.Ends.{IsStampedBefore, AreEndsOf}
 use Rattle.host_workers.specs.Inboxes.{inboxes_of}
 use Rattle.host_workers.specs.Opening.{StandsFor}
 use Rattle.host_workers.specs.MadeRounds.{IsMadeRound}
@@ -160,7 +160,7 @@ module _ (S M : State) (made workers : ℕ) (f : Finished) (left : IsRoundLeft S
     merged = merged-is C S T (round []) left.some (together.worked S M made workers f left []) (together.closed S M made workers f left []) machine-first setting-first merged (subst (λ logs. IsMerge logs merged) logs-are merge);
   }
 
-  pub strictly : (merged : List Stamped) → IsMerge (logs_of left.finished.roster) merged → AllPairs IsEarlier merged
+  pub strictly : (merged : List Stamped) → IsMerge (logs_of left.finished.roster) merged → AllPairs IsStampedBefore merged
   strictly merged merge = rises-strictly C S T (round []) left.some (together.worked S M made workers f left []) (together.closed S M made workers f left []) machine-first setting-first merged (subst (λ logs. IsMerge logs merged) logs-are merge)
 
   module _ (merged : List Stamped) (merge : IsMerge (logs_of left.finished.roster) merged) where
@@ -217,7 +217,7 @@ module _ (S M : State) (made workers : ℕ) (f : Finished) (left : IsRoundLeft S
 
   -- the round that is handed back
   pub made-round : (merged : Vec Stamped Global) (ends : Vec TaskEnd Global) (machine : Made) → IsMerge (logs_of left.finished.roster) merged.items → machine.state ≡ T → machine.made ≡ made + length merged.items
-      → ((told : List Done) → AreEndsOf merged.items (map core_ends left.finished.roster.cores) told → ends.items ≡ filter_map end_in told)
+      → ((told : List Done) → AreEndsOf merged.items (map core_ends left.finished.roster.cores) told → ends.items ≡ filter_map end_of_done told)
       → IsMadeRound S M made workers (record { machine = machine; merged = merged; ends = ends; banks = f.banks; ports = f.ports; keeper = f.keeper })
   made-round merged ends machine merge is count told = record {
     round = round merged.items;

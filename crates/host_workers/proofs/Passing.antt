@@ -7,11 +7,11 @@ use Rattle.std.proofs.lemmas.Option.{slice_get-map}
 use Rattle.grant_log.specs.declared.log.Stamped.{Stamped}
 use Rattle.message_net.specs.declared.actor.Actor.TheVariants.{Bank, Keeper}
 use Rattle.registration_protocol.specs.Node.{Setting}
-use Rattle.bank_hall.specs.Halls.{PassView, HasMadeCalls, number_of}
+use Rattle.bank_hall.specs.Halls.{PassView, HasMadeCalls, pass_number}
 use Rattle.round_rules.specs.Acts.{Act, actor_of, notes_by, calls_in}
 use Rattle.round_rules.specs.Passes.{HasGone}
 use Rattle.host_workers.specs.declared.crew.Crew.{Crew}
-use Rattle.host_workers.specs.Crews.{held_of, core_of, bank_of, keeper_log}
+use Rattle.host_workers.specs.Crews.{held_of, owned_core, bank_of, keeper_log}
 use Rattle.host_workers.specs.Pass.{actors_of, IsActOf, HasMore, IsWork, HasWorked, HasWorkedOn}
 use Rattle.round_rules.proofs.Appended.{calls-follow, notes-follow, cores-follow}
 use Rattle.host_workers.proofs.Crewed.{is_some-map}
@@ -56,13 +56,13 @@ stands-too {A} f xs ys same i x at = by (slice_get ys i) refl (sym (slice_get-ma
   by (Some y) e is = (y, e, ap (or_else (f x)) is)
 
 -- acts after others
-pub work-both : (C : Setting) (a b c : PassView) (x y z : Crew) (xs ys : List Act) → IsWork C a b x y xs → number_of b ≡ number_of a → IsWork C b c y z ys → IsWork C a c x z (xs ++ ys)
+pub work-both : (C : Setting) (a b c : PassView) (x y z : Crew) (xs ys : List Act) → IsWork C a b x y xs → pass_number b ≡ pass_number a → IsWork C b c y z ys → IsWork C a c x z (xs ++ ys)
 work-both C a b c x y z xs ys one number two = record {
-  calls = calls-follow C.shape (number_of a) xs ys a b c one.calls (subst (λ k. HasMadeCalls b c (calls_in C.shape k ys)) number two.calls);
+  calls = calls-follow C.shape (pass_number a) xs ys a b c one.calls (subst (λ k. HasMadeCalls b c (calls_in C.shape k ys)) number two.calls);
   own = All-append (IsActOf x) xs ys one.own (subst (λ all. All (λ act. Contains all (actor_of act)) ys) (same-actors C a b x y xs one) two.own);
   same = record { worker = two.same.worker ∙ one.same.worker; cores = two.same.cores ∙ one.same.cores; banks = two.same.banks ∙ one.same.banks };
   cores = λ i o q at now.
-      let mid = stands-too core_of x.cores.items y.cores.items one.same.cores i o at in
+      let mid = stands-too owned_core x.cores.items y.cores.items one.same.cores i o at in
       cores-follow C xs ys o.core (held_of o) (held_of mid.0) (held_of q) (one.cores i o mid.0 at mid.1) (subst (λ core. HasGone C ys core (held_of mid.0) (held_of q)) mid.2 (two.cores i mid.0 q mid.1 now));
   banks = λ i o q at now.
       let mid = stands-too bank_of x.banks.items y.banks.items one.same.banks i o at in
@@ -72,7 +72,7 @@ work-both C a b c x y z xs ys one number two = record {
 }
 
 -- one pass more
-pub worked-on : (C : Setting) (a b c : PassView) (x y z : Crew) (passes count : ℕ) → (passes ≡ 0 → (b ≡ a) × (y ≡ x)) → (0 < passes → HasWorkedOn C a b x y) → number_of b ≡ number_of a → HasWorked C b c y z count → HasWorkedOn C a c x z
+pub worked-on : (C : Setting) (a b c : PassView) (x y z : Crew) (passes count : ℕ) → (passes ≡ 0 → (b ≡ a) × (y ≡ x)) → (0 < passes → HasWorkedOn C a b x y) → pass_number b ≡ pass_number a → HasWorked C b c y z count → HasWorkedOn C a c x z
 worked-on C a b c x y z zero count began had number one =
     let at = began refl in
     let alone : HasWorked C a c x z count = subst (λ p. HasWorked C p c x z count) at.0 (subst (λ w. HasWorked C b c w z count) at.1 one) in

@@ -14,7 +14,7 @@ use Rattle.flat_agreement.proofs.Places.{get-cases}
 use Rattle.host_workers.specs.declared.crew.BankLog.{BankLog}
 use Rattle.host_workers.specs.declared.crew.Crew.{Crew}
 use Rattle.host_workers.specs.declared.owned.Owned.{Owned}
-use Rattle.host_workers.specs.Crews.{keeper_log, core_of, bank_of}
+use Rattle.host_workers.specs.Crews.{keeper_log, owned_core, bank_of}
 use Rattle.host_workers.specs.Pass.{IsSameCrew}
 use Rattle.host_workers.specs.Rosters.{RosterParts, IsRoster, AreCrewsOf, owned_by, core_actor, bank_actor}
 
@@ -216,7 +216,7 @@ module _ (cores banks workers : ℕ) (had : RosterParts) (crews after : List Cre
       let b = was k within in
       let c = now k within in
       subst (λ l. AreAlike SameCore l (cores_in (slice_get after k))) (are.each k b.0 b.1).cores
-      (subst (λ l. AreAlike SameCore b.0.cores.items l) (sym (ap cores_in c.1)) (alike-mapped core_of b.0.cores.items c.0.cores.items (back k b.0 c.0 b.1 c.1).same.cores))
+      (subst (λ l. AreAlike SameCore b.0.cores.items l) (sym (ap cores_in c.1)) (alike-mapped owned_core b.0.cores.items c.0.cores.items (back k b.0 c.0 b.1 c.1).same.cores))
 
   bank-alike : (k : ℕ) → k < workers → AreAlike SameBank (owned_by bank_actor workers k had.banks) (banks_in (slice_get after k))
   bank-alike k within =

@@ -18,7 +18,7 @@ use Rattle.message_net.specs.declared.actor.Actor.{Actor}
 use Rattle.message_net.specs.declared.actor.Actor.TheVariants.{Core}
 use Rattle.round_rules.specs.Beginnings.{AllHaveActed, HasEvent}
 use Rattle.round_rules.specs.Rounds as rules
-use Rattle.round_rules.specs.Rounds.{IsReached, events_of, noted_kind, end_told}
+use Rattle.round_rules.specs.Rounds.{IsReached, events_of, noted_kind, end_observed}
 use Rattle.round_rules.proofs.Reaching.{reached-machine, reached-setting}
 use Rattle.host_workers.specs.declared.round.Round.{Round}
 use Rattle.host_workers.specs.Opening.{StandsFor}
@@ -58,7 +58,7 @@ round-by m workers r S stands all = record {
         leads = subst (λ (ms : List Stamped). IsReordered (after U (events_of ms)) r.machine.state) made.merged made.stands.same;
         kinds = subst (λ (ms : List Stamped). map noted_kind ms ≡ kinds_of U (events_of ms)) made.merged made.run.kinds;
         grants = subst (λ (ms : List Stamped). grants_in ms ≡ grants_of U (events_of ms)) made.merged made.run.grants;
-        ends = subst (λ (ms : List Stamped). r.ends.items ≡ read_off end_told U (events_of ms)) made.merged made.ends;
+        ends = subst (λ (ms : List Stamped). r.ends.items ≡ read_off end_observed U (events_of ms)) made.merged made.ends;
       };
   setting = (all S stands).joined.alike.setting;
   made = (all S stands).made_are ∙ ap (λ (ms : List Stamped). m.made + length ms) (all S stands).merged;

@@ -23,7 +23,7 @@ use Rattle.round_rules.proofs.Mapped.{long-map, all-map}
 use Rattle.round_rules.proofs.Numbers.{below-bound, is-below}
 use Rattle.round_rules.proofs.Weights.{filter-true, filter-false}
 use Rattle.host_workers.specs.declared.finishing.Finished.{Finished}
-use Rattle.host_workers.specs.Ends.{IsEarlier, EndIsOfCore, AreEndsOf}
+use Rattle.host_workers.specs.Ends.{IsStampedBefore, EndIsOfCore, AreEndsOf}
 use Rattle.host_workers.specs.Rosters.{core_ends}
 use Rattle.host_workers.specs.Finishing.{IsRoundLeft}
 use Rattle.host_workers.proofs.Chosen.{stands-taken, same-some, none-some}
@@ -57,7 +57,7 @@ quiet shape a other (act ∷ acts) = by (is_act_of a act) refl (quiet shape a ot
 
 module _ (S M : State) (made workers : ℕ) (f : Finished) (left : IsRoundLeft S M made workers f) (merged : List Stamped)
     (joined : IsJoined M.setting S (together.T S M made workers f left) (together.round_with S M made workers f left merged))
-    (rising : AllPairs IsEarlier merged) (told : List Done) (tells : AreTold M.setting S (together.round_with S M made workers f left merged) told) where
+    (rising : AllPairs IsStampedBefore merged) (told : List Done) (tells : AreTold M.setting S (together.round_with S M made workers f left merged) told) where
   abbrev C : Setting
   C = M.setting
 

@@ -9,7 +9,7 @@ use Rattle.rv_core.specs.declared.ending.TaskEnd.{TaskEnd}
 use Rattle.message_net.specs.declared.event.Event.{Event}
 use Rattle.message_net.specs.declared.event.EventKind.{EventKind}
 use Rattle.grant_log.specs.declared.log.Stamped.{Stamped}
-use Rattle.grant_log.specs.Counts.{same_kind, count_of}
+use Rattle.grant_log.specs.Counts.{same_kind, kind_count}
 use Rattle.grant_log.specs.Log.{grants_in}
 use Rattle.grant_log.proofs.CountLemmas.{place_within, AreCounts-added, length-added}
 use Rattle.registration_protocol.specs.Node.{NodeParts}
@@ -17,9 +17,9 @@ use Rattle.run_agreement.specs.Agreed.{listed}
 use Rattle.dn_machine.specs.declared.log.Happened.{Happened}
 use Rattle.dn_machine.specs.declared.log.Log.{Log}
 use Rattle.dn_machine.specs.Ends.{EndTable, end_at, with_end}
-use Rattle.dn_machine.specs.Log.{noted}
+use Rattle.dn_machine.specs.Log.{with_event}
 use Rattle.round_rules.specs.Rounds.{events_of, noted_event, noted_kind}
-use Rattle.host_workers.specs.Ends.{with_ends, standing}
+use Rattle.host_workers.specs.Ends.{with_ends, node_standing}
 use Rattle.host_workers.specs.RoundOf.{IsTallied, HasNoted}
 
 -- ---- one entry more
@@ -47,7 +47,7 @@ one-grant e = by_grant e.granted where
   by_grant None = refl
   by_grant (Some g) = refl
 
-tallied-more : (kinds : List EventKind) (e : Stamped) (log : Log) → IsTallied kinds log → IsTallied (kinds ++ e.kind ∷ []) (noted (happened_at e) log)
+tallied-more : (kinds : List EventKind) (e : Stamped) (log : Log) → IsTallied kinds log → IsTallied (kinds ++ e.kind ∷ []) (with_event (happened_at e) log)
 tallied-more kinds e log tallied =
     record {
       all = length-added e.kind log.counts ∙ tallied.all;
@@ -55,9 +55,9 @@ tallied-more kinds e log tallied =
       few = omega (arith, tallied.few, length-append kinds (e.kind ∷ []), length-append log.events (e.event ∷ []));
     }
 
-entry-more : (entries : List Stamped) (e : Stamped) (old log new : Log) → HasNoted entries old log → new ≡ noted (happened_at e) log → HasNoted (entries ++ e ∷ []) old new
+entry-more : (entries : List Stamped) (e : Stamped) (old log new : Log) → HasNoted entries old log → new ≡ with_event (happened_at e) log → HasNoted (entries ++ e ∷ []) old new
 entry-more entries e old log new has is = rw is all where
-  all : HasNoted (entries ++ e ∷ []) old (noted (happened_at e) log)
+  all : HasNoted (entries ++ e ∷ []) old (with_event (happened_at e) log)
   all =
       record {
         events =
@@ -67,7 +67,7 @@ entry-more entries e old log new has is = rw is all where
             ap (λ (gs : List Grant). gs ++ listed e.granted) has.grants
             ∙ (append_assoc old.grants (grants_in entries) (listed e.granted)
             ∙ ap (λ (gs : List Grant). old.grants ++ gs) (ap (λ (gs : List Grant). grants_in entries ++ gs) (sym (one-grant e)) ∙ sym (filter_map-append (λ (x : Stamped). x.granted) entries (e ∷ []))));
-        counts = λ kinds tallied. subst (λ (ks : List EventKind). IsTallied ks (noted (happened_at e) log)) (grown kinds) (tallied-more (kinds ++ map noted_kind entries) e log (has.counts kinds tallied));
+        counts = λ kinds tallied. subst (λ (ks : List EventKind). IsTallied ks (with_event (happened_at e) log)) (grown kinds) (tallied-more (kinds ++ map noted_kind entries) e log (has.counts kinds tallied));
         ends = has.ends;
       }
     where
@@ -85,7 +85,7 @@ next-place i = omega arith
 take-one : {X : Type 0} (xs : List X) (i : ℕ) (d : X) → i < length xs → take (i + 1) xs ≡ take i xs ++ get_or xs i d ∷ []
 take-one xs i d low = ap (λ (n : ℕ). take n xs) (next-place i) ∙ take-next xs i d low
 
-pub noted-more : (entries : List Stamped) (i : ℕ) (d : Stamped) (old log new : Log) → i < length entries → HasNoted (take i entries) old log → new ≡ noted (happened_at (get_or entries i d)) log
+pub noted-more : (entries : List Stamped) (i : ℕ) (d : Stamped) (old log new : Log) → i < length entries → HasNoted (take i entries) old log → new ≡ with_event (happened_at (get_or entries i d)) log
     → HasNoted (take (i + 1) entries) old new
 noted-more entries i d old log new low has is =
     subst (λ (es : List Stamped). HasNoted es old new) (sym (take-one entries i d low)) (entry-more (take i entries) (get_or entries i d) old log new has is)
@@ -104,7 +104,7 @@ take-within (x ∷ xs) (suc i) = omega (arith, take-within xs i)
 
 -- a count is no more than the log notes
 pub count-few : (entries : List Stamped) (i : ℕ) (kinds : List EventKind) (k : EventKind) (old log : Log) → HasNoted (take i entries) old log → IsTallied kinds old
-    → count_of k log.counts ≤ length old.events + length entries
+    → kind_count k log.counts ≤ length old.events + length entries
 count-few entries i kinds k old log has tallied =
     let now = has.counts kinds tallied in
     omega (
@@ -136,17 +136,17 @@ no-more {X} (x ∷ xs) (suc n) high = no-more xs n (omega (arith, high))
 
 -- ---- the nodes of a state
 
-core-next : (nodes : List NodeParts) (i : ℕ) (table all : EndTable) → with_ends (filter_map standing (drop i nodes)) table ≡ all
-    → with_ends (filter_map standing (drop (suc i) nodes)) (with_end (end_at (slice_get nodes i)) table) ≡ all
+core-next : (nodes : List NodeParts) (i : ℕ) (table all : EndTable) → with_ends (filter_map node_standing (drop i nodes)) table ≡ all
+    → with_ends (filter_map node_standing (drop (suc i) nodes)) (with_end (end_at (slice_get nodes i)) table) ≡ all
 core-next [] zero table all rest = rest
 core-next [] (suc i) table all rest = rest
-core-next (n ∷ ns) zero table all rest = by_end (standing n) rest where
-  by_end : (e : Option TaskEnd) → with_ends (cons_option e (filter_map standing ns)) table ≡ all → with_ends (filter_map standing ns) (with_end e table) ≡ all
+core-next (n ∷ ns) zero table all rest = by_end (node_standing n) rest where
+  by_end : (e : Option TaskEnd) → with_ends (cons_option e (filter_map node_standing ns)) table ≡ all → with_ends (filter_map node_standing ns) (with_end e table) ≡ all
   by_end None same = same
   by_end (Some x) same = same
 core-next (n ∷ ns) (suc i) table all rest = core-next ns i table all rest
 
 -- one core more
-pub core-more : (nodes : List NodeParts) (i : ℕ) (o : Option TaskEnd) (table all : EndTable) → o ≡ end_at (slice_get nodes i) → with_ends (filter_map standing (drop i nodes)) table ≡ all
-    → with_ends (filter_map standing (drop (i + 1) nodes)) (with_end o table) ≡ all
+pub core-more : (nodes : List NodeParts) (i : ℕ) (o : Option TaskEnd) (table all : EndTable) → o ≡ end_at (slice_get nodes i) → with_ends (filter_map node_standing (drop i nodes)) table ≡ all
+    → with_ends (filter_map node_standing (drop (i + 1) nodes)) (with_end o table) ≡ all
 core-more nodes i o table all is rest = rw (is, next-place i) (core-next nodes i table all rest)

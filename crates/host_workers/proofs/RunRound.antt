@@ -26,7 +26,7 @@ use Rattle.host_workers.specs.declared.owned.Owned.{Owned}
 use Rattle.host_workers.specs.declared.working.Job.{Job}
 use Rattle.host_workers.specs.Crews.{IsOwned, IsCrew, keeper_log}
 use Rattle.host_workers.specs.Rosters.{RosterParts, IsRoster, AreCrewsOf, IsCrewOf, core_actor, bank_actor}
-use Rattle.host_workers.specs.Opening.{StandsFor, IsMovingOf, IsOpenedRound, crew_of, pass_of}
+use Rattle.host_workers.specs.Opening.{StandsFor, IsMovingOf, IsInitialRound, crew_of, pass_of}
 use Rattle.host_workers.specs.Finishing.{IsReadyJob, HaveDoneJobs}
 use Rattle.host_workers.proofs.Chosen.{taken-stands}
 use Rattle.host_workers.proofs.HallObjects.{mapped-at, ports-long, banks-long}
@@ -52,7 +52,7 @@ moving-of S p stands kept = record {
 
 -- ---- what workers begin with
 
-module _ (M : State) (made workers : ℕ) (hall : HallView) (jobs : List Job) (kept : IsKept M made) (some : 1 ≤ workers) (opened : IsOpenedRound M.setting M workers hall jobs) where
+module _ (M : State) (made workers : ℕ) (hall : HallView) (jobs : List Job) (kept : IsKept M made) (some : 1 ≤ workers) (opened : IsInitialRound M.setting M workers hall jobs) where
   abbrev C : Setting
   C = M.setting
 

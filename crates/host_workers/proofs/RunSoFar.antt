@@ -14,7 +14,7 @@ use Rattle.message_net.proofs.Orders.{weight-permuted}
 use Rattle.grant_log.specs.declared.log.Stamped.{Stamped}
 use Rattle.grant_log.specs.Log.{grants_in}
 use Rattle.registration_protocol.specs.Node.{Setting}
-use Rattle.machine_rules.specs.State.{State, opened}
+use Rattle.machine_rules.specs.State.{State, initial_state}
 use Rattle.machine_rules.specs.Next.{next, enabled, granted_in, kind_in}
 use Rattle.machine_rules.specs.Memory.{word_value}
 use Rattle.machine_rules.specs.Runs.{after, IsRun, IsOver, IsCompleteRun, read_off, grants_of, kinds_of, ending_of_run}
@@ -26,10 +26,10 @@ use Rattle.dn_machine.specs.Ends.{EndTable, no_ends, noted_ending, AreLastEnds}
 use Rattle.dn_machine.specs.Kept.{Made, IsKept}
 use Rattle.dn_machine.specs.Log.{no_log}
 use Rattle.dn_machine.specs.Parts.{IsReordered}
-use Rattle.dn_machine.specs.Run.{IsRecord, IsRunOf}
+use Rattle.dn_machine.specs.Run.{IsRecord, IsMachinesRun}
 use Rattle.dn_machine.proofs.LogLemmas.{log-opened}
 use Rattle.dn_machine.proofs.RunLemmas.{ready-of, ending-true, complete-run-of, recorded}
-use Rattle.round_rules.specs.Rounds.{IsReached, events_of, noted_kind, noted_event, end_told}
+use Rattle.round_rules.specs.Rounds.{IsReached, events_of, noted_kind, noted_event, end_observed}
 use Rattle.host_workers.specs.declared.round.Round.{Round}
 use Rattle.host_workers.specs.Ends.{with_ends, last_ends, ends_of_run}
 use Rattle.host_workers.specs.Opening.{StandsFor}
@@ -103,19 +103,19 @@ begins m kept none =
 -- ---- one round more
 
 pub far-setting : (C : Setting) (m : Made) (log : Log) → IsRunSoFar C m log → m.state.setting ≡ C
-far-setting C m log far = setting-reordered (after (opened C) log.events) m.state far.leads ∙ (run-setting (opened C) log.events ∙ opened-setting C)
+far-setting C m log far = setting-reordered (after (initial_state C) log.events) m.state far.leads ∙ (run-setting (initial_state C) log.events ∙ opened-setting C)
 
 -- the machine stands for the state so far
 pub stands-now : (C : Setting) (m : Made) (log : Log) → IsRunSoFar C m log → (S : State) × StandsFor S m.state
 stands-now C m log far =
-    let reached : IsReached C (after (opened C) log.events) = record { ready = far.ready; before = log.events; run = far.run; leads = refl } in
-    (after (opened C) log.events, record { reached = subst (λ (D : Setting). IsReached D (after (opened C) log.events)) (sym (far-setting C m log far)) reached; same = far.leads })
+    let reached : IsReached C (after (initial_state C) log.events) = record { ready = far.ready; before = log.events; run = far.run; leads = refl } in
+    (after (initial_state C) log.events, record { reached = subst (λ (D : Setting). IsReached D (after (initial_state C) log.events)) (sym (far-setting C m log far)) reached; same = far.leads })
 
 -- the events of a round go on from the state so far
-from-here : (C : Setting) (m : Made) (log : Log) (r : Round) → IsRunSoFar C m log → IsRoundBy m r → IsRoundFrom (after (opened C) log.events) r
+from-here : (C : Setting) (m : Made) (log : Log) (r : Round) → IsRunSoFar C m log → IsRoundBy m r → IsRoundFrom (after (initial_state C) log.events) r
 from-here C m log r far by =
-    let reached : IsReached C (after (opened C) log.events) = record { ready = far.ready; before = log.events; run = far.run; leads = refl } in
-    by.runs (after (opened C) log.events) (subst (λ (D : Setting). IsReached D (after (opened C) log.events)) (sym (far-setting C m log far)) reached) far.leads
+    let reached : IsReached C (after (initial_state C) log.events) = record { ready = far.ready; before = log.events; run = far.run; leads = refl } in
+    by.runs (after (initial_state C) log.events) (subst (λ (D : Setting). IsReached D (after (initial_state C) log.events)) (sym (far-setting C m log far)) reached) far.leads
 
 events-count : (entries : List Stamped) → length (events_of entries) ≡ length entries
 events-count entries = length-map entries noted_event
@@ -126,14 +126,14 @@ few-events C m log far = run-ends C log.events far.ready far.run
 
 pub few-more : (C : Setting) (m : Made) (log : Log) (r : Round) → IsRunSoFar C m log → IsRoundBy m r → length log.events + length r.merged.items ≤ 25169664
 few-more C m log r far by =
-    let more = run-ends C (log.events ++ events_of r.merged.items) far.ready (run-append (opened C) log.events (events_of r.merged.items) far.run (from-here C m log r far by).run) in
+    let more = run-ends C (log.events ++ events_of r.merged.items) far.ready (run-append (initial_state C) log.events (events_of r.merged.items) far.run (from-here C m log r far by).run) in
     omega (arith, more, length-append log.events (events_of r.merged.items), events-count r.merged.items)
 
 pub goes-on : (C : Setting) (m : Made) (log noted new : Log) (r : Round) → IsRunSoFar C m log → IsRoundBy m r → HasNoted r.merged.items log noted
     → new ≡ record noted { ends = with_ends r.ends.items noted.ends } → IsRunSoFar C r.machine new
 goes-on C m log noted new r far by notes is = rw is all where
   S : State
-  S = after (opened C) log.events
+  S = after (initial_state C) log.events
 
   es : List Event
   es = log.events
@@ -144,36 +144,36 @@ goes-on C m log noted new r far by notes is = rw is all where
   round : IsRoundFrom S r
   round = from-here C m log r far by
 
-  run : IsRun (opened C) (es ++ fs)
-  run = run-append (opened C) es fs far.run round.run
+  run : IsRun (initial_state C) (es ++ fs)
+  run = run-append (initial_state C) es fs far.run round.run
 
-  leads : IsReordered (after (opened C) (es ++ fs)) r.machine.state
-  leads = subst (λ (U : State). IsReordered U r.machine.state) (sym (after-append (opened C) es fs)) round.leads
+  leads : IsReordered (after (initial_state C) (es ++ fs)) r.machine.state
+  leads = subst (λ (U : State). IsReordered U r.machine.state) (sym (after-append (initial_state C) es fs)) round.leads
 
   made : r.machine.made ≡ length noted.events
   made = omega (arith, by.made, far.made, length-append es fs, events-count r.merged.items, ap (λ (l : List Event). length l) notes.events)
 
-  grants : noted.grants ≡ grants_of (opened C) (es ++ fs)
+  grants : noted.grants ≡ grants_of (initial_state C) (es ++ fs)
   grants =
       notes.grants
       ∙ (ap (λ (gs : List Grant). gs ++ grants_in r.merged.items) far.grants
-      ∙ (ap (λ (gs : List Grant). grants_of (opened C) es ++ gs) round.grants
-      ∙ sym (read-append granted_in (opened C) es fs)))
+      ∙ (ap (λ (gs : List Grant). grants_of (initial_state C) es ++ gs) round.grants
+      ∙ sym (read-append granted_in (initial_state C) es fs)))
 
-  kinds : kinds_of (opened C) es ++ map noted_kind r.merged.items ≡ kinds_of (opened C) (es ++ fs)
-  kinds = ap (λ (ks : List EventKind). kinds_of (opened C) es ++ ks) round.kinds ∙ sym (kinds-append (opened C) es fs)
+  kinds : kinds_of (initial_state C) es ++ map noted_kind r.merged.items ≡ kinds_of (initial_state C) (es ++ fs)
+  kinds = ap (λ (ks : List EventKind). kinds_of (initial_state C) es ++ ks) round.kinds ∙ sym (kinds-append (initial_state C) es fs)
 
-  tallied : IsTallied (kinds_of (opened C) (es ++ fs)) noted
-  tallied = subst (λ (ks : List EventKind). IsTallied ks noted) kinds (notes.counts (kinds_of (opened C) es) far.counts)
+  tallied : IsTallied (kinds_of (initial_state C) (es ++ fs)) noted
+  tallied = subst (λ (ks : List EventKind). IsTallied ks noted) kinds (notes.counts (kinds_of (initial_state C) es) far.counts)
 
   first : EndTable
-  first = no_ends (length (opened C).setting.program.phases)
+  first = no_ends (length (initial_state C).setting.program.phases)
 
-  ends : with_ends r.ends.items noted.ends ≡ with_ends (read_off end_told (opened C) (es ++ fs)) first
+  ends : with_ends r.ends.items noted.ends ≡ with_ends (read_off end_observed (initial_state C) (es ++ fs)) first
   ends =
       ap (with_ends r.ends.items) (notes.ends ∙ far.ends)
-      ∙ (sym (ends-append (read_off end_told (opened C) es) r.ends.items first)
-      ∙ ap (λ (xs : List TaskEnd). with_ends xs first) (ap (λ (xs : List TaskEnd). read_off end_told (opened C) es ++ xs) round.ends ∙ sym (read-append end_told (opened C) es fs)))
+      ∙ (sym (ends-append (read_off end_observed (initial_state C) es) r.ends.items first)
+      ∙ ap (λ (xs : List TaskEnd). with_ends xs first) (ap (λ (xs : List TaskEnd). read_off end_observed (initial_state C) es ++ xs) round.ends ∙ sym (read-append end_observed (initial_state C) es fs)))
 
   all : IsRunSoFar C r.machine (record noted { ends = with_ends r.ends.items noted.ends })
   all =
@@ -183,7 +183,7 @@ goes-on C m log noted new r far by notes is = rw is all where
         leads = rw (notes.events) leads;
         made = made;
         grants = rw (notes.events) grants;
-        counts = record { all = tallied.all; counts = rw (notes.events) tallied.counts; few = subst (λ (xs : List Event). length (kinds_of (opened C) xs) ≤ length noted.events) (sym notes.events) tallied.few };
+        counts = record { all = tallied.all; counts = rw (notes.events) tallied.counts; few = subst (λ (xs : List Event). length (kinds_of (initial_state C) xs) ≤ length noted.events) (sym notes.events) tallied.few };
         ends = rw (notes.events) ends;
       }
 
@@ -198,39 +198,39 @@ some-more m r e log noted by may notes = by_items r.merged.items refl where
 -- ---- at the end
 
 pub whole : (C : Setting) (m : Made) (log new : Log) (ending : Ending) → C.shape.cores ≤ 16 → IsRunSoFar C m log → IsOver m.state → new ≡ record log { ends = with_ends (last_ends m.state) log.ends }
-    → ending ≡ noted_ending new.ends m.state → IsRunOf (opened C) (recorded new ending)
+    → ending ≡ noted_ending new.ends m.state → IsMachinesRun (initial_state C) (recorded new ending)
 whole C m log new ending most far over is ends = complete-run-of C (recorded new ending) far.ready complete told where
   S : State
-  S = after (opened C) log.events
+  S = after (initial_state C) log.events
 
   events : new.events ≡ log.events
   events = ap (λ (l : Log). l.events) is
 
-  complete_so_far : IsCompleteRun (opened C) log.events
+  complete_so_far : IsCompleteRun (initial_state C) log.events
   complete_so_far = record { run = far.run; over = over-reordered S m.state far.leads over }
 
-  complete : IsCompleteRun (opened C) new.events
-  complete = subst (IsCompleteRun (opened C)) (sym events) complete_so_far
+  complete : IsCompleteRun (initial_state C) new.events
+  complete = subst (IsCompleteRun (initial_state C)) (sym events) complete_so_far
 
-  table : new.ends ≡ ends_of_run (opened C) log.events
+  table : new.ends ≡ ends_of_run (initial_state C) log.events
   table =
       ap (λ (l : Log). l.ends) is
       ∙ (ap (λ (xs : List TaskEnd). with_ends xs log.ends) (last-reordered S m.state far.leads) ∙ ap (with_ends (last_ends S)) far.ends)
 
-  noted : AreLastEnds (opened C) log.events new.ends
-  noted = subst (AreLastEnds (opened C) log.events) (sym table) (ends-noted C log.events far.ready most complete_so_far)
+  noted : AreLastEnds (initial_state C) log.events new.ends
+  noted = subst (AreLastEnds (initial_state C) log.events) (sym table) (ends-noted C log.events far.ready most complete_so_far)
 
-  shows : ending ≡ ending_of_run (opened C) new.events
+  shows : ending ≡ ending_of_run (initial_state C) new.events
   shows =
       ends
       ∙ (ending-reordered S m.state new.ends far.leads
       ∙ (ending-true C S log.events new.ends far.ready.program refl noted
-      ∙ ap (ending_of_run (opened C)) (sym events)))
+      ∙ ap (ending_of_run (initial_state C)) (sym events)))
 
-  told : IsRecord (opened C) (recorded new ending)
+  told : IsRecord (initial_state C) (recorded new ending)
   told =
       record {
-        granted = ap (λ (l : Log). l.grants) is ∙ (far.grants ∙ ap (grants_of (opened C)) (sym events));
+        granted = ap (λ (l : Log). l.grants) is ∙ (far.grants ∙ ap (grants_of (initial_state C)) (sym events));
         counted = rw is far.counts.counts;
         ends = shows;
       }

@@ -8,13 +8,13 @@ use Rattle.message_net.specs.declared.event.Event.{Event}
 use Rattle.registration_protocol.specs.Node.{Setting}
 use Rattle.registration_protocol.specs.OwnEvents.{own_event}
 use Rattle.bank_hall.specs.declared.posted.Posted.{Posted}
-use Rattle.bank_hall.specs.Halls.{PassView, number_of}
+use Rattle.bank_hall.specs.Halls.{PassView, pass_number}
 use Rattle.round_rules.specs.Acts.{Act, Took, core_step, taken_step}
 use Rattle.round_rules.specs.Steps.{Done}
-use Rattle.bank_hall.specs.Stamps.{goes_on as may_go}
+use Rattle.bank_hall.specs.Stamps.{has_numbers_left as may_go}
 use Rattle.round_rules.specs.Passes.{Held, own_acts, taken_steps}
 use Rattle.host_workers.specs.Deeds.{HasMoved, own_steps}
-use Rattle.host_workers.specs.Work.{HasActed, HasTaken, HasMadeOwn, AreOf, IsTurn, HasDone, HaveDone, Each, joined}
+use Rattle.host_workers.specs.Work.{HasActed, HasTaken, HasMadeOwn, AreOf, IsTurn, HasDone, HaveDone, Each, in_one_list}
 use Rattle.host_workers.proofs.Calls.{acted-none, acted-both}
 use Rattle.host_workers.proofs.Moves.{moved-both}
 
@@ -42,7 +42,7 @@ turn-steps core pick (Some t) goes e done = ap (λ l. taken_step t ∷ l) (own-s
 abbrev pub turn_acts : (C : Setting) (core : CoreId) (pick : ℕ) → Option (Posted × Done) → Held → Done → List Act
 turn_acts C core pick taken mid done = Took core pick taken ∷ own_acts core (may_go mid.clock mid.next) (own_event C mid.node) done
 
-pub turn-acted : (C : Setting) (core : CoreId) (pick : ℕ) (a b c : PassView) (had mid has : Held) (m n : ℕ) → (t : HasTaken C core pick a b had mid m) → number_of b ≡ number_of a
+pub turn-acted : (C : Setting) (core : CoreId) (pick : ℕ) (a b c : PassView) (had mid has : Held) (m n : ℕ) → (t : HasTaken C core pick a b had mid m) → pass_number b ≡ pass_number a
     → (o : HasMadeOwn C core b c mid has n) → HasActed C a c (turn_acts C core pick t.taken mid o.done) (m + n)
 turn-acted C core pick a b c had mid has m n t same o = acted-both C a b c (Took core pick t.taken ∷ []) (own_acts core (may_go mid.clock mid.next) (own_event C mid.node) o.done) m n t.acted same o.acted
 
@@ -69,16 +69,16 @@ module _ {A : Type 0} (Does : A → A → List Act → Type 0) where
   done-none C p = record { parts = []; acted = acted-none C p; each = tt }
 
   -- one more was done behind the others
-  done-more : (C : Setting) (p q r : PassView) (xs ys : List A) (a b : A) (m n : ℕ) → HaveDone Does C p q xs ys m → number_of q ≡ number_of p → HasDone Does C q r a b n
+  done-more : (C : Setting) (p q r : PassView) (xs ys : List A) (a b : A) (m n : ℕ) → HaveDone Does C p q xs ys m → pass_number q ≡ pass_number p → HasDone Does C q r a b n
       → HaveDone Does C p r (xs ++ a ∷ []) (ys ++ b ∷ []) (m + n)
   done-more C p q r xs ys a b m n had same one = record {
     parts = had.parts ++ one.acts ∷ [];
-    acted = subst (λ acts. HasActed C p r acts (m + n)) (sym (flat_map-append (λ (acts : List Act). acts) had.parts (one.acts ∷ []) ∙ ap (λ l. joined had.parts ++ l) (append-nil one.acts))) (acted-both C p q r (joined had.parts) one.acts m n had.acted same one.acted);
+    acted = subst (λ acts. HasActed C p r acts (m + n)) (sym (flat_map-append (λ (acts : List Act). acts) had.parts (one.acts ∷ []) ∙ ap (λ l. in_one_list had.parts ++ l) (append-nil one.acts))) (acted-both C p q r (in_one_list had.parts) one.acts m n had.acted same one.acted);
     each = each-more xs ys had.parts a b one.acts had.each one.does;
   }
 
   -- the next one of two lists, of which the second changes in place
-  pub done-next : (C : Setting) (p q r : PassView) (olds nows : List A) (place : ℕ) (b : A) (m n : ℕ) → HaveDone Does C p q (take place olds) (take place nows) m → number_of q ≡ number_of p
+  pub done-next : (C : Setting) (p q r : PassView) (olds nows : List A) (place : ℕ) (b : A) (m n : ℕ) → HaveDone Does C p q (take place olds) (take place nows) m → pass_number q ≡ pass_number p
       → place < length olds → length nows ≡ length olds → (d : A) → HasDone Does C q r (get_or olds place d) b n
       → HaveDone Does C p r (take (place + 1) olds) (take (place + 1) (set nows place b)) (m + n)
   done-next C p q r olds nows place b m n had same within long d one =

@@ -17,7 +17,7 @@ use Rattle.bank_hall.specs.declared.port.PortOut as port_out
 use Rattle.bank_hall.specs.declared.keeper.KeeperIn as keeper_in
 use Rattle.bank_hall.specs.declared.keeper.KeeperOut.{KeeperOut}
 use Rattle.bank_hall.specs.declared.keeper.KeeperOut as keeper_out
-use Rattle.bank_hall.specs.Inbox.{place_in, taken, taken_at}
+use Rattle.bank_hall.specs.Inbox.{picked_index, picked_out, picked_out_at}
 use Rattle.bank_hall.specs.Stamps.{is_early, may_handle, stamp_after}
 use Rattle.bank_hall.specs.Note.{KeeperNote, letter_with, letter_to}
 use Rattle.phase_barrier.specs.Letters.{letter_of}
@@ -27,10 +27,10 @@ use Rattle.bank_hall.specs.Keepers.{KeeperState, keeper_row, keeper_handles, kee
 use Rattle.host_workers.specs.Deeds.{IsEarly}
 
 -- what is taken may be taken
-may-take : (may : Posted → Bool) (inbox : List Posted) (place : ℕ) (at : Option Posted) → IfSome (taken_at may inbox place at).0 (λ p. may p ≡ true)
+may-take : (may : Posted → Bool) (inbox : List Posted) (place : ℕ) (at : Option Posted) → IfSome (picked_out_at may inbox place at).0 (λ p. may p ≡ true)
 may-take may inbox place None = tt
 may-take may inbox place (Some p) = by (may p) refl where
-  by : (b : Bool) → may p ≡ b → IfSome (taken_at may inbox place (Some p)).0 (λ q. may q ≡ true)
+  by : (b : Bool) → may p ≡ b → IfSome (picked_out_at may inbox place (Some p)).0 (λ q. may q ≡ true)
   by true e = rw e e
   by false e = rw e tt
 
@@ -39,14 +39,14 @@ taken-early p e = grind (arith, nat_tests, e)
 
 abbrev taken_in : PortOut → Option Posted
 taken_in port_out.TheVariants.Kept = None
-taken_in (port_out.TheVariants.Taken taken) = taken
+taken_in (port_out.TheVariants.Taken picked_out) = picked_out
 
 -- a mail that a take gives has a stamp below 2^63
 pub takes-early : (inbox : List Posted) (pick : ℕ) (p : Posted) → port_out.TheVariants.Taken (Some p) ≡ (port_call inbox (port_in.TheVariants.Take pick)).1 → p.stamp < 2 ^ 63
 unfolding port_call
 takes-early inbox pick p e =
-    let given : Some p ≡ (taken is_early inbox pick).0 = ap taken_in e in
-    taken-early p (subst (λ o. IfSome o (λ q. is_early q ≡ true)) (sym given) (may-take is_early inbox (place_in inbox pick) (slice_get inbox (place_in inbox pick))))
+    let given : Some p ≡ (picked_out is_early inbox pick).0 = ap taken_in e in
+    taken-early p (subst (λ o. IfSome o (λ q. is_early q ≡ true)) (sym given) (may-take is_early inbox (picked_index inbox pick) (slice_get inbox (picked_index inbox pick))))
 
 abbrev is_some_type : {X : Type 0} → Option X → Type 0
 is_some_type None = ⊥
@@ -84,8 +84,8 @@ handled_in (bank_out.TheVariants.Stepped handled) = handled
 pub reply-early : (s : BankState) (pick : ℕ) (h : Handled) → bank_out.TheVariants.Stepped (Some h) ≡ (bank_call s (bank_in.TheVariants.Step pick)).1 → IfSome h.reply IsEarly
 unfolding bank_call
 reply-early s pick h e =
-    handles-early s (taken (may_handle s.clock s.next) s.inbox pick) h
-    (may-take (may_handle s.clock s.next) s.inbox (place_in s.inbox pick) (slice_get s.inbox (place_in s.inbox pick)))
+    handles-early s (picked_out (may_handle s.clock s.next) s.inbox pick) h
+    (may-take (may_handle s.clock s.next) s.inbox (picked_index s.inbox pick) (slice_get s.inbox (picked_index s.inbox pick)))
     (ap handled_in e)
 
 keeps-early : (s : KeeperState) (row : Option Posted × List Posted) (n : KeeperNote) → IfSome row.0 (λ p. may_handle s.clock s.next p ≡ true) → Some n ≡ (keeper_handles s row).1 → n.stamped.stamp ≤ 2 ^ 63
@@ -102,8 +102,8 @@ note_in (keeper_out.TheVariants.Stepped answer) = answer
 pub note-early : (s : KeeperState) (pick : ℕ) (n : KeeperNote) → keeper_out.TheVariants.Stepped (Some n) ≡ (keeper_call s (keeper_in.TheVariants.Step pick)).1 → n.stamped.stamp ≤ 2 ^ 63
 unfolding keeper_call
 note-early s pick n e =
-    keeps-early s (taken (may_handle s.clock s.next) s.inbox pick) n
-    (may-take (may_handle s.clock s.next) s.inbox (place_in s.inbox pick) (slice_get s.inbox (place_in s.inbox pick)))
+    keeps-early s (picked_out (may_handle s.clock s.next) s.inbox pick) n
+    (may-take (may_handle s.clock s.next) s.inbox (picked_index s.inbox pick) (slice_get s.inbox (picked_index s.inbox pick)))
     (ap note_in e)
 
 -- so have the keeper's letters

@@ -17,16 +17,16 @@ use Rattle.message_net.specs.declared.message.Message.{Message}
 use Rattle.word_cache.specs.Cache.{has_room, put}
 use Rattle.word_cache.specs.declared.row.Entry.{Entry}
 use Rattle.word_cache.specs.declared.row.Entry.TheVariants.{Valid}
-use Rattle.registration_protocol.specs.Changes.{KeepsPlace, KeepsTask}
-use Rattle.registration_protocol.specs.Messages.{node_gets, becomes, fills, data_row, granted_to, grant_row, begins, go_row, halt_row}
-use Rattle.registration_protocol.specs.Node.{NodeParts, Setting, goes_on, entry_of, keeping}
+use Rattle.registration_protocol.specs.Changes.{KeepsPhase, KeepsTask}
+use Rattle.registration_protocol.specs.Messages.{node_gets, becomes, fills, data_reply_row, granted_to, grant_row, begins, go_row, halt_row}
+use Rattle.registration_protocol.specs.Node.{NodeParts, Setting, is_running, entry_of, keeping}
 use Rattle.registration_protocol.specs.OwnEvents.{shown_by, end_by, end_of, may_arrive, arrives, may_instr, instructed, evicted}
 use Rattle.registration_protocol.specs.declared.node.NodeWait as wait
 use Rattle.registration_protocol.specs.declared.node.NodeWait.{NodeWait}
 use Rattle.registration_protocol.proofs.InstrLemmas.{may-instruct, may-arrive}
 use Rattle.registration_protocol.proofs.MessageLemmas.{ack-kept, forward-kept, read-kept, back-kept}
 use Rattle.registration_protocol.proofs.PlaceLemmas.{instr-place, evict-keeps}
-use Rattle.host_workers.specs.Ends.{standing}
+use Rattle.host_workers.specs.Ends.{node_standing}
 
 -- ---- what becomes of a node
 
@@ -34,26 +34,26 @@ use Rattle.host_workers.specs.Ends.{standing}
 pub record Stays (n m : NodeParts) : Type 0 where
   pub phase : m.phase ≡ n.phase
   pub arrived : m.arrived ≡ n.arrived
-  pub shown : n.arrived ≡ true → standing m ≡ standing n
+  pub shown : n.arrived ≡ true → node_standing m ≡ node_standing n
 
 -- it goes on from the barrier to the next phase
 pub record Begins (n m : NodeParts) : Type 0 where
   pub arrived : n.arrived ≡ true
   pub phase : m.phase ≡ n.phase + 1
   pub absent : m.arrived ≡ false
-  pub shown : standing m ≡ None
+  pub shown : node_standing m ≡ None
 
 -- it arrives at the barrier, where it has no task that goes on
 pub record Arrives (n m : NodeParts) : Type 0 where
   pub absent : n.arrived ≡ false
   pub phase : m.phase ≡ n.phase
   pub arrived : m.arrived ≡ true
-  pub shown : standing m ≡ standing n
-  pub ended : standing n ≡ None → n.task ≡ None
+  pub shown : node_standing m ≡ node_standing n
+  pub ended : node_standing n ≡ None → n.task ≡ None
 
 -- ---- a task stands as before where its node keeps it
 
-standing-same : (n m : NodeParts) → m.core ≡ n.core → m.phase ≡ n.phase → m.task ≡ n.task → m.waiting ≡ n.waiting → standing m ≡ standing n
+standing-same : (n m : NodeParts) → m.core ≡ n.core → m.phase ≡ n.phase → m.task ≡ n.task → m.waiting ≡ n.waiting → node_standing m ≡ node_standing n
 standing-same n m core phase task waiting = ap (end_of m) task ∙ by_task n.task where
   by_shown : (t : TaskState) (o : Option EndShown) → end_by m t o ≡ end_by n t o
   by_shown t None = refl
@@ -71,7 +71,7 @@ stays-kept n m k =
     record { phase = k.place.phase; arrived = k.place.arrived; shown = λ here. standing-same n m k.place.core k.place.phase k.task k.waiting }
 
 -- a node that isn't at the barrier
-stays-absent : (n m : NodeParts) → n.arrived ≡ false → KeepsPlace n m → Stays n m
+stays-absent : (n m : NodeParts) → n.arrived ≡ false → KeepsPhase n m → Stays n m
 stays-absent n m absent k = record { phase = k.phase; arrived = k.arrived; shown = λ here. absurd (cc) }
 
 -- ---- its own events
@@ -83,13 +83,13 @@ pub evict-stays : (C : Setting) (n : NodeParts) (word : WordId) → Stays n (evi
 evict-stays C n word = stays-kept n (evicted C n word).0 (evict-keeps C n word)
 
 -- a task that shows nothing and doesn't go on isn't there
-no-task : (n : NodeParts) → goes_on n.task ≡ false → standing n ≡ None → n.task ≡ None
+no-task : (n : NodeParts) → is_running n.task ≡ false → node_standing n ≡ None → n.task ≡ None
 no-task n over none = by_task n.task refl over none where
-  by_end : (t : TaskState) (e : Option End) → n.task ≡ Some t → t.end ≡ e → goes_on (Some t) ≡ false → end_by n t (shown_by e n.waiting) ≡ None → n.task ≡ None
-  by_end t None is ends over none = let going : goes_on (Some t) ≡ true = rw (ends) refl in absurd (cc)
+  by_end : (t : TaskState) (e : Option End) → n.task ≡ Some t → t.end ≡ e → is_running (Some t) ≡ false → end_by n t (shown_by e n.waiting) ≡ None → n.task ≡ None
+  by_end t None is ends over none = let going : is_running (Some t) ≡ true = rw (ends) refl in absurd (cc)
   by_end t (Some e) is ends over none = absurd (cc)
 
-  by_task : (o : Option TaskState) → n.task ≡ o → goes_on o ≡ false → end_of n o ≡ None → n.task ≡ None
+  by_task : (o : Option TaskState) → n.task ≡ o → is_running o ≡ false → end_of n o ≡ None → n.task ≡ None
   by_task None is over none = is
   by_task (Some t) is over none = by_end t t.end is refl over none
 
@@ -110,7 +110,7 @@ arrive-arrives n may =
 abbrev pub RestsThere : NodeParts → Type 0
 RestsThere n = n.arrived ≡ true → n.waiting ≡ wait.TheVariants.None
 
-data-stays : (n : NodeParts) (word : WordId) (value : ℕ) → RestsThere n → Stays n (data_row n word value n.waiting).0
+data-stays : (n : NodeParts) (word : WordId) (value : ℕ) → RestsThere n → Stays n (data_reply_row n word value n.waiting).0
 data-stays n word value rests = by_wait n.waiting refl where
   filled : (wanted : WordId) → n.waiting ≡ wait.TheVariants.Reading wanted → Stays n (record (keeping n (put word (Valid value false) n.cache.pairs)) { waiting = wait.TheVariants.Filled word })
   filled wanted is = record { phase = refl; arrived = refl; shown = λ here. (let none = rests here in absurd (cc)) }
@@ -128,7 +128,7 @@ data-stays n word value rests = by_wait n.waiting refl where
   by_test wanted is true = by_entry wanted is (entry_of n word.0)
   by_test wanted is false = stays-same n
 
-  by_wait : (w : NodeWait) → n.waiting ≡ w → Stays n (data_row n word value w).0
+  by_wait : (w : NodeWait) → n.waiting ≡ w → Stays n (data_reply_row n word value w).0
   by_wait wait.TheVariants.None is = stays-same n
   by_wait (wait.TheVariants.Reading wanted) is = by_test wanted is (wanted.0 == word.0)
   by_wait (wait.TheVariants.Filled it) is = stays-same n
@@ -151,7 +151,7 @@ grant-stays C n lock signature rests = by_wait n.waiting refl where
   by_wait (wait.TheVariants.Locking wanted) is = by_test wanted is (wanted.0 == lock.0)
 
 -- a task that has just begun shows nothing
-begins-standing : (C : Setting) (n : NodeParts) (phase : ℕ) → standing (begins C n phase) ≡ None
+begins-standing : (C : Setting) (n : NodeParts) (phase : ℕ) → node_standing (begins C n phase) ≡ None
 begins-standing C n phase = by_decl (declared C.program phase n.core) where
   by_decl : (o : Option TaskDecl) → end_of (begins C n phase) (option_map started o) ≡ None
   by_decl None = refl

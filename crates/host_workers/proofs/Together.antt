@@ -10,7 +10,7 @@ use Rattle.message_net.specs.declared.actor.Actor.TheVariants.{Core, Bank, Keepe
 use Rattle.grant_log.specs.declared.log.Stamped.{Stamped}
 use Rattle.registration_protocol.specs.Node.{Setting}
 use Rattle.machine_rules.specs.State.{State}
-use Rattle.machine_rules.specs.Next.{number_of}
+use Rattle.machine_rules.specs.Next.{next_number}
 use Rattle.machine_rules.specs.Sound.{IsMachine}
 use Rattle.bank_hall.specs.declared.posted.Posted.{Posted}
 use Rattle.turn_lock.specs.History.{Legal}
@@ -25,7 +25,7 @@ use Rattle.round_rules.specs.Acts.{Act, steps_by}
 use Rattle.round_rules.specs.Steps.{Goes}
 use Rattle.round_rules.specs.Passes.{held_member}
 use Rattle.round_rules.specs.Rounds as rules
-use Rattle.round_rules.specs.Rounds.{owner, core_at, bank_at, bank_in, keeper_in, IsAlike, IsBankClosed, IsKeeperClosed, IsPortClosed, AreClosed, HaveWorked, AreNamed}
+use Rattle.round_rules.specs.Rounds.{owner, core_at, bank_at, bank_in, keeper_in, HasSameSizes, IsBankClosed, IsKeeperClosed, IsPortClosed, AreClosed, HaveWorked, AreNamed}
 use Rattle.round_rules.proofs.MachineParts.{there}
 use Rattle.round_rules.proofs.Numbers.{remainder}
 use Rattle.round_rules.proofs.Mapped.{long-map}
@@ -157,7 +157,7 @@ module _ (S M : State) (made workers : ℕ) (f : Finished) (left : IsRoundLeft S
   member-first core o at =
       let fresh = left.opened.fresh.cores core.0 o at in
       let node : slice_get S.nodes core.0 ≡ Some o.node = ap (λ l. slice_get l core.0) (sym same-nodes) ∙ fresh.node in
-      let next : o.next ≡ number_of S (Core core) = fresh.next_is ∙ ap (λ l. slice_index l core.0) same-numbers in
+      let next : o.next ≡ next_number S (Core core) = fresh.next_is ∙ ap (λ l. slice_index l core.0) same-numbers in
       rw (node, next) refl
 
   member-then : (core : CoreId) (p : Owned) → slice_get has.cores core.0 ≡ Some p → held_member (held_of p) ≡ member T (Core core)
@@ -166,7 +166,7 @@ module _ (S M : State) (made workers : ℕ) (f : Finished) (left : IsRoundLeft S
       let node : slice_get T.nodes core.0 ≡ Some p.node = ap (λ l. slice_get l core.0) left.finished.nodes ∙ mapped-at node_of has.cores core.0 p at in
       let there : slice_get (map next_of has.cores) core.0 ≡ Some p.next = mapped-at next_of has.cores core.0 p at in
       let within = slice_get_within (map next_of has.cores) core.0 p.next there in
-      let next : number_of T (Core core) ≡ p.next =
+      let next : next_number T (Core core) ≡ p.next =
       ap (λ l. slice_index (l ++ f.objects.next.items) core.0) left.finished.next
       ∙ (get_or_append_left (map next_of has.cores) f.objects.next.items 0 core.0 within
       ∙ get_or_from_slice_get (map next_of has.cores) core.0 p.next 0 there) in
@@ -205,7 +205,7 @@ module _ (S M : State) (made workers : ℕ) (f : Finished) (left : IsRoundLeft S
   abbrev left_there : Actor → List Posted
   left_there = inbox_of (inboxes_of f.objects.inboxes)
 
-  first-number : (b : ℕ) (o : BankActorParts) → slice_get left.opened.objects.banks b ≡ Some o → number_of S (bank_at b) ≡ o.state.next
+  first-number : (b : ℕ) (o : BankActorParts) → slice_get left.opened.objects.banks b ≡ Some o → next_number S (bank_at b) ≡ o.state.next
   first-number b o at =
       ap (λ (D : Setting). slice_index S.numbers (D.shape.cores + b)) (sym same-setting)
       ∙ (ap (λ l. slice_index l (C.shape.cores + b)) (sym same-numbers)
@@ -218,7 +218,7 @@ module _ (S M : State) (made workers : ℕ) (f : Finished) (left : IsRoundLeft S
       same-some o.state.inbox (began (bank_at b)) (sym (inbox-there _ _ _ _ _ _ _ left.opened.hold b o at) ∙ (ap (λ l. slice_get l b) left.opened.first.banks ∙ mapped-at _ (range_with_len 0 C.shape.banks) b b (range-at C.shape.banks b below))) in
       rw (← inbox, first-number b o at, ← left.opened.at_first.banks b o at) refl
 
-  next-number : (b : ℕ) (o : BankActorParts) → slice_get left.finished.objects.banks b ≡ Some o → number_of T (bank_at b) ≡ o.state.next
+  next-number : (b : ℕ) (o : BankActorParts) → slice_get left.finished.objects.banks b ≡ Some o → next_number T (bank_at b) ≡ o.state.next
   next-number b o at =
       let long : length f.parted.next.items ≡ C.shape.cores = ap length left.finished.next ∙ (long-map next_of has.cores ∙ whole-then.core_count) in
       ap (λ n. slice_index (f.parted.next.items ++ f.objects.next.items) (n + b)) (sym long)
@@ -254,7 +254,7 @@ module _ (S M : State) (made workers : ℕ) (f : Finished) (left : IsRoundLeft S
       let inbox : o.state.inbox ≡ began Keeper = left.opened.hold.keeper_inbox ∙ left.opened.first.keeper in
       let keeper : o.state.keeper ≡ S.keeper = left.opened.hold.keeper_parts ∙ same-keeper in
       let count : length left.opened.objects.banks ≡ C.shape.banks = banks-long _ _ _ _ _ _ _ left.opened.hold ∙ machine.banks in
-      let number : number_of S Keeper ≡ o.state.next =
+      let number : next_number S Keeper ≡ o.state.next =
       ap (λ (D : Setting). slice_index S.numbers (D.shape.cores + D.shape.banks)) (sym same-setting)
       ∙ (ap (λ l. slice_index l (C.shape.cores + C.shape.banks)) (sym same-numbers)
       ∙ (sym (get_or-drop C.shape.cores M.numbers C.shape.banks 0)
@@ -271,7 +271,7 @@ module _ (S M : State) (made workers : ℕ) (f : Finished) (left : IsRoundLeft S
       let turns : length left.hall.banks ≡ C.shape.banks = sym (long-map _ left.hall.banks) ∙ (ap length left.opened.opened.banks_shared.opened ∙ banks-first) in
       let count : length left.finished.objects.banks ≡ C.shape.banks = left.finished.banks_closed.object_count ∙ turns in
       let long : length f.parted.next.items ≡ C.shape.cores = ap length left.finished.next ∙ (long-map next_of has.cores ∙ whole-then.core_count) in
-      let number : number_of T Keeper ≡ o.state.next =
+      let number : next_number T Keeper ≡ o.state.next =
       ap (λ n. slice_index (f.parted.next.items ++ f.objects.next.items) (n + C.shape.banks)) (sym long)
       ∙ (get_or-append-add f.parted.next.items f.objects.next.items C.shape.banks 0
       ∙ (ap (λ n. slice_index f.objects.next.items n) (sym count)
@@ -310,7 +310,7 @@ module _ (S M : State) (made workers : ℕ) (f : Finished) (left : IsRoundLeft S
 
   -- ---- as many of each
 
-  pub alike : IsAlike C S T
+  pub alike : HasSameSizes C S T
   alike = record {
     setting = refl;
     nodes = ap length left.finished.nodes ∙ (long-map node_of has.cores ∙ (whole-then.core_count ∙ (sym machine.nodes ∙ ap length same-nodes)));

@@ -13,37 +13,37 @@ use Rattle.registration_protocol.specs.OwnEvents.{own_event}
 use Rattle.bank_hall.specs.declared.bank.Handled.{Handled}
 use Rattle.bank_hall.specs.declared.posted.Posted.{Posted}
 use Rattle.bank_hall.specs.Note.{KeeperNote}
-use Rattle.bank_hall.specs.Halls.{PassView, HasMadeCalls, number_of}
+use Rattle.bank_hall.specs.Halls.{PassView, HasMadeCalls, pass_number}
 use Rattle.round_rules.specs.Acts.{Took, Made, Stepped, Kept, try_calls, postings, keeper_done}
 use Rattle.round_rules.specs.Members.{Handles, Makes}
 use Rattle.round_rules.specs.Steps.{Done}
-use Rattle.bank_hall.specs.Stamps.{goes_on as may_go}
+use Rattle.bank_hall.specs.Stamps.{has_numbers_left as may_go}
 use Rattle.round_rules.specs.Passes.{Held, own_acts}
 use Rattle.host_workers.specs.declared.crew.BankLog.{BankLog}
 use Rattle.host_workers.specs.declared.owned.Owned.{Owned}
-use Rattle.host_workers.specs.Crews.{held_of, goes_on}
-use Rattle.host_workers.specs.Deeds.{HasMoved, step_by, own_steps}
-use Rattle.host_workers.specs.Work.{HasActed, HasTaken, HasMadeOwn, IsServed, IsStepped, IsKeeperStep, IsKept, HasDone}
+use Rattle.host_workers.specs.Crews.{held_of, owned_has_numbers}
+use Rattle.host_workers.specs.Deeds.{HasMoved, step_of_deed, own_steps}
+use Rattle.host_workers.specs.Work.{HasActed, HasTaken, HasMadeOwn, IsCoreServed, IsStepped, IsKeeperStep, IsKeeperServed, HasDone}
 use Rattle.host_workers.proofs.Calls.{made-none, acted-none, acted-one}
 use Rattle.host_workers.proofs.Moves.{moved-none}
 use Rattle.host_workers.proofs.Served.{turn-are, turn-acted, turn-moved, turn-is, turn_acts}
 
-pub took-none : (C : Setting) (core : CoreId) (pick : ℕ) (a b : PassView) (h : Held) → HasMadeCalls a b (try_calls (number_of a) (Took core pick None)) → number_of b ≡ number_of a → HasTaken C core pick a b h h 0
+pub took-none : (C : Setting) (core : CoreId) (pick : ℕ) (a b : PassView) (h : Held) → HasMadeCalls a b (try_calls (pass_number a) (Took core pick None)) → pass_number b ≡ pass_number a → HasTaken C core pick a b h h 0
 took-none C core pick a b h tries same = record { taken = None; moved = moved-none C core h; acted = acted-one C a b b (Took core pick None) 0 tries same (made-none b) refl }
 
 pub took-some : (C : Setting) (core : CoreId) (pick : ℕ) (a b c : PassView) (had has : Held) (p : Posted) (sent : Option Posted)
-    → HasMadeCalls a b (try_calls (number_of a) (Took core pick (Some (p, (step_by C core had (Handles p)).done)))) → number_of b ≡ number_of a
-    → HasMoved C core (step_by C core had (Handles p) ∷ []) had has → option_to_list sent ≡ (step_by C core had (Handles p)).done.sent
-    → HasMadeCalls b c (postings C.shape (number_of b) (option_to_list sent)) → HasTaken C core pick a c had has 1
+    → HasMadeCalls a b (try_calls (pass_number a) (Took core pick (Some (p, (step_of_deed C core had (Handles p)).done)))) → pass_number b ≡ pass_number a
+    → HasMoved C core (step_of_deed C core had (Handles p) ∷ []) had has → option_to_list sent ≡ (step_of_deed C core had (Handles p)).done.sent
+    → HasMadeCalls b c (postings C.shape (pass_number b) (option_to_list sent)) → HasTaken C core pick a c had has 1
 took-some C core pick a b c had has p sent tries same moved is posts = record {
-  taken = Some (p, (step_by C core had (Handles p)).done);
+  taken = Some (p, (step_of_deed C core had (Handles p)).done);
   moved = moved;
-  acted = acted-one C a b c (Took core pick (Some (p, (step_by C core had (Handles p)).done))) 1 tries same (subst (λ l. HasMadeCalls b c (postings C.shape (number_of b) l)) is posts) refl;
+  acted = acted-one C a b c (Took core pick (Some (p, (step_of_deed C core had (Handles p)).done))) 1 tries same (subst (λ l. HasMadeCalls b c (postings C.shape (pass_number b) l)) is posts) refl;
 }
 
 -- any event of the core, for where there is none
 some-done : (C : Setting) (core : CoreId) (h : Held) → Done
-some-done C core h = (step_by C core h (Makes (Instr core))).done
+some-done C core h = (step_of_deed C core h (Makes (Instr core))).done
 
 no-acts : (core : CoreId) (goes : Bool) (e : Option Event) (done : Done) → (goes ≡ false) → own_acts core goes e done ≡ []
 no-acts core true e done is = absurd (false≢true (sym is))
@@ -86,20 +86,20 @@ own-still C core a h is = own-nothing C core a h (still-acts core (may_go h.cloc
 
 pub own-some : (C : Setting) (core : CoreId) (a b : PassView) (had has : Held) (e : Event) (sent : Option Posted)
     → may_go had.clock had.next ≡ true → own_event C had.node ≡ Some e
-    → HasMoved C core (step_by C core had (Makes e) ∷ []) had has → option_to_list sent ≡ (step_by C core had (Makes e)).done.sent
-    → HasMadeCalls a b (postings C.shape (number_of a) (option_to_list sent)) → HasMadeOwn C core a b had has 1
+    → HasMoved C core (step_of_deed C core had (Makes e) ∷ []) had has → option_to_list sent ≡ (step_of_deed C core had (Makes e)).done.sent
+    → HasMadeCalls a b (postings C.shape (pass_number a) (option_to_list sent)) → HasMadeOwn C core a b had has 1
 own-some C core a b had has e sent goes own moved is posts =
-    let done = (step_by C core had (Makes e)).done in
+    let done = (step_of_deed C core had (Makes e)).done in
     let acts : own_acts core (may_go had.clock had.next) (own_event C had.node) done ≡ Made core e done ∷ [] = rw (goes, own) refl in
-    let steps : own_steps (may_go had.clock had.next) (own_event C had.node) done ≡ step_by C core had (Makes e) ∷ [] = rw (goes, own) refl in record {
+    let steps : own_steps (may_go had.clock had.next) (own_event C had.node) done ≡ step_of_deed C core had (Makes e) ∷ [] = rw (goes, own) refl in record {
       done = done;
       moved = subst (λ l. HasMoved C core l had has) (sym steps) moved;
-      acted = subst (λ l. HasActed C a b l 1) (sym acts) (acted-one C a a b (Made core e done) 1 (made-none a) refl (subst (λ l. HasMadeCalls a b (postings C.shape (number_of a) l)) is posts) refl);
+      acted = subst (λ l. HasActed C a b l 1) (sym acts) (acted-one C a a b (Made core e done) 1 (made-none a) refl (subst (λ l. HasMadeCalls a b (postings C.shape (pass_number a) l)) is posts) refl);
     }
 
 -- a core had its turn
-pub serves : (C : Setting) (o n : Owned) (pick : ℕ) (a b c : PassView) (mid : Held) (m k : ℕ) → n.core ≡ o.core → Fits C n.node → goes_on o ≡ true
-    → HasTaken C o.core pick a b (held_of o) mid m → number_of b ≡ number_of a → HasMadeOwn C o.core b c mid (held_of n) k → HasDone (IsServed C) C a c o n (m + k)
+pub serves : (C : Setting) (o n : Owned) (pick : ℕ) (a b c : PassView) (mid : Held) (m k : ℕ) → n.core ≡ o.core → Fits C n.node → owned_has_numbers o ≡ true
+    → HasTaken C o.core pick a b (held_of o) mid m → pass_number b ≡ pass_number a → HasMadeOwn C o.core b c mid (held_of n) k → HasDone (IsCoreServed C) C a c o n (m + k)
 serves C o n pick a b c mid m k core fits goes t same own = record {
   acts = turn_acts C o.core pick t.taken mid own.done;
   acted = turn-acted C o.core pick a b c (held_of o) mid (held_of n) m k t same own;
@@ -113,7 +113,7 @@ serves C o n pick a b c mid m k core fits goes t same own = record {
   };
 }
 
-pub stays : (C : Setting) (o : Owned) (a : PassView) → Fits C o.node → goes_on o ≡ false → HasDone (IsServed C) C a a o o 0
+pub stays : (C : Setting) (o : Owned) (a : PassView) → Fits C o.node → owned_has_numbers o ≡ false → HasDone (IsCoreServed C) C a a o o 0
 stays C o a fits spent = record {
   acts = [];
   acted = acted-none C a;
@@ -122,7 +122,7 @@ stays C o a fits spent = record {
 
 -- a bank was stepped
 pub steps : (C : Setting) (b d : BankLog) (pick : ℕ) (p q r : PassView) (h : Handled) → d.bank ≡ b.bank → d.log.items ≡ b.log.items ++ h.stamped ∷ []
-    → HasMadeCalls p q (try_calls (number_of p) (Stepped b.bank pick (Some h))) → number_of q ≡ number_of p → HasMadeCalls q r (postings C.shape (number_of q) (option_to_list h.reply))
+    → HasMadeCalls p q (try_calls (pass_number p) (Stepped b.bank pick (Some h))) → pass_number q ≡ pass_number p → HasMadeCalls q r (postings C.shape (pass_number q) (option_to_list h.reply))
     → HasDone (IsStepped C) C p r b d 1
 steps C b d pick p q r h bank log tries same posts = record {
   acts = Stepped b.bank pick (Some h) ∷ [];
@@ -131,7 +131,7 @@ steps C b d pick p q r h bank log tries same posts = record {
 }
 
 pub steps-not : (C : Setting) (b d : BankLog) (pick : ℕ) (p q : PassView) → d.bank ≡ b.bank → d.log.items ≡ b.log.items
-    → HasMadeCalls p q (try_calls (number_of p) (Stepped b.bank pick None)) → number_of q ≡ number_of p → HasDone (IsStepped C) C p q b d 0
+    → HasMadeCalls p q (try_calls (pass_number p) (Stepped b.bank pick None)) → pass_number q ≡ pass_number p → HasDone (IsStepped C) C p q b d 0
 steps-not C b d pick p q bank log tries same = record {
   acts = Stepped b.bank pick None ∷ [];
   acted = acted-one C p q q (Stepped b.bank pick None) 0 tries same (made-none q) refl;
@@ -140,7 +140,7 @@ steps-not C b d pick p q bank log tries same = record {
 
 -- the keeper was stepped
 pub keeps : (C : Setting) (had has : List Stamped) (pick : ℕ) (p q r : PassView) (n : KeeperNote) → has ≡ had ++ n.stamped ∷ []
-    → HasMadeCalls p q (try_calls (number_of p) (Kept pick (Some n))) → number_of q ≡ number_of p → HasMadeCalls q r (postings C.shape (number_of q) (keeper_done C.shape.cores n).sent)
+    → HasMadeCalls p q (try_calls (pass_number p) (Kept pick (Some n))) → pass_number q ≡ pass_number p → HasMadeCalls q r (postings C.shape (pass_number q) (keeper_done C.shape.cores n).sent)
     → HasDone (IsKeeperStep C) C p r had has 1
 keeps C had has pick p q r n log tries same posts = record {
   acts = Kept pick (Some n) ∷ [];
@@ -149,7 +149,7 @@ keeps C had has pick p q r n log tries same posts = record {
 }
 
 pub keeps-not : (C : Setting) (had has : List Stamped) (pick : ℕ) (p q : PassView) → has ≡ had
-    → HasMadeCalls p q (try_calls (number_of p) (Kept pick None)) → number_of q ≡ number_of p → HasDone (IsKeeperStep C) C p q had has 0
+    → HasMadeCalls p q (try_calls (pass_number p) (Kept pick None)) → pass_number q ≡ pass_number p → HasDone (IsKeeperStep C) C p q had has 0
 keeps-not C had has pick p q log tries same = record {
   acts = Kept pick None ∷ [];
   acted = acted-one C p q q (Kept pick None) 0 tries same (made-none q) refl;
@@ -157,9 +157,9 @@ keeps-not C had has pick p q log tries same = record {
 }
 
 -- the keeper was stepped, if the worker has it
-pub kept-not : (C : Setting) (p : PassView) → HasDone (IsKept C) C p p None None 0
+pub kept-not : (C : Setting) (p : PassView) → HasDone (IsKeeperServed C) C p p None None 0
 kept-not C p = record { acts = []; acted = acted-none C p; does = refl }
 
-pub kept-if : {E : Type 0} (C : Setting) (p q : PassView) (had has : List Stamped) (r : Result ℕ E) → IfOk r (HasDone (IsKeeperStep C) C p q had has) → IfOk r (HasDone (IsKept C) C p q (Some had) (Some has))
+pub kept-if : {E : Type 0} (C : Setting) (p q : PassView) (had has : List Stamped) (r : Result ℕ E) → IfOk r (HasDone (IsKeeperStep C) C p q had has) → IfOk r (HasDone (IsKeeperServed C) C p q (Some had) (Some has))
 kept-if C p q had has (Ok count) done = record { acts = done.acts; acted = done.acted; does = done.does }
 kept-if C p q had has (Err e) done = tt

@@ -6,7 +6,7 @@ use Rattle.std.proofs.lemmas.List.Elements.{filter-append, All-append, All-cons,
 use Rattle.std.proofs.lemmas.Option.{slice_get_within, get_or_from_slice_get}
 use Rattle.message_net.specs.declared.actor.Actor.{Actor}
 use Rattle.round_rules.specs.Acts.{Act, actor_of, is_act_of}
-use Rattle.host_workers.specs.Work.{AreOf, Each, joined}
+use Rattle.host_workers.specs.Work.{AreOf, Each, in_one_list}
 use Rattle.host_workers.proofs.Filters.{filter-own, filter-other}
 
 module _ {X : Type 0} where
@@ -42,12 +42,12 @@ module _ {X : Type 0} where
 
 module _ {A : Type 0} (actor : A → Actor) (Does : A → A → List Act → Type 0) (are-of : (a b : A) (acts : List Act) → Does a b acts → AreOf (actor a) acts) where
   -- no act is of an actor that is none of these
-  pub none-of : (a : Actor) (olds nows : List A) (parts : List (List Act)) → Each Does olds nows parts → ((i : ℕ) (o : A) → slice_get olds i ≡ Some o → a ≢ actor o) → filter (is_act_of a) (joined parts) ≡ []
+  pub none-of : (a : Actor) (olds nows : List A) (parts : List (List Act)) → Each Does olds nows parts → ((i : ℕ) (o : A) → slice_get olds i ≡ Some o → a ≢ actor o) → filter (is_act_of a) (in_one_list parts) ≡ []
   none-of a [] [] [] each differ = refl
   none-of a (o ∷ olds) (n ∷ nows) (part ∷ parts) each differ =
       let here = filter-other a (actor o) part (differ 0 o refl) (are-of o n part each.0) in
       let rest = none-of a olds nows parts each.1 (λ i p at. differ (suc i) p at) in
-      filter-append (is_act_of a) part (joined parts) ∙ (rw (here, rest) refl)
+      filter-append (is_act_of a) part (in_one_list parts) ∙ (rw (here, rest) refl)
   none-of a [] [] (part ∷ parts) each differ = absurd each
   none-of a [] (n ∷ nows) parts each differ = absurd each
   none-of a (o ∷ olds) [] parts each differ = absurd each
@@ -55,7 +55,7 @@ module _ {A : Type 0} (actor : A → Actor) (Does : A → A → List Act → Typ
 
   -- the acts of one of them among all
   pub own-of : (olds nows : List A) (parts : List (List Act)) → Each Does olds nows parts → AllPairs (λ x y. actor x ≢ actor y) olds
-      → (i : ℕ) (o n : A) → slice_get olds i ≡ Some o → slice_get nows i ≡ Some n → (own : List Act) × (filter (is_act_of (actor o)) (joined parts) ≡ own) × Does o n own
+      → (i : ℕ) (o n : A) → slice_get olds i ≡ Some o → slice_get nows i ≡ Some n → (own : List Act) × (filter (is_act_of (actor o)) (in_one_list parts) ≡ own) × Does o n own
   own-of [] nows parts each apart i o n at now = absurd (none-some o at)
   own-of (x ∷ olds) [] parts each apart i o n at now = absurd each
   own-of (x ∷ olds) (y ∷ nows) [] each apart i o n at now = absurd each
@@ -65,21 +65,21 @@ module _ {A : Type 0} (actor : A → Actor) (Does : A → A → List Act → Typ
       let does : Does o n part = subst (λ a. Does a n part) is-o (subst (λ b. Does x b part) is-n each.0) in
       let mine = filter-own (actor o) part (are-of o n part does) in
       let others = none-of (actor o) olds nows parts each.1 (λ k p there e. pairs-first (λ a b. actor a ≢ actor b) x olds apart k p there (ap actor is-o ∙ e)) in
-      (part, filter-append (is_act_of (actor o)) part (joined parts) ∙ (rw (mine, others) (append-nil part)), does)
+      (part, filter-append (is_act_of (actor o)) part (in_one_list parts) ∙ (rw (mine, others) (append-nil part)), does)
   own-of (x ∷ olds) (y ∷ nows) (part ∷ parts) each apart (suc i) o n at now =
       let rest = own-of olds nows parts each.1 (pairs-rest (λ a b. actor a ≢ actor b) x olds apart) i o n at now in
       let none = filter-other (actor o) (actor x) part (λ e. pairs-first (λ a b. actor a ≢ actor b) x olds apart i o at (sym e)) (are-of x y part each.0) in
-      (rest.0, filter-append (is_act_of (actor o)) part (joined parts) ∙ (rw none rest.1), rest.2)
+      (rest.0, filter-append (is_act_of (actor o)) part (in_one_list parts) ∙ (rw none rest.1), rest.2)
 
   -- each act is of an actor that is among some that have all these
   are-among : (all : List Actor) (a : Actor) (acts : List Act) → AreOf a acts → Contains all a → All (λ act. Contains all (actor_of act)) acts
   are-among all a [] are has = λ k d within. absurd (omega (arith, within))
   are-among all a (act ∷ acts) are has = All-cons (λ act. Contains all (actor_of act)) act acts (subst (Contains all) (sym are.0) has) (are-among all a acts are.1 has)
 
-  pub all-among : (all : List Actor) (olds nows : List A) (parts : List (List Act)) → Each Does olds nows parts → ((i : ℕ) (o : A) → slice_get olds i ≡ Some o → Contains all (actor o)) → All (λ act. Contains all (actor_of act)) (joined parts)
+  pub all-among : (all : List Actor) (olds nows : List A) (parts : List (List Act)) → Each Does olds nows parts → ((i : ℕ) (o : A) → slice_get olds i ≡ Some o → Contains all (actor o)) → All (λ act. Contains all (actor_of act)) (in_one_list parts)
   all-among all [] [] [] each has = λ k d within. absurd (omega (arith, within))
   all-among all (o ∷ olds) (n ∷ nows) (part ∷ parts) each has =
-      All-append (λ act. Contains all (actor_of act)) part (joined parts) (are-among all (actor o) part (are-of o n part each.0) (has 0 o refl)) (all-among all olds nows parts each.1 (λ i p at. has (suc i) p at))
+      All-append (λ act. Contains all (actor_of act)) part (in_one_list parts) (are-among all (actor o) part (are-of o n part each.0) (has 0 o refl)) (all-among all olds nows parts each.1 (λ i p at. has (suc i) p at))
   all-among all [] [] (part ∷ parts) each has = absurd each
   all-among all [] (n ∷ nows) parts each has = absurd each
   all-among all (o ∷ olds) [] parts each has = absurd each

@@ -13,7 +13,7 @@ use Rattle.registration_protocol.specs.Node.{Setting}
 use Rattle.turn_lock.specs.History.{calls_by}
 use Rattle.turn_lock.specs.Passes.{Token}
 use Rattle.bank_hall.specs.Rows.{made_by}
-use Rattle.bank_hall.specs.Halls.{Calls, HallView, BankEntry, PortEntry, KeeperEntry, IsNewPass, number_of}
+use Rattle.bank_hall.specs.Halls.{Calls, HallView, BankEntry, PortEntry, KeeperEntry, IsNewPass, pass_number}
 use Rattle.bank_hall.specs.Closing.{history_of, IsToldPass}
 use Rattle.round_rules.specs.Members.{IsIn}
 use Rattle.round_rules.specs.Acts.{Act, actor_of, calls_in, notes_by}
@@ -25,7 +25,7 @@ use Rattle.host_workers.specs.declared.crew.BankLog.{BankLog}
 use Rattle.host_workers.specs.declared.crew.Crew.{Crew}
 use Rattle.host_workers.specs.declared.owned.Owned.{Owned}
 use Rattle.host_workers.specs.declared.working.Job.{Job}
-use Rattle.host_workers.specs.Crews.{held_of, core_of, bank_of, keeper_log}
+use Rattle.host_workers.specs.Crews.{held_of, owned_core, bank_of, keeper_log}
 use Rattle.host_workers.specs.Pass.{actors_of, IsWork, IsPassOf, HasMore}
 use Rattle.host_workers.specs.Rosters.{RosterParts, IsRoster, IsCrewOf, core_actor, bank_actor}
 use Rattle.host_workers.proofs.Chosen.{stands-taken, taken-stands, same-some, none-some}
@@ -49,7 +49,7 @@ pub record WorkerAt (C : Setting) (hall : HallView) (workers : ℕ) (had has : R
   pub crew_then : IsCrewOf workers has k done.crew
   pub new : IsNewPass hall k job.pass
   pub told : IsToldPass banks ports keeper done.pass
-  pub number : number_of done.pass ≡ k
+  pub number : pass_number done.pass ≡ k
   pub work : IsWork C job.pass done.pass job.crew done.crew (acts.0 ++ acts.1)
   pub begun : IsPassOf C acts.0 job.crew
 
@@ -82,8 +82,8 @@ owned-actors C workers k had crew some whole is = by_keeper (is_some crew.keeper
       let below = slice_get_within had.banks from.0 b from.1 in
       (is-below b.bank.0 C.shape.banks (omega (arith, number, below, whole.bank_count)), eqb-true (owner workers (bank_actor b)) k from.2)
 
-  cores : All Own (map Core (map core_of crew.cores.items))
-  cores = All-map Own Core (map core_of crew.cores.items) (All-map (λ core. Own (Core core)) core_of crew.cores.items (all-places (λ o. Own (Core o.core)) crew.cores.items core-own))
+  cores : All Own (map Core (map owned_core crew.cores.items))
+  cores = All-map Own Core (map owned_core crew.cores.items) (All-map (λ core. Own (Core core)) owned_core crew.cores.items (all-places (λ o. Own (Core o.core)) crew.cores.items core-own))
 
   banks : All Own (map Bank (map bank_of crew.banks.items))
   banks = All-map Own Bank (map bank_of crew.banks.items) (All-map (λ bank. Own (Bank bank)) bank_of crew.banks.items (all-places (λ b. Own (Bank b.bank)) crew.banks.items bank-own))
@@ -99,12 +99,12 @@ owned-actors C workers k had crew some whole is = by_keeper (is_some crew.keeper
 
   by_keeper : (t : Bool) → is_some crew.keeper ≡ t → All Own (actors_of crew)
   by_keeper true e =
-      subst (λ s. All Own (tries_of (map core_of crew.cores.items) (map bank_of crew.banks.items) s)) (sym e)
-      (All-append Own (map Core (map core_of crew.cores.items)) (map Bank (map bank_of crew.banks.items) ++ Keeper ∷ []) cores
+      subst (λ s. All Own (tries_of (map owned_core crew.cores.items) (map bank_of crew.banks.items) s)) (sym e)
+      (All-append Own (map Core (map owned_core crew.cores.items)) (map Bank (map bank_of crew.banks.items) ++ Keeper ∷ []) cores
       (All-append Own (map Bank (map bank_of crew.banks.items)) (Keeper ∷ []) banks (All-cons Own Keeper [] (refl, keeper-own e) (All-nil Own))))
   by_keeper false e =
-      subst (λ s. All Own (tries_of (map core_of crew.cores.items) (map bank_of crew.banks.items) s)) (sym e)
-      (All-append Own (map Core (map core_of crew.cores.items)) (map Bank (map bank_of crew.banks.items)) cores banks)
+      subst (λ s. All Own (tries_of (map owned_core crew.cores.items) (map bank_of crew.banks.items) s)) (sym e)
+      (All-append Own (map Core (map owned_core crew.cores.items)) (map Bank (map bank_of crew.banks.items)) cores banks)
 
 module _ (C : Setting) (hall : HallView) (workers : ℕ) (had has : RosterParts) (banks : List (List BankEntry)) (ports : List (List PortEntry)) (keeper : List KeeperEntry)
     (some : 1 ≤ workers) (whole : IsRoster C.shape.cores C.shape.banks had) (whole_then : IsRoster C.shape.cores C.shape.banks has)
@@ -123,15 +123,15 @@ module _ (C : Setting) (hall : HallView) (workers : ℕ) (had has : RosterParts)
   pub works-call : (k : ℕ) → k < workers → AreCallsOf k calls_of (calls_in C.shape k (work_of k))
   works-call k below =
       let w = each k below in
-      let number : number_of w.job.pass ≡ k = w.new.banks.numbered in record {
+      let number : pass_number w.job.pass ≡ k = w.new.banks.numbered in record {
         banks = λ b. ap (λ j. calls_by j (history_of banks b)) (sym w.number) ∙ (w.told.bank_calls b ∙ (w.work.calls.banks b
-            ∙ (ap (λ l. l ++ (calls_in C.shape (number_of w.job.pass) (work_of k)).banks b) (none-made (slice_get w.job.pass.banks.passes b) (λ p at. (place-all Unused w.job.pass.banks.passes b p w.new.banks.unused at).1))
+            ∙ (ap (λ l. l ++ (calls_in C.shape (pass_number w.job.pass) (work_of k)).banks b) (none-made (slice_get w.job.pass.banks.passes b) (λ p at. (place-all Unused w.job.pass.banks.passes b p w.new.banks.unused at).1))
             ∙ ap (λ j. (calls_in C.shape j (work_of k)).banks b) number)));
         ports = λ b. ap (λ j. calls_by j (history_of ports b)) (sym w.number) ∙ (w.told.port_calls b ∙ (w.work.calls.ports b
-            ∙ (ap (λ l. l ++ (calls_in C.shape (number_of w.job.pass) (work_of k)).ports b) (none-made (slice_get w.job.pass.ports.passes b) (λ p at. (place-all Unused w.job.pass.ports.passes b p w.new.ports.unused at).1))
+            ∙ (ap (λ l. l ++ (calls_in C.shape (pass_number w.job.pass) (work_of k)).ports b) (none-made (slice_get w.job.pass.ports.passes b) (λ p at. (place-all Unused w.job.pass.ports.passes b p w.new.ports.unused at).1))
             ∙ ap (λ j. (calls_in C.shape j (work_of k)).ports b) number)));
         keeper = ap (λ j. calls_by j keeper) (sym w.number) ∙ (w.told.keeper_calls ∙ (w.work.calls.keeper
-            ∙ (ap (λ l. l ++ (calls_in C.shape (number_of w.job.pass) (work_of k)).keeper) (none-made (slice_get w.job.pass.keeper.passes 0) (λ p at. (place-all Unused w.job.pass.keeper.passes 0 p w.new.keeper.unused at).1))
+            ∙ (ap (λ l. l ++ (calls_in C.shape (pass_number w.job.pass) (work_of k)).keeper) (none-made (slice_get w.job.pass.keeper.passes 0) (λ p at. (place-all Unused w.job.pass.keeper.passes 0 p w.new.keeper.unused at).1))
             ∙ ap (λ j. (calls_in C.shape j (work_of k)).keeper) number)));
       }
 
@@ -143,7 +143,7 @@ module _ (C : Setting) (hall : HallView) (workers : ℕ) (had has : RosterParts)
       let w = each k below in
       let first = stands-taken (λ (x : Owned). owner workers (core_actor x) == k) had.cores i o at (itself k) in
       let before : slice_get w.job.crew.cores.items first.0 ≡ Some o = ap (λ l. slice_get l first.0) w.crew.cores ∙ first.1 in
-      let mid = stands-too core_of w.job.crew.cores.items w.done.crew.cores.items w.work.same.cores first.0 o before in
+      let mid = stands-too owned_core w.job.crew.cores.items w.done.crew.cores.items w.work.same.cores first.0 o before in
       let from = taken-stands (λ (x : Owned). owner workers (core_actor x) == k) has.cores first.0 mid.0 (ap (λ l. slice_get l first.0) (sym w.crew_then.cores) ∙ mid.1) in
       let number : mid.0.core.0 ≡ o.core.0 = ap (λ (c : CoreId). c.0) mid.2 in
       let place : from.0 ≡ i = omega (arith, number, whole_then.core_at from.0 mid.0 from.1, whole.core_at i o at) in

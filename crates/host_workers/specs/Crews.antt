@@ -6,7 +6,7 @@ use Rattle.dn_base.specs.declared.ids.CoreId.{CoreId}
 use Rattle.grant_log.specs.declared.log.Stamped.{Stamped}
 use Rattle.registration_protocol.specs.Fit.{Fits}
 use Rattle.registration_protocol.specs.Node.{Setting}
-use Rattle.bank_hall.specs.Stamps.{goes_on as may_go}
+use Rattle.bank_hall.specs.Stamps.{has_numbers_left as may_go}
 use Rattle.round_rules.specs.Passes.{Held}
 use Rattle.host_workers.specs.declared.crew.BankLog.{BankLog}
 use Rattle.host_workers.specs.declared.crew.Crew.{Crew}
@@ -16,15 +16,15 @@ use Rattle.host_workers.specs.declared.owned.Owned.{Owned}
 abbrev pub held_of : Owned → Held
 held_of o = record { node = o.node; clock = o.clock; next = o.next; log = o.log.items; ends = o.ends.items }
 
-abbrev pub core_of : Owned → CoreId
-core_of o = o.core
+abbrev pub owned_core : Owned → CoreId
+owned_core o = o.core
 
 abbrev pub bank_of : BankLog → BankId
 bank_of b = b.bank
 
 -- whether the worker goes on with an owned core
-abbrev pub goes_on : Owned → Bool
-goes_on o = may_go o.clock o.next
+abbrev pub owned_has_numbers : Owned → Bool
+owned_has_numbers o = may_go o.clock o.next
 
 -- an owned core is one of the machine's, and its node fits
 pub record IsOwned (C : Setting) (o : Owned) : Type 0 where

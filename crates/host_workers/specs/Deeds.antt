@@ -20,8 +20,8 @@ abbrev pub came_with : NodeParts → NodeCame → Came
 came_with n came = record { parts = NodeIs n; sent = option_to_list came.sent; granted = came.granted; end = came.end }
 
 -- the step that a deed of the core is
-abbrev pub step_by : Setting → CoreId → Held → Deed → Step
-step_by C core h deed =
+abbrev pub step_of_deed : Setting → CoreId → Held → Deed → Step
+step_of_deed C core h deed =
     record { deed = deed; done = done_of C (Core core) (held_member h) (deed_stamp h.clock deed) deed }
 
 abbrev pub step_note : Step → Stamped

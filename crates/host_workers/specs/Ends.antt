@@ -14,11 +14,11 @@ use Rattle.round_rules.specs.declared.end_seen.EndSeen.{EndSeen}
 use Rattle.round_rules.specs.Steps.{Done}
 use Rattle.round_rules.specs.Acts.{note_of}
 use Rattle.round_rules.specs.Passes.{end_seen}
-use Rattle.round_rules.specs.Rounds.{core_at, done_by, end_told}
+use Rattle.round_rules.specs.Rounds.{core_at, done_by, end_observed}
 
 -- the later of two events of one actor has the greater stamp
-abbrev pub IsEarlier : Stamped → Stamped → Type 0
-IsEarlier a b = a.actor ≡ b.actor → a.stamp < b.stamp
+abbrev pub IsStampedBefore : Stamped → Stamped → Type 0
+IsStampedBefore a b = a.actor ≡ b.actor → a.stamp < b.stamp
 
 -- an end that an event tells is of a core, one of so many
 abbrev pub EndIsOfCore : ℕ → Done → Type 0
@@ -27,7 +27,7 @@ EndIsOfCore cores d = (end : TaskEnd) → d.end ≡ Some end → (core : ℕ) ×
 -- These events are noted in the one list, and what each worker saw of its cores' ends is told by them
 pub record AreEndsOf (merged : List Stamped) (ends : List (List EndSeen)) (told : List Done) : Type 0 where
   pub notes : map note_of told ≡ merged
-  pub rising : AllPairs IsEarlier merged
+  pub rising : AllPairs IsStampedBefore merged
   pub of_cores : All (EndIsOfCore (length ends)) told
   pub seen : (core : ℕ) (es : List EndSeen) → slice_get ends core ≡ Some es → es ≡ filter_map end_seen (filter (done_by (core_at core)) told)
 
@@ -45,9 +45,9 @@ behind_at stamp [] = []
 behind_at stamp (x ∷ xs) = if x.stamp == stamp then xs else x ∷ xs
 
 -- the end of the task of the core that made an event, where its worker saw one at that event, and what is left of each core then
-abbrev pub end_by : Actor → ℕ → (ℕ → List EndSeen) → Option TaskEnd
-end_by (Core core) stamp left = first_at stamp (left core.0)
-end_by _ stamp left = None
+abbrev pub end_at_stamp : Actor → ℕ → (ℕ → List EndSeen) → Option TaskEnd
+end_at_stamp (Core core) stamp left = first_at stamp (left core.0)
+end_at_stamp _ stamp left = None
 
 abbrev pub left_behind : Actor → ℕ → (ℕ → List EndSeen) → ℕ → List EndSeen
 left_behind (Core core) stamp left other = if core.0 == other then behind_at stamp (left other) else left other
@@ -59,12 +59,12 @@ with_ends [] table = table
 with_ends (e ∷ es) table = with_ends es (with_end (Some e) table)
 
 -- how the tasks stand that the nodes of a state have
-abbrev pub standing : NodeParts → Option TaskEnd
-standing n = end_of n n.task
+abbrev pub node_standing : NodeParts → Option TaskEnd
+node_standing n = end_of n n.task
 
 abbrev pub last_ends : State → List TaskEnd
-last_ends S = filter_map standing S.nodes
+last_ends S = filter_map node_standing S.nodes
 
 -- the ends with which tasks arrived in a run, and then how the tasks of its last state stand
 abbrev pub ends_of_run : State → List Event → EndTable
-ends_of_run S events = with_ends (last_ends (after S events)) (with_ends (read_off end_told S events) (no_ends (length S.setting.program.phases)))
+ends_of_run S events = with_ends (last_ends (after S events)) (with_ends (read_off end_observed S events) (no_ends (length S.setting.program.phases)))

@@ -8,11 +8,11 @@ use Rattle.round_rules.specs.Rounds.{mail_in}
 use Rattle.host_workers.specs.declared.working.Job.{Job}
 use Rattle.host_workers.specs.declared.finishing.Finished.{Finished}
 use Rattle.host_workers.specs.Crews.{IsCrew}
-use Rattle.host_workers.specs.Work.{MayAct, IsStill}
+use Rattle.host_workers.specs.Work.{MayAct, KeepsNumber}
 use Rattle.host_workers.specs.Pass.{HasWorkedOn}
 use Rattle.host_workers.specs.Inboxes.{inboxes_of, all_posted, AreObjectsOf}
 use Rattle.host_workers.specs.Rosters.{RosterParts, IsRoster, AreCrewsOf, node_of, next_of, core_ends, logs_of}
-use Rattle.host_workers.specs.Opening.{Objects, IsOpenedRound, StandsFor, crew_of, pass_of}
+use Rattle.host_workers.specs.Opening.{Objects, IsInitialRound, StandsFor, crew_of, pass_of}
 use Rattle.dn_machine.specs.Kept.{IsKept}
 
 -- a worker may begin its passes
@@ -22,7 +22,7 @@ pub record IsReadyJob (C : Setting) (hall : HallView) (job : Job) : Type 0 where
 
 -- one worker's passes of a round
 pub record HasDoneJob (C : Setting) (hall : HallView) (job done : Job) : Type 0 where
-  pub pass : IsStill hall job.pass done.pass
+  pub pass : KeepsNumber hall job.pass done.pass
   pub crew : IsCrew C done.crew
   pub worked : HasWorkedOn C job.pass done.pass job.crew done.crew
 
@@ -78,6 +78,6 @@ pub record IsRoundLeft (S M : State) (made workers : ℕ) (f : Finished) : Type 
   pub hall : HallView
   pub jobs : List Job
   pub dones : List Job
-  pub opened : IsOpenedRound M.setting M workers hall jobs
+  pub opened : IsInitialRound M.setting M workers hall jobs
   pub done : HaveDoneJobs M.setting hall jobs dones
   pub finished : IsFinished M.setting.shape.cores M.setting.shape.banks hall dones f

@@ -5,7 +5,7 @@ use Rattle.machine_rules.specs.State.{State}
 use Rattle.machine_rules.specs.Runs.{after, read_off}
 use Rattle.bank_hall.specs.Closing.{history_of}
 use Rattle.round_rules.specs.Rounds as rules
-use Rattle.round_rules.specs.Rounds.{IsJoined, IsRoundOf, end_told, events_of}
+use Rattle.round_rules.specs.Rounds.{IsJoined, IsRoundOf, end_observed, events_of}
 use Rattle.round_rules.specs.Beginnings.{AllHaveActed}
 use Rattle.round_rules.specs.Unspent.{AreUnspent}
 use Rattle.round_rules.specs.Owners.{AreOwners}
@@ -17,8 +17,8 @@ use Rattle.host_workers.specs.Inboxes.{inbox_at_first}
 use Rattle.host_workers.specs.Opening.{StandsFor}
 
 -- what a round leaves of a machine in a state as it is
-abbrev pub IsFrameOf : State → Frame → Type 0
-IsFrameOf M frame = M.setting ≡ record { program = frame.checked; plans = frame.plans.items; shape = frame.shape; fuel = frame.fuel }
+abbrev pub AreFixedPartsOf : State → Frame → Type 0
+AreFixedPartsOf M frame = M.setting ≡ record { program = frame.checked; plans = frame.plans.items; shape = frame.shape; fuel = frame.fuel }
 
 -- The round that workers made of a machine in state M, which stands for S: what each did, and which calls its hall had. It is a
 -- run of the machine from S on, to a state for which the machine stands that is handed back
@@ -34,7 +34,7 @@ pub record IsMadeRound (S M : State) (made workers : ℕ) (out : Round) : Type 0
   pub run : IsRoundOf M.setting S out.machine.state round
   pub stands : StandsFor (after S (events_of round.merged)) out.machine.state
   pub made_are : out.machine.made ≡ made + length round.merged
-  pub ends : out.ends.items ≡ read_off end_told S (events_of round.merged)
+  pub ends : out.ends.items ≡ read_off end_observed S (events_of round.merged)
   pub acted : AllHaveActed M.setting S round
   pub unspent : AreUnspent M.setting S round
   pub owners : AreOwners round

@@ -10,7 +10,7 @@ use Rattle.dn_machine.specs.Parts.{IsReordered}
 use Rattle.bank_hall.specs.Banks.{BankActorParts}
 use Rattle.bank_hall.specs.Ports.{PortParts}
 use Rattle.bank_hall.specs.Keepers.{KeeperActorParts}
-use Rattle.bank_hall.specs.Halls.{HallView, PassView, IsOpenedHall, AreNewPasses}
+use Rattle.bank_hall.specs.Halls.{HallView, PassView, IsSharedHall, AreNewPasses}
 use Rattle.bank_hall.specs.Closing.{AreAllHallPasses}
 use Rattle.round_rules.specs.Rounds.{IsReached}
 use Rattle.host_workers.specs.declared.crew.Crew.{Crew}
@@ -51,14 +51,14 @@ pub record Objects : Type 0 where
 
 -- The hall holds the banks, the keeper and the mails in flight of a state of the machine, with clocks at 0; and each worker has a
 -- fresh pass of it and its part of the cores and banks, of which nothing is noted yet
-pub record IsOpenedRound (C : Setting) (S : State) (workers : ℕ) (hall : HallView) (jobs : List Job) : Type 0 where
+pub record IsInitialRound (C : Setting) (S : State) (workers : ℕ) (hall : HallView) (jobs : List Job) : Type 0 where
   pub inboxes : InboxParts
   pub objects : Objects
   pub roster : RosterParts
   pub first : AreFirstInboxes C.shape S.mails inboxes
   pub hold : AreObjectsOf S.banks S.keeper inboxes (drop C.shape.cores S.numbers) objects.banks objects.ports objects.keeper
   pub at_first : AreAtFirst objects.banks objects.keeper
-  pub opened : IsOpenedHall objects.banks objects.ports objects.keeper workers hall
+  pub opened : IsSharedHall objects.banks objects.ports objects.keeper workers hall
   pub fresh : IsFreshRoster S.nodes C.shape.banks S.numbers roster
   pub crews : AreCrewsOf workers roster (map crew_of jobs)
   pub passes : AreNewPasses hall 0 (map pass_of jobs)

@@ -7,20 +7,20 @@ use Rattle.message_net.specs.declared.actor.Actor.TheVariants.{Core, Bank, Keepe
 use Rattle.registration_protocol.specs.Node.{Setting}
 use Rattle.bank_hall.specs.declared.bank.Handled.{Handled}
 use Rattle.bank_hall.specs.Note.{KeeperNote}
-use Rattle.bank_hall.specs.Halls.{PassView, HasMadeCalls, number_of}
+use Rattle.bank_hall.specs.Halls.{PassView, HasMadeCalls, pass_number}
 use Rattle.round_rules.specs.Acts.{Act, Stepped, Kept, actor_of, is_act_of, notes_by, calls_in}
 use Rattle.round_rules.specs.Passes.{HasGone, HasPassed, IsCorePass, tries_of}
 use Rattle.host_workers.specs.declared.crew.BankLog.{BankLog}
 use Rattle.host_workers.specs.declared.crew.Crew.{Crew}
 use Rattle.host_workers.specs.declared.owned.Owned.{Owned}
-use Rattle.host_workers.specs.Crews.{held_of, core_of, bank_of, goes_on, keeper_log}
+use Rattle.host_workers.specs.Crews.{held_of, owned_core, bank_of, owned_has_numbers, keeper_log}
 
 -- the actors of a crew, and those that the worker tries in a pass
 abbrev pub actors_of : Crew → List Actor
-actors_of crew = tries_of (map core_of crew.cores.items) (map bank_of crew.banks.items) (is_some crew.keeper)
+actors_of crew = tries_of (map owned_core crew.cores.items) (map bank_of crew.banks.items) (is_some crew.keeper)
 
 abbrev pub tries_by : Crew → List Actor
-tries_by crew = tries_of (map core_of (filter goes_on crew.cores.items)) (map bank_of crew.banks.items) (is_some crew.keeper)
+tries_by crew = tries_of (map owned_core (filter owned_has_numbers crew.cores.items)) (map bank_of crew.banks.items) (is_some crew.keeper)
 
 -- an act of an actor of the crew
 abbrev pub IsActOf : Crew → Act → Type 0
@@ -29,13 +29,13 @@ IsActOf crew act = Contains (actors_of crew) (actor_of act)
 -- the crew has the same worker, cores and banks
 pub record IsSameCrew (had has : Crew) : Type 0 where
   pub worker : has.worker ≡ had.worker
-  pub cores : map core_of has.cores.items ≡ map core_of had.cores.items
+  pub cores : map owned_core has.cores.items ≡ map owned_core had.cores.items
   pub banks : map bank_of has.banks.items ≡ map bank_of had.banks.items
 
 -- the acts of a core are a take and its own event where the worker goes on with it, and else there are none
 pub record IsTurnOf (C : Setting) (acts : List Act) (had : Owned) : Type 0 where
-  pub turn : goes_on had ≡ true → IsCorePass C acts had.core (held_of had)
-  pub stays : goes_on had ≡ false → filter (is_act_of (Core had.core)) acts ≡ []
+  pub turn : owned_has_numbers had ≡ true → IsCorePass C acts had.core (held_of had)
+  pub stays : owned_has_numbers had ≡ false → filter (is_act_of (Core had.core)) acts ≡ []
 
 -- the acts of a bank are one step
 pub record IsStepOf (acts : List Act) (had : BankLog) : Type 0 where
@@ -64,7 +64,7 @@ HasMore notes _ _ = ⊥
 -- A worker's acts, each of an actor of its crew. The hall's pass made their calls and no other, each core went by its acts, and
 -- each log has the notes of its actor's events more
 pub record IsWork (C : Setting) (old new : PassView) (had has : Crew) (acts : List Act) : Type 0 where
-  pub calls : HasMadeCalls old new (calls_in C.shape (number_of old) acts)
+  pub calls : HasMadeCalls old new (calls_in C.shape (pass_number old) acts)
   pub own : All (IsActOf had) acts
   pub same : IsSameCrew had has
   pub cores : (i : ℕ) (o p : Owned) → slice_get had.cores.items i ≡ Some o → slice_get has.cores.items i ≡ Some p → HasGone C acts o.core (held_of o) (held_of p)

@@ -6,7 +6,7 @@ use Rattle.grant_log.specs.declared.log.Stamped.{Stamped}
 use Rattle.grant_log.specs.Counts.{AreCounts}
 use Rattle.grant_log.specs.Log.{grants_in}
 use Rattle.registration_protocol.specs.Node.{Setting}
-use Rattle.machine_rules.specs.State.{State, opened}
+use Rattle.machine_rules.specs.State.{State, initial_state}
 use Rattle.machine_rules.specs.Next.{enabled}
 use Rattle.machine_rules.specs.Runs.{after, IsRun, read_off, grants_of, kinds_of}
 use Rattle.machine_rules.specs.Sound.{IsReady}
@@ -14,7 +14,7 @@ use Rattle.dn_machine.specs.declared.log.Log.{Log}
 use Rattle.dn_machine.specs.Ends.{no_ends}
 use Rattle.dn_machine.specs.Kept.{Made}
 use Rattle.dn_machine.specs.Parts.{IsReordered}
-use Rattle.round_rules.specs.Rounds.{IsReached, events_of, noted_kind, end_told}
+use Rattle.round_rules.specs.Rounds.{IsReached, events_of, noted_kind, end_observed}
 use Rattle.host_workers.specs.declared.round.Round.{Round}
 use Rattle.host_workers.specs.Ends.{with_ends}
 
@@ -25,7 +25,7 @@ pub record IsRoundFrom (S : State) (r : Round) : Type 0 where
   pub leads : IsReordered (after S (events_of r.merged.items)) r.machine.state
   pub kinds : map noted_kind r.merged.items ≡ kinds_of S (events_of r.merged.items)
   pub grants : grants_in r.merged.items ≡ grants_of S (events_of r.merged.items)
-  pub ends : r.ends.items ≡ read_off end_told S (events_of r.merged.items)
+  pub ends : r.ends.items ≡ read_off end_observed S (events_of r.merged.items)
 
 -- a round of the workers of a machine: a run from each state of which the machine's is another order, and at least one event where
 -- one may come
@@ -52,9 +52,9 @@ pub record HasNoted (entries : List Stamped) (old new : Log) : Type 0 where
 -- the mails in flight, and the log tells of them, with the ends with which tasks arrived
 pub record IsRunSoFar (C : Setting) (m : Made) (log : Log) : Type 0 where
   pub ready : IsReady C
-  pub run : IsRun (opened C) log.events
-  pub leads : IsReordered (after (opened C) log.events) m.state
+  pub run : IsRun (initial_state C) log.events
+  pub leads : IsReordered (after (initial_state C) log.events) m.state
   pub made : m.made ≡ length log.events
-  pub grants : log.grants ≡ grants_of (opened C) log.events
-  pub counts : IsTallied (kinds_of (opened C) log.events) log
-  pub ends : log.ends ≡ with_ends (read_off end_told (opened C) log.events) (no_ends (length (opened C).setting.program.phases))
+  pub grants : log.grants ≡ grants_of (initial_state C) log.events
+  pub counts : IsTallied (kinds_of (initial_state C) log.events) log
+  pub ends : log.ends ≡ with_ends (read_off end_observed (initial_state C) log.events) (no_ends (length (initial_state C).setting.program.phases))

@@ -11,14 +11,14 @@ use Rattle.registration_protocol.specs.OwnEvents.{own_event}
 use Rattle.bank_hall.specs.declared.bank.Handled.{Handled}
 use Rattle.bank_hall.specs.declared.posted.Posted.{Posted}
 use Rattle.bank_hall.specs.Note.{KeeperNote}
-use Rattle.bank_hall.specs.Halls.{HallView, PassView, IsHallPass, HasMadeCalls, number_of}
+use Rattle.bank_hall.specs.Halls.{HallView, PassView, IsHallPass, HasMadeCalls, pass_number}
 use Rattle.round_rules.specs.Acts.{Act, Took, Stepped, Kept, actor_of, core_step, events_in, note_of, calls_in}
 use Rattle.round_rules.specs.Steps.{Done}
-use Rattle.bank_hall.specs.Stamps.{goes_on as may_go}
+use Rattle.bank_hall.specs.Stamps.{has_numbers_left as may_go}
 use Rattle.round_rules.specs.Passes.{Held, own_acts, taken_steps}
 use Rattle.host_workers.specs.declared.crew.BankLog.{BankLog}
 use Rattle.host_workers.specs.declared.owned.Owned.{Owned}
-use Rattle.host_workers.specs.Crews.{held_of, goes_on}
+use Rattle.host_workers.specs.Crews.{held_of, owned_has_numbers}
 use Rattle.host_workers.specs.Deeds.{HasMoved, own_steps}
 
 -- a worker may act on the hall: the pass is the hall's, which has the ports and banks of the setting
@@ -29,12 +29,12 @@ pub record MayAct (C : Setting) (hall : HallView) (pass : PassView) : Type 0 whe
   pub banks : length hall.banks ≡ C.shape.banks
 
 -- it is a pass of the hall still, with the same number
-abbrev pub IsStill : HallView → PassView → PassView → Type 0
-IsStill hall old new = IsHallPass hall new × (number_of new ≡ number_of old)
+abbrev pub KeepsNumber : HallView → PassView → PassView → Type 0
+KeepsNumber hall old new = IsHallPass hall new × (pass_number new ≡ pass_number old)
 
 -- the hall's pass made the calls of these acts, of which so many events came
 pub record HasActed (C : Setting) (old new : PassView) (acts : List Act) (count : ℕ) : Type 0 where
-  pub calls : HasMadeCalls old new (calls_in C.shape (number_of old) acts)
+  pub calls : HasMadeCalls old new (calls_in C.shape (pass_number old) acts)
   pub counted : count ≡ length (events_in C.shape acts)
 
 -- a take from the core's port was made, and the mail handled that it gave
@@ -63,13 +63,13 @@ pub record IsTurn (C : Setting) (core : CoreId) (had : Held) (acts : List Act) :
   pub acts_are : acts ≡ Took core pick taken ∷ own_acts core (may_go between.clock between.next) (own_event C between.node) done
 
 -- a core was served by these acts: it has its turn, or nothing is done where the worker doesn't go on with it
-pub record IsServed (C : Setting) (had has : Owned) (acts : List Act) : Type 0 where
+pub record IsCoreServed (C : Setting) (had has : Owned) (acts : List Act) : Type 0 where
   pub core : has.core ≡ had.core
   pub fits : Fits C has.node
   pub own : AreOf (Core had.core) acts
   pub moved : HasMoved C had.core (filter_map core_step acts) (held_of had) (held_of has)
-  pub turn : goes_on had ≡ true → IsTurn C had.core (held_of had) acts
-  pub stays : goes_on had ≡ false → acts ≡ []
+  pub turn : owned_has_numbers had ≡ true → IsTurn C had.core (held_of had) acts
+  pub stays : owned_has_numbers had ≡ false → acts ≡ []
 
 -- a bank was stepped by these acts
 pub record IsStepped (C : Setting) (had has : BankLog) (acts : List Act) : Type 0 where
@@ -87,14 +87,14 @@ pub record IsKeeperStep (C : Setting) (had has : List Stamped) (acts : List Act)
   pub log : has ≡ had ++ map note_of (events_in C.shape acts)
 
 -- the keeper was stepped, if the worker has it
-abbrev pub IsKept : Setting → Option (List Stamped) → Option (List Stamped) → List Act → Type 0
-IsKept C None None acts = acts ≡ []
-IsKept C (Some had) (Some has) acts = IsKeeperStep C had has acts
-IsKept C _ _ acts = ⊥
+abbrev pub IsKeeperServed : Setting → Option (List Stamped) → Option (List Stamped) → List Act → Type 0
+IsKeeperServed C None None acts = acts ≡ []
+IsKeeperServed C (Some had) (Some has) acts = IsKeeperStep C had has acts
+IsKeeperServed C _ _ acts = ⊥
 
 -- all acts, one list after the other
-abbrev pub joined : List (List Act) → List Act
-joined parts = flat_map (λ (acts : List Act). acts) parts
+abbrev pub in_one_list : List (List Act) → List Act
+in_one_list parts = flat_map (λ (acts : List Act). acts) parts
 
 module _ {A : Type 0} where
   -- something was done by some acts
@@ -111,5 +111,5 @@ module _ {A : Type 0} where
 
   pub record HaveDone (Does : A → A → List Act → Type 0) (C : Setting) (old new : PassView) (had has : List A) (count : ℕ) : Type 0 where
     pub parts : List (List Act)
-    pub acted : HasActed C old new (joined parts) count
+    pub acted : HasActed C old new (in_one_list parts) count
     pub each : Each Does had has parts

@@ -1,5 +1,5 @@
 ghost use Rattle.std.specs.Prelude.{◌≡◌, ◌^◌, ◌≤◌, length, OnOk, IfSome, option_to_list};
-ghost use Rattle.bank_hall.specs.Halls.{IsHallPass, HasMadeCalls, number_of};
+ghost use Rattle.bank_hall.specs.Halls.{IsHallPass, HasMadeCalls, pass_number};
 ghost use Rattle.round_rules.specs.Acts.{posting, postings, keeper_done};
 ghost use Rattle.host_workers.specs.Deeds.{IsEarly};
 
@@ -20,8 +20,8 @@ fn deliver<R: Wait>(
     requires ports { length hall.now.ports ≡ shape.cores }
     requires banks { length hall.now.banks ≡ shape.banks }
     requires early { IsEarly posted }
-    ensures pass { IsHallPass hall.now pass.new × (number_of pass.new ≡ number_of pass.old) }
-    ensures made { OnOk result (HasMadeCalls pass.old pass.new (posting shape (number_of pass.old) posted)) }
+    ensures pass { IsHallPass hall.now pass.new × (pass_number pass.new ≡ pass_number pass.old) }
+    ensures made { OnOk result (HasMadeCalls pass.old pass.new (posting shape (pass_number pass.old) posted)) }
 {
     if !has_actor(shape, posted.mail.to) {
         return Ok(());
@@ -44,8 +44,8 @@ pub(crate) fn emit<R: Wait>(
     requires ports { length hall.now.ports ≡ shape.cores }
     requires banks { length hall.now.banks ≡ shape.banks }
     requires early { IfSome sent IsEarly }
-    ensures pass { IsHallPass hall.now pass.new × (number_of pass.new ≡ number_of pass.old) }
-    ensures made { OnOk result (HasMadeCalls pass.old pass.new (postings shape (number_of pass.old) (option_to_list sent))) }
+    ensures pass { IsHallPass hall.now pass.new × (pass_number pass.new ≡ pass_number pass.old) }
+    ensures made { OnOk result (HasMadeCalls pass.old pass.new (postings shape (pass_number pass.old) (option_to_list sent))) }
 {
     match sent {
         Some(posted) => deliver(rt, hall, pass, shape, posted),
@@ -66,8 +66,8 @@ pub(crate) fn emit_letters<R: Wait>(
     requires banks { length hall.now.banks ≡ shape.banks }
     requires cores { shape.cores ≤ 16 }
     requires early { handled.now.stamped.stamp ≤ 2 ^ 63 }
-    ensures pass { IsHallPass hall.now pass.new × (number_of pass.new ≡ number_of pass.old) }
-    ensures made { OnOk result (HasMadeCalls pass.old pass.new (postings shape (number_of pass.old) (keeper_done shape.cores handled.now).sent)) }
+    ensures pass { IsHallPass hall.now pass.new × (pass_number pass.new ≡ pass_number pass.old) }
+    ensures made { OnOk result (HasMadeCalls pass.old pass.new (postings shape (pass_number pass.old) (keeper_done shape.cores handled.now).sent)) }
 {
     for core in 0..shape.cores {
         emit(rt, hall, pass, shape, handled.letter(CoreId(core)))?;

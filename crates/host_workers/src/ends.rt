@@ -1,8 +1,8 @@
 //! How the tasks ended that arrived at the barrier in a round, in the order of the one list.
 ghost use Rattle.std.specs.Prelude.{◌≡◌, ◌≢◌, ◌<◌, ℕ, filter_map, length, map, slice_get, slice_index, List, None, IfOk};
 ghost use Rattle.round_rules.specs.Steps.{Done};
-ghost use Rattle.round_rules.specs.Rounds.{end_in};
-ghost use Rattle.host_workers.specs.Ends.{AreEndsOf, left_of, end_by, left_behind};
+ghost use Rattle.round_rules.specs.Rounds.{end_of_done};
+ghost use Rattle.host_workers.specs.Ends.{AreEndsOf, left_of, end_at_stamp, left_behind};
 
 use dn_base::Memory;
 use grant_log::Stamped;
@@ -31,7 +31,7 @@ fn next_seen(ends: &[Vec<EndSeen>], done: &[usize], core: usize) -> Option<EndSe
 /// that one, which is done with then.
 fn take_end(actor: Actor, stamp: u64, ends: &[Vec<EndSeen>], done: &mut [usize]) -> Option<TaskEnd>
     requires { length done.old ≡ length ends.now }
-    ensures end { result ≡ end_by actor stamp (left_of (map (λ e. e.items) ends.now) done.old) }
+    ensures end { result ≡ end_at_stamp actor stamp (left_of (map (λ e. e.items) ends.now) done.old) }
     ensures left { (core : ℕ) → left_of (map (λ e. e.items) ends.now) done.new core
         ≡ left_behind actor stamp (left_of (map (λ e. e.items) ends.now) done.old) core }
     ensures long { length done.new ≡ length done.old }
@@ -65,7 +65,7 @@ pub(crate) fn ends_in(
 ) -> Result<Vec<TaskEnd>, Memory>
     requires { (told : List Done) × AreEndsOf merged.now (map (λ e. e.items) ends.now) told }
     ensures { IfOk result (λ out. (told : List Done) → AreEndsOf merged.now (map (λ e. e.items) ends.now) told
-        → out.items ≡ filter_map end_in told) }
+        → out.items ≡ filter_map end_of_done told) }
 {
     let mut done = vec![in alloc; 0_usize; ends.len()]?;
     let mut out = Vec::new(alloc);

@@ -1,7 +1,7 @@
 //! How a round of workers begins.
 ghost use Rattle.std.specs.Prelude.{◌≡◌, ◌≤◌, length, map, IfOk};
 ghost use Rattle.machine_rules.specs.State.{State};
-ghost use Rattle.host_workers.specs.Opening.{IsMovingOf, IsOpenedRound, crew_of, pass_of};
+ghost use Rattle.host_workers.specs.Opening.{IsMovingOf, IsInitialRound, crew_of, pass_of};
 
 use crate::crew::Crew;
 use crate::inboxes::Inboxes;
@@ -78,7 +78,7 @@ pub(crate) fn open(
     requires some { 1 ≤ workers }
     requires few { workers ≤ 16 }
     requires machine { (S : State) × IsMovingOf shape S moving }
-    ensures { IfOk result (λ o. (S : State) → IsMovingOf shape S moving → IsOpenedRound S.setting S workers o.hall o.jobs.items) }
+    ensures { IfOk result (λ o. (S : State) → IsMovingOf shape S moving → IsInitialRound S.setting S workers o.hall o.jobs.items) }
 {
     let Moving {
         nodes,

@@ -7,8 +7,8 @@ ghost use Rattle.registration_protocol.specs.Setting.{setting};
 ghost use Rattle.round_rules.specs.Members.{Handles, Makes};
 ghost use Rattle.round_rules.specs.Steps.{with_stamp};
 ghost use Rattle.round_rules.specs.Passes.{seen_at};
-ghost use Rattle.host_workers.specs.Crews.{held_of, goes_on};
-ghost use Rattle.host_workers.specs.Deeds.{HasMoved, IsNoted, IsEarly, step_by};
+ghost use Rattle.host_workers.specs.Crews.{held_of, owned_has_numbers};
+ghost use Rattle.host_workers.specs.Deeds.{HasMoved, IsNoted, IsEarly, step_of_deed};
 
 use crate::deeds::{NodeCame, act, receive};
 use crate::stamps::own_kind;
@@ -56,7 +56,7 @@ fn push_end(ends: &mut Vec<EndSeen>, stamp: u64, end: Option<TaskEnd>) -> Result
 impl Owned {
     /// Whether the worker goes on with the core: its clock and the number of its next mail are below their limits.
     pub(crate) fn goes_on(&self) -> bool
-        ensures { result ≡ goes_on self.now }
+        ensures { result ≡ owned_has_numbers self.now }
     {
         goes_on(self.clock, self.next)
     }
@@ -111,10 +111,10 @@ impl Owned {
     ) -> Result<Option<Posted>, Memory>
         requires context { IsContext (setting context.now) }
         requires fits { Fits (setting context.now) self.old.node }
-        requires goes { goes_on self.old ≡ true }
+        requires goes { owned_has_numbers self.old ≡ true }
         requires early { posted.stamp < 2 ^ 63 }
-        ensures moved { OnOk result (HasMoved (setting context.now) self.old.core (step_by (setting context.now) self.old.core (held_of self.old) (Handles posted) ∷ []) (held_of self.old) (held_of self.new)) }
-        ensures sent { IfOk result (λ sent. option_to_list sent ≡ (step_by (setting context.now) self.old.core (held_of self.old) (Handles posted)).done.sent) }
+        ensures moved { OnOk result (HasMoved (setting context.now) self.old.core (step_of_deed (setting context.now) self.old.core (held_of self.old) (Handles posted) ∷ []) (held_of self.old) (held_of self.new)) }
+        ensures sent { IfOk result (λ sent. option_to_list sent ≡ (step_of_deed (setting context.now) self.old.core (held_of self.old) (Handles posted)).done.sent) }
         ensures early { IfOk result (λ sent. IfSome sent IsEarly) }
         ensures core { self.new.core ≡ self.old.core }
         ensures fits { OnOk result (Fits (setting context.now) self.new.node) }
@@ -136,10 +136,10 @@ impl Owned {
     ) -> Result<Option<Posted>, Memory>
         requires context { IsContext (setting context.now) }
         requires fits { Fits (setting context.now) self.old.node }
-        requires goes { goes_on self.old ≡ true }
+        requires goes { owned_has_numbers self.old ≡ true }
         requires own { own_event (setting context.now) self.old.node ≡ Some event }
-        ensures moved { OnOk result (HasMoved (setting context.now) self.old.core (step_by (setting context.now) self.old.core (held_of self.old) (Makes event) ∷ []) (held_of self.old) (held_of self.new)) }
-        ensures sent { IfOk result (λ sent. option_to_list sent ≡ (step_by (setting context.now) self.old.core (held_of self.old) (Makes event)).done.sent) }
+        ensures moved { OnOk result (HasMoved (setting context.now) self.old.core (step_of_deed (setting context.now) self.old.core (held_of self.old) (Makes event) ∷ []) (held_of self.old) (held_of self.new)) }
+        ensures sent { IfOk result (λ sent. option_to_list sent ≡ (step_of_deed (setting context.now) self.old.core (held_of self.old) (Makes event)).done.sent) }
         ensures early { IfOk result (λ sent. IfSome sent IsEarly) }
         ensures core { self.new.core ≡ self.old.core }
         ensures fits { OnOk result (Fits (setting context.now) self.new.node) }

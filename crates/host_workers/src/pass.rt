@@ -2,7 +2,7 @@ ghost use Rattle.std.specs.Prelude.{IfOk, OnOk};
 ghost use Rattle.registration_protocol.specs.Setting.{setting};
 ghost use Rattle.host_workers.specs.Crews.{IsCrew};
 ghost use Rattle.host_workers.specs.Pass.{HasWorked};
-ghost use Rattle.host_workers.specs.Work.{MayAct, IsStill};
+ghost use Rattle.host_workers.specs.Work.{MayAct, KeepsNumber};
 
 use crate::crew::Crew;
 use crate::serving::serve_cores;
@@ -34,7 +34,7 @@ pub fn worker_pass<R: Wait, G: Gate>(
 ) -> Result<u32, Memory>
     requires may { MayAct (setting context.now) hall.now pass.old }
     requires crew { IsCrew (setting context.now) crew.old }
-    ensures pass { IsStill hall.now pass.old pass.new }
+    ensures pass { KeepsNumber hall.now pass.old pass.new }
     ensures crew { OnOk result (IsCrew (setting context.now) crew.new) }
     ensures worked { IfOk result (HasWorked (setting context.now) pass.old pass.new crew.old crew.new) }
 {

@@ -3,7 +3,7 @@ ghost use Rattle.std.specs.Prelude.{◌≤◌, ◌<◌, ℕ, IfOk};
 ghost use Rattle.machine_rules.specs.State.{State};
 ghost use Rattle.host_workers.specs.Opening.{StandsFor};
 ghost use Rattle.host_workers.specs.Finishing.{IsRoundLeft};
-ghost use Rattle.host_workers.specs.MadeRounds.{IsFrameOf, IsMadeRound};
+ghost use Rattle.host_workers.specs.MadeRounds.{AreFixedPartsOf, IsMadeRound};
 
 use crate::ends::ends_in;
 use crate::finishing::{Finished, finish};
@@ -54,8 +54,8 @@ struct Frame {
 /// # Errors
 /// `Memory` where there is no room.
 fn put_together(alloc: Global, frame: Frame, finished: Finished) -> Result<Round, Memory>
-    requires { (S M : State) × (workers : ℕ) × IsRoundLeft S M frame.made workers finished × IsFrameOf M frame }
-    ensures { IfOk result (λ round. (S M : State) (workers : ℕ) → IsRoundLeft S M frame.made workers finished → IsFrameOf M frame → IsMadeRound S M frame.made workers round) }
+    requires { (S M : State) × (workers : ℕ) × IsRoundLeft S M frame.made workers finished × AreFixedPartsOf M frame }
+    ensures { IfOk result (λ round. (S M : State) (workers : ℕ) → IsRoundLeft S M frame.made workers finished → AreFixedPartsOf M frame → IsMadeRound S M frame.made workers round) }
 {
     let Finished {
         parted,

@@ -1,10 +1,10 @@
 //! A whole run of a machine by workers, in rounds.
 ghost use Rattle.std.specs.Prelude.{◌≡◌, ◌≢◌, ◌<◌, ◌≤◌, true, length, None, IfOk};
 ghost use Rattle.message_net.specs.declared.event.Event.{Event as EventOf};
-ghost use Rattle.machine_rules.specs.State.{opened};
+ghost use Rattle.machine_rules.specs.State.{initial_state};
 ghost use Rattle.machine_rules.specs.Next.{enabled};
 ghost use Rattle.machine_rules.specs.Runs.{IsOver};
-ghost use Rattle.dn_machine.specs.Run.{IsRunOf};
+ghost use Rattle.dn_machine.specs.Run.{IsMachinesRun};
 ghost use Rattle.host_workers.specs.RoundOf.{IsRunSoFar};
 
 use crate::noting::{note_ends, note_events, note_last};
@@ -67,7 +67,7 @@ fn go_on<R: Threads + Wait + Sync, G: Gate + Sync>(
 fn recorded(alloc: Global, machine: Machine, mut log: Log) -> Result<RunRecord, Memory>
     requires far { IsRunSoFar machine.state.setting machine log }
     requires over { IsOver machine.state }
-    ensures { IfOk result (IsRunOf (opened machine.state.setting)) }
+    ensures { IfOk result (IsMachinesRun (initial_state machine.state.setting)) }
 {
     a_machine_is_kept(&machine);
     note_last(&mut log, &machine);
@@ -91,7 +91,7 @@ pub fn run_workers<R: Threads + Wait + Sync, G: Gate + Sync>(
     requires some { 1 ≤ workers }
     requires few { workers ≤ 16 }
     requires made { machine.made ≡ 0 }
-    ensures { IfOk result (IsRunOf machine.state) }
+    ensures { IfOk result (IsMachinesRun machine.state) }
 {
     keep_freed_memory(alloc);
     a_machine_is_kept(&machine);

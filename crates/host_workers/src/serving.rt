@@ -1,8 +1,8 @@
 ghost use Rattle.std.specs.Prelude.{◌≡◌, ◌≤◌, true, length, All, IfOk, OnOk};
 ghost use Rattle.registration_protocol.specs.Fit.{Fits};
 ghost use Rattle.registration_protocol.specs.Setting.{setting};
-ghost use Rattle.host_workers.specs.Crews.{held_of, goes_on, IsOwned};
-ghost use Rattle.host_workers.specs.Work.{MayAct, IsStill, HasTaken, HasMadeOwn, IsServed, HasDone, HaveDone};
+ghost use Rattle.host_workers.specs.Crews.{held_of, owned_has_numbers, IsOwned};
+ghost use Rattle.host_workers.specs.Work.{MayAct, KeepsNumber, HasTaken, HasMadeOwn, IsCoreServed, HasDone, HaveDone};
 
 use crate::draws::draw;
 use crate::emitting::emit;
@@ -24,8 +24,8 @@ fn take_mail<R: Wait>(
 ) -> Result<u32, Memory>
     requires may { MayAct (setting context.now) hall.now pass.old }
     requires owned { IsOwned (setting context.now) owned.old }
-    requires goes { goes_on owned.old ≡ true }
-    ensures pass { IsStill hall.now pass.old pass.new }
+    requires goes { owned_has_numbers owned.old ≡ true }
+    ensures pass { KeepsNumber hall.now pass.old pass.new }
     ensures core { owned.new.core ≡ owned.old.core }
     ensures fits { OnOk result (Fits (setting context.now) owned.new.node) }
     ensures taken { IfOk result (HasTaken (setting context.now) owned.old.core pick pass.old pass.new (held_of owned.old) (held_of owned.new)) }
@@ -49,7 +49,7 @@ fn make_own<R: Wait>(
 ) -> Result<u32, Memory>
     requires may { MayAct (setting context.now) hall.now pass.old }
     requires owned { IsOwned (setting context.now) owned.old }
-    ensures pass { IsStill hall.now pass.old pass.new }
+    ensures pass { KeepsNumber hall.now pass.old pass.new }
     ensures core { owned.new.core ≡ owned.old.core }
     ensures fits { OnOk result (Fits (setting context.now) owned.new.node) }
     ensures made { IfOk result (HasMadeOwn (setting context.now) owned.old.core pass.old pass.new (held_of owned.old) (held_of owned.new)) }
@@ -77,8 +77,8 @@ fn serve_core<R: Wait>(
 ) -> Result<u32, Memory>
     requires may { MayAct (setting context.now) hall.now pass.old }
     requires owned { IsOwned (setting context.now) owned.old }
-    ensures pass { IsStill hall.now pass.old pass.new }
-    ensures served { IfOk result (HasDone (IsServed (setting context.now)) (setting context.now) pass.old pass.new owned.old owned.new) }
+    ensures pass { KeepsNumber hall.now pass.old pass.new }
+    ensures served { IfOk result (HasDone (IsCoreServed (setting context.now)) (setting context.now) pass.old pass.new owned.old owned.new) }
     ensures few { IfOk result (λ count. count ≤ 2) }
 {
     if !owned.goes_on() {
@@ -103,8 +103,8 @@ pub(crate) fn serve_cores<R: Wait>(
     requires may { MayAct (setting context.now) hall.now pass.old }
     requires owned { All (IsOwned (setting context.now)) cores.old.items }
     requires most { length cores.old.items ≤ 16 }
-    ensures pass { IsStill hall.now pass.old pass.new }
-    ensures served { IfOk result (HaveDone (IsServed (setting context.now)) (setting context.now) pass.old pass.new cores.old.items cores.new.items) }
+    ensures pass { KeepsNumber hall.now pass.old pass.new }
+    ensures served { IfOk result (HaveDone (IsCoreServed (setting context.now)) (setting context.now) pass.old pass.new cores.old.items cores.new.items) }
     ensures few { IfOk result (λ count. count ≤ 32) }
 {
     let mut made = 0;

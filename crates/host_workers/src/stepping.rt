@@ -2,7 +2,7 @@ ghost use Rattle.std.specs.Prelude.{◌≡◌, ◌<◌, ◌≤◌, length, All, 
 ghost use Rattle.std.specs.Option.{option_map};
 ghost use Rattle.registration_protocol.specs.Setting.{setting};
 ghost use Rattle.host_workers.specs.declared.crew.BankLog.{BankLog as Noted};
-ghost use Rattle.host_workers.specs.Work.{MayAct, IsStill, IsStepped, IsKeeperStep, IsKept, HasDone, HaveDone};
+ghost use Rattle.host_workers.specs.Work.{MayAct, KeepsNumber, IsStepped, IsKeeperStep, IsKeeperServed, HasDone, HaveDone};
 
 use crate::crew::BankLog;
 use crate::draws::draw;
@@ -28,7 +28,7 @@ fn step_bank<R: Wait, G: Gate>(
 ) -> Result<u32, Memory>
     requires may { MayAct (setting context.now) hall.now pass.old }
     requires bank { owned.old.bank.0 < (setting context.now).shape.banks }
-    ensures pass { IsStill hall.now pass.old pass.new }
+    ensures pass { KeepsNumber hall.now pass.old pass.new }
     ensures stepped { IfOk result (HasDone (IsStepped (setting context.now)) (setting context.now) pass.old pass.new owned.old owned.new) }
     ensures few { IfOk result (λ count. count ≤ 1) }
 {
@@ -55,7 +55,7 @@ pub(crate) fn step_banks<R: Wait, G: Gate>(
     requires may { MayAct (setting context.now) hall.now pass.old }
     requires banks { All (λ (b : Noted). b.bank.0 < (setting context.now).shape.banks) banks.old.items }
     requires most { length banks.old.items ≤ 16 }
-    ensures pass { IsStill hall.now pass.old pass.new }
+    ensures pass { KeepsNumber hall.now pass.old pass.new }
     ensures stepped { IfOk result (HaveDone (IsStepped (setting context.now)) (setting context.now) pass.old pass.new banks.old.items banks.new.items) }
     ensures few { IfOk result (λ count. count ≤ 16) }
 {
@@ -87,7 +87,7 @@ fn step_keeper<R: Wait>(
     pick: u32,
 ) -> Result<u32, Memory>
     requires may { MayAct (setting context.now) hall.now pass.old }
-    ensures pass { IsStill hall.now pass.old pass.new }
+    ensures pass { KeepsNumber hall.now pass.old pass.new }
     ensures stepped { IfOk result (HasDone (IsKeeperStep (setting context.now)) (setting context.now) pass.old pass.new log.old.items log.new.items) }
     ensures few { IfOk result (λ count. count ≤ 1) }
 {
@@ -111,8 +111,8 @@ pub(crate) fn keep<R: Wait>(
     draws: &mut Pcg32,
 ) -> Result<u32, Memory>
     requires may { MayAct (setting context.now) hall.now pass.old }
-    ensures pass { IsStill hall.now pass.old pass.new }
-    ensures stepped { IfOk result (HasDone (IsKept (setting context.now)) (setting context.now) pass.old pass.new (option_map (λ log. log.items) keeper.old) (option_map (λ log. log.items) keeper.new)) }
+    ensures pass { KeepsNumber hall.now pass.old pass.new }
+    ensures stepped { IfOk result (HasDone (IsKeeperServed (setting context.now)) (setting context.now) pass.old pass.new (option_map (λ log. log.items) keeper.old) (option_map (λ log. log.items) keeper.new)) }
     ensures few { IfOk result (λ count. count ≤ 1) }
 {
     match keeper {

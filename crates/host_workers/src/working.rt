@@ -2,7 +2,7 @@ ghost use Rattle.std.specs.Prelude.{◌≡◌, map, All, IfOk, Ok};
 ghost use Rattle.registration_protocol.specs.Setting.{setting};
 ghost use Rattle.host_workers.specs.Crews.{IsCrew};
 ghost use Rattle.host_workers.specs.Pass.{HasWorkedOn};
-ghost use Rattle.host_workers.specs.Work.{MayAct, IsStill};
+ghost use Rattle.host_workers.specs.Work.{MayAct, KeepsNumber};
 ghost use Rattle.host_workers.specs.Finishing.{IsReadyJob, HasDoneJob, HaveDoneJobs};
 
 use crate::crew::Crew;
@@ -43,7 +43,7 @@ pub(crate) fn work<R: Wait, G: Gate>(
 ) -> Result<Job, Memory>
     requires may { MayAct (setting context.now) hall.now job.pass }
     requires crew { IsCrew (setting context.now) job.crew }
-    ensures pass { IfOk result (λ done. IsStill hall.now job.pass done.pass) }
+    ensures pass { IfOk result (λ done. KeepsNumber hall.now job.pass done.pass) }
     ensures crew { IfOk result (λ done. IsCrew (setting context.now) done.crew) }
     ensures worked { IfOk result (λ done. HasWorkedOn (setting context.now) job.pass done.pass job.crew done.crew) }
 {

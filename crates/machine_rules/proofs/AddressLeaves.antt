@@ -10,16 +10,16 @@ use Rattle.message_net.specs.declared.event.Event.{Event}
 use Rattle.message_net.specs.declared.message.Message.{Message}
 use Rattle.message_net.specs.declared.message.Message.TheVariants.{Go, Halt}
 use Rattle.message_net.specs.declared.message.Outgoing.{Outgoing}
-use Rattle.queue_lock.specs.Lock.{Lock, places_of}
+use Rattle.queue_lock.specs.Lock.{Lock, times_queued}
 use Rattle.queue_lock.proofs.LockLemmas.{places_of-cons}
 use Rattle.registry_bank.specs.declared.bank.BankWord.{BankWord}
 use Rattle.registry_bank.specs.declared.bank.BankWord.TheVariants.{Reg}
 use Rattle.phase_barrier.specs.Barrier.{Barrier}
 use Rattle.registration_protocol.specs.Node.{NodeParts}
 use Rattle.machine_rules.specs.State.{State, entry_in, home_at, lock_at}
-use Rattle.machine_rules.specs.Flight.{Test, bit, flight, asks, passes_on, gives_back, seeks, forwards, acquires}
+use Rattle.machine_rules.specs.Flight.{Test, bit, flight, is_reg_req_of, is_reg_fwd_of, is_write_back_of, is_read_req_of, is_read_fwd_of, is_acquire_of}
 use Rattle.machine_rules.specs.Next.{next}
-use Rattle.machine_rules.specs.Coherent.{locks_in, queued_in}
+use Rattle.machine_rules.specs.Coherent.{node_is_locking, queued_in}
 use Rattle.machine_rules.proofs.Bits.{passes, pending_bit, settled_bit, leaving_bit, reading_in}
 use Rattle.machine_rules.proofs.BitLemmas.{owner-bit}
 use Rattle.machine_rules.proofs.Invariant.{Invariant, is_lost, is_bank}
@@ -104,21 +104,21 @@ address-leaves S M e inv =
       arrive = λ core n found awake absent over settled told step. by-node S (next S e) step good refl;
       reply = λ core n word value found waits none room told step. by-node S (next S e) step good refl;
       acknowledge = λ core n word value found is told step. by-node S (next S e) step good refl;
-      forward = λ core other n word value found is told step. by-node S (next S e) step good (is-core S M other.0 inv (forwarded-there core other word (step.flown (passes_on word.0 other.0))));
-      forward_past = λ core other n word found unsettled told step. by-node S (next S e) step good (is-core S M other.0 inv (forwarded-there core other word (step.flown (passes_on word.0 other.0))));
-      answer = λ core reader n word value found is told step. by-node S (next S e) step good (is-core S M reader.0 inv (read-there core reader word (step.flown (forwards word.0 reader.0))));
+      forward = λ core other n word value found is told step. by-node S (next S e) step good (is-core S M other.0 inv (forwarded-there core other word (step.flown (is_reg_fwd_of word.0 other.0))));
+      forward_past = λ core other n word found unsettled told step. by-node S (next S e) step good (is-core S M other.0 inv (forwarded-there core other word (step.flown (is_reg_fwd_of word.0 other.0))));
+      answer = λ core reader n word value found is told step. by-node S (next S e) step good (is-core S M reader.0 inv (read-there core reader word (step.flown (is_read_fwd_of word.0 reader.0))));
       bounce = λ core reader n word found is told step. by-node S (next S e) step good (home-right S.setting.shape.banks word.0);
       freed = λ core n word value found is told step. by-node S (next S e) step good refl;
       grant = λ core n d t lock s found waits has going declares wants awake absent told step. by-node S (next S e) step good refl;
       go = λ core n phase found awake absent right next_is within told step. by-node S (next S e) step good refl;
       halt = λ core n found awake absent told step. by-node S (next S e) step good refl;
-      read_home = λ bank word reader value is told step. by-word S (next S e) step good (is-core S M reader.0 inv (sought-there word reader (step.flown (seeks word.0 reader.0))));
+      read_home = λ bank word reader value is told step. by-word S (next S e) step good (is-core S M reader.0 inv (sought-there word reader (step.flown (is_read_req_of word.0 reader.0))));
       read_owned = λ bank word reader owner is told step. by-word S (next S e) step good (is-core S M owner.0 inv (owner-there word.0 owner is));
-      register_home = λ bank word core value is told step. by-word S (next S e) step good (is-core S M core.0 inv (asked-there word core (step.flown (asks word.0 core.0))));
+      register_home = λ bank word core value is told step. by-word S (next S e) step good (is-core S M core.0 inv (asked-there word core (step.flown (is_reg_req_of word.0 core.0))));
       register_owned = λ bank word core owner is other told step. by-word S (next S e) step good (is-core S M owner.0 inv (owner-there word.0 owner is));
       write_back = λ bank word core value is told step. by-word S (next S e) step good (is-core S M core.0 inv (owner-there word.0 core is));
-      write_past = λ bank word core value content is past told step. by-word S (next S e) step good (is-core S M core.0 inv (left-there word value core (step.flown (gives_back word.0 core.0))));
-      acquire_free = λ bank lock core h is free told step. by-lock S (next S e) step good (is-core S M core.0 inv (waiting-there lock core (step.flown (acquires lock.0 core.0))));
+      write_past = λ bank word core value content is past told step. by-word S (next S e) step good (is-core S M core.0 inv (left-there word value core (step.flown (is_write_back_of word.0 core.0))));
+      acquire_free = λ bank lock core h is free told step. by-lock S (next S e) step good (is-core S M core.0 inv (waiting-there lock core (step.flown (is_acquire_of lock.0 core.0))));
       acquire_held = λ bank lock core holder h is has told step. by-lock S (next S e) step good refl;
       release_last = λ bank lock core holder s h is has same none told step. by-lock S (next S e) step good refl;
       release_on = λ bank lock core holder waiter others s h is has same queue told step. by-lock S (next S e) step good (is-core S M waiter.0 inv (queued-there lock waiter others h is queue));
@@ -135,37 +135,37 @@ address-leaves S M e inv =
         there-by S owner.0 (λ (o : Option NodeParts). pending_bit (entry_in w o) + settled_bit (entry_in w o) + leaving_bit (entry_in w o)) refl
         (omega (arith, inv.words.row w owner.0, owner-bit owner.0 (home_at S w) is))
 
-    asked-there : (word : WordId) (core : CoreId) → flight (next S e) (asks word.0 core.0) + bit ((word.0 == word.0) && (core.0 == core.0)) ≡ flight S (asks word.0 core.0) + 0 → core.0 < length S.nodes
+    asked-there : (word : WordId) (core : CoreId) → flight (next S e) (is_reg_req_of word.0 core.0) + bit ((word.0 == word.0) && (core.0 == core.0)) ≡ flight S (is_reg_req_of word.0 core.0) + 0 → core.0 < length S.nodes
     asked-there word core moved =
         let one = rw (same-number word.0, same-number core.0) at moved in
         there-by S core.0 (λ (o : Option NodeParts). pending_bit (entry_in word.0 o)) refl (omega (arith, inv.words.row word.0 core.0, one))
 
-    forwarded-there : (core other : CoreId) (word : WordId) → flight (next S e) (passes_on word.0 other.0) + bit ((word.0 == word.0) && (other.0 == other.0)) ≡ flight S (passes_on word.0 other.0) + 0 → other.0 < length S.nodes
+    forwarded-there : (core other : CoreId) (word : WordId) → flight (next S e) (is_reg_fwd_of word.0 other.0) + bit ((word.0 == word.0) && (other.0 == other.0)) ≡ flight S (is_reg_fwd_of word.0 other.0) + 0 → other.0 < length S.nodes
     forwarded-there core other word moved =
         let one = rw (same-number word.0, same-number other.0) at moved in
         there-by S other.0 (λ (o : Option NodeParts). pending_bit (entry_in word.0 o)) refl (omega (arith, inv.words.row word.0 other.0, one))
 
-    left-there : (word : WordId) (value : ℕ) (core : CoreId) → flight (next S e) (gives_back word.0 core.0) + bit ((word.0 == word.0) && (core.0 == core.0)) ≡ flight S (gives_back word.0 core.0) + 0 → core.0 < length S.nodes
+    left-there : (word : WordId) (value : ℕ) (core : CoreId) → flight (next S e) (is_write_back_of word.0 core.0) + bit ((word.0 == word.0) && (core.0 == core.0)) ≡ flight S (is_write_back_of word.0 core.0) + 0 → core.0 < length S.nodes
     left-there word value core moved =
         let one = rw (same-number word.0, same-number core.0) at moved in
         there-by S core.0 (λ (o : Option NodeParts). leaving_bit (entry_in word.0 o)) refl (omega (arith, inv.words.row word.0 core.0, one))
 
-    read-there : (core reader : CoreId) (word : WordId) → flight (next S e) (forwards word.0 reader.0) + bit ((word.0 == word.0) && (reader.0 == reader.0)) ≡ flight S (forwards word.0 reader.0) + 0 → reader.0 < length S.nodes
+    read-there : (core reader : CoreId) (word : WordId) → flight (next S e) (is_read_fwd_of word.0 reader.0) + bit ((word.0 == word.0) && (reader.0 == reader.0)) ≡ flight S (is_read_fwd_of word.0 reader.0) + 0 → reader.0 < length S.nodes
     read-there core reader word moved =
         let one = rw (same-number word.0, same-number reader.0) at moved in
         there-by S reader.0 (reading_in word.0) refl (omega (arith, inv.reads.row word.0 reader.0, one))
 
-    sought-there : (word : WordId) (reader : CoreId) → flight (next S e) (seeks word.0 reader.0) + bit ((word.0 == word.0) && (reader.0 == reader.0)) ≡ flight S (seeks word.0 reader.0) + 0 → reader.0 < length S.nodes
+    sought-there : (word : WordId) (reader : CoreId) → flight (next S e) (is_read_req_of word.0 reader.0) + bit ((word.0 == word.0) && (reader.0 == reader.0)) ≡ flight S (is_read_req_of word.0 reader.0) + 0 → reader.0 < length S.nodes
     sought-there word reader moved =
         let one = rw (same-number word.0, same-number reader.0) at moved in
         there-by S reader.0 (reading_in word.0) refl (omega (arith, inv.reads.row word.0 reader.0, one))
 
-    waiting-there : (lock : LockId) (core : CoreId) → flight (next S e) (acquires lock.0 core.0) + bit ((lock.0 == lock.0) && (core.0 == core.0)) ≡ flight S (acquires lock.0 core.0) + 0 → core.0 < length S.nodes
+    waiting-there : (lock : LockId) (core : CoreId) → flight (next S e) (is_acquire_of lock.0 core.0) + bit ((lock.0 == lock.0) && (core.0 == core.0)) ≡ flight S (is_acquire_of lock.0 core.0) + 0 → core.0 < length S.nodes
     waiting-there lock core moved =
         let one = rw (same-number lock.0, same-number core.0) at moved in
-        there-by S core.0 (λ (o : Option NodeParts). bit (locks_in lock.0 o)) refl (omega (arith, inv.locks.row lock.0 core.0, one))
+        there-by S core.0 (λ (o : Option NodeParts). bit (node_is_locking lock.0 o)) refl (omega (arith, inv.locks.row lock.0 core.0, one))
 
     queued-there : (lock : LockId) (waiter : CoreId) (others : List CoreId) (h : Lock) → lock_at S lock.0 ≡ Some h → h.queue ≡ waiter ∷ others → waiter.0 < length S.nodes
     queued-there lock waiter others h is queue =
-        let first : 1 ≤ places_of waiter.0 h.queue = rw (queue) (rw (places_of-cons waiter.0 waiter others, same-number waiter.0) (omega arith)) in
-        there-by S waiter.0 (λ (o : Option NodeParts). bit (locks_in lock.0 o)) refl (omega (arith, inv.locks.row lock.0 waiter.0, first, ap (queued_in waiter.0) is))
+        let first : 1 ≤ times_queued waiter.0 h.queue = rw (queue) (rw (places_of-cons waiter.0 waiter others, same-number waiter.0) (omega arith)) in
+        there-by S waiter.0 (λ (o : Option NodeParts). bit (node_is_locking lock.0 o)) refl (omega (arith, inv.locks.row lock.0 waiter.0, first, ap (queued_in waiter.0) is))

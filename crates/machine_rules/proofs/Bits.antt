@@ -10,7 +10,7 @@ use Rattle.registration_protocol.specs.Node.{NodeParts}
 use Rattle.message_net.specs.declared.message.Outgoing.{Outgoing}
 use Rattle.queue_lock.specs.Lock.{Lock}
 use Rattle.write_signature.specs.declared.signature.Signature.{Signature}
-use Rattle.write_signature.specs.Signature.{holds}
+use Rattle.write_signature.specs.Signature.{may_hold}
 use Rattle.machine_rules.specs.Flight.{Test, bit}
 
 -- an entry is pending, registered and not pending, leaving, valid
@@ -69,4 +69,4 @@ same_signature a b = (a.low == b.low) && ((a.high == b.high) && (a.phase.0 == b.
 -- whether a signature, if it is there, may hold a word of a phase
 abbrev pub signed_in : ℕ → ℕ → Option Signature → Bool
 signed_in w p None = false
-signed_in w p (Some s) = holds s w p
+signed_in w p (Some s) = may_hold s w p

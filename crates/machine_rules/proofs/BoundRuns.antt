@@ -17,11 +17,11 @@ use Rattle.region_table.proofs.TaskLemmas.{declared-tells}
 use Rattle.rv_core.specs.declared.task.TaskState.{TaskState}
 use Rattle.message_net.specs.declared.event.Event.{Event}
 use Rattle.registration_protocol.specs.Node.{NodeParts, Setting}
-use Rattle.machine_rules.specs.State.{State, opened}
+use Rattle.machine_rules.specs.State.{State, initial_state}
 use Rattle.machine_rules.specs.Next.{next}
 use Rattle.machine_rules.specs.Memory.{store_in}
-use Rattle.machine_rules.specs.Runs.{after, IsRun, later, begun_in}
-use Rattle.machine_rules.specs.Bound.{task_in_phase, last_task, retired_by, retired_from, retired_in, started_in}
+use Rattle.machine_rules.specs.Runs.{after, IsRun, newer_or, begun_in}
+use Rattle.machine_rules.specs.Bound.{task_in_phase, last_task, retired_so_far, retired_from, retired_in, started_in}
 use Rattle.machine_rules.specs.Sound.{IsSound, IsReady}
 use Rattle.machine_rules.proofs.Invariant.{Invariant}
 use Rattle.machine_rules.proofs.Leaves.{stored_to}
@@ -49,7 +49,7 @@ abbrev all_done : ℕ → ℕ → State → List Event → ℕ
 all_done cores phases S events = total (λ (c : ℕ). total (done S events c) phases) cores
 
 -- a later state shows no less
-done-later : (x y : Option TaskState) → worked x ≤ worked (later x y)
+done-later : (x y : Option TaskState) → worked x ≤ worked (newer_or x y)
 done-later None y = omega arith
 done-later (Some t) y = omega arith
 
@@ -87,7 +87,7 @@ event-done S M count e es cores phases due sound inv run long low earns = by_end
       let gone : last_task n.phase core T es ≡ None =
       none-past T (stored_to (store_in S e) M) (count + 1) es n.phase core m after_it (kept S M e inv run.0 after_it.machine) run.1 ends.now (omega (arith, ends.next_phase)) in
       let shown : last_task n.phase core S (e ∷ es) ≡ n.task =
-      ap (λ (o : Option TaskState). later o (task_in_phase n.phase (slice_get S.nodes core))) gone ∙ (ap (task_in_phase n.phase) ends.found ∙ own-task n) in
+      ap (λ (o : Option TaskState). newer_or o (task_in_phase n.phase (slice_get S.nodes core))) gone ∙ (ap (task_in_phase n.phase) ends.found ∙ own-task n) in
       let one : done T es core n.phase + worked n.task ≤ done S (e ∷ es) core n.phase = omega (arith, ap worked gone, ap worked shown) in
       let row = total-raised (done T es core) (done S (e ∷ es) core) phases n.phase (worked n.task) (each core) (omega (arith, low, inv.behind core n ends.found)) one in
       let all = total-raised (λ (c : ℕ). total (done T es c) phases) (λ (c : ℕ). total (done S (e ∷ es) c) phases) cores core (worked n.task) rows
@@ -115,17 +115,17 @@ count-more {X} f (x ∷ xs) = omega (arith, count-more f xs, sum_by-cons f x xs,
 
 -- what the tasks of a phase have done, by the cores and by the tasks
 phase-done : (S : State) (M : ℕ → ℕ) (count : ℕ) (events : List Event) (cores q : ℕ) (p : Phase) → IsSound S count → Invariant S M → IsRun S events → slice_get S.setting.program.phases q ≡ Some p
-    → total (λ (c : ℕ). done S events c q) cores ≤ sum_by (λ (d : TaskDecl). retired_by (last_task q d.core.0 S events)) p.tasks + length p.tasks
+    → total (λ (c : ℕ). done S events c q) cores ≤ sum_by (λ (d : TaskDecl). retired_so_far (last_task q d.core.0 S events)) p.tasks + length p.tasks
 phase-done S M count events cores q p sound inv run there =
     omega (
       arith,
       total-le (λ (c : ℕ). done S events c q) (λ (c : ℕ). sum_by (λ (d : TaskDecl). only_at d.core.0 most c) p.tasks) cores (λ c. by_last c (last_task q c S events) refl),
       total-places (λ (d : TaskDecl). d.core.0) most p.tasks cores,
-      count-more (λ (d : TaskDecl). retired_by (last_task q d.core.0 S events)) p.tasks,
+      count-more (λ (d : TaskDecl). retired_so_far (last_task q d.core.0 S events)) p.tasks,
     )
   where
     most : ℕ → ℕ
-    most c = retired_by (last_task q c S events) + 1
+    most c = retired_so_far (last_task q c S events) + 1
 
     same-core : (c : ℕ) → (c == c) ≡ true
     same-core c = grind (arith, nat_tests)
@@ -139,11 +139,11 @@ phase-done S M count events cores q p sound inv run there =
         let among : IsAmong p.tasks of.decl = subst (λ (x : Phase). IsAmong x.tasks of.decl) same tells.among in
         let part = get_or-le-sum_by (λ (d : TaskDecl). only_at d.core.0 most c) p.tasks among.0 of.decl among.1.0 in
         let its : only_at of.decl.core.0 most c ≡ most c = rw (tells.own, same-core c) refl in
-        omega (arith, part, ap (λ (d : TaskDecl). only_at d.core.0 most c) among.1.1, its, ap retired_by last)
+        omega (arith, part, ap (λ (d : TaskDecl). only_at d.core.0 most c) among.1.1, its, ap retired_so_far last)
 
 -- some phases in a row, the first of which is phase number q
 phases-done : (row : ℕ → ℕ) (S : State) (events : List Event) (q : ℕ) (ps : List Phase)
-    → ((j : ℕ) (p : Phase) → slice_get ps j ≡ Some p → row (q + j) ≤ sum_by (λ (d : TaskDecl). retired_by (last_task (q + j) d.core.0 S events)) p.tasks + length p.tasks)
+    → ((j : ℕ) (p : Phase) → slice_get ps j ≡ Some p → row (q + j) ≤ sum_by (λ (d : TaskDecl). retired_so_far (last_task (q + j) d.core.0 S events)) p.tasks + length p.tasks)
     → total (λ (j : ℕ). row (q + j)) (length ps) ≤ retired_from q ps S events + length (tasks_of ps)
 phases-done row S events q [] each = omega arith
 phases-done row S events q (p ∷ ps) each =
@@ -157,7 +157,7 @@ phases-done row S events q (p ∷ ps) each =
     )
   where
     HasDone : Phase → ℕ → Type 0
-    HasDone x k = row k ≤ sum_by (λ (d : TaskDecl). retired_by (last_task k d.core.0 S events)) x.tasks + length x.tasks
+    HasDone x k = row k ≤ sum_by (λ (d : TaskDecl). retired_so_far (last_task k d.core.0 S events)) x.tasks + length x.tasks
 
     number : (j : ℕ) → q + suc j ≡ q + 1 + j
     number j = omega arith
@@ -165,8 +165,8 @@ phases-done row S events q (p ∷ ps) each =
     none : q + 0 ≡ q
     none = omega arith
 
-    first : row (q + 0) ≤ sum_by (λ (d : TaskDecl). retired_by (last_task q d.core.0 S events)) p.tasks + length p.tasks
-    first = subst (λ (k : ℕ). row (q + 0) ≤ sum_by (λ (d : TaskDecl). retired_by (last_task k d.core.0 S events)) p.tasks + length p.tasks) none (each 0 p refl)
+    first : row (q + 0) ≤ sum_by (λ (d : TaskDecl). retired_so_far (last_task q d.core.0 S events)) p.tasks + length p.tasks
+    first = subst (λ (k : ℕ). row (q + 0) ≤ sum_by (λ (d : TaskDecl). retired_so_far (last_task k d.core.0 S events)) p.tasks + length p.tasks) none (each 0 p refl)
 
 -- who is among the first elements of a list
 take-there : {X : Type 0} (xs : List X) (k j : ℕ) (x : X) → slice_get (take k xs) j ≡ Some x → slice_get xs j ≡ Some x
@@ -201,7 +201,7 @@ begun-done S M count events cores sound inv run within =
     none j = omega arith
 
     each : (j : ℕ) (p : Phase) → slice_get (take begun phases) j ≡ Some p
-        → row (0 + j) ≤ sum_by (λ (d : TaskDecl). retired_by (last_task (0 + j) d.core.0 S events)) p.tasks + length p.tasks
+        → row (0 + j) ≤ sum_by (λ (d : TaskDecl). retired_so_far (last_task (0 + j) d.core.0 S events)) p.tasks + length p.tasks
     each j p there =
         let here : slice_get S.setting.program.phases j ≡ Some p = subst (λ (C : Setting). slice_get C.program.phases j ≡ Some p) (run-setting S events) (take-there phases begun j p there) in
         let number : j ≡ 0 + j = sym (none j) in
@@ -209,35 +209,35 @@ begun-done S M count events cores sound inv run within =
 
 -- ---- every run
 
-pub run-few : (C : Setting) (events : List Event) → IsReady C → IsRun (opened C) events
-    → length events ≤ 12 * (retired_in (opened C) events + started_in (opened C) events) + 3 * (C.shape.cores * length C.program.phases)
+pub run-few : (C : Setting) (events : List Event) → IsReady C → IsRun (initial_state C) events
+    → length events ≤ 12 * (retired_in (initial_state C) events + started_in (initial_state C) events) + 3 * (C.shape.cores * length C.program.phases)
 run-few C events ready run = by_phases inv.phases.within where
   M : ℕ → ℕ
   M = first_memory C
 
   T : State
-  T = after (opened C) events
+  T = after (initial_state C) events
 
-  sound : IsSound (opened C) 0
+  sound : IsSound (initial_state C) 0
   sound = opened-sound C ready.context ready.program ready.checked
 
-  first : Invariant (opened C) M
+  first : Invariant (initial_state C) M
   first = opened-invariant C ready.context ready.program ready.checked
 
-  inv : Invariant T (memory_over M (opened C) events)
-  inv = (run-kept (opened C) M 0 events sound first run).1
+  inv : Invariant T (memory_over M (initial_state C) events)
+  inv = (run-kept (initial_state C) M 0 events sound first run).1
 
   setting : T.setting ≡ C
-  setting = run-setting (opened C) events ∙ opened-setting C
+  setting = run-setting (initial_state C) events ∙ opened-setting C
 
   by_phases : T.keeper.phase < length T.setting.program.phases ⊎ (length T.setting.program.phases ≡ 0)
-      → length events ≤ 12 * (retired_in (opened C) events + started_in (opened C) events) + 3 * (C.shape.cores * length C.program.phases)
+      → length events ≤ 12 * (retired_in (initial_state C) events + started_in (initial_state C) events) + 3 * (C.shape.cores * length C.program.phases)
   by_phases (inr none) = omega (arith, ap length (no-phases-run C events (ap (λ (x : Setting). length x.program.phases) (sym setting) ∙ none) run))
   by_phases (inl within) =
-      let along = spent-run (opened C) M 0 0 0 events sound first run (opened-spent C ready.context) in
-      let bound = spent-bound T (memory_over M (opened C) events) (0 + length events) (0 + along.more) inv along.spent in
-      let done = run-done (opened C) M 0 events C.shape.cores (T.keeper.phase + 1) along.more sound first run (ap (λ (x : Setting). x.shape.cores) (opened-setting C)) (omega arith) along.earns in
-      let tasks = begun-done (opened C) M 0 events C.shape.cores sound first run (omega (arith, within)) in
+      let along = spent-run (initial_state C) M 0 0 0 events sound first run (opened-spent C ready.context) in
+      let bound = spent-bound T (memory_over M (initial_state C) events) (0 + length events) (0 + along.more) inv along.spent in
+      let done = run-done (initial_state C) M 0 events C.shape.cores (T.keeper.phase + 1) along.more sound first run (ap (λ (x : Setting). x.shape.cores) (opened-setting C)) (omega arith) along.earns in
+      let tasks = begun-done (initial_state C) M 0 events C.shape.cores sound first run (omega (arith, within)) in
       let cores = ap (λ (x : Setting). x.shape.cores * (T.keeper.phase + 1)) setting in
       let turns : C.shape.cores * (T.keeper.phase + 1) ≤ C.shape.cores * length C.program.phases =
       mul-le-mul_left C.shape.cores (omega (arith, within, ap (λ (x : Setting). length x.program.phases) setting)) in
@@ -245,12 +245,12 @@ run-few C events ready run = by_phases inv.phases.within where
 
 -- ---- within the limits of programs and fuel
 
-retired-most : (q : ℕ) (ps : List Phase) (S : State) (events : List Event) → ((k c : ℕ) → retired_by (last_task k c S events) ≤ 32768) → retired_from q ps S events ≤ length (tasks_of ps) * 32768
+retired-most : (q : ℕ) (ps : List Phase) (S : State) (events : List Event) → ((k c : ℕ) → retired_so_far (last_task k c S events) ≤ 32768) → retired_from q ps S events ≤ length (tasks_of ps) * 32768
 retired-most q [] S events each = omega arith
 retired-most q (p ∷ ps) S events each =
     omega (
       arith,
-      sum_by-le (λ (d : TaskDecl). retired_by (last_task q d.core.0 S events)) 32768 p.tasks (λ i d l. each q _),
+      sum_by-le (λ (d : TaskDecl). retired_so_far (last_task q d.core.0 S events)) 32768 p.tasks (λ i d l. each q _),
       retired-most (q + 1) ps S events each,
       length-append p.tasks (tasks_of ps),
     )
@@ -274,31 +274,31 @@ cores-most words locks (p ∷ ps) all =
       cores-most words locks ps (All-tail (IsPhase words locks) p ps all),
     )
 
-pub run-ends : (C : Setting) (events : List Event) → IsReady C → IsRun (opened C) events → length events ≤ 25169664
+pub run-ends : (C : Setting) (events : List Event) → IsReady C → IsRun (initial_state C) events → length events ≤ 25169664
 run-ends C events ready run =
     omega (arith, run-few C events ready run, retired, started, cores)
   where
     T : State
-    T = after (opened C) events
+    T = after (initial_state C) events
 
-    each : (k c : ℕ) → retired_by (last_task k c (opened C) events) ≤ 32768
+    each : (k c : ℕ) → retired_so_far (last_task k c (initial_state C) events) ≤ 32768
     each k c =
         omega (
           arith,
-          last-fuel (opened C) (first_memory C) 0 events k c (opened-sound C ready.context ready.program ready.checked) (opened-invariant C ready.context ready.program ready.checked) run,
+          last-fuel (initial_state C) (first_memory C) 0 events k c (opened-sound C ready.context ready.program ready.checked) (opened-invariant C ready.context ready.program ready.checked) run,
           ap (λ (x : Setting). x.fuel) (opened-setting C),
           ready.context.most_fuel,
         )
 
-    retired : retired_in (opened C) events ≤ started_in (opened C) events * 32768
-    retired = retired-most 0 (begun_in T) (opened C) events each
+    retired : retired_in (initial_state C) events ≤ started_in (initial_state C) events * 32768
+    retired = retired-most 0 (begun_in T) (initial_state C) events each
 
-    started : started_in (opened C) events ≤ 64
+    started : started_in (initial_state C) events ≤ 64
     started =
         omega (
           arith,
           started-most (T.keeper.phase + 1) T.setting.program.phases,
-          ap (λ (x : Setting). length (tasks_of x.program.phases)) (run-setting (opened C) events ∙ opened-setting C),
+          ap (λ (x : Setting). length (tasks_of x.program.phases)) (run-setting (initial_state C) events ∙ opened-setting C),
           ready.program.tasks,
         )
 

@@ -11,13 +11,13 @@ use Rattle.region_table.specs.declared.declared.TaskDecl.{TaskDecl}
 use Rattle.region_table.specs.Plan.{uses_plainly}
 use Rattle.rv_core.specs.declared.task.TaskState.{TaskState}
 use Rattle.rv_core.specs.declared.need.Need as need
-use Rattle.rv_core.specs.Access.{holds as is_held}
+use Rattle.rv_core.specs.Access.{is_held}
 use Rattle.rv_core.specs.Kinds.{IsLoad}
 use Rattle.rv_core.specs.Step.{advanced, loaded_of}
 use Rattle.rv_core.proofs.Completions.{advanced-held, loaded-held, release-allowed}
 use Rattle.rv_core.proofs.HeldLemmas.{holds-released}
 use Rattle.write_signature.specs.declared.signature.Signature.{Signature}
-use Rattle.write_signature.specs.Signature.{tag, holds, joined}
+use Rattle.write_signature.specs.Signature.{tag, may_hold, joined}
 use Rattle.write_signature.proofs.SignatureLemmas.{joined_covers_first, joined_covers_second}
 use Rattle.message_net.specs.declared.message.Message.{Message}
 use Rattle.message_net.specs.declared.message.Message.TheVariants.{DataReply, Release, Arrived}
@@ -33,8 +33,8 @@ use Rattle.registration_protocol.specs.declared.node.NodeWait as wait
 use Rattle.registration_protocol.specs.Node.{NodeParts, entry_of, keeping, signature_of}
 use Rattle.registration_protocol.specs.OwnEvents.{retires, with_put}
 use Rattle.machine_rules.specs.State.{State, lock_at}
-use Rattle.machine_rules.specs.Flight.{bit, misinforms}
-use Rattle.machine_rules.specs.Coherent.{UsesPlainly, held_by}
+use Rattle.machine_rules.specs.Flight.{bit, is_false_data_reply}
+use Rattle.machine_rules.specs.Coherent.{UsesPlainly, held_locks}
 use Rattle.machine_rules.proofs.Bits.{passes, signed_in}
 use Rattle.machine_rules.proofs.Invariant.{Invariant, LocksGood, CopiesGood, MayBeOld, carriers, carried_by, is_carrying, is_late, kept_bit}
 use Rattle.machine_rules.proofs.Steps.{NodeStep}
@@ -77,8 +77,8 @@ copies-loaded S T M core n d t word value marked inv acts is step =
     phase : n.phase ≡ S.keeper.phase
     phase = in-phase S M core.0 n d t inv (acting-works S core n d t (need.TheVariants.Load word) acts)
 
-    held : held_by m.task ≡ held_by n.task
-    held = loaded-held S.setting.program d S.setting.fuel t value (subst IsLoad (sym acts.wants) tt) ∙ sym (ap held_by acts.task)
+    held : held_locks m.task ≡ held_locks n.task
+    held = loaded-held S.setting.program d S.setting.fuel t value (subst IsLoad (sym acts.wants) tt) ∙ sym (ap held_locks acts.task)
 
     steady : IsSteady S n m None None
     steady = steady-same S n m None None refl held refl (λ l w p. refl)
@@ -140,7 +140,7 @@ copies-answered S T M core n word value inv step =
     truth = by_test (value == M word.0) refl where
       by_test : (x : Bool) → (value == M word.0) ≡ x → value ≡ M word.0
       by_test true e = eqb-true value (M word.0) e
-      by_test false e = let came = rw (e) at (step.flown (misinforms M)) in absurd (omega (arith, came, inv.values.replied))
+      by_test false e = let came = rw (e) at (step.flown (is_false_data_reply M)) in absurd (omega (arith, came, inv.values.replied))
 
     by_marked : (w x : ℕ) → entry_of m w ≡ Some (Valid x true) → (y : Bool) → (word.0 == w) ≡ y → UsesPlainly T core.0 w
     by_marked w x has true f = let same = valid-mark value x false true (sym (rw (f) at (entries w)) ∙ has) in let wrong = same.1 in absurd (cc)
@@ -175,23 +175,23 @@ copies-released S T M core n d t lock banks g acts step =
     had : is_held t.held lock.0 ≡ true
     had = (release-allowed S.setting.program d S.setting.fuel t lock acts.wants).1
 
-    was : (l : ℕ) → is_held (held_by n.task) l ≡ is_held t.held l
-    was l = ap (λ (o : Option TaskState). is_held (held_by o) l) acts.task
+    was : (l : ℕ) → is_held (held_locks n.task) l ≡ is_held t.held l
+    was l = ap (λ (o : Option TaskState). is_held (held_locks o) l) acts.task
 
-    held : (l : ℕ) → is_held (held_by m.task) l ≡ (not (l == lock.0) && is_held (held_by n.task) l)
+    held : (l : ℕ) → is_held (held_locks m.task) l ≡ (not (l == lock.0) && is_held (held_locks n.task) l)
     held l =
         ap (λ (x : ℕ). is_held x l) (advanced-held S.setting.program d S.setting.fuel t (need.TheVariants.Release lock) acts.wants tt)
         ∙ holds-released t.held lock.0 l had ∙ sym (ap (λ (b : Bool). not (l == lock.0) && b) (was l))
 
-    unheld : (l : ℕ) → is_held (held_by n.task) l ≡ false → is_held (held_by m.task) l ≡ false
+    unheld : (l : ℕ) → is_held (held_locks n.task) l ≡ false → is_held (held_locks m.task) l ≡ false
     unheld l none = held l ∙ ap (λ (b : Bool). not (l == lock.0) && b) none ∙ by_test (not (l == lock.0)) where
       by_test : (x : Bool) → (x && false) ≡ false
       by_test true = refl
       by_test false = refl
 
-    signed : (l w : ℕ) → bit (signed_in w p (slice_get n.signatures l)) ≤ bit (holds (signature_of n l) w p)
+    signed : (l w : ℕ) → bit (signed_in w p (slice_get n.signatures l)) ≤ bit (may_hold (signature_of n l) w p)
     signed l w = by_get (slice_get n.signatures l) refl where
-      by_get : (o : Option Signature) → slice_get n.signatures l ≡ o → bit (signed_in w p o) ≤ bit (holds (signature_of n l) w p)
+      by_get : (o : Option Signature) → slice_get n.signatures l ≡ o → bit (signed_in w p o) ≤ bit (may_hold (signature_of n l) w p)
       by_get None is = omega arith
       by_get (Some s) is =
           let same : signature_of n l ≡ s = get_or_from_slice_get n.signatures l s _ is in
@@ -202,9 +202,9 @@ copies-released S T M core n d t lock banks g acts step =
       by_lock : (x : Bool) → (lock.0 == l) ≡ x → carried_by l w p n ≤ carried_by l w p m + passes (is_carrying l w p) sent
       by_lock true e =
           let same : lock.0 ≡ l = eqb-true lock.0 l e in
-          let mine : is_held (held_by n.task) l ≡ true = was l ∙ subst (λ (x : ℕ). is_held t.held x ≡ true) same had in
+          let mine : is_held (held_locks n.task) l ≡ true = was l ∙ subst (λ (x : ℕ). is_held t.held x ≡ true) same had in
           let carried : carried_by l w p n ≡ bit (signed_in w p (slice_get n.signatures l)) = rw (mine) refl in
-          let goes : passes (is_carrying l w p) sent ≡ bit (holds (signature_of n l) w p) = rw (e) (ap (λ (x : ℕ). bit (holds (signature_of n x) w p)) same) in
+          let goes : passes (is_carrying l w p) sent ≡ bit (may_hold (signature_of n l) w p) = rw (e) (ap (λ (x : ℕ). bit (may_hold (signature_of n x) w p)) same) in
           omega (arith, carried, goes, signed l w)
       by_lock false e =
           let turned : (l == lock.0) ≡ false = grind (arith, nat_tests, e) in
@@ -226,8 +226,8 @@ copies-homed S T M w content left sent g step came =
 
 -- the home of a lock: what it keeps then has what it kept before, and what comes
 pub copies-locked : (S T : State) (M : ℕ → ℕ) (lock : ℕ) (h k : Lock) (left sent : Option Outgoing) → CopiesGood S M → LockStep S T lock k left sent → lock_at S lock ≡ Some h
-    → ((w : ℕ) → bit (holds h.kept w S.keeper.phase) ≤ bit (holds k.kept w S.keeper.phase))
-    → ((w : ℕ) → passes (is_carrying lock w S.keeper.phase) left ≤ bit (holds k.kept w S.keeper.phase))
+    → ((w : ℕ) → bit (may_hold h.kept w S.keeper.phase) ≤ bit (may_hold k.kept w S.keeper.phase))
+    → ((w : ℕ) → passes (is_carrying lock w S.keeper.phase) left ≤ bit (may_hold k.kept w S.keeper.phase))
     → ((l w : ℕ) → (lock == l) ≡ false → passes (is_carrying l w S.keeper.phase) left ≡ 0) → CopiesGood T M
 copies-locked S T M lock h k left sent g step was keeps gets aside =
     copies-still S T M g step.setting step.nodes (rw (step.keeper) refl) signed
@@ -239,7 +239,7 @@ copies-locked S T M lock h k left sent g step was keeps gets aside =
           let same : lock ≡ l = eqb-true lock l e in
           let now = ap (kept_bit w S.keeper.phase) (rw (e) at (step.locks l)) in
           let before = ap (kept_bit w S.keeper.phase) (subst (λ (x : ℕ). lock_at S x ≡ Some h) same was) in
-          let got = subst (λ (x : ℕ). passes (is_carrying x w S.keeper.phase) left ≤ bit (holds k.kept w S.keeper.phase)) same (gets w) in
+          let got = subst (λ (x : ℕ). passes (is_carrying x w S.keeper.phase) left ≤ bit (may_hold k.kept w S.keeper.phase)) same (gets w) in
           rw (step.keeper, step.nodes) (omega (arith, some, now, before, got, keeps w, step.flown (is_carrying l w S.keeper.phase)))
       by_lock false e =
           let now = ap (kept_bit w S.keeper.phase) (rw (e) at (step.locks l)) in
@@ -254,8 +254,8 @@ pub copies-joined : (S T : State) (M : ℕ → ℕ) (lock : LockId) (core : Core
     → LockStep S T lock.0 k (at_bank bank (Release lock core s)) sent → lock_at S lock.0 ≡ Some h → k.kept ≡ joined h.kept s → passes (is_late S.keeper.phase) sent ≡ 0 → CopiesGood T M
 copies-joined S T M lock core s bank h k sent g locks step was is none =
     copies-locked S T M lock.0 h k (at_bank bank (Release lock core s)) sent g step was
-    (λ w. rw (is) (covers (holds h.kept w p) (holds (joined h.kept s) w p) (λ held. joined_covers_first h.kept s w p late held)))
-    (λ w. rw (same-number lock.0, is) (covers (holds s w p) (holds (joined h.kept s) w p) (λ held. joined_covers_second h.kept s w p (locks.kept lock.0 h was) held)))
+    (λ w. rw (is) (covers (may_hold h.kept w p) (may_hold (joined h.kept s) w p) (λ held. joined_covers_first h.kept s w p late held)))
+    (λ w. rw (same-number lock.0, is) (covers (may_hold s w p) (may_hold (joined h.kept s) w p) (λ held. joined_covers_second h.kept s w p (locks.kept lock.0 h was) held)))
     (λ l w e. rw (e) refl)
   where
     p : ℕ

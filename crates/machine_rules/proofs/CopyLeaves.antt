@@ -14,14 +14,14 @@ use Rattle.word_cache.specs.declared.row.Entry.TheVariants.{Registered, Leaving}
 use Rattle.word_cache.specs.Cache.{touched}
 use Rattle.word_cache.proofs.LookLemmas.{lookup-without, lookup-touched}
 use Rattle.queue_lock.specs.Lock.{Lock}
-use Rattle.phase_barrier.specs.Barrier.{counted}
+use Rattle.phase_barrier.specs.Barrier.{with_arrival}
 use Rattle.registration_protocol.specs.declared.node.NodeWait as wait
 use Rattle.registration_protocol.specs.Node.{NodeParts, keeping}
-use Rattle.registration_protocol.specs.OwnEvents.{retires, is_bad}
+use Rattle.registration_protocol.specs.OwnEvents.{retires, task_ended_badly}
 use Rattle.registration_protocol.specs.Messages.{with_entry, lacking}
 use Rattle.machine_rules.specs.State.{State}
 use Rattle.machine_rules.specs.Next.{next}
-use Rattle.machine_rules.specs.Coherent.{held_by}
+use Rattle.machine_rules.specs.Coherent.{held_locks}
 use Rattle.machine_rules.proofs.Invariant.{Invariant, CopiesGood, is_carrying}
 use Rattle.machine_rules.proofs.Leaves.{Leaves, at_core, at_bank}
 use Rattle.machine_rules.proofs.NodeEntries.{changed-now}
@@ -40,15 +40,15 @@ copies-leaves S M e inv =
       local = λ core n d t acts told step.
           let m : NodeParts = record n { task = Some (advanced S.setting.program t) } in
           copies-same S T M core.0 n m None None g step refl
-          (advanced-held S.setting.program d S.setting.fuel t need.TheVariants.Local acts.wants tt ∙ sym (ap held_by acts.task)) refl (λ l w p. refl) (old-same n m (λ v. refl));
+          (advanced-held S.setting.program d S.setting.fuel t need.TheVariants.Local acts.wants tt ∙ sym (ap held_locks acts.task)) refl (λ l w p. refl) (old-same n m (λ v. refl));
       ends = λ core n d t by acts told step.
           let m : NodeParts = record n { task = Some (stopped by t) } in
-          copies-same S T M core.0 n m None None g step refl (stopped-held by t ∙ sym (ap held_by acts.task)) refl (λ l w p. refl) (old-same n m (λ v. refl));
+          copies-same S T M core.0 n m None None g step refl (stopped-held by t ∙ sym (ap held_locks acts.task)) refl (λ l w p. refl) (old-same n m (λ v. refl));
       load_copy = λ core n d t word value marked acts is told step. copies-loaded S T M core n d t word value marked inv acts is step;
       load_own = λ core n d t word value pending acts is told step.
           let m : NodeParts = retires (keeping n (touched word n.cache.pairs)) (loaded_of S.setting.program value t) in
           copies-same S T M core.0 n m None None g step refl
-          (loaded-held S.setting.program d S.setting.fuel t value (subst IsLoad (sym acts.wants) tt) ∙ sym (ap held_by acts.task)) refl (λ l w p. refl)
+          (loaded-held S.setting.program d S.setting.fuel t value (subst IsLoad (sym acts.wants) tt) ∙ sym (ap held_locks acts.task)) refl (λ l w p. refl)
           (old-same n m (λ v. lookup-touched word v n.cache.pairs));
       miss = λ core n d t word needs kind acts none room told step.
           let m : NodeParts = record n { waiting = wait.TheVariants.Reading word } in
@@ -72,7 +72,7 @@ copies-leaves S M e inv =
           (old-at n m word.0 (Some (Leaving value)) (changed-now n word.0 (Registered value false) (Leaving value) is) refl);
       arrive = λ core n found awake absent over settled told step.
           let m : NodeParts = record n { arrived = true } in
-          copies-same S T M core.0 n m None (to_keeper (Arrived core (is_bad n.task))) g step refl refl refl (λ l w p. refl) (old-same n m (λ v. refl));
+          copies-same S T M core.0 n m None (to_keeper (Arrived core (task_ended_badly n.task))) g step refl refl refl (λ l w p. refl) (old-same n m (λ v. refl));
       reply = λ core n word value found waits none room told step. copies-answered S T M core n word value inv step;
       acknowledge = λ core n word value found is told step.
           let m : NodeParts = with_entry n word.0 (Registered value false) in
@@ -119,8 +119,8 @@ copies-leaves S M e inv =
           let k : Lock = record h { holder = Some waiter; queue = others; kept = joined h.kept s } in
           copies-joined S T M lock core s bank h k (to_core waiter (Grant lock (joined h.kept s))) g inv.locks step was refl refl;
       arrived = λ core bad was rest told step.
-          copies-posted S T M (counted core.0 bad S.keeper) core bad None g step refl (λ l w p. nothing-posted (is_carrying l w p) S.setting.shape.cores);
+          copies-posted S T M (with_arrival core.0 bad S.keeper) core bad None g step refl (λ l w p. nothing-posted (is_carrying l w p) S.setting.shape.cores);
       all_go = λ core bad was all over told step. copies-together S T M core bad inv was all step;
       all_halt = λ core bad was all over told step.
-          copies-posted S T M (counted core.0 bad S.keeper) core bad (Some Halt) g step refl (λ l w p. none-posted (is_carrying l w p) Halt (λ c. refl) S.setting.shape.cores);
+          copies-posted S T M (with_arrival core.0 bad S.keeper) core bad (Some Halt) g step refl (λ l w p. none-posted (is_carrying l w p) Halt (λ c. refl) S.setting.shape.cores);
     }

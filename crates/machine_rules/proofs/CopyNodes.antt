@@ -4,10 +4,10 @@ use Rattle.std.proofs.lemmas.Bool.{eqb-true}
 use Rattle.message_net.specs.declared.message.Outgoing.{Outgoing}
 use Rattle.word_cache.specs.declared.row.Entry.{Entry}
 use Rattle.word_cache.specs.declared.row.Entry.TheVariants.{Valid}
-use Rattle.rv_core.specs.Access.{holds as is_held}
+use Rattle.rv_core.specs.Access.{is_held}
 use Rattle.registration_protocol.specs.Node.{NodeParts, entry_of}
 use Rattle.machine_rules.specs.State.{State, entry_at}
-use Rattle.machine_rules.specs.Coherent.{UsesPlainly, held_by, holds_lock}
+use Rattle.machine_rules.specs.Coherent.{UsesPlainly, held_locks, holds_lock}
 use Rattle.machine_rules.proofs.Bits.{passes, valid_bit}
 use Rattle.machine_rules.proofs.Invariant.{CopiesGood, MayBeOld, carriers, carried_by, is_carrying}
 use Rattle.machine_rules.proofs.Steps.{NodeStep}
@@ -48,7 +48,7 @@ phase-own S T core n m left sent step phase k found =
     one a b e = cc
 
 pub leaves-own : (S T : State) (core : ℕ) (n m : NodeParts) (left sent : Option Outgoing) → NodeStep S T core n m left sent → m.phase ≡ n.phase
-    → ((l : ℕ) → is_held (held_by n.task) l ≡ false → is_held (held_by m.task) l ≡ false) → LeavesCore S T core
+    → ((l : ℕ) → is_held (held_locks n.task) l ≡ false → is_held (held_locks m.task) l ≡ false) → LeavesCore S T core
 leaves-own S T core n m left sent step phase unheld =
     record {
       setting = step.setting;
@@ -103,7 +103,7 @@ fresh-own S T M core n g found leaves signed w value marked is = by_reason (g.fr
 
 pub record IsSteady (S : State) (n m : NodeParts) (left sent : Option Outgoing) : Type 0 where
   pub phase : m.phase ≡ n.phase
-  pub unheld : (l : ℕ) → is_held (held_by n.task) l ≡ false → is_held (held_by m.task) l ≡ false
+  pub unheld : (l : ℕ) → is_held (held_locks n.task) l ≡ false → is_held (held_locks m.task) l ≡ false
   pub carries : (l w : ℕ) → carried_by l w S.keeper.phase n ≤ carried_by l w S.keeper.phase m + passes (is_carrying l w S.keeper.phase) sent
   pub came : (l w : ℕ) → passes (is_carrying l w S.keeper.phase) left ≡ 0
 
@@ -149,7 +149,7 @@ old-at n m w e now none v value marked is = by_test (w == v) refl where
 abbrev pub IsUnsigned : Option Outgoing → Type 0
 IsUnsigned out = (l w p : ℕ) → passes (is_carrying l w p) out ≡ 0
 
-pub steady-same : (S : State) (n m : NodeParts) (left sent : Option Outgoing) → m.phase ≡ n.phase → held_by m.task ≡ held_by n.task → m.signatures ≡ n.signatures → IsUnsigned left → IsSteady S n m left sent
+pub steady-same : (S : State) (n m : NodeParts) (left sent : Option Outgoing) → m.phase ≡ n.phase → held_locks m.task ≡ held_locks n.task → m.signatures ≡ n.signatures → IsUnsigned left → IsSteady S n m left sent
 steady-same S n m left sent phase held signatures came =
     record {
       phase = phase;
@@ -161,6 +161,6 @@ steady-same S n m left sent phase held signatures came =
     }
 
 pub copies-same : (S T : State) (M : ℕ → ℕ) (core : ℕ) (n m : NodeParts) (left sent : Option Outgoing) → CopiesGood S M → NodeStep S T core n m left sent
-    → m.phase ≡ n.phase → held_by m.task ≡ held_by n.task → m.signatures ≡ n.signatures → IsUnsigned left → HasNoNew n m → CopiesGood T M
+    → m.phase ≡ n.phase → held_locks m.task ≡ held_locks n.task → m.signatures ≡ n.signatures → IsUnsigned left → HasNoNew n m → CopiesGood T M
 copies-same S T M core n m left sent g step phase held signatures came old =
     copies-steady S T M core n m left sent g step (steady-same S n m left sent phase held signatures came) old

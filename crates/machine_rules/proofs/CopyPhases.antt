@@ -14,7 +14,7 @@ use Rattle.region_table.specs.Tasks.{declared, IsDeclaration}
 use Rattle.region_table.proofs.TaskLemmas.{declared-tells}
 use Rattle.region_table.proofs.WrittenLemmas.{plan-at, declared-written, guarded-writes}
 use Rattle.effect_checker.proofs.SeparationLemmas.{phase-checked, plain_words_apart, guarded_words_apart}
-use Rattle.rv_core.specs.Access.{holds as is_held}
+use Rattle.rv_core.specs.Access.{is_held}
 use Rattle.rv_core.specs.Task.{started}
 use Rattle.rv_core.proofs.HeldLemmas.{holds-none}
 use Rattle.message_net.specs.declared.message.Message.{Message}
@@ -23,13 +23,13 @@ use Rattle.message_net.specs.declared.message.Outgoing.{Outgoing}
 use Rattle.word_cache.specs.declared.row.Entry.{Entry}
 use Rattle.word_cache.specs.declared.row.Entry.TheVariants.{Valid, Registered, Leaving}
 use Rattle.word_cache.specs.Cache.{entry_after_phase}
-use Rattle.phase_barrier.specs.Barrier.{Barrier, counted as counts_in, advanced, all_arrived}
+use Rattle.phase_barrier.specs.Barrier.{Barrier, with_arrival as counts_in, in_next_phase, all_arrived}
 use Rattle.registration_protocol.specs.Node.{NodeParts, entry_of}
 use Rattle.registration_protocol.specs.Messages.{begins, written_in}
 use Rattle.registration_protocol.proofs.MessageLemmas.{begin-entries}
 use Rattle.machine_rules.specs.State.{State, entry_in, entry_at}
-use Rattle.machine_rules.specs.Flight.{bit, flight, arrives, goes}
-use Rattle.machine_rules.specs.Coherent.{IsBehind, HasWriter, held_by, holds_lock, has_lock, is_alive}
+use Rattle.machine_rules.specs.Flight.{bit, flight, is_arrival_of, is_go_to}
+use Rattle.machine_rules.specs.Coherent.{IsBehind, HasWriter, held_locks, holds_lock, has_lock, is_alive}
 use Rattle.machine_rules.proofs.Invariant.{Invariant, CopiesGood, MayHaveWritten, MayBeOld, carried_by}
 use Rattle.machine_rules.proofs.Steps.{NodeStep}
 use Rattle.machine_rules.proofs.Leaves.{BarrierStep, at_core, at_keeper}
@@ -72,7 +72,7 @@ in-plan S M core w x inv declares writes =
 -- ---- the last arrival: whatever may be old is behind then
 
 pub copies-together : (S T : State) (M : ℕ → ℕ) (core : CoreId) (bad : Bool) → Invariant S M → slice_get S.keeper.arrived core.0 ≡ Some false → all_arrived (counts_in core.0 bad S.keeper) ≡ true
-    → BarrierStep S T (advanced (counts_in core.0 bad S.keeper)) (at_keeper (Arrived core bad)) (Some (Go (record { 0 = S.keeper.phase + 1 }))) → CopiesGood T M
+    → BarrierStep S T (in_next_phase (counts_in core.0 bad S.keeper)) (at_keeper (Arrived core bad)) (Some (Go (record { 0 = S.keeper.phase + 1 }))) → CopiesGood T M
 copies-together S T M core bad inv new whole step =
     record {
       marked = λ c w value is. uses-kept S T c w step.setting (kept c) (inv.copies.marked c w value (sym (entries c w) ∙ is));
@@ -83,11 +83,11 @@ copies-together S T M core bad inv new whole step =
     go = Go (record { 0 = S.keeper.phase + 1 })
 
     k : Barrier
-    k = advanced (counts_in core.0 bad S.keeper)
+    k = in_next_phase (counts_in core.0 bad S.keeper)
 
     all : IsWhole S core.0
     all = is-whole S core.0 bad inv.machine inv.phases (arriving S core.0 bad inv.machine new)
-        (in-flight S T k core bad (Some go) step (none-posted (arrives core.0) go (λ d. refl) S.setting.shape.cores)) whole
+        (in-flight S T k core bad (Some go) step (none-posted (is_arrival_of core.0) go (λ d. refl) S.setting.shape.cores)) whole
 
     phase_is : T.keeper.phase ≡ S.keeper.phase + 1
     phase_is = ap (λ (x : Barrier). x.phase) step.keeper
@@ -177,7 +177,7 @@ after-phase words w (Some (Valid x old)) value marked is = by_test old (has word
 after-phase words w (Some (Registered x y)) value marked is = absurd (cc)
 after-phase words w (Some (Leaving x)) value marked is = absurd (cc)
 
-starts-free : (o : Option TaskDecl) → held_by (option_map started o) ≡ 0
+starts-free : (o : Option TaskDecl) → held_locks (option_map started o) ≡ 0
 starts-free None = refl
 starts-free (Some d) = refl
 
@@ -200,15 +200,15 @@ copies-begun S T M core n phase inv step =
     after : (w value : ℕ) (marked : Bool) → entry_of m w ≡ Some (Valid value marked) → WasCopy words w value marked (entry_of n w)
     after w value marked is = after-phase words w (entry_of n w) value marked (sym (begin-entries S.setting n phase.0 w ((inv.machine.node core.0 n step.found).fits).cache) ∙ is)
 
-    going : 1 ≤ flight S (goes core.0)
-    going = let came = rw (same-number core.0) at (step.flown (goes core.0)) in omega (arith, came)
+    going : 1 ≤ flight S (is_go_to core.0)
+    going = let came = rw (same-number core.0) at (step.flown (is_go_to core.0)) in omega (arith, came)
 
-    free : held_by n.task ≡ 0
+    free : held_locks n.task ≡ 0
     free = inv.phases.unlocked core.0 n step.found going
 
     carries : (l w : ℕ) → carried_by l w S.keeper.phase n ≤ carried_by l w S.keeper.phase m + 0
     carries l w =
-        let none : is_held (held_by n.task) l ≡ false = ap (λ (x : ℕ). is_held x l) free ∙ holds-none l in
+        let none : is_held (held_locks n.task) l ≡ false = ap (λ (x : ℕ). is_held x l) free ∙ holds-none l in
         omega (arith, none-carried l w S.keeper.phase n (ap bit none))
 
     signed : KeepsSigned S T

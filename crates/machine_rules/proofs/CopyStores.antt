@@ -11,11 +11,11 @@ use Rattle.region_table.specs.Words.{has}
 use Rattle.region_table.specs.Tasks.{declared}
 use Rattle.rv_core.specs.declared.task.TaskState.{TaskState}
 use Rattle.rv_core.specs.declared.need.Need as need
-use Rattle.rv_core.specs.Access.{holds as is_held, under}
+use Rattle.rv_core.specs.Access.{is_held, under}
 use Rattle.rv_core.proofs.Completions.{advanced-held}
 use Rattle.flat_machine.proofs.Separation.{IsUnder, under-some}
 use Rattle.write_signature.specs.declared.signature.Signature.{Signature}
-use Rattle.write_signature.specs.Signature.{holds}
+use Rattle.write_signature.specs.Signature.{may_hold}
 use Rattle.message_net.specs.declared.message.Outgoing.{Outgoing}
 use Rattle.word_cache.specs.declared.row.Entry.{Entry}
 use Rattle.word_cache.specs.declared.row.Entry.TheVariants.{Valid, Registered}
@@ -27,7 +27,7 @@ use Rattle.registration_protocol.proofs.SignLemmas.{noted-holds, noted-keeps}
 use Rattle.registration_protocol.proofs.SignatureLemmas.{noted-get}
 use Rattle.machine_rules.specs.State.{State, entry_at, lock_at}
 use Rattle.machine_rules.specs.Flight.{bit}
-use Rattle.machine_rules.specs.Coherent.{HasWriter, held_by, has_lock}
+use Rattle.machine_rules.specs.Coherent.{HasWriter, held_locks, has_lock}
 use Rattle.machine_rules.proofs.Bits.{signed_in}
 use Rattle.machine_rules.proofs.Invariant.{Invariant, CopiesGood, MayHaveWritten, MayBeOld, carriers, carried_by}
 use Rattle.machine_rules.proofs.Steps.{NodeStep}
@@ -70,21 +70,21 @@ store-steady S M core n d t word whole e sent inv acts =
     phase : n.phase ≡ S.keeper.phase
     phase = in-phase S M core.0 n d t inv (acting-works S core n d t (need.TheVariants.Store word whole) acts)
 
-    held : (l : ℕ) → is_held (held_by m.task) l ≡ is_held (held_by n.task) l
-    held l = ap (λ (x : ℕ). is_held x l) (advanced-held S.setting.program d S.setting.fuel t (need.TheVariants.Store word whole) acts.wants tt) ∙ sym (ap (λ (o : Option TaskState). is_held (held_by o) l) acts.task)
+    held : (l : ℕ) → is_held (held_locks m.task) l ≡ is_held (held_locks n.task) l
+    held l = ap (λ (x : ℕ). is_held x l) (advanced-held S.setting.program d S.setting.fuel t (need.TheVariants.Store word whole) acts.wants tt) ∙ sym (ap (λ (o : Option TaskState). is_held (held_locks o) l) acts.task)
 
     carries : (l w : ℕ) → carried_by l w S.keeper.phase n ≤ carried_by l w S.keeper.phase m
-    carries l w = rw (held l, noted-get d t.held word.0 n.phase l n.signatures) (by_held (is_held (held_by n.task) l)) where
-      keeps : (s : Signature) → (x : Bool) → holds s w S.keeper.phase ≡ x → bit (holds s w S.keeper.phase) ≤ bit (holds (noted_at d t.held word.0 n.phase l s) w S.keeper.phase)
+    carries l w = rw (held l, noted-get d t.held word.0 n.phase l n.signatures) (by_held (is_held (held_locks n.task) l)) where
+      keeps : (s : Signature) → (x : Bool) → may_hold s w S.keeper.phase ≡ x → bit (may_hold s w S.keeper.phase) ≤ bit (may_hold (noted_at d t.held word.0 n.phase l s) w S.keeper.phase)
       keeps s false is = rw (is) (omega arith)
       keeps s true is =
-          let more : holds (noted_at d t.held word.0 n.phase l s) w S.keeper.phase ≡ true =
-          subst (λ (p : ℕ). holds (noted_at d t.held word.0 n.phase l s) w p ≡ true) phase (noted-keeps d t.held word.0 n.phase l w s (subst (λ (p : ℕ). holds s w p ≡ true) (sym phase) is)) in
+          let more : may_hold (noted_at d t.held word.0 n.phase l s) w S.keeper.phase ≡ true =
+          subst (λ (p : ℕ). may_hold (noted_at d t.held word.0 n.phase l s) w p ≡ true) phase (noted-keeps d t.held word.0 n.phase l w s (subst (λ (p : ℕ). may_hold s w p ≡ true) (sym phase) is)) in
           rw (is, more) (omega arith)
 
       by_get : (o : Option Signature) → bit (signed_in w S.keeper.phase o) ≤ bit (signed_in w S.keeper.phase (option_map (noted_at d t.held word.0 n.phase l) o))
       by_get None = omega arith
-      by_get (Some s) = keeps s (holds s w S.keeper.phase) refl
+      by_get (Some s) = keeps s (may_hold s w S.keeper.phase) refl
 
       by_held : (x : Bool) → bit (x && signed_in w S.keeper.phase (slice_get n.signatures l)) ≤ bit (x && signed_in w S.keeper.phase (option_map (noted_at d t.held word.0 n.phase l) (slice_get n.signatures l)))
       by_held true = by_get (slice_get n.signatures l)
@@ -113,7 +113,7 @@ written-there S T M core n d t word whole e sent inv acts step c apart =
     by_plain : has d.effects.writes word.0 ≡ true → HasWriter T c word.0
     by_plain plain = record { core = core.0; other = differ core.0 c apart; decl = d; declares = declares; writes = plain }
 
-    held_now : (l : ℕ) → is_held (held_by m.task) l ≡ is_held t.held l
+    held_now : (l : ℕ) → is_held (held_locks m.task) l ≡ is_held t.held l
     held_now l = ap (λ (x : ℕ). is_held x l) (advanced-held S.setting.program d S.setting.fuel t (need.TheVariants.Store word whole) acts.wants tt)
 
     unheld : (l : ℕ) → is_held t.held l ≡ true → has_lock T c l ≡ false
@@ -128,8 +128,8 @@ written-there S T M core n d t word whole e sent inv acts step c apart =
     signed : (l : ℕ) → is_held t.held l ≡ true → has (slice_index_or d.effects.guarded_writes l []) word.0 ≡ true → 1 ≤ carriers T l word.0
     signed l held guards =
         let own = own-signature S M core.0 n t l inv acts.found acts.task held in
-        let has_it : holds (noted_at d t.held word.0 n.phase l own.0) word.0 T.keeper.phase ≡ true =
-        subst (λ (p : ℕ). holds (noted_at d t.held word.0 n.phase l own.0) word.0 p ≡ true) (phase ∙ sym keeper) (noted-holds d t.held word.0 n.phase l own.0 held guards) in
+        let has_it : may_hold (noted_at d t.held word.0 n.phase l own.0) word.0 T.keeper.phase ≡ true =
+        subst (λ (p : ℕ). may_hold (noted_at d t.held word.0 n.phase l own.0) word.0 p ≡ true) (phase ∙ sym keeper) (noted-holds d t.held word.0 n.phase l own.0 held guards) in
         let there : slice_get m.signatures l ≡ Some (noted_at d t.held word.0 n.phase l own.0) = noted-get d t.held word.0 n.phase l n.signatures ∙ ap (option_map (noted_at d t.held word.0 n.phase l)) own.1 in
         let one : carried_by l word.0 T.keeper.phase m ≡ 1 = rw (held_now l ∙ held, there, has_it) refl in
         omega (arith, one, within-sum (carried_by l word.0 T.keeper.phase) T.nodes core.0 m (node-now S T core.0 n m None sent step))

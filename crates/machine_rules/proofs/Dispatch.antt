@@ -14,15 +14,15 @@ use Rattle.message_net.specs.declared.message.Message.{Message}
 use Rattle.message_net.specs.declared.message.Message.TheVariants.{ReadReq, ReadFwd, DataReply, RegReq, RegFwd, RegAck, WriteBack, WbAck, Acquire, Release, Grant, Arrived, Go, Halt}
 use Rattle.phase_barrier.specs.declared.keeper.Verdict.{Verdict}
 use Rattle.phase_barrier.specs.declared.keeper.Verdict.TheVariants as verdict
-use Rattle.phase_barrier.specs.Barrier.{Barrier, counted, decided, advanced, all_arrived, is_over, keeper_gets}
+use Rattle.phase_barrier.specs.Barrier.{Barrier, with_arrival, decided, in_next_phase, all_arrived, is_over, keeper_gets}
 use Rattle.phase_barrier.specs.Letters.{letters, to_each, to_number}
 use Rattle.phase_barrier.proofs.CountLemmas.{keeper_gets-arrived, arrives-new}
 use Rattle.registration_protocol.specs.Node.{NodeParts}
 use Rattle.machine_rules.specs.State.{State}
-use Rattle.machine_rules.specs.Flight.{Test, bit, flight, arrives}
+use Rattle.machine_rules.specs.Flight.{Test, bit, flight, is_arrival_of}
 use Rattle.machine_rules.specs.Next.{next, enabled, seen_in, granted_in}
 use Rattle.machine_rules.specs.Memory.{store_in}
-use Rattle.machine_rules.specs.Coherent.{is_alive, waits_in}
+use Rattle.machine_rules.specs.Coherent.{is_alive, waits_at_keeper}
 use Rattle.machine_rules.proofs.Invariant.{Invariant, is_right}
 use Rattle.machine_rules.proofs.Steps.{KeeperStep, letter_bit, Handled, handled, keeper-step}
 use Rattle.machine_rules.proofs.Leaves.{Leaves, Tells, BarrierStep, to_all, stored_to, at_keeper}
@@ -85,7 +85,7 @@ alive-one o = by_bit (is_alive o) where
   by_bit false = omega arith
 
 -- a core whose arrival is in flight isn't counted yet
-unmarked : (S : State) (M : ℕ → ℕ) (core : ℕ) → Invariant S M → 1 ≤ flight S (arrives core) → slice_get S.keeper.arrived core ≡ Some false
+unmarked : (S : State) (M : ℕ → ℕ) (core : ℕ) → Invariant S M → 1 ≤ flight S (is_arrival_of core) → slice_get S.keeper.arrived core ≡ Some false
 unmarked S M core inv some = by_case (slice_get_cases S.keeper.arrived core).1 where
   within : core < length S.nodes
   within = there-by S core (λ (o : Option NodeParts). bit (is_alive o)) refl (omega (arith, some, inv.phases.row core))
@@ -96,7 +96,7 @@ unmarked S M core inv some = by_case (slice_get_cases S.keeper.arrived core).1 w
     by_all true all = absurd (omega (arith, some, inv.phases.over all core))
     by_all false all = all
 
-  waits : waits_in S core ≡ 0
+  waits : waits_at_keeper S core ≡ 0
   waits = omega (arith, some, inv.phases.row core, alive-one (slice_get S.nodes core))
 
   by_mark : (x : Bool) → slice_get S.keeper.arrived core ≡ Some x → get_or S.keeper.arrived core x ≡ x → slice_get S.keeper.arrived core ≡ Some false
@@ -116,36 +116,36 @@ unmarked S M core inv some = by_case (slice_get_cases S.keeper.arrived core).1 w
 
 arrived-way : (S : State) (M : ℕ → ℕ) (id : MailId) (m : Mail) (core : CoreId) (bad : Bool) (G : (ℕ → ℕ) → Type 0) → Invariant S M → Handled S id m → m.to ≡ Keeper → m.message ≡ Arrived core bad
     → Leaves S M (Handle id) G → G M
-arrived-way S M id m core bad G inv h to is leaves = by_all (all_arrived (counted core.0 bad S.keeper)) refl where
-  one : 1 ≤ flight S (arrives core.0)
+arrived-way S M id m core bad G inv h to is leaves = by_all (all_arrived (with_arrival core.0 bad S.keeper)) refl where
+  one : 1 ≤ flight S (is_arrival_of core.0)
   one =
-      let counted_here = subst (λ (x : Message). bit (arrives core.0 m.to x) ≤ flight S (arrives core.0)) is (counts S id m (arrives core.0) h) in
+      let counted_here = subst (λ (x : Message). bit (is_arrival_of core.0 m.to x) ≤ flight S (is_arrival_of core.0)) is (counts S id m (is_arrival_of core.0) h) in
       rw (same-number core.0) at counted_here
 
   new : slice_get S.keeper.arrived core.0 ≡ Some false
   new = unmarked S M core.0 inv one
 
-  row : keeper_gets S.keeper (Arrived core bad) ≡ decided (counted core.0 bad S.keeper)
+  row : keeper_gets S.keeper (Arrived core bad) ≡ decided (with_arrival core.0 bad S.keeper)
   row = keeper_gets-arrived S.keeper core bad ∙ arrives-new S.keeper core.0 bad new
 
   tells : Tells S (Handle id) None None None
   tells = keeper-tells S id m h to
 
-  by_over : all_arrived (counted core.0 bad S.keeper) ≡ true → (x : Bool) → is_over (counted core.0 bad S.keeper) ≡ x → G M
+  by_over : all_arrived (with_arrival core.0 bad S.keeper) ≡ true → (x : Bool) → is_over (with_arrival core.0 bad S.keeper) ≡ x → G M
   by_over all true over =
-      let now : keeper_gets S.keeper (Arrived core bad) ≡ (counted core.0 bad S.keeper, verdict.Halt) = row ∙ (rw (all, over) refl) in
-      leaves.all_halt core bad new all over tells (barrier-step S id m core bad (counted core.0 bad S.keeper) verdict.Halt (Some Halt) h to is now (λ p. letters-all p S.setting.shape.cores Halt))
+      let now : keeper_gets S.keeper (Arrived core bad) ≡ (with_arrival core.0 bad S.keeper, verdict.Halt) = row ∙ (rw (all, over) refl) in
+      leaves.all_halt core bad new all over tells (barrier-step S id m core bad (with_arrival core.0 bad S.keeper) verdict.Halt (Some Halt) h to is now (λ p. letters-all p S.setting.shape.cores Halt))
   by_over all false over =
-      let now : keeper_gets S.keeper (Arrived core bad) ≡ (advanced (counted core.0 bad S.keeper), verdict.Go (record { 0 = S.keeper.phase + 1 })) = row ∙ (rw (all, over) refl) in
+      let now : keeper_gets S.keeper (Arrived core bad) ≡ (in_next_phase (with_arrival core.0 bad S.keeper), verdict.Go (record { 0 = S.keeper.phase + 1 })) = row ∙ (rw (all, over) refl) in
       leaves.all_go core bad new all over tells
-      (barrier-step S id m core bad (advanced (counted core.0 bad S.keeper)) (verdict.Go (record { 0 = S.keeper.phase + 1 })) (Some (Go (record { 0 = S.keeper.phase + 1 }))) h to is now
+      (barrier-step S id m core bad (in_next_phase (with_arrival core.0 bad S.keeper)) (verdict.Go (record { 0 = S.keeper.phase + 1 })) (Some (Go (record { 0 = S.keeper.phase + 1 }))) h to is now
       (λ p. letters-all p S.setting.shape.cores (Go (record { 0 = S.keeper.phase + 1 }))))
 
-  by_all : (x : Bool) → all_arrived (counted core.0 bad S.keeper) ≡ x → G M
+  by_all : (x : Bool) → all_arrived (with_arrival core.0 bad S.keeper) ≡ x → G M
   by_all false more =
-      let now : keeper_gets S.keeper (Arrived core bad) ≡ (counted core.0 bad S.keeper, verdict.Wait) = row ∙ (rw (more) refl) in
-      leaves.arrived core bad new more tells (barrier-step S id m core bad (counted core.0 bad S.keeper) verdict.Wait None h to is now (λ p. no-letters S.setting.shape.cores p))
-  by_all true all = by_over all (is_over (counted core.0 bad S.keeper)) refl
+      let now : keeper_gets S.keeper (Arrived core bad) ≡ (with_arrival core.0 bad S.keeper, verdict.Wait) = row ∙ (rw (more) refl) in
+      leaves.arrived core bad new more tells (barrier-step S id m core bad (with_arrival core.0 bad S.keeper) verdict.Wait None h to is now (λ p. no-letters S.setting.shape.cores p))
+  by_all true all = by_over all (is_over (with_arrival core.0 bad S.keeper)) refl
 
 keeper-ways : (S : State) (M : ℕ → ℕ) (id : MailId) (m : Mail) (G : (ℕ → ℕ) → Type 0) → Invariant S M → Handled S id m → m.to ≡ Keeper → Leaves S M (Handle id) G → G M
 keeper-ways S M id m G inv h to leaves = by_message m.message refl where

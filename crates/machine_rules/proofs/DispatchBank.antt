@@ -22,7 +22,7 @@ use Rattle.message_net.specs.declared.message.Message.{Message}
 use Rattle.message_net.specs.declared.message.Message.TheVariants.{ReadReq, ReadFwd, DataReply, RegReq, RegFwd, RegAck, WriteBack, WbAck, Acquire, Release, Grant, Arrived, Go, Halt}
 use Rattle.message_net.specs.declared.message.Outgoing.{Outgoing}
 use Rattle.message_net.specs.Mail.{to_core}
-use Rattle.queue_lock.specs.Lock.{Lock, IsLockOf, acquired, released, handed_on, places_of, holder_count}
+use Rattle.queue_lock.specs.Lock.{Lock, IsLockOf, acquired, released, handed_on, times_queued, holder_count}
 use Rattle.queue_lock.proofs.RowLemmas.{acquired-free, acquired-held, released-own, room-of, holder-is, holder-within, outsider-holder}
 use Rattle.registry_bank.specs.declared.bank.BankWord.{BankWord}
 use Rattle.registry_bank.specs.declared.bank.BankWord.TheVariants.{Home, Reg}
@@ -32,10 +32,10 @@ use Rattle.registry_bank.proofs.RowLemmas.{read-home, read-registered, register-
 use Rattle.registration_protocol.specs.Node.{NodeParts, need_now}
 use Rattle.registration_protocol.proofs.InstrLemmas.{has-next}
 use Rattle.machine_rules.specs.State.{State, entry_in, word_in, home_at, lock_in, lock_at}
-use Rattle.machine_rules.specs.Flight.{Test, bit, flight, asks, gives_back, seeks, acquires, releases}
+use Rattle.machine_rules.specs.Flight.{Test, bit, flight, is_reg_req_of, is_write_back_of, is_read_req_of, is_acquire_of, is_release_of}
 use Rattle.machine_rules.specs.Next.{next, seen_in, granted_in}
 use Rattle.machine_rules.specs.Memory.{store_in}
-use Rattle.machine_rules.specs.Coherent.{locks_in, queued_in, holder_in}
+use Rattle.machine_rules.specs.Coherent.{node_is_locking, queued_in, holder_in}
 use Rattle.machine_rules.proofs.Bits.{passes, pending_bit, leaving_bit, known_bit, owner_bit, reading_in}
 use Rattle.machine_rules.proofs.BitLemmas.{owner-bit}
 use Rattle.machine_rules.proofs.Invariant.{Invariant, is_right}
@@ -205,7 +205,7 @@ read-way : (S : State) (M : ℕ → ℕ) (id : MailId) (bank : BankId) (word : W
 read-way S M id bank word reader b G leaves at = by_home (home_at S word.0) refl where
   some : 1 ≤ reading_in word.0 (slice_get S.nodes reader.0)
   some =
-      let one = rw (same-number word.0, same-number reader.0) at (at.counted (seeks word.0 reader.0)) in
+      let one = rw (same-number word.0, same-number reader.0) at (at.counted (is_read_req_of word.0 reader.0)) in
       omega (arith, one, at.inv.reads.row word.0 reader.0)
 
   within : reader.0 < length S.nodes
@@ -236,8 +236,8 @@ read-way S M id bank word reader b G leaves at = by_home (home_at S word.0) refl
 register-way : (S : State) (M : ℕ → ℕ) (id : MailId) (bank : BankId) (word : WordId) (core : CoreId) (b : BankParts) (G : (ℕ → ℕ) → Type 0)
     → Leaves S M (Handle id) G → AtBank S M id bank (RegReq word core) word.0 b → G M
 register-way S M id bank word core b G leaves at = by_home (home_at S word.0) refl where
-  asked : 1 ≤ flight S (asks word.0 core.0)
-  asked = rw (same-number word.0, same-number core.0) at (at.counted (asks word.0 core.0))
+  asked : 1 ≤ flight S (is_reg_req_of word.0 core.0)
+  asked = rw (same-number word.0, same-number core.0) at (at.counted (is_reg_req_of word.0 core.0))
 
   within : core.0 < length S.nodes
   within = there-by S core.0 (λ (o : Option NodeParts). pending_bit (entry_in word.0 o)) refl (omega (arith, asked, at.inv.words.row word.0 core.0))
@@ -274,8 +274,8 @@ register-way S M id bank word core b G leaves at = by_home (home_at S word.0) re
 back-way : (S : State) (M : ℕ → ℕ) (id : MailId) (bank : BankId) (word : WordId) (value : ℕ) (core : CoreId) (b : BankParts) (G : (ℕ → ℕ) → Type 0)
     → Leaves S M (Handle id) G → AtBank S M id bank (WriteBack word value core) word.0 b → G M
 back-way S M id bank word value core b G leaves at = by_home (home_at S word.0) refl where
-  given : 1 ≤ flight S (gives_back word.0 core.0)
-  given = rw (same-number word.0, same-number core.0) at (at.counted (gives_back word.0 core.0))
+  given : 1 ≤ flight S (is_write_back_of word.0 core.0)
+  given = rw (same-number word.0, same-number core.0) at (at.counted (is_write_back_of word.0 core.0))
 
   within : core.0 < length S.nodes
   within = there-by S core.0 (λ (o : Option NodeParts). leaving_bit (entry_in word.0 o)) refl (omega (arith, given, at.inv.words.row word.0 core.0))
@@ -312,7 +312,7 @@ back-way S M id bank word value core b G leaves at = by_home (home_at S word.0) 
 -- ---- locks
 
 -- a lock that a core waits for is there
-waited-lock : (S : State) (M : ℕ → ℕ) (lock : LockId) (core : CoreId) → Invariant S M → 1 ≤ bit (locks_in lock.0 (slice_get S.nodes core.0)) → lock_at S lock.0 ≢ None
+waited-lock : (S : State) (M : ℕ → ℕ) (lock : LockId) (core : CoreId) → Invariant S M → 1 ≤ bit (node_is_locking lock.0 (slice_get S.nodes core.0)) → lock_at S lock.0 ≢ None
 waited-lock S M lock core inv some none = by_node (slice_get S.nodes core.0) refl some where
   by_need : (n : NodeParts) → need_now S.setting n ≡ Some (need.TheVariants.Acquire lock) → lock.0 < length S.setting.program.locks
   by_need n needs = by_task n.task refl where
@@ -325,7 +325,7 @@ waited-lock S M lock core inv some none = by_node (slice_get S.nodes core.0) ref
         let next_is = has-next S.setting n t (need.TheVariants.Acquire lock) is needs in
         (acquire-allowed S.setting.program next_is.decl S.setting.fuel t lock next_is.asks).0
 
-  by_node : (o : Option NodeParts) → slice_get S.nodes core.0 ≡ o → 1 ≤ bit (locks_in lock.0 o) → ⊥
+  by_node : (o : Option NodeParts) → slice_get S.nodes core.0 ≡ o → 1 ≤ bit (node_is_locking lock.0 o) → ⊥
   by_node None is one = absurd (omega (arith, one))
   by_node (Some n) is one =
       let waits = locking-lock n.waiting lock one in
@@ -333,8 +333,8 @@ waited-lock S M lock core inv some none = by_node (slice_get S.nodes core.0) ref
       let there : false ≡ nat_lt lock.0 (length S.setting.program.locks) = sym (ap is_some none) ∙ inv.machine.locks lock.0 in
       absurd (grind (arith, nat_tests, there, by_need n needs))
 
-waiting-one : (S : State) (l c : ℕ) → bit (locks_in l (slice_get S.nodes c)) ≤ 1
-waiting-one S l c = by_bit (locks_in l (slice_get S.nodes c)) where
+waiting-one : (S : State) (l c : ℕ) → bit (node_is_locking l (slice_get S.nodes c)) ≤ 1
+waiting-one S l c = by_bit (node_is_locking l (slice_get S.nodes c)) where
   by_bit : (b : Bool) → bit b ≤ 1
   by_bit true = omega arith
   by_bit false = omega arith
@@ -342,14 +342,14 @@ waiting-one S l c = by_bit (locks_in l (slice_get S.nodes c)) where
 acquire-way : (S : State) (M : ℕ → ℕ) (id : MailId) (bank : BankId) (lock : LockId) (core : CoreId) (b : BankParts) (G : (ℕ → ℕ) → Type 0)
     → Leaves S M (Handle id) G → AtBank S M id bank (Acquire lock core) lock.0 b → G M
 acquire-way S M id bank lock core b G leaves at = by_lock (lock_at S lock.0) refl where
-  asked : 1 ≤ flight S (acquires lock.0 core.0)
-  asked = rw (same-number lock.0, same-number core.0) at (at.counted (acquires lock.0 core.0))
+  asked : 1 ≤ flight S (is_acquire_of lock.0 core.0)
+  asked = rw (same-number lock.0, same-number core.0) at (at.counted (is_acquire_of lock.0 core.0))
 
-  waits : 1 ≤ bit (locks_in lock.0 (slice_get S.nodes core.0))
+  waits : 1 ≤ bit (node_is_locking lock.0 (slice_get S.nodes core.0))
   waits = omega (arith, asked, at.inv.locks.row lock.0 core.0)
 
   within : core.0 < length S.nodes
-  within = there-by S core.0 (λ (o : Option NodeParts). bit (locks_in lock.0 o)) refl waits
+  within = there-by S core.0 (λ (o : Option NodeParts). bit (node_is_locking lock.0 o)) refl waits
 
   size : (b.cores ≡ length S.nodes) × (0 < b.banks)
   size = sized S M id bank (Acquire lock core) lock.0 b at
@@ -373,7 +373,7 @@ acquire-way S M id bank lock core b G leaves at = by_lock (lock_at S lock.0) ref
         (lock-step S M id bank (Acquire lock core) lock.0 b (record h { holder = Some core }) (with_lock b lock.0 (record h { holder = Some core }), to_core core (Grant lock h.kept)) at now
         (λ v. refl) (λ k. lock-changed b lock.0 k h (record h { holder = Some core }) size.1 here))
     by_holder (Some holder) has =
-        let none : places_of core.0 h.queue ≡ 0 = omega (arith, asked, at.inv.locks.row lock.0 core.0, waiting-one S lock.0 core.0, ap (queued_in core.0) is) in
+        let none : times_queued core.0 h.queue ≡ 0 = omega (arith, asked, at.inv.locks.row lock.0 core.0, waiting-one S lock.0 core.0, ap (queued_in core.0) is) in
         let room = room-of b.cores h core ((at.inv.machine.bank bank.0 b at.found).well.locks lock.0 h here) inside none in
         let now = row ∙ ap (λ (x : Lock × Option Signature). (with_lock b lock.0 x.0, grants lock core x.1)) (acquired-held h core holder has none room) in
         leaves.acquire_held bank lock core holder h is has at.tells
@@ -390,8 +390,8 @@ holder-inside cores h core well one = by_test (nat_lt core.0 cores) refl where
 release-way : (S : State) (M : ℕ → ℕ) (id : MailId) (bank : BankId) (lock : LockId) (core : CoreId) (s : Signature) (b : BankParts) (G : (ℕ → ℕ) → Type 0)
     → Leaves S M (Handle id) G → AtBank S M id bank (Release lock core s) lock.0 b → G M
 release-way S M id bank lock core s b G leaves at = by_lock (lock_at S lock.0) refl where
-  given : 1 ≤ flight S (releases lock.0 core.0)
-  given = rw (same-number lock.0, same-number core.0) at (at.counted (releases lock.0 core.0))
+  given : 1 ≤ flight S (is_release_of lock.0 core.0)
+  given = rw (same-number lock.0, same-number core.0) at (at.counted (is_release_of lock.0 core.0))
 
   by_lock : (o : Option Lock) → lock_at S lock.0 ≡ o → G M
   by_lock None is = absurd (omega (arith, given, at.inv.locks.row lock.0 core.0, ap (holder_in core.0) is))

@@ -25,14 +25,14 @@ use Rattle.registration_protocol.specs.declared.node.NodeWait as wait
 use Rattle.registration_protocol.specs.declared.node.NodeWait.{NodeWait}
 use Rattle.registration_protocol.specs.declared.node.Received.{Received}
 use Rattle.registration_protocol.specs.Node.{NodeParts, entry_of, need_now}
-use Rattle.registration_protocol.specs.Messages.{node_gets, ack_row, forward_row, read_row, gone_row}
+use Rattle.registration_protocol.specs.Messages.{node_gets, reg_ack_row, reg_fwd_row, read_fwd_row, wb_ack_row}
 use Rattle.registration_protocol.proofs.InstrLemmas.{has-next}
 use Rattle.registration_protocol.proofs.MessageLemmas.{ack-is, forward-is, read-is, back-is, data-is, grant-is, go-is, halt-is}
 use Rattle.machine_rules.specs.State.{State, entry_in, entry_at}
-use Rattle.machine_rules.specs.Flight.{Test, bit, counted, flight, confirms, frees, replies, grants, goes, halts}
+use Rattle.machine_rules.specs.Flight.{Test, bit, mail_count, flight, is_reg_ack_to, is_wb_ack_to, is_data_reply_to, is_grant_to, is_go_to, is_halt_to}
 use Rattle.machine_rules.specs.Next.{next, seen_in, granted_in}
 use Rattle.machine_rules.specs.Memory.{store_in}
-use Rattle.machine_rules.specs.Coherent.{owned_value, is_alive, locks_in, is_locking}
+use Rattle.machine_rules.specs.Coherent.{owned_value, is_alive, node_is_locking, is_locking}
 use Rattle.machine_rules.proofs.Bits.{settled_bit, reading_in, is_reading}
 use Rattle.machine_rules.proofs.BitLemmas.{pending-is, leaving-is, bit-true}
 use Rattle.machine_rules.proofs.Invariant.{Invariant, is_lost, is_right, is_astray}
@@ -42,7 +42,7 @@ use Rattle.machine_rules.proofs.WordCore.{same-number}
 
 -- a mail in flight that passes a test is counted
 pub counts : (S : State) (id : MailId) (m : Mail) (p : Test) → Handled S id m → bit (p m.to m.message) ≤ flight S p
-counts S id m p h = weight-within (counted p) S.mails h.place m h.there
+counts S id m p h = weight-within (mail_count p) S.mails h.place m h.there
 
 -- no mail in flight passes a test that none passes
 pub none-counts : (S : State) (id : MailId) (m : Mail) (p : Test) → Handled S id m → flight S p ≡ 0 → bit (p m.to m.message) ≡ 0
@@ -121,7 +121,7 @@ locking-lock waiting lock some = let at = locking-waits waiting lock.0 some in a
 reply-way : (S : State) (M : ℕ → ℕ) (id : MailId) (core : CoreId) (word : WordId) (value : ℕ) (n : NodeParts) (G : (ℕ → ℕ) → Type 0)
     → Leaves S M (Handle id) G → AtNode S M id core (DataReply word value) n → G M
 reply-way S M id core word value n G leaves at =
-    let one = rw (same-number word.0, same-number core.0) at (at.counted (replies word.0 core.0)) in
+    let one = rw (same-number word.0, same-number core.0) at (at.counted (is_data_reply_to word.0 core.0)) in
     let here = ap (reading_in word.0) at.found in
     let waits = reading-word n.waiting word (omega (arith, one, here, at.inv.reads.row word.0 core.0)) in
     let reading = at.inv.reads.reading core.0 n word at.found waits in
@@ -131,19 +131,19 @@ reply-way S M id core word value n G leaves at =
 ack-way : (S : State) (M : ℕ → ℕ) (id : MailId) (core : CoreId) (word : WordId) (n : NodeParts) (G : (ℕ → ℕ) → Type 0)
     → Leaves S M (Handle id) G → AtNode S M id core (RegAck word) n → G M
 ack-way S M id core word n G leaves at =
-    let one = rw (same-number word.0, same-number core.0) at (at.counted (confirms word.0 core.0)) in
+    let one = rw (same-number word.0, same-number core.0) at (at.counted (is_reg_ack_to word.0 core.0)) in
     let pending = pending-is (entry_at S core.0 word.0) (omega (arith, one, at.inv.words.row word.0 core.0)) in
     let entry : entry_of n word.0 ≡ Some (Registered pending.0 true) = sym (ap (entry_in word.0) at.found) ∙ pending.1 in
-    let is = ack-is S.setting n word ∙ ap (ack_row n word) entry in
+    let is = ack-is S.setting n word ∙ ap (reg_ack_row n word) entry in
     leaves.acknowledge core n word pending.0 at.found entry (at.tells _ is) (at.row _ is)
 
 freed-way : (S : State) (M : ℕ → ℕ) (id : MailId) (core : CoreId) (word : WordId) (n : NodeParts) (G : (ℕ → ℕ) → Type 0)
     → Leaves S M (Handle id) G → AtNode S M id core (WbAck word) n → G M
 freed-way S M id core word n G leaves at =
-    let one = rw (same-number word.0, same-number core.0) at (at.counted (frees word.0 core.0)) in
+    let one = rw (same-number word.0, same-number core.0) at (at.counted (is_wb_ack_to word.0 core.0)) in
     let leaving = leaving-is (entry_at S core.0 word.0) (omega (arith, one, at.inv.words.row word.0 core.0)) in
     let entry : entry_of n word.0 ≡ Some (Leaving leaving.0) = sym (ap (entry_in word.0) at.found) ∙ leaving.1 in
-    let is = back-is S.setting n word ∙ ap (gone_row n word) entry in
+    let is = back-is S.setting n word ∙ ap (wb_ack_row n word) entry in
     leaves.freed core n word leaving.0 at.found entry (at.tells _ is) (at.row _ is)
 
 forward-way : (S : State) (M : ℕ → ℕ) (id : MailId) (core other : CoreId) (word : WordId) (n : NodeParts) (G : (ℕ → ℕ) → Type 0)
@@ -151,19 +151,19 @@ forward-way : (S : State) (M : ℕ → ℕ) (id : MailId) (core other : CoreId) 
 forward-way S M id core other word n G leaves at = by_entry (entry_of n word.0) refl where
   by_entry : (e : Option Entry) → entry_of n word.0 ≡ e → G M
   by_entry None is =
-      let row = forward-is S.setting n word other ∙ ap (forward_row n word other) is in
+      let row = forward-is S.setting n word other ∙ ap (reg_fwd_row n word other) is in
       leaves.forward_past core other n word at.found (ap settled_bit is) (at.tells _ row) (at.row _ row)
   by_entry (Some (Valid value marked)) is =
-      let row = forward-is S.setting n word other ∙ ap (forward_row n word other) is in
+      let row = forward-is S.setting n word other ∙ ap (reg_fwd_row n word other) is in
       leaves.forward_past core other n word at.found (ap settled_bit is) (at.tells _ row) (at.row _ row)
   by_entry (Some (Registered value true)) is =
-      let row = forward-is S.setting n word other ∙ ap (forward_row n word other) is in
+      let row = forward-is S.setting n word other ∙ ap (reg_fwd_row n word other) is in
       leaves.forward_past core other n word at.found (ap settled_bit is) (at.tells _ row) (at.row _ row)
   by_entry (Some (Registered value false)) is =
-      let row = forward-is S.setting n word other ∙ ap (forward_row n word other) is in
+      let row = forward-is S.setting n word other ∙ ap (reg_fwd_row n word other) is in
       leaves.forward core other n word value at.found is (at.tells _ row) (at.row _ row)
   by_entry (Some (Leaving value)) is =
-      let row = forward-is S.setting n word other ∙ ap (forward_row n word other) is in
+      let row = forward-is S.setting n word other ∙ ap (reg_fwd_row n word other) is in
       leaves.forward_past core other n word at.found (ap settled_bit is) (at.tells _ row) (at.row _ row)
 
 read-way : (S : State) (M : ℕ → ℕ) (id : MailId) (core reader : CoreId) (word : WordId) (n : NodeParts) (G : (ℕ → ℕ) → Type 0)
@@ -171,16 +171,16 @@ read-way : (S : State) (M : ℕ → ℕ) (id : MailId) (core reader : CoreId) (w
 read-way S M id core reader word n G leaves at = by_entry (entry_of n word.0) refl where
   by_entry : (e : Option Entry) → entry_of n word.0 ≡ e → G M
   by_entry None is =
-      let row = read-is S.setting n word reader ∙ ap (read_row S.setting n word reader) is in
+      let row = read-is S.setting n word reader ∙ ap (read_fwd_row S.setting n word reader) is in
       leaves.bounce core reader n word at.found (ap owned_value is) (at.tells _ row) (at.row _ row)
   by_entry (Some (Valid value marked)) is =
-      let row = read-is S.setting n word reader ∙ ap (read_row S.setting n word reader) is in
+      let row = read-is S.setting n word reader ∙ ap (read_fwd_row S.setting n word reader) is in
       leaves.bounce core reader n word at.found (ap owned_value is) (at.tells _ row) (at.row _ row)
   by_entry (Some (Registered value pending)) is =
-      let row = read-is S.setting n word reader ∙ ap (read_row S.setting n word reader) is in
+      let row = read-is S.setting n word reader ∙ ap (read_fwd_row S.setting n word reader) is in
       leaves.answer core reader n word value at.found (ap owned_value is) (at.tells _ row) (at.row _ row)
   by_entry (Some (Leaving value)) is =
-      let row = read-is S.setting n word reader ∙ ap (read_row S.setting n word reader) is in
+      let row = read-is S.setting n word reader ∙ ap (read_fwd_row S.setting n word reader) is in
       leaves.answer core reader n word value at.found (ap owned_value is) (at.tells _ row) (at.row _ row)
 
 -- a node that waits for a lock isn't at the barrier, nor halted
@@ -200,8 +200,8 @@ grant-way : (S : State) (M : ℕ → ℕ) (id : MailId) (core : CoreId) (lock : 
 grant-way S M id core lock s n G leaves at = by_task n.task refl where
   waits : n.waiting ≡ wait.TheVariants.Locking lock
   waits =
-      let one = rw (same-number lock.0, same-number core.0) at (at.counted (grants lock.0 core.0)) in
-      let here = ap (λ (o : Option NodeParts). bit (locks_in lock.0 o)) at.found in
+      let one = rw (same-number lock.0, same-number core.0) at (at.counted (is_grant_to lock.0 core.0)) in
+      let here = ap (λ (o : Option NodeParts). bit (node_is_locking lock.0 o)) at.found in
       locking-lock n.waiting lock (omega (arith, one, here, at.inv.locks.row lock.0 core.0))
 
   needs : need_now S.setting n ≡ Some (need.TheVariants.Acquire lock)
@@ -243,12 +243,12 @@ alive-one (Some n) = by_bit (n.arrived && not n.halted) where
 go-way : (S : State) (M : ℕ → ℕ) (id : MailId) (core : CoreId) (phase : PhaseId) (n : NodeParts) (G : (ℕ → ℕ) → Type 0)
     → Leaves S M (Handle id) G → AtNode S M id core (Go phase) n → G M
 go-way S M id core phase n G leaves at =
-    let one = rw (same-number core.0) at (at.counted (goes core.0)) in
+    let one = rw (same-number core.0) at (at.counted (is_go_to core.0)) in
     let here = ap (λ (o : Option NodeParts). bit (is_alive o)) at.found in
     let row = at.inv.phases.row core.0 in
     let marks = called n (omega (arith, one, here, row)) in
     let right : phase.0 ≡ S.keeper.phase = same_phase (phase.0 == S.keeper.phase) refl (at.counted (is_astray S.keeper.phase)) in
-    let single : flight S (goes core.0) ≡ 1 = omega (arith, one, here, row, alive-one (slice_get S.nodes core.0)) in
+    let single : flight S (is_go_to core.0) ≡ 1 = omega (arith, one, here, row, alive-one (slice_get S.nodes core.0)) in
     let later = at.inv.phases.phase core.0 n at.found marks.1 in
     let next_is : phase.0 ≡ n.phase + 1 = omega (arith, right, single, later) in
     let within = in_program (at.inv.phases.within) (((at.inv.machine.node core.0 n at.found).fits).phase marks.1) right in
@@ -267,7 +267,7 @@ go-way S M id core phase n G leaves at =
 halt-way : (S : State) (M : ℕ → ℕ) (id : MailId) (core : CoreId) (n : NodeParts) (G : (ℕ → ℕ) → Type 0)
     → Leaves S M (Handle id) G → AtNode S M id core Halt n → G M
 halt-way S M id core n G leaves at =
-    let one = rw (same-number core.0) at (at.counted (halts core.0)) in
+    let one = rw (same-number core.0) at (at.counted (is_halt_to core.0)) in
     let here = ap (λ (o : Option NodeParts). bit (is_alive o)) at.found in
     let marks = called n (omega (arith, one, here, at.inv.phases.row core.0)) in
     let is = halt-is S.setting n marks.0 in

@@ -19,7 +19,7 @@ use Rattle.word_cache.specs.declared.row.Entry.TheVariants.{Valid, Registered, L
 use Rattle.word_cache.specs.Cache.{has_room, may_go}
 use Rattle.registration_protocol.specs.declared.node.Step.{Step}
 use Rattle.registration_protocol.specs.Node.{NodeParts, entry_of, need_now, is_active, signature_of}
-use Rattle.registration_protocol.specs.OwnEvents.{me, lets, may_access, may_instr, may_evict, may_arrive, instructed, instr_row, loads, stores, misses, stored, evicted, evicts, arrives, written_now, written_by, is_bad}
+use Rattle.registration_protocol.specs.OwnEvents.{me, lets, may_access, may_instr, may_evict, may_arrive, instructed, instr_row, load_row, store_row, misses, stored, evicted, evicts, arrives, written_now, written_by, task_ended_badly}
 use Rattle.registration_protocol.specs.Parts.{MayInstruct, MayEvict}
 use Rattle.registration_protocol.proofs.InstrLemmas.{may-instruct, may-evict, may-arrive, instructed-is, written-is, written-none}
 use Rattle.machine_rules.specs.State.{State}
@@ -122,16 +122,16 @@ missed S M core n d t word x G leaves needs g none room row writes =
 -- a load, by the entry of its word
 loaded : (S : State) (M : ℕ → ℕ) (core : CoreId) (n : NodeParts) (d : TaskDecl) (t : TaskState) (word : WordId) (G : (ℕ → ℕ) → Type 0) → Leaves S M (Instr core) G
     → Going S core n d t (need.TheVariants.Load word) → (e : Option Entry) → entry_of n word.0 ≡ e → may_access n word.0 e ≡ true
-    → instructed S.setting n ≡ loads S.setting n d t word e → G (stored_to (store_in S (Instr core)) M)
+    → instructed S.setting n ≡ load_row S.setting n d t word e → G (stored_to (store_in S (Instr core)) M)
 loaded S M core n d t word G leaves g None is may row =
     missed S M core n d t word (need.TheVariants.Load word) G leaves (inl refl) g is may row (written-none S.setting n (need.TheVariants.Load word) g.now (λ x. x))
 loaded S M core n d t word G leaves g (Some (Valid value marked)) is may row =
-    let h = instructed-row S core n (loads S.setting n d t word (Some (Valid value marked))) g.acts.found row in
-    let tells = quietly S core n (loads S.setting n d t word (Some (Valid value marked))) (need.TheVariants.Load word) h g.now (λ x. x) in
+    let h = instructed-row S core n (load_row S.setting n d t word (Some (Valid value marked))) g.acts.found row in
+    let tells = quietly S core n (load_row S.setting n d t word (Some (Valid value marked))) (need.TheVariants.Load word) h g.now (λ x. x) in
     same-memory S M (Instr core) G tells.store_is (leaves.load_copy core n d t word value marked g.acts is tells h.step)
 loaded S M core n d t word G leaves g (Some (Registered value pending)) is may row =
-    let h = instructed-row S core n (loads S.setting n d t word (Some (Registered value pending))) g.acts.found row in
-    let tells = quietly S core n (loads S.setting n d t word (Some (Registered value pending))) (need.TheVariants.Load word) h g.now (λ x. x) in
+    let h = instructed-row S core n (load_row S.setting n d t word (Some (Registered value pending))) g.acts.found row in
+    let tells = quietly S core n (load_row S.setting n d t word (Some (Registered value pending))) (need.TheVariants.Load word) h g.now (λ x. x) in
     same-memory S M (Instr core) G tells.store_is (leaves.load_own core n d t word value pending g.acts is tells h.step)
 loaded S M core n d t word G leaves g (Some (Leaving value)) is may row = absurd (cc)
 
@@ -142,26 +142,26 @@ new-memory S M e G o is good = subst (λ (o : Option (WordId × ℕ)). G (stored
 -- a store, by the entry of its word
 kept : (S : State) (M : ℕ → ℕ) (core : CoreId) (n : NodeParts) (d : TaskDecl) (t : TaskState) (word : WordId) (whole : Bool) (G : (ℕ → ℕ) → Type 0) → Leaves S M (Instr core) G
     → Going S core n d t (need.TheVariants.Store word whole) → (e : Option Entry) → entry_of n word.0 ≡ e → may_access n word.0 e ≡ true
-    → instructed S.setting n ≡ stores S.setting n d t word whole e → written_now S.setting n ≡ written_by S.setting t word whole e → G (stored_to (store_in S (Instr core)) M)
+    → instructed S.setting n ≡ store_row S.setting n d t word whole e → written_now S.setting n ≡ written_by S.setting t word whole e → G (stored_to (store_in S (Instr core)) M)
 kept S M core n d t word false G leaves g None is may row writes =
     missed S M core n d t word (need.TheVariants.Store word false) G leaves (inr refl) g is may row writes
 kept S M core n d t word true G leaves g None is may row writes =
     let value = merged_of S.setting.program 0 t in
-    let h = instructed-row S core n (stores S.setting n d t word true None) g.acts.found row in
+    let h = instructed-row S core n (store_row S.setting n d t word true None) g.acts.found row in
     let tells : Tells S (Instr core) None None (Some (word, value)) = record { seen_is = h.seen; granted_is = h.granted; store_is = h.store ∙ writes } in
     new-memory S M (Instr core) G (Some (word, value)) tells.store_is
     (leaves.store_new core n d t word value g.acts is may refl tells
     (subst (λ (c : CoreId). NodeStep S (next S (Instr core)) core.0 n (stored S.setting n d t word (Registered value true)) None (to_home S.setting.shape.banks word.0 (RegReq word c))) g.mine h.step))
 kept S M core n d t word whole G leaves g (Some (Valid old marked)) is may row writes =
     let value = merged_of S.setting.program old t in
-    let h = instructed-row S core n (stores S.setting n d t word whole (Some (Valid old marked))) g.acts.found row in
+    let h = instructed-row S core n (store_row S.setting n d t word whole (Some (Valid old marked))) g.acts.found row in
     let tells : Tells S (Instr core) None None (Some (word, value)) = record { seen_is = h.seen; granted_is = h.granted; store_is = h.store ∙ writes } in
     new-memory S M (Instr core) G (Some (word, value)) tells.store_is
     (leaves.store_copy core n d t word whole old value marked g.acts is refl tells
     (subst (λ (c : CoreId). NodeStep S (next S (Instr core)) core.0 n (stored S.setting n d t word (Registered value true)) None (to_home S.setting.shape.banks word.0 (RegReq word c))) g.mine h.step))
 kept S M core n d t word whole G leaves g (Some (Registered old pending)) is may row writes =
     let value = merged_of S.setting.program old t in
-    let h = instructed-row S core n (stores S.setting n d t word whole (Some (Registered old pending))) g.acts.found row in
+    let h = instructed-row S core n (store_row S.setting n d t word whole (Some (Registered old pending))) g.acts.found row in
     let tells : Tells S (Instr core) None None (Some (word, value)) = record { seen_is = h.seen; granted_is = h.granted; store_is = h.store ∙ writes } in
     new-memory S M (Instr core) G (Some (word, value)) tells.store_is
     (leaves.store_own core n d t word whole old value pending g.acts is refl tells h.step)
@@ -249,4 +249,4 @@ arrive-ways S M core G inv may leaves =
     let mine : me n ≡ core = ap (λ (x : ℕ). let c : CoreId = record { 0 = x } in c) ((inv.machine.node core.0 n at.found).core) in
     same-memory S M (Arrive core) G (silent-arrive S core).store_is
     (leaves.arrive core n at.found i.halted i.arrived i.done i.settled (silent-arrive S core)
-    (subst (λ (c : CoreId). NodeStep S (next S (Arrive core)) core.0 n (arrives n).0 None (to_keeper (Arrived c (is_bad n.task)))) mine (arrive-step S core n at.found)))
+    (subst (λ (c : CoreId). NodeStep S (next S (Arrive core)) core.0 n (arrives n).0 None (to_keeper (Arrived c (task_ended_badly n.task)))) mine (arrive-step S core n at.found)))

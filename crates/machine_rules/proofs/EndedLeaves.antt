@@ -10,7 +10,7 @@ use Rattle.registry_bank.specs.declared.bank.BankWord.{BankWord}
 use Rattle.phase_barrier.specs.Barrier.{Barrier, all_arrived}
 use Rattle.registration_protocol.specs.Node.{NodeParts, Setting}
 use Rattle.machine_rules.specs.State.{State}
-use Rattle.machine_rules.specs.Flight.{halts}
+use Rattle.machine_rules.specs.Flight.{is_halt_to}
 use Rattle.machine_rules.specs.Next.{next}
 use Rattle.machine_rules.proofs.Invariant.{Invariant}
 use Rattle.machine_rules.proofs.Steps.{NodeStep}
@@ -47,7 +47,7 @@ ended-still S T setting nodes keeper were c k found halted = out-still S T setti
 -- who is told to halt is told so by a keeper whose set is whole
 told-out : (S T : State) (M : ℕ → ℕ) (core : CoreId) (n m : NodeParts) → NodeStep S T core.0 n m (at_core core Halt) None → Invariant S M → IsOut S
 told-out S T M core n m step inv =
-    let came = rw (same-number core.0) at (step.flown (halts core.0)) in
+    let came = rw (same-number core.0) at (step.flown (is_halt_to core.0)) in
     inl (inv.phases.halting core.0 (omega (arith, came)))
 
 pub ended-leaves : (S : State) (M : ℕ → ℕ) (e : Event) → Invariant S M → Leaves S M e (λ M'. HaveEnded (next S e))

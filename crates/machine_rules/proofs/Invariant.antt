@@ -8,9 +8,9 @@ use Rattle.region_table.specs.Words.{has}
 use Rattle.region_table.specs.Tasks.{declared}
 use Rattle.rv_core.specs.declared.task.End.TheVariants.{Finished}
 use Rattle.rv_core.specs.declared.task.TaskState.{TaskState}
-use Rattle.rv_core.specs.Access.{holds as is_held}
+use Rattle.rv_core.specs.Access.{is_held}
 use Rattle.write_signature.specs.declared.signature.Signature.{Signature}
-use Rattle.write_signature.specs.Signature.{tag, holds}
+use Rattle.write_signature.specs.Signature.{tag, may_hold}
 use Rattle.message_net.specs.declared.actor.Actor.{Actor}
 use Rattle.message_net.specs.declared.actor.Actor.TheVariants.{Core, Bank, Keeper}
 use Rattle.message_net.specs.declared.message.Message.TheVariants.{ReadReq, RegReq, WriteBack, Acquire, Release, Grant, Arrived, Go}
@@ -22,11 +22,11 @@ use Rattle.phase_barrier.specs.Barrier.{all_arrived}
 use Rattle.registration_protocol.specs.declared.node.NodeWait as wait
 use Rattle.registration_protocol.specs.declared.node.NodeWait.{NodeWait}
 use Rattle.registration_protocol.specs.Node.{NodeParts, entry_of}
-use Rattle.registration_protocol.specs.OwnEvents.{is_bad}
+use Rattle.registration_protocol.specs.OwnEvents.{task_ended_badly}
 use Rattle.machine_rules.specs.State.{State, entry_at, home_at, lock_at}
 use Rattle.machine_rules.specs.Sound.{IsMachine}
-use Rattle.machine_rules.specs.Flight.{Test, bit, flight, asks, passes_on, passes_to, turns_back, confirms, gives_back, gives_back_value, frees, seeks, forwards, forwards_at, replies, misinforms, acquires, releases, grants, arrives, goes, halts}
-use Rattle.machine_rules.specs.Coherent.{MayStore, UsesPlainly, IsBehind, HasWriter, NeedsValue, HasArrived, owned_value, held_by, has_lock, locks_in, queued_in, holder_in, is_alive, waits_in, counts_bad}
+use Rattle.machine_rules.specs.Flight.{Test, bit, flight, is_reg_req_of, is_reg_fwd_of, is_reg_fwd_to, is_reg_fwd_to_itself, is_reg_ack_to, is_write_back_of, is_write_back_with, is_wb_ack_to, is_read_req_of, is_read_fwd_of, is_read_fwd_to, is_data_reply_to, is_false_data_reply, is_acquire_of, is_release_of, is_grant_to, is_arrival_of, is_go_to, is_halt_to}
+use Rattle.machine_rules.specs.Coherent.{MayStore, UsesPlainly, IsBehind, HasWriter, NeedsValue, HasArrived, owned_value, held_locks, has_lock, node_is_locking, queued_in, holder_in, is_alive, waits_at_keeper, counts_bad}
 use Rattle.machine_rules.proofs.Bits.{pending_bit, settled_bit, leaving_bit, known_bit, owner_bit, reading_in, same_signature, signed_in}
 
 -- ---- Where mails go.
@@ -80,13 +80,13 @@ word_counts S w c =
       pending = pending_bit (entry_at S c w);
       settled = settled_bit (entry_at S c w);
       leaving = leaving_bit (entry_at S c w);
-      asked = flight S (asks w c);
-      forwarded = flight S (passes_on w c);
-      acked = flight S (confirms w c);
-      sought = flight S (passes_to w c);
-      turned = flight S (turns_back w c);
-      written = flight S (gives_back w c);
-      freed = flight S (frees w c);
+      asked = flight S (is_reg_req_of w c);
+      forwarded = flight S (is_reg_fwd_of w c);
+      acked = flight S (is_reg_ack_to w c);
+      sought = flight S (is_reg_fwd_to w c);
+      turned = flight S (is_reg_fwd_to_itself w c);
+      written = flight S (is_write_back_of w c);
+      freed = flight S (is_wb_ack_to w c);
     }
 
 pub record WordRow (n : WordCounts) : Type 0 where
@@ -109,7 +109,7 @@ pub record WordsGood (S : State) : Type 0 where
   pub row : (w c : ℕ) → WordRow (word_counts S w c)
   pub single : (w c d : ℕ) → pending_bit (entry_at S c w) + pending_bit (entry_at S d w) ≤ 1 + bit (c == d)
   -- a write-back has the leaving entry's value
-  pub valued : (w c value : ℕ) → entry_at S c w ≡ Some (Leaving value) → flight S (gives_back_value w c value) ≡ flight S (gives_back w c)
+  pub valued : (w c value : ℕ) → entry_at S c w ≡ Some (Leaving value) → flight S (is_write_back_with w c value) ≡ flight S (is_write_back_of w c)
   -- whose word is pending may store it
   pub right : (c w : ℕ) → pending_bit (entry_at S c w) ≡ 1 → MayStore S c w
 
@@ -130,10 +130,10 @@ lock_counts S l c =
       holder = holder_in c (lock_at S l);
       queued = queued_in c (lock_at S l);
       holding = bit (has_lock S c l);
-      waiting = bit (locks_in l (slice_get S.nodes c));
-      asked = flight S (acquires l c);
-      released = flight S (releases l c);
-      granted = flight S (grants l c);
+      waiting = bit (node_is_locking l (slice_get S.nodes c));
+      asked = flight S (is_acquire_of l c);
+      released = flight S (is_release_of l c);
+      granted = flight S (is_grant_to l c);
     }
 
 pub record LockRow (n : LockCounts) : Type 0 where
@@ -168,10 +168,10 @@ abbrev pub phase_counts : State → ℕ → PhaseCounts
 phase_counts S c =
     record {
       alive = bit (is_alive (slice_get S.nodes c));
-      arriving = flight S (arrives c);
-      waits = waits_in S c;
-      going = flight S (goes c);
-      halting = flight S (halts c);
+      arriving = flight S (is_arrival_of c);
+      waits = waits_at_keeper S c;
+      going = flight S (is_go_to c);
+      halting = flight S (is_halt_to c);
     }
 
 pub record PhaseRow (n : PhaseCounts) : Type 0 where
@@ -188,7 +188,7 @@ same_truth false b = not b
 
 abbrev pub bad_in : Option NodeParts → Bool
 bad_in None = false
-bad_in (Some n) = is_bad n.task
+bad_in (Some n) = task_ended_badly n.task
 
 abbrev pub is_lie : List NodeParts → Test
 is_lie nodes to (Arrived core bad) = not (same_truth bad (bad_in (slice_get nodes core.0)))
@@ -196,7 +196,7 @@ is_lie nodes to _ = false
 
 pub record PhasesGood (S : State) : Type 0 where
   pub row : (c : ℕ) → PhaseRow (phase_counts S c)
-  pub phase : (c : ℕ) (n : NodeParts) → slice_get S.nodes c ≡ Some n → n.halted ≡ false → n.phase + flight S (goes c) ≡ S.keeper.phase
+  pub phase : (c : ℕ) (n : NodeParts) → slice_get S.nodes c ≡ Some n → n.halted ≡ false → n.phase + flight S (is_go_to c) ≡ S.keeper.phase
   pub astray : flight S (is_astray S.keeper.phase) ≡ 0
   pub arrived : (c : ℕ) (n : NodeParts) → slice_get S.nodes c ≡ Some n → n.arrived ≡ true → HasArrived n
   pub asleep : (c : ℕ) (n : NodeParts) → slice_get S.nodes c ≡ Some n → n.halted ≡ true → HasArrived n
@@ -204,11 +204,11 @@ pub record PhasesGood (S : State) : Type 0 where
   pub bad : S.keeper.bad ≡ true → (c : ℕ) × (counts_bad S c ≡ true)
   pub good : S.keeper.bad ≡ false → (c : ℕ) → counts_bad S c ≡ false
   -- once the keeper's set is whole the run is over, and nobody arrives or goes on any more
-  pub over : all_arrived S.keeper ≡ true → (c : ℕ) → flight S (arrives c) + flight S (goes c) ≡ 0
-  pub halting : (c : ℕ) → 1 ≤ flight S (halts c) → all_arrived S.keeper ≡ true
+  pub over : all_arrived S.keeper ≡ true → (c : ℕ) → flight S (is_arrival_of c) + flight S (is_go_to c) ≡ 0
+  pub halting : (c : ℕ) → 1 ≤ flight S (is_halt_to c) → all_arrived S.keeper ≡ true
   pub whole : all_arrived S.keeper ≡ true → (c : ℕ) (n : NodeParts) → slice_get S.nodes c ≡ Some n → n.arrived ≡ true
   pub finished : (c : ℕ) (n : NodeParts) (t : TaskState) → slice_get S.nodes c ≡ Some n → n.task ≡ Some t → t.end ≡ Some Finished → t.held ≡ 0
-  pub unlocked : (c : ℕ) (n : NodeParts) → slice_get S.nodes c ≡ Some n → 1 ≤ flight S (goes c) → held_by n.task ≡ 0
+  pub unlocked : (c : ℕ) (n : NodeParts) → slice_get S.nodes c ≡ Some n → 1 ≤ flight S (is_go_to c) → held_locks n.task ≡ 0
   pub within : S.keeper.phase < length S.setting.program.phases ⊎ (length S.setting.program.phases ≡ 0)
 
 -- ---- Reads (parts 6 and 7).
@@ -223,9 +223,9 @@ abbrev pub read_counts : State → ℕ → ℕ → ReadCounts
 read_counts S w c =
     record {
       reading = reading_in w (slice_get S.nodes c);
-      sought = flight S (seeks w c);
-      forwarded = flight S (forwards w c);
-      replied = flight S (replies w c);
+      sought = flight S (is_read_req_of w c);
+      forwarded = flight S (is_read_fwd_of w c);
+      replied = flight S (is_data_reply_to w c);
     }
 
 pub record ReadRow (n : ReadCounts) : Type 0 where
@@ -235,7 +235,7 @@ pub record ReadsGood (S : State) : Type 0 where
   pub row : (w c : ℕ) → ReadRow (read_counts S w c)
   pub quiet : (w c d : ℕ) → reading_in w (slice_get S.nodes c) + pending_bit (entry_at S d w) ≤ 1
   -- a read that was forwarded to d meets d as the registrant, or the word at its home
-  pub pair : (w d e : ℕ) → 1 ≤ flight S (forwards_at w d) → owner_bit e (home_at S w) ≤ bit (d == e)
+  pub pair : (w d e : ℕ) → 1 ≤ flight S (is_read_fwd_to w d) → owner_bit e (home_at S w) ≤ bit (d == e)
   pub reading : (c : ℕ) (n : NodeParts) (word : WordId) → slice_get S.nodes c ≡ Some n → n.waiting ≡ wait.TheVariants.Reading word
       → (entry_of n word.0 ≡ None) × (has_room n.cache word.0 ≡ true) × NeedsValue S n word
   pub filled : (c : ℕ) (n : NodeParts) (word : WordId) → slice_get S.nodes c ≡ Some n → n.waiting ≡ wait.TheVariants.Filled word
@@ -252,21 +252,21 @@ pub record ValuesGood (S : State) (M : ℕ → ℕ) : Type 0 where
   pub pending : (c w value : ℕ) → entry_at S c w ≡ Some (Registered value true) → value ≡ M w
   pub home : (w value : ℕ) → AllSettled S w → home_at S w ≡ Some (Home value) → value ≡ M w
   pub owner : (w value : ℕ) (core : CoreId) → AllSettled S w → home_at S w ≡ Some (Reg core) → owned_value (entry_at S core.0 w) ≡ Some value → value ≡ M w
-  pub replied : flight S (misinforms M) ≡ 0
-  pub forwarded : (d w value : ℕ) → 1 ≤ flight S (forwards_at w d) → owned_value (entry_at S d w) ≡ Some value → value ≡ M w
+  pub replied : flight S (is_false_data_reply M) ≡ 0
+  pub forwarded : (d w value : ℕ) → 1 ≤ flight S (is_read_fwd_to w d) → owned_value (entry_at S d w) ≡ Some value → value ≡ M w
 
 -- ---- Copies (part 8).
 
 -- whether a signature may hold a word of the keeper's phase: at the lock's home, at its holder, in its release
 abbrev pub kept_bit : ℕ → ℕ → Option Lock → ℕ
 kept_bit w p None = 0
-kept_bit w p (Some h) = bit (holds h.kept w p)
+kept_bit w p (Some h) = bit (may_hold h.kept w p)
 
 abbrev pub carried_by : ℕ → ℕ → ℕ → NodeParts → ℕ
-carried_by l w p n = bit (is_held (held_by n.task) l && signed_in w p (slice_get n.signatures l))
+carried_by l w p n = bit (is_held (held_locks n.task) l && signed_in w p (slice_get n.signatures l))
 
 abbrev pub is_carrying : ℕ → ℕ → ℕ → Test
-is_carrying l w p to (Release lock core s) = (lock.0 == l) && holds s w p
+is_carrying l w p to (Release lock core s) = (lock.0 == l) && may_hold s w p
 is_carrying l w p to _ = false
 
 abbrev pub carriers : State → ℕ → ℕ → ℕ

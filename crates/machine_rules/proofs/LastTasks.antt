@@ -13,8 +13,8 @@ use Rattle.registration_protocol.specs.Node.{NodeParts, Setting}
 use Rattle.machine_rules.specs.State.{State}
 use Rattle.machine_rules.specs.Next.{next}
 use Rattle.machine_rules.specs.Memory.{store_in}
-use Rattle.machine_rules.specs.Runs.{IsRun, later}
-use Rattle.machine_rules.specs.Bound.{task_in_phase, last_task, retired_by}
+use Rattle.machine_rules.specs.Runs.{IsRun, newer_or}
+use Rattle.machine_rules.specs.Bound.{task_in_phase, last_task, retired_so_far}
 use Rattle.machine_rules.specs.Sound.{IsSound}
 use Rattle.machine_rules.proofs.Invariant.{Invariant}
 use Rattle.machine_rules.proofs.Leaves.{stored_to}
@@ -40,7 +40,7 @@ none-past S M count (e ∷ es) q c n sound inv run found past =
     let after_it = sound-next S count e sound run.0 in
     let on = (goes-on S M e inv run.0).each c n found in
     let rest = none-past (next S e) (stored_to (store_in S e) M) (count + 1) es q c on.node after_it (kept S M e inv run.0 after_it.machine) run.1 on.found (omega (arith, past, on.past)) in
-    ap (λ (o : Option TaskState). later o (task_in_phase q (slice_get S.nodes c))) rest ∙ (ap (task_in_phase q) found ∙ past-task q n past)
+    ap (λ (o : Option TaskState). newer_or o (task_in_phase q (slice_get S.nodes c))) rest ∙ (ap (task_in_phase q) found ∙ past-task q n past)
 
 -- ---- the task that a node had is one that the program declares, and within its fuel
 
@@ -80,12 +80,12 @@ last-declared S M count (e ∷ es) q c t sound inv run is =
     by_last (last_task q c (next S e) es) refl (λ u last. last-declared (next S e) (stored_to (store_in S e) M) (count + 1) es q c u after_it (kept S M e inv run.0 after_it.machine) run.1 last) is
   where
     by_last : (o : Option TaskState) → last_task q c (next S e) es ≡ o → ((u : TaskState) → last_task q c (next S e) es ≡ Some u → IsTaskOf (next S e).setting q c u)
-        → later o (task_in_phase q (slice_get S.nodes c)) ≡ Some t → IsTaskOf S.setting q c t
+        → newer_or o (task_in_phase q (slice_get S.nodes c)) ≡ Some t → IsTaskOf S.setting q c t
     by_last None last rest is = node-task S M q c t inv is
     by_last (Some u) last rest is = subst (λ (C : Setting). IsTaskOf C q c t) (same-setting S e) (rest t (last ∙ is))
 
-pub last-fuel : (S : State) (M : ℕ → ℕ) (count : ℕ) (events : List Event) (q c : ℕ) → IsSound S count → Invariant S M → IsRun S events → retired_by (last_task q c S events) ≤ S.setting.fuel
+pub last-fuel : (S : State) (M : ℕ → ℕ) (count : ℕ) (events : List Event) (q c : ℕ) → IsSound S count → Invariant S M → IsRun S events → retired_so_far (last_task q c S events) ≤ S.setting.fuel
 last-fuel S M count events q c sound inv run = by_last (last_task q c S events) refl where
-  by_last : (o : Option TaskState) → last_task q c S events ≡ o → retired_by o ≤ S.setting.fuel
+  by_last : (o : Option TaskState) → last_task q c S events ≡ o → retired_so_far o ≤ S.setting.fuel
   by_last None last = omega arith
   by_last (Some t) last = (last-declared S M count events q c t sound inv run last).fuel

@@ -31,11 +31,11 @@ use Rattle.queue_lock.specs.Lock.{Lock}
 use Rattle.write_signature.specs.Signature.{joined}
 use Rattle.registry_bank.specs.declared.bank.BankWord.{BankWord}
 use Rattle.registry_bank.specs.declared.bank.BankWord.TheVariants.{Home, Reg}
-use Rattle.phase_barrier.specs.Barrier.{Barrier, counted, advanced as next_phase, all_arrived, is_over}
+use Rattle.phase_barrier.specs.Barrier.{Barrier, with_arrival, in_next_phase as next_phase, all_arrived, is_over}
 use Rattle.registration_protocol.specs.declared.node.NodeWait as wait
 use Rattle.registration_protocol.specs.declared.node.NodeWait.{NodeWait}
-use Rattle.registration_protocol.specs.Node.{NodeParts, keeping, signature_of, entry_of, is_settled, is_active, is_ready, goes_on}
-use Rattle.registration_protocol.specs.OwnEvents.{is_bad, retires, with_put, stored}
+use Rattle.registration_protocol.specs.Node.{NodeParts, keeping, signature_of, entry_of, is_settled, is_active, is_ready, is_running}
+use Rattle.registration_protocol.specs.OwnEvents.{task_ended_badly, retires, with_put, stored}
 use Rattle.registration_protocol.specs.Messages.{with_entry, lacking, holds_now, begins}
 use Rattle.machine_rules.specs.State.{State, home_at, lock_at}
 use Rattle.machine_rules.specs.Next.{next, seen_in, granted_in}
@@ -156,8 +156,8 @@ pub record Leaves (S : State) (M : ℕ → ℕ) (e : Event) (G : (ℕ → ℕ) �
       → is_active n ≡ true → n.waiting ≡ wait.TheVariants.None → entry_of n word.0 ≡ Some (Registered value false) → Tells S e None None None
       → NodeStep S (next S e) core.0 n (with_entry n word.0 (Leaving value)) None (to_home S.setting.shape.banks word.0 (WriteBack word value core)) → G M
   pub arrive : (core : CoreId) (n : NodeParts) → slice_get S.nodes core.0 ≡ Some n
-      → n.halted ≡ false → n.arrived ≡ false → goes_on n.task ≡ false → is_settled n ≡ true → Tells S e None None None
-      → NodeStep S (next S e) core.0 n (record n { arrived = true }) None (to_keeper (Arrived core (is_bad n.task))) → G M
+      → n.halted ≡ false → n.arrived ≡ false → is_running n.task ≡ false → is_settled n ≡ true → Tells S e None None None
+      → NodeStep S (next S e) core.0 n (record n { arrived = true }) None (to_keeper (Arrived core (task_ended_badly n.task))) → G M
   -- messages to a core
   pub reply : (core : CoreId) (n : NodeParts) (word : WordId) (value : ℕ) → slice_get S.nodes core.0 ≡ Some n
       → n.waiting ≡ wait.TheVariants.Reading word → entry_of n word.0 ≡ None → has_room n.cache word.0 ≡ true → Tells S e None None None
@@ -215,11 +215,11 @@ pub record Leaves (S : State) (M : ℕ → ℕ) (e : Event) (G : (ℕ → ℕ) �
       → h.holder ≡ Some holder → holder.0 ≡ core.0 → h.queue ≡ waiter ∷ others → Tells S e None None None
       → LockStep S (next S e) lock.0 (record h { holder = Some waiter; queue = others; kept = joined h.kept s }) (at_bank bank (Release lock core s)) (to_core waiter (Grant lock (joined h.kept s))) → G M
   -- messages to the keeper
-  pub arrived : (core : CoreId) (bad : Bool) → slice_get S.keeper.arrived core.0 ≡ Some false → all_arrived (counted core.0 bad S.keeper) ≡ false → Tells S e None None None
-      → BarrierStep S (next S e) (counted core.0 bad S.keeper) (at_keeper (Arrived core bad)) None → G M
-  pub all_go : (core : CoreId) (bad : Bool) → slice_get S.keeper.arrived core.0 ≡ Some false → all_arrived (counted core.0 bad S.keeper) ≡ true
-      → is_over (counted core.0 bad S.keeper) ≡ false → Tells S e None None None
-      → BarrierStep S (next S e) (next_phase (counted core.0 bad S.keeper)) (at_keeper (Arrived core bad)) (Some (Go (record { 0 = S.keeper.phase + 1 }))) → G M
-  pub all_halt : (core : CoreId) (bad : Bool) → slice_get S.keeper.arrived core.0 ≡ Some false → all_arrived (counted core.0 bad S.keeper) ≡ true
-      → is_over (counted core.0 bad S.keeper) ≡ true → Tells S e None None None
-      → BarrierStep S (next S e) (counted core.0 bad S.keeper) (at_keeper (Arrived core bad)) (Some Halt) → G M
+  pub arrived : (core : CoreId) (bad : Bool) → slice_get S.keeper.arrived core.0 ≡ Some false → all_arrived (with_arrival core.0 bad S.keeper) ≡ false → Tells S e None None None
+      → BarrierStep S (next S e) (with_arrival core.0 bad S.keeper) (at_keeper (Arrived core bad)) None → G M
+  pub all_go : (core : CoreId) (bad : Bool) → slice_get S.keeper.arrived core.0 ≡ Some false → all_arrived (with_arrival core.0 bad S.keeper) ≡ true
+      → is_over (with_arrival core.0 bad S.keeper) ≡ false → Tells S e None None None
+      → BarrierStep S (next S e) (next_phase (with_arrival core.0 bad S.keeper)) (at_keeper (Arrived core bad)) (Some (Go (record { 0 = S.keeper.phase + 1 }))) → G M
+  pub all_halt : (core : CoreId) (bad : Bool) → slice_get S.keeper.arrived core.0 ≡ Some false → all_arrived (with_arrival core.0 bad S.keeper) ≡ true
+      → is_over (with_arrival core.0 bad S.keeper) ≡ true → Tells S e None None None
+      → BarrierStep S (next S e) (with_arrival core.0 bad S.keeper) (at_keeper (Arrived core bad)) (Some Halt) → G M

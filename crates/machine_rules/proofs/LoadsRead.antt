@@ -15,7 +15,7 @@ use Rattle.region_table.proofs.TaskLemmas.{declared-tells}
 use Rattle.rv_core.specs.declared.task.TaskState.{TaskState}
 use Rattle.rv_core.specs.declared.need.Need as need
 use Rattle.rv_core.specs.declared.need.Need.{Need}
-use Rattle.rv_core.specs.Access.{holds as is_held, under, may_load, may_store}
+use Rattle.rv_core.specs.Access.{is_held, under, may_load, may_store}
 use Rattle.rv_core.proofs.Completions.{load-allowed, store-allowed}
 use Rattle.rv_core.proofs.HeldLemmas.{holds-none, holds-acquired}
 use Rattle.flat_machine.specs.Step.{Started}

@@ -8,11 +8,11 @@ use Rattle.write_signature.specs.declared.signature.Signature.{Signature}
 use Rattle.message_net.specs.declared.actor.Actor.TheVariants.{Core, Bank}
 use Rattle.message_net.specs.declared.message.Message.TheVariants.{Acquire, Release, Grant}
 use Rattle.message_net.specs.declared.message.Outgoing.{Outgoing}
-use Rattle.queue_lock.specs.Lock.{Lock, places_of, holder_count}
+use Rattle.queue_lock.specs.Lock.{Lock, times_queued, holder_count}
 use Rattle.queue_lock.proofs.LockLemmas.{places_of-cons, places_of-push}
 use Rattle.machine_rules.specs.State.{State, lock_at}
 use Rattle.machine_rules.specs.Flight.{bit}
-use Rattle.machine_rules.specs.Coherent.{has_lock, locks_in, queued_in, holder_in}
+use Rattle.machine_rules.specs.Coherent.{has_lock, node_is_locking, queued_in, holder_in}
 use Rattle.machine_rules.proofs.Invariant.{LocksGood, LockRow, lock_counts}
 use Rattle.machine_rules.proofs.WordCore.{same-number}
 use Rattle.machine_rules.proofs.LockRows.{LockFlows}
@@ -22,7 +22,7 @@ pub record LockHome (S T : State) (lock : LockId) (h k : Lock) (left sent : Opti
   pub was : lock_at S lock.0 ≡ Some h
   pub now : (l : ℕ) → lock_at T l ≡ cond (lock.0 == l) (Some k) (lock_at S l)
   pub holding : (l d : ℕ) → bit (has_lock T d l) ≡ bit (has_lock S d l)
-  pub waiting : (l d : ℕ) → bit (locks_in l (slice_get T.nodes d)) ≡ bit (locks_in l (slice_get S.nodes d))
+  pub waiting : (l d : ℕ) → bit (node_is_locking l (slice_get T.nodes d)) ≡ bit (node_is_locking l (slice_get S.nodes d))
   pub flows : (l d : ℕ) → LockFlows S T left sent l d
   -- no mail of another lock comes or goes
   pub aside : (l d : ℕ) → (lock.0 == l) ≡ false → LockFlows S T None None l d
@@ -48,7 +48,7 @@ free-rows S T lock core bank s h k e g free has queue = home-rows S T lock h k _
         let now = rw (same-number lock.0) at (e.now lock.0) in
         let moved = rw (same-number lock.0, f) at (e.flows lock.0 d) in
         let holder = rw (f) at (ap (holder_count d) has) in
-        omega (arith, g.row lock.0 d, moved, e.holding lock.0 d, e.waiting lock.0 d, ap (queued_in d) now, ap (holder_in d) now, ap (queued_in d) e.was, ap (holder_in d) e.was, ap (holder_count d) free, holder, ap (places_of d) queue)
+        omega (arith, g.row lock.0 d, moved, e.holding lock.0 d, e.waiting lock.0 d, ap (queued_in d) now, ap (holder_in d) now, ap (queued_in d) e.was, ap (holder_in d) e.was, ap (holder_count d) free, holder, ap (times_queued d) queue)
 
 -- the asking core stands behind the others
 pub held-rows : (S T : State) (lock : LockId) (core : CoreId) (bank : BankId) (h k : Lock)
@@ -61,7 +61,7 @@ held-rows S T lock core bank h k e g has queue = home-rows S T lock h k _ _ e g 
     by_core x f =
         let now = rw (same-number lock.0) at (e.now lock.0) in
         let moved = rw (same-number lock.0, f) at (e.flows lock.0 d) in
-        let behind = rw (f) at (ap (places_of d) queue ∙ places_of-push d h.queue core) in
+        let behind = rw (f) at (ap (times_queued d) queue ∙ places_of-push d h.queue core) in
         omega (arith, g.row lock.0 d, moved, e.holding lock.0 d, e.waiting lock.0 d, ap (queued_in d) now, ap (holder_in d) now, ap (queued_in d) e.was, ap (holder_in d) e.was, ap (holder_count d) has, behind)
 
 -- the holder gives the lock up, and nobody waits
@@ -76,7 +76,7 @@ last-rows S T lock core s bank h k e g had none queue = home-rows S T lock h k _
         let now = rw (same-number lock.0) at (e.now lock.0) in
         let moved = rw (same-number lock.0, f) at (e.flows lock.0 d) in
         let holder = rw (f) at (ap (holder_count d) had) in
-        omega (arith, g.row lock.0 d, moved, e.holding lock.0 d, e.waiting lock.0 d, ap (queued_in d) now, ap (holder_in d) now, ap (queued_in d) e.was, ap (holder_in d) e.was, ap (holder_count d) none, holder, ap (places_of d) queue)
+        omega (arith, g.row lock.0 d, moved, e.holding lock.0 d, e.waiting lock.0 d, ap (queued_in d) now, ap (holder_in d) now, ap (queued_in d) e.was, ap (holder_in d) e.was, ap (holder_count d) none, holder, ap (times_queued d) queue)
 
 -- the holder gives the lock up, and the first that waits gets it
 pub on-rows : (S T : State) (lock : LockId) (core waiter : CoreId) (others : List CoreId) (s t : Signature) (bank : BankId) (h k : Lock)
@@ -91,5 +91,5 @@ on-rows S T lock core waiter others s t bank h k e g had has first rest = home-r
         let moved = rw (same-number lock.0, f, i) at (e.flows lock.0 d) in
         let before = rw (f) at (ap (holder_count d) had) in
         let after = rw (i) at (ap (holder_count d) has) in
-        let front = rw (i) at (ap (places_of d) first ∙ places_of-cons d waiter others) in
-        omega (arith, g.row lock.0 d, moved, e.holding lock.0 d, e.waiting lock.0 d, ap (queued_in d) now, ap (holder_in d) now, ap (queued_in d) e.was, ap (holder_in d) e.was, before, after, front, ap (places_of d) rest)
+        let front = rw (i) at (ap (times_queued d) first ∙ places_of-cons d waiter others) in
+        omega (arith, g.row lock.0 d, moved, e.holding lock.0 d, e.waiting lock.0 d, ap (queued_in d) now, ap (holder_in d) now, ap (queued_in d) e.was, ap (holder_in d) e.was, before, after, front, ap (times_queued d) rest)

@@ -12,7 +12,7 @@ use Rattle.region_table.specs.Tasks.{declared}
 use Rattle.rv_core.specs.declared.task.TaskState.{TaskState}
 use Rattle.rv_core.specs.declared.need.Need as need
 use Rattle.rv_core.specs.declared.need.Need.{Need}
-use Rattle.rv_core.specs.Access.{holds as is_held}
+use Rattle.rv_core.specs.Access.{is_held}
 use Rattle.rv_core.specs.Need.{need_of}
 use Rattle.rv_core.specs.Step.{advanced, loaded_of}
 use Rattle.rv_core.specs.Task.{started, stopped}
@@ -34,13 +34,13 @@ use Rattle.phase_barrier.specs.Barrier.{Barrier}
 use Rattle.registration_protocol.specs.declared.node.NodeWait as wait
 use Rattle.registration_protocol.specs.declared.node.NodeWait.{NodeWait}
 use Rattle.registration_protocol.specs.Node.{NodeParts, signature_of, is_ready}
-use Rattle.registration_protocol.specs.OwnEvents.{is_bad}
+use Rattle.registration_protocol.specs.OwnEvents.{task_ended_badly}
 use Rattle.registration_protocol.specs.Messages.{holds_now}
 use Rattle.registration_protocol.proofs.SignLemmas.{signature-tag}
 use Rattle.machine_rules.specs.State.{State, lock_at}
-use Rattle.machine_rules.specs.Flight.{Test, bit, flight, acquires, releases, grants, goes}
+use Rattle.machine_rules.specs.Flight.{Test, bit, flight, is_acquire_of, is_release_of, is_grant_to, is_go_to}
 use Rattle.machine_rules.specs.Next.{next}
-use Rattle.machine_rules.specs.Coherent.{held_by, has_lock, is_locking, locks_in, queued_in, holder_in}
+use Rattle.machine_rules.specs.Coherent.{held_locks, has_lock, is_locking, node_is_locking, queued_in, holder_in}
 use Rattle.machine_rules.proofs.Bits.{passes}
 use Rattle.machine_rules.proofs.Invariant.{Invariant, LocksGood, LockRow, lock_counts, is_late, is_unlike}
 use Rattle.machine_rules.proofs.Steps.{NodeStep}
@@ -63,14 +63,14 @@ node-signs S T {left = left} {sent = sent} step g late unlike =
 
 -- a core's event that leaves what its task holds and whether its node waits for a lock
 quiet-node : (S T : State) {core : ℕ} {n m : NodeParts} {left sent : Option Outgoing} → NodeStep S T core n m left sent → LocksGood S
-    → held_by m.task ≡ held_by n.task → ((l : ℕ) → is_locking l m.waiting ≡ is_locking l n.waiting) → ((l d : ℕ) → LockFlows S T None None l d)
+    → held_locks m.task ≡ held_locks n.task → ((l : ℕ) → is_locking l m.waiting ≡ is_locking l n.waiting) → ((l d : ℕ) → LockFlows S T None None l d)
     → passes (is_late S.keeper.phase) sent ≡ 0 → ((l : ℕ) (s : Signature) → passes (is_unlike l s) sent ≡ 0) → LocksGood T
 quiet-node S T {core = core} {n = n} {m = m} {left = left} {sent = sent} step g held waits aside late unlike =
     with-rows T (quiet-rows S T core n m left sent (lock-core S T step) g (λ l. ap (λ (x : ℕ). is_held x l) held) waits aside) (node-signs S T step g late unlike)
 
 -- what an acting task holds
-held-now : (S : State) (core : CoreId) (n : NodeParts) (d : TaskDecl) (t : TaskState) (x : Need) → IsActing S core n d t x → held_by n.task ≡ t.held
-held-now S core n d t x acts = ap held_by acts.task
+held-now : (S : State) (core : CoreId) (n : NodeParts) (d : TaskDecl) (t : TaskState) (x : Need) → IsActing S core n d t x → held_locks n.task ≡ t.held
+held-now S core n d t x acts = ap held_locks acts.task
 
 -- a node that goes on waits for no lock
 ready-unlocked : (waiting : NodeWait) (l : ℕ) → is_ready waiting ≡ true → is_locking l waiting ≡ false
@@ -81,7 +81,7 @@ ready-unlocked (wait.TheVariants.Locking lock) l ready = absurd (cc)
 
 -- an instruction that holds what it held
 kept-node : (S T : State) (core : CoreId) (n m : NodeParts) (d : TaskDecl) (t : TaskState) (x : Need) {sent : Option Outgoing} → IsActing S core n d t x → NodeStep S T core.0 n m None sent → LocksGood S
-    → held_by m.task ≡ t.held → ((l : ℕ) → is_locking l m.waiting ≡ false) → ((l d : ℕ) → LockFlows S T None None l d)
+    → held_locks m.task ≡ t.held → ((l : ℕ) → is_locking l m.waiting ≡ false) → ((l d : ℕ) → LockFlows S T None None l d)
     → passes (is_late S.keeper.phase) sent ≡ 0 → ((l : ℕ) (s : Signature) → passes (is_unlike l s) sent ≡ 0) → LocksGood T
 kept-node S T core n m d t x acts step g held waits aside late unlike =
     quiet-node S T step g (held ∙ sym (held-now S core n d t x acts)) (λ l. waits l ∙ sym (ready-unlocked n.waiting l acts.ready)) aside late unlike
@@ -109,7 +109,7 @@ word-quiet S T setting nodes keeper locks g aside late unlike =
     rows : (l c : ℕ) → LockRow (lock_counts T l c)
     rows l c =
         let holding : bit (has_lock T c l) ≡ bit (has_lock S c l) = rw (nodes) refl in
-        let waiting : bit (locks_in l (slice_get T.nodes c)) ≡ bit (locks_in l (slice_get S.nodes c)) = rw (nodes) refl in
+        let waiting : bit (node_is_locking l (slice_get T.nodes c)) ≡ bit (node_is_locking l (slice_get S.nodes c)) = rw (nodes) refl in
         omega (arith, g.row l c, aside l c, holding, waiting, ap (queued_in c) (locks l), ap (holder_in c) (locks l))
 
 by-word : (S T : State) {w : ℕ} {content : BankWord} {left sent : Option Outgoing} → WordStep S T w content left sent → LocksGood S
@@ -126,13 +126,13 @@ record IsOfLocks (p : Test) : Type 0 where
   pub go : (to : Actor) (phase : PhaseId) → p to (Go phase) ≡ false
   pub halt : (to : Actor) → p to Halt ≡ false
 
-is-acquires : (l c : ℕ) → IsOfLocks (acquires l c)
+is-acquires : (l c : ℕ) → IsOfLocks (is_acquire_of l c)
 is-acquires l c = record { arrived = λ to core bad. refl; go = λ to phase. refl; halt = λ to. refl }
 
-is-releases : (l c : ℕ) → IsOfLocks (releases l c)
+is-releases : (l c : ℕ) → IsOfLocks (is_release_of l c)
 is-releases l c = record { arrived = λ to core bad. refl; go = λ to phase. refl; halt = λ to. refl }
 
-is-grants : (l c : ℕ) → IsOfLocks (grants l c)
+is-grants : (l c : ℕ) → IsOfLocks (is_grant_to l c)
 is-grants l c = record { arrived = λ to core bad. refl; go = λ to phase. refl; halt = λ to. refl }
 
 is-late : (p : ℕ) → IsOfLocks (is_late p)
@@ -150,14 +150,14 @@ barrier-rows : (S T : State) {k : Barrier} {left : Option Outgoing} {sent : Opti
     → ((p : Test) → IsOfLocks p → flight T p ≡ flight S p) → (l c : ℕ) → LockRow (lock_counts T l c)
 barrier-rows S T step g same l c =
     let holding : bit (has_lock T c l) ≡ bit (has_lock S c l) = rw (step.nodes) refl in
-    let waiting : bit (locks_in l (slice_get T.nodes c)) ≡ bit (locks_in l (slice_get S.nodes c)) = rw (step.nodes) refl in
+    let waiting : bit (node_is_locking l (slice_get T.nodes c)) ≡ bit (node_is_locking l (slice_get S.nodes c)) = rw (step.nodes) refl in
     let locks : lock_at T l ≡ lock_at S l = rw (step.setting, step.banks) refl in
     omega (
       arith,
       g.row l c,
-      same (acquires l c) (is-acquires l c),
-      same (releases l c) (is-releases l c),
-      same (grants l c) (is-grants l c),
+      same (is_acquire_of l c) (is-acquires l c),
+      same (is_release_of l c) (is-releases l c),
+      same (is_grant_to l c) (is-grants l c),
       holding,
       waiting,
       ap (queued_in c) locks,
@@ -228,7 +228,7 @@ locks-leaves S M e inv =
       evict_own = λ core n word value found active waits is told step.
           quiet-node S (next S e) step g refl (λ l. refl) (lock-flows S (next S e) None (to_home S.setting.shape.banks word.0 (WriteBack word value core)) step.flown) refl (λ l s. refl);
       arrive = λ core n found awake absent over settled told step.
-          quiet-node S (next S e) step g refl (λ l. refl) (lock-flows S (next S e) None (to_keeper (Arrived core (is_bad n.task))) step.flown) refl (λ l s. refl);
+          quiet-node S (next S e) step g refl (λ l. refl) (lock-flows S (next S e) None (to_keeper (Arrived core (task_ended_badly n.task))) step.flown) refl (λ l s. refl);
       reply = λ core n word value found waits none room told step.
           quiet-node S (next S e) step g refl (λ l. rw (waits) refl) (lock-flows S (next S e) (at_core core (DataReply word value)) None step.flown) refl (λ l s. refl);
       acknowledge = λ core n word value found is told step.
@@ -249,7 +249,7 @@ locks-leaves S M e inv =
           (lacked n d t lock has wants) (got n d t lock s has wants) (λ l. rw (waits) refl) (λ l. refl))
           (node-signs S (next S e) step g refl (λ l s. refl));
       go = λ core n phase found awake absent right next_is within told step.
-          quiet-node S (next S e) step g (idle core n phase found (step.flown (goes core.0)))
+          quiet-node S (next S e) step g (idle core n phase found (step.flown (is_go_to core.0)))
           (λ l. sym (rw ((inv.phases.arrived core.0 n found absent).waiting) refl)) (lock-flows S (next S e) (at_core core (Go phase)) None step.flown) refl (λ l s. refl);
       halt = λ core n found awake absent told step.
           quiet-node S (next S e) step g refl (λ l. refl) (lock-flows S (next S e) (at_core core Halt) None step.flown) refl (λ l s. refl);
@@ -284,7 +284,7 @@ locks-leaves S M e inv =
           (last-rows S (next S e) lock core s bank h (record h { holder = None; kept = joined h.kept s })
           (lock-home S (next S e) lock h (record h { holder = None; kept = joined h.kept s }) step is (λ l d f. rw (f) at (lock-flows S (next S e) (at_bank bank (Release lock core s)) None step.flown l d))) g own refl refl)
           (signs-joined S (next S e) lock core s h (record h { holder = None; kept = joined h.kept s }) (Bank bank) None (signs-of S g) is step.locks (rw (step.keeper) refl) step.flown refl refl
-          (λ l t f. refl) refl (ungranted lock core h (joined h.kept s) is own (step.flown (releases lock.0 core.0))));
+          (λ l t f. refl) refl (ungranted lock core h (joined h.kept s) is own (step.flown (is_release_of lock.0 core.0))));
       release_on = λ bank lock core holder waiter others s h is has same queue told step.
           let own = has ∙ ap (λ (x : ℕ). let c : CoreId = record { 0 = x } in Some c) same in
           with-rows (next S e)
@@ -293,7 +293,7 @@ locks-leaves S M e inv =
           (λ l d f. rw (f) at (lock-flows S (next S e) (at_bank bank (Release lock core s)) (to_core waiter (Grant lock (joined h.kept s))) step.flown l d))) g own refl queue refl)
           (signs-joined S (next S e) lock core s h (record h { holder = Some waiter; queue = others; kept = joined h.kept s }) (Bank bank) (to_core waiter (Grant lock (joined h.kept s))) (signs-of S g) is step.locks
           (rw (step.keeper) refl) step.flown refl refl (λ l t f. rw (f) refl) (rw (same-number lock.0, same-sign (joined h.kept s)) refl)
-          (ungranted lock core h (joined h.kept s) is own (step.flown (releases lock.0 core.0))));
+          (ungranted lock core h (joined h.kept s) is own (step.flown (is_release_of lock.0 core.0))));
       arrived = λ core bad new more told step.
           let same = barrier-flows S (next S e) step (came core bad) (λ p of. nothing-posted p S.setting.shape.cores) in
           with-rows (next S e) (barrier-rows S (next S e) step g same) (barrier-signs S (next S e) step g 0 (omega arith) (omega arith) same);
@@ -315,12 +315,12 @@ locks-leaves S M e inv =
     store-held core n d t word whole acts = advanced-held S.setting.program d S.setting.fuel t (need.TheVariants.Store word whole) acts.wants tt
 
     -- a lock that is given up
-    had : (core : CoreId) (n : NodeParts) (d : TaskDecl) (t : TaskState) (lock : LockId) → IsActing S core n d t (need.TheVariants.Release lock) → is_held (held_by n.task) lock.0 ≡ true
+    had : (core : CoreId) (n : NodeParts) (d : TaskDecl) (t : TaskState) (lock : LockId) → IsActing S core n d t (need.TheVariants.Release lock) → is_held (held_locks n.task) lock.0 ≡ true
     had core n d t lock acts =
         subst (λ (x : ℕ). is_held x lock.0 ≡ true) (sym (held-now S core n d t (need.TheVariants.Release lock) acts)) (release-allowed S.setting.program d S.setting.fuel t lock acts.wants).1
 
     given : (core : CoreId) (n : NodeParts) (d : TaskDecl) (t : TaskState) (lock : LockId) → IsActing S core n d t (need.TheVariants.Release lock)
-        → (l : ℕ) → is_held (advanced S.setting.program t).held l ≡ (not (l == lock.0) && is_held (held_by n.task) l)
+        → (l : ℕ) → is_held (advanced S.setting.program t).held l ≡ (not (l == lock.0) && is_held (held_locks n.task) l)
     given core n d t lock acts l =
         ap (λ (x : ℕ). is_held x l) (advanced-held S.setting.program d S.setting.fuel t (need.TheVariants.Release lock) acts.wants tt)
         ∙ holds-released t.held lock.0 l (release-allowed S.setting.program d S.setting.fuel t lock acts.wants).1
@@ -334,42 +334,42 @@ locks-leaves S M e inv =
         grind (arith, nat_tests, own, now)
 
     -- a lock that is granted
-    lacked : (n : NodeParts) (d : TaskDecl) (t : TaskState) (lock : LockId) → n.task ≡ Some t → need_of S.setting.program d S.setting.fuel t ≡ need.TheVariants.Acquire lock → is_held (held_by n.task) lock.0 ≡ false
-    lacked n d t lock has wants = subst (λ (x : ℕ). is_held x lock.0 ≡ false) (sym (ap held_by has)) (acquire-allowed S.setting.program d S.setting.fuel t lock wants).1
+    lacked : (n : NodeParts) (d : TaskDecl) (t : TaskState) (lock : LockId) → n.task ≡ Some t → need_of S.setting.program d S.setting.fuel t ≡ need.TheVariants.Acquire lock → is_held (held_locks n.task) lock.0 ≡ false
+    lacked n d t lock has wants = subst (λ (x : ℕ). is_held x lock.0 ≡ false) (sym (ap held_locks has)) (acquire-allowed S.setting.program d S.setting.fuel t lock wants).1
 
     got : (n : NodeParts) (d : TaskDecl) (t : TaskState) (lock : LockId) (s : Signature) → n.task ≡ Some t → need_of S.setting.program d S.setting.fuel t ≡ need.TheVariants.Acquire lock
-        → (l : ℕ) → is_held (advanced S.setting.program t).held l ≡ ((l == lock.0) || is_held (held_by n.task) l)
+        → (l : ℕ) → is_held (advanced S.setting.program t).held l ≡ ((l == lock.0) || is_held (held_locks n.task) l)
     got n d t lock s has wants l =
         ap (λ (x : ℕ). is_held x l) (advanced-held S.setting.program d S.setting.fuel t (need.TheVariants.Acquire lock) wants tt)
-        ∙ holds-acquired t.held lock.0 l ∙ ap (λ (x : ℕ). (l == lock.0) || is_held x l) (sym (ap held_by has))
+        ∙ holds-acquired t.held lock.0 l ∙ ap (λ (x : ℕ). (l == lock.0) || is_held x l) (sym (ap held_locks has))
 
     -- a phase begins and ends without a lock
-    none-started : (o : Option TaskDecl) → held_by (option_map started o) ≡ 0
+    none-started : (o : Option TaskDecl) → held_locks (option_map started o) ≡ 0
     none-started None = refl
     none-started (Some d) = refl
 
-    idle : (core : CoreId) (n : NodeParts) (phase : PhaseId) → slice_get S.nodes core.0 ≡ Some n → flight (next S e) (goes core.0) + bit (core.0 == core.0) ≡ flight S (goes core.0) + 0
-        → held_by (option_map started (declared S.setting.program phase.0 n.core)) ≡ held_by n.task
+    idle : (core : CoreId) (n : NodeParts) (phase : PhaseId) → slice_get S.nodes core.0 ≡ Some n → flight (next S e) (is_go_to core.0) + bit (core.0 == core.0) ≡ flight S (is_go_to core.0) + 0
+        → held_locks (option_map started (declared S.setting.program phase.0 n.core)) ≡ held_locks n.task
     idle core n phase found moved =
         let one = rw (same-number core.0) at moved in
         none-started (declared S.setting.program phase.0 n.core) ∙ sym (inv.phases.unlocked core.0 n found (omega (arith, one)))
 
     -- while a release is in flight no grant of the lock is
     ungranted : (lock : LockId) (core : CoreId) (h : Lock) (s : Signature) → lock_at S lock.0 ≡ Some h → h.holder ≡ Some core
-        → flight (next S e) (releases lock.0 core.0) + bit ((lock.0 == lock.0) && (core.0 == core.0)) ≡ flight S (releases lock.0 core.0) + 0 → flight S (is_unlike lock.0 s) ≡ 0
+        → flight (next S e) (is_release_of lock.0 core.0) + bit ((lock.0 == lock.0) && (core.0 == core.0)) ≡ flight S (is_release_of lock.0 core.0) + 0 → flight S (is_unlike lock.0 s) ≡ 0
     ungranted lock core h s is has moved = no-grants S lock.0 s inv.addressed none where
-      one : 1 ≤ flight S (releases lock.0 core.0)
+      one : 1 ≤ flight S (is_release_of lock.0 core.0)
       one = let all = rw (same-number lock.0, same-number core.0) at moved in omega (arith, all)
 
-      none : (c : ℕ) → flight S (grants lock.0 c) ≡ 0
+      none : (c : ℕ) → flight S (is_grant_to lock.0 c) ≡ 0
       none c = by_core (core.0 == c) refl where
-        by_core : (x : Bool) → (core.0 == c) ≡ x → flight S (grants lock.0 c) ≡ 0
+        by_core : (x : Bool) → (core.0 == c) ≡ x → flight S (is_grant_to lock.0 c) ≡ 0
         by_core x f =
             let holder = rw (f) at (ap (holder_count c) has) in
             let same = ap (holder_in c) is in
             by_case x f holder same where
-              by_case : (x : Bool) → (core.0 == c) ≡ x → holder_count c h.holder ≡ bit x → holder_in c (lock_at S lock.0) ≡ holder_count c h.holder → flight S (grants lock.0 c) ≡ 0
-              by_case true f holder same = subst (λ (y : ℕ). flight S (grants lock.0 y) ≡ 0) (eqb-true core.0 c f) (omega (arith, one, g.row lock.0 core.0, ap (holder_in core.0) is, holder-within core.0 h.holder))
+              by_case : (x : Bool) → (core.0 == c) ≡ x → holder_count c h.holder ≡ bit x → holder_in c (lock_at S lock.0) ≡ holder_count c h.holder → flight S (is_grant_to lock.0 c) ≡ 0
+              by_case true f holder same = subst (λ (y : ℕ). flight S (is_grant_to lock.0 y) ≡ 0) (eqb-true core.0 c f) (omega (arith, one, g.row lock.0 core.0, ap (holder_in core.0) is, holder-within core.0 h.holder))
               by_case false f holder same = omega (arith, g.row lock.0 c, holder, same)
 
     -- an arrival is of no lock

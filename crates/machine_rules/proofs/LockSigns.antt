@@ -17,7 +17,7 @@ use Rattle.message_net.specs.declared.message.Outgoing.{Outgoing}
 use Rattle.message_net.proofs.PoolLemmas.{weight-somewhere, weight-within}
 use Rattle.queue_lock.specs.Lock.{Lock}
 use Rattle.machine_rules.specs.State.{State, lock_at}
-use Rattle.machine_rules.specs.Flight.{Test, bit, counted, flight, grants}
+use Rattle.machine_rules.specs.Flight.{Test, bit, mail_count, flight, is_grant_to}
 use Rattle.machine_rules.proofs.Bits.{passes, same_signature}
 use Rattle.machine_rules.proofs.Invariant.{LocksGood, LockRow, lock_counts, is_unlike, is_late, is_lost, is_core}
 use Rattle.machine_rules.proofs.WordEvents.{Flown}
@@ -64,15 +64,15 @@ grant-to cores (Core c) is = (c, refl)
 grant-to cores (Bank bank) is = absurd (cc)
 grant-to cores Keeper is = absurd (cc)
 
-pub no-grants : (S : State) (l : ℕ) (s : Signature) → flight S (is_lost S.setting.shape.cores S.setting.shape.banks) ≡ 0 → ((c : ℕ) → flight S (grants l c) ≡ 0) → flight S (is_unlike l s) ≡ 0
+pub no-grants : (S : State) (l : ℕ) (s : Signature) → flight S (is_lost S.setting.shape.cores S.setting.shape.banks) ≡ 0 → ((c : ℕ) → flight S (is_grant_to l c) ≡ 0) → flight S (is_unlike l s) ≡ 0
 no-grants S l s addressed none = by_count (flight S (is_unlike l s)) refl where
   by_count : (x : ℕ) → flight S (is_unlike l s) ≡ x → flight S (is_unlike l s) ≡ 0
   by_count zero is = is
-  by_count (suc x) is = absurd (somewhere (weight-somewhere (counted (is_unlike l s)) S.mails (omega (arith, is))))
+  by_count (suc x) is = absurd (somewhere (weight-somewhere (mail_count (is_unlike l s)) S.mails (omega (arith, is))))
     where
       by_message : (m : Mail) (place : ℕ) (message : Message) → m.message ≡ message → slice_get S.mails place ≡ Some m → 1 ≤ bit (is_unlike l s m.to message) → ⊥
       by_message m place (Grant lock t) is there some =
-          let right = rw (is) at (weight-within (counted (is_lost S.setting.shape.cores S.setting.shape.banks)) S.mails place m there) in
+          let right = rw (is) at (weight-within (mail_count (is_lost S.setting.shape.cores S.setting.shape.banks)) S.mails place m there) in
           let to = grant-to S.setting.shape.cores m.to (not-lost (is_core S.setting.shape.cores m.to) (omega (arith, right, addressed))) in
           by_core to.0 to.1
         where
@@ -82,7 +82,7 @@ no-grants S l s addressed none = by_count (flight S (is_unlike l s)) refl where
 
           by_core : (c : CoreId) → m.to ≡ Core c → ⊥
           by_core c to =
-              let within = rw (is, to, same-number c.0) at (weight-within (counted (grants l c.0)) S.mails place m there) in
+              let within = rw (is, to, same-number c.0) at (weight-within (mail_count (is_grant_to l c.0)) S.mails place m there) in
               by_lock (lock.0 == l) (not (same_signature s t)) some (omega (arith, within, none c.0))
       by_message m place (ReadReq word reader) is there some = absurd (omega (arith, some))
       by_message m place (ReadFwd word reader) is there some = absurd (omega (arith, some))
@@ -98,12 +98,12 @@ no-grants S l s addressed none = by_count (flight S (is_unlike l s)) refl where
       by_message m place (Go phase) is there some = absurd (omega (arith, some))
       by_message m place Halt is there some = absurd (omega (arith, some))
 
-      somewhere : (place : ℕ) × (m : Mail) × (slice_get S.mails place ≡ Some m) × (1 ≤ counted (is_unlike l s) m) → ⊥
+      somewhere : (place : ℕ) × (m : Mail) × (slice_get S.mails place ≡ Some m) × (1 ≤ mail_count (is_unlike l s) m) → ⊥
       somewhere (place, m, there, some) = by_message m place m.message refl there some
 
 -- ---- later phases
 
-late-le : (p : ℕ) (m : Mail) → counted (is_late (p + 1)) m ≤ counted (is_late p) m
+late-le : (p : ℕ) (m : Mail) → mail_count (is_late (p + 1)) m ≤ mail_count (is_late p) m
 late-le p m = by_message m.message where
   by_message : (message : Message) → bit (is_late (p + 1) m.to message) ≤ bit (is_late p m.to message)
   by_message (Release lock core s) = by_tests (nat_lt (p + 1) (tag s)) refl (nat_lt p (tag s)) refl where
@@ -126,7 +126,7 @@ late-le p m = by_message m.message where
   by_message Halt = omega arith
 
 pub later-le : (S : State) (p : ℕ) → flight S (is_late (p + 1)) ≤ flight S (is_late p)
-later-le S p = sum_by-le-sum_by (counted (is_late (p + 1))) (counted (is_late p)) S.mails (late-le p)
+later-le S p = sum_by-le-sum_by (mail_count (is_late (p + 1))) (mail_count (is_late p)) S.mails (late-le p)
 
 -- ---- what a lock's home does
 

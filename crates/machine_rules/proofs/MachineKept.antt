@@ -14,7 +14,7 @@ use Rattle.phase_barrier.specs.Barrier.{Barrier}
 use Rattle.registration_protocol.specs.Node.{NodeParts}
 use Rattle.registration_protocol.specs.Fit.{Fits}
 use Rattle.machine_rules.specs.State.{State, word_in, lock_in}
-use Rattle.machine_rules.specs.Next.{place_in, number_of}
+use Rattle.machine_rules.specs.Next.{actor_index_in, next_number}
 use Rattle.machine_rules.specs.Sound.{IsMachine, IsNodeAt, IsBankAt}
 use Rattle.machine_rules.proofs.Steps.{without_mail}
 use Rattle.machine_rules.proofs.Lists.{get-set-there}
@@ -33,7 +33,7 @@ bank-there S T place b same at =
 -- several messages of an actor are in flight, with its next numbers
 abbrev pub posts_by : State → Actor → List Outgoing → State
 posts_by S from sent =
-    record S { mails = all_mails from (number_of S from) sent S.mails; numbers = slice_set S.numbers (place_in S from) (number_of S from + length sent) }
+    record S { mails = all_mails from (next_number S from) sent S.mails; numbers = slice_set S.numbers (actor_index_in S from) (next_number S from + length sent) }
 
 pub machine-posts : (S : State) (from : Actor) (sent : List Outgoing) → has_actor S.setting.shape.cores S.setting.shape.banks from ≡ true → IsMachine S → IsMachine (posts_by S from sent)
 machine-posts S from sent there good =
@@ -43,18 +43,18 @@ machine-posts S from sent there good =
       checked = good.checked;
       nodes = good.nodes;
       banks = good.banks;
-      numbers = length-set S.numbers (place_in S from) (number_of S from + length sent) ∙ good.numbers;
+      numbers = length-set S.numbers (actor_index_in S from) (next_number S from + length sent) ∙ good.numbers;
       node = λ core n found. node-there S (posts_by S from sent) core n refl (good.node core n found);
       bank = λ bank b found. bank-there S (posts_by S from sent) bank b refl (good.bank bank b found);
       words = good.words;
       locks = good.locks;
       cores = good.cores;
       phases = good.phases;
-      distinct = distinct-sent from (number_of S from) sent S.mails good.distinct (λ i past. unused (place_in S) S.numbers S.mails from i good.numbered past);
-      numbered = numbered-sent (place_in S) S.numbers S.mails from sent within good.numbered;
+      distinct = distinct-sent from (next_number S from) sent S.mails good.distinct (λ i past. unused (actor_index_in S) S.numbers S.mails from i good.numbered past);
+      numbered = numbered-sent (actor_index_in S) S.numbers S.mails from sent within good.numbered;
     }
   where
-    within : place_in S from < length S.numbers
+    within : actor_index_in S from < length S.numbers
     within = omega (arith, good.numbers, place_of-within S.setting.shape.cores S.setting.shape.banks from there)
 
 pub machine-taken : (S : State) (id : MailId) → IsMachine S → IsMachine (without_mail S id)
@@ -73,7 +73,7 @@ machine-taken S id good =
       cores = good.cores;
       phases = good.phases;
       distinct = AreDistinct-taken id S.mails good.distinct;
-      numbered = numbered-taken (place_in S) S.numbers S.mails id good.numbered;
+      numbered = numbered-taken (actor_index_in S) S.numbers S.mails id good.numbered;
     }
 
 -- ---- a node

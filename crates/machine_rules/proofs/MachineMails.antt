@@ -6,7 +6,7 @@ use Rattle.message_net.specs.declared.actor.Actor.{Actor}
 use Rattle.message_net.specs.declared.actor.MailId.{MailId}
 use Rattle.message_net.specs.declared.message.Mail.{Mail}
 use Rattle.message_net.specs.declared.message.Outgoing.{Outgoing}
-use Rattle.message_net.specs.Pool.{of_id, count_of, AreDistinct, posted, IsFound, taken}
+use Rattle.message_net.specs.Pool.{of_id, count_of, AreDistinct, posted, IsFound, removed}
 use Rattle.message_net.specs.Mail.{mail_of, mails_of, all_mails}
 use Rattle.message_net.proofs.PoolLemmas.{same_id-true, counted-place, uncounted, sum_by-taken, taken-none, found-counted, AreDistinct-posted, count_of-posted}
 use Rattle.message_net.proofs.MailLemmas.{all_mails-append}
@@ -96,20 +96,20 @@ numbered-sent place numbers mails from outs within good i m is =
         (omega (arith, new.1, raised-here numbers (place from) (old + length outs) within))
 
 -- where nothing is taken nothing changes
-untaken : (id : MailId) (mails : List Mail) → (taken id mails).0 ≡ None → (taken id mails).1 ≡ mails
+untaken : (id : MailId) (mails : List Mail) → (removed id mails).0 ≡ None → (removed id mails).1 ≡ mails
 untaken id mails is = by_count (nat_lt 0 (count_of id mails)) refl where
-  by_found : (place : ℕ) × (m : Mail) × IsFound id mails place m → (taken id mails).1 ≡ mails
+  by_found : (place : ℕ) × (m : Mail) × IsFound id mails place m → (removed id mails).1 ≡ mails
   by_found (place, m, found) =
       let never = rw (found.takes) at is in
       absurd (cc)
 
-  by_count : (t : Bool) → nat_lt 0 (count_of id mails) ≡ t → (taken id mails).1 ≡ mails
+  by_count : (t : Bool) → nat_lt 0 (count_of id mails) ≡ t → (removed id mails).1 ≡ mails
   by_count true e = by_found (found-counted id mails (grind (arith, nat_tests, e)))
   by_count false e = ap (λ (x : Option Mail × List Mail). x.1) (taken-none id mails (grind (arith, nat_tests, e)))
 
 -- and where a mail is taken
-pub numbered-taken : (place : Actor → ℕ) (numbers : List ℕ) (mails : List Mail) (id : MailId) → AreNumbered place numbers mails → AreNumbered place numbers (taken id mails).1
-numbered-taken place numbers mails id good = by_taken (taken id mails).0 refl where
+pub numbered-taken : (place : Actor → ℕ) (numbers : List ℕ) (mails : List Mail) (id : MailId) → AreNumbered place numbers mails → AreNumbered place numbers (removed id mails).1
+numbered-taken place numbers mails id good = by_taken (removed id mails).0 refl where
   late : Mail → Bool
   late m = nat_le (slice_index numbers (place m.id.sender)) m.id.number
 
@@ -121,10 +121,10 @@ numbered-taken place numbers mails id good = by_taken (taken id mails).0 refl wh
       by_place : (i : ℕ) × (m : Mail) × (slice_get mails i ≡ Some m) × (late m ≡ true) → count_by late mails ≡ 0
       by_place (i, m, is, past) = absurd (grind (arith, nat_tests, good i m is, past))
 
-  by_taken : (o : Option Mail) → (taken id mails).0 ≡ o → AreNumbered place numbers (taken id mails).1
+  by_taken : (o : Option Mail) → (removed id mails).0 ≡ o → AreNumbered place numbers (removed id mails).1
   by_taken None is = subst (AreNumbered place numbers) (sym (untaken id mails is)) good
   by_taken (Some m) is =
       λ i x here.
       let left = sum_by-taken (λ (y : Mail). cond (late y) 1 0) id mails m is in
-      let on_time = uncounted late (taken id mails).1 i x (omega (arith, none, left)) here in
+      let on_time = uncounted late (removed id mails).1 i x (omega (arith, none, left)) here in
       grind (arith, nat_tests, on_time)

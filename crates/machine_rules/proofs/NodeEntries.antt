@@ -5,7 +5,7 @@ use Rattle.std.specs.Option.{option_map}
 use Rattle.region_table.specs.declared.interval.Interval.{Interval}
 use Rattle.region_table.specs.Words.{has}
 use Rattle.write_signature.specs.declared.signature.Signature.{Signature}
-use Rattle.write_signature.specs.Signature.{holds}
+use Rattle.write_signature.specs.Signature.{may_hold}
 use Rattle.message_net.specs.declared.message.Outgoing.{Outgoing}
 use Rattle.word_cache.specs.declared.row.Entry.{Entry}
 use Rattle.word_cache.specs.declared.row.Entry.TheVariants.{Valid, Registered, Leaving}
@@ -84,7 +84,7 @@ phase-owned words w (Some (Leaving value)) = refl
 
 pub grant-pending : (s : Signature) (phase : ℕ) (words : List Interval) (w : ℕ) (e : Option Entry) → pending_bit (entry_after_grant s phase words w e) ≡ pending_bit e
 grant-pending s phase words w None = refl
-grant-pending s phase words w (Some (Valid value marked)) = by_test (has words w && holds s w phase) where
+grant-pending s phase words w (Some (Valid value marked)) = by_test (has words w && may_hold s w phase) where
   by_test : (x : Bool) → pending_bit (cond x None (Some (Valid value marked))) ≡ 0
   by_test true = refl
   by_test false = refl
@@ -93,7 +93,7 @@ grant-pending s phase words w (Some (Leaving value)) = refl
 
 pub grant-owned : (s : Signature) (phase : ℕ) (words : List Interval) (w : ℕ) (e : Option Entry) → owned_value (entry_after_grant s phase words w e) ≡ owned_value e
 grant-owned s phase words w None = refl
-grant-owned s phase words w (Some (Valid value marked)) = by_test (has words w && holds s w phase) where
+grant-owned s phase words w (Some (Valid value marked)) = by_test (has words w && may_hold s w phase) where
   by_test : (x : Bool) → owned_value (cond x None (Some (Valid value marked))) ≡ None
   by_test true = refl
   by_test false = refl

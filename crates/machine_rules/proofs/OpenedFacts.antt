@@ -5,12 +5,12 @@ use Rattle.std.specs.List.{range_with_len}
 use Rattle.std.proofs.lemmas.Bool.Decides.{nat_tests}
 use Rattle.std.proofs.lemmas.Option.{slice_get-map}
 use Rattle.queue_lock.specs.Lock.{free_lock}
-use Rattle.registry_bank.specs.Bank.{opened_bank, first_word, IsNewBank}
+use Rattle.registry_bank.specs.Bank.{initial_bank, first_word, IsNewBank}
 use Rattle.registry_bank.proofs.Opened.{opened-is-new}
-use Rattle.phase_barrier.specs.Barrier.{opened as opened_barrier}
-use Rattle.registration_protocol.specs.Node.{NodeParts, Setting, opened as opened_node}
+use Rattle.phase_barrier.specs.Barrier.{initial_barrier as opened_barrier}
+use Rattle.registration_protocol.specs.Node.{NodeParts, Setting, initial_node as opened_node}
 use Rattle.registration_protocol.specs.Fit.{IsContext}
-use Rattle.machine_rules.specs.State.{opened, entry_in, entry_at, word_in, home_at, lock_in, lock_at}
+use Rattle.machine_rules.specs.State.{initial_state, entry_in, entry_at, word_in, home_at, lock_in, lock_at}
 use Rattle.machine_rules.specs.Flight.{Test, flight}
 
 -- what stands in a list that is made from numbers
@@ -27,20 +27,20 @@ get-made {X} f n k = slice_get-map f (range_with_len 0 n) k ∙ ap (option_map f
       ap (λ (x : ℕ). Some (f x)) same
   by_test false = refl
 
-pub opened-setting : (C : Setting) → (opened C).setting ≡ C
-unfolding opened
+pub opened-setting : (C : Setting) → (initial_state C).setting ≡ C
+unfolding initial_state
 opened-setting C = refl
 
-pub opened-flight : (C : Setting) (p : Test) → flight (opened C) p ≡ 0
-unfolding opened
+pub opened-flight : (C : Setting) (p : Test) → flight (initial_state C) p ≡ 0
+unfolding initial_state
 opened-flight C p = refl
 
-pub opened-keeper : (C : Setting) → (opened C).keeper ≡ opened_barrier C.shape.cores (length C.program.phases)
-unfolding opened
+pub opened-keeper : (C : Setting) → (initial_state C).keeper ≡ opened_barrier C.shape.cores (length C.program.phases)
+unfolding initial_state
 opened-keeper C = refl
 
-opened-nodes : (C : Setting) (c : ℕ) → slice_get (opened C).nodes c ≡ cond (nat_lt c C.shape.cores) (Some (opened_node C c)) None
-unfolding opened
+opened-nodes : (C : Setting) (c : ℕ) → slice_get (initial_state C).nodes c ≡ cond (nat_lt c C.shape.cores) (Some (opened_node C c)) None
+unfolding initial_state
 opened-nodes C c = get-made (opened_node C) C.shape.cores c
 
 -- a node of the opened machine
@@ -48,46 +48,46 @@ pub record IsNewNode (C : Setting) (c : ℕ) (n : NodeParts) : Type 0 where
   pub below : c < C.shape.cores
   pub is : n ≡ opened_node C c
 
-pub opened-node : (C : Setting) (c : ℕ) (n : NodeParts) → slice_get (opened C).nodes c ≡ Some n → IsNewNode C c n
+pub opened-node : (C : Setting) (c : ℕ) (n : NodeParts) → slice_get (initial_state C).nodes c ≡ Some n → IsNewNode C c n
 opened-node C c n found = by_test (nat_lt c C.shape.cores) refl (sym (opened-nodes C c) ∙ found) where
   by_test : (t : Bool) → nat_lt c C.shape.cores ≡ t → cond t (Some (opened_node C c)) None ≡ Some n → IsNewNode C c n
   by_test true e is = record { below = grind (arith, nat_tests, e); is = cc }
   by_test false e is = absurd (cc)
 
-pub opened-entry : (C : Setting) (c w : ℕ) → entry_at (opened C) c w ≡ None
+pub opened-entry : (C : Setting) (c w : ℕ) → entry_at (initial_state C) c w ≡ None
 opened-entry C c w = ap (entry_in w) (opened-nodes C c) ∙ by_test (nat_lt c C.shape.cores) where
   by_test : (t : Bool) → entry_in w (cond t (Some (opened_node C c)) None) ≡ None
   by_test true = refl
   by_test false = refl
 
-pub opened-banks : (C : Setting) (bank : ℕ) → slice_get (opened C).banks bank ≡ cond (nat_lt bank C.shape.banks) (Some (opened_bank bank C.shape.banks C.shape.cores C.program.memory (length C.program.locks))) None
-unfolding opened
-opened-banks C bank = get-made (λ (bank : ℕ). opened_bank bank C.shape.banks C.shape.cores C.program.memory (length C.program.locks)) C.shape.banks bank
+pub opened-banks : (C : Setting) (bank : ℕ) → slice_get (initial_state C).banks bank ≡ cond (nat_lt bank C.shape.banks) (Some (initial_bank bank C.shape.banks C.shape.cores C.program.memory (length C.program.locks))) None
+unfolding initial_state
+opened-banks C bank = get-made (λ (bank : ℕ). initial_bank bank C.shape.banks C.shape.cores C.program.memory (length C.program.locks)) C.shape.banks bank
 
 -- the bank of a number is there
-bank-of : (C : Setting) (n : ℕ) → IsContext C → slice_get (opened C).banks (n % C.shape.banks) ≡ Some (opened_bank (n % C.shape.banks) C.shape.banks C.shape.cores C.program.memory (length C.program.locks))
+bank-of : (C : Setting) (n : ℕ) → IsContext C → slice_get (initial_state C).banks (n % C.shape.banks) ≡ Some (initial_bank (n % C.shape.banks) C.shape.banks C.shape.cores C.program.memory (length C.program.locks))
 bank-of C n context =
     let within : nat_lt (n % C.shape.banks) C.shape.banks ≡ true = grind (arith, nat_tests, context.some_banks) in
     opened-banks C (n % C.shape.banks) ∙ rw (within) refl
 
-new-bank : (C : Setting) (n : ℕ) → IsContext C → IsNewBank (n % C.shape.banks) C.shape.banks C.shape.cores C.program.memory (length C.program.locks) (opened_bank (n % C.shape.banks) C.shape.banks C.shape.cores C.program.memory (length C.program.locks))
+new-bank : (C : Setting) (n : ℕ) → IsContext C → IsNewBank (n % C.shape.banks) C.shape.banks C.shape.cores C.program.memory (length C.program.locks) (initial_bank (n % C.shape.banks) C.shape.banks C.shape.cores C.program.memory (length C.program.locks))
 new-bank C n context = opened-is-new (n % C.shape.banks) C.shape.banks C.shape.cores C.program.memory (length C.program.locks) (omega (arith, context.some_banks))
 
-home-found : (C : Setting) (w : ℕ) → home_at (opened C) w ≡ word_in w (slice_get (opened C).banks (w % C.shape.banks))
-unfolding opened
+home-found : (C : Setting) (w : ℕ) → home_at (initial_state C) w ≡ word_in w (slice_get (initial_state C).banks (w % C.shape.banks))
+unfolding initial_state
 home-found C w = refl
 
-lock-found : (C : Setting) (l : ℕ) → lock_at (opened C) l ≡ lock_in l (slice_get (opened C).banks (l % C.shape.banks))
-unfolding opened
+lock-found : (C : Setting) (l : ℕ) → lock_at (initial_state C) l ≡ lock_in l (slice_get (initial_state C).banks (l % C.shape.banks))
+unfolding initial_state
 lock-found C l = refl
 
 same-number : (n : ℕ) → (n == n) ≡ true
 same-number n = grind (arith, nat_tests)
 
-pub opened-home : (C : Setting) (w : ℕ) → IsContext C → home_at (opened C) w ≡ first_word (slice_get C.program.memory w)
+pub opened-home : (C : Setting) (w : ℕ) → IsContext C → home_at (initial_state C) w ≡ first_word (slice_get C.program.memory w)
 opened-home C w context =
     home-found C w ∙ ap (word_in w) (bank-of C w context) ∙ (new-bank C w context).each_word w ∙ rw (same-number (w % C.shape.banks)) refl
 
-pub opened-lock : (C : Setting) (l : ℕ) → IsContext C → lock_at (opened C) l ≡ cond (nat_lt l (length C.program.locks)) (Some (free_lock C.shape.cores)) None
+pub opened-lock : (C : Setting) (l : ℕ) → IsContext C → lock_at (initial_state C) l ≡ cond (nat_lt l (length C.program.locks)) (Some (free_lock C.shape.cores)) None
 opened-lock C l context =
     lock-found C l ∙ ap (lock_in l) (bank-of C l context) ∙ (new-bank C l context).each_lock l ∙ rw (same-number (l % C.shape.banks)) refl

@@ -7,60 +7,60 @@ use Rattle.std.proofs.lemmas.List.FromFn.{length-map-range_with_len}
 use Rattle.effect_checker.specs.Checked.{IsChecked}
 use Rattle.region_table.specs.Program.{IsProgram}
 use Rattle.queue_lock.specs.Lock.{free_lock}
-use Rattle.registry_bank.specs.Bank.{BankParts, opened_bank, first_word}
+use Rattle.registry_bank.specs.Bank.{BankParts, initial_bank, first_word}
 use Rattle.registry_bank.proofs.Opened.{IsBank-opened}
-use Rattle.registration_protocol.specs.Node.{NodeParts, Setting, opened as opened_node}
+use Rattle.registration_protocol.specs.Node.{NodeParts, Setting, initial_node as opened_node}
 use Rattle.registration_protocol.specs.Fit.{IsContext, Fits}
 use Rattle.registration_protocol.proofs.FitLemmas.{opened-fits}
-use Rattle.machine_rules.specs.State.{opened, home_at, lock_at}
+use Rattle.machine_rules.specs.State.{initial_state, home_at, lock_at}
 use Rattle.machine_rules.specs.Sound.{IsMachine, IsSound, IsNodeAt, IsBankAt}
 use Rattle.machine_rules.proofs.OpenedFacts.{opened-setting, opened-node, opened-banks, opened-home, opened-lock}
 
-home-there : (C : Setting) (w : ℕ) → IsContext C → is_some (home_at (opened C) w) ≡ nat_lt w (length C.program.memory)
+home-there : (C : Setting) (w : ℕ) → IsContext C → is_some (home_at (initial_state C) w) ≡ nat_lt w (length C.program.memory)
 home-there C w context = ap is_some (opened-home C w context) ∙ by_list C.program.memory w where
   by_list : (xs : List ℕ) (i : ℕ) → is_some (first_word (slice_get xs i)) ≡ nat_lt i (length xs)
   by_list [] i = grind (arith, nat_tests)
   by_list (x ∷ xs) zero = grind (arith, nat_tests)
   by_list (x ∷ xs) (suc i) = by_list xs i ∙ grind (arith, nat_tests)
 
-lock-there : (C : Setting) (l : ℕ) → IsContext C → is_some (lock_at (opened C) l) ≡ nat_lt l (length C.program.locks)
+lock-there : (C : Setting) (l : ℕ) → IsContext C → is_some (lock_at (initial_state C) l) ≡ nat_lt l (length C.program.locks)
 lock-there C l context = ap is_some (opened-lock C l context) ∙ by_test (nat_lt l (length C.program.locks)) where
   by_test : (t : Bool) → is_some (cond t (Some (free_lock C.shape.cores)) None) ≡ t
   by_test true = refl
   by_test false = refl
 
-node-at : (C : Setting) (core : ℕ) (n : NodeParts) → IsContext C → slice_get (opened C).nodes core ≡ Some n → IsNodeAt (opened C) core n
+node-at : (C : Setting) (core : ℕ) (n : NodeParts) → IsContext C → slice_get (initial_state C).nodes core ≡ Some n → IsNodeAt (initial_state C) core n
 node-at C core n context found =
     let new = opened-node C core n found in
-    subst (IsNodeAt (opened C) core) (sym new.is)
+    subst (IsNodeAt (initial_state C) core) (sym new.is)
     (record { fits = subst (λ (D : Setting). Fits D (opened_node C core)) (sym (opened-setting C)) (opened-fits C core new.below); core = refl })
 
-bank-at : (C : Setting) (bank : ℕ) (b : BankParts) → slice_get (opened C).banks bank ≡ Some b → IsBankAt (opened C) bank b
+bank-at : (C : Setting) (bank : ℕ) (b : BankParts) → slice_get (initial_state C).banks bank ≡ Some b → IsBankAt (initial_state C) bank b
 bank-at C bank b found = by_test (nat_lt bank C.shape.banks) refl (sym (opened-banks C bank) ∙ found) where
   new : BankParts
-  new = opened_bank bank C.shape.banks C.shape.cores C.program.memory (length C.program.locks)
+  new = initial_bank bank C.shape.banks C.shape.cores C.program.memory (length C.program.locks)
 
-  by_test : (t : Bool) → nat_lt bank C.shape.banks ≡ t → cond t (Some new) None ≡ Some b → IsBankAt (opened C) bank b
+  by_test : (t : Bool) → nat_lt bank C.shape.banks ≡ t → cond t (Some new) None ≡ Some b → IsBankAt (initial_state C) bank b
   by_test true e is =
       let same : new ≡ b = cc in
-      let stands : IsBankAt (opened C) bank new = record {
+      let stands : IsBankAt (initial_state C) bank new = record {
         well = IsBank-opened bank C.shape.banks C.shape.cores C.program.memory (length C.program.locks) (grind (arith, nat_tests, e));
         bank = refl;
         banks = sym (ap (λ (D : Setting). D.shape.banks) (opened-setting C));
         cores = sym (ap (λ (D : Setting). D.shape.cores) (opened-setting C));
       } in
-      subst (IsBankAt (opened C) bank) same stands
+      subst (IsBankAt (initial_state C) bank) same stands
   by_test false e is = absurd (cc)
 
-pub opened-machine : (C : Setting) → IsContext C → IsProgram C.program → IsChecked C.program → IsMachine (opened C)
-unfolding opened
+pub opened-machine : (C : Setting) → IsContext C → IsProgram C.program → IsChecked C.program → IsMachine (initial_state C)
+unfolding initial_state
 opened-machine C context program checked =
     record {
       context = context;
       program = program;
       checked = checked;
       nodes = length-map-range_with_len (opened_node C) 0 C.shape.cores;
-      banks = length-map-range_with_len (λ (bank : ℕ). opened_bank bank C.shape.banks C.shape.cores C.program.memory (length C.program.locks)) 0 C.shape.banks;
+      banks = length-map-range_with_len (λ (bank : ℕ). initial_bank bank C.shape.banks C.shape.cores C.program.memory (length C.program.locks)) 0 C.shape.banks;
       numbers = length-replicate (C.shape.cores + C.shape.banks + 1) 0;
       node = λ core n found. node-at C core n context found;
       bank = λ bank b found. bank-at C bank b found;
@@ -78,19 +78,19 @@ none-used zero i = refl
 none-used (suc n) zero = refl
 none-used (suc n) (suc i) = none-used n i
 
-numbers-none : (C : Setting) (i : ℕ) → slice_index (opened C).numbers i ≡ 0
-unfolding opened
+numbers-none : (C : Setting) (i : ℕ) → slice_index (initial_state C).numbers i ≡ 0
+unfolding initial_state
 numbers-none C i = none-used (C.shape.cores + C.shape.banks + 1) i
 
-mails-none : (C : Setting) → length (opened C).mails ≡ 0
-unfolding opened
+mails-none : (C : Setting) → length (initial_state C).mails ≡ 0
+unfolding initial_state
 mails-none C = refl
 
-phase-first : (C : Setting) → (opened C).keeper.phase ≡ 0
-unfolding opened
+phase-first : (C : Setting) → (initial_state C).keeper.phase ≡ 0
+unfolding initial_state
 phase-first C = refl
 
-pub opened-sound : (C : Setting) → IsContext C → IsProgram C.program → IsChecked C.program → IsSound (opened C) 0
+pub opened-sound : (C : Setting) → IsContext C → IsProgram C.program → IsChecked C.program → IsSound (initial_state C) 0
 opened-sound C context program checked =
     record {
       machine = opened-machine C context program checked;

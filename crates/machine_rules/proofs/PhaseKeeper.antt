@@ -8,13 +8,13 @@ use Rattle.std.proofs.lemmas.List.{length-set}
 use Rattle.dn_base.specs.declared.ids.CoreId.{CoreId}
 use Rattle.message_net.specs.declared.message.Message.{Message}
 use Rattle.message_net.specs.declared.message.Message.TheVariants.{Arrived, Go, Halt}
-use Rattle.phase_barrier.specs.Barrier.{Barrier, counted as counts_in, advanced, all_arrived, is_over}
+use Rattle.phase_barrier.specs.Barrier.{Barrier, with_arrival as counts_in, in_next_phase, all_arrived, is_over}
 use Rattle.registration_protocol.specs.Node.{NodeParts}
-use Rattle.registration_protocol.specs.OwnEvents.{is_bad}
+use Rattle.registration_protocol.specs.OwnEvents.{task_ended_badly}
 use Rattle.machine_rules.specs.State.{State}
 use Rattle.machine_rules.specs.Sound.{IsMachine}
-use Rattle.machine_rules.specs.Flight.{bit, flight, arrives, goes, halts}
-use Rattle.machine_rules.specs.Coherent.{held_by, is_alive, waits_in, counts_bad}
+use Rattle.machine_rules.specs.Flight.{bit, flight, is_arrival_of, is_go_to, is_halt_to}
+use Rattle.machine_rules.specs.Coherent.{held_locks, is_alive, waits_at_keeper, counts_bad}
 use Rattle.machine_rules.proofs.Invariant.{PhasesGood, is_astray, is_lie, is_lost, bad_in}
 use Rattle.machine_rules.proofs.Leaves.{BarrierStep, at_keeper, to_all}
 use Rattle.machine_rules.proofs.WordCore.{same-number}
@@ -75,14 +75,14 @@ good-now S T core bad nodes keeper a g says is c = counts-now S T core bad nodes
 
 -- what isn't the same for the last arrival and the others
 pub record CountedGood (S T : State) : Type 0 where
-  pub row : (c : ℕ) → flight T (arrives c) + waits_in T c + (flight T (goes c) + flight T (halts c)) ≡ bit (is_alive (slice_get S.nodes c))
-  pub over : all_arrived T.keeper ≡ true → (c : ℕ) → flight T (arrives c) + flight T (goes c) ≡ 0
-  pub halting : (c : ℕ) → 1 ≤ flight T (halts c) → all_arrived T.keeper ≡ true
+  pub row : (c : ℕ) → flight T (is_arrival_of c) + waits_at_keeper T c + (flight T (is_go_to c) + flight T (is_halt_to c)) ≡ bit (is_alive (slice_get S.nodes c))
+  pub over : all_arrived T.keeper ≡ true → (c : ℕ) → flight T (is_arrival_of c) + flight T (is_go_to c) ≡ 0
+  pub halting : (c : ℕ) → 1 ≤ flight T (is_halt_to c) → all_arrived T.keeper ≡ true
   pub whole : all_arrived T.keeper ≡ true → (c : ℕ) (n : NodeParts) → slice_get S.nodes c ≡ Some n → n.arrived ≡ true
 
 phases-counted : (S T : State) (core : CoreId) (bad : Bool) (sent : Option Message) → BarrierStep S T (counts_in core.0 bad S.keeper) (at_keeper (Arrived core bad)) sent
     → Arriving S core.0 bad → PhasesGood S
-    → ((c : ℕ) → to_all (goes c) S.setting.shape.cores sent ≡ 0) → to_all (is_astray S.keeper.phase) S.setting.shape.cores sent ≡ 0 → to_all (is_lie S.nodes) S.setting.shape.cores sent ≡ 0
+    → ((c : ℕ) → to_all (is_go_to c) S.setting.shape.cores sent ≡ 0) → to_all (is_astray S.keeper.phase) S.setting.shape.cores sent ≡ 0 → to_all (is_lie S.nodes) S.setting.shape.cores sent ≡ 0
     → CountedGood S T → PhasesGood T
 phases-counted S T core bad sent step a g goes_none astray_none lie_none good =
     record {
@@ -114,20 +114,20 @@ phases-counted S T core bad sent step a g goes_none astray_none lie_none good =
     phase_is : T.keeper.phase ≡ S.keeper.phase
     phase_is = ap (λ (k : Barrier). k.phase) step.keeper
 
-    going : (c : ℕ) → flight T (goes c) ≡ flight S (goes c)
-    going c = omega (arith, step.flown (goes c), goes_none c)
+    going : (c : ℕ) → flight T (is_go_to c) ≡ flight S (is_go_to c)
+    going c = omega (arith, step.flown (is_go_to c), goes_none c)
 
 -- others are missing
 pub counted-node : (S T : State) (core : CoreId) (bad : Bool) → BarrierStep S T (counts_in core.0 bad S.keeper) (at_keeper (Arrived core bad)) None
     → IsMachine S → PhasesGood S → slice_get S.keeper.arrived core.0 ≡ Some false → all_arrived (counts_in core.0 bad S.keeper) ≡ false → PhasesGood T
 counted-node S T core bad step machine g new missing =
-    phases-counted S T core bad None step a g (λ c. nothing-posted (goes c) S.setting.shape.cores) (nothing-posted (is_astray S.keeper.phase) S.setting.shape.cores)
+    phases-counted S T core bad None step a g (λ c. nothing-posted (is_go_to c) S.setting.shape.cores) (nothing-posted (is_astray S.keeper.phase) S.setting.shape.cores)
     (nothing-posted (is_lie S.nodes) S.setting.shape.cores)
     (record {
       row = row;
       over = λ is. absurd (never is);
       halting = λ c some. (
-          let old = g.halting c (omega (arith, some, step.flown (halts c), nothing-posted (halts c) S.setting.shape.cores)) in
+          let old = g.halting c (omega (arith, some, step.flown (is_halt_to c), nothing-posted (is_halt_to c) S.setting.shape.cores)) in
           let not_yet = a.missing in
           absurd (cc)
           );
@@ -143,15 +143,15 @@ counted-node S T core bad step machine g new missing =
     never : all_arrived T.keeper ≡ true → ⊥
     never is = let not_yet = still in absurd (cc)
 
-    row : (c : ℕ) → flight T (arrives c) + waits_in T c + (flight T (goes c) + flight T (halts c)) ≡ bit (is_alive (slice_get S.nodes c))
+    row : (c : ℕ) → flight T (is_arrival_of c) + waits_at_keeper T c + (flight T (is_go_to c) + flight T (is_halt_to c)) ≡ bit (is_alive (slice_get S.nodes c))
     row c = by_test (core.0 == c) refl (marked S c) refl where
-      now : (x : Bool) → (core.0 == c) ≡ x → waits_in T c ≡ bit (x || marked S c)
+      now : (x : Bool) → (core.0 == c) ≡ x → waits_at_keeper T c ≡ bit (x || marked S c)
       now x e = rw (still, ap (λ (k : Barrier). slice_index_or k.arrived c false) step.keeper ∙ a.marks c, e) refl
 
-      before : waits_in S c ≡ bit (marked S c)
+      before : waits_at_keeper S c ≡ bit (marked S c)
       before = rw (a.missing) refl
 
-      by_test : (x : Bool) → (core.0 == c) ≡ x → (y : Bool) → marked S c ≡ y → flight T (arrives c) + waits_in T c + (flight T (goes c) + flight T (halts c)) ≡ bit (is_alive (slice_get S.nodes c))
+      by_test : (x : Bool) → (core.0 == c) ≡ x → (y : Bool) → marked S c ≡ y → flight T (is_arrival_of c) + waits_at_keeper T c + (flight T (is_go_to c) + flight T (is_halt_to c)) ≡ bit (is_alive (slice_get S.nodes c))
       by_test true e y f =
           let mine : marked S c ≡ false = subst (λ (x : ℕ). marked S x ≡ false) (eqb-true core.0 c e) a.own in
           omega (
@@ -161,12 +161,12 @@ counted-node S T core bad step machine g new missing =
             before,
             ap bit mine,
             ap bit e,
-            step.flown (arrives c),
-            step.flown (goes c),
-            step.flown (halts c),
-            nothing-posted (arrives c) S.setting.shape.cores,
-            nothing-posted (goes c) S.setting.shape.cores,
-            nothing-posted (halts c) S.setting.shape.cores,
+            step.flown (is_arrival_of c),
+            step.flown (is_go_to c),
+            step.flown (is_halt_to c),
+            nothing-posted (is_arrival_of c) S.setting.shape.cores,
+            nothing-posted (is_go_to c) S.setting.shape.cores,
+            nothing-posted (is_halt_to c) S.setting.shape.cores,
           )
       by_test false e y f =
           omega (
@@ -175,19 +175,19 @@ counted-node S T core bad step machine g new missing =
             now false e,
             before,
             ap bit e,
-            step.flown (arrives c),
-            step.flown (goes c),
-            step.flown (halts c),
-            nothing-posted (arrives c) S.setting.shape.cores,
-            nothing-posted (goes c) S.setting.shape.cores,
-            nothing-posted (halts c) S.setting.shape.cores,
+            step.flown (is_arrival_of c),
+            step.flown (is_go_to c),
+            step.flown (is_halt_to c),
+            nothing-posted (is_arrival_of c) S.setting.shape.cores,
+            nothing-posted (is_go_to c) S.setting.shape.cores,
+            nothing-posted (is_halt_to c) S.setting.shape.cores,
           )
 
 -- all have arrived, and the run is over
 pub halting-all : (S T : State) (core : CoreId) (bad : Bool) → BarrierStep S T (counts_in core.0 bad S.keeper) (at_keeper (Arrived core bad)) (Some Halt)
     → IsMachine S → PhasesGood S → slice_get S.keeper.arrived core.0 ≡ Some false → all_arrived (counts_in core.0 bad S.keeper) ≡ true → PhasesGood T
 halting-all S T core bad step machine g new whole =
-    phases-counted S T core bad (Some Halt) step a g (λ c. none-posted (goes c) Halt (λ d. refl) cores) (none-posted (is_astray S.keeper.phase) Halt (λ d. refl) cores)
+    phases-counted S T core bad (Some Halt) step a g (λ c. none-posted (is_go_to c) Halt (λ d. refl) cores) (none-posted (is_astray S.keeper.phase) Halt (λ d. refl) cores)
     (none-posted (is_lie S.nodes) Halt (λ d. refl) cores)
     (record {
       row = λ c. omega (arith, arrivals c, waits c, goings c, halts-now c, all.alive c);
@@ -203,18 +203,18 @@ halting-all S T core bad step machine g new whole =
     a = arriving S core.0 bad machine new
 
     all : IsWhole S core.0
-    all = is-whole S core.0 bad machine g a (in-flight S T (counts_in core.0 bad S.keeper) core bad (Some Halt) step (none-posted (arrives core.0) Halt (λ d. refl) cores)) whole
+    all = is-whole S core.0 bad machine g a (in-flight S T (counts_in core.0 bad S.keeper) core bad (Some Halt) step (none-posted (is_arrival_of core.0) Halt (λ d. refl) cores)) whole
 
-    arrivals : (c : ℕ) → flight T (arrives c) ≡ 0
-    arrivals c = omega (arith, step.flown (arrives c), none-posted (arrives c) Halt (λ d. refl) cores, all.arriving c)
+    arrivals : (c : ℕ) → flight T (is_arrival_of c) ≡ 0
+    arrivals c = omega (arith, step.flown (is_arrival_of c), none-posted (is_arrival_of c) Halt (λ d. refl) cores, all.arriving c)
 
-    goings : (c : ℕ) → flight T (goes c) ≡ 0
-    goings c = omega (arith, step.flown (goes c), none-posted (goes c) Halt (λ d. refl) cores, all.going c)
+    goings : (c : ℕ) → flight T (is_go_to c) ≡ 0
+    goings c = omega (arith, step.flown (is_go_to c), none-posted (is_go_to c) Halt (λ d. refl) cores, all.going c)
 
-    halts-now : (c : ℕ) → flight T (halts c) ≡ bit (nat_lt c cores)
-    halts-now c = omega (arith, step.flown (halts c), one-posted (halts c) Halt c (λ d. refl) cores, all.halting c)
+    halts-now : (c : ℕ) → flight T (is_halt_to c) ≡ bit (nat_lt c cores)
+    halts-now c = omega (arith, step.flown (is_halt_to c), one-posted (is_halt_to c) Halt c (λ d. refl) cores, all.halting c)
 
-    waits : (c : ℕ) → waits_in T c ≡ 0
+    waits : (c : ℕ) → waits_at_keeper T c ≡ 0
     waits c = rw (ap all_arrived step.keeper ∙ whole) refl
 
 -- ---- All have arrived, and the next phase begins.
@@ -229,7 +229,7 @@ not-all zero some = absurd (omega (arith, some))
 not-all (suc n) some = refl
 
 pub going-all : (S T : State) (core : CoreId) (bad : Bool)
-    → BarrierStep S T (advanced (counts_in core.0 bad S.keeper)) (at_keeper (Arrived core bad)) (Some (Go (record { 0 = S.keeper.phase + 1 })))
+    → BarrierStep S T (in_next_phase (counts_in core.0 bad S.keeper)) (at_keeper (Arrived core bad)) (Some (Go (record { 0 = S.keeper.phase + 1 })))
     → IsMachine S → flight S (is_lost S.setting.shape.cores S.setting.shape.banks) ≡ 0 → PhasesGood S
     → slice_get S.keeper.arrived core.0 ≡ Some false → all_arrived (counts_in core.0 bad S.keeper) ≡ true → is_over (counts_in core.0 bad S.keeper) ≡ false → PhasesGood T
 going-all S T core bad step machine addressed g new whole on =
@@ -257,13 +257,13 @@ going-all S T core bad step machine addressed g new whole on =
     go = Go (record { 0 = S.keeper.phase + 1 })
 
     k : Barrier
-    k = advanced (counts_in core.0 bad S.keeper)
+    k = in_next_phase (counts_in core.0 bad S.keeper)
 
     a : Arriving S core.0 bad
     a = arriving S core.0 bad machine new
 
     all : IsWhole S core.0
-    all = is-whole S core.0 bad machine g a (in-flight S T k core bad (Some go) step (none-posted (arrives core.0) go (λ d. refl) cores)) whole
+    all = is-whole S core.0 bad machine g a (in-flight S T k core bad (Some go) step (none-posted (is_arrival_of core.0) go (λ d. refl) cores)) whole
 
     says : bad ≡ bad_in (slice_get S.nodes core.0)
     says = said S T k core bad (Some go) step g (none-posted (is_lie S.nodes) go (λ d. refl) cores)
@@ -280,19 +280,19 @@ going-all S T core bad step machine addressed g new whole on =
     phase_is : T.keeper.phase ≡ S.keeper.phase + 1
     phase_is = ap (λ (k : Barrier). k.phase) step.keeper
 
-    arrivals : (c : ℕ) → flight T (arrives c) ≡ 0
-    arrivals c = omega (arith, step.flown (arrives c), none-posted (arrives c) go (λ d. refl) cores, all.arriving c)
+    arrivals : (c : ℕ) → flight T (is_arrival_of c) ≡ 0
+    arrivals c = omega (arith, step.flown (is_arrival_of c), none-posted (is_arrival_of c) go (λ d. refl) cores, all.arriving c)
 
-    goings : (c : ℕ) → flight T (goes c) ≡ bit (nat_lt c cores)
-    goings c = omega (arith, step.flown (goes c), one-posted (goes c) go c (λ d. refl) cores, all.going c)
+    goings : (c : ℕ) → flight T (is_go_to c) ≡ bit (nat_lt c cores)
+    goings c = omega (arith, step.flown (is_go_to c), one-posted (is_go_to c) go c (λ d. refl) cores, all.going c)
 
-    halts-now : (c : ℕ) → flight T (halts c) ≡ 0
-    halts-now c = omega (arith, step.flown (halts c), none-posted (halts c) go (λ d. refl) cores, all.halting c)
+    halts-now : (c : ℕ) → flight T (is_halt_to c) ≡ 0
+    halts-now c = omega (arith, step.flown (is_halt_to c), none-posted (is_halt_to c) go (λ d. refl) cores, all.halting c)
 
     marks : (c : ℕ) → marked T c ≡ false
     marks c = ap (λ (k : Barrier). slice_index_or k.arrived c false) step.keeper ∙ no-marks (length (counts_in core.0 bad S.keeper).arrived) c
 
-    waits : (c : ℕ) → waits_in T c ≡ 0
+    waits : (c : ℕ) → waits_at_keeper T c ≡ 0
     waits c = rw (marks c, and-false (not (all_arrived T.keeper))) refl
 
     some-core : 1 ≤ length (counts_in core.0 bad S.keeper).arrived
@@ -314,7 +314,7 @@ going-all S T core bad step machine addressed g new whole on =
     later = grind (arith, nat_tests, parts.1, machine.phases)
 
     -- every task is over and not bad
-    fine-at : (c : ℕ) (n : NodeParts) → slice_get S.nodes c ≡ Some n → (x : Bool) → (core.0 == c) ≡ x → is_bad n.task ≡ false
+    fine-at : (c : ℕ) (n : NodeParts) → slice_get S.nodes c ≡ Some n → (x : Bool) → (core.0 == c) ≡ x → task_ended_badly n.task ≡ false
     fine-at c n found true e =
         let here = subst (λ (x : ℕ). bad ≡ bad_in (slice_get S.nodes x)) (eqb-true core.0 c e) says in
         sym (ap bad_in found) ∙ sym here ∙ fine.1
@@ -322,7 +322,7 @@ going-all S T core bad step machine addressed g new whole on =
         let mark = all.marked c e (grind (arith, nat_tests, there-within S c n machine found)) in
         rw (mark) at (sym (counts-is S c n found) ∙ g.good fine.0 c)
 
-    free : (c : ℕ) (n : NodeParts) → slice_get S.nodes c ≡ Some n → held_by n.task ≡ 0
+    free : (c : ℕ) (n : NodeParts) → slice_get S.nodes c ≡ Some n → held_locks n.task ≡ 0
     free c n found =
         let there = alive-arrived S c n found (omega (arith, all.alive c, there-within S c n machine found)) in
         holds-none S c n g found (g.arrived c n found there).over (fine-at c n found (core.0 == c) refl)

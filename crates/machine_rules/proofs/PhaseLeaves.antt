@@ -24,7 +24,7 @@ use Rattle.queue_lock.specs.Lock.{Lock}
 use Rattle.registry_bank.specs.declared.bank.BankWord.{BankWord}
 use Rattle.registration_protocol.specs.declared.node.NodeWait as wait
 use Rattle.registration_protocol.specs.declared.node.NodeWait.{NodeWait}
-use Rattle.registration_protocol.specs.Node.{NodeParts, Setting, need_now, goes_on, entry_of, is_active}
+use Rattle.registration_protocol.specs.Node.{NodeParts, Setting, need_now, is_running, entry_of, is_active}
 use Rattle.registration_protocol.specs.Messages.{lacking}
 use Rattle.machine_rules.specs.State.{State}
 use Rattle.machine_rules.specs.Next.{next}
@@ -53,11 +53,11 @@ finishes-free P d fuel t by wants u is ended =
 
 -- ---- A task that doesn't go on needs nothing, and its node waits for nothing.
 
-needs-none : (C : Setting) (n : NodeParts) → goes_on n.task ≡ false → need_now C n ≡ None
+needs-none : (C : Setting) (n : NodeParts) → is_running n.task ≡ false → need_now C n ≡ None
 needs-none C n done = by_task n.task refl where
   by_end : (t : TaskState) → n.task ≡ Some t → (x : Bool) → is_some t.end ≡ x → need_now C n ≡ None
   by_end t is true e = rw (is, e) refl
-  by_end t is false e = let on : goes_on n.task ≡ true = rw (is, e) refl in absurd (cc)
+  by_end t is false e = let on : is_running n.task ≡ true = rw (is, e) refl in absurd (cc)
 
   by_task : (o : Option TaskState) → n.task ≡ o → need_now C n ≡ None
   by_task None is = rw (is) refl
@@ -67,7 +67,7 @@ wants-value : (S : State) (n : NodeParts) (word : WordId) → need_now S.setting
 wants-value S n word none (inl load) = absurd (cc)
 wants-value S n word none (inr store) = absurd (cc)
 
-idle : (S : State) (M : ℕ → ℕ) (core : ℕ) (n : NodeParts) → Invariant S M → slice_get S.nodes core ≡ Some n → goes_on n.task ≡ false → n.waiting ≡ wait.TheVariants.None
+idle : (S : State) (M : ℕ → ℕ) (core : ℕ) (n : NodeParts) → Invariant S M → slice_get S.nodes core ≡ Some n → is_running n.task ≡ false → n.waiting ≡ wait.TheVariants.None
 idle S M core n inv found done = by_wait n.waiting refl where
   none : need_now S.setting n ≡ None
   none = needs-none S.setting n done

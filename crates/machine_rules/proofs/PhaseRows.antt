@@ -13,19 +13,19 @@ use Rattle.phase_barrier.specs.Barrier.{Barrier, all_arrived}
 use Rattle.rv_core.specs.declared.task.TaskState.{TaskState}
 use Rattle.rv_core.specs.declared.task.End.TheVariants.{Finished}
 use Rattle.registration_protocol.specs.Node.{NodeParts}
-use Rattle.registration_protocol.specs.OwnEvents.{is_bad}
+use Rattle.registration_protocol.specs.OwnEvents.{task_ended_badly}
 use Rattle.machine_rules.specs.State.{State}
-use Rattle.machine_rules.specs.Flight.{Test, bit, counted, flight, arrives, goes, halts}
-use Rattle.machine_rules.specs.Coherent.{HasArrived, held_by, is_alive, waits_in, counts_bad}
+use Rattle.machine_rules.specs.Flight.{Test, bit, mail_count, flight, is_arrival_of, is_go_to, is_halt_to}
+use Rattle.machine_rules.specs.Coherent.{HasArrived, held_locks, is_alive, waits_at_keeper, counts_bad}
 use Rattle.machine_rules.proofs.Bits.{passes}
 use Rattle.machine_rules.proofs.Invariant.{PhasesGood, is_astray, is_lie, bad_in}
 use Rattle.machine_rules.proofs.Steps.{NodeStep}
 
 -- a mail, if there is one, that isn't one of the barrier's
 pub record IsOther (out : Option Outgoing) : Type 0 where
-  pub arriving : (d : ℕ) → passes (arrives d) out ≡ 0
-  pub going : (d : ℕ) → passes (goes d) out ≡ 0
-  pub halting : (d : ℕ) → passes (halts d) out ≡ 0
+  pub arriving : (d : ℕ) → passes (is_arrival_of d) out ≡ 0
+  pub going : (d : ℕ) → passes (is_go_to d) out ≡ 0
+  pub halting : (d : ℕ) → passes (is_halt_to d) out ≡ 0
   pub astray : (p : ℕ) → passes (is_astray p) out ≡ 0
   pub lie : (nodes : List NodeParts) → passes (is_lie nodes) out ≡ 0
 
@@ -46,9 +46,9 @@ other-some to _ e = record { arriving = λ d. refl; going = λ d. refl; halting 
 
 -- a mail, if there is one, that says nothing to another core and nothing of one
 pub record IsApart (core : ℕ) (out : Option Outgoing) : Type 0 where
-  pub arriving : (d : ℕ) → (core == d) ≡ false → passes (arrives d) out ≡ 0
-  pub going : (d : ℕ) → (core == d) ≡ false → passes (goes d) out ≡ 0
-  pub halting : (d : ℕ) → (core == d) ≡ false → passes (halts d) out ≡ 0
+  pub arriving : (d : ℕ) → (core == d) ≡ false → passes (is_arrival_of d) out ≡ 0
+  pub going : (d : ℕ) → (core == d) ≡ false → passes (is_go_to d) out ≡ 0
+  pub halting : (d : ℕ) → (core == d) ≡ false → passes (is_halt_to d) out ≡ 0
 
 pub other-apart : (core : ℕ) (out : Option Outgoing) → IsOther out → IsApart core out
 other-apart core out other = record { arriving = λ d e. other.arriving d; going = λ d e. other.going d; halting = λ d e. other.halting d }
@@ -58,22 +58,22 @@ other-apart core out other = record { arriving = λ d e. other.arriving d; going
 abbrev pub marked : State → ℕ → Bool
 marked S c = slice_index_or S.keeper.arrived c false
 
-pub counts-is : (S : State) (c : ℕ) (n : NodeParts) → slice_get S.nodes c ≡ Some n → counts_bad S c ≡ (marked S c && is_bad n.task)
+pub counts-is : (S : State) (c : ℕ) (n : NodeParts) → slice_get S.nodes c ≡ Some n → counts_bad S c ≡ (marked S c && task_ended_badly n.task)
 counts-is S c n found = rw (found) refl
 
 -- ---- What has to be shown of the node whose event it is: n becomes m.
 
 pub record OwnGood (S T : State) (core : ℕ) (n m : NodeParts) : Type 0 where
-  pub row : flight T (arrives core) + waits_in S core + (flight T (goes core) + flight T (halts core)) ≡ bit (is_alive (Some m))
-  pub phase : m.halted ≡ false → m.phase + flight T (goes core) ≡ S.keeper.phase
+  pub row : flight T (is_arrival_of core) + waits_at_keeper S core + (flight T (is_go_to core) + flight T (is_halt_to core)) ≡ bit (is_alive (Some m))
+  pub phase : m.halted ≡ false → m.phase + flight T (is_go_to core) ≡ S.keeper.phase
   pub arrived : m.arrived ≡ true → HasArrived m
   pub asleep : m.halted ≡ true → HasArrived m
-  pub counts : (marked S core && is_bad m.task) ≡ (marked S core && is_bad n.task)
-  pub over : all_arrived S.keeper ≡ true → flight T (arrives core) + flight T (goes core) ≡ 0
-  pub halting : 1 ≤ flight T (halts core) → all_arrived S.keeper ≡ true
+  pub counts : (marked S core && task_ended_badly m.task) ≡ (marked S core && task_ended_badly n.task)
+  pub over : all_arrived S.keeper ≡ true → flight T (is_arrival_of core) + flight T (is_go_to core) ≡ 0
+  pub halting : 1 ≤ flight T (is_halt_to core) → all_arrived S.keeper ≡ true
   pub whole : all_arrived S.keeper ≡ true → m.arrived ≡ true
   pub finished : (t : TaskState) → m.task ≡ Some t → t.end ≡ Some Finished → t.held ≡ 0
-  pub unlocked : 1 ≤ flight T (goes core) → held_by m.task ≡ 0
+  pub unlocked : 1 ≤ flight T (is_go_to core) → held_locks m.task ≡ 0
 
 -- each node of the state afterwards is m, or another one that was there before
 pub node-case : (S T : State) (core : ℕ) (n m : NodeParts) (left sent : Option Outgoing) → NodeStep S T core n m left sent → (P : ℕ → NodeParts → Type 0) → P core m
@@ -92,7 +92,7 @@ pub phases-node : (S T : State) (core : ℕ) (n m : NodeParts) (left sent : Opti
 phases-node S T core n m left sent step g own came went astray truly =
     record {
       row = λ c. record { one = row c (core == c) refl };
-      phase = node-case S T core n m left sent step (λ c k. k.halted ≡ false → k.phase + flight T (goes c) ≡ T.keeper.phase)
+      phase = node-case S T core n m left sent step (λ c k. k.halted ≡ false → k.phase + flight T (is_go_to c) ≡ T.keeper.phase)
           (λ awake. own.phase awake ∙ phase_back)
           (λ c k e found awake. omega (arith, g.phase c k found awake, going c e, phase_back));
       astray = rw (step.keeper) astray;
@@ -108,7 +108,7 @@ phases-node S T core n m left sent step g own came went astray truly =
       halting = λ c some. subst (λ (k : Barrier). all_arrived k ≡ true) (sym step.keeper) (halting c some (core == c) refl);
       whole = λ is. node-case S T core n m left sent step (λ c k. k.arrived ≡ true) (own.whole (keeper-whole is)) (λ c k e found. g.whole (keeper-whole is) c k found);
       finished = λ c k t found. node-case S T core n m left sent step (λ c k. k.task ≡ Some t → t.end ≡ Some Finished → t.held ≡ 0) (own.finished t) (λ d j e there. g.finished d j t there) c k found;
-      unlocked = node-case S T core n m left sent step (λ c k. 1 ≤ flight T (goes c) → held_by k.task ≡ 0) own.unlocked (λ c k e found some. g.unlocked c k found (omega (arith, some, going c e)));
+      unlocked = node-case S T core n m left sent step (λ c k. 1 ≤ flight T (is_go_to c) → held_locks k.task ≡ 0) own.unlocked (λ c k e found some. g.unlocked c k found (omega (arith, some, going c e)));
       within = rw (step.keeper, step.setting) g.within;
     }
   where
@@ -118,27 +118,27 @@ phases-node S T core n m left sent step g own came went astray truly =
     keeper-whole : all_arrived T.keeper ≡ true → all_arrived S.keeper ≡ true
     keeper-whole is = subst (λ (k : Barrier). all_arrived k ≡ true) step.keeper is
 
-    arriving : (c : ℕ) → (core == c) ≡ false → flight T (arrives c) ≡ flight S (arrives c)
-    arriving c e = omega (arith, step.flown (arrives c), came.arriving c e, went.arriving c e)
+    arriving : (c : ℕ) → (core == c) ≡ false → flight T (is_arrival_of c) ≡ flight S (is_arrival_of c)
+    arriving c e = omega (arith, step.flown (is_arrival_of c), came.arriving c e, went.arriving c e)
 
-    going : (c : ℕ) → (core == c) ≡ false → flight T (goes c) ≡ flight S (goes c)
-    going c e = omega (arith, step.flown (goes c), came.going c e, went.going c e)
+    going : (c : ℕ) → (core == c) ≡ false → flight T (is_go_to c) ≡ flight S (is_go_to c)
+    going c e = omega (arith, step.flown (is_go_to c), came.going c e, went.going c e)
 
-    stopping : (c : ℕ) → (core == c) ≡ false → flight T (halts c) ≡ flight S (halts c)
-    stopping c e = omega (arith, step.flown (halts c), came.halting c e, went.halting c e)
+    stopping : (c : ℕ) → (core == c) ≡ false → flight T (is_halt_to c) ≡ flight S (is_halt_to c)
+    stopping c e = omega (arith, step.flown (is_halt_to c), came.halting c e, went.halting c e)
 
-    waiting : (c : ℕ) → waits_in T c ≡ waits_in S c
+    waiting : (c : ℕ) → waits_at_keeper T c ≡ waits_at_keeper S c
     waiting c = rw (step.keeper) refl
 
     alive : (c : ℕ) (x : Bool) → (core == c) ≡ x → slice_get T.nodes c ≡ cond x (Some m) (slice_get S.nodes c)
     alive c x e = rw (e) at (step.nodes c)
 
-    row : (c : ℕ) (x : Bool) → (core == c) ≡ x → flight T (arrives c) + waits_in T c + (flight T (goes c) + flight T (halts c)) ≡ bit (is_alive (slice_get T.nodes c))
+    row : (c : ℕ) (x : Bool) → (core == c) ≡ x → flight T (is_arrival_of c) + waits_at_keeper T c + (flight T (is_go_to c) + flight T (is_halt_to c)) ≡ bit (is_alive (slice_get T.nodes c))
     row c false e = omega (arith, g.row c, arriving c e, going c e, stopping c e, waiting c, ap (λ (o : Option NodeParts). bit (is_alive o)) (alive c false e))
     row c true e =
         let same : core ≡ c = eqb-true core c e in
-        let mine : flight T (arrives c) + waits_in S c + (flight T (goes c) + flight T (halts c)) ≡ bit (is_alive (Some m)) =
-        subst (λ (x : ℕ). flight T (arrives x) + waits_in S x + (flight T (goes x) + flight T (halts x)) ≡ bit (is_alive (Some m))) same own.row in
+        let mine : flight T (is_arrival_of c) + waits_at_keeper S c + (flight T (is_go_to c) + flight T (is_halt_to c)) ≡ bit (is_alive (Some m)) =
+        subst (λ (x : ℕ). flight T (is_arrival_of x) + waits_at_keeper S x + (flight T (is_go_to x) + flight T (is_halt_to x)) ≡ bit (is_alive (Some m))) same own.row in
         omega (arith, mine, waiting c, ap (λ (o : Option NodeParts). bit (is_alive o)) (alive c true e))
 
     counts : (c : ℕ) (x : Bool) → (core == c) ≡ x → counts_bad T c ≡ counts_bad S c
@@ -146,30 +146,30 @@ phases-node S T core n m left sent step g own came went astray truly =
     counts c true e =
         let same : core ≡ c = eqb-true core c e in
         let here : slice_get S.nodes c ≡ Some n = subst (λ (x : ℕ). slice_get S.nodes x ≡ Some n) same step.found in
-        let mine : (marked S c && is_bad m.task) ≡ (marked S c && is_bad n.task) = subst (λ (x : ℕ). (marked S x && is_bad m.task) ≡ (marked S x && is_bad n.task)) same own.counts in
-        counts-is T c m (alive c true e) ∙ ap (λ (k : Barrier). slice_index_or k.arrived c false && is_bad m.task) step.keeper ∙ mine ∙ sym (counts-is S c n here)
+        let mine : (marked S c && task_ended_badly m.task) ≡ (marked S c && task_ended_badly n.task) = subst (λ (x : ℕ). (marked S x && task_ended_badly m.task) ≡ (marked S x && task_ended_badly n.task)) same own.counts in
+        counts-is T c m (alive c true e) ∙ ap (λ (k : Barrier). slice_index_or k.arrived c false && task_ended_badly m.task) step.keeper ∙ mine ∙ sym (counts-is S c n here)
 
-    over : all_arrived S.keeper ≡ true → (c : ℕ) (x : Bool) → (core == c) ≡ x → flight T (arrives c) + flight T (goes c) ≡ 0
+    over : all_arrived S.keeper ≡ true → (c : ℕ) (x : Bool) → (core == c) ≡ x → flight T (is_arrival_of c) + flight T (is_go_to c) ≡ 0
     over is c false e = omega (arith, g.over is c, arriving c e, going c e)
-    over is c true e = subst (λ (x : ℕ). flight T (arrives x) + flight T (goes x) ≡ 0) (eqb-true core c e) (own.over is)
+    over is c true e = subst (λ (x : ℕ). flight T (is_arrival_of x) + flight T (is_go_to x) ≡ 0) (eqb-true core c e) (own.over is)
 
-    halting : (c : ℕ) → 1 ≤ flight T (halts c) → (x : Bool) → (core == c) ≡ x → all_arrived S.keeper ≡ true
+    halting : (c : ℕ) → 1 ≤ flight T (is_halt_to c) → (x : Bool) → (core == c) ≡ x → all_arrived S.keeper ≡ true
     halting c some false e = g.halting c (omega (arith, some, stopping c e))
-    halting c some true e = own.halting (subst (λ (x : ℕ). 1 ≤ flight T (halts x)) (sym (eqb-true core c e)) some)
+    halting c some true e = own.halting (subst (λ (x : ℕ). 1 ≤ flight T (is_halt_to x)) (sym (eqb-true core c e)) some)
 
 -- ---- Arrivals that say whether a task was bad.
 
 -- by other nodes an arrival lies only of a core whose task isn't as it was
 lie-le : (old new : List NodeParts) (core : ℕ) → ((d : ℕ) → (core == d) ≡ false → bad_in (slice_get new d) ≡ bad_in (slice_get old d))
-    → (m : Mail) → counted (is_lie new) m ≤ counted (is_lie old) m + counted (arrives core) m
+    → (m : Mail) → mail_count (is_lie new) m ≤ mail_count (is_lie old) m + mail_count (is_arrival_of core) m
 lie-le old new core same m = by_message m.message where
-  by_message : (message : Message) → bit (is_lie new m.to message) ≤ bit (is_lie old m.to message) + bit (arrives core m.to message)
+  by_message : (message : Message) → bit (is_lie new m.to message) ≤ bit (is_lie old m.to message) + bit (is_arrival_of core m.to message)
   by_message (Arrived c bad) = by_test (core == c.0) refl where
     bit-one : (b : Bool) → bit b ≤ 1
     bit-one true = omega arith
     bit-one false = omega arith
 
-    by_test : (x : Bool) → (core == c.0) ≡ x → bit (is_lie new m.to (Arrived c bad)) ≤ bit (is_lie old m.to (Arrived c bad)) + bit (arrives core m.to (Arrived c bad))
+    by_test : (x : Bool) → (core == c.0) ≡ x → bit (is_lie new m.to (Arrived c bad)) ≤ bit (is_lie old m.to (Arrived c bad)) + bit (is_arrival_of core m.to (Arrived c bad))
     by_test false e = rw (same c.0 e) (omega arith)
     by_test true e =
         let back : (c.0 == core) ≡ true = grind (arith, nat_tests, e) in
@@ -177,19 +177,19 @@ lie-le old new core same m = by_message m.message where
   by_message _ = omega arith
 
 pub lies-le : (S : State) (new : List NodeParts) (core : ℕ) → ((d : ℕ) → (core == d) ≡ false → bad_in (slice_get new d) ≡ bad_in (slice_get S.nodes d))
-    → flight S (is_lie new) ≤ flight S (is_lie S.nodes) + flight S (arrives core)
+    → flight S (is_lie new) ≤ flight S (is_lie S.nodes) + flight S (is_arrival_of core)
 lies-le S new core same =
-    let each = sum_by-le-sum_by (counted (is_lie new)) (λ (m : Mail). counted (is_lie S.nodes) m + counted (arrives core) m) S.mails (lie-le S.nodes new core same) in
-    omega (arith, each, weight-both (counted (is_lie S.nodes)) (counted (arrives core)) S.mails)
+    let each = sum_by-le-sum_by (mail_count (is_lie new)) (λ (m : Mail). mail_count (is_lie S.nodes) m + mail_count (is_arrival_of core) m) S.mails (lie-le S.nodes new core same) in
+    omega (arith, each, weight-both (mail_count (is_lie S.nodes)) (mail_count (is_arrival_of core)) S.mails)
 
-lie-same : (old new : List NodeParts) → ((d : ℕ) → bad_in (slice_get new d) ≡ bad_in (slice_get old d)) → (m : Mail) → counted (is_lie new) m ≤ counted (is_lie old) m
+lie-same : (old new : List NodeParts) → ((d : ℕ) → bad_in (slice_get new d) ≡ bad_in (slice_get old d)) → (m : Mail) → mail_count (is_lie new) m ≤ mail_count (is_lie old) m
 lie-same old new same m = by_message m.message where
   by_message : (message : Message) → bit (is_lie new m.to message) ≤ bit (is_lie old m.to message)
   by_message (Arrived c bad) = rw (same c.0) (omega arith)
   by_message _ = omega arith
 
 pub lies-same : (S : State) (new : List NodeParts) → ((d : ℕ) → bad_in (slice_get new d) ≡ bad_in (slice_get S.nodes d)) → flight S (is_lie new) ≤ flight S (is_lie S.nodes)
-lies-same S new same = sum_by-le-sum_by (counted (is_lie new)) (counted (is_lie S.nodes)) S.mails (lie-same S.nodes new same)
+lies-same S new same = sum_by-le-sum_by (mail_count (is_lie new)) (mail_count (is_lie S.nodes)) S.mails (lie-same S.nodes new same)
 
 -- ---- An event that changes no node, nor the keeper.
 
@@ -222,16 +222,16 @@ phases-still S T left sent setting nodes keeper flown g came went =
     whole : all_arrived T.keeper ≡ true → all_arrived S.keeper ≡ true
     whole is = subst (λ (k : Barrier). all_arrived k ≡ true) keeper is
 
-    arriving : (c : ℕ) → flight T (arrives c) ≡ flight S (arrives c)
-    arriving c = omega (arith, flown (arrives c), came.arriving c, went.arriving c)
+    arriving : (c : ℕ) → flight T (is_arrival_of c) ≡ flight S (is_arrival_of c)
+    arriving c = omega (arith, flown (is_arrival_of c), came.arriving c, went.arriving c)
 
-    going : (c : ℕ) → flight T (goes c) ≡ flight S (goes c)
-    going c = omega (arith, flown (goes c), came.going c, went.going c)
+    going : (c : ℕ) → flight T (is_go_to c) ≡ flight S (is_go_to c)
+    going c = omega (arith, flown (is_go_to c), came.going c, went.going c)
 
-    stopping : (c : ℕ) → flight T (halts c) ≡ flight S (halts c)
-    stopping c = omega (arith, flown (halts c), came.halting c, went.halting c)
+    stopping : (c : ℕ) → flight T (is_halt_to c) ≡ flight S (is_halt_to c)
+    stopping c = omega (arith, flown (is_halt_to c), came.halting c, went.halting c)
 
-    waiting : (c : ℕ) → waits_in T c ≡ waits_in S c
+    waiting : (c : ℕ) → waits_at_keeper T c ≡ waits_at_keeper S c
     waiting c = rw (keeper) refl
 
     counts : (c : ℕ) → counts_bad T c ≡ counts_bad S c

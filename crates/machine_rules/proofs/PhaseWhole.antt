@@ -12,16 +12,16 @@ use Rattle.message_net.specs.declared.message.Mail.{Mail}
 use Rattle.message_net.specs.declared.message.Message.{Message}
 use Rattle.message_net.specs.declared.message.Message.TheVariants.{Arrived, Go}
 use Rattle.message_net.proofs.PoolLemmas.{weight-somewhere, weight-within}
-use Rattle.phase_barrier.specs.Barrier.{Barrier, counted as counts_in, all_arrived}
+use Rattle.phase_barrier.specs.Barrier.{Barrier, with_arrival as counts_in, all_arrived}
 use Rattle.rv_core.specs.declared.task.TaskState.{TaskState}
 use Rattle.rv_core.specs.declared.task.End.{End}
 use Rattle.rv_core.specs.declared.task.End.TheVariants.{Finished, Fuel, Trap}
-use Rattle.registration_protocol.specs.Node.{NodeParts, goes_on}
-use Rattle.registration_protocol.specs.OwnEvents.{is_bad}
+use Rattle.registration_protocol.specs.Node.{NodeParts, is_running}
+use Rattle.registration_protocol.specs.OwnEvents.{task_ended_badly}
 use Rattle.machine_rules.specs.State.{State}
 use Rattle.machine_rules.specs.Sound.{IsMachine}
-use Rattle.machine_rules.specs.Flight.{Test, bit, counted, flight, arrives, goes, halts}
-use Rattle.machine_rules.specs.Coherent.{held_by, is_alive, waits_in}
+use Rattle.machine_rules.specs.Flight.{Test, bit, mail_count, flight, is_arrival_of, is_go_to, is_halt_to}
+use Rattle.machine_rules.specs.Coherent.{held_locks, is_alive, waits_at_keeper}
 use Rattle.machine_rules.proofs.Bits.{passes}
 use Rattle.machine_rules.proofs.Invariant.{PhasesGood, is_astray, is_lie, is_lost, same_truth, bad_in}
 use Rattle.machine_rules.proofs.Leaves.{BarrierStep, at_keeper, to_all}
@@ -97,11 +97,11 @@ arriving S core bad machine new =
     }
 
 -- the arrival is in flight
-pub in-flight : (S T : State) (k : Barrier) (core : CoreId) (bad : Bool) (sent : Option Message) → BarrierStep S T k (at_keeper (Arrived core bad)) sent → to_all (arrives core.0) S.setting.shape.cores sent ≡ 0
-    → 1 ≤ flight S (arrives core.0)
+pub in-flight : (S T : State) (k : Barrier) (core : CoreId) (bad : Bool) (sent : Option Message) → BarrierStep S T k (at_keeper (Arrived core bad)) sent → to_all (is_arrival_of core.0) S.setting.shape.cores sent ≡ 0
+    → 1 ≤ flight S (is_arrival_of core.0)
 in-flight S T k core bad sent step none =
-    let one : passes (arrives core.0) (at_keeper (Arrived core bad)) ≡ 1 = rw (same-number core.0) refl in
-    omega (arith, step.flown (arrives core.0), none, one)
+    let one : passes (is_arrival_of core.0) (at_keeper (Arrived core bad)) ≡ 1 = rw (same-number core.0) refl in
+    omega (arith, step.flown (is_arrival_of core.0), none, one)
 
 -- it says truly whether the task was bad
 pub said : (S T : State) (k : Barrier) (core : CoreId) (bad : Bool) (sent : Option Message) → BarrierStep S T k (at_keeper (Arrived core bad)) sent → PhasesGood S
@@ -116,21 +116,21 @@ said S T k core bad sent step g none = true_same bad (bad_in (slice_get S.nodes 
 -- ---- Once the set is whole.
 
 pub record IsWhole (S : State) (core : ℕ) : Type 0 where
-  pub arriving : (c : ℕ) → flight S (arrives c) ≡ bit (core == c)
-  pub going : (c : ℕ) → flight S (goes c) ≡ 0
-  pub halting : (c : ℕ) → flight S (halts c) ≡ 0
+  pub arriving : (c : ℕ) → flight S (is_arrival_of c) ≡ bit (core == c)
+  pub going : (c : ℕ) → flight S (is_go_to c) ≡ 0
+  pub halting : (c : ℕ) → flight S (is_halt_to c) ≡ 0
   pub alive : (c : ℕ) → bit (is_alive (slice_get S.nodes c)) ≡ bit (nat_lt c S.setting.shape.cores)
   pub marked : (c : ℕ) → (core == c) ≡ false → c < S.setting.shape.cores → marked S c ≡ true
 
 -- what is known of one core
 record IsIn (S : State) (core c : ℕ) : Type 0 where
-  arriving : flight S (arrives c) ≡ bit (core == c)
-  going : flight S (goes c) ≡ 0
-  halting : flight S (halts c) ≡ 0
+  arriving : flight S (is_arrival_of c) ≡ bit (core == c)
+  going : flight S (is_go_to c) ≡ 0
+  halting : flight S (is_halt_to c) ≡ 0
   alive : bit (is_alive (slice_get S.nodes c)) ≡ bit (nat_lt c S.setting.shape.cores)
   marked : (core == c) ≡ false → c < S.setting.shape.cores → marked S c ≡ true
 
-whole-at : (S : State) (core : ℕ) (bad : Bool) → IsMachine S → PhasesGood S → Arriving S core bad → 1 ≤ flight S (arrives core) → all_arrived (counts_in core bad S.keeper) ≡ true
+whole-at : (S : State) (core : ℕ) (bad : Bool) → IsMachine S → PhasesGood S → Arriving S core bad → 1 ≤ flight S (is_arrival_of core) → all_arrived (counts_in core bad S.keeper) ≡ true
     → (c : ℕ) → IsIn S core c
 whole-at S core bad machine g a one whole c = by_tests (nat_lt c S.setting.shape.cores) refl (core == c) refl where
   by_tests : (x : Bool) → nat_lt c S.setting.shape.cores ≡ x → (y : Bool) → (core == c) ≡ y → IsIn S core c
@@ -147,7 +147,7 @@ whole-at S core bad machine g a one whole c = by_tests (nat_lt c S.setting.shape
       }
   by_tests true e true f =
       let same : core ≡ c = eqb-true core c f in
-      let here : 1 ≤ flight S (arrives c) = subst (λ (x : ℕ). 1 ≤ flight S (arrives x)) same one in
+      let here : 1 ≤ flight S (is_arrival_of c) = subst (λ (x : ℕ). 1 ≤ flight S (is_arrival_of x)) same one in
       let most = alive-one (slice_get S.nodes c) in
       record {
         arriving = omega (arith, g.row c, here, most, ap bit f);
@@ -160,7 +160,7 @@ whole-at S core bad machine g a one whole c = by_tests (nat_lt c S.setting.shape
       let inside : c < length (counts_in core bad S.keeper).arrived = grind (arith, nat_tests, e, length-set S.keeper.arrived core true, machine.cores) in
       let now : slice_index_or (counts_in core bad S.keeper).arrived c false ≡ true = AllPass-from_list_all (λ (a : Bool). a) (counts_in core bad S.keeper).arrived whole c false inside in
       let mark : marked S c ≡ true = sym (rw (f) at (a.marks c)) ∙ now in
-      let waits : waits_in S c ≡ 1 = rw (a.missing, mark) refl in
+      let waits : waits_at_keeper S c ≡ 1 = rw (a.missing, mark) refl in
       let most = alive-one (slice_get S.nodes c) in
       record {
         arriving = omega (arith, g.row c, waits, most, ap bit f);
@@ -170,7 +170,7 @@ whole-at S core bad machine g a one whole c = by_tests (nat_lt c S.setting.shape
         marked = λ other within. mark;
       }
 
-pub is-whole : (S : State) (core : ℕ) (bad : Bool) → IsMachine S → PhasesGood S → Arriving S core bad → 1 ≤ flight S (arrives core) → all_arrived (counts_in core bad S.keeper) ≡ true → IsWhole S core
+pub is-whole : (S : State) (core : ℕ) (bad : Bool) → IsMachine S → PhasesGood S → Arriving S core bad → 1 ≤ flight S (is_arrival_of core) → all_arrived (counts_in core bad S.keeper) ≡ true → IsWhole S core
 is-whole S core bad machine g a one whole =
     record {
       arriving = λ c. (whole-at S core bad machine g a one whole c).arriving;
@@ -185,35 +185,35 @@ pub there-within : (S : State) (c : ℕ) (n : NodeParts) → IsMachine S → sli
 there-within S c n machine found = grind (arith, nat_tests, slice_get_within S.nodes c n found, machine.nodes)
 
 -- a task that is over and not bad holds no lock
-pub holds-none : (S : State) (c : ℕ) (n : NodeParts) → PhasesGood S → slice_get S.nodes c ≡ Some n → goes_on n.task ≡ false → is_bad n.task ≡ false → held_by n.task ≡ 0
+pub holds-none : (S : State) (c : ℕ) (n : NodeParts) → PhasesGood S → slice_get S.nodes c ≡ Some n → is_running n.task ≡ false → task_ended_badly n.task ≡ false → held_locks n.task ≡ 0
 holds-none S c n g found over fine = by_task n.task refl where
-  by_end : (t : TaskState) → n.task ≡ Some t → (o : Option End) → t.end ≡ o → held_by n.task ≡ 0
-  by_end t is None ends = let on : goes_on n.task ≡ true = rw (is, ends) refl in absurd (cc)
-  by_end t is (Some Finished) ends = ap held_by is ∙ g.finished c n t found is ends
-  by_end t is (Some Fuel) ends = let wrong : is_bad n.task ≡ true = rw (is, ends) refl in absurd (cc)
-  by_end t is (Some (Trap kind pc value)) ends = let wrong : is_bad n.task ≡ true = rw (is, ends) refl in absurd (cc)
+  by_end : (t : TaskState) → n.task ≡ Some t → (o : Option End) → t.end ≡ o → held_locks n.task ≡ 0
+  by_end t is None ends = let on : is_running n.task ≡ true = rw (is, ends) refl in absurd (cc)
+  by_end t is (Some Finished) ends = ap held_locks is ∙ g.finished c n t found is ends
+  by_end t is (Some Fuel) ends = let wrong : task_ended_badly n.task ≡ true = rw (is, ends) refl in absurd (cc)
+  by_end t is (Some (Trap kind pc value)) ends = let wrong : task_ended_badly n.task ≡ true = rw (is, ends) refl in absurd (cc)
 
-  by_task : (o : Option TaskState) → n.task ≡ o → held_by n.task ≡ 0
+  by_task : (o : Option TaskState) → n.task ≡ o → held_locks n.task ≡ 0
   by_task None is = rw (is) refl
   by_task (Some t) is = by_end t is t.end refl
 
 -- no Go is in flight where none is for a core
-pub no-go : (S : State) → flight S (is_lost S.setting.shape.cores S.setting.shape.banks) ≡ 0 → ((c : ℕ) → flight S (goes c) ≡ 0) → (p : ℕ) → flight S (is_astray p) ≡ 0
+pub no-go : (S : State) → flight S (is_lost S.setting.shape.cores S.setting.shape.banks) ≡ 0 → ((c : ℕ) → flight S (is_go_to c) ≡ 0) → (p : ℕ) → flight S (is_astray p) ≡ 0
 no-go S addressed none p = by_count (flight S (is_astray p)) refl where
   by_mail : (place : ℕ) (m : Mail) → slice_get S.mails place ≡ Some m → (to : Actor) → m.to ≡ to → (message : Message) → m.message ≡ message → 1 ≤ bit (is_astray p to message) → ⊥
   by_mail place m there (Core c) at (Go phase) is some =
-      let one = rw (at, is, same-number c.0) at (weight-within (counted (goes c.0)) S.mails place m there) in
+      let one = rw (at, is, same-number c.0) at (weight-within (mail_count (is_go_to c.0)) S.mails place m there) in
       omega (arith, none c.0, one)
   by_mail place m there (Bank b) at (Go phase) is some =
-      let one = rw (at, is) at (weight-within (counted (is_lost S.setting.shape.cores S.setting.shape.banks)) S.mails place m there) in
+      let one = rw (at, is) at (weight-within (mail_count (is_lost S.setting.shape.cores S.setting.shape.banks)) S.mails place m there) in
       omega (arith, addressed, one)
   by_mail place m there Keeper at (Go phase) is some =
-      let one = rw (at, is) at (weight-within (counted (is_lost S.setting.shape.cores S.setting.shape.banks)) S.mails place m there) in
+      let one = rw (at, is) at (weight-within (mail_count (is_lost S.setting.shape.cores S.setting.shape.banks)) S.mails place m there) in
       omega (arith, addressed, one)
   by_mail place m there to at _ is some = omega (arith, some)
 
   by_count : (x : ℕ) → flight S (is_astray p) ≡ x → flight S (is_astray p) ≡ 0
   by_count zero is = is
   by_count (suc x) is =
-      let some = weight-somewhere (counted (is_astray p)) S.mails (omega (arith, is)) in
+      let some = weight-somewhere (mail_count (is_astray p)) S.mails (omega (arith, is)) in
       absurd (by_mail some.0 some.1 some.2 some.1.to refl some.1.message refl some.3)

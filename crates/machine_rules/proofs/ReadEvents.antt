@@ -15,7 +15,7 @@ use Rattle.registration_protocol.specs.declared.node.NodeWait as wait
 use Rattle.registration_protocol.specs.declared.node.NodeWait.{NodeWait}
 use Rattle.registration_protocol.specs.Node.{NodeParts, Setting, entry_of, need_now, is_ready}
 use Rattle.machine_rules.specs.State.{State, entry_at, home_at}
-use Rattle.machine_rules.specs.Flight.{bit, flight, seeks, forwards, forwards_at, replies}
+use Rattle.machine_rules.specs.Flight.{bit, flight, is_read_req_of, is_read_fwd_of, is_read_fwd_to, is_data_reply_to}
 use Rattle.machine_rules.proofs.Bits.{passes, pending_bit, owner_bit, reading_in, is_reading}
 use Rattle.machine_rules.proofs.Invariant.{Invariant, ReadsGood, ReadRow, read_counts}
 use Rattle.machine_rules.proofs.Steps.{NodeStep}
@@ -124,20 +124,20 @@ ready-bit (wait.TheVariants.Filled word) w ready = refl
 
 -- how many mails of the read of word w by core c a mail is
 abbrev pub of_read_by : ℕ → ℕ → Option Outgoing → ℕ
-of_read_by w c out = passes (seeks w c) out + passes (forwards w c) out + passes (replies w c) out
+of_read_by w c out = passes (is_read_req_of w c) out + passes (is_read_fwd_of w c) out + passes (is_data_reply_to w c) out
 
 abbrev pub Carried : State → State → Option Outgoing → Option Outgoing → Type 0
 Carried S T left sent =
     (w c : ℕ) → reading_in w (slice_get T.nodes c) + of_read_by w c left ≡ reading_in w (slice_get S.nodes c) + of_read_by w c sent
 
 pub rows-carried : (S T : State) (left sent : Option Outgoing) → ReadsGood S → Flown S T left sent → Carried S T left sent → (w c : ℕ) → ReadRow (read_counts T w c)
-rows-carried S T left sent g flown carried w c = omega (arith, g.row w c, flown (seeks w c), flown (forwards w c), flown (replies w c), carried w c)
+rows-carried S T left sent g flown carried w c = omega (arith, g.row w c, flown (is_read_req_of w c), flown (is_read_fwd_of w c), flown (is_data_reply_to w c), carried w c)
 
 pub rows-same : (S T : State) → ReadsGood S → SameReads S T → ((w c : ℕ) → reading_in w (slice_get T.nodes c) ≡ reading_in w (slice_get S.nodes c)) → (w c : ℕ) → ReadRow (read_counts T w c)
 rows-same S T g same reading w c = omega (arith, g.row w c, same.sought w c, same.forwarded w c, same.replied w c, reading w c)
 
-pub pair-same : (S T : State) → ReadsGood S → ((w d : ℕ) → flight T (forwards_at w d) ≤ flight S (forwards_at w d)) → ((v : ℕ) → home_at T v ≡ home_at S v)
-    → (w d e : ℕ) → 1 ≤ flight T (forwards_at w d) → owner_bit e (home_at T w) ≤ bit (d == e)
+pub pair-same : (S T : State) → ReadsGood S → ((w d : ℕ) → flight T (is_read_fwd_to w d) ≤ flight S (is_read_fwd_to w d)) → ((v : ℕ) → home_at T v ≡ home_at S v)
+    → (w d e : ℕ) → 1 ≤ flight T (is_read_fwd_to w d) → owner_bit e (home_at T w) ≤ bit (d == e)
 pair-same S T g less homes w d e some = omega (arith, g.pair w d e (omega (arith, some, less w d)), ap (owner_bit e) (homes w))
 
 -- ---- a core's step
@@ -173,7 +173,7 @@ well-after S T core n m left sent step g well c k found = subst (λ (C : Setting
 -- the good reads after a core's step
 pub reads-node : (S T : State) (core : ℕ) (n m : NodeParts) (left sent : Option Outgoing) → NodeStep S T core n m left sent → ReadsGood S → WaitsWell S.setting m
     → ((w c : ℕ) → ReadRow (read_counts T w c)) → ((w c d : ℕ) → reading_in w (slice_get T.nodes c) + pending_bit (entry_at T d w) ≤ 1)
-    → ((w d : ℕ) → flight T (forwards_at w d) ≤ flight S (forwards_at w d)) → ReadsGood T
+    → ((w d : ℕ) → flight T (is_read_fwd_to w d) ≤ flight S (is_read_fwd_to w d)) → ReadsGood T
 reads-node S T core n m left sent step g well rows quiet less =
     record {
       row = rows;
@@ -200,7 +200,7 @@ calm-quiet S T core n m left sent step same g well reading calm =
 -- ---- an event in which no core has a part
 
 pub reads-nodes : (S T : State) → T.setting ≡ S.setting → T.nodes ≡ S.nodes → ReadsGood S → ((w c : ℕ) → ReadRow (read_counts T w c))
-    → ((w d e : ℕ) → 1 ≤ flight T (forwards_at w d) → owner_bit e (home_at T w) ≤ bit (d == e)) → ReadsGood T
+    → ((w d e : ℕ) → 1 ≤ flight T (is_read_fwd_to w d) → owner_bit e (home_at T w) ≤ bit (d == e)) → ReadsGood T
 reads-nodes S T setting nodes g rows pair =
     record {
       row = rows;

@@ -8,8 +8,8 @@ use Rattle.rv_core.specs.Task.{stopped}
 use Rattle.write_signature.specs.Signature.{joined}
 use Rattle.message_net.specs.Mail.{to_core, to_home, to_keeper}
 use Rattle.word_cache.specs.Cache.{touched}
-use Rattle.phase_barrier.specs.Barrier.{Barrier, counted, advanced as next_phase}
-use Rattle.registration_protocol.specs.OwnEvents.{retires, with_put, stored, is_bad}
+use Rattle.phase_barrier.specs.Barrier.{Barrier, with_arrival, in_next_phase as next_phase}
+use Rattle.registration_protocol.specs.OwnEvents.{retires, with_put, stored, task_ended_badly}
 use Rattle.machine_rules.proofs.WordEvents.{Flown}
 use Rattle.region_table.specs.declared.declared.TaskDecl.{TaskDecl}
 use Rattle.rv_core.specs.declared.task.TaskState.{TaskState}
@@ -113,7 +113,7 @@ reads-leaves S M e inv =
           (no-read (Bank (record { 0 = word.0 % S.setting.shape.banks })) (WriteBack word value core) refl) (λ w. rw (waits) refl) (rw (waits) refl)
           (less-at n (with_entry n word.0 (Leaving value)) word.0 (Some (Leaving value)) (changed-now n word.0 (Registered value false) (Leaving value) is) (omega arith));
       arrive = λ core n found awake absent over settled told step.
-          stayed S T core.0 n (record n { arrived = true }) None (to_keeper (Arrived core (is_bad n.task))) g step no-read-none (no-read Keeper (Arrived core (is_bad n.task)) refl) refl refl refl refl refl;
+          stayed S T core.0 n (record n { arrived = true }) None (to_keeper (Arrived core (task_ended_badly n.task))) g step no-read-none (no-read Keeper (Arrived core (task_ended_badly n.task)) refl) refl refl refl refl refl;
       reply = λ core n word value found waits none room told step. replied S T M core n word value inv found waits none step;
       acknowledge = λ core n word value found is told step.
           let m : NodeParts = with_entry n word.0 (Registered value false) in
@@ -171,7 +171,7 @@ reads-leaves S M e inv =
       release_on = λ bank lock core holder waiter others s h was held same queue told step.
           homed S T (at_bank bank (Release lock core s)) (to_core waiter (Grant lock (joined h.kept s))) g step.setting step.nodes step.homes step.flown
           (no-read (Bank bank) (Release lock core s) refl) (no-read (Core waiter) (Grant lock (joined h.kept s)) refl);
-      arrived = λ core bad was rest told step. posted S T (counted core.0 bad S.keeper) core bad None g step refl;
-      all_go = λ core bad was all over told step. posted S T (next_phase (counted core.0 bad S.keeper)) core bad (Some (Go (record { 0 = S.keeper.phase + 1 }))) g step refl;
-      all_halt = λ core bad was all over told step. posted S T (counted core.0 bad S.keeper) core bad (Some Halt) g step refl;
+      arrived = λ core bad was rest told step. posted S T (with_arrival core.0 bad S.keeper) core bad None g step refl;
+      all_go = λ core bad was all over told step. posted S T (next_phase (with_arrival core.0 bad S.keeper)) core bad (Some (Go (record { 0 = S.keeper.phase + 1 }))) g step refl;
+      all_halt = λ core bad was all over told step. posted S T (with_arrival core.0 bad S.keeper) core bad (Some Halt) g step refl;
     }

@@ -16,7 +16,7 @@ use Rattle.registration_protocol.specs.declared.node.NodeWait as wait
 use Rattle.registration_protocol.specs.declared.node.NodeWait.{NodeWait}
 use Rattle.registration_protocol.specs.Node.{NodeParts}
 use Rattle.machine_rules.specs.State.{State, home_at}
-use Rattle.machine_rules.specs.Flight.{Test, bit, counted, flight, is_to, seeks, forwards, forwards_at, replies, misinforms}
+use Rattle.machine_rules.specs.Flight.{Test, bit, mail_count, flight, is_to, is_read_req_of, is_read_fwd_of, is_read_fwd_to, is_data_reply_to, is_false_data_reply}
 use Rattle.machine_rules.proofs.Bits.{passes, known_bit, reading_in, is_reading}
 use Rattle.machine_rules.proofs.BitLemmas.{bit-true}
 use Rattle.machine_rules.proofs.Invariant.{Invariant, ReadsGood}
@@ -26,11 +26,11 @@ use Rattle.machine_rules.proofs.Exclusive.{reading-works}
 
 -- a mail, if there is one, that is of no read
 pub record IsNoRead (out : Option Outgoing) : Type 0 where
-  pub sought : (w c : ℕ) → passes (seeks w c) out ≡ 0
-  pub forwarded : (w c : ℕ) → passes (forwards w c) out ≡ 0
-  pub passed : (w d : ℕ) → passes (forwards_at w d) out ≡ 0
-  pub replied : (w c : ℕ) → passes (replies w c) out ≡ 0
-  pub lies : (M : ℕ → ℕ) → passes (misinforms M) out ≡ 0
+  pub sought : (w c : ℕ) → passes (is_read_req_of w c) out ≡ 0
+  pub forwarded : (w c : ℕ) → passes (is_read_fwd_of w c) out ≡ 0
+  pub passed : (w d : ℕ) → passes (is_read_fwd_to w d) out ≡ 0
+  pub replied : (w c : ℕ) → passes (is_data_reply_to w c) out ≡ 0
+  pub lies : (M : ℕ → ℕ) → passes (is_false_data_reply M) out ≡ 0
 
 abbrev pub of_read : Message → Bool
 of_read (ReadReq word reader) = true
@@ -49,20 +49,20 @@ no-read-none = record { sought = λ w c. refl; forwarded = λ w c. refl; passed 
 
 -- the mails of reads in flight are as many as before
 pub record SameReads (S T : State) : Type 0 where
-  pub sought : (w c : ℕ) → flight T (seeks w c) ≡ flight S (seeks w c)
-  pub forwarded : (w c : ℕ) → flight T (forwards w c) ≡ flight S (forwards w c)
-  pub passed : (w d : ℕ) → flight T (forwards_at w d) ≡ flight S (forwards_at w d)
-  pub replied : (w c : ℕ) → flight T (replies w c) ≡ flight S (replies w c)
-  pub lies : (M : ℕ → ℕ) → flight T (misinforms M) ≡ flight S (misinforms M)
+  pub sought : (w c : ℕ) → flight T (is_read_req_of w c) ≡ flight S (is_read_req_of w c)
+  pub forwarded : (w c : ℕ) → flight T (is_read_fwd_of w c) ≡ flight S (is_read_fwd_of w c)
+  pub passed : (w d : ℕ) → flight T (is_read_fwd_to w d) ≡ flight S (is_read_fwd_to w d)
+  pub replied : (w c : ℕ) → flight T (is_data_reply_to w c) ≡ flight S (is_data_reply_to w c)
+  pub lies : (M : ℕ → ℕ) → flight T (is_false_data_reply M) ≡ flight S (is_false_data_reply M)
 
 pub same-reads : (S T : State) (left sent : Option Outgoing) → Flown S T left sent → IsNoRead left → IsNoRead sent → SameReads S T
 same-reads S T left sent flown came went =
     record {
-      sought = λ w c. omega (arith, flown (seeks w c), came.sought w c, went.sought w c);
-      forwarded = λ w c. omega (arith, flown (forwards w c), came.forwarded w c, went.forwarded w c);
-      passed = λ w d. omega (arith, flown (forwards_at w d), came.passed w d, went.passed w d);
-      replied = λ w c. omega (arith, flown (replies w c), came.replied w c, went.replied w c);
-      lies = λ M. omega (arith, flown (misinforms M), came.lies M, went.lies M);
+      sought = λ w c. omega (arith, flown (is_read_req_of w c), came.sought w c, went.sought w c);
+      forwarded = λ w c. omega (arith, flown (is_read_fwd_of w c), came.forwarded w c, went.forwarded w c);
+      passed = λ w d. omega (arith, flown (is_read_fwd_to w d), came.passed w d, went.passed w d);
+      replied = λ w c. omega (arith, flown (is_data_reply_to w c), came.replied w c, went.replied w c);
+      lies = λ M. omega (arith, flown (is_false_data_reply M), came.lies M, went.lies M);
     }
 
 -- what the keeper posts
@@ -86,19 +86,19 @@ pub same-posted : (S T : State) (cores : ℕ) (left : Option Outgoing) (sent : O
     → IsNoRead left → no_read_in sent ≡ true → SameReads S T
 same-posted S T cores left sent flown came quiet =
     record {
-      sought = λ w c. omega (arith, flown (seeks w c), came.sought w c, posts-none (seeks w c) cores sent (λ to message e. (no-read to message e).sought w c) quiet);
-      forwarded = λ w c. omega (arith, flown (forwards w c), came.forwarded w c, posts-none (forwards w c) cores sent (λ to message e. (no-read to message e).forwarded w c) quiet);
-      passed = λ w d. omega (arith, flown (forwards_at w d), came.passed w d, posts-none (forwards_at w d) cores sent (λ to message e. (no-read to message e).passed w d) quiet);
-      replied = λ w c. omega (arith, flown (replies w c), came.replied w c, posts-none (replies w c) cores sent (λ to message e. (no-read to message e).replied w c) quiet);
-      lies = λ M. omega (arith, flown (misinforms M), came.lies M, posts-none (misinforms M) cores sent (λ to message e. (no-read to message e).lies M) quiet);
+      sought = λ w c. omega (arith, flown (is_read_req_of w c), came.sought w c, posts-none (is_read_req_of w c) cores sent (λ to message e. (no-read to message e).sought w c) quiet);
+      forwarded = λ w c. omega (arith, flown (is_read_fwd_of w c), came.forwarded w c, posts-none (is_read_fwd_of w c) cores sent (λ to message e. (no-read to message e).forwarded w c) quiet);
+      passed = λ w d. omega (arith, flown (is_read_fwd_to w d), came.passed w d, posts-none (is_read_fwd_to w d) cores sent (λ to message e. (no-read to message e).passed w d) quiet);
+      replied = λ w c. omega (arith, flown (is_data_reply_to w c), came.replied w c, posts-none (is_data_reply_to w c) cores sent (λ to message e. (no-read to message e).replied w c) quiet);
+      lies = λ M. omega (arith, flown (is_false_data_reply M), came.lies M, posts-none (is_false_data_reply M) cores sent (λ to message e. (no-read to message e).lies M) quiet);
     }
 
 -- ---- who reads
 
 -- a read that was passed on to some core is some core's
-pub forward-reader : (S : State) (w d : ℕ) → 1 ≤ flight S (forwards_at w d) → (c : ℕ) × (1 ≤ flight S (forwards w c))
-forward-reader S w d some = of_mail (counted-place (λ (m : Mail). forwards_at w d m.to m.message) S.mails some) where
-  reads : (m : Mail) → (message : Message) → m.message ≡ message → forwards_at w d m.to message ≡ true → (c : ℕ) × (forwards w c m.to message ≡ true)
+pub forward-reader : (S : State) (w d : ℕ) → 1 ≤ flight S (is_read_fwd_to w d) → (c : ℕ) × (1 ≤ flight S (is_read_fwd_of w c))
+forward-reader S w d some = of_mail (counted-place (λ (m : Mail). is_read_fwd_to w d m.to m.message) S.mails some) where
+  reads : (m : Mail) → (message : Message) → m.message ≡ message → is_read_fwd_to w d m.to message ≡ true → (c : ℕ) × (is_read_fwd_of w c m.to message ≡ true)
   reads m (ReadFwd word reader) is pass = (reader.0, by_test (word.0 == w) (is_to d m.to) pass) where
     by_test : (x y : Bool) → (x && y) ≡ true → (x && (reader.0 == reader.0)) ≡ true
     by_test true y pass = grind (arith, nat_tests)
@@ -117,11 +117,11 @@ forward-reader S w d some = of_mail (counted-place (λ (m : Mail). forwards_at w
   reads m (Go phase) is pass = absurd (cc)
   reads m Halt is pass = absurd (cc)
 
-  of_mail : (place : ℕ) × (m : Mail) × (slice_get S.mails place ≡ Some m) × (forwards_at w d m.to m.message ≡ true) → (c : ℕ) × (1 ≤ flight S (forwards w c))
+  of_mail : (place : ℕ) × (m : Mail) × (slice_get S.mails place ≡ Some m) × (is_read_fwd_to w d m.to m.message ≡ true) → (c : ℕ) × (1 ≤ flight S (is_read_fwd_of w c))
   of_mail (place, m, there, pass) =
       let r = reads m m.message refl pass in
-      let one : bit (forwards w r.0 m.to m.message) ≡ 1 = rw (r.1) refl in
-      (r.0, omega (arith, one, weight-within (counted (forwards w r.0)) S.mails place m there))
+      let one : bit (is_read_fwd_of w r.0 m.to m.message) ≡ 1 = rw (r.1) refl in
+      (r.0, omega (arith, one, weight-within (mail_count (is_read_fwd_of w r.0)) S.mails place m there))
 
 -- a node that reads a word
 pub reader-node : (S : State) (w c : ℕ) → 1 ≤ reading_in w (slice_get S.nodes c) → (n : NodeParts) × (word : WordId) × (slice_get S.nodes c ≡ Some n) × (n.waiting ≡ wait.TheVariants.Reading word) × (word.0 ≡ w)
@@ -151,5 +151,5 @@ read-known S M w c inv some =
     let work = reading-works S M c at.0 at.1 inv at.2 at.3 in
     known-home S M w inv (subst (λ (x : ℕ). x < length S.setting.program.memory) at.4 work.within)
 
-pub forward-reading : (S : State) (w d : ℕ) → ReadsGood S → 1 ≤ flight S (forwards_at w d) → (c : ℕ) × (1 ≤ reading_in w (slice_get S.nodes c))
+pub forward-reading : (S : State) (w d : ℕ) → ReadsGood S → 1 ≤ flight S (is_read_fwd_to w d) → (c : ℕ) × (1 ≤ reading_in w (slice_get S.nodes c))
 forward-reading S w d g some = let at = forward-reader S w d some in (at.0, omega (arith, at.1, g.row w at.0))

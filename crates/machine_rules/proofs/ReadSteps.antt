@@ -21,7 +21,7 @@ use Rattle.registration_protocol.specs.OwnEvents.{stored}
 use Rattle.registration_protocol.proofs.EntryLemmas.{store-entry}
 use Rattle.word_cache.proofs.LookLemmas.{lookup-put}
 use Rattle.machine_rules.specs.State.{State, entry_at}
-use Rattle.machine_rules.specs.Flight.{bit, seeks, forwards, forwards_at, replies}
+use Rattle.machine_rules.specs.Flight.{bit, is_read_req_of, is_read_fwd_of, is_read_fwd_to, is_data_reply_to}
 use Rattle.machine_rules.proofs.Bits.{passes, pending_bit, reading_in, is_reading}
 use Rattle.machine_rules.proofs.Invariant.{Invariant, ReadsGood}
 use Rattle.machine_rules.proofs.Steps.{NodeStep}
@@ -100,7 +100,7 @@ pub missed : (S T : State) (M : ℕ → ℕ) (core : CoreId) (n : NodeParts) (d 
     → NodeStep S T core.0 n (record n { waiting = wait.TheVariants.Reading word }) None (Some (record { to = Bank bank; message = ReadReq word core })) → ReadsGood T
 missed S T M core n d t word needs bank inv kind acts none room step =
     let sent : Option Outgoing = Some (record { to = Bank bank; message = ReadReq word core }) in
-    reads-node S T core.0 n m None sent step inv.reads well (rows-carried S T None sent inv.reads step.flown carried) quiet (λ w d. omega (arith, step.flown (forwards_at w d)))
+    reads-node S T core.0 n m None sent step inv.reads well (rows-carried S T None sent inv.reads step.flown carried) quiet (λ w d. omega (arith, step.flown (is_read_fwd_to w d)))
   where
     m : NodeParts
     m = record n { waiting = wait.TheVariants.Reading word }
@@ -157,7 +157,7 @@ pub replied : (S T : State) (M : ℕ → ℕ) (core : CoreId) (n : NodeParts) (w
     → n.waiting ≡ wait.TheVariants.Reading word → entry_of n word.0 ≡ None
     → NodeStep S T core.0 n (record (keeping n (put word (Valid value false) n.cache.pairs)) { waiting = wait.TheVariants.Filled word }) (at_core core (DataReply word value)) None → ReadsGood T
 replied S T M core n word value inv found waits none step =
-    reads-node S T core.0 n m left None step inv.reads well (rows-carried S T left None inv.reads step.flown carried) quiet (λ w d. omega (arith, step.flown (forwards_at w d)))
+    reads-node S T core.0 n m left None step inv.reads well (rows-carried S T left None inv.reads step.flown carried) quiet (λ w d. omega (arith, step.flown (is_read_fwd_to w d)))
   where
     left : Option Outgoing
     left = at_core core (DataReply word value)
@@ -199,13 +199,13 @@ replied S T M core n word value inv found waits none step =
 
 -- a core passes a read on, with a value or back to the word's home: its node stays as it is
 pub passed : (S T : State) (M : ℕ → ℕ) (core : CoreId) (n : NodeParts) (left sent : Option Outgoing) → Invariant S M → NodeStep S T core.0 n n left sent
-    → ((w c : ℕ) → passes (seeks w c) left + passes (forwards w c) left + passes (replies w c) left ≡ passes (seeks w c) sent + passes (forwards w c) sent + passes (replies w c) sent)
-    → ((w d : ℕ) → passes (forwards_at w d) sent ≡ 0) → ReadsGood T
+    → ((w c : ℕ) → passes (is_read_req_of w c) left + passes (is_read_fwd_of w c) left + passes (is_data_reply_to w c) left ≡ passes (is_read_req_of w c) sent + passes (is_read_fwd_of w c) sent + passes (is_data_reply_to w c) sent)
+    → ((w d : ℕ) → passes (is_read_fwd_to w d) sent ≡ 0) → ReadsGood T
 passed S T M core n left sent inv step total none =
     reads-node S T core.0 n n left sent step inv.reads (waits-well S core.0 n inv.reads step.found)
     (rows-carried S T left sent inv.reads step.flown (λ w c. omega (arith, same w c, total w c)))
     (λ w c d. omega (arith, inv.reads.quiet w c d, same w c, (calm-node S T core.0 n n left sent step (calm-same n n (λ v. refl))).pending d w))
-    (λ w d. omega (arith, step.flown (forwards_at w d), none w d))
+    (λ w d. omega (arith, step.flown (is_read_fwd_to w d), none w d))
   where
     same : (w c : ℕ) → reading_in w (slice_get T.nodes c) ≡ reading_in w (slice_get S.nodes c)
     same = reading-same S T core.0 n n left sent step (λ w. refl)

@@ -5,9 +5,9 @@ use Rattle.std.proofs.lemmas.Bool.Decides.{nat_tests}
 use Rattle.std.proofs.lemmas.List.Sums.{sum_by-cons}
 use Rattle.dn_base.specs.declared.ids.CoreId.{CoreId}
 use Rattle.dn_base.specs.declared.ids.LockId.{LockId}
-use Rattle.rv_core.specs.Access.{holds as is_held}
+use Rattle.rv_core.specs.Access.{is_held}
 use Rattle.write_signature.specs.declared.signature.Signature.{Signature}
-use Rattle.write_signature.specs.Signature.{tag, holds, joined}
+use Rattle.write_signature.specs.Signature.{tag, may_hold, joined}
 use Rattle.write_signature.proofs.SignatureLemmas.{joined_covers_first, joined_covers_second}
 use Rattle.message_net.specs.declared.message.Mail.{Mail}
 use Rattle.message_net.specs.declared.message.Message.{Message}
@@ -15,8 +15,8 @@ use Rattle.message_net.specs.declared.message.Message.TheVariants.{ReadReq, Read
 use Rattle.queue_lock.specs.Lock.{Lock, holder_count}
 use Rattle.registration_protocol.specs.Node.{NodeParts}
 use Rattle.machine_rules.specs.State.{State, lock_at}
-use Rattle.machine_rules.specs.Flight.{bit, flight, counted, releases}
-use Rattle.machine_rules.specs.Coherent.{AreCopies, IsFresh, IsBehind, HasWriter, HasGuardedWriter, has_lock, holds_lock, held_by, holder_in, signature_at, release_in, first_release, with_carried, with_holder, lock_signature}
+use Rattle.machine_rules.specs.Flight.{bit, flight, mail_count, is_release_of}
+use Rattle.machine_rules.specs.Coherent.{AreCopies, IsFresh, IsBehind, HasWriter, HasGuardedWriter, has_lock, holds_lock, held_locks, holder_in, signature_at, release_in, first_release, with_carried, with_holder, lock_signature}
 use Rattle.machine_rules.proofs.Bits.{signed_in}
 use Rattle.machine_rules.proofs.BitLemmas.{bit-true}
 use Rattle.machine_rules.proofs.Invariant.{Invariant, MayBeOld, MayHaveWritten, carriers, kept_bit, carried_by, is_carrying}
@@ -29,8 +29,8 @@ use Rattle.machine_rules.proofs.ReadableValues.{value-is}
 
 -- a node that carries a word under a lock holds the lock
 carrying-holds : (S : State) (l w p c : ℕ) (n : NodeParts) → slice_get S.nodes c ≡ Some n → 1 ≤ carried_by l w p n → (has_lock S c l ≡ true) × (signed_in w p (slice_get n.signatures l) ≡ true)
-carrying-holds S l w p c n found some = by_tests (is_held (held_by n.task) l) refl (signed_in w p (slice_get n.signatures l)) refl where
-  by_tests : (x : Bool) → is_held (held_by n.task) l ≡ x → (y : Bool) → signed_in w p (slice_get n.signatures l) ≡ y → (has_lock S c l ≡ true) × (signed_in w p (slice_get n.signatures l) ≡ true)
+carrying-holds S l w p c n found some = by_tests (is_held (held_locks n.task) l) refl (signed_in w p (slice_get n.signatures l)) refl where
+  by_tests : (x : Bool) → is_held (held_locks n.task) l ≡ x → (y : Bool) → signed_in w p (slice_get n.signatures l) ≡ y → (has_lock S c l ≡ true) × (signed_in w p (slice_get n.signatures l) ≡ true)
   by_tests true e true f = (ap (holds_lock l) found ∙ e, f)
   by_tests true e false f = let one = rw (e, f) at some in absurd (omega (arith, one))
   by_tests false e y f = let one = rw (e) at some in absurd (omega (arith, one))
@@ -42,13 +42,13 @@ record IsRelease (l w p : ℕ) (m : Mail) : Type 0 where
   signature : Signature
   says : m.message ≡ Release lock core signature
   same : lock.0 ≡ l
-  signed : holds signature w p ≡ true
+  signed : may_hold signature w p ≡ true
 
-carrying-is : (l w p : ℕ) (m : Mail) → 1 ≤ counted (is_carrying l w p) m → IsRelease l w p m
+carrying-is : (l w p : ℕ) (m : Mail) → 1 ≤ mail_count (is_carrying l w p) m → IsRelease l w p m
 carrying-is l w p m some = by_message m.message refl some where
   by_message : (message : Message) → m.message ≡ message → 1 ≤ bit (is_carrying l w p m.to message) → IsRelease l w p m
-  by_message (Release lock core s) is one = by_tests (lock.0 == l) refl (holds s w p) refl where
-    by_tests : (x : Bool) → (lock.0 == l) ≡ x → (y : Bool) → holds s w p ≡ y → IsRelease l w p m
+  by_message (Release lock core s) is one = by_tests (lock.0 == l) refl (may_hold s w p) refl where
+    by_tests : (x : Bool) → (lock.0 == l) ≡ x → (y : Bool) → may_hold s w p ≡ y → IsRelease l w p m
     by_tests true e true f = record { lock = lock; core = core; signature = s; says = is; same = eqb-true lock.0 l e; signed = f }
     by_tests true e false f = let none = rw (e, f) at one in absurd (omega (arith, none))
     by_tests false e y f = let none = rw (e) at one in absurd (omega (arith, none))
@@ -67,8 +67,8 @@ carrying-is l w p m some = by_message m.message refl some where
   by_message Halt is one = absurd (omega (arith, one))
 
 -- a release in flight counts for its core
-release-counts : (S : State) (place : ℕ) (m : Mail) (lock : LockId) (core : CoreId) (s : Signature) → slice_get S.mails place ≡ Some m → m.message ≡ Release lock core s → 1 ≤ flight S (releases lock.0 core.0)
-release-counts S place m lock core s there is = rw (is, same-number lock.0, same-number core.0) at (item-within (counted (releases lock.0 core.0)) S.mails place m there)
+release-counts : (S : State) (place : ℕ) (m : Mail) (lock : LockId) (core : CoreId) (s : Signature) → slice_get S.mails place ≡ Some m → m.message ≡ Release lock core s → 1 ≤ flight S (is_release_of lock.0 core.0)
+release-counts S place m lock core s there is = rw (is, same-number lock.0, same-number core.0) at (item-within (mail_count (is_release_of lock.0 core.0)) S.mails place m there)
 
 -- who holds a lock, or gives it up, is its holder
 one-holder : (d : CoreId) (c : ℕ) → 1 ≤ holder_count c (Some d) → d.0 ≡ c
@@ -124,12 +124,12 @@ bit-most : (b : Bool) → bit b ≤ 1
 bit-most true = omega arith
 bit-most false = omega arith
 
-pub counts-of : (l d : ℕ) (m : Mail) (lock : LockId) (core : CoreId) (s : Signature) → m.message ≡ Release lock core s → lock.0 ≡ l → core.0 ≡ d → counted (releases l d) m ≡ 1
+pub counts-of : (l d : ℕ) (m : Mail) (lock : LockId) (core : CoreId) (s : Signature) → m.message ≡ Release lock core s → lock.0 ≡ l → core.0 ≡ d → mail_count (is_release_of l d) m ≡ 1
 counts-of l d m lock core s says same own = rw (says) (grind (arith, nat_tests, same, own))
 
-carrying-le : (l w p d : ℕ) (ms : List Mail) → AreOf l d ms → (place : ℕ) (m : Mail) → slice_get ms place ≡ Some m → counted (is_carrying l w p) m ≤ counted (releases l d) m
-carrying-le l w p d ms own place m there = by_weight (counted (is_carrying l w p) m) refl where
-  by_weight : (k : ℕ) → counted (is_carrying l w p) m ≡ k → counted (is_carrying l w p) m ≤ counted (releases l d) m
+carrying-le : (l w p d : ℕ) (ms : List Mail) → AreOf l d ms → (place : ℕ) (m : Mail) → slice_get ms place ≡ Some m → mail_count (is_carrying l w p) m ≤ mail_count (is_release_of l d) m
+carrying-le l w p d ms own place m there = by_weight (mail_count (is_carrying l w p) m) refl where
+  by_weight : (k : ℕ) → mail_count (is_carrying l w p) m ≡ k → mail_count (is_carrying l w p) m ≤ mail_count (is_release_of l d) m
   by_weight zero e = omega (arith, e)
   by_weight (suc k) e =
       let r = carrying-is l w p m (omega (arith, e)) in
@@ -139,22 +139,22 @@ read-off : (l w p : ℕ) (m : Mail) (r : IsRelease l w p m) → release_in l m.m
 read-off l w p m r = rw (r.says, r.same, same-number l) refl
 
 -- where a release carries a word, and there is one release alone, the first one carries it
-signed-first : (l w p d : ℕ) (ms : List Mail) → AreOf l d ms → sum_by (counted (releases l d)) ms ≤ 1 → 1 ≤ sum_by (counted (is_carrying l w p)) ms → signed_in w p (first_release l ms) ≡ true
+signed-first : (l w p d : ℕ) (ms : List Mail) → AreOf l d ms → sum_by (mail_count (is_release_of l d)) ms ≤ 1 → 1 ≤ sum_by (mail_count (is_carrying l w p)) ms → signed_in w p (first_release l ms) ≡ true
 signed-first l w p d [] own single some = absurd (omega (arith, some))
 signed-first l w p d (m ∷ ms) own single some = by_first (release_in l m.message) refl (signed-first l w p d ms (λ place. own (suc place))) where
-  all : sum_by (counted (releases l d)) (m ∷ ms) ≡ counted (releases l d) m + sum_by (counted (releases l d)) ms
-  all = sum_by-cons (counted (releases l d)) m ms
+  all : sum_by (mail_count (is_release_of l d)) (m ∷ ms) ≡ mail_count (is_release_of l d) m + sum_by (mail_count (is_release_of l d)) ms
+  all = sum_by-cons (mail_count (is_release_of l d)) m ms
 
-  carried : sum_by (counted (is_carrying l w p)) (m ∷ ms) ≡ counted (is_carrying l w p) m + sum_by (counted (is_carrying l w p)) ms
-  carried = sum_by-cons (counted (is_carrying l w p)) m ms
+  carried : sum_by (mail_count (is_carrying l w p)) (m ∷ ms) ≡ mail_count (is_carrying l w p) m + sum_by (mail_count (is_carrying l w p)) ms
+  carried = sum_by-cons (mail_count (is_carrying l w p)) m ms
 
-  by_first : (o : Option Signature) → release_in l m.message ≡ o → (sum_by (counted (releases l d)) ms ≤ 1 → 1 ≤ sum_by (counted (is_carrying l w p)) ms → signed_in w p (first_release l ms) ≡ true)
+  by_first : (o : Option Signature) → release_in l m.message ≡ o → (sum_by (mail_count (is_release_of l d)) ms ≤ 1 → 1 ≤ sum_by (mail_count (is_carrying l w p)) ms → signed_in w p (first_release l ms) ≡ true)
       → signed_in w p (first_release l (m ∷ ms)) ≡ true
   by_first None e again = rw (e) (again (omega (arith, single, all)) (omega (arith, some, carried, nothing)))
     where
-      nothing : counted (is_carrying l w p) m ≡ 0
-      nothing = by_weight (counted (is_carrying l w p) m) refl where
-        by_weight : (k : ℕ) → counted (is_carrying l w p) m ≡ k → counted (is_carrying l w p) m ≡ 0
+      nothing : mail_count (is_carrying l w p) m ≡ 0
+      nothing = by_weight (mail_count (is_carrying l w p) m) refl where
+        by_weight : (k : ℕ) → mail_count (is_carrying l w p) m ≡ k → mail_count (is_carrying l w p) m ≡ 0
         by_weight zero f = f
         by_weight (suc k) f =
             let r = carrying-is l w p m (omega (arith, f)) in
@@ -163,10 +163,10 @@ signed-first l w p d (m ∷ ms) own single some = by_first (release_in l m.messa
   by_first (Some t) e again =
       let at = release-is l m.message t e in
       let mine = counts-of l d m at.0 at.1 t at.2 at.3 (own zero m at.0 at.1 t refl at.2 at.3) in
-      let rest = sums-within (counted (is_carrying l w p)) (counted (releases l d)) ms (carrying-le l w p d ms (λ place. own (suc place))) in
+      let rest = sums-within (mail_count (is_carrying l w p)) (mail_count (is_release_of l d)) ms (carrying-le l w p d ms (λ place. own (suc place))) in
       let r = carrying-is l w p m (omega (arith, some, carried, single, all, mine, rest)) in
       let same : t ≡ r.signature = one-signature t r (sym e) in
-      rw (e) (ap (λ (x : Signature). holds x w p) same ∙ r.signed)
+      rw (e) (ap (λ (x : Signature). may_hold x w p) same ∙ r.signed)
     where
       one-signature : (t : Signature) (r : IsRelease l w p m) → Some t ≡ release_in l m.message → t ≡ r.signature
       one-signature t r is =
@@ -176,10 +176,10 @@ signed-first l w p d (m ∷ ms) own single some = by_first (release_in l m.messa
 -- ---- the signature of a lock
 
 -- a join with what is carried holds what either holds
-joined-holds : (kept : Signature) (o : Option Signature) (w p : ℕ) → tag kept ≤ p → ((s : Signature) → o ≡ Some s → tag s ≤ p) → 1 ≤ bit (holds kept w p) + bit (signed_in w p o) → holds (with_carried kept o) w p ≡ true
-joined-holds kept None w p early late some = bit-true (holds kept w p) (omega (arith, some))
-joined-holds kept (Some s) w p early late some = by_kept (holds kept w p) refl (holds s w p) refl where
-  by_kept : (x : Bool) → holds kept w p ≡ x → (y : Bool) → holds s w p ≡ y → holds (joined kept s) w p ≡ true
+joined-holds : (kept : Signature) (o : Option Signature) (w p : ℕ) → tag kept ≤ p → ((s : Signature) → o ≡ Some s → tag s ≤ p) → 1 ≤ bit (may_hold kept w p) + bit (signed_in w p o) → may_hold (with_carried kept o) w p ≡ true
+joined-holds kept None w p early late some = bit-true (may_hold kept w p) (omega (arith, some))
+joined-holds kept (Some s) w p early late some = by_kept (may_hold kept w p) refl (may_hold s w p) refl where
+  by_kept : (x : Bool) → may_hold kept w p ≡ x → (y : Bool) → may_hold s w p ≡ y → may_hold (joined kept s) w p ≡ true
   by_kept true e y f = joined_covers_first kept s w p (late s refl) e
   by_kept false e true f = joined_covers_second kept s w p early f
   by_kept false e false f = let one = rw (e, f) at some in absurd (omega (arith, one))
@@ -203,19 +203,19 @@ holding S M l w p inv some =
 
 -- who gives a lock up is its holder
 giving : (S : State) (M : ℕ → ℕ) (l : ℕ) → Invariant S M → (place : ℕ) (m : Mail) (lock : LockId) (core : CoreId) (s : Signature) → slice_get S.mails place ≡ Some m → m.message ≡ Release lock core s → lock.0 ≡ l
-    → (1 ≤ flight S (releases l core.0)) × (1 ≤ holder_in core.0 (lock_at S l))
+    → (1 ≤ flight S (is_release_of l core.0)) × (1 ≤ holder_in core.0 (lock_at S l))
 giving S M l inv place m lock core s there says same =
-    let one = subst (λ (x : ℕ). 1 ≤ flight S (releases x core.0)) same (release-counts S place m lock core s there says) in
+    let one = subst (λ (x : ℕ). 1 ≤ flight S (is_release_of x core.0)) same (release-counts S place m lock core s there says) in
     (one, omega (arith, inv.locks.row l core.0, one))
 
 record Gives (S : State) (l : ℕ) : Type 0 where
   core : ℕ
-  gives : 1 ≤ flight S (releases l core)
+  gives : 1 ≤ flight S (is_release_of l core)
   holder : 1 ≤ holder_in core (lock_at S l)
 
 releasing : (S : State) (M : ℕ → ℕ) (l w p : ℕ) → Invariant S M → 1 ≤ flight S (is_carrying l w p) → Gives S l
 releasing S M l w p inv some =
-    let at = found-weighing (counted (is_carrying l w p)) S.mails some in
+    let at = found-weighing (mail_count (is_carrying l w p)) S.mails some in
     let r = carrying-is l w p at.item at.some in
     let both = giving S M l inv at.place at.item r.lock r.core r.signature at.there r.says r.same in
     record { core = r.core.0; gives = both.0; holder = both.1 }
@@ -237,17 +237,17 @@ lock-there S M l w inv some = by_lock (lock_at S l) refl where
 
 -- the holder of a lock holds it, and its signature may hold the word, where it is carried and not known at home
 held-signed : (S : State) (M : ℕ → ℕ) (l w : ℕ) (h : Lock) (d : CoreId) (n : NodeParts) → Invariant S M → lock_at S l ≡ Some h → h.holder ≡ Some d → slice_get S.nodes d.0 ≡ Some n → has_lock S d.0 l ≡ true → 1 ≤ carriers S l w
-    → 1 ≤ bit (holds h.kept w S.keeper.phase) + bit (signed_in w S.keeper.phase (slice_get n.signatures l))
+    → 1 ≤ bit (may_hold h.kept w S.keeper.phase) + bit (signed_in w S.keeper.phase (slice_get n.signatures l))
 held-signed S M l w h d n inv there owner found has some = by_sum (sum_by (carried_by l w S.keeper.phase) S.nodes) refl (flight S (is_carrying l w S.keeper.phase)) refl where
   single : holder_in d.0 (lock_at S l) ≤ 1
   single = omega (arith, ap (holder_in d.0) there, ap (holder_count d.0) owner, bit-most (d.0 == d.0))
 
-  by_sum : (x : ℕ) → sum_by (carried_by l w S.keeper.phase) S.nodes ≡ x → (y : ℕ) → flight S (is_carrying l w S.keeper.phase) ≡ y → 1 ≤ bit (holds h.kept w S.keeper.phase) + bit (signed_in w S.keeper.phase (slice_get n.signatures l))
+  by_sum : (x : ℕ) → sum_by (carried_by l w S.keeper.phase) S.nodes ≡ x → (y : ℕ) → flight S (is_carrying l w S.keeper.phase) ≡ y → 1 ≤ bit (may_hold h.kept w S.keeper.phase) + bit (signed_in w S.keeper.phase (slice_get n.signatures l))
   by_sum zero e zero f = omega (arith, some, e, f, ap (kept_bit w S.keeper.phase) there)
   by_sum zero e (suc y) f =
       let by = releasing S M l w S.keeper.phase inv (omega (arith, f)) in
       let same = holder-of by.core (lock_at S l) by.holder h there d owner in
-      let gives = subst (λ (x : ℕ). 1 ≤ flight S (releases l x)) (sym same) by.gives in
+      let gives = subst (λ (x : ℕ). 1 ≤ flight S (is_release_of l x)) (sym same) by.gives in
       absurd (omega (arith, gives, single, inv.locks.row l d.0, ap bit has))
   by_sum (suc x) e y f =
       let by = holding S M l w S.keeper.phase inv (omega (arith, e)) in
@@ -258,7 +258,7 @@ held-signed S M l w h d n inv there owner found has some = by_sum (sum_by (carri
 
 -- and where the holder doesn't hold it, the one release of it does
 given-signed : (S : State) (M : ℕ → ℕ) (l w : ℕ) (h : Lock) (d : CoreId) → Invariant S M → lock_at S l ≡ Some h → h.holder ≡ Some d → has_lock S d.0 l ≡ false → 1 ≤ carriers S l w
-    → 1 ≤ bit (holds h.kept w S.keeper.phase) + bit (signed_in w S.keeper.phase (first_release l S.mails))
+    → 1 ≤ bit (may_hold h.kept w S.keeper.phase) + bit (signed_in w S.keeper.phase (first_release l S.mails))
 given-signed S M l w h d inv there owner without some = by_sum (sum_by (carried_by l w S.keeper.phase) S.nodes) refl (flight S (is_carrying l w S.keeper.phase)) refl where
   single : holder_in d.0 (lock_at S l) ≤ 1
   single = omega (arith, ap (holder_in d.0) there, ap (holder_count d.0) owner, bit-most (d.0 == d.0))
@@ -266,7 +266,7 @@ given-signed S M l w h d inv there owner without some = by_sum (sum_by (carried_
   own : AreOf l d.0 S.mails
   own place m lock core s at says same = sym (holder-of core.0 (lock_at S l) (giving S M l inv place m lock core s at says same).1 h there d owner)
 
-  by_sum : (x : ℕ) → sum_by (carried_by l w S.keeper.phase) S.nodes ≡ x → (y : ℕ) → flight S (is_carrying l w S.keeper.phase) ≡ y → 1 ≤ bit (holds h.kept w S.keeper.phase) + bit (signed_in w S.keeper.phase (first_release l S.mails))
+  by_sum : (x : ℕ) → sum_by (carried_by l w S.keeper.phase) S.nodes ≡ x → (y : ℕ) → flight S (is_carrying l w S.keeper.phase) ≡ y → 1 ≤ bit (may_hold h.kept w S.keeper.phase) + bit (signed_in w S.keeper.phase (first_release l S.mails))
   by_sum zero e zero f = omega (arith, some, e, f, ap (kept_bit w S.keeper.phase) there)
   by_sum zero e (suc y) f =
       let signed = signed-first l w S.keeper.phase d.0 S.mails own (omega (arith, single, inv.locks.row l d.0)) (omega (arith, f)) in
@@ -278,15 +278,15 @@ given-signed S M l w h d inv there owner without some = by_sum (sum_by (carried_
       absurd (cc)
 
 -- a word that is carried under a lock is one that the lock's signature may hold
-lock-signed : (S : State) (M : ℕ → ℕ) (l w : ℕ) (h : Lock) → Invariant S M → lock_at S l ≡ Some h → 1 ≤ carriers S l w → holds (lock_signature S l h) w S.keeper.phase ≡ true
+lock-signed : (S : State) (M : ℕ → ℕ) (l w : ℕ) (h : Lock) → Invariant S M → lock_at S l ≡ Some h → 1 ≤ carriers S l w → may_hold (lock_signature S l h) w S.keeper.phase ≡ true
 lock-signed S M l w h inv there some = by_holder h.holder refl where
   early : tag h.kept ≤ S.keeper.phase
   early = inv.locks.kept l h there
 
-  known : 1 ≤ bit (holds h.kept w S.keeper.phase) → holds h.kept w S.keeper.phase ≡ true
-  known one = bit-true (holds h.kept w S.keeper.phase) one
+  known : 1 ≤ bit (may_hold h.kept w S.keeper.phase) → may_hold h.kept w S.keeper.phase ≡ true
+  known one = bit-true (may_hold h.kept w S.keeper.phase) one
 
-  by_node : (d : CoreId) → h.holder ≡ Some d → has_lock S d.0 l ≡ true → (o : Option NodeParts) → slice_get S.nodes d.0 ≡ o → holds (with_carried h.kept (signature_at l o)) w S.keeper.phase ≡ true
+  by_node : (d : CoreId) → h.holder ≡ Some d → has_lock S d.0 l ≡ true → (o : Option NodeParts) → slice_get S.nodes d.0 ≡ o → may_hold (with_carried h.kept (signature_at l o)) w S.keeper.phase ≡ true
   by_node d owner has None found = let none : has_lock S d.0 l ≡ false = ap (holds_lock l) found in absurd (cc)
   by_node d owner has (Some n) found =
       joined-holds h.kept (slice_get n.signatures l) w S.keeper.phase early
@@ -294,14 +294,14 @@ lock-signed S M l w h inv there some = by_holder h.holder refl where
       (held-signed S M l w h d n inv there owner found has some)
 
   by_held : (d : CoreId) → h.holder ≡ Some d → (x : Bool) → has_lock S d.0 l ≡ x
-      → holds (with_carried h.kept (if x then signature_at l (slice_get S.nodes d.0) else first_release l S.mails)) w S.keeper.phase ≡ true
+      → may_hold (with_carried h.kept (if x then signature_at l (slice_get S.nodes d.0) else first_release l S.mails)) w S.keeper.phase ≡ true
   by_held d owner true has = by_node d owner has (slice_get S.nodes d.0) refl
   by_held d owner false without =
       joined-holds h.kept (first_release l S.mails) w S.keeper.phase early
       (λ s is. (let at = first-there l S.mails s is in (locks S M inv).sent at.1 at.2 at.3 s (at.0, at.4) at.5))
       (given-signed S M l w h d inv there owner without some)
 
-  by_holder : (o : Option CoreId) → h.holder ≡ o → holds (with_holder S l h.kept o) w S.keeper.phase ≡ true
+  by_holder : (o : Option CoreId) → h.holder ≡ o → may_hold (with_holder S l h.kept o) w S.keeper.phase ≡ true
   by_holder None free = known (omega (arith, known-home S M l w inv (λ c. ap (holder_in c) there ∙ ap (holder_count c) free) some, ap (kept_bit w S.keeper.phase) there))
   by_holder (Some d) owner = by_held d owner (has_lock S d.0 l) refl
 

@@ -13,7 +13,7 @@ use Rattle.queue_lock.specs.Lock.{Lock, IsLockOf}
 use Rattle.registry_bank.specs.Bank.{BankParts}
 use Rattle.machine_rules.specs.State.{State, lock_in, lock_at}
 use Rattle.machine_rules.specs.Sound.{IsMachine}
-use Rattle.machine_rules.specs.Flight.{bit, counted}
+use Rattle.machine_rules.specs.Flight.{bit, mail_count}
 use Rattle.machine_rules.specs.Coherent.{AreLocks, IsInFlight}
 use Rattle.machine_rules.proofs.Bits.{same_signature}
 use Rattle.machine_rules.proofs.Invariant.{Invariant, LocksGood, is_unlike, is_late}
@@ -43,12 +43,12 @@ lock-well S machine l h is = by_bank (slice_get S.banks (l % S.setting.shape.ban
 granted : (S : State) → LocksGood S → (m : Mail) (lock : LockId) (s : Signature) → IsInFlight S m → m.message ≡ Grant lock s
     → (h : Lock) → lock_at S lock.0 ≡ Some h → s ≡ h.kept
 granted S g m lock s (place, there) is h at =
-    let within = rw (is, same-number lock.0) at (weight-within (counted (is_unlike lock.0 h.kept)) S.mails place m there) in
+    let within = rw (is, same-number lock.0) at (weight-within (mail_count (is_unlike lock.0 h.kept)) S.mails place m there) in
     sym (same-is h.kept s (omega (arith, within, g.granted lock.0 h at)))
 
 sent : (S : State) → LocksGood S → (m : Mail) (lock : LockId) (core : CoreId) (s : Signature) → IsInFlight S m → m.message ≡ Release lock core s → tag s ≤ S.keeper.phase
 sent S g m lock core s (place, there) is =
-    let within = rw (is) at (weight-within (counted (is_late S.keeper.phase)) S.mails place m there) in
+    let within = rw (is) at (weight-within (mail_count (is_late S.keeper.phase)) S.mails place m there) in
     grind (arith, nat_tests, within, g.released)
 
 pub locks : (S : State) (M : ℕ → ℕ) → Invariant S M → AreLocks S

@@ -4,9 +4,9 @@ use Rattle.dn_base.specs.declared.ids.CoreId.{CoreId}
 use Rattle.message_net.specs.declared.message.Mail.{Mail}
 use Rattle.message_net.specs.declared.message.Message.TheVariants.{Arrived}
 use Rattle.registration_protocol.specs.Node.{NodeParts}
-use Rattle.registration_protocol.specs.OwnEvents.{is_bad}
+use Rattle.registration_protocol.specs.OwnEvents.{task_ended_badly}
 use Rattle.machine_rules.specs.State.{State}
-use Rattle.machine_rules.specs.Flight.{bit, flight, counted, goes}
+use Rattle.machine_rules.specs.Flight.{bit, flight, mail_count, is_go_to}
 use Rattle.machine_rules.specs.Coherent.{ArePhases, IsInPhase, IsInFlight, is_alive}
 use Rattle.machine_rules.proofs.Invariant.{PhasesGood, is_lie, same_truth}
 use Rattle.message_net.proofs.PoolLemmas.{weight-within}
@@ -18,15 +18,15 @@ alive-arrived n some = by_flag n.arrived refl some where
   by_flag false is one = absurd (omega (arith, one))
 
 in_phase : (S : State) → PhasesGood S → (c : ℕ) (n : NodeParts) → slice_get S.nodes c ≡ Some n → n.halted ≡ false → IsInPhase S c n
-in_phase S g c n found awake = by_count (flight S (goes c)) refl where
+in_phase S g c n found awake = by_count (flight S (is_go_to c)) refl where
   alive : (bit (is_alive (slice_get S.nodes c))) ≡ bit (is_alive (Some n))
   alive = ap (λ (o : Option NodeParts). bit (is_alive o)) found
 
-  by_count : (x : ℕ) → flight S (goes c) ≡ x → IsInPhase S c n
+  by_count : (x : ℕ) → flight S (is_go_to c) ≡ x → IsInPhase S c n
   by_count zero is = inl (omega (arith, g.phase c n found awake, is))
   by_count (suc x) is =
       let some : 1 ≤ bit (is_alive (Some n)) = omega (arith, g.row c, is, alive) in
-      let one : flight S (goes c) ≡ 1 = omega (arith, g.row c, is, alive, alive-one) in
+      let one : flight S (is_go_to c) ≡ 1 = omega (arith, g.row c, is, alive, alive-one) in
       inr (omega (arith, g.phase c n found awake, one), alive-arrived n some, omega (arith, is))
     where
       alive-one : bit (is_alive (Some n)) ≤ 1
@@ -42,10 +42,10 @@ true-same false true none = absurd (omega (arith, none))
 true-same false false none = refl
 
 said : (S : State) → PhasesGood S → (m : Mail) (core : CoreId) (bad : Bool) → IsInFlight S m → m.message ≡ Arrived core bad
-    → (n : NodeParts) → slice_get S.nodes core.0 ≡ Some n → bad ≡ is_bad n.task
+    → (n : NodeParts) → slice_get S.nodes core.0 ≡ Some n → bad ≡ task_ended_badly n.task
 said S g m core bad (place, there) is n found =
-    let within = rw (is, found) at (weight-within (counted (is_lie S.nodes)) S.mails place m there) in
-    true-same bad (is_bad n.task) (omega (arith, within, g.truly))
+    let within = rw (is, found) at (weight-within (mail_count (is_lie S.nodes)) S.mails place m there) in
+    true-same bad (task_ended_badly n.task) (omega (arith, within, g.truly))
 
 pub phases : (S : State) → PhasesGood S → ArePhases S
 phases S g =

@@ -11,7 +11,7 @@ use Rattle.registration_protocol.specs.declared.node.NodeWait as wait
 use Rattle.registration_protocol.specs.declared.node.NodeWait.{NodeWait}
 use Rattle.machine_rules.specs.State.{State, entry_at, home_at}
 use Rattle.machine_rules.specs.Memory.{word_value}
-use Rattle.machine_rules.specs.Flight.{bit, flight, counted, misinforms, forwards_at}
+use Rattle.machine_rules.specs.Flight.{bit, flight, mail_count, is_false_data_reply, is_read_fwd_to}
 use Rattle.machine_rules.specs.Coherent.{AreReads, IsReading, IsInFlight, waits_for, IsAtOrHome}
 use Rattle.machine_rules.proofs.Bits.{owner_bit, known_bit, reading_in}
 use Rattle.machine_rules.proofs.BitLemmas.{pending-bit, owner-bit}
@@ -31,7 +31,7 @@ is_reading-of S g c word (n, found, is) =
 
 answered : (S : State) (M : ℕ → ℕ) → WordsGood S → ValuesGood S M → (m : Mail) (word : WordId) (value : ℕ) → IsInFlight S m → m.message ≡ DataReply word value → value ≡ word_value S word.0
 answered S M words g m word value (place, there) is =
-    let within = rw (is) at (weight-within (counted (misinforms M)) S.mails place m there) in
+    let within = rw (is) at (weight-within (mail_count (is_false_data_reply M)) S.mails place m there) in
     by_test (value == M word.0) refl (omega (arith, within, g.replied)) ∙ sym (value-is S M words g word.0)
   where
     by_test : (x : Bool) → (value == M word.0) ≡ x → bit (cond x false true) ≤ 0 → value ≡ M word.0
@@ -39,7 +39,7 @@ answered S M words g m word value (place, there) is =
     by_test false e none = absurd (omega (arith, none))
 
 -- a read that was passed on to a core meets the word's registrant there, or the word at its home
-at_or_home : (S : State) (M : ℕ → ℕ) → Invariant S M → (d w : ℕ) → 1 ≤ flight S (forwards_at w d) → IsAtOrHome S d w
+at_or_home : (S : State) (M : ℕ → ℕ) → Invariant S M → (d w : ℕ) → 1 ≤ flight S (is_read_fwd_to w d) → IsAtOrHome S d w
 at_or_home S M inv d w some = by_home (home_at S w) refl where
   known : 1 ≤ known_bit (home_at S w)
   known = let reader = forward-reading S w d inv.reads some in read-known S M w reader.0 inv reader.1

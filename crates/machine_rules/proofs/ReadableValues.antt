@@ -6,7 +6,7 @@ use Rattle.registry_bank.specs.declared.bank.BankWord.{BankWord}
 use Rattle.registry_bank.specs.declared.bank.BankWord.TheVariants.{Home, Reg}
 use Rattle.registration_protocol.specs.Node.{NodeParts, entry_of}
 use Rattle.machine_rules.specs.State.{State, entry_in, entry_at, home_at}
-use Rattle.machine_rules.specs.Memory.{pending_value, or_else, pending_among, value_of, kept_value, value_by, word_value}
+use Rattle.machine_rules.specs.Memory.{pending_value, or_else, pending_among, value_in_entry, kept_value, value_or_kept, word_value}
 use Rattle.machine_rules.specs.Coherent.{owned_value}
 use Rattle.machine_rules.proofs.Bits.{pending_bit, settled_bit, leaving_bit, owner_bit}
 use Rattle.machine_rules.proofs.BitLemmas.{owner-bit}
@@ -47,7 +47,7 @@ none-pending (n ∷ ns) w is c = by_entry (none-pending ns w) (entry_of n w) ref
 
 -- the value of a registrant's entry, where nothing is pending
 owned : (e : Option Entry) (m : ℕ) → pending_bit e ≡ 0 → 1 ≤ pending_bit e + settled_bit e + leaving_bit e
-    → ((value : ℕ) → owned_value e ≡ Some value → value ≡ m) → value_of e ≡ m
+    → ((value : ℕ) → owned_value e ≡ Some value → value ≡ m) → value_in_entry e ≡ m
 owned None m none some is = absurd (omega (arith, some))
 owned (Some (Valid value marked)) m none some is = absurd (omega (arith, some))
 owned (Some (Registered value true)) m none some is = absurd (omega (arith, none))
@@ -64,6 +64,6 @@ value-is S M words g w = by_pending (pending_among S.nodes w) refl where
       let owner : owner_bit core.0 (home_at S w) ≡ 1 = owner-bit core.0 (home_at S w) is in
       owned (entry_at S core.0 w) (M w) (all core.0) (omega (arith, owner, words.row w core.0)) (λ value has. g.owner w value core all is has)
 
-  by_pending : (o : Option ℕ) → pending_among S.nodes w ≡ o → value_by S w o ≡ M w
+  by_pending : (o : Option ℕ) → pending_among S.nodes w ≡ o → value_or_kept S w o ≡ M w
   by_pending (Some value) is = let at = found-pending S.nodes w value is in g.pending at.0 w value at.1
   by_pending None is = by_home (none-pending S.nodes w is) (home_at S w) refl

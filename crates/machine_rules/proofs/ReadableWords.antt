@@ -3,7 +3,7 @@ use Rattle.std.proofs.Common.{◌≡◌, ◌⊎◌, inl, inr, ℕ, zero, suc, �
 use Rattle.word_cache.specs.declared.row.Entry.{Entry}
 use Rattle.word_cache.specs.declared.row.Entry.TheVariants.{Valid, Registered, Leaving}
 use Rattle.machine_rules.specs.State.{State, entry_at, home_at}
-use Rattle.machine_rules.specs.Flight.{flight, passes_to}
+use Rattle.machine_rules.specs.Flight.{flight, is_reg_fwd_to}
 use Rattle.machine_rules.specs.Coherent.{IsPending, IsSettled, IsLeaving, IsRegistrant, AreRegistrants, ArePending, AreLeaving}
 use Rattle.machine_rules.proofs.Bits.{pending_bit, settled_bit, leaving_bit, owner_bit}
 use Rattle.machine_rules.proofs.BitLemmas.{owner-is, pending-bit, settled-bit, leaving-bit, owner-bit, one-bit}
@@ -29,7 +29,7 @@ registrants S g =
     }
   where
     by_owner : (c w : ℕ) → WordRow (word_counts S w c) → settled_bit (entry_at S c w) ≡ 1 → (x : ℕ) → owner_bit c (home_at S w) ≡ x
-        → IsRegistrant S c w ⊎ (1 ≤ flight S (passes_to w c))
+        → IsRegistrant S c w ⊎ (1 ≤ flight S (is_reg_fwd_to w c))
     by_owner c w row one zero is = inr (omega (arith, row, one, is))
     by_owner c w row one (suc x) is = inl (owner-is c (home_at S w) (omega (arith, is)))
 

@@ -8,7 +8,7 @@ use Rattle.message_net.specs.declared.event.Event.TheVariants.{Instr, Evict, Arr
 use Rattle.message_net.specs.declared.message.Mail.{Mail}
 use Rattle.message_net.specs.declared.message.Message.{Message}
 use Rattle.message_net.specs.declared.message.Outgoing.{Outgoing}
-use Rattle.message_net.specs.Pool.{count_of, AreDistinct, posted, taken}
+use Rattle.message_net.specs.Pool.{count_of, AreDistinct, posted, removed}
 use Rattle.message_net.specs.Mail.{mail_of, all_mails}
 use Rattle.message_net.proofs.Orders.{holds-permuted, weight-permuted, AreDistinct-permuted, posted-permuted, taken-permuted, rest-permuted}
 use Rattle.registry_bank.specs.Bank.{BankParts, bank_gets}
@@ -18,7 +18,7 @@ use Rattle.registration_protocol.specs.Node.{NodeParts}
 use Rattle.registration_protocol.specs.OwnEvents.{instructed, evicted, arrives}
 use Rattle.registration_protocol.specs.Messages.{node_gets}
 use Rattle.machine_rules.specs.State.{State}
-use Rattle.machine_rules.specs.Next.{next, enabled, told, kind_in, kind_with, seen_in, granted_in, granted_with, place_in, number_of, sends, does_instr, does_evict, does_arrive, core_gets, bank_handles, gets, delivers}
+use Rattle.machine_rules.specs.Next.{next, enabled, observed, kind_in, kind_with, seen_in, granted_in, granted_with, actor_index_in, next_number, sends, does_instr, does_evict, does_arrive, core_gets, bank_handles, gets, delivers}
 use Rattle.machine_rules.specs.Runs.{after, IsRun}
 use Rattle.machine_rules.specs.Sound.{IsMachine, IsSound}
 use Rattle.machine_rules.specs.Reordered.{IsReordered}
@@ -58,7 +58,7 @@ enabled-moved S mails (Handle id) moved =
 pub enabled-reordered : (S T : State) (e : Event) → IsReordered S T → enabled S e ≡ enabled T e
 enabled-reordered S T e same = enabled-moved S T.mails e same.mails ∙ ap (λ (U : State). enabled U e) (sym same.rest)
 
-told-moved : (S : State) (mails : List Mail) (e : Event) → AreDistinct S.mails → IsPermutation S.mails mails → told S e ≡ told (with_mails S mails) e
+told-moved : (S : State) (mails : List Mail) (e : Event) → AreDistinct S.mails → IsPermutation S.mails mails → observed S e ≡ observed (with_mails S mails) e
 unfolding kind_in seen_in granted_in
 told-moved S mails (Instr core) distinct moved = refl
 told-moved S mails (Evict core word) distinct moved = refl
@@ -66,8 +66,8 @@ told-moved S mails (Arrive core) distinct moved = refl
 told-moved S mails (Handle id) distinct moved =
     ap (λ (o : Option Mail). record { kind = kind_with o; seen = None; granted = granted_with S o }) (taken-permuted id S.mails mails distinct moved)
 
-pub told-reordered : (S T : State) (e : Event) → AreDistinct S.mails → IsReordered S T → told S e ≡ told T e
-told-reordered S T e distinct same = told-moved S T.mails e distinct same.mails ∙ ap (λ (U : State). told U e) (sym same.rest)
+pub told-reordered : (S T : State) (e : Event) → AreDistinct S.mails → IsReordered S T → observed S e ≡ observed T e
+told-reordered S T e distinct same = told-moved S T.mails e distinct same.mails ∙ ap (λ (U : State). observed U e) (sym same.rest)
 
 -- ---- where an event leads
 
@@ -80,7 +80,7 @@ all-moved from number (out ∷ outs) xs ys moved =
 sends-moved : (S : State) (mails : List Mail) (from : Actor) (sent : Option Outgoing) → IsPermutation S.mails mails → IsReordered (sends S from sent) (sends (with_mails S mails) from sent)
 sends-moved S mails from None moved = record { mails = moved; rest = refl }
 sends-moved S mails from (Some out) moved =
-    record { mails = posted-permuted S.mails mails (mail_of from (number_of S from) out) moved; rest = refl }
+    record { mails = posted-permuted S.mails mails (mail_of from (next_number S from) out) moved; rest = refl }
 
 gets-moved : (S : State) (mails : List Mail) (to : Actor) (message : Message) → IsPermutation S.mails mails → IsReordered (gets S to message) (gets (with_mails S mails) to message)
 gets-moved S mails (Core core) message moved = by_node (slice_get S.nodes core.0) where
@@ -95,7 +95,7 @@ gets-moved S mails (Bank bank) message moved = by_bank (slice_get S.banks bank.0
       sends-moved (record S { banks = slice_set S.banks bank.0 (bank_gets b message).0 }) mails (Bank bank) (bank_gets b message).1 moved
 gets-moved S mails Keeper message moved =
     record {
-      mails = all-moved Keeper (number_of S Keeper) (letters S.setting.shape.cores (keeper_gets S.keeper message).1) S.mails mails moved;
+      mails = all-moved Keeper (next_number S Keeper) (letters S.setting.shape.cores (keeper_gets S.keeper message).1) S.mails mails moved;
       rest = refl;
     }
 
@@ -119,8 +119,8 @@ next-moved S mails (Arrive core) distinct moved = by_node (slice_get S.nodes cor
   by_node (Some n) = sends-moved (record S { nodes = slice_set S.nodes core.0 (arrives n).0 }) mails (Core core) (arrives n).1 moved
 next-moved S mails (Handle id) distinct moved =
     let rest = rest-permuted id S.mails mails distinct moved in
-    let here = delivers-moved (with_mails S (taken id S.mails).1) (taken id mails).1 (taken id S.mails).0 rest in
-    subst (λ (o : Option Mail). IsReordered (delivers (with_mails S (taken id S.mails).1) (taken id S.mails).0) (delivers (with_mails S (taken id mails).1) o))
+    let here = delivers-moved (with_mails S (removed id S.mails).1) (removed id mails).1 (removed id S.mails).0 rest in
+    subst (λ (o : Option Mail). IsReordered (delivers (with_mails S (removed id S.mails).1) (removed id S.mails).0) (delivers (with_mails S (removed id mails).1) o))
     (taken-permuted id S.mails mails distinct moved) here
 
 pub next-reordered : (S T : State) (e : Event) → AreDistinct S.mails → IsReordered S T → IsReordered (next S e) (next T e)
@@ -148,7 +148,7 @@ machine-moved S mails moved good =
       numbered = numbered;
     }
   where
-    numbered : (place : ℕ) (m : Mail) → slice_get mails place ≡ Some m → m.id.number < slice_index S.numbers (place_in S m.id.sender)
+    numbered : (place : ℕ) (m : Mail) → slice_get mails place ≡ Some m → m.id.number < slice_index S.numbers (actor_index_in S m.id.sender)
     numbered place m here =
         let before = holds-permuted mails S.mails m place (IsPermutation-sym S.mails mails moved) here in
         good.numbered before.0 m before.1

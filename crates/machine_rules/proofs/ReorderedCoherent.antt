@@ -7,13 +7,13 @@ use Rattle.std.proofs.lemmas.List.Sorted.{IsPermutation-sym}
 use Rattle.dn_base.specs.declared.ids.CoreId.{CoreId}
 use Rattle.dn_base.specs.declared.ids.WordId.{WordId}
 use Rattle.write_signature.specs.declared.signature.Signature.{Signature}
-use Rattle.write_signature.specs.Signature.{holds}
+use Rattle.write_signature.specs.Signature.{may_hold}
 use Rattle.message_net.specs.declared.message.Mail.{Mail}
 use Rattle.message_net.proofs.Orders.{holds-permuted, weight-permuted}
 use Rattle.queue_lock.specs.Lock.{Lock, holder_count}
 use Rattle.registration_protocol.specs.Node.{NodeParts}
 use Rattle.machine_rules.specs.State.{State, lock_at}
-use Rattle.machine_rules.specs.Flight.{Test, counted, flight, asks, passes_on, passes_to, turns_back, confirms, gives_back_value, frees, seeks, forwards, forwards_at, replies, acquires, releases, grants, arrives, goes, halts}
+use Rattle.machine_rules.specs.Flight.{Test, mail_count, flight, is_reg_req_of, is_reg_fwd_of, is_reg_fwd_to, is_reg_fwd_to_itself, is_reg_ack_to, is_write_back_with, is_wb_ack_to, is_read_req_of, is_read_fwd_of, is_read_fwd_to, is_data_reply_to, is_acquire_of, is_release_of, is_grant_to, is_arrival_of, is_go_to, is_halt_to}
 use Rattle.machine_rules.specs.Memory.{word_value, memory_of}
 use Rattle.machine_rules.specs.Coherent.{Coherent, ArePhases, AreLocks, AreRegistrants, ArePending, AreLeaving, AreReads, AreExpected, AreCopies, IsInFlight, IsInPhase, MayStore, IsReading, IsFresh, IsBehind, HasWriter, HasGuardedWriter, UsesPlainly, IsRegistrant, has_lock, holder_in, signature_at, release_in, first_release, with_carried, with_holder, lock_signature}
 use Rattle.machine_rules.specs.Sound.{IsSound}
@@ -46,7 +46,7 @@ first-says l (m ∷ ms) s is = by_first (release_in l m.message) refl (first-say
 -- a release of the lock is one of some core, and it counts as one of that core
 record IsOf (l : ℕ) (m : Mail) : Type 0 where
   core : ℕ
-  one : counted (releases l core) m ≡ 1
+  one : mail_count (is_release_of l core) m ≡ 1
 
 is-of : (l : ℕ) (m : Mail) (s : Signature) → release_in l m.message ≡ Some s → IsOf l m
 is-of l m s says =
@@ -55,8 +55,8 @@ is-of l m s says =
 
 -- all releases of the lock among these mails are of one core, which has one of them at the most
 record AreOne (l core : ℕ) (mails : List Mail) : Type 0 where
-  own : (place : ℕ) (m : Mail) (s : Signature) → slice_get mails place ≡ Some m → release_in l m.message ≡ Some s → counted (releases l core) m ≡ 1
-  few : sum_by (counted (releases l core)) mails ≤ 1
+  own : (place : ℕ) (m : Mail) (s : Signature) → slice_get mails place ≡ Some m → release_in l m.message ≡ Some s → mail_count (is_release_of l core) m ≡ 1
+  few : sum_by (mail_count (is_release_of l core)) mails ≤ 1
 
 -- then the first one is the only one
 the-first : (l core : ℕ) (mails : List Mail) (place : ℕ) (m : Mail) (s : Signature) → AreOne l core mails → slice_get mails place ≡ Some m → release_in l m.message ≡ Some s → first_release l mails ≡ Some s
@@ -66,8 +66,8 @@ the-first l core (x ∷ xs) zero m s one there says =
     let here : release_in l x.message ≡ Some s = ap (λ (y : Mail). release_in l y.message) same ∙ says in
     rw (here) refl
 the-first l core (x ∷ xs) (suc place) m s one there says = by_first (release_in l x.message) refl (the-first l core xs place m s) where
-  all : sum_by (counted (releases l core)) (x ∷ xs) ≡ counted (releases l core) x + sum_by (counted (releases l core)) xs
-  all = sum_by-cons (counted (releases l core)) x xs
+  all : sum_by (mail_count (is_release_of l core)) (x ∷ xs) ≡ mail_count (is_release_of l core) x + sum_by (mail_count (is_release_of l core)) xs
+  all = sum_by-cons (mail_count (is_release_of l core)) x xs
 
   others : AreOne l core xs
   others = record { own = λ i. one.own (suc i); few = omega (arith, one.few, all) }
@@ -76,7 +76,7 @@ the-first l core (x ∷ xs) (suc place) m s one there says = by_first (release_i
       → first_release l (x ∷ xs) ≡ Some s
   by_first None e again = rw (e) (again others there says)
   by_first (Some t) e again =
-      absurd (omega (arith, one.few, all, one.own zero x t refl e, one.own (suc place) m s there says, item-within (counted (releases l core)) xs place m there))
+      absurd (omega (arith, one.few, all, one.own zero x t refl e, one.own (suc place) m s there says, item-within (mail_count (is_release_of l core)) xs place m there))
 
 -- in another order of the mails it is the same one
 first-moved : (l core : ℕ) (xs ys : List Mail) → AreOne l core xs → IsPermutation xs ys → first_release l xs ≡ first_release l ys
@@ -88,7 +88,7 @@ first-moved l core xs ys one moved = by_first (first_release l xs) refl where
   others =
       record {
         own = λ place m s there. let before = holds-permuted ys xs m place back there in one.own before.0 m s before.1;
-        few = omega (arith, one.few, weight-permuted (counted (releases l core)) xs ys moved);
+        few = omega (arith, one.few, weight-permuted (mail_count (is_release_of l core)) xs ys moved);
       }
 
   by_first : (o : Option Signature) → first_release l xs ≡ o → first_release l xs ≡ first_release l ys
@@ -115,12 +115,12 @@ holder-most c (Some h) = by_holder h.holder where
 
 one-release : (S : State) (l : ℕ) (h : Lock) (core : CoreId) → AreLocks S → lock_at S l ≡ Some h → h.holder ≡ Some core → AreOne l core.0 S.mails
 one-release S l h core locks there has = record { own = own; few = omega (arith, locks.held l core.0, holder-most core.0 (lock_at S l)) } where
-  own : (place : ℕ) (m : Mail) (s : Signature) → slice_get S.mails place ≡ Some m → release_in l m.message ≡ Some s → counted (releases l core.0) m ≡ 1
+  own : (place : ℕ) (m : Mail) (s : Signature) → slice_get S.mails place ≡ Some m → release_in l m.message ≡ Some s → mail_count (is_release_of l core.0) m ≡ 1
   own place m s here says =
       let of = is-of l m s says in
-      let some : 1 ≤ holder_in of.core (lock_at S l) = omega (arith, of.one, item-within (counted (releases l of.core)) S.mails place m here, locks.held l of.core) in
+      let some : 1 ≤ holder_in of.core (lock_at S l) = omega (arith, of.one, item-within (mail_count (is_release_of l of.core)) S.mails place m here, locks.held l of.core) in
       let same : core.0 ≡ of.core = holder-of of.core (lock_at S l) some h there core has in
-      subst (λ (c : ℕ). counted (releases l c) m ≡ 1) (sym same) of.one
+      subst (λ (c : ℕ). mail_count (is_release_of l c) m ≡ 1) (sym same) of.one
 
 -- ---- the eight parts
 
@@ -129,7 +129,7 @@ module _ (S : State) (mails : List Mail) (moved : IsPermutation S.mails mails) w
   T = with_mails S mails
 
   same : (test : Test) → flight T test ≡ flight S test
-  same test = weight-permuted (counted test) S.mails mails moved
+  same test = weight-permuted (mail_count test) S.mails mails moved
 
   back : (m : Mail) → IsInFlight T m → IsInFlight S m
   back m there = holds-permuted mails S.mails m there.0 (IsPermutation-sym S.mails mails moved) there.1
@@ -138,24 +138,24 @@ module _ (S : State) (mails : List Mail) (moved : IsPermutation S.mails mails) w
   phases was =
       record {
         phase = λ c n here on. in_phase c n (was.phase c n here on);
-        whereabouts = λ c. omega (arith, was.whereabouts c, same (arrives c), same (goes c), same (halts c));
+        whereabouts = λ c. omega (arith, was.whereabouts c, same (is_arrival_of c), same (is_go_to c), same (is_halt_to c));
         arrived = was.arrived;
         said = λ m core bad there. was.said m core bad (back m there);
         bad = was.bad;
         good = was.good;
-        unlocked = λ c n here going. was.unlocked c n here (omega (arith, going, same (goes c)));
+        unlocked = λ c n here going. was.unlocked c n here (omega (arith, going, same (is_go_to c)));
       }
     where
       in_phase : (c : ℕ) (n : NodeParts) → IsInPhase S c n → IsInPhase T c n
       in_phase c n (inl now) = inl now
-      in_phase c n (inr (before, arrived, going)) = inr (before, arrived, omega (arith, going, same (goes c)))
+      in_phase c n (inr (before, arrived, going)) = inr (before, arrived, omega (arith, going, same (is_go_to c)))
 
   locks : AreLocks S → AreLocks T
   locks was =
       record {
         free = was.free;
-        held = λ l c. omega (arith, was.held l c, same (grants l c), same (releases l c));
-        awaited = λ l c. omega (arith, was.awaited l c, same (acquires l c), same (grants l c));
+        held = λ l c. omega (arith, was.held l c, same (is_grant_to l c), same (is_release_of l c));
+        awaited = λ l c. omega (arith, was.awaited l c, same (is_acquire_of l c), same (is_grant_to l c));
         granted = λ m lock s there. was.granted m lock s (back m there);
         kept = was.kept;
         sent = λ m lock core s there. was.sent m lock core s (back m there);
@@ -165,19 +165,19 @@ module _ (S : State) (mails : List Mail) (moved : IsPermutation S.mails mails) w
 
   registrants : AreRegistrants S → AreRegistrants T
   registrants was = record { has = was.has; told = λ c w settled. told c w (was.told c w settled) } where
-    told : (c w : ℕ) → IsRegistrant S c w ⊎ (1 ≤ flight S (passes_to w c)) → IsRegistrant T c w ⊎ (1 ≤ flight T (passes_to w c))
+    told : (c w : ℕ) → IsRegistrant S c w ⊎ (1 ≤ flight S (is_reg_fwd_to w c)) → IsRegistrant T c w ⊎ (1 ≤ flight T (is_reg_fwd_to w c))
     told c w (inl is) = inl is
-    told c w (inr passed) = inr (omega (arith, passed, same (passes_to w c)))
+    told c w (inr passed) = inr (omega (arith, passed, same (is_reg_fwd_to w c)))
 
   pending : ArePending S → ArePending T
   pending was =
       record {
         one_core = was.one_core;
         right = λ c w is. right c w (was.right c w is);
-        one_mail = λ c w is. omega (arith, was.one_mail c w is, same (asks w c), same (passes_on w c), same (confirms w c));
-        before = λ c w is asked. was.before c w is (omega (arith, asked, same (asks w c)));
-        behind = λ c w is known. was.behind c w is (omega (arith, known, same (passes_on w c), same (confirms w c)));
-        elsewhere = λ c w. omega (arith, was.elsewhere c w, same (turns_back w c));
+        one_mail = λ c w is. omega (arith, was.one_mail c w is, same (is_reg_req_of w c), same (is_reg_fwd_of w c), same (is_reg_ack_to w c));
+        before = λ c w is asked. was.before c w is (omega (arith, asked, same (is_reg_req_of w c)));
+        behind = λ c w is known. was.behind c w is (omega (arith, known, same (is_reg_fwd_of w c), same (is_reg_ack_to w c)));
+        elsewhere = λ c w. omega (arith, was.elsewhere c w, same (is_reg_fwd_to_itself w c));
       }
     where
       right : (c w : ℕ) → MayStore S c w → MayStore T c w
@@ -186,8 +186,8 @@ module _ (S : State) (mails : List Mail) (moved : IsPermutation S.mails mails) w
   leaving : AreLeaving S → AreLeaving T
   leaving was =
       record {
-        one_mail = λ c w value is. omega (arith, was.one_mail c w value is, same (gives_back_value w c value), same (frees w c));
-        given = λ c w value is freed. was.given c w value is (omega (arith, freed, same (frees w c)));
+        one_mail = λ c w value is. omega (arith, was.one_mail c w value is, same (is_write_back_with w c value), same (is_wb_ack_to w c));
+        given = λ c w value is freed. was.given c w value is (omega (arith, freed, same (is_wb_ack_to w c)));
       }
 
   reads : AreReads S → AreReads T
@@ -196,10 +196,10 @@ module _ (S : State) (mails : List Mail) (moved : IsPermutation S.mails mails) w
       record {
         reading = λ c word waits. reading c word (was.reading c word waits);
         quiet = was.quiet;
-        one_mail = λ c word waits. omega (arith, was.one_mail c word waits, same (seeks word.0 c), same (forwards word.0 c), same (replies word.0 c));
+        one_mail = λ c word waits. omega (arith, was.one_mail c word waits, same (is_read_req_of word.0 c), same (is_read_fwd_of word.0 c), same (is_data_reply_to word.0 c));
         answered = λ m word value there. was.answered m word value (back m there);
-        forwarded = λ d w some. was.forwarded d w (omega (arith, some, same (forwards_at w d)));
-        owned = λ d w value some. was.owned d w value (omega (arith, some, same (forwards_at w d)));
+        forwarded = λ d w some. was.forwarded d w (omega (arith, some, same (is_read_fwd_to w d)));
+        owned = λ d w value some. was.owned d w value (omega (arith, some, same (is_read_fwd_to w d)));
         filled = was.filled;
       }
     where
@@ -246,7 +246,7 @@ module _ (S : State) (mails : List Mail) (moved : IsPermutation S.mails mails) w
             unheld = by.unheld;
             state = by.state;
             there = by.there;
-            signed = ap (λ (s : Signature). holds s w S.keeper.phase) (sym (signature by.lock by.state locked by.there)) ∙ by.signed;
+            signed = ap (λ (s : Signature). may_hold s w S.keeper.phase) (sym (signature by.lock by.state locked by.there)) ∙ by.signed;
           })))
 
   pub coherent-moved : Coherent S → Coherent T

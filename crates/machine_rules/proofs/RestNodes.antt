@@ -21,11 +21,11 @@ use Rattle.word_cache.proofs.CacheLaws.{IsBlocked, full-blocked, victim-goes}
 use Rattle.word_cache.proofs.WeightLemmas.{pending-none}
 use Rattle.registration_protocol.specs.declared.node.NodeWait as wait
 use Rattle.registration_protocol.specs.declared.node.NodeWait.{NodeWait}
-use Rattle.registration_protocol.specs.Node.{NodeParts, Setting, entry_of, need_now, goes_on, is_settled, is_active, is_ready}
+use Rattle.registration_protocol.specs.Node.{NodeParts, Setting, entry_of, need_now, is_running, is_settled, is_active, is_ready}
 use Rattle.registration_protocol.specs.Fit.{Fits}
 use Rattle.registration_protocol.specs.OwnEvents.{may_instr, may_evict, may_arrive, may_access, lets, crowded, wanted_by}
 use Rattle.machine_rules.specs.State.{State, entry_in}
-use Rattle.machine_rules.specs.Flight.{Test, flight, counted, asks, passes_on, confirms, gives_back, frees, seeks, forwards, replies}
+use Rattle.machine_rules.specs.Flight.{Test, flight, mail_count, is_reg_req_of, is_reg_fwd_of, is_reg_ack_to, is_write_back_of, is_wb_ack_to, is_read_req_of, is_read_fwd_of, is_data_reply_to}
 use Rattle.machine_rules.specs.Next.{enabled}
 use Rattle.machine_rules.specs.Runs.{IsOver}
 use Rattle.machine_rules.specs.Coherent.{NeedsValue}
@@ -48,7 +48,7 @@ mail-enabled S m there =
 pub over-quiet : (S : State) → IsOver S → IsQuiet S
 over-quiet S over p = by_mails S.mails refl where
   by_mails : (ms : List Mail) → S.mails ≡ ms → flight S p ≡ 0
-  by_mails [] is = ap (sum_by (counted p)) is
+  by_mails [] is = ap (sum_by (mail_count p)) is
   by_mails (m ∷ ms) is =
       let may = mail-enabled S m (ap (λ (xs : List Mail). slice_get xs 0) is) in
       let never = over (Handle m.id) in
@@ -67,10 +67,10 @@ pub record IsIdle (S : State) (M : ℕ → ℕ) (c : ℕ) (n : NodeParts) : Type
 
 -- none of its entries is pending or leaving
 no-pending : (S : State) (M : ℕ → ℕ) (c : ℕ) (n : NodeParts) → IsIdle S M c n → (w : ℕ) → pending_bit (entry_of n w) ≡ 0
-no-pending S M c n h w = omega (arith, h.inv.words.row w c, h.quiet (asks w c), h.quiet (passes_on w c), h.quiet (confirms w c), ap pending_bit (ap (entry_in w) h.found))
+no-pending S M c n h w = omega (arith, h.inv.words.row w c, h.quiet (is_reg_req_of w c), h.quiet (is_reg_fwd_of w c), h.quiet (is_reg_ack_to w c), ap pending_bit (ap (entry_in w) h.found))
 
 no-leaving : (S : State) (M : ℕ → ℕ) (c : ℕ) (n : NodeParts) → IsIdle S M c n → (w : ℕ) → leaving_bit (entry_of n w) ≡ 0
-no-leaving S M c n h w = omega (arith, h.inv.words.row w c, h.quiet (gives_back w c), h.quiet (frees w c), ap leaving_bit (ap (entry_in w) h.found))
+no-leaving S M c n h w = omega (arith, h.inv.words.row w c, h.quiet (is_write_back_of w c), h.quiet (is_wb_ack_to w c), ap leaving_bit (ap (entry_in w) h.found))
 
 all-settled : (S : State) (M : ℕ → ℕ) (c : ℕ) (n : NodeParts) → IsIdle S M c n → is_settled n ≡ true
 all-settled S M c n h =
@@ -81,9 +81,9 @@ active : (S : State) (M : ℕ → ℕ) (c : ℕ) (n : NodeParts) → IsIdle S M 
 active S M c n h = rw (h.awake, h.absent) refl
 
 -- its task goes on
-pub still-goes : (S : State) (M : ℕ → ℕ) (c : ℕ) (n : NodeParts) → IsIdle S M c n → goes_on n.task ≡ true
-still-goes S M c n h = by_task (goes_on n.task) refl where
-  by_task : (x : Bool) → goes_on n.task ≡ x → goes_on n.task ≡ true
+pub still-goes : (S : State) (M : ℕ → ℕ) (c : ℕ) (n : NodeParts) → IsIdle S M c n → is_running n.task ≡ true
+still-goes S M c n h = by_task (is_running n.task) refl where
+  by_task : (x : Bool) → is_running n.task ≡ x → is_running n.task ≡ true
   by_task true e = e
   by_task false e =
       let may : may_arrive n ≡ true = rw (active S M c n h, e, all-settled S M c n h) refl in
@@ -91,7 +91,7 @@ still-goes S M c n h = by_task (goes_on n.task) refl where
       absurd (cc)
 
 -- a task that goes on has a next instruction
-has-need : (C : Setting) (n : NodeParts) → goes_on n.task ≡ true → is_some n.task ≡ is_some (declared C.program n.phase n.core) → (x : Need) × (need_now C n ≡ Some x)
+has-need : (C : Setting) (n : NodeParts) → is_running n.task ≡ true → is_some n.task ≡ is_some (declared C.program n.phase n.core) → (x : Need) × (need_now C n ≡ Some x)
 has-need C n goes same = by_task n.task refl goes same where
   by_decl : (t : TaskState) → n.task ≡ Some t → t.end ≡ None → (o : Option TaskDecl) → declared C.program n.phase n.core ≡ o → true ≡ is_some o → (x : Need) × (need_now C n ≡ Some x)
   by_decl t is open' None e one = absurd (cc)
@@ -101,7 +101,7 @@ has-need C n goes same = by_task n.task refl goes same where
   by_end t is (Some by) e going one = absurd (cc)
   by_end t is None e going one = by_decl t is e (declared C.program n.phase n.core) refl one
 
-  by_task : (o : Option TaskState) → n.task ≡ o → goes_on o ≡ true → is_some o ≡ is_some (declared C.program n.phase n.core) → (x : Need) × (need_now C n ≡ Some x)
+  by_task : (o : Option TaskState) → n.task ≡ o → is_running o ≡ true → is_some o ≡ is_some (declared C.program n.phase n.core) → (x : Need) × (need_now C n ≡ Some x)
   by_task None is going one = absurd (cc)
   by_task (Some t) is going one = by_end t is t.end refl going one
 
@@ -204,4 +204,4 @@ waits-lock S M c n h = by_wait n.waiting refl where
   by_wait (wait.TheVariants.Filled word) is = absurd (by_need needs.0 needs.1 (ap is_ready is))
   by_wait (wait.TheVariants.Reading word) is =
       let reads : reading_in word.0 (slice_get S.nodes c) ≡ 1 = rw (h.found, is, same-number word.0) refl in
-      absurd (omega (arith, reads, h.inv.reads.row word.0 c, h.quiet (seeks word.0 c), h.quiet (forwards word.0 c), h.quiet (replies word.0 c)))
+      absurd (omega (arith, reads, h.inv.reads.row word.0 c, h.quiet (is_read_req_of word.0 c), h.quiet (is_read_fwd_of word.0 c), h.quiet (is_data_reply_to word.0 c)))

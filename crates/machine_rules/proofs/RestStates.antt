@@ -10,17 +10,17 @@ use Rattle.rv_core.specs.declared.need.Need as need
 use Rattle.rv_core.proofs.Completions.{acquire-allowed}
 use Rattle.rv_core.proofs.HeldLemmas.{holds-none}
 use Rattle.message_net.specs.declared.event.Event.TheVariants.{Instr, Evict, Arrive}
-use Rattle.queue_lock.specs.Lock.{Lock, places_of, holder_count}
+use Rattle.queue_lock.specs.Lock.{Lock, times_queued, holder_count}
 use Rattle.phase_barrier.specs.Barrier.{all_arrived}
 use Rattle.registration_protocol.specs.declared.node.NodeWait as wait
 use Rattle.registration_protocol.specs.Node.{NodeParts, need_now}
 use Rattle.registration_protocol.specs.OwnEvents.{may_instr, may_evict, may_arrive}
 use Rattle.registration_protocol.proofs.InstrLemmas.{has-next}
 use Rattle.machine_rules.specs.State.{State, lock_at}
-use Rattle.machine_rules.specs.Flight.{bit, acquires, releases, grants, arrives, goes, halts}
+use Rattle.machine_rules.specs.Flight.{bit, is_acquire_of, is_release_of, is_grant_to, is_arrival_of, is_go_to, is_halt_to}
 use Rattle.machine_rules.specs.Next.{enabled, when_there}
 use Rattle.machine_rules.specs.Runs.{IsOver}
-use Rattle.machine_rules.specs.Coherent.{has_lock, locks_in, queued_in, holder_in, is_alive, waits_in}
+use Rattle.machine_rules.specs.Coherent.{has_lock, node_is_locking, queued_in, holder_in, is_alive, waits_at_keeper}
 use Rattle.machine_rules.specs.Rest.{HasOpenTask, IsLockedOut, IsAtRest}
 use Rattle.machine_rules.proofs.BitLemmas.{bit-true}
 use Rattle.machine_rules.proofs.Invariant.{Invariant}
@@ -59,7 +59,7 @@ idle S M c n inv over found awake absent =
 -- its task is one of the keeper's phase, and goes on
 open-task : (S : State) (M : ℕ → ℕ) (c : ℕ) (n : NodeParts) → IsIdle S M c n → HasOpenTask S c
 open-task S M c n h =
-    record { node = n; found = h.found; phase = omega (arith, h.inv.phases.phase c n h.found h.awake, h.quiet (goes c)); goes = still-goes S M c n h }
+    record { node = n; found = h.found; phase = omega (arith, h.inv.phases.phase c n h.found h.awake, h.quiet (is_go_to c)); goes = still-goes S M c n h }
 
 -- ---- the lock for which it waits
 
@@ -78,20 +78,20 @@ not-own S M c n lock h waits = by_task n.task refl where
 
 locked-by : (S : State) (M : ℕ → ℕ) (c : ℕ) (n : NodeParts) (lock : LockId) → IsIdle S M c n → n.waiting ≡ wait.TheVariants.Locking lock → IsLockedOut S c
 locked-by S M c n lock h waits = by_lock (lock_at S lock.0) refl where
-  waiting : bit (locks_in lock.0 (slice_get S.nodes c)) ≡ 1
+  waiting : bit (node_is_locking lock.0 (slice_get S.nodes c)) ≡ 1
   waiting = rw (h.found, waits, same-number lock.0) refl
 
   queued : queued_in c (lock_at S lock.0) ≡ 1
-  queued = omega (arith, waiting, h.inv.locks.row lock.0 c, h.quiet (acquires lock.0 c), h.quiet (grants lock.0 c))
+  queued = omega (arith, waiting, h.inv.locks.row lock.0 c, h.quiet (is_acquire_of lock.0 c), h.quiet (is_grant_to lock.0 c))
 
   by_holder : (k : Lock) → lock_at S lock.0 ≡ Some k → (o : Option CoreId) → k.holder ≡ o → IsLockedOut S c
   by_holder k there None free =
       let empty = ((lock-well S h.inv.machine lock.0 k there).lock).free free in
-      absurd (omega (arith, queued, ap (queued_in c) there, ap (places_of c) empty))
+      absurd (omega (arith, queued, ap (queued_in c) there, ap (times_queued c) empty))
   by_holder k there (Some d) owner =
       let one : holder_count d.0 (Some d) ≡ 1 = rw (same-number d.0) refl in
       let has : has_lock S d.0 lock.0 ≡ true = bit-true (has_lock S d.0 lock.0)
-      (omega (arith, one, h.inv.locks.row lock.0 d.0, h.quiet (grants lock.0 d.0), h.quiet (releases lock.0 d.0), ap (holder_in d.0) there, ap (holder_count d.0) owner)) in
+      (omega (arith, one, h.inv.locks.row lock.0 d.0, h.quiet (is_grant_to lock.0 d.0), h.quiet (is_release_of lock.0 d.0), ap (holder_in d.0) there, ap (holder_count d.0) owner)) in
       record { lock = lock; waits = (n, h.found, waits); holder = d.0; other = apart d.0 has; has = has }
     where
       apart : (d : ℕ) → has_lock S d lock.0 ≡ true → d ≢ c
@@ -153,8 +153,8 @@ missing-open S M c d n m inv over found awake missed unmarked there = by_marks m
   by_marks false e true f =
       let alive : bit (is_alive (slice_get S.nodes d)) ≡ 1 = rw (there, e, f) refl in
       let here : slice_index_or S.keeper.arrived d false ≡ false = get_or_from_slice_get S.keeper.arrived d false false unmarked in
-      let waits : waits_in S d ≡ 0 = rw (missed, here) refl in
-      absurd (omega (arith, alive, waits, inv.phases.row d, quiet (arrives d), quiet (goes d), quiet (halts d)))
+      let waits : waits_at_keeper S d ≡ 0 = rw (missed, here) refl in
+      absurd (omega (arith, alive, waits, inv.phases.row d, quiet (is_arrival_of d), quiet (is_go_to d), quiet (is_halt_to d)))
   by_marks false e false f = open-task S M d m (idle S M d m inv over there e f)
 
 -- where a node isn't halted some core has an open task
@@ -174,8 +174,8 @@ some-open S M c n inv over found awake = by_mark n.arrived refl where
   by_all is false missed = by_missing missed
   by_all is true all =
       let alive : bit (is_alive (slice_get S.nodes c)) ≡ 1 = rw (found, is, awake) refl in
-      let waits : waits_in S c ≡ 0 = rw (all) refl in
-      absurd (omega (arith, alive, waits, inv.phases.row c, quiet (arrives c), quiet (goes c), quiet (halts c)))
+      let waits : waits_at_keeper S c ≡ 0 = rw (all) refl in
+      absurd (omega (arith, alive, waits, inv.phases.row c, quiet (is_arrival_of c), quiet (is_go_to c), quiet (is_halt_to c)))
 
   by_mark : (x : Bool) → n.arrived ≡ x → (d : ℕ) × HasOpenTask S d
   by_mark false absent = (c, open-task S M c n (idle S M c n inv over found awake absent))

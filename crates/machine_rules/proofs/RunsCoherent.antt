@@ -6,7 +6,7 @@ use Rattle.std.proofs.lemmas.List.FromFn.{get_or-map-range_with_len, length-map-
 use Rattle.dn_base.specs.declared.ids.LoadSeen.{LoadSeen}
 use Rattle.message_net.specs.declared.event.Event.{Event}
 use Rattle.registration_protocol.specs.Node.{Setting}
-use Rattle.machine_rules.specs.State.{opened}
+use Rattle.machine_rules.specs.State.{initial_state}
 use Rattle.machine_rules.specs.Next.{enabled, seen_in}
 use Rattle.machine_rules.specs.Memory.{word_value, memory_of}
 use Rattle.machine_rules.specs.Runs.{after, IsRun, IsCompleteRun, memory_after}
@@ -27,50 +27,50 @@ use Rattle.machine_rules.proofs.RunsKept.{memory_over, memory-is, memory-length,
 abbrev pub first_memory : Setting → ℕ → ℕ
 first_memory C w = slice_index C.program.memory w
 
-pub run-all : (C : Setting) (events : List Event) → IsReady C → IsRun (opened C) events
-    → IsSound (after (opened C) events) (length events) × Invariant (after (opened C) events) (memory_over (first_memory C) (opened C) events)
+pub run-all : (C : Setting) (events : List Event) → IsReady C → IsRun (initial_state C) events
+    → IsSound (after (initial_state C) events) (length events) × Invariant (after (initial_state C) events) (memory_over (first_memory C) (initial_state C) events)
 run-all C events ready run =
-    let all = run-kept (opened C) (first_memory C) 0 events (opened-sound C ready.context ready.program ready.checked) (opened-invariant C ready.context ready.program ready.checked) run in
+    let all = run-kept (initial_state C) (first_memory C) 0 events (opened-sound C ready.context ready.program ready.checked) (opened-invariant C ready.context ready.program ready.checked) run in
     let same : 0 + length events ≡ length events = omega arith in
-    (subst (IsSound (after (opened C) events)) same all.0, all.1)
+    (subst (IsSound (after (initial_state C) events)) same all.0, all.1)
 
-pub run-coherent : (C : Setting) (events : List Event) → IsReady C → IsRun (opened C) events → Coherent (after (opened C) events)
-run-coherent C events ready run = coherent (after (opened C) events) (memory_over (first_memory C) (opened C) events) (run-all C events ready run).1
+pub run-coherent : (C : Setting) (events : List Event) → IsReady C → IsRun (initial_state C) events → Coherent (after (initial_state C) events)
+run-coherent C events ready run = coherent (after (initial_state C) events) (memory_over (first_memory C) (initial_state C) events) (run-all C events ready run).1
 
 -- the run's memory, by the list or the function
-pub run-memory : (C : Setting) (events : List Event) (w : ℕ) → slice_index (memory_after C.program.memory (opened C) events) w ≡ memory_over (first_memory C) (opened C) events w
+pub run-memory : (C : Setting) (events : List Event) (w : ℕ) → slice_index (memory_after C.program.memory (initial_state C) events) w ≡ memory_over (first_memory C) (initial_state C) events w
 run-memory C events w =
-    memory-is (opened C) C.program.memory (first_memory C) events (ap (λ (x : Setting). length x.program.memory) (sym (opened-setting C))) (λ v. refl) w
+    memory-is (initial_state C) C.program.memory (first_memory C) events (ap (λ (x : Setting). length x.program.memory) (sym (opened-setting C))) (λ v. refl) w
 
-pub run-values : (C : Setting) (events : List Event) → IsReady C → IsRun (opened C) events → (w : ℕ)
-    → word_value (after (opened C) events) w ≡ slice_index (memory_after C.program.memory (opened C) events) w
+pub run-values : (C : Setting) (events : List Event) → IsReady C → IsRun (initial_state C) events → (w : ℕ)
+    → word_value (after (initial_state C) events) w ≡ slice_index (memory_after C.program.memory (initial_state C) events) w
 run-values C events ready run w =
     let inv = (run-all C events ready run).1 in
-    value-is (after (opened C) events) (memory_over (first_memory C) (opened C) events) inv.words inv.values w ∙ sym (run-memory C events w)
+    value-is (after (initial_state C) events) (memory_over (first_memory C) (initial_state C) events) inv.words inv.values w ∙ sym (run-memory C events w)
 
-pub run-loads : (C : Setting) (events : List Event) (e : Event) (seen : LoadSeen) → IsReady C → IsRun (opened C) events → enabled (after (opened C) events) e ≡ true
-    → seen_in (after (opened C) events) e ≡ Some seen → seen.value ≡ slice_index (memory_after C.program.memory (opened C) events) seen.word.0
+pub run-loads : (C : Setting) (events : List Event) (e : Event) (seen : LoadSeen) → IsReady C → IsRun (initial_state C) events → enabled (after (initial_state C) events) e ≡ true
+    → seen_in (after (initial_state C) events) e ≡ Some seen → seen.value ≡ slice_index (memory_after C.program.memory (initial_state C) events) seen.word.0
 run-loads C events e seen ready run may is =
     let inv = (run-all C events ready run).1 in
-    loads-read (after (opened C) events) (memory_over (first_memory C) (opened C) events) e inv may seen is ∙ sym (run-memory C events seen.word.0)
+    loads-read (after (initial_state C) events) (memory_over (first_memory C) (initial_state C) events) e inv may seen is ∙ sym (run-memory C events seen.word.0)
 
 -- all words at once
-pub run-shows : (C : Setting) (events : List Event) → IsReady C → IsRun (opened C) events → memory_of (after (opened C) events) ≡ memory_after C.program.memory (opened C) events
-run-shows C events ready run = ext_get_or 0 (memory_of (after (opened C) events)) (memory_after C.program.memory (opened C) events) (shown ∙ sym long) each where
-  words : length (after (opened C) events).setting.program.memory ≡ length C.program.memory
-  words = ap (λ (x : Setting). length x.program.memory) (run-setting (opened C) events ∙ opened-setting C)
+pub run-shows : (C : Setting) (events : List Event) → IsReady C → IsRun (initial_state C) events → memory_of (after (initial_state C) events) ≡ memory_after C.program.memory (initial_state C) events
+run-shows C events ready run = ext_get_or 0 (memory_of (after (initial_state C) events)) (memory_after C.program.memory (initial_state C) events) (shown ∙ sym long) each where
+  words : length (after (initial_state C) events).setting.program.memory ≡ length C.program.memory
+  words = ap (λ (x : Setting). length x.program.memory) (run-setting (initial_state C) events ∙ opened-setting C)
 
-  shown : length (memory_of (after (opened C) events)) ≡ length C.program.memory
-  shown = length-map-range_with_len (word_value (after (opened C) events)) 0 (length (after (opened C) events).setting.program.memory) ∙ words
+  shown : length (memory_of (after (initial_state C) events)) ≡ length C.program.memory
+  shown = length-map-range_with_len (word_value (after (initial_state C) events)) 0 (length (after (initial_state C) events).setting.program.memory) ∙ words
 
-  long : length (memory_after C.program.memory (opened C) events) ≡ length C.program.memory
-  long = memory-length (opened C) C.program.memory events
+  long : length (memory_after C.program.memory (initial_state C) events) ≡ length C.program.memory
+  long = memory-length (initial_state C) C.program.memory events
 
-  each : (i : ℕ) → i < length (memory_of (after (opened C) events)) → get_or (memory_of (after (opened C) events)) i 0 ≡ get_or (memory_after C.program.memory (opened C) events) i 0
+  each : (i : ℕ) → i < length (memory_of (after (initial_state C) events)) → get_or (memory_of (after (initial_state C) events)) i 0 ≡ get_or (memory_after C.program.memory (initial_state C) events) i 0
   each i within =
-      get_or-map-range_with_len (word_value (after (opened C) events)) 0 (length (after (opened C) events).setting.program.memory) i i 0 (omega (arith, within, shown, words)) (omega arith)
+      get_or-map-range_with_len (word_value (after (initial_state C) events)) 0 (length (after (initial_state C) events).setting.program.memory) i i 0 (omega (arith, within, shown, words)) (omega arith)
       ∙ run-values C events ready run i
 
 -- where a run is complete every node is halted, or each task that hasn't ended waits for a lock that another holds
-pub run-rests : (C : Setting) (events : List Event) → IsReady C → IsCompleteRun (opened C) events → IsAtRest (after (opened C) events)
-run-rests C events ready complete = rest (after (opened C) events) (memory_over (first_memory C) (opened C) events) (run-all C events ready complete.run).1 complete.over
+pub run-rests : (C : Setting) (events : List Event) → IsReady C → IsCompleteRun (initial_state C) events → IsAtRest (after (initial_state C) events)
+run-rests C events ready complete = rest (after (initial_state C) events) (memory_over (first_memory C) (initial_state C) events) (run-all C events ready complete.run).1 complete.over

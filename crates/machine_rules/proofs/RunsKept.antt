@@ -13,7 +13,7 @@ use Rattle.message_net.specs.declared.actor.Actor.TheVariants.{Core, Bank, Keepe
 use Rattle.message_net.specs.declared.event.Event.{Event}
 use Rattle.message_net.specs.declared.event.Event.TheVariants.{Instr, Evict, Arrive, Handle}
 use Rattle.message_net.specs.declared.message.Mail.{Mail}
-use Rattle.message_net.specs.Pool.{taken}
+use Rattle.message_net.specs.Pool.{removed}
 use Rattle.registry_bank.specs.Bank.{BankParts}
 use Rattle.registration_protocol.specs.Node.{NodeParts, Setting, entry_of, need_now}
 use Rattle.registration_protocol.specs.OwnEvents.{written_now, written_if}
@@ -44,9 +44,9 @@ same-setting S (Arrive core) = by_node (slice_get S.nodes core.0) where
   by_node : (o : Option NodeParts) → (does_arrive S core o).setting ≡ S.setting
   by_node None = refl
   by_node (Some n) = refl
-same-setting S (Handle id) = by_mail (taken id S.mails).0 where
+same-setting S (Handle id) = by_mail (removed id S.mails).0 where
   R : State
-  R = record S { mails = (taken id S.mails).1 }
+  R = record S { mails = (removed id S.mails).1 }
 
   by_mail : (o : Option Mail) → (delivers R o).setting ≡ S.setting
   by_mail None = refl

@@ -15,14 +15,14 @@ use Rattle.message_net.specs.declared.message.Mail.{Mail}
 use Rattle.message_net.specs.declared.message.Message as message
 use Rattle.message_net.specs.declared.message.Message.{Message}
 use Rattle.message_net.specs.declared.message.Outgoing.{Outgoing}
-use Rattle.message_net.specs.Pool.{of_id, taken, taken_at}
+use Rattle.message_net.specs.Pool.{of_id, removed, removed_at}
 use Rattle.message_net.specs.Mail.{has_actor}
 use Rattle.message_net.proofs.PoolLemmas.{length-without}
 use Rattle.message_net.proofs.MailLemmas.{length-all_mails}
 use Rattle.registry_bank.specs.Bank.{BankParts, IsBank, bank_gets}
 use Rattle.registry_bank.proofs.KeptLemmas.{KeepsPlace, place-kept, stays}
 use Rattle.phase_barrier.specs.declared.keeper.Verdict.{Verdict}
-use Rattle.phase_barrier.specs.Barrier.{Barrier, all_arrived, counted, arrives as keeper_arrives, keeper_gets}
+use Rattle.phase_barrier.specs.Barrier.{Barrier, all_arrived, with_arrival, keeper_arrives, keeper_gets}
 use Rattle.phase_barrier.specs.Letters.{letters, letter_count}
 use Rattle.phase_barrier.proofs.ArrivalLemmas.{begins as begins-within}
 use Rattle.phase_barrier.proofs.CountLemmas.{Waited, Ended, Begun, outcome, missing-one, phases-kept, cores-kept}
@@ -35,7 +35,7 @@ use Rattle.registration_protocol.proofs.PlaceLemmas.{instr-place, evict-keeps, a
 use Rattle.registration_protocol.proofs.FitLemmas.{instr-fits, evict-fits, arrive-fits, gets-fits}
 use Rattle.machine_rules.specs.State.{State}
 use Rattle.machine_rules.specs.Flight.{bit}
-use Rattle.machine_rules.specs.Next.{next, enabled, place_in, number_of, sends, core_does, bank_does, when_there, does_instr, does_evict, does_arrive, core_gets, bank_handles, keeper_handles, gets, delivers, handles}
+use Rattle.machine_rules.specs.Next.{next, enabled, actor_index_in, next_number, sends, core_does, bank_does, when_there, does_instr, does_evict, does_arrive, core_gets, bank_handles, keeper_handles, gets, delivers, handles}
 use Rattle.machine_rules.specs.Sound.{IsSound, rounds}
 use Rattle.machine_rules.proofs.Steps.{without_mail}
 use Rattle.machine_rules.proofs.MachineMails.{raised-most}
@@ -52,8 +52,8 @@ sound-one : (S : State) (made : ℕ) (from : Actor) (out : Outgoing) → has_act
 sound-one S made from out there sound =
     record {
       machine = machine-posts S from (out ∷ []) there sound.machine;
-      mails = omega (arith, sound.mails, length-all_mails from (number_of S from) (out ∷ []) S.mails);
-      sent = raised-most S.numbers (place_in S from) (number_of S from + 1) most (omega (arith, sound.sent (place_in S from))) (λ place. omega (arith, sound.sent place));
+      mails = omega (arith, sound.mails, length-all_mails from (next_number S from) (out ∷ []) S.mails);
+      sent = raised-most S.numbers (actor_index_in S from) (next_number S from + 1) most (omega (arith, sound.sent (actor_index_in S from))) (λ place. omega (arith, sound.sent place));
       within = sound.within;
     }
   where
@@ -65,9 +65,9 @@ sound-sends : (S : State) (made : ℕ) (from : Actor) (sent : Option Outgoing) �
 sound-sends S made from None there sound = later S made sound
 sound-sends S made from (Some out) there sound = sound-one S made from out there sound
 
-length-taken : (id : MailId) (mails : List Mail) → length (taken id mails).1 ≤ length mails
+length-taken : (id : MailId) (mails : List Mail) → length (removed id mails).1 ≤ length mails
 length-taken id mails = by_place (position (of_id id) mails) where
-  by_place : (o : Option ℕ) → length (taken_at mails o).1 ≤ length mails
+  by_place : (o : Option ℕ) → length (removed_at mails o).1 ≤ length mails
   by_place None = omega arith
   by_place (Some place) = length-without mails place
 
@@ -113,7 +113,7 @@ arrival-turns k core bad = by_mark (slice_get k.arrived core) refl where
   by_outcome more (inr (inl h)) =
       subst (TurnsOn k) (sym h.is) (record { turned = rw (more, h.whole) (omega arith); within = λ low. low })
   by_outcome more (inr (inr g)) =
-      let next_one = begins-within (counted core bad k) g.over in
+      let next_one = begins-within (with_arrival core bad k) g.over in
       subst (TurnsOn k) (sym g.is) (record { turned = rw (more) (omega arith); within = λ low. omega (arith, next_one) })
 
   by_mark : (o : Option Bool) → slice_get k.arrived core ≡ o → TurnsOn k (keeper_arrives k core bad)
@@ -130,10 +130,10 @@ sound-keeper : (S : State) (made : ℕ) (m : Message) → IsSound S made → IsS
 sound-keeper S made m sound =
     record {
       machine = machine-posts (with_keeper S k) Keeper outs refl (machine-keeper S k (cores-kept S.keeper m) (phases-kept S.keeper m) sound.machine);
-      mails = omega (arith, sound.mails, length-all_mails Keeper (number_of S Keeper) outs S.mails, long, more);
+      mails = omega (arith, sound.mails, length-all_mails Keeper (next_number S Keeper) outs S.mails, long, more);
       sent =
-          raised-most S.numbers (place_in S Keeper) (number_of S Keeper + length outs) (made + 1 + S.setting.shape.cores * turns k)
-          (omega (arith, sound.sent (place_in S Keeper), long, more)) (λ place. omega (arith, sound.sent place, more));
+          raised-most S.numbers (actor_index_in S Keeper) (next_number S Keeper + length outs) (made + 1 + S.setting.shape.cores * turns k)
+          (omega (arith, sound.sent (actor_index_in S Keeper), long, more)) (λ place. omega (arith, sound.sent place, more));
       within = low;
     }
   where
@@ -193,8 +193,8 @@ sound-gets S made (Bank bank) m sound = by_bank (slice_get S.banks bank.0) refl 
       sound-bank S made bank b (bank_gets b m).0 (bank_gets b m).1 is (stays b m (sound.machine.bank bank.0 b is).well).good (place-kept b m) sound
 sound-gets S made Keeper m sound = sound-keeper S made m sound
 
-sound-handles : (S : State) (made : ℕ) (id : MailId) → IsSound S made → IsSound (handles S (taken id S.mails)) (made + 1)
-sound-handles S made id sound = by_mail (taken id S.mails).0 where
+sound-handles : (S : State) (made : ℕ) (id : MailId) → IsSound S made → IsSound (handles S (removed id S.mails)) (made + 1)
+sound-handles S made id sound = by_mail (removed id S.mails).0 where
   by_mail : (o : Option Mail) → IsSound (delivers (without_mail S id) o) (made + 1)
   by_mail None = later (without_mail S id) made (sound-taken S made id sound)
   by_mail (Some m) = sound-gets (without_mail S id) made m.to m.message (sound-taken S made id sound)

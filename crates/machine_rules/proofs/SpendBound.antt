@@ -12,7 +12,7 @@ use Rattle.registration_protocol.specs.declared.node.NodeWait as wait
 use Rattle.registration_protocol.specs.declared.node.NodeWait.{NodeWait}
 use Rattle.registration_protocol.specs.Node.{NodeParts, Setting, need_if, need_now}
 use Rattle.registration_protocol.specs.Fit.{IsContext, NeedsLock}
-use Rattle.machine_rules.specs.State.{State, opened, lock_at}
+use Rattle.machine_rules.specs.State.{State, initial_state, lock_at}
 use Rattle.machine_rules.specs.Flight.{bit}
 use Rattle.machine_rules.specs.Next.{next, enabled}
 use Rattle.machine_rules.specs.Runs.{after, IsRun}
@@ -36,16 +36,16 @@ sum-none : (f : NodeParts → ℕ) (ns : List NodeParts) → ((c : ℕ) (n : Nod
 sum-none f [] none = refl
 sum-none f (n ∷ ns) none = omega (arith, none 0 n refl, sum-none f ns (λ c m found. none (suc c) m found), sum_by-cons f n ns)
 
-no-debt : (C : Setting) (c : ℕ) (n : NodeParts) → slice_get (opened C).nodes c ≡ Some n → debt n ≡ 0
+no-debt : (C : Setting) (c : ℕ) (n : NodeParts) → slice_get (initial_state C).nodes c ≡ Some n → debt n ≡ 0
 no-debt C c n found = rw ((opened-node C c n found).is) refl
 
-no-queue : (C : Setting) (l : ℕ) → IsContext C → queue_in (lock_at (opened C) l) ≡ 0
+no-queue : (C : Setting) (l : ℕ) → IsContext C → queue_in (lock_at (initial_state C) l) ≡ 0
 no-queue C l context = ap queue_in (opened-lock C l context) ∙ by_test (nat_lt l (length C.program.locks)) where
   by_test : (t : Bool) → queue_in (cond t (Some (free_lock C.shape.cores)) None) ≡ 0
   by_test true = refl
   by_test false = refl
 
-pub opened-spent : (C : Setting) → IsContext C → Spent (opened C) 0 0
+pub opened-spent : (C : Setting) → IsContext C → Spent (initial_state C) 0 0
 opened-spent C context =
     record {
       paid = omega (
@@ -56,9 +56,9 @@ opened-spent C context =
         opened-flight C is_reply,
         opened-flight C is_seek,
         opened-flight C is_pass,
-        opened-flight C (seeks_owned (opened C)),
-        sum-none debt (opened C).nodes (no-debt C),
-        total-none (λ (l : ℕ). queue_in (lock_at (opened C) l)) (length (opened C).setting.program.locks) (λ l. no-queue C l context),
+        opened-flight C (seeks_owned (initial_state C)),
+        sum-none debt (initial_state C).nodes (no-debt C),
+        total-none (λ (l : ℕ). queue_in (lock_at (initial_state C) l)) (length (initial_state C).setting.program.locks) (λ l. no-queue C l context),
       );
     }
 

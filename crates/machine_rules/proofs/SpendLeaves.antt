@@ -35,7 +35,7 @@ use Rattle.phase_barrier.proofs.CountLemmas.{missing-one}
 use Rattle.registration_protocol.specs.Node.{NodeParts, entry_of}
 use Rattle.registration_protocol.specs.Messages.{begins, guarded_by, written_in}
 use Rattle.machine_rules.specs.State.{State, entry_at, home_at}
-use Rattle.machine_rules.specs.Flight.{Test, bit, counted, flight, asks, seeks, forwards_at}
+use Rattle.machine_rules.specs.Flight.{Test, bit, mail_count, flight, is_reg_req_of, is_read_req_of, is_read_fwd_to}
 use Rattle.machine_rules.specs.Next.{next}
 use Rattle.machine_rules.specs.Coherent.{owned_value}
 use Rattle.machine_rules.proofs.Bits.{passes, pending_bit, settled_bit, leaving_bit, owner_bit}
@@ -63,7 +63,7 @@ seeks_word w to (ReadReq word reader) = word.0 == w
 seeks_word w to _ = false
 
 -- who seeks a word
-seeker : (w : ℕ) (to : Actor) (message : Message) → 1 ≤ bit (seeks_word w to message) → (c : ℕ) × (1 ≤ bit (seeks w c to message))
+seeker : (w : ℕ) (to : Actor) (message : Message) → 1 ≤ bit (seeks_word w to message) → (c : ℕ) × (1 ≤ bit (is_read_req_of w c to message))
 seeker w to (ReadReq word reader) some = (reader.0, rw (same-number reader.0) (by_test (word.0 == w) some)) where
   by_test : (t : Bool) → 1 ≤ bit t → 1 ≤ bit (t && true)
   by_test true some = omega arith
@@ -82,16 +82,16 @@ seeker w to (Arrived core bad) some = absurd (omega (arith, some))
 seeker w to (Go phase) some = absurd (omega (arith, some))
 seeker w to Halt some = absurd (omega (arith, some))
 
-none-sought : (S : State) (w : ℕ) → ((c : ℕ) → flight S (seeks w c) ≡ 0) → flight S (seeks_word w) ≡ 0
+none-sought : (S : State) (w : ℕ) → ((c : ℕ) → flight S (is_read_req_of w c) ≡ 0) → flight S (seeks_word w) ≡ 0
 none-sought S w none = by_count (flight S (seeks_word w)) refl where
-  by_mail : (place : ℕ) × (m : Mail) × (slice_get S.mails place ≡ Some m) × (1 ≤ counted (seeks_word w) m) → ⊥
+  by_mail : (place : ℕ) × (m : Mail) × (slice_get S.mails place ≡ Some m) × (1 ≤ mail_count (seeks_word w) m) → ⊥
   by_mail (place, m, here, some) =
       let who = seeker w m.to m.message some in
-      absurd (omega (arith, who.1, none who.0, weight-within (counted (seeks w who.0)) S.mails place m here))
+      absurd (omega (arith, who.1, none who.0, weight-within (mail_count (is_read_req_of w who.0)) S.mails place m here))
 
   by_count : (x : ℕ) → flight S (seeks_word w) ≡ x → flight S (seeks_word w) ≡ 0
   by_count zero is = is
-  by_count (suc x) is = absurd (by_mail (weight-somewhere (counted (seeks_word w)) S.mails (omega (arith, is))))
+  by_count (suc x) is = absurd (by_mail (weight-somewhere (mail_count (seeks_word w)) S.mails (omega (arith, is))))
 
 -- nobody seeks the word, so no more is to come of the mails in flight
 unsought-less : (S T : State) (w : ℕ) (content : BankWord) → ((v : ℕ) → home_at T v ≡ cond (w == v) (Some content) (home_at S v)) → flight T (seeks_word w) ≡ 0
@@ -100,8 +100,8 @@ unsought-less S T w content homes none =
     omega (
       arith,
       none,
-      sum_by-le-sum_by (counted (seeks_owned T)) (λ (m : Mail). counted (seeks_owned S) m + counted (seeks_word w) m) T.mails each,
-      weight-both (counted (seeks_owned S)) (counted (seeks_word w)) T.mails,
+      sum_by-le-sum_by (mail_count (seeks_owned T)) (λ (m : Mail). mail_count (seeks_owned S) m + mail_count (seeks_word w) m) T.mails each,
+      weight-both (mail_count (seeks_owned S)) (mail_count (seeks_word w)) T.mails,
     )
   where
     bit-most : (b : Bool) → bit b ≤ 1
@@ -134,7 +134,7 @@ unsought-less S T w content homes none =
     by_message to (Go phase) = omega arith
     by_message to Halt = omega arith
 
-    each : (m : Mail) → counted (seeks_owned T) m ≤ counted (seeks_owned S) m + counted (seeks_word w) m
+    each : (m : Mail) → mail_count (seeks_owned T) m ≤ mail_count (seeks_owned S) m + mail_count (seeks_word w) m
     each m = by_message m.to m.message
 
 register-home : (S T : State) (M : ℕ → ℕ) (made past : ℕ) (bank : BankId) (word : WordId) (core : CoreId) → Invariant S M → Spent S made past
@@ -144,10 +144,10 @@ register-home S T M made past bank word core inv spent step =
   where
     asked : 1 ≤ pending_bit (entry_at S core.0 word.0)
     asked =
-        let one = rw (same-number word.0, same-number core.0) at (step.flown (asks word.0 core.0)) in
+        let one = rw (same-number word.0, same-number core.0) at (step.flown (is_reg_req_of word.0 core.0)) in
         omega (arith, one, inv.words.row word.0 core.0)
 
-    unread : (c : ℕ) → flight S (seeks word.0 c) ≡ 0
+    unread : (c : ℕ) → flight S (is_read_req_of word.0 c) ≡ 0
     unread c = omega (arith, asked, inv.reads.quiet word.0 c core.0, inv.reads.row word.0 c)
 
     none : flight T (seeks_word word.0) ≡ 0
@@ -156,10 +156,10 @@ register-home S T M made past bank word core inv spent step =
 -- ---- a read that is passed on to a core that has lost the word meets the word at its home
 
 bounced-home : (S T : State) (M : ℕ → ℕ) (core : CoreId) (n : NodeParts) (word : WordId) (sent : Option Outgoing) → Invariant S M → slice_get S.nodes core.0 ≡ Some n → owned_value (entry_of n word.0) ≡ None
-    → flight T (forwards_at word.0 core.0) + bit ((word.0 == word.0) && (core.0 == core.0)) ≡ flight S (forwards_at word.0 core.0) + passes (forwards_at word.0 core.0) sent
-    → passes (forwards_at word.0 core.0) sent ≡ 0 → bit (is_owned (home_at S word.0)) ≡ 0
+    → flight T (is_read_fwd_to word.0 core.0) + bit ((word.0 == word.0) && (core.0 == core.0)) ≡ flight S (is_read_fwd_to word.0 core.0) + passes (is_read_fwd_to word.0 core.0) sent
+    → passes (is_read_fwd_to word.0 core.0) sent ≡ 0 → bit (is_owned (home_at S word.0)) ≡ 0
 bounced-home S T M core n word sent inv found lost moved none = by_home (home_at S word.0) refl where
-  passed : 1 ≤ flight S (forwards_at word.0 core.0)
+  passed : 1 ≤ flight S (is_read_fwd_to word.0 core.0)
   passed = let one = rw (same-number word.0, same-number core.0) at moved in omega (arith, one, none)
 
   not-his : (e : Option Entry) → owned_value e ≡ None → pending_bit e + settled_bit e + leaving_bit e ≡ 0
@@ -235,7 +235,7 @@ spend-leaves S M e made past inv spent =
       forward = λ core other n word value found is told step. by-node S T made past step spent (omega (arith, without-works n word.0 (Registered value false) (apart core.0 n found) is));
       forward_past = λ core other n word found unsettled told step. by-node S T made past step spent (omega arith);
       answer = λ core reader n word value found is told step. by-node S T made past step spent (omega arith);
-      bounce = λ core reader n word found is told step. by-node S T made past step spent (omega (arith, bounced-home S T M core n word (to_home S.setting.shape.banks word.0 (ReadReq word reader)) inv found is (step.flown (forwards_at word.0 core.0)) refl));
+      bounce = λ core reader n word found is told step. by-node S T made past step spent (omega (arith, bounced-home S T M core n word (to_home S.setting.shape.banks word.0 (ReadReq word reader)) inv found is (step.flown (is_read_fwd_to word.0 core.0)) refl));
       freed = λ core n word value found is told step. by-node S T made past step spent (omega (arith, without-works n word.0 (Leaving value) (apart core.0 n found) is));
       grant = λ core n d t lock s found waits has going declares wants awake absent told step. by-node S T made past step spent
           (omega (arith, ap earned has, ap lent waits, retires d t (need.TheVariants.Acquire lock) wants tt, count-fewer works (is_fresh s n.phase (guarded_by (slice_get S.setting.plans n.phase) lock.0)) n.cache.pairs));

@@ -15,7 +15,7 @@ use Rattle.registry_bank.specs.declared.bank.BankWord.{BankWord}
 use Rattle.phase_barrier.specs.Barrier.{Barrier, all_arrived}
 use Rattle.registration_protocol.specs.Node.{NodeParts}
 use Rattle.machine_rules.specs.State.{State, home_at, lock_at}
-use Rattle.machine_rules.specs.Flight.{Test, bit, counted, flight}
+use Rattle.machine_rules.specs.Flight.{Test, bit, mail_count, flight}
 use Rattle.machine_rules.specs.Sound.{IsMachine, rounds}
 use Rattle.machine_rules.proofs.Bits.{passes}
 use Rattle.machine_rules.proofs.Steps.{NodeStep}
@@ -94,7 +94,7 @@ word-spent S T made past w content left sent step spent less enough =
 -- a home that has no more of a registrant than before
 owned-less : (S T : State) (w : ℕ) (content : BankWord) → ((v : ℕ) → home_at T v ≡ cond (w == v) (Some content) (home_at S v)) → bit (is_owned (Some content)) ≤ bit (is_owned (home_at S w))
     → flight T (seeks_owned T) ≤ flight T (seeks_owned S)
-owned-less S T w content homes less = sum_by-le-sum_by (counted (seeks_owned T)) (counted (seeks_owned S)) T.mails each where
+owned-less S T w content homes less = sum_by-le-sum_by (mail_count (seeks_owned T)) (mail_count (seeks_owned S)) T.mails each where
   here : (v : ℕ) → bit (is_owned (home_at T v)) ≤ bit (is_owned (home_at S v))
   here v = by_test (w == v) refl where
     by_test : (t : Bool) → (w == v) ≡ t → bit (is_owned (home_at T v)) ≤ bit (is_owned (home_at S v))
@@ -121,7 +121,7 @@ owned-less S T w content homes less = sum_by-le-sum_by (counted (seeks_owned T))
   by_message to (Go phase) = omega arith
   by_message to Halt = omega arith
 
-  each : (m : Mail) → counted (seeks_owned T) m ≤ counted (seeks_owned S) m
+  each : (m : Mail) → mail_count (seeks_owned T) m ≤ mail_count (seeks_owned S) m
   each m = by_message m.to m.message
 
 pub content-spent : (S T : State) (made past w : ℕ) (content : BankWord) (left sent : Option Outgoing) → WordStep S T w content left sent → Spent S made past
@@ -136,7 +136,7 @@ pub lock-spent : (S T : State) (made past l : ℕ) (h k : Lock) (left sent : Opt
 lock-spent S T made past l h k left sent machine step was spent enough =
     record {
       paid =
-          let mails = mails-cost S T left sent step.flown (sum_by-le-sum_by (counted (seeks_owned T)) (counted (seeks_owned S)) T.mails each) in
+          let mails = mails-cost S T left sent step.flown (sum_by-le-sum_by (mail_count (seeks_owned T)) (mail_count (seeks_owned S)) T.mails each) in
           let turns : T.setting.shape.cores * rounds T ≡ S.setting.shape.cores * rounds S = rw (step.setting, step.keeper) refl in
           let locks = ap (λ C. length C.program.locks) step.setting in
           let same = ap (total (λ (i : ℕ). queue_in (lock_at T i))) locks in
@@ -167,7 +167,7 @@ lock-spent S T made past l h k left sent machine step was spent enough =
     by_message to (Go phase) = omega arith
     by_message to Halt = omega arith
 
-    each : (m : Mail) → counted (seeks_owned T) m ≤ counted (seeks_owned S) m
+    each : (m : Mail) → mail_count (seeks_owned T) m ≤ mail_count (seeks_owned S) m
     each m = by_message m.to m.message
 
 -- ---- the keeper

@@ -11,7 +11,7 @@ use Rattle.message_net.specs.declared.event.Event.TheVariants.{Instr, Evict, Arr
 use Rattle.message_net.specs.declared.message.Mail.{Mail}
 use Rattle.message_net.specs.declared.message.Message.{Message}
 use Rattle.message_net.specs.declared.message.Outgoing.{Outgoing}
-use Rattle.message_net.specs.Pool.{count_of, taken}
+use Rattle.message_net.specs.Pool.{count_of, removed}
 use Rattle.registry_bank.specs.Bank.{BankParts, bank_gets}
 use Rattle.phase_barrier.specs.Barrier.{keeper_gets}
 use Rattle.phase_barrier.specs.Letters.{letters}
@@ -19,8 +19,8 @@ use Rattle.registration_protocol.specs.Node.{NodeParts}
 use Rattle.registration_protocol.specs.OwnEvents.{instructed, evicted, arrives}
 use Rattle.registration_protocol.specs.Messages.{node_gets}
 use Rattle.machine_rules.specs.State.{State}
-use Rattle.machine_rules.specs.Flight.{Test, bit, counted, flight, weighs}
-use Rattle.machine_rules.specs.Next.{next, enabled, number_of, core_does, bank_does, keeper_handles, posts}
+use Rattle.machine_rules.specs.Flight.{Test, bit, mail_count, flight, weighs}
+use Rattle.machine_rules.specs.Next.{next, enabled, next_number, core_does, bank_does, keeper_handles, posts}
 use Rattle.machine_rules.proofs.Bits.{passes}
 use Rattle.machine_rules.proofs.Lists.{get-set-there}
 use Rattle.message_net.specs.Pool.{IsFound}
@@ -66,8 +66,8 @@ pub record Handled (S : State) (id : MailId) (m : Mail) : Type 0 where
   pub place : ℕ
   pub there : slice_get S.mails place ≡ Some m
   pub named : m.id ≡ id
-  pub took : (taken id S.mails).0 ≡ Some m
-  pub weights : (f : Mail → ℕ) → sum_by f (taken id S.mails).1 + f m ≡ weighs S f
+  pub took : (removed id S.mails).0 ≡ Some m
+  pub weights : (f : Mail → ℕ) → sum_by f (removed id S.mails).1 + f m ≡ weighs S f
 
 id-counted : (S : State) (id : MailId) → enabled S (Handle id) ≡ true → 1 ≤ count_of id S.mails
 unfolding enabled
@@ -78,18 +78,18 @@ pub handled : (S : State) (id : MailId) → enabled S (Handle id) ≡ true → (
 handled S id may = by_found (found-counted id S.mails (id-counted S id may)) where
   by_found : (place : ℕ) × (m : Mail) × IsFound id S.mails place m → (m : Mail) × Handled S id m
   by_found (place, m, found) =
-      let took : (taken id S.mails).0 ≡ Some m = rw (found.takes) refl in
+      let took : (removed id S.mails).0 ≡ Some m = rw (found.takes) refl in
       (m, record { place = place; there = found.here; named = found.named; took = took; weights = λ f. sum_by-taken f id S.mails m took })
 
 -- what is sent counts by its address and message
-pub sent-passes : (p : Test) (from : Actor) (number : ℕ) (sent : Option Outgoing) → weight_sent (counted p) from number sent ≡ passes p sent
+pub sent-passes : (p : Test) (from : Actor) (number : ℕ) (sent : Option Outgoing) → weight_sent (mail_count p) from number sent ≡ passes p sent
 sent-passes p from number None = refl
 sent-passes p from number (Some out) = refl
 
 -- a core's own event
 core-flown : (S : State) (core : CoreId) (m : NodeParts) (sent : Option Outgoing) (p : Test) → flight (core_does S core m sent) p ≡ flight S p + passes p sent
 core-flown S core m sent p =
-    sum_by-mails_with (counted p) (Core core) (number_of S (Core core)) sent S.mails ∙ ap (λ (x : ℕ). flight S p + x) (sent-passes p (Core core) (number_of S (Core core)) sent)
+    sum_by-mails_with (mail_count p) (Core core) (next_number S (Core core)) sent S.mails ∙ ap (λ (x : ℕ). flight S p + x) (sent-passes p (Core core) (next_number S (Core core)) sent)
 
 core-acts : (S : State) (core : CoreId) (n m : NodeParts) (sent : Option Outgoing) → slice_get S.nodes core.0 ≡ Some n → NodeStep S (core_does S core m sent) core.0 n m None sent
 core-acts S core n m sent found =
@@ -120,11 +120,11 @@ arrive-step S core n found = rw (found) (core-acts S core n (arrives n).0 (arriv
 
 -- a state without the mail of an id
 abbrev pub without_mail : State → MailId → State
-without_mail S id = record S { mails = (taken id S.mails).1 }
+without_mail S id = record S { mails = (removed id S.mails).1 }
 
 -- how many mails pass a test once a mail has been taken
 left-flown : (S : State) (id : MailId) (m : Mail) (p : Test) → Handled S id m → flight (without_mail S id) p + passes p (Some (as_sent m)) ≡ flight S p
-left-flown S id m p h = h.weights (counted p)
+left-flown S id m p h = h.weights (mail_count p)
 
 core-got : (S : State) (rest : List Mail) (core : CoreId) (n m : NodeParts) (left : Outgoing) (sent : Option Outgoing) → slice_get S.nodes core.0 ≡ Some n
     → ((p : Test) → flight (record S { mails = rest }) p + passes p (Some left) ≡ flight S p)
@@ -144,13 +144,13 @@ pub core-step : (S : State) (id : MailId) (m : Mail) (core : CoreId) (n : NodePa
     → NodeStep S (next S (Handle id)) core.0 n (node_gets S.setting n m.message).0 (Some (as_sent m)) (node_gets S.setting n m.message).1.sent
 unfolding next
 core-step S id m core n h to found =
-    let step = core-got S (taken id S.mails).1 core n (node_gets S.setting n m.message).0 (as_sent m) (node_gets S.setting n m.message).1.sent found (λ p. left-flown S id m p h) in
+    let step = core-got S (removed id S.mails).1 core n (node_gets S.setting n m.message).0 (as_sent m) (node_gets S.setting n m.message).1.sent found (λ p. left-flown S id m p h) in
     rw (h.took, to, found) (rw (to) at step)
 
 -- a bank handles a message
 bank-flown : (S : State) (number : ℕ) (b : BankParts) (sent : Option Outgoing) (from : Actor) (p : Test) → flight (bank_does S number b sent from) p ≡ flight S p + passes p sent
 bank-flown S number b sent from p =
-    sum_by-mails_with (counted p) from (number_of S from) sent S.mails ∙ ap (λ (x : ℕ). flight S p + x) (sent-passes p from (number_of S from) sent)
+    sum_by-mails_with (mail_count p) from (next_number S from) sent S.mails ∙ ap (λ (x : ℕ). flight S p + x) (sent-passes p from (next_number S from) sent)
 
 bank-got : (S : State) (rest : List Mail) (bank : BankId) (b : BankParts) (message : Message) (left : Outgoing) → slice_get S.banks bank.0 ≡ Some b
     → ((p : Test) → flight (record S { mails = rest }) p + passes p (Some left) ≡ flight S p)
@@ -169,14 +169,14 @@ pub bank-step : (S : State) (id : MailId) (m : Mail) (bank : BankId) (b : BankPa
     → BankStep S (next S (Handle id)) bank.0 b m.message (Some (as_sent m))
 unfolding next
 bank-step S id m bank b h to found =
-    let step = bank-got S (taken id S.mails).1 bank b m.message (as_sent m) found (λ p. left-flown S id m p h) in
+    let step = bank-got S (removed id S.mails).1 bank b m.message (as_sent m) found (λ p. left-flown S id m p h) in
     rw (h.took, to, found) (rw (to) at step)
 
 -- the keeper handles a message
 letters-flown : (S : State) (outs : List Outgoing) (p : Test) → flight (posts S outs) p ≡ flight S p + sum_by (letter_bit p) outs
 letters-flown S outs p =
-    sum_by-all_mails (counted p) Keeper (number_of S Keeper) outs S.mails
-    ∙ ap (λ (x : ℕ). flight S p + x) (sum_by-mails_of (λ (to : Actor) (message : Message). bit (p to message)) Keeper (number_of S Keeper) outs)
+    sum_by-all_mails (mail_count p) Keeper (next_number S Keeper) outs S.mails
+    ∙ ap (λ (x : ℕ). flight S p + x) (sum_by-mails_of (λ (to : Actor) (message : Message). bit (p to message)) Keeper (next_number S Keeper) outs)
 
 keeper-got : (S : State) (rest : List Mail) (message : Message) (left : Outgoing) → ((p : Test) → flight (record S { mails = rest }) p + passes p (Some left) ≡ flight S p)
     → KeeperStep S (keeper_handles (record S { mails = rest }) (keeper_gets S.keeper message)) message (Some left)
@@ -192,5 +192,5 @@ keeper-got S rest message left took =
 pub keeper-step : (S : State) (id : MailId) (m : Mail) → Handled S id m → m.to ≡ Keeper → KeeperStep S (next S (Handle id)) m.message (Some (as_sent m))
 unfolding next
 keeper-step S id m h to =
-    let step = keeper-got S (taken id S.mails).1 m.message (as_sent m) (λ p. left-flown S id m p h) in
+    let step = keeper-got S (removed id S.mails).1 m.message (as_sent m) (λ p. left-flown S id m p h) in
     rw (h.took, to) (rw (to) at step)

@@ -15,7 +15,7 @@ use Rattle.registry_bank.specs.declared.bank.BankWord.{BankWord}
 use Rattle.registry_bank.specs.declared.bank.BankWord.TheVariants.{Home, Reg}
 use Rattle.registration_protocol.specs.Node.{NodeParts}
 use Rattle.machine_rules.specs.State.{State, entry_at, home_at}
-use Rattle.machine_rules.specs.Flight.{bit, counted, flight, is_to, passes_on, passes_to, forwards_at, misinforms}
+use Rattle.machine_rules.specs.Flight.{bit, mail_count, flight, is_to, is_reg_fwd_of, is_reg_fwd_to, is_read_fwd_to, is_false_data_reply}
 use Rattle.machine_rules.specs.Coherent.{owned_value}
 use Rattle.machine_rules.proofs.Bits.{passes, pending_bit, settled_bit, owner_bit}
 use Rattle.machine_rules.proofs.BitLemmas.{pending-is, pending-bit}
@@ -30,8 +30,8 @@ use Rattle.machine_rules.proofs.NodeEntries.{IsCalm, IsCalmState, calm-node, cal
 
 -- a mail, if there is one, that neither answers a read nor passes it on to a core
 pub record IsMute (out : Option Outgoing) : Type 0 where
-  pub passed : (w d : ℕ) → passes (forwards_at w d) out ≡ 0
-  pub lies : (M : ℕ → ℕ) → passes (misinforms M) out ≡ 0
+  pub passed : (w d : ℕ) → passes (is_read_fwd_to w d) out ≡ 0
+  pub lies : (M : ℕ → ℕ) → passes (is_false_data_reply M) out ≡ 0
 
 abbrev pub of_value : Message → Bool
 of_value (ReadFwd word reader) = true
@@ -48,26 +48,26 @@ mute-none = record { passed = λ w d. refl; lies = λ M. refl }
 
 -- no more reads are answered or passed on to a core than before
 pub record IsNoMore (S T : State) : Type 0 where
-  pub passed : (w d : ℕ) → flight T (forwards_at w d) ≤ flight S (forwards_at w d)
-  pub lies : (M : ℕ → ℕ) → flight T (misinforms M) ≤ flight S (misinforms M)
+  pub passed : (w d : ℕ) → flight T (is_read_fwd_to w d) ≤ flight S (is_read_fwd_to w d)
+  pub lies : (M : ℕ → ℕ) → flight T (is_false_data_reply M) ≤ flight S (is_false_data_reply M)
 
 pub no-more : (S T : State) (left sent : Option Outgoing) → Flown S T left sent → IsMute sent → IsNoMore S T
 no-more S T left sent flown went =
     record {
-      passed = λ w d. omega (arith, flown (forwards_at w d), went.passed w d);
-      lies = λ M. omega (arith, flown (misinforms M), went.lies M);
+      passed = λ w d. omega (arith, flown (is_read_fwd_to w d), went.passed w d);
+      lies = λ M. omega (arith, flown (is_false_data_reply M), went.lies M);
     }
 
 -- an answer is true where its value is the word's
-pub true-reply : (M : ℕ → ℕ) (to : Actor) (word : WordId) (value : ℕ) → value ≡ M word.0 → passes (misinforms M) (Some (record { to = to; message = DataReply word value })) ≡ 0
+pub true-reply : (M : ℕ → ℕ) (to : Actor) (word : WordId) (value : ℕ) → value ≡ M word.0 → passes (is_false_data_reply M) (Some (record { to = to; message = DataReply word value })) ≡ 0
 true-reply M to word value same =
     let e : (value == M word.0) ≡ true = grind (arith, nat_tests, same) in
     rw (e) refl
 
 -- a RegFwd is for a core that has the word pending
-pub sought-pending : (S : State) (w d : ℕ) → WordsGood S → 1 ≤ flight S (passes_to w d) → (c : ℕ) × (1 ≤ pending_bit (entry_at S c w))
-sought-pending S w d g some = of_mail (counted-place (λ (m : Mail). passes_to w d m.to m.message) S.mails some) where
-  passes_for : (m : Mail) (message : Message) → passes_to w d m.to message ≡ true → (c : ℕ) × (passes_on w c m.to message ≡ true)
+pub sought-pending : (S : State) (w d : ℕ) → WordsGood S → 1 ≤ flight S (is_reg_fwd_to w d) → (c : ℕ) × (1 ≤ pending_bit (entry_at S c w))
+sought-pending S w d g some = of_mail (counted-place (λ (m : Mail). is_reg_fwd_to w d m.to m.message) S.mails some) where
+  passes_for : (m : Mail) (message : Message) → is_reg_fwd_to w d m.to message ≡ true → (c : ℕ) × (is_reg_fwd_of w c m.to message ≡ true)
   passes_for m (RegFwd word core) pass = (core.0, by_test (word.0 == w) (is_to d m.to) pass) where
     by_test : (x y : Bool) → (x && y) ≡ true → (x && (core.0 == core.0)) ≡ true
     by_test true y pass = grind (arith, nat_tests)
@@ -86,25 +86,25 @@ sought-pending S w d g some = of_mail (counted-place (λ (m : Mail). passes_to w
   passes_for m (Go phase) pass = absurd (cc)
   passes_for m Halt pass = absurd (cc)
 
-  of_mail : (place : ℕ) × (m : Mail) × (slice_get S.mails place ≡ Some m) × (passes_to w d m.to m.message ≡ true) → (c : ℕ) × (1 ≤ pending_bit (entry_at S c w))
+  of_mail : (place : ℕ) × (m : Mail) × (slice_get S.mails place ≡ Some m) × (is_reg_fwd_to w d m.to m.message ≡ true) → (c : ℕ) × (1 ≤ pending_bit (entry_at S c w))
   of_mail (place, m, there, pass) =
       let r = passes_for m m.message pass in
-      let one : bit (passes_on w r.0 m.to m.message) ≡ 1 = rw (r.1) refl in
-      (r.0, omega (arith, one, weight-within (counted (passes_on w r.0)) S.mails place m there, g.row w r.0))
+      let one : bit (is_reg_fwd_of w r.0 m.to m.message) ≡ 1 = rw (r.1) refl in
+      (r.0, omega (arith, one, weight-within (mail_count (is_reg_fwd_of w r.0)) S.mails place m there, g.row w r.0))
 
 -- where nothing is pending, who has a word registered is its registrant
 pub settled-owner : (S : State) (w c : ℕ) → WordsGood S → AllSettled S w → settled_bit (entry_at S c w) ≤ owner_bit c (home_at S w)
-settled-owner S w c g all = by_count (flight S (passes_to w c)) refl where
-  by_count : (x : ℕ) → flight S (passes_to w c) ≡ x → settled_bit (entry_at S c w) ≤ owner_bit c (home_at S w)
+settled-owner S w c g all = by_count (flight S (is_reg_fwd_to w c)) refl where
+  by_count : (x : ℕ) → flight S (is_reg_fwd_to w c) ≡ x → settled_bit (entry_at S c w) ≤ owner_bit c (home_at S w)
   by_count zero is = omega (arith, is, g.row w c)
   by_count (suc x) is = let at = sought-pending S w c g (omega (arith, is)) in absurd (omega (arith, at.1, all at.0))
 
 -- ---- frames
 
 abbrev pub PassesTrue : State → State → (ℕ → ℕ) → Type 0
-PassesTrue S T M = (d w value : ℕ) → 1 ≤ flight T (forwards_at w d) → owned_value (entry_at S d w) ≡ Some value → value ≡ M w
+PassesTrue S T M = (d w value : ℕ) → 1 ≤ flight T (is_read_fwd_to w d) → owned_value (entry_at S d w) ≡ Some value → value ≡ M w
 
-pub passes-true : (S T : State) (M : ℕ → ℕ) → ValuesGood S M → ((w d : ℕ) → flight T (forwards_at w d) ≤ flight S (forwards_at w d)) → PassesTrue S T M
+pub passes-true : (S T : State) (M : ℕ → ℕ) → ValuesGood S M → ((w d : ℕ) → flight T (is_read_fwd_to w d) ≤ flight S (is_read_fwd_to w d)) → PassesTrue S T M
 passes-true S T M g less d w value some has = g.forwarded d w value (omega (arith, some, less w d)) has
 
 all-settled : (S T : State) (w : ℕ) → IsCalmState S T → AllSettled T w → AllSettled S w
@@ -120,7 +120,7 @@ pending-true S T M g calm c w value is =
     some-same value was.0 (sym same ∙ ap owned_value was.1) ∙ g.pending c w was.0 was.1
 
 -- nothing is newly pending or owned, and the homes stay
-pub values-calm : (S T : State) (M : ℕ → ℕ) → ValuesGood S M → IsCalmState S T → ((v : ℕ) → home_at T v ≡ home_at S v) → flight T (misinforms M) ≡ 0 → PassesTrue S T M → ValuesGood T M
+pub values-calm : (S T : State) (M : ℕ → ℕ) → ValuesGood S M → IsCalmState S T → ((v : ℕ) → home_at T v ≡ home_at S v) → flight T (is_false_data_reply M) ≡ 0 → PassesTrue S T M → ValuesGood T M
 values-calm S T M g calm homes lies passed =
     record {
       beyond = λ w none. g.beyond w (sym (homes w) ∙ none);

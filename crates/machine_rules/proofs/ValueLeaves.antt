@@ -15,10 +15,10 @@ use Rattle.word_cache.specs.declared.row.Entry.{Entry}
 use Rattle.word_cache.specs.declared.row.Entry.TheVariants.{Valid, Registered, Leaving}
 use Rattle.word_cache.specs.Cache.{put, touched, entry_after_phase, entry_after_grant}
 use Rattle.word_cache.proofs.LookLemmas.{lookup-without, lookup-put, lookup-touched}
-use Rattle.phase_barrier.specs.Barrier.{Barrier, counted, advanced as next_phase}
+use Rattle.phase_barrier.specs.Barrier.{Barrier, with_arrival, in_next_phase as next_phase}
 use Rattle.registration_protocol.specs.declared.node.NodeWait as wait
 use Rattle.registration_protocol.specs.Node.{NodeParts, keeping, signature_of}
-use Rattle.registration_protocol.specs.OwnEvents.{retires, with_put, is_bad}
+use Rattle.registration_protocol.specs.OwnEvents.{retires, with_put, task_ended_badly}
 use Rattle.registration_protocol.specs.Messages.{with_entry, lacking, holds_now, begins, guarded_by, written_in}
 use Rattle.registration_protocol.proofs.MessageLemmas.{grant-entries, begin-entries}
 use Rattle.machine_rules.specs.State.{State, home_at}
@@ -95,7 +95,7 @@ values-leaves S M e inv =
           (λ x has. ap owned_value is ∙ has));
       arrive = λ core n found awake absent over settled told step.
           let m : NodeParts = record n { arrived = true } in
-          values-node S T M core.0 n m None (to_keeper (Arrived core (is_bad n.task))) g step (mute Keeper (Arrived core (is_bad n.task)) refl) (calm-same n m (λ v. refl));
+          values-node S T M core.0 n m None (to_keeper (Arrived core (task_ended_badly n.task))) g step (mute Keeper (Arrived core (task_ended_badly n.task)) refl) (calm-same n m (λ v. refl));
       reply = λ core n word value found waits none room told step.
           let m : NodeParts = record (keeping n (put word (Valid value false) n.cache.pairs)) { waiting = wait.TheVariants.Filled word } in
           values-node S T M core.0 n m (at_core core (DataReply word value)) None g step mute-none
@@ -141,7 +141,7 @@ values-leaves S M e inv =
       release_last = λ bank lock core holder s h was held same none told step. homed S T M (at_bank bank (Release lock core s)) None g step.nodes step.homes step.flown mute-none;
       release_on = λ bank lock core holder waiter others s h was held same queue told step.
           homed S T M (at_bank bank (Release lock core s)) (to_core waiter (Grant lock (joined h.kept s))) g step.nodes step.homes step.flown (mute (Core waiter) (Grant lock (joined h.kept s)) refl);
-      arrived = λ core bad was rest told step. posted S T M (counted core.0 bad S.keeper) core bad None g step refl;
-      all_go = λ core bad was all over told step. posted S T M (next_phase (counted core.0 bad S.keeper)) core bad (Some (Go (record { 0 = S.keeper.phase + 1 }))) g step refl;
-      all_halt = λ core bad was all over told step. posted S T M (counted core.0 bad S.keeper) core bad (Some Halt) g step refl;
+      arrived = λ core bad was rest told step. posted S T M (with_arrival core.0 bad S.keeper) core bad None g step refl;
+      all_go = λ core bad was all over told step. posted S T M (next_phase (with_arrival core.0 bad S.keeper)) core bad (Some (Go (record { 0 = S.keeper.phase + 1 }))) g step refl;
+      all_halt = λ core bad was all over told step. posted S T M (with_arrival core.0 bad S.keeper) core bad (Some Halt) g step refl;
     }

@@ -13,7 +13,7 @@ use Rattle.registry_bank.specs.declared.bank.BankWord.TheVariants.{Home, Reg}
 use Rattle.registration_protocol.specs.Node.{NodeParts, entry_of}
 use Rattle.registration_protocol.specs.Messages.{with_entry}
 use Rattle.machine_rules.specs.State.{State, entry_at, home_at}
-use Rattle.machine_rules.specs.Flight.{bit, flight, asks, confirms, gives_back, gives_back_value, seeks, forwards_at, misinforms}
+use Rattle.machine_rules.specs.Flight.{bit, flight, is_reg_req_of, is_reg_ack_to, is_write_back_of, is_write_back_with, is_read_req_of, is_read_fwd_to, is_false_data_reply}
 use Rattle.machine_rules.specs.Coherent.{owned_value}
 use Rattle.machine_rules.proofs.Bits.{passes, pending_bit, owner_bit}
 use Rattle.machine_rules.proofs.BitLemmas.{entry-bits, leaving-is, owner-is}
@@ -33,8 +33,8 @@ pub answered : (S T : State) (M : ℕ → ℕ) (core reader : CoreId) (n : NodeP
     → NodeStep S T core.0 n n (at_core core (ReadFwd word reader)) (to_core reader (DataReply word value)) → ValuesGood T M
 answered S T M core reader n word value g has step =
     values-calm S T M g (calm-node S T core.0 n n left sent step (calm-same n n (λ v. refl))) (home-node S T core.0 n n left sent step)
-    (omega (arith, step.flown (misinforms M), true-reply M (Core reader) word value is_true, g.replied))
-    (passes-true S T M g (λ w d. omega (arith, step.flown (forwards_at w d))))
+    (omega (arith, step.flown (is_false_data_reply M), true-reply M (Core reader) word value is_true, g.replied))
+    (passes-true S T M g (λ w d. omega (arith, step.flown (is_read_fwd_to w d))))
   where
     left : Option Outgoing
     left = at_core core (ReadFwd word reader)
@@ -44,7 +44,7 @@ answered S T M core reader n word value g has step =
 
     is_true : value ≡ M word.0
     is_true =
-        let came = rw (same-number word.0, same-number core.0) at (step.flown (forwards_at word.0 core.0)) in
+        let came = rw (same-number word.0, same-number core.0) at (step.flown (is_read_fwd_to word.0 core.0)) in
         g.forwarded core.0 word.0 value (omega (arith, came)) (ap owned_value (entry-own S core.0 core.0 n word.0 step.found (same-number core.0)) ∙ has)
 
 -- RegAck: the registrant's entry has the value that it had while it was pending
@@ -56,8 +56,8 @@ acknowledged S T M core n word value words g is step =
       pending = λ c w x has. by_pending c w x has (core.0 == c) refl (word.0 == w) refl;
       home = λ w x all has. by_home w x all (sym (homes w) ∙ has) (word.0 == w) refl;
       owner = λ w x c all has owns. by_owner w x c all (sym (homes w) ∙ has) (owned c.0 w x owns) (word.0 == w) refl;
-      replied = omega (arith, step.flown (misinforms M), g.replied);
-      forwarded = λ d w x some has. g.forwarded d w x (omega (arith, some, step.flown (forwards_at w d))) (owned d w x has);
+      replied = omega (arith, step.flown (is_false_data_reply M), g.replied);
+      forwarded = λ d w x some has. g.forwarded d w x (omega (arith, some, step.flown (is_read_fwd_to w d))) (owned d w x has);
     }
   where
     m : NodeParts
@@ -108,7 +108,7 @@ acknowledged S T M core n word value words g is step =
 
     owner-one : 1 ≤ owner_bit core.0 (home_at S word.0)
     owner-one =
-        let came = rw (same-number word.0, same-number core.0) at (step.flown (confirms word.0 core.0)) in
+        let came = rw (same-number word.0, same-number core.0) at (step.flown (is_reg_ack_to word.0 core.0)) in
         omega (arith, came, words.row word.0 core.0)
 
     owner : home_at S word.0 ≡ Some (Reg (record { 0 = core.0 }))
@@ -140,13 +140,13 @@ acknowledged S T M core n word value words g is step =
 
 -- RegReq: the word is pending
 pub value-registered : (S T : State) (M : ℕ → ℕ) (word : WordId) (core : CoreId) (bank : BankId) (sent : Option Outgoing) → WordsGood S → ValuesGood S M
-    → WordStep S T word.0 (Reg core) (at_bank bank (RegReq word core)) sent → IsMute sent → passes (asks word.0 core.0) sent ≡ 0 → ValuesGood T M
+    → WordStep S T word.0 (Reg core) (at_bank bank (RegReq word core)) sent → IsMute sent → passes (is_reg_req_of word.0 core.0) sent ≡ 0 → ValuesGood T M
 value-registered S T M word core bank sent words g step went none =
     values-home S T M word.0 (Reg core) (at_bank bank (RegReq word core)) sent g step (λ value all is. absurd (pends all)) (λ value owner all is has. absurd (pends all)) went
   where
     pends : AllSettled S word.0 → ⊥
     pends all =
-        let asked = rw (same-number word.0, same-number core.0) at (step.flown (asks word.0 core.0)) in
+        let asked = rw (same-number word.0, same-number core.0) at (step.flown (is_reg_req_of word.0 core.0)) in
         omega (arith, asked, none, words.row word.0 core.0, all core.0)
 
 -- WriteBack: the home gets the leaving entry's value
@@ -157,18 +157,18 @@ value-written S T M word core bank value words g was step =
     (λ x all is. let same : value ≡ x = cc in sym same ∙ (equal ∙ g.owner word.0 leaving.0 core all was (ap owned_value leaving.1)))
     (λ x owner all is has. absurd (cc)) (mute (Core core) (WbAck word) refl)
   where
-    came : flight T (gives_back word.0 core.0) + 1 ≡ flight S (gives_back word.0 core.0) + 0
-    came = rw (same-number word.0, same-number core.0) at (step.flown (gives_back word.0 core.0))
+    came : flight T (is_write_back_of word.0 core.0) + 1 ≡ flight S (is_write_back_of word.0 core.0) + 0
+    came = rw (same-number word.0, same-number core.0) at (step.flown (is_write_back_of word.0 core.0))
 
     leaving : (x : ℕ) × (entry_at S core.0 word.0 ≡ Some (Leaving x))
     leaving = leaving-is (entry_at S core.0 word.0) (omega (arith, came, words.row word.0 core.0))
 
-    carried : flight T (gives_back_value word.0 core.0 leaving.0) + bit (value == leaving.0) ≡ flight S (gives_back_value word.0 core.0 leaving.0) + 0
-    carried = rw (same-number word.0, same-number core.0) at (step.flown (gives_back_value word.0 core.0 leaving.0))
+    carried : flight T (is_write_back_with word.0 core.0 leaving.0) + bit (value == leaving.0) ≡ flight S (is_write_back_with word.0 core.0 leaving.0) + 0
+    carried = rw (same-number word.0, same-number core.0) at (step.flown (is_write_back_with word.0 core.0 leaving.0))
 
     equal : value ≡ leaving.0
     equal = by_test (value == leaving.0) refl carried where
-      by_test : (x : Bool) → (value == leaving.0) ≡ x → flight T (gives_back_value word.0 core.0 leaving.0) + bit x ≡ flight S (gives_back_value word.0 core.0 leaving.0) + 0 → value ≡ leaving.0
+      by_test : (x : Bool) → (value == leaving.0) ≡ x → flight T (is_write_back_with word.0 core.0 leaving.0) + bit x ≡ flight S (is_write_back_with word.0 core.0 leaving.0) + 0 → value ≡ leaving.0
       by_test true e moved = eqb-true value leaving.0 e
       by_test false e moved =
           absurd (omega (
@@ -183,9 +183,9 @@ value-written S T M word core bank value words g was step =
 
 -- nobody has a word pending that somebody reads
 read-settled : (S T : State) (word : WordId) (reader : CoreId) (bank : BankId) (sent : Option Outgoing) → ReadsGood S → Flown S T (at_bank bank (ReadReq word reader)) sent
-    → passes (seeks word.0 reader.0) sent ≡ 0 → AllSettled S word.0
+    → passes (is_read_req_of word.0 reader.0) sent ≡ 0 → AllSettled S word.0
 read-settled S T word reader bank sent g flown none c =
-    let came = rw (same-number word.0, same-number reader.0) at (flown (seeks word.0 reader.0)) in
+    let came = rw (same-number word.0, same-number reader.0) at (flown (is_read_req_of word.0 reader.0)) in
     omega (arith, came, none, g.row word.0 reader.0, g.quiet word.0 reader.0 c)
 
 -- ReadReq meets the value
@@ -193,8 +193,8 @@ pub value-read : (S T : State) (M : ℕ → ℕ) (word : WordId) (reader : CoreI
     → WordStep S T word.0 (Home value) (at_bank bank (ReadReq word reader)) (to_core reader (DataReply word value)) → ValuesGood T M
 value-read S T M word reader bank value reads g was step =
     values-calm S T M g (calm-nodes S T step.nodes) (home-same S T word.0 (Home value) step.homes was)
-    (omega (arith, step.flown (misinforms M), g.replied, true-reply M (Core reader) word value is_true))
-    (passes-true S T M g (λ w d. omega (arith, step.flown (forwards_at w d))))
+    (omega (arith, step.flown (is_false_data_reply M), g.replied, true-reply M (Core reader) word value is_true))
+    (passes-true S T M g (λ w d. omega (arith, step.flown (is_read_fwd_to w d))))
   where
     is_true : value ≡ M word.0
     is_true = g.home word.0 value (read-settled S T word reader bank (to_core reader (DataReply word value)) reads step.flown refl) was
@@ -204,17 +204,17 @@ pub value-owned : (S T : State) (M : ℕ → ℕ) (word : WordId) (reader owner 
     → WordStep S T word.0 (Reg owner) (at_bank bank (ReadReq word reader)) (to_core owner (ReadFwd word reader)) → ValuesGood T M
 value-owned S T M word reader owner bank reads g was step =
     values-calm S T M g (calm-nodes S T step.nodes) (home-same S T word.0 (Reg owner) step.homes was)
-    (omega (arith, step.flown (misinforms M), g.replied))
+    (omega (arith, step.flown (is_false_data_reply M), g.replied))
     (λ d w value some has. by_tests d w value some has (word.0 == w) refl (owner.0 == d) refl)
   where
     all : AllSettled S word.0
     all = read-settled S T word reader bank (to_core owner (ReadFwd word reader)) reads step.flown refl
 
-    by_tests : (d w value : ℕ) → 1 ≤ flight T (forwards_at w d) → owned_value (entry_at S d w) ≡ Some value → (x : Bool) → (word.0 == w) ≡ x → (y : Bool) → (owner.0 == d) ≡ y → value ≡ M w
+    by_tests : (d w value : ℕ) → 1 ≤ flight T (is_read_fwd_to w d) → owned_value (entry_at S d w) ≡ Some value → (x : Bool) → (word.0 == w) ≡ x → (y : Bool) → (owner.0 == d) ≡ y → value ≡ M w
     by_tests d w value some has true e true f =
         let same : word.0 ≡ w = eqb-true word.0 w e in
         let own : owner.0 ≡ d = eqb-true owner.0 d f in
         subst (λ (x : ℕ). value ≡ M x) same
         (g.owner word.0 value owner all was (subst (λ (x : ℕ). owned_value (entry_at S x word.0) ≡ Some value) (sym own) (subst (λ (x : ℕ). owned_value (entry_at S d x) ≡ Some value) (sym same) has)))
-    by_tests d w value some has true e false f = let moved = rw (e, f) at (step.flown (forwards_at w d)) in g.forwarded d w value (omega (arith, some, moved)) has
-    by_tests d w value some has false e y f = let moved = rw (e) at (step.flown (forwards_at w d)) in g.forwarded d w value (omega (arith, some, moved)) has
+    by_tests d w value some has true e false f = let moved = rw (e, f) at (step.flown (is_read_fwd_to w d)) in g.forwarded d w value (omega (arith, some, moved)) has
+    by_tests d w value some has false e y f = let moved = rw (e) at (step.flown (is_read_fwd_to w d)) in g.forwarded d w value (omega (arith, some, moved)) has

@@ -19,7 +19,7 @@ use Rattle.registration_protocol.specs.Node.{NodeParts, entry_of}
 use Rattle.registration_protocol.specs.OwnEvents.{stored}
 use Rattle.registration_protocol.proofs.EntryLemmas.{store-entry}
 use Rattle.machine_rules.specs.State.{State, entry_at, home_at}
-use Rattle.machine_rules.specs.Flight.{counted, flight, forwards_at, replies, misinforms}
+use Rattle.machine_rules.specs.Flight.{mail_count, flight, is_read_fwd_to, is_data_reply_to, is_false_data_reply}
 use Rattle.machine_rules.specs.Coherent.{owned_value}
 use Rattle.machine_rules.proofs.Bits.{pending_bit, settled_bit, known_bit, reading_in}
 use Rattle.machine_rules.proofs.BitLemmas.{entry-bits, owner-is, pending-bit}
@@ -41,33 +41,33 @@ reply-reader : (S : State) (M : ℕ → ℕ) (word : WordId) (value : ℕ) (m : 
 reply-reader S M word value m place inv there is = by_actor m.to refl where
   by_actor : (to : Actor) → m.to ≡ to → (c : ℕ) × (1 ≤ reading_in word.0 (slice_get S.nodes c))
   by_actor (Core core) to =
-      let one : counted (replies word.0 core.0) m ≡ 1 = rw (is, to, same-number word.0, same-number core.0) refl in
-      (core.0, omega (arith, one, weight-within (counted (replies word.0 core.0)) S.mails place m there, inv.reads.row word.0 core.0))
+      let one : mail_count (is_data_reply_to word.0 core.0) m ≡ 1 = rw (is, to, same-number word.0, same-number core.0) refl in
+      (core.0, omega (arith, one, weight-within (mail_count (is_data_reply_to word.0 core.0)) S.mails place m there, inv.reads.row word.0 core.0))
   by_actor (Bank bank) to =
-      let one : counted (is_lost S.setting.shape.cores S.setting.shape.banks) m ≡ 1 = rw (is, to) refl in
-      absurd (omega (arith, one, weight-within (counted (is_lost S.setting.shape.cores S.setting.shape.banks)) S.mails place m there, inv.addressed))
+      let one : mail_count (is_lost S.setting.shape.cores S.setting.shape.banks) m ≡ 1 = rw (is, to) refl in
+      absurd (omega (arith, one, weight-within (mail_count (is_lost S.setting.shape.cores S.setting.shape.banks)) S.mails place m there, inv.addressed))
   by_actor Keeper to =
-      let one : counted (is_lost S.setting.shape.cores S.setting.shape.banks) m ≡ 1 = rw (is, to) refl in
-      absurd (omega (arith, one, weight-within (counted (is_lost S.setting.shape.cores S.setting.shape.banks)) S.mails place m there, inv.addressed))
+      let one : mail_count (is_lost S.setting.shape.cores S.setting.shape.banks) m ≡ 1 = rw (is, to) refl in
+      absurd (omega (arith, one, weight-within (mail_count (is_lost S.setting.shape.cores S.setting.shape.banks)) S.mails place m there, inv.addressed))
 
 -- the answers in flight stay true while a word changes that nobody reads
 unread-lies : (S : State) (M : ℕ → ℕ) (word : WordId) (value : ℕ) → Invariant S M → ((c : ℕ) → reading_in word.0 (slice_get S.nodes c) ≡ 0)
-    → flight S (misinforms (stored_to (Some (word, value)) M)) ≡ 0
-unread-lies S M word value inv unread = by_count (flight S (misinforms M')) refl where
+    → flight S (is_false_data_reply (stored_to (Some (word, value)) M)) ≡ 0
+unread-lies S M word value inv unread = by_count (flight S (is_false_data_reply M')) refl where
   M' : ℕ → ℕ
   M' = stored_to (Some (word, value)) M
 
-  of_mail : (place : ℕ) × (m : Mail) × (slice_get S.mails place ≡ Some m) × (misinforms M' m.to m.message ≡ true) → ⊥
+  of_mail : (place : ℕ) × (m : Mail) × (slice_get S.mails place ≡ Some m) × (is_false_data_reply M' m.to m.message ≡ true) → ⊥
   of_mail (place, m, there, pass) = by_message m.message refl pass where
-    by_message : (message : Message) → m.message ≡ message → misinforms M' m.to message ≡ true → ⊥
+    by_message : (message : Message) → m.message ≡ message → is_false_data_reply M' m.to message ≡ true → ⊥
     by_message (DataReply v y) is pass = by_word (word.0 == v.0) refl pass where
       by_word : (x : Bool) → (word.0 == v.0) ≡ x → cond (y == cond x value (M v.0)) false true ≡ true → ⊥
       by_word true e pass =
           let reader = reply-reader S M v y m place inv there is in
           omega (arith, reader.1, subst (λ (x : ℕ). reading_in x (slice_get S.nodes reader.0) ≡ 0) (eqb-true word.0 v.0 e) (unread reader.0))
       by_word false e pass =
-          let one : counted (misinforms M) m ≡ 1 = rw (is, pass) refl in
-          omega (arith, one, weight-within (counted (misinforms M)) S.mails place m there, inv.values.replied)
+          let one : mail_count (is_false_data_reply M) m ≡ 1 = rw (is, pass) refl in
+          omega (arith, one, weight-within (mail_count (is_false_data_reply M)) S.mails place m there, inv.values.replied)
     by_message (ReadReq v reader) is pass = cc
     by_message (ReadFwd v reader) is pass = cc
     by_message (RegReq v core) is pass = cc
@@ -82,9 +82,9 @@ unread-lies S M word value inv unread = by_count (flight S (misinforms M')) refl
     by_message (Go phase) is pass = cc
     by_message Halt is pass = cc
 
-  by_count : (x : ℕ) → flight S (misinforms M') ≡ x → flight S (misinforms M') ≡ 0
+  by_count : (x : ℕ) → flight S (is_false_data_reply M') ≡ x → flight S (is_false_data_reply M') ≡ 0
   by_count zero is = is
-  by_count (suc x) is = absurd (of_mail (counted-place (λ (m : Mail). misinforms M' m.to m.message) S.mails (omega (arith, is))))
+  by_count (suc x) is = absurd (of_mail (counted-place (λ (m : Mail). is_false_data_reply M' m.to m.message) S.mails (omega (arith, is))))
 
 -- a store: its word's entry is registered then, with the new value, and pending unless it was registered before
 pub value-stored : (S T : State) (M : ℕ → ℕ) (core : CoreId) (n : NodeParts) (d : TaskDecl) (t : TaskState) (word : WordId) (whole : Bool) (value : ℕ) (pending : Bool) (sent : Option Outgoing) → Invariant S M
@@ -196,7 +196,7 @@ value-stored S T M core n d t word whole value pending sent inv acts settled ste
         some-same a b e = cc
     by_owner w x c all is has false e = inv.values.owner w x c (settled-before w e all) is (sym (ap owned_value (other_word c.0 w e)) ∙ has) ∙ sym (old w e)
 
-    by_forward : (k w x : ℕ) → 1 ≤ flight S (forwards_at w k) → owned_value (entry_at T k w) ≡ Some x → (y : Bool) → (word.0 == w) ≡ y → x ≡ M' w
+    by_forward : (k w x : ℕ) → 1 ≤ flight S (is_read_fwd_to w k) → owned_value (entry_at T k w) ≡ Some x → (y : Bool) → (word.0 == w) ≡ y → x ≡ M' w
     by_forward k w x some has true e =
         let reader = forward-reading S w k inv.reads some in
         absurd (omega (arith, reader.1, subst (λ (v : ℕ). reading_in v (slice_get S.nodes reader.0) ≡ 0) (at_number w e) (unread reader.0)))

@@ -16,7 +16,7 @@ use Rattle.registry_bank.specs.declared.bank.BankWord.TheVariants.{Home, Reg}
 use Rattle.registration_protocol.specs.Node.{NodeParts, entry_of}
 use Rattle.registration_protocol.specs.Messages.{with_entry}
 use Rattle.machine_rules.specs.State.{State, entry_at, home_at}
-use Rattle.machine_rules.specs.Flight.{flight, gives_back, gives_back_value}
+use Rattle.machine_rules.specs.Flight.{flight, is_write_back_of, is_write_back_with}
 use Rattle.machine_rules.specs.Coherent.{MayStore}
 use Rattle.machine_rules.proofs.Bits.{passes, pending_bit, leaving_bit, owner_bit}
 use Rattle.machine_rules.proofs.Invariant.{WordsGood, WordRow, word_counts}
@@ -55,12 +55,12 @@ evicted-good S T core n word value was step g =
 
     valued : AreValued T
     valued v d x is = by_tests (word.0 == v) refl (core.0 == d) refl where
-      by_tests : (p : Bool) → (word.0 == v) ≡ p → (q : Bool) → (core.0 == d) ≡ q → flight T (gives_back_value v d x) ≡ flight T (gives_back v d)
+      by_tests : (p : Bool) → (word.0 == v) ≡ p → (q : Bool) → (core.0 == d) ≡ q → flight T (is_write_back_with v d x) ≡ flight T (is_write_back_of v d)
       by_tests true e true f =
           let now = rw (e, f) at ((word-event S T core.0 n _ word.0 _ _ _ _ h).entries d v) in
           let same : (value == x) ≡ true = value-same (sym now ∙ is) in
-          let all = rw (e, f) at (step.flown (gives_back v d)) in
-          let some = rw (e, f, same) at (step.flown (gives_back_value v d x)) in
+          let all = rw (e, f) at (step.flown (is_write_back_of v d)) in
+          let some = rw (e, f, same) at (step.flown (is_write_back_with v d x)) in
           let was_here = subst (λ (c : ℕ). entry_at S c v ≡ Some (Registered value false)) (eqb-true core.0 d f) (subst (λ (w : ℕ). entry_at S core.0 w ≡ Some (Registered value false)) (eqb-true word.0 v e) (at-core S T core.0 n _ word.0 _ _ _ _ h).was) in
           omega (arith, all, some, g.row v d, ap leaving_bit was_here, valued-within S v d x)
         where
@@ -68,13 +68,13 @@ evicted-good S T core n word value was step g =
           value-same is = let one : value ≡ x = cc in grind (arith, nat_tests, one)
       by_tests true e false f =
           let now = rw (e, f) at ((word-event S T core.0 n _ word.0 _ _ _ _ h).entries d v) in
-          let all = rw (e, f) at (step.flown (gives_back v d)) in
-          let some = rw (e, f) at (step.flown (gives_back_value v d x)) in
+          let all = rw (e, f) at (step.flown (is_write_back_of v d)) in
+          let some = rw (e, f) at (step.flown (is_write_back_with v d x)) in
           omega (arith, all, some, g.valued v d x (sym now ∙ is))
       by_tests false e q f =
           let now = rw (e) at ((word-event S T core.0 n _ word.0 _ _ _ _ h).entries d v) in
-          let all = rw (e) at (step.flown (gives_back v d)) in
-          let some = rw (e) at (step.flown (gives_back_value v d x)) in
+          let all = rw (e) at (step.flown (is_write_back_of v d)) in
+          let some = rw (e) at (step.flown (is_write_back_with v d x)) in
           omega (arith, all, some, g.valued v d x (sym now ∙ is))
 
 -- ---- the home of a word
@@ -114,7 +114,7 @@ home-event S T w old new left sent h =
     either false y e = refl
 
 home-good : (S T : State) (w : ℕ) (old new : BankWord) (left sent : Option Outgoing) → HomeStep S T w old new left sent → WordsGood S
-    → ((d : ℕ) → WordRow (word_counts T w d)) → ((d v : ℕ) → passes (gives_back v d) sent ≡ 0) → ((d v value : ℕ) → passes (gives_back_value v d value) sent ≡ 0) → WordsGood T
+    → ((d : ℕ) → WordRow (word_counts T w d)) → ((d v : ℕ) → passes (is_write_back_of v d) sent ≡ 0) → ((d v value : ℕ) → passes (is_write_back_with v d value) sent ≡ 0) → WordsGood T
 home-good S T w old new left sent h g own none none_valued =
     record {
       row = rows S T w 0 (λ e. e) (Some new) left sent (home-event S T w old new left sent h) g own;

@@ -6,7 +6,7 @@ use Rattle.word_cache.specs.declared.row.Entry.{Entry}
 use Rattle.registry_bank.specs.declared.bank.BankWord.{BankWord}
 use Rattle.registration_protocol.specs.Node.{NodeParts, entry_of}
 use Rattle.machine_rules.specs.State.{State, entry_in, entry_at, home_at}
-use Rattle.machine_rules.specs.Flight.{Test, flight, asks, passes_on, passes_to, confirms, turns_back, gives_back, gives_back_value, frees}
+use Rattle.machine_rules.specs.Flight.{Test, flight, is_reg_req_of, is_reg_fwd_of, is_reg_fwd_to, is_reg_ack_to, is_reg_fwd_to_itself, is_write_back_of, is_write_back_with, is_wb_ack_to}
 use Rattle.machine_rules.proofs.Bits.{passes, pending_bit, settled_bit, leaving_bit, known_bit, owner_bit}
 use Rattle.machine_rules.proofs.Invariant.{WordsGood, WordRow, word_counts}
 use Rattle.machine_rules.proofs.Steps.{NodeStep}
@@ -17,30 +17,30 @@ Balance S T left sent p = flight T p + passes p left ≡ flight S p + passes p s
 
 abbrev pub WordFlows : State → State → Option Outgoing → Option Outgoing → ℕ → ℕ → Type 0
 WordFlows S T left sent v d =
-    Balance S T left sent (asks v d)
-    × Balance S T left sent (passes_on v d)
-    × Balance S T left sent (confirms v d)
-    × Balance S T left sent (passes_to v d)
-    × Balance S T left sent (turns_back v d)
-    × Balance S T left sent (gives_back v d)
-    × Balance S T left sent (frees v d)
+    Balance S T left sent (is_reg_req_of v d)
+    × Balance S T left sent (is_reg_fwd_of v d)
+    × Balance S T left sent (is_reg_ack_to v d)
+    × Balance S T left sent (is_reg_fwd_to v d)
+    × Balance S T left sent (is_reg_fwd_to_itself v d)
+    × Balance S T left sent (is_write_back_of v d)
+    × Balance S T left sent (is_wb_ack_to v d)
 
 abbrev pub Flown : State → State → Option Outgoing → Option Outgoing → Type 0
 Flown S T left sent = (p : Test) → Balance S T left sent p
 
 pub flows : (S T : State) (left sent : Option Outgoing) → Flown S T left sent → (v d : ℕ) → WordFlows S T left sent v d
-flows S T left sent flown v d = (flown (asks v d), flown (passes_on v d), flown (confirms v d), flown (passes_to v d), flown (turns_back v d), flown (gives_back v d), flown (frees v d))
+flows S T left sent flown v d = (flown (is_reg_req_of v d), flown (is_reg_fwd_of v d), flown (is_reg_ack_to v d), flown (is_reg_fwd_to v d), flown (is_reg_fwd_to_itself v d), flown (is_write_back_of v d), flown (is_wb_ack_to v d))
 
 -- a mail, if there is one, that doesn't concern word v
 pub record IsAside (v : ℕ) (out : Option Outgoing) : Type 0 where
-  pub asked : (d : ℕ) → passes (asks v d) out ≡ 0
-  pub forwarded : (d : ℕ) → passes (passes_on v d) out ≡ 0
-  pub acked : (d : ℕ) → passes (confirms v d) out ≡ 0
-  pub sought : (d : ℕ) → passes (passes_to v d) out ≡ 0
-  pub turned : (d : ℕ) → passes (turns_back v d) out ≡ 0
-  pub written : (d : ℕ) → passes (gives_back v d) out ≡ 0
-  pub valued : (d value : ℕ) → passes (gives_back_value v d value) out ≡ 0
-  pub freed : (d : ℕ) → passes (frees v d) out ≡ 0
+  pub asked : (d : ℕ) → passes (is_reg_req_of v d) out ≡ 0
+  pub forwarded : (d : ℕ) → passes (is_reg_fwd_of v d) out ≡ 0
+  pub acked : (d : ℕ) → passes (is_reg_ack_to v d) out ≡ 0
+  pub sought : (d : ℕ) → passes (is_reg_fwd_to v d) out ≡ 0
+  pub turned : (d : ℕ) → passes (is_reg_fwd_to_itself v d) out ≡ 0
+  pub written : (d : ℕ) → passes (is_write_back_of v d) out ≡ 0
+  pub valued : (d value : ℕ) → passes (is_write_back_with v d value) out ≡ 0
+  pub freed : (d : ℕ) → passes (is_wb_ack_to v d) out ≡ 0
 
 -- a node's step, by the entries
 pub entry-node : (S T : State) (core : ℕ) (n m : NodeParts) (left sent : Option Outgoing) → NodeStep S T core n m left sent

@@ -15,7 +15,7 @@ use Rattle.word_cache.specs.declared.row.Entry.TheVariants.{Valid, Registered, L
 use Rattle.registration_protocol.specs.Node.{NodeParts}
 use Rattle.region_table.specs.Tasks.{declared}
 use Rattle.machine_rules.specs.State.{State, entry_at}
-use Rattle.machine_rules.specs.Flight.{bit, counted, flight, gives_back, gives_back_value}
+use Rattle.machine_rules.specs.Flight.{bit, mail_count, flight, is_write_back_of, is_write_back_with}
 use Rattle.machine_rules.specs.Coherent.{MayStore}
 use Rattle.machine_rules.proofs.Bits.{passes, pending_bit}
 use Rattle.machine_rules.proofs.Steps.{NodeStep}
@@ -57,11 +57,11 @@ single-registered S T w core single alone calm v c d = by_word (w == v) refl (co
 -- ---- A write-back has the leaving entry's value.
 
 abbrev pub AreValued : State → Type 0
-AreValued S = (w c value : ℕ) → entry_at S c w ≡ Some (Leaving value) → flight S (gives_back_value w c value) ≡ flight S (gives_back w c)
+AreValued S = (w c value : ℕ) → entry_at S c w ≡ Some (Leaving value) → flight S (is_write_back_with w c value) ≡ flight S (is_write_back_of w c)
 
-pub value-le : (w c value : ℕ) (m : Mail) → counted (gives_back_value w c value) m ≤ counted (gives_back w c) m
+pub value-le : (w c value : ℕ) (m : Mail) → mail_count (is_write_back_with w c value) m ≤ mail_count (is_write_back_of w c) m
 value-le w c value m = by_message m.message where
-  by_message : (message : Message) → bit (gives_back_value w c value m.to message) ≤ bit (gives_back w c m.to message)
+  by_message : (message : Message) → bit (is_write_back_with w c value m.to message) ≤ bit (is_write_back_of w c m.to message)
   by_message (WriteBack word v core) = by_tests (word.0 == w) (core.0 == c) (v == value) where
     by_tests : (x y z : Bool) → bit (x && (y && z)) ≤ bit (x && y)
     by_tests true true true = omega arith
@@ -82,16 +82,16 @@ value-le w c value m = by_message m.message where
   by_message (Go phase) = omega arith
   by_message Halt = omega arith
 
-pub valued-within : (S : State) (w c value : ℕ) → flight S (gives_back_value w c value) ≤ flight S (gives_back w c)
-valued-within S w c value = sum_by-le-sum_by (counted (gives_back_value w c value)) (counted (gives_back w c)) S.mails (value-le w c value)
+pub valued-within : (S : State) (w c value : ℕ) → flight S (is_write_back_with w c value) ≤ flight S (is_write_back_of w c)
+valued-within S w c value = sum_by-le-sum_by (mail_count (is_write_back_with w c value)) (mail_count (is_write_back_of w c)) S.mails (value-le w c value)
 
 -- no write-back comes or goes, and no entry begins to leave
 pub valued-still : (S T : State) (left sent : Option Outgoing) → AreValued S → Flown S T left sent
     → ((d v value : ℕ) → entry_at T d v ≡ Some (Leaving value) → entry_at S d v ≡ Some (Leaving value))
-    → ((d v : ℕ) → (passes (gives_back v d) left ≡ 0) × (passes (gives_back v d) sent ≡ 0))
-    → ((d v value : ℕ) → (passes (gives_back_value v d value) left ≡ 0) × (passes (gives_back_value v d value) sent ≡ 0)) → AreValued T
+    → ((d v : ℕ) → (passes (is_write_back_of v d) left ≡ 0) × (passes (is_write_back_of v d) sent ≡ 0))
+    → ((d v value : ℕ) → (passes (is_write_back_with v d value) left ≡ 0) × (passes (is_write_back_with v d value) sent ≡ 0)) → AreValued T
 valued-still S T left sent valued flown still none none_valued w c value is =
-    omega (arith, valued w c value (still c w value is), flown (gives_back w c), flown (gives_back_value w c value), none c w, none_valued c w value)
+    omega (arith, valued w c value (still c w value is), flown (is_write_back_of w c), flown (is_write_back_with w c value), none c w, none_valued c w value)
 
 -- ---- The right to store a pending word.
 
@@ -130,19 +130,19 @@ right-kept S T core n m left sent step phase keeps d w may = by_test (core == d)
       }
 
 -- a write-back that comes or goes counts for no value that it doesn't count for without
-pub passes-le : (w c value : ℕ) (out : Option Outgoing) → passes (gives_back_value w c value) out ≤ passes (gives_back w c) out
+pub passes-le : (w c value : ℕ) (out : Option Outgoing) → passes (is_write_back_with w c value) out ≤ passes (is_write_back_of w c) out
 passes-le w c value None = omega arith
 passes-le w c value (Some out) = value-le w c value (record { id = record { sender = out.to; number = 0 }; to = out.to; message = out.message })
 
 -- a write-back comes, and entries stay
 pub valued-taken : (S T : State) (left sent : Option Outgoing) → AreValued S → Flown S T left sent → ((d v : ℕ) → entry_at T d v ≡ entry_at S d v)
-    → ((d v : ℕ) → passes (gives_back v d) sent ≡ 0) → ((d v value : ℕ) → passes (gives_back_value v d value) sent ≡ 0) → AreValued T
+    → ((d v : ℕ) → passes (is_write_back_of v d) sent ≡ 0) → ((d v value : ℕ) → passes (is_write_back_with v d value) sent ≡ 0) → AreValued T
 valued-taken S T left sent valued flown same none none_valued w c value is =
     omega (
       arith,
       valued w c value (sym (same c w) ∙ is),
-      flown (gives_back w c),
-      flown (gives_back_value w c value),
+      flown (is_write_back_of w c),
+      flown (is_write_back_with w c value),
       none c w,
       none_valued c w value,
       passes-le w c value left,

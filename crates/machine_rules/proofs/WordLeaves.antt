@@ -26,13 +26,13 @@ use Rattle.word_cache.proofs.LookLemmas.{lookup-put, lookup-touched}
 use Rattle.registry_bank.specs.declared.bank.BankWord.{BankWord}
 use Rattle.registration_protocol.specs.declared.node.NodeWait as wait
 use Rattle.registration_protocol.specs.Node.{NodeParts, keeping, signature_of, entry_of}
-use Rattle.registration_protocol.specs.OwnEvents.{with_put, is_bad}
+use Rattle.registration_protocol.specs.OwnEvents.{with_put, task_ended_badly}
 use Rattle.region_table.specs.Plan.{uses_plainly}
 use Rattle.word_cache.specs.Cache.{put}
 use Rattle.registration_protocol.specs.Messages.{lacking, holds_now, guarded_by, written_in}
 use Rattle.registration_protocol.proofs.MessageLemmas.{grant-entries, begin-entries}
 use Rattle.machine_rules.specs.State.{State, home_at}
-use Rattle.machine_rules.specs.Flight.{Test, bit, flight, asks, passes_on, passes_to, confirms, turns_back, gives_back, gives_back_value, frees}
+use Rattle.machine_rules.specs.Flight.{Test, bit, flight, is_reg_req_of, is_reg_fwd_of, is_reg_fwd_to, is_reg_ack_to, is_reg_fwd_to_itself, is_write_back_of, is_write_back_with, is_wb_ack_to}
 use Rattle.machine_rules.specs.Next.{next}
 use Rattle.machine_rules.proofs.Bits.{passes, known_bit}
 use Rattle.machine_rules.proofs.Invariant.{Invariant, WordsGood}
@@ -78,14 +78,14 @@ barrier-flights : (S T : State) (left : Option Outgoing) (sent : Option Message)
     → ((v : ℕ) → IsAside v left) → ((message : Message) → sent ≡ Some message → (v : ℕ) → of_word v message ≡ false) → SameFlights S T
 barrier-flights S T left sent flown came calm =
     record {
-      asked = λ v d. omega (arith, flown (asks v d), (came v).asked d, letters (asks v d) (λ to message is. (aside v to message (calm message is v)).asked d));
-      forwarded = λ v d. omega (arith, flown (passes_on v d), (came v).forwarded d, letters (passes_on v d) (λ to message is. (aside v to message (calm message is v)).forwarded d));
-      acked = λ v d. omega (arith, flown (confirms v d), (came v).acked d, letters (confirms v d) (λ to message is. (aside v to message (calm message is v)).acked d));
-      sought = λ v d. omega (arith, flown (passes_to v d), (came v).sought d, letters (passes_to v d) (λ to message is. (aside v to message (calm message is v)).sought d));
-      turned = λ v d. omega (arith, flown (turns_back v d), (came v).turned d, letters (turns_back v d) (λ to message is. (aside v to message (calm message is v)).turned d));
-      written = λ v d. omega (arith, flown (gives_back v d), (came v).written d, letters (gives_back v d) (λ to message is. (aside v to message (calm message is v)).written d));
-      valued = λ v d value. omega (arith, flown (gives_back_value v d value), (came v).valued d value, letters (gives_back_value v d value) (λ to message is. (aside v to message (calm message is v)).valued d value));
-      freed = λ v d. omega (arith, flown (frees v d), (came v).freed d, letters (frees v d) (λ to message is. (aside v to message (calm message is v)).freed d));
+      asked = λ v d. omega (arith, flown (is_reg_req_of v d), (came v).asked d, letters (is_reg_req_of v d) (λ to message is. (aside v to message (calm message is v)).asked d));
+      forwarded = λ v d. omega (arith, flown (is_reg_fwd_of v d), (came v).forwarded d, letters (is_reg_fwd_of v d) (λ to message is. (aside v to message (calm message is v)).forwarded d));
+      acked = λ v d. omega (arith, flown (is_reg_ack_to v d), (came v).acked d, letters (is_reg_ack_to v d) (λ to message is. (aside v to message (calm message is v)).acked d));
+      sought = λ v d. omega (arith, flown (is_reg_fwd_to v d), (came v).sought d, letters (is_reg_fwd_to v d) (λ to message is. (aside v to message (calm message is v)).sought d));
+      turned = λ v d. omega (arith, flown (is_reg_fwd_to_itself v d), (came v).turned d, letters (is_reg_fwd_to_itself v d) (λ to message is. (aside v to message (calm message is v)).turned d));
+      written = λ v d. omega (arith, flown (is_write_back_of v d), (came v).written d, letters (is_write_back_of v d) (λ to message is. (aside v to message (calm message is v)).written d));
+      valued = λ v d value. omega (arith, flown (is_write_back_with v d value), (came v).valued d value, letters (is_write_back_with v d value) (λ to message is. (aside v to message (calm message is v)).valued d value));
+      freed = λ v d. omega (arith, flown (is_wb_ack_to v d), (came v).freed d, letters (is_wb_ack_to v d) (λ to message is. (aside v to message (calm message is v)).freed d));
     }
   where
     letters : (p : Test) → ((to : Actor) (message : Message) → sent ≡ Some message → bit (p to message) ≡ 0) → to_all p S.setting.shape.cores sent ≡ 0
@@ -123,7 +123,7 @@ words-leaves S M e inv =
           quiet-node S (next S e) core.0 n _ None None step g (lacking-part n word.0 (ap owned_part is)) aside-none aside-none
           (λ c w one. right-kept S (next S e) core.0 n _ None None step refl (keeps-same n (lacking n word.0) refl) c w (g.right c w one));
       evict_own = λ core n word value found active waits is told step. evicted-good S (next S e) core n word value is step g;
-      arrive = λ core n found awake absent over settled told step. task-step S (next S e) core.0 n _ _ step g refl refl (keeps-same n (record n { arrived = true }) refl) (λ v. aside v _ (Arrived core (is_bad n.task)) refl);
+      arrive = λ core n found awake absent over settled told step. task-step S (next S e) core.0 n _ _ step g refl refl (keeps-same n (record n { arrived = true }) refl) (λ v. aside v _ (Arrived core (task_ended_badly n.task)) refl);
       reply = λ core n word value found waits none room told step.
           quiet-node S (next S e) core.0 n _ _ None step g (put-part n (record (keeping n (put word (Valid value false) n.cache.pairs)) { waiting = wait.TheVariants.Filled word }) word.0 (Valid value false) (λ v. lookup-put word (Valid value false) v n.cache.pairs) refl (ap owned_part none)) (λ v. aside v _ (DataReply word value) refl) aside-none
           (λ c w one. right-kept S (next S e) core.0 n (record (keeping n (put word (Valid value false) n.cache.pairs)) { waiting = wait.TheVariants.Filled word }) _ None step refl (keeps-same n (record (keeping n (put word (Valid value false) n.cache.pairs)) { waiting = wait.TheVariants.Filled word }) refl) c w (g.right c w one));

@@ -8,7 +8,7 @@ use Rattle.region_table.specs.declared.declared.TaskDecl.{TaskDecl}
 use Rattle.rv_core.specs.declared.task.TaskState.{TaskState}
 use Rattle.rv_core.specs.declared.need.Need.{Need}
 use Rattle.write_signature.specs.declared.signature.Signature.{Signature}
-use Rattle.write_signature.specs.Signature.{holds}
+use Rattle.write_signature.specs.Signature.{may_hold}
 use Rattle.message_net.specs.declared.message.Outgoing.{Outgoing}
 use Rattle.word_cache.specs.declared.row.Entry.{Entry}
 use Rattle.word_cache.specs.declared.row.Entry.TheVariants.{Valid, Registered, Leaving}
@@ -75,7 +75,7 @@ phase-part words w (Some (Leaving value)) = refl
 
 pub grant-part : (s : Signature) (phase : ℕ) (words : List Interval) (w : ℕ) (e : Option Entry) → owned_part (entry_after_grant s phase words w e) ≡ owned_part e
 grant-part s phase words w None = refl
-grant-part s phase words w (Some (Valid value marked)) = by_test (has words w && holds s w phase) where
+grant-part s phase words w (Some (Valid value marked)) = by_test (has words w && may_hold s w phase) where
   by_test : (x : Bool) → owned_part (cond x None (Some (Valid value marked))) ≡ None
   by_test true = refl
   by_test false = refl

@@ -24,7 +24,7 @@ use Rattle.registration_protocol.specs.OwnEvents.{stored}
 use Rattle.registration_protocol.specs.Messages.{with_entry, lacking}
 use Rattle.registration_protocol.proofs.EntryLemmas.{store-entry}
 use Rattle.machine_rules.specs.State.{State, entry_in, entry_at, home_at}
-use Rattle.machine_rules.specs.Flight.{gives_back, gives_back_value}
+use Rattle.machine_rules.specs.Flight.{is_write_back_of, is_write_back_with}
 use Rattle.machine_rules.specs.Coherent.{MayStore}
 use Rattle.machine_rules.proofs.Bits.{passes, pending_bit, settled_bit, leaving_bit, known_bit, owner_bit}
 use Rattle.machine_rules.proofs.Invariant.{WordsGood, WordRow, word_counts}
@@ -53,8 +53,8 @@ same-now n w old was v = by_test (w == v) refl where
 
 -- no write-back is among what comes and goes
 pub record NoBack (out : Option Outgoing) : Type 0 where
-  pub none : (d v : ℕ) → passes (gives_back v d) out ≡ 0
-  pub none_valued : (d v value : ℕ) → passes (gives_back_value v d value) out ≡ 0
+  pub none : (d v : ℕ) → passes (is_write_back_of v d) out ≡ 0
+  pub none_valued : (d v value : ℕ) → passes (is_write_back_with v d value) out ≡ 0
 
 calm-good : (S T : State) (core : ℕ) (n m : NodeParts) (w : ℕ) (old new : Option Entry) (left sent : Option Outgoing) → EntryStep S T core n m w old new left sent → WordsGood S
     → ((d : ℕ) → WordRow (word_counts T w d)) → pending_bit new ≤ pending_bit old

@@ -9,7 +9,7 @@ use Rattle.word_cache.specs.declared.row.Entry.{Entry}
 use Rattle.word_cache.specs.declared.row.Entry.TheVariants.{Valid, Registered, Leaving}
 use Rattle.registration_protocol.specs.Node.{NodeParts, entry_of}
 use Rattle.machine_rules.specs.State.{State, entry_in, entry_at, home_at}
-use Rattle.machine_rules.specs.Flight.{flight, asks, passes_on, passes_to, confirms, turns_back, gives_back, gives_back_value, frees}
+use Rattle.machine_rules.specs.Flight.{flight, is_reg_req_of, is_reg_fwd_of, is_reg_fwd_to, is_reg_ack_to, is_reg_fwd_to_itself, is_write_back_of, is_write_back_with, is_wb_ack_to}
 use Rattle.machine_rules.specs.Coherent.{MayStore}
 use Rattle.machine_rules.proofs.Bits.{pending_bit, settled_bit, leaving_bit, known_bit, owner_bit}
 use Rattle.machine_rules.proofs.Invariant.{WordsGood}
@@ -49,26 +49,26 @@ part-leaving (Some (Leaving v)) value is = is
 
 -- the mails of words that are in flight are as many as before
 pub record SameFlights (S T : State) : Type 0 where
-  pub asked : (v d : ℕ) → flight T (asks v d) ≡ flight S (asks v d)
-  pub forwarded : (v d : ℕ) → flight T (passes_on v d) ≡ flight S (passes_on v d)
-  pub acked : (v d : ℕ) → flight T (confirms v d) ≡ flight S (confirms v d)
-  pub sought : (v d : ℕ) → flight T (passes_to v d) ≡ flight S (passes_to v d)
-  pub turned : (v d : ℕ) → flight T (turns_back v d) ≡ flight S (turns_back v d)
-  pub written : (v d : ℕ) → flight T (gives_back v d) ≡ flight S (gives_back v d)
-  pub valued : (v d value : ℕ) → flight T (gives_back_value v d value) ≡ flight S (gives_back_value v d value)
-  pub freed : (v d : ℕ) → flight T (frees v d) ≡ flight S (frees v d)
+  pub asked : (v d : ℕ) → flight T (is_reg_req_of v d) ≡ flight S (is_reg_req_of v d)
+  pub forwarded : (v d : ℕ) → flight T (is_reg_fwd_of v d) ≡ flight S (is_reg_fwd_of v d)
+  pub acked : (v d : ℕ) → flight T (is_reg_ack_to v d) ≡ flight S (is_reg_ack_to v d)
+  pub sought : (v d : ℕ) → flight T (is_reg_fwd_to v d) ≡ flight S (is_reg_fwd_to v d)
+  pub turned : (v d : ℕ) → flight T (is_reg_fwd_to_itself v d) ≡ flight S (is_reg_fwd_to_itself v d)
+  pub written : (v d : ℕ) → flight T (is_write_back_of v d) ≡ flight S (is_write_back_of v d)
+  pub valued : (v d value : ℕ) → flight T (is_write_back_with v d value) ≡ flight S (is_write_back_with v d value)
+  pub freed : (v d : ℕ) → flight T (is_wb_ack_to v d) ≡ flight S (is_wb_ack_to v d)
 
 pub same-flights : (S T : State) (left sent : Option Outgoing) → Flown S T left sent → ((v : ℕ) → IsAside v left) → ((v : ℕ) → IsAside v sent) → SameFlights S T
 same-flights S T left sent flown came went =
     record {
-      asked = λ v d. omega (arith, flown (asks v d), (came v).asked d, (went v).asked d);
-      forwarded = λ v d. omega (arith, flown (passes_on v d), (came v).forwarded d, (went v).forwarded d);
-      acked = λ v d. omega (arith, flown (confirms v d), (came v).acked d, (went v).acked d);
-      sought = λ v d. omega (arith, flown (passes_to v d), (came v).sought d, (went v).sought d);
-      turned = λ v d. omega (arith, flown (turns_back v d), (came v).turned d, (went v).turned d);
-      written = λ v d. omega (arith, flown (gives_back v d), (came v).written d, (went v).written d);
-      valued = λ v d value. omega (arith, flown (gives_back_value v d value), (came v).valued d value, (went v).valued d value);
-      freed = λ v d. omega (arith, flown (frees v d), (came v).freed d, (went v).freed d);
+      asked = λ v d. omega (arith, flown (is_reg_req_of v d), (came v).asked d, (went v).asked d);
+      forwarded = λ v d. omega (arith, flown (is_reg_fwd_of v d), (came v).forwarded d, (went v).forwarded d);
+      acked = λ v d. omega (arith, flown (is_reg_ack_to v d), (came v).acked d, (went v).acked d);
+      sought = λ v d. omega (arith, flown (is_reg_fwd_to v d), (came v).sought d, (went v).sought d);
+      turned = λ v d. omega (arith, flown (is_reg_fwd_to_itself v d), (came v).turned d, (went v).turned d);
+      written = λ v d. omega (arith, flown (is_write_back_of v d), (came v).written d, (went v).written d);
+      valued = λ v d value. omega (arith, flown (is_write_back_with v d value), (came v).valued d value, (went v).valued d value);
+      freed = λ v d. omega (arith, flown (is_wb_ack_to v d), (came v).freed d, (went v).freed d);
     }
 
 -- whether a message is of the registration or the write-back of word v

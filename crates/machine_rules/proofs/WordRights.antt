@@ -3,7 +3,7 @@ use Rattle.std.proofs.Common.{◌≡◌, ℕ, ◌==◌, ◌^◌, ◌||◌, Bool,
 use Rattle.std.proofs.lemmas.Bool.{eqb-true}
 use Rattle.message_net.specs.declared.message.Outgoing.{Outgoing}
 use Rattle.rv_core.specs.declared.task.TaskState.{TaskState}
-use Rattle.rv_core.specs.Access.{holds, may_store}
+use Rattle.rv_core.specs.Access.{is_held, may_store}
 use Rattle.rv_core.proofs.HeldLemmas.{holds-acquired}
 use Rattle.flat_machine.specs.Laws.{HoldsLess}
 use Rattle.flat_machine.proofs.Rights.{may_store-less}
@@ -40,7 +40,7 @@ keeps-more n m t u has becomes less s is =
     some-same t s is = cc
 
 pub acquired-more : (held lock : ℕ) → HoldsLess held (bit_or held (2 ^ lock))
-acquired-more held lock = record { among = λ k here. holds-acquired held lock k ∙ either (k == lock) (holds held k) here } where
+acquired-more held lock = record { among = λ k here. holds-acquired held lock k ∙ either (k == lock) (is_held held k) here } where
   either : (x y : Bool) → y ≡ true → (x || y) ≡ true
   either true y here = refl
   either false y here = here

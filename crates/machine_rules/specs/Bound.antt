@@ -8,7 +8,7 @@ use Rattle.message_net.specs.declared.event.Event.{Event}
 use Rattle.registration_protocol.specs.Node.{NodeParts}
 use Rattle.machine_rules.specs.State.{State}
 use Rattle.machine_rules.specs.Next.{next}
-use Rattle.machine_rules.specs.Runs.{after, later, begun_in}
+use Rattle.machine_rules.specs.Runs.{after, newer_or, begun_in}
 
 -- the task of a core in a phase: None where the core's node isn't in that phase, and where it has no task in it
 abbrev pub task_in_phase : ℕ → Option NodeParts → Option TaskState
@@ -18,18 +18,18 @@ task_in_phase phase (Some n) = if n.phase == phase then n.task else None
 -- the task as its node last had it: None where the node hasn't come to the phase yet
 abbrev pub last_task : ℕ → ℕ → State → List Event → Option TaskState
 last_task phase core S [] = task_in_phase phase (slice_get S.nodes core)
-last_task phase core S (e ∷ es) = later (last_task phase core (next S e) es) (task_in_phase phase (slice_get S.nodes core))
+last_task phase core S (e ∷ es) = newer_or (last_task phase core (next S e) es) (task_in_phase phase (slice_get S.nodes core))
 
 -- the instructions that a task has retired
-abbrev pub retired_by : Option TaskState → ℕ
-retired_by None = 0
-retired_by (Some t) = t.retired
+abbrev pub retired_so_far : Option TaskState → ℕ
+retired_so_far None = 0
+retired_so_far (Some t) = t.retired
 
 -- what the tasks of some phases have retired, the first of which is phase number `phase`
 abbrev pub retired_from : ℕ → List Phase → State → List Event → ℕ
 retired_from phase [] S events = 0
 retired_from phase (p ∷ ps) S events =
-    sum_by (λ (d : TaskDecl). retired_by (last_task phase d.core.0 S events)) p.tasks + retired_from (phase + 1) ps S events
+    sum_by (λ (d : TaskDecl). retired_so_far (last_task phase d.core.0 S events)) p.tasks + retired_from (phase + 1) ps S events
 
 -- the instructions that the tasks have retired that have started, each as its node last had it
 abbrev pub retired_in : State → List Event → ℕ

@@ -11,9 +11,9 @@ use Rattle.region_table.specs.Plan.{uses_plainly}
 use Rattle.region_table.specs.Tasks.{declared}
 use Rattle.rv_core.specs.declared.task.TaskState.{TaskState}
 use Rattle.rv_core.specs.declared.need.Need.TheVariants.{Load, Store}
-use Rattle.rv_core.specs.Access.{holds as is_held, may_store}
+use Rattle.rv_core.specs.Access.{is_held, may_store}
 use Rattle.write_signature.specs.declared.signature.Signature.{Signature}
-use Rattle.write_signature.specs.Signature.{tag, holds, joined}
+use Rattle.write_signature.specs.Signature.{tag, may_hold, joined}
 use Rattle.message_net.specs.declared.actor.Actor.{Actor}
 use Rattle.message_net.specs.declared.actor.Actor.TheVariants.{Core, Bank, Keeper}
 use Rattle.message_net.specs.declared.message.Mail.{Mail}
@@ -22,16 +22,16 @@ use Rattle.message_net.specs.declared.message.Message.TheVariants.{ReadReq, Read
 use Rattle.word_cache.specs.declared.row.Entry.{Entry}
 use Rattle.word_cache.specs.declared.row.Entry.TheVariants.{Valid, Registered, Leaving}
 use Rattle.word_cache.specs.Cache.{has_room}
-use Rattle.queue_lock.specs.Lock.{Lock, places_of, holder_count}
+use Rattle.queue_lock.specs.Lock.{Lock, times_queued, holder_count}
 use Rattle.phase_barrier.specs.Barrier.{all_arrived}
 use Rattle.registry_bank.specs.declared.bank.BankWord.TheVariants.{Home, Reg}
 use Rattle.registration_protocol.specs.declared.node.NodeWait as wait
 use Rattle.registration_protocol.specs.declared.node.NodeWait.{NodeWait}
-use Rattle.registration_protocol.specs.Node.{NodeParts, need_now, entry_of, goes_on, is_settled}
-use Rattle.registration_protocol.specs.OwnEvents.{is_bad}
+use Rattle.registration_protocol.specs.Node.{NodeParts, need_now, entry_of, is_running, is_settled}
+use Rattle.registration_protocol.specs.OwnEvents.{task_ended_badly}
 use Rattle.registration_protocol.specs.Messages.{written_in}
 use Rattle.machine_rules.specs.State.{State, entry_at, home_at, lock_at}
-use Rattle.machine_rules.specs.Flight.{bit, flight, asks, passes_on, passes_to, turns_back, confirms, gives_back_value, frees, seeks, forwards, forwards_at, replies, acquires, releases, grants, arrives, goes, halts}
+use Rattle.machine_rules.specs.Flight.{bit, flight, is_reg_req_of, is_reg_fwd_of, is_reg_fwd_to, is_reg_fwd_to_itself, is_reg_ack_to, is_write_back_with, is_wb_ack_to, is_read_req_of, is_read_fwd_of, is_read_fwd_to, is_data_reply_to, is_acquire_of, is_release_of, is_grant_to, is_arrival_of, is_go_to, is_halt_to}
 use Rattle.machine_rules.specs.Memory.{word_value}
 
 -- exactly one of three
@@ -61,13 +61,13 @@ abbrev pub waits_for : State → ℕ → NodeWait → Type 0
 waits_for S c waiting = (n : NodeParts) × (slice_get S.nodes c ≡ Some n) × (n.waiting ≡ waiting)
 
 -- the locks that a node's task holds, and the task's right to store a word with them
-abbrev pub held_by : Option TaskState → ℕ
-held_by None = 0
-held_by (Some t) = t.held
+abbrev pub held_locks : Option TaskState → ℕ
+held_locks None = 0
+held_locks (Some t) = t.held
 
 abbrev pub holds_lock : ℕ → Option NodeParts → Bool
 holds_lock l None = false
-holds_lock l (Some n) = is_held (held_by n.task) l
+holds_lock l (Some n) = is_held (held_locks n.task) l
 
 abbrev pub has_lock : State → ℕ → ℕ → Bool
 has_lock S c l = holds_lock l (slice_get S.nodes c)
@@ -77,14 +77,14 @@ abbrev pub is_locking : ℕ → NodeWait → Bool
 is_locking l (wait.TheVariants.Locking lock) = lock.0 == l
 is_locking l _ = false
 
-abbrev pub locks_in : ℕ → Option NodeParts → Bool
-locks_in l None = false
-locks_in l (Some n) = is_locking l n.waiting
+abbrev pub node_is_locking : ℕ → Option NodeParts → Bool
+node_is_locking l None = false
+node_is_locking l (Some n) = is_locking l n.waiting
 
 -- how often a core stands in a lock's queue, and whether it is the holder
 abbrev pub queued_in : ℕ → Option Lock → ℕ
 queued_in c None = 0
-queued_in c (Some h) = places_of c h.queue
+queued_in c (Some h) = times_queued c h.queue
 
 abbrev pub holder_in : ℕ → Option Lock → ℕ
 holder_in c None = 0
@@ -96,19 +96,19 @@ is_alive None = false
 is_alive (Some n) = n.arrived && not n.halted
 
 -- whether a core waits in the keeper's set, which isn't whole yet
-abbrev pub waits_in : State → ℕ → ℕ
-waits_in S c = bit (not (all_arrived S.keeper) && slice_index_or S.keeper.arrived c false)
+abbrev pub waits_at_keeper : State → ℕ → ℕ
+waits_at_keeper S c = bit (not (all_arrived S.keeper) && slice_index_or S.keeper.arrived c false)
 
 -- a node is in the keeper's phase, or in the one before, has arrived in it, and is told to go on
 abbrev pub IsInPhase : State → ℕ → NodeParts → Type 0
 IsInPhase S c n =
-    (n.phase ≡ S.keeper.phase) ⊎ (n.phase + 1 ≡ S.keeper.phase) × (n.arrived ≡ true) × (1 ≤ flight S (goes c))
+    (n.phase ≡ S.keeper.phase) ⊎ (n.phase + 1 ≡ S.keeper.phase) × (n.arrived ≡ true) × (1 ≤ flight S (is_go_to c))
 
 -- a node that has arrived awaits nothing: no entry is pending, it waits for nothing, and it has no task that goes on
 pub record HasArrived (n : NodeParts) : Type 0 where
   pub settled : is_settled n ≡ true
   pub waiting : n.waiting ≡ wait.TheVariants.None
-  pub over : goes_on n.task ≡ false
+  pub over : is_running n.task ≡ false
 
 -- whether the task of a core that the keeper counts in its set was bad
 abbrev pub counts_bad : State → ℕ → Bool
@@ -116,30 +116,30 @@ counts_bad S c = slice_index_or S.keeper.arrived c false && bad_in (slice_get S.
   where
     bad_in : Option NodeParts → Bool
     bad_in None = false
-    bad_in (Some n) = is_bad n.task
+    bad_in (Some n) = task_ended_badly n.task
 
 -- 1. Phases.
 pub record ArePhases (S : State) : Type 0 where
   pub phase : (c : ℕ) (n : NodeParts) → slice_get S.nodes c ≡ Some n → n.halted ≡ false → IsInPhase S c n
   -- of a core that has arrived and isn't halted its arrival is in flight, or it waits in the keeper's set, or it is told to
   -- go on or to halt, and just one of these; of another core none
-  pub whereabouts : (c : ℕ) → flight S (arrives c) + waits_in S c + (flight S (goes c) + flight S (halts c)) ≡ bit (is_alive (slice_get S.nodes c))
+  pub whereabouts : (c : ℕ) → flight S (is_arrival_of c) + waits_at_keeper S c + (flight S (is_go_to c) + flight S (is_halt_to c)) ≡ bit (is_alive (slice_get S.nodes c))
   pub arrived : (c : ℕ) (n : NodeParts) → slice_get S.nodes c ≡ Some n → n.arrived ≡ true → HasArrived n
   -- an arrival says truly whether the task was bad, and so does the keeper of those that it has counted
   pub said : (m : Mail) (core : CoreId) (bad : Bool) → IsInFlight S m → m.message ≡ Arrived core bad
-      → (n : NodeParts) → slice_get S.nodes core.0 ≡ Some n → bad ≡ is_bad n.task
+      → (n : NodeParts) → slice_get S.nodes core.0 ≡ Some n → bad ≡ task_ended_badly n.task
   pub bad : S.keeper.bad ≡ true → (c : ℕ) × (counts_bad S c ≡ true)
   pub good : S.keeper.bad ≡ false → (c : ℕ) → counts_bad S c ≡ false
-  pub unlocked : (c : ℕ) (n : NodeParts) → slice_get S.nodes c ≡ Some n → 1 ≤ flight S (goes c) → held_by n.task ≡ 0
+  pub unlocked : (c : ℕ) (n : NodeParts) → slice_get S.nodes c ≡ Some n → 1 ≤ flight S (is_go_to c) → held_locks n.task ≡ 0
 
 -- 2. Locks.
 pub record AreLocks (S : State) : Type 0 where
   -- nobody waits for a lock without a holder
   pub free : (l : ℕ) (h : Lock) → lock_at S l ≡ Some h → h.holder ≡ None → h.queue ≡ []
   -- of the holder's grant, its task's holding and its release just one is under way; of other cores none
-  pub held : (l c : ℕ) → flight S (grants l c) + bit (has_lock S c l) + flight S (releases l c) ≡ holder_in c (lock_at S l)
+  pub held : (l c : ℕ) → flight S (is_grant_to l c) + bit (has_lock S c l) + flight S (is_release_of l c) ≡ holder_in c (lock_at S l)
   -- of a core that waits for the lock its request, its place in the queue and its grant: just one; of other cores none
-  pub awaited : (l c : ℕ) → flight S (acquires l c) + queued_in c (lock_at S l) + flight S (grants l c) ≡ bit (locks_in l (slice_get S.nodes c))
+  pub awaited : (l c : ℕ) → flight S (is_acquire_of l c) + queued_in c (lock_at S l) + flight S (is_grant_to l c) ≡ bit (node_is_locking l (slice_get S.nodes c))
   -- a grant carries the kept signature
   pub granted : (m : Mail) (lock : LockId) (s : Signature) → IsInFlight S m → m.message ≡ Grant lock s
       → (h : Lock) → lock_at S lock.0 ≡ Some h → s ≡ h.kept
@@ -154,7 +154,7 @@ pub record AreRegistrants (S : State) : Type 0 where
   -- a registrant has the word, registered or leaving
   pub has : (c w : ℕ) → IsRegistrant S c w → IsPending S c w ⊎ (IsSettled S c w ⊎ ((value : ℕ) × IsLeaving S c w value))
   -- who has it registered is its registrant, or is about to hear who is
-  pub told : (c w : ℕ) → IsSettled S c w → IsRegistrant S c w ⊎ (1 ≤ flight S (passes_to w c))
+  pub told : (c w : ℕ) → IsSettled S c w → IsRegistrant S c w ⊎ (1 ≤ flight S (is_reg_fwd_to w c))
 
 -- the task of a core may store a word with the locks that it holds
 pub record MayStore (S : State) (c w : ℕ) : Type 0 where
@@ -170,15 +170,15 @@ pub record MayStore (S : State) (c w : ℕ) : Type 0 where
 pub record ArePending (S : State) : Type 0 where
   pub one_core : (c d w : ℕ) → IsPending S c w → IsPending S d w → c ≡ d
   pub right : (c w : ℕ) → IsPending S c w → MayStore S c w
-  pub one_mail : (c w : ℕ) → IsPending S c w → OneOf (flight S (asks w c)) (flight S (passes_on w c)) (flight S (confirms w c))
-  pub before : (c w : ℕ) → IsPending S c w → 1 ≤ flight S (asks w c) → IsRegistrant S c w → ⊥
-  pub behind : (c w : ℕ) → IsPending S c w → 1 ≤ flight S (passes_on w c) + flight S (confirms w c) → IsRegistrant S c w
-  pub elsewhere : (c w : ℕ) → flight S (turns_back w c) ≡ 0
+  pub one_mail : (c w : ℕ) → IsPending S c w → OneOf (flight S (is_reg_req_of w c)) (flight S (is_reg_fwd_of w c)) (flight S (is_reg_ack_to w c))
+  pub before : (c w : ℕ) → IsPending S c w → 1 ≤ flight S (is_reg_req_of w c) → IsRegistrant S c w → ⊥
+  pub behind : (c w : ℕ) → IsPending S c w → 1 ≤ flight S (is_reg_fwd_of w c) + flight S (is_reg_ack_to w c) → IsRegistrant S c w
+  pub elsewhere : (c w : ℕ) → flight S (is_reg_fwd_to_itself w c) ≡ 0
 
 -- 5. Leaving words.
 pub record AreLeaving (S : State) : Type 0 where
-  pub one_mail : (c w value : ℕ) → IsLeaving S c w value → flight S (gives_back_value w c value) + flight S (frees w c) ≡ 1
-  pub given : (c w value : ℕ) → IsLeaving S c w value → 1 ≤ flight S (frees w c) → IsRegistrant S c w → ⊥
+  pub one_mail : (c w value : ℕ) → IsLeaving S c w value → flight S (is_write_back_with w c value) + flight S (is_wb_ack_to w c) ≡ 1
+  pub given : (c w value : ℕ) → IsLeaving S c w value → 1 ≤ flight S (is_wb_ack_to w c) → IsRegistrant S c w → ⊥
 
 -- a node's next instruction loads the word or stores a part of it
 abbrev pub NeedsValue : State → NodeParts → WordId → Type 0
@@ -208,10 +208,10 @@ pub record AreReads (S : State) : Type 0 where
   pub reading : (c : ℕ) (word : WordId) → waits_for S c (wait.TheVariants.Reading word) → IsReading S c word
   pub quiet : (c d : ℕ) (word : WordId) → waits_for S c (wait.TheVariants.Reading word) → IsPending S d word.0 → ⊥
   pub one_mail : (c : ℕ) (word : WordId) → waits_for S c (wait.TheVariants.Reading word)
-      → OneOf (flight S (seeks word.0 c)) (flight S (forwards word.0 c)) (flight S (replies word.0 c))
+      → OneOf (flight S (is_read_req_of word.0 c)) (flight S (is_read_fwd_of word.0 c)) (flight S (is_data_reply_to word.0 c))
   pub answered : (m : Mail) (word : WordId) (value : ℕ) → IsInFlight S m → m.message ≡ DataReply word value → value ≡ word_value S word.0
-  pub forwarded : (d w : ℕ) → 1 ≤ flight S (forwards_at w d) → IsAtOrHome S d w
-  pub owned : (d w value : ℕ) → 1 ≤ flight S (forwards_at w d) → owned_value (entry_at S d w) ≡ Some value → value ≡ word_value S w
+  pub forwarded : (d w : ℕ) → 1 ≤ flight S (is_read_fwd_to w d) → IsAtOrHome S d w
+  pub owned : (d w value : ℕ) → 1 ≤ flight S (is_read_fwd_to w d) → owned_value (entry_at S d w) ≡ Some value → value ≡ word_value S w
   pub filled : (c : ℕ) (n : NodeParts) (word : WordId) → slice_get S.nodes c ≡ Some n → n.waiting ≡ wait.TheVariants.Filled word
       → ((value : ℕ) × (marked : Bool) × (entry_of n word.0 ≡ Some (Valid value marked))) × NeedsValue S n word
 
@@ -287,7 +287,7 @@ pub record HasGuardedWriter (S : State) (c w : ℕ) : Type 0 where
   pub unheld : has_lock S c lock ≡ false
   pub state : Lock
   pub there : lock_at S lock ≡ Some state
-  pub signed : holds (lock_signature S lock state) w S.keeper.phase ≡ true
+  pub signed : may_hold (lock_signature S lock state) w S.keeper.phase ≡ true
 
 -- a core is still in the phase before the keeper's, which may have written the word, and its copy isn't marked
 pub record IsBehind (S : State) (c w : ℕ) (marked : Bool) : Type 0 where

@@ -18,11 +18,11 @@ Test = Actor → Message → Bool
 abbrev pub weighs : State → (Mail → ℕ) → ℕ
 weighs S weight = sum_by weight S.mails
 
-abbrev pub counted : Test → Mail → ℕ
-counted test m = bit (test m.to m.message)
+abbrev pub mail_count : Test → Mail → ℕ
+mail_count test m = bit (test m.to m.message)
 
 abbrev pub flight : State → Test → ℕ
-flight S test = weighs S (counted test)
+flight S test = weighs S (mail_count test)
 
 -- whether an address is this core
 abbrev pub is_to : ℕ → Actor → Bool
@@ -30,86 +30,86 @@ is_to c (Core core) = core.0 == c
 is_to c _ = false
 
 -- a request of core c to be the registrant of word w
-abbrev pub asks : ℕ → ℕ → Test
-asks w c to (RegReq word core) = (word.0 == w) && (core.0 == c)
-asks w c to _ = false
+abbrev pub is_reg_req_of : ℕ → ℕ → Test
+is_reg_req_of w c to (RegReq word core) = (word.0 == w) && (core.0 == c)
+is_reg_req_of w c to _ = false
 
 -- word that core c is the registrant of w now, on its way to an earlier one: to any core, and to core d
-abbrev pub passes_on : ℕ → ℕ → Test
-passes_on w c to (RegFwd word core) = (word.0 == w) && (core.0 == c)
-passes_on w c to _ = false
+abbrev pub is_reg_fwd_of : ℕ → ℕ → Test
+is_reg_fwd_of w c to (RegFwd word core) = (word.0 == w) && (core.0 == c)
+is_reg_fwd_of w c to _ = false
 
-abbrev pub passes_to : ℕ → ℕ → Test
-passes_to w d to (RegFwd word core) = (word.0 == w) && is_to d to
-passes_to w d to _ = false
+abbrev pub is_reg_fwd_to : ℕ → ℕ → Test
+is_reg_fwd_to w d to (RegFwd word core) = (word.0 == w) && is_to d to
+is_reg_fwd_to w d to _ = false
 
 -- a RegFwd for a core to that core itself
-abbrev pub turns_back : ℕ → ℕ → Test
-turns_back w c to (RegFwd word core) = (word.0 == w) && ((core.0 == c) && is_to c to)
-turns_back w c to _ = false
+abbrev pub is_reg_fwd_to_itself : ℕ → ℕ → Test
+is_reg_fwd_to_itself w c to (RegFwd word core) = (word.0 == w) && ((core.0 == c) && is_to c to)
+is_reg_fwd_to_itself w c to _ = false
 
 -- the acknowledgement of core c's registration
-abbrev pub confirms : ℕ → ℕ → Test
-confirms w c to (RegAck word) = (word.0 == w) && is_to c to
-confirms w c to _ = false
+abbrev pub is_reg_ack_to : ℕ → ℕ → Test
+is_reg_ack_to w c to (RegAck word) = (word.0 == w) && is_to c to
+is_reg_ack_to w c to _ = false
 
 -- a write-back of w by core c, with any value and with value v, and its acknowledgement
-abbrev pub gives_back : ℕ → ℕ → Test
-gives_back w c to (WriteBack word value core) = (word.0 == w) && (core.0 == c)
-gives_back w c to _ = false
+abbrev pub is_write_back_of : ℕ → ℕ → Test
+is_write_back_of w c to (WriteBack word value core) = (word.0 == w) && (core.0 == c)
+is_write_back_of w c to _ = false
 
-abbrev pub gives_back_value : ℕ → ℕ → ℕ → Test
-gives_back_value w c v to (WriteBack word value core) = (word.0 == w) && ((core.0 == c) && (value == v))
-gives_back_value w c v to _ = false
+abbrev pub is_write_back_with : ℕ → ℕ → ℕ → Test
+is_write_back_with w c v to (WriteBack word value core) = (word.0 == w) && ((core.0 == c) && (value == v))
+is_write_back_with w c v to _ = false
 
-abbrev pub frees : ℕ → ℕ → Test
-frees w c to (WbAck word) = (word.0 == w) && is_to c to
-frees w c to _ = false
+abbrev pub is_wb_ack_to : ℕ → ℕ → Test
+is_wb_ack_to w c to (WbAck word) = (word.0 == w) && is_to c to
+is_wb_ack_to w c to _ = false
 
 -- a read of w for core c: at its home, passed on to any core, and answered; a read of w that is passed on to core d
-abbrev pub seeks : ℕ → ℕ → Test
-seeks w c to (ReadReq word reader) = (word.0 == w) && (reader.0 == c)
-seeks w c to _ = false
+abbrev pub is_read_req_of : ℕ → ℕ → Test
+is_read_req_of w c to (ReadReq word reader) = (word.0 == w) && (reader.0 == c)
+is_read_req_of w c to _ = false
 
-abbrev pub forwards : ℕ → ℕ → Test
-forwards w c to (ReadFwd word reader) = (word.0 == w) && (reader.0 == c)
-forwards w c to _ = false
+abbrev pub is_read_fwd_of : ℕ → ℕ → Test
+is_read_fwd_of w c to (ReadFwd word reader) = (word.0 == w) && (reader.0 == c)
+is_read_fwd_of w c to _ = false
 
-abbrev pub forwards_at : ℕ → ℕ → Test
-forwards_at w d to (ReadFwd word reader) = (word.0 == w) && is_to d to
-forwards_at w d to _ = false
+abbrev pub is_read_fwd_to : ℕ → ℕ → Test
+is_read_fwd_to w d to (ReadFwd word reader) = (word.0 == w) && is_to d to
+is_read_fwd_to w d to _ = false
 
-abbrev pub replies : ℕ → ℕ → Test
-replies w c to (DataReply word value) = (word.0 == w) && is_to c to
-replies w c to _ = false
+abbrev pub is_data_reply_to : ℕ → ℕ → Test
+is_data_reply_to w c to (DataReply word value) = (word.0 == w) && is_to c to
+is_data_reply_to w c to _ = false
 
 -- an answer with a value that isn't the word's in a memory
-abbrev pub misinforms : (ℕ → ℕ) → Test
-misinforms memory to (DataReply word value) = cond (value == memory word.0) false true
-misinforms memory to _ = false
+abbrev pub is_false_data_reply : (ℕ → ℕ) → Test
+is_false_data_reply memory to (DataReply word value) = cond (value == memory word.0) false true
+is_false_data_reply memory to _ = false
 
 -- core c asks for lock l, gives it up, and gets it
-abbrev pub acquires : ℕ → ℕ → Test
-acquires l c to (Acquire lock core) = (lock.0 == l) && (core.0 == c)
-acquires l c to _ = false
+abbrev pub is_acquire_of : ℕ → ℕ → Test
+is_acquire_of l c to (Acquire lock core) = (lock.0 == l) && (core.0 == c)
+is_acquire_of l c to _ = false
 
-abbrev pub releases : ℕ → ℕ → Test
-releases l c to (Release lock core signature) = (lock.0 == l) && (core.0 == c)
-releases l c to _ = false
+abbrev pub is_release_of : ℕ → ℕ → Test
+is_release_of l c to (Release lock core signature) = (lock.0 == l) && (core.0 == c)
+is_release_of l c to _ = false
 
-abbrev pub grants : ℕ → ℕ → Test
-grants l c to (Grant lock signature) = (lock.0 == l) && is_to c to
-grants l c to _ = false
+abbrev pub is_grant_to : ℕ → ℕ → Test
+is_grant_to l c to (Grant lock signature) = (lock.0 == l) && is_to c to
+is_grant_to l c to _ = false
 
 -- core c has arrived; the next phase begins for it; the run is over for it
-abbrev pub arrives : ℕ → Test
-arrives c to (Arrived core bad) = core.0 == c
-arrives c to _ = false
+abbrev pub is_arrival_of : ℕ → Test
+is_arrival_of c to (Arrived core bad) = core.0 == c
+is_arrival_of c to _ = false
 
-abbrev pub goes : ℕ → Test
-goes c to (Go phase) = is_to c to
-goes c to _ = false
+abbrev pub is_go_to : ℕ → Test
+is_go_to c to (Go phase) = is_to c to
+is_go_to c to _ = false
 
-abbrev pub halts : ℕ → Test
-halts c to Halt = is_to c to
-halts c to _ = false
+abbrev pub is_halt_to : ℕ → Test
+is_halt_to c to Halt = is_to c to
+is_halt_to c to _ = false

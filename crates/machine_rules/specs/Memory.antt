@@ -28,26 +28,26 @@ pending_among [] w = None
 pending_among (n ∷ ns) w = or_else (pending_value (entry_of n w)) (pending_among ns w)
 
 -- the value of the entry that a core has of a word
-abbrev pub value_of : Option Entry → ℕ
-value_of None = 0
-value_of (Some (Valid value marked)) = value
-value_of (Some (Registered value pending)) = value
-value_of (Some (Leaving value)) = value
+abbrev pub value_in_entry : Option Entry → ℕ
+value_in_entry None = 0
+value_in_entry (Some (Valid value marked)) = value
+value_in_entry (Some (Registered value pending)) = value
+value_in_entry (Some (Leaving value)) = value
 
 -- the value that the home of a word has, or its registrant
 abbrev pub kept_value : State → ℕ → Option BankWord → ℕ
 kept_value S w None = 0
 kept_value S w (Some (Home value)) = value
-kept_value S w (Some (Reg core)) = value_of (entry_at S core.0 w)
+kept_value S w (Some (Reg core)) = value_in_entry (entry_at S core.0 w)
 
-abbrev pub value_by : State → ℕ → Option ℕ → ℕ
-value_by S w (Some value) = value
-value_by S w None = kept_value S w (home_at S w)
+abbrev pub value_or_kept : State → ℕ → Option ℕ → ℕ
+value_or_kept S w (Some value) = value
+value_or_kept S w None = kept_value S w (home_at S w)
 
 -- the value of a word in a state: that of its pending entry where a core has one, else the one at its home, or the one in
 -- its registrant's entry
 unfoldable pub word_value : State → ℕ → ℕ
-word_value S w = value_by S w (pending_among S.nodes w)
+word_value S w = value_or_kept S w (pending_among S.nodes w)
 
 -- all data words of a state
 abbrev pub memory_of : State → List ℕ

@@ -14,8 +14,8 @@ use Rattle.message_net.specs.declared.message.Mail.{Mail}
 use Rattle.message_net.specs.declared.message.Message.{Message}
 use Rattle.message_net.specs.declared.message.Outgoing.{Outgoing}
 use Rattle.message_net.specs.Kind.{kind_of}
-use Rattle.message_net.specs.Pool.{count_of, taken}
-use Rattle.message_net.specs.Mail.{place_of, mails_with, all_mails}
+use Rattle.message_net.specs.Pool.{count_of, removed}
+use Rattle.message_net.specs.Mail.{actor_index, mails_with, all_mails}
 use Rattle.registry_bank.specs.Bank.{BankParts, bank_gets}
 use Rattle.phase_barrier.specs.declared.keeper.Verdict.{Verdict}
 use Rattle.phase_barrier.specs.Barrier.{Barrier, keeper_gets}
@@ -27,11 +27,11 @@ use Rattle.machine_rules.specs.State.{State}
 use Rattle.machine_rules.specs.declared.stepped.Stepped.{Stepped}
 
 -- where an actor stands among the actors, and the number of its next mail
-abbrev pub place_in : State → Actor → ℕ
-place_in S actor = place_of S.setting.shape.cores S.setting.shape.banks actor
+abbrev pub actor_index_in : State → Actor → ℕ
+actor_index_in S actor = actor_index S.setting.shape.cores S.setting.shape.banks actor
 
-abbrev pub number_of : State → Actor → ℕ
-number_of S actor = slice_index S.numbers (place_in S actor)
+abbrev pub next_number : State → Actor → ℕ
+next_number S actor = slice_index S.numbers (actor_index_in S actor)
 
 -- an actor that sends something has one more number used
 abbrev pub numbers_with : ℕ → Option Outgoing → List ℕ → List ℕ
@@ -41,12 +41,12 @@ numbers_with place (Some out) numbers = slice_set numbers place (slice_index num
 -- what an actor sends is in flight, with the actor's next number
 abbrev pub sends : State → Actor → Option Outgoing → State
 sends S from sent =
-    record S { mails = mails_with from (number_of S from) sent S.mails; numbers = numbers_with (place_in S from) sent S.numbers }
+    record S { mails = mails_with from (next_number S from) sent S.mails; numbers = numbers_with (actor_index_in S from) sent S.numbers }
 
 -- the letters of the keeper are in flight, with its next numbers in their order
 abbrev pub posts : State → List Outgoing → State
 posts S sent =
-    record S { mails = all_mails Keeper (number_of S Keeper) sent S.mails; numbers = slice_set S.numbers (place_in S Keeper) (number_of S Keeper + length sent) }
+    record S { mails = all_mails Keeper (next_number S Keeper) sent S.mails; numbers = slice_set S.numbers (actor_index_in S Keeper) (next_number S Keeper + length sent) }
 
 -- a core's node becomes another, and a bank another, with what they send
 abbrev pub core_does : State → CoreId → NodeParts → Option Outgoing → State
@@ -98,7 +98,7 @@ unfoldable pub next : State → Event → State
 next S (Instr core) = does_instr S core (slice_get S.nodes core.0)
 next S (Evict core word) = does_evict S core word (slice_get S.nodes core.0)
 next S (Arrive core) = does_arrive S core (slice_get S.nodes core.0)
-next S (Handle id) = handles S (taken id S.mails)
+next S (Handle id) = handles S (removed id S.mails)
 
 -- whether a node there is passes a test
 abbrev pub when_there : (NodeParts → Bool) → Option NodeParts → Bool
@@ -113,12 +113,12 @@ enabled S (Arrive core) = when_there may_arrive (slice_get S.nodes core.0)
 enabled S (Handle id) = nat_lt 0 (count_of id S.mails)
 
 -- the load that an event completes, if it completes one
-abbrev pub seen_by : Setting → Option NodeParts → Option LoadSeen
-seen_by C None = None
-seen_by C (Some n) = (instructed C n).1.seen
+abbrev pub load_completed : Setting → Option NodeParts → Option LoadSeen
+load_completed C None = None
+load_completed C (Some n) = (instructed C n).1.seen
 
 unfoldable pub seen_in : State → Event → Option LoadSeen
-seen_in S (Instr core) = seen_by S.setting (slice_get S.nodes core.0)
+seen_in S (Instr core) = load_completed S.setting (slice_get S.nodes core.0)
 seen_in S _ = None
 
 -- the lock that an event grants, if it grants one
@@ -126,16 +126,16 @@ abbrev pub granted_by : Setting → Message → Option NodeParts → Option Gran
 granted_by C message None = None
 granted_by C message (Some n) = (node_gets C n message).1.granted
 
-abbrev pub granted_at : State → Actor → Message → Option Granted
-granted_at S (Core core) message = granted_by S.setting message (slice_get S.nodes core.0)
-granted_at S _ message = None
+abbrev pub grant_of_mail : State → Actor → Message → Option Granted
+grant_of_mail S (Core core) message = granted_by S.setting message (slice_get S.nodes core.0)
+grant_of_mail S _ message = None
 
 abbrev pub granted_with : State → Option Mail → Option Granted
 granted_with S None = None
-granted_with S (Some m) = granted_at S m.to m.message
+granted_with S (Some m) = grant_of_mail S m.to m.message
 
 unfoldable pub granted_in : State → Event → Option Granted
-granted_in S (Handle id) = granted_with S (taken id S.mails).0
+granted_in S (Handle id) = granted_with S (removed id S.mails).0
 granted_in S _ = None
 
 -- the kind of an event: for the handling of a mail it is that of its message
@@ -147,8 +147,8 @@ unfoldable pub kind_in : State → Event → EventKind
 kind_in S (Instr core) = kind.TheVariants.Instr
 kind_in S (Evict core word) = kind.TheVariants.Evict
 kind_in S (Arrive core) = kind.TheVariants.Arrive
-kind_in S (Handle id) = kind_with (taken id S.mails).0
+kind_in S (Handle id) = kind_with (removed id S.mails).0
 
 -- what an event tells: its kind, the load that it completes, and the lock that it grants
-abbrev pub told : State → Event → Stepped
-told S e = record { kind = kind_in S e; seen = seen_in S e; granted = granted_in S e }
+abbrev pub observed : State → Event → Stepped
+observed S e = record { kind = kind_in S e; seen = seen_in S e; granted = granted_in S e }

@@ -2,7 +2,7 @@
 use Rattle.std.specs.Prelude.{◌≡◌, ◌↔◌, List, IsPermutation}
 use Rattle.message_net.specs.declared.event.Event.{Event}
 use Rattle.machine_rules.specs.State.{State}
-use Rattle.machine_rules.specs.Next.{next, enabled, told}
+use Rattle.machine_rules.specs.Next.{next, enabled, observed}
 use Rattle.machine_rules.specs.Memory.{memory_of}
 use Rattle.machine_rules.specs.Runs.{after, IsRun}
 use Rattle.machine_rules.specs.Coherent.{Coherent}
@@ -17,7 +17,7 @@ pub record GoOnAlike (S T : State) : Type 0 where
   -- an event may come in both states or in neither
   pub comes : (e : Event) → enabled S e ≡ enabled T e
   -- it tells the same, and the states that it leads to differ in that order alone
-  pub tells : (e : Event) → told S e ≡ told T e
+  pub tells : (e : Event) → observed S e ≡ observed T e
   pub leads : (e : Event) → IsReordered (next S e) (next T e)
   -- both states are coherent or neither, and they show the same words
   pub coherent : Coherent S ↔ Coherent T

@@ -2,7 +2,7 @@
 use Rattle.std.specs.Prelude.{◌≡◌, ◌≢◌, ◌⊎◌, ℕ, true, slice_get, Some}
 use Rattle.dn_base.specs.declared.ids.LockId.{LockId}
 use Rattle.registration_protocol.specs.declared.node.NodeWait as wait
-use Rattle.registration_protocol.specs.Node.{NodeParts, goes_on}
+use Rattle.registration_protocol.specs.Node.{NodeParts, is_running}
 use Rattle.machine_rules.specs.State.{State}
 use Rattle.machine_rules.specs.Coherent.{waits_for, has_lock}
 
@@ -15,7 +15,7 @@ pub record HasOpenTask (S : State) (c : ℕ) : Type 0 where
   pub node : NodeParts
   pub found : slice_get S.nodes c ≡ Some node
   pub phase : node.phase ≡ S.keeper.phase
-  pub goes : goes_on node.task ≡ true
+  pub goes : is_running node.task ≡ true
 
 -- a core waits for a lock that the task of another core holds
 pub record IsLockedOut (S : State) (c : ℕ) : Type 0 where

@@ -10,7 +10,7 @@ use Rattle.phase_barrier.specs.Barrier.{all_arrived}
 use Rattle.registration_protocol.specs.Node.{NodeParts, Setting}
 use Rattle.registration_protocol.specs.Fit.{IsContext, Fits}
 use Rattle.machine_rules.specs.State.{State, home_at, lock_at}
-use Rattle.machine_rules.specs.Next.{place_in}
+use Rattle.machine_rules.specs.Next.{actor_index_in}
 use Rattle.machine_rules.specs.Flight.{bit}
 
 -- a setting of a machine: a program that is checked, and plans, a shape and fuel of it
@@ -48,7 +48,7 @@ pub record IsMachine (S : State) : Type 0 where
   pub phases : S.keeper.phases ≡ length S.setting.program.phases
   -- no two mails have one id, and each has a number that its sender has used
   pub distinct : AreDistinct S.mails
-  pub numbered : (place : ℕ) (m : Mail) → slice_get S.mails place ≡ Some m → m.id.number < slice_index S.numbers (place_in S m.id.sender)
+  pub numbered : (place : ℕ) (m : Mail) → slice_get S.mails place ≡ Some m → m.id.number < slice_index S.numbers (actor_index_in S m.id.sender)
 
 -- how often the keeper has posted letters, at the most
 abbrev pub rounds : State → ℕ

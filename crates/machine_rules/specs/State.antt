@@ -5,10 +5,10 @@ use Rattle.message_net.specs.declared.message.Mail.{Mail}
 use Rattle.word_cache.specs.declared.row.Entry.{Entry}
 use Rattle.queue_lock.specs.Lock.{Lock}
 use Rattle.registry_bank.specs.declared.bank.BankWord.{BankWord}
-use Rattle.registry_bank.specs.Bank.{BankParts, bank_word, bank_lock, opened_bank}
+use Rattle.registry_bank.specs.Bank.{BankParts, bank_word, bank_lock, initial_bank}
 use Rattle.phase_barrier.specs.Barrier.{Barrier}
-use Rattle.phase_barrier.specs.Barrier.{opened as opened_barrier}
-use Rattle.registration_protocol.specs.Node.{NodeParts, Setting, entry_of, opened as opened_node}
+use Rattle.phase_barrier.specs.Barrier.{initial_barrier as opened_barrier}
+use Rattle.registration_protocol.specs.Node.{NodeParts, Setting, entry_of, initial_node as opened_node}
 
 -- the program with its plans, shape and fuel; a node for each core and a bank for each number, in the order of their
 -- numbers; the keeper; the mails in flight; and the number of the next mail of each actor: cores, banks, keeper
@@ -21,16 +21,16 @@ pub record State : Type 0 where
   pub numbers : List ℕ
 
 -- the banks as a run begins
-abbrev pub opened_banks : Setting → List BankParts
-opened_banks C = map (λ (bank : ℕ). opened_bank bank C.shape.banks C.shape.cores C.program.memory (length C.program.locks)) (range_with_len 0 C.shape.banks)
+abbrev pub initial_banks : Setting → List BankParts
+initial_banks C = map (λ (bank : ℕ). initial_bank bank C.shape.banks C.shape.cores C.program.memory (length C.program.locks)) (range_with_len 0 C.shape.banks)
 
 -- the machine as a run begins: each node in the first phase, the first memory in the banks, and no mail in flight
-unfoldable pub opened : Setting → State
-opened C =
+unfoldable pub initial_state : Setting → State
+initial_state C =
     record {
       setting = C;
       nodes = map (opened_node C) (range_with_len 0 C.shape.cores);
-      banks = opened_banks C;
+      banks = initial_banks C;
       keeper = opened_barrier C.shape.cores (length C.program.phases);
       mails = [];
       numbers = replicate (C.shape.cores + C.shape.banks + 1) 0;

@@ -3,7 +3,7 @@ ghost use Rattle.std.specs.Prelude.{◌≡◌, ℕ, ◌+◌, ◌*◌, ◌≤◌,
 ghost use Rattle.dn_base.specs.declared.ids.LoadSeen.{LoadSeen};
 ghost use Rattle.message_net.specs.declared.event.Event.{Event};
 ghost use Rattle.registration_protocol.specs.Node.{Setting};
-ghost use Rattle.machine_rules.specs.State.{State, opened};
+ghost use Rattle.machine_rules.specs.State.{State, initial_state};
 ghost use Rattle.machine_rules.specs.Next.{next, enabled, seen_in};
 ghost use Rattle.machine_rules.specs.Memory.{memory_of};
 ghost use Rattle.machine_rules.specs.Runs.{after, IsRun, IsCompleteRun, memory_after};
@@ -20,43 +20,43 @@ pub fn a_state_stays_sound()
 
 /// The machine of a checked program is sound as a run begins.
 pub fn the_opened_machine_is_sound()
-    ensures { (C : Setting) → IsReady C → IsSound (opened C) 0 }
+    ensures { (C : Setting) → IsReady C → IsSound (initial_state C) 0 }
 {}
 
 /// Every run of the machine of a checked program leads to a coherent state.
 pub fn every_run_leads_to_a_coherent_state()
-    ensures { (C : Setting) (events : List Event) → IsReady C → IsRun (opened C) events → Coherent (after (opened C) events) }
+    ensures { (C : Setting) (events : List Event) → IsReady C → IsRun (initial_state C) events → Coherent (after (initial_state C) events) }
 {}
 
 /// The words that a state shows are the memory to which the stores of its run were applied as they retired.
 pub fn a_state_shows_the_stores_of_its_run()
-    ensures { (C : Setting) (events : List Event) → IsReady C → IsRun (opened C) events
-        → memory_of (after (opened C) events) ≡ memory_after C.program.memory (opened C) events }
+    ensures { (C : Setting) (events : List Event) → IsReady C → IsRun (initial_state C) events
+        → memory_of (after (initial_state C) events) ≡ memory_after C.program.memory (initial_state C) events }
 {}
 
 /// A load that retires in a run reads the memory to which the stores before it were applied.
 pub fn each_load_reads_the_stores_before_it()
-    ensures { (C : Setting) (events : List Event) (e : Event) (seen : LoadSeen) → IsReady C → IsRun (opened C) events
-        → enabled (after (opened C) events) e ≡ true → seen_in (after (opened C) events) e ≡ Some seen
-        → seen.value ≡ slice_index (memory_after C.program.memory (opened C) events) seen.word.0 }
+    ensures { (C : Setting) (events : List Event) (e : Event) (seen : LoadSeen) → IsReady C → IsRun (initial_state C) events
+        → enabled (after (initial_state C) events) e ≡ true → seen_in (after (initial_state C) events) e ≡ Some seen
+        → seen.value ≡ slice_index (memory_after C.program.memory (initial_state C) events) seen.word.0 }
 {}
 
 /// Where no event may come any more, each node is halted, or some task of the phase hasn't ended and each such task waits for
 /// a lock that the task of another core holds.
 pub fn a_complete_run_is_at_rest()
-    ensures { (C : Setting) (events : List Event) → IsReady C → IsCompleteRun (opened C) events → IsAtRest (after (opened C) events) }
+    ensures { (C : Setting) (events : List Event) → IsReady C → IsCompleteRun (initial_state C) events → IsAtRest (after (initial_state C) events) }
 {}
 
 /// The events of a run, complete or not, are at most 12 for each instruction that a task has retired and for each task that
 /// has started, and 3 for each core in each phase of the program.
 pub fn a_run_has_few_events()
-    ensures { (C : Setting) (events : List Event) → IsReady C → IsRun (opened C) events
-        → length events ≤ 12 * (retired_in (opened C) events + started_in (opened C) events) + 3 * (C.shape.cores * length C.program.phases) }
+    ensures { (C : Setting) (events : List Event) → IsReady C → IsRun (initial_state C) events
+        → length events ≤ 12 * (retired_in (initial_state C) events + started_in (initial_state C) events) + 3 * (C.shape.cores * length C.program.phases) }
 {}
 
 /// No run goes on for ever: within the limits of programs and of their fuel none has more events than this.
 pub fn no_run_goes_on_for_ever()
-    ensures { (C : Setting) (events : List Event) → IsReady C → IsRun (opened C) events → length events ≤ 25169664 }
+    ensures { (C : Setting) (events : List Event) → IsReady C → IsRun (initial_state C) events → length events ≤ 25169664 }
 {}
 
 /// The order of the mails in flight tells nothing: in another order the same events may come, tell the same and lead to states that

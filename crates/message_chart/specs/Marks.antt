@@ -25,8 +25,8 @@ unfoldable pub place : List ℕ → List ℕ → ℕ → ℕ → List ℕ
 place x_name y_name x y = attribute x_name x ++ attribute y_name y
 
 -- a line of a class from one point to another
-unfoldable pub segment : List ℕ → ℕ → ℕ → ℕ → ℕ → List ℕ
-segment class x1 y1 x2 y2 = element (codes "line") class ++ place (codes "x1") (codes "y1") x1 y1 ++ place (codes "x2") (codes "y2") x2 y2 ++ codes "/>\n"
+unfoldable pub line_element : List ℕ → ℕ → ℕ → ℕ → ℕ → List ℕ
+line_element class x1 y1 x2 y2 = element (codes "line") class ++ place (codes "x1") (codes "y1") x1 y1 ++ place (codes "x2") (codes "y2") x2 y2 ++ codes "/>\n"
 
 -- the dot of an event
 unfoldable pub dot : ℕ → ℕ → List ℕ

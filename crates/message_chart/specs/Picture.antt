@@ -5,7 +5,7 @@ use Rattle.std.specs.Fmt.{decimal}
 use Rattle.text_pieces.specs.Pieces.{newline, space}
 use Rattle.message_net.specs.declared.actor.Actor.{Actor}
 use Rattle.message_net.specs.declared.actor.Actor.TheVariants.{Core, Bank, Keeper}
-use Rattle.message_net.specs.Mail.{place_of}
+use Rattle.message_net.specs.Mail.{actor_index}
 use Rattle.run_report.specs.Run.{event_word}
 use Rattle.message_chart.specs.declared.chart.Chart.{Chart}
 use Rattle.message_chart.specs.declared.chart.ChartRow.{ChartRow}
@@ -13,7 +13,7 @@ use Rattle.message_chart.specs.declared.chart.Origin.{Origin}
 use Rattle.message_chart.specs.declared.states.WordState.{WordState}
 use Rattle.message_chart.specs.declared.states.WordState.TheVariants.{Absent, Valid, Touched, Registered, Pending, Leaving, Home, At}
 use Rattle.message_chart.specs.declared.states.WordChange.{WordChange}
-use Rattle.message_chart.specs.Marks.{x_of, y_of, top, attribute, element, segment, dot, words_at}
+use Rattle.message_chart.specs.Marks.{x_of, y_of, top, attribute, element, line_element, dot, words_at}
 
 -- ---- words
 
@@ -40,7 +40,7 @@ state_words (At core) = named (codes "at core") core.0
 
 -- the middle of an actor's column, and of the column behind the last one
 abbrev pub column : Chart → Actor → ℕ
-column chart actor = x_of (place_of chart.cores chart.banks actor)
+column chart actor = x_of (actor_index chart.cores chart.banks actor)
 
 abbrev pub side : Chart → ℕ
 side chart = x_of (chart.cores + chart.banks + 1)
@@ -79,7 +79,7 @@ opening chart =
 unfoldable pub lane : Chart → Actor → List ℕ
 lane chart actor =
     words_at (codes "actor") (column chart actor) 20 (actor_name actor)
-    ++ segment (codes "lane") (column chart actor) top (column chart actor) (y_of chart.lines)
+    ++ line_element (codes "lane") (column chart actor) top (column chart actor) (y_of chart.lines)
 
 abbrev pub core_lane : Chart → ℕ → List ℕ
 core_lane chart core = lane chart (Core (record { 0 = core }))
@@ -102,7 +102,7 @@ path chart = element (codes "polyline") (codes "path") ++ codes " points='" ++ f
 -- the arrow of the mail that an event handles
 abbrev pub arrow_from : Chart → ChartRow → Option Origin → List ℕ
 arrow_from chart row None = []
-arrow_from chart row (Some mail) = segment (codes "mail") (column chart mail.sender) (height_of mail.line) (column chart row.actor) (y_of row.line)
+arrow_from chart row (Some mail) = line_element (codes "mail") (column chart mail.sender) (height_of mail.line) (column chart row.actor) (y_of row.line)
 
 abbrev pub arrow : Chart → ChartRow → List ℕ
 arrow chart row = arrow_from chart row row.mail
@@ -123,12 +123,12 @@ kind_words chart row =
     else words_at (codes "behind") (column chart row.actor + 8) (y_of row.line + 4) (event_word row.kind)
 
 -- what becomes of a word
-unfoldable pub becomes : WordChange → List ℕ
-becomes change = named (codes "word") change.word.0 ++ codes ": " ++ state_words change.before ++ codes " &#8594; " ++ state_words change.after
+unfoldable pub state_change : WordChange → List ℕ
+state_change change = named (codes "word") change.word.0 ++ codes ": " ++ state_words change.before ++ codes " &#8594; " ++ state_words change.after
 
 -- a change, on the line below the one before it
 unfoldable pub change_words : ℕ → WordChange → List ℕ
-change_words x change = codes "<tspan" ++ attribute (codes "x") x ++ attribute (codes "dy") 18 ++ codes ">" ++ becomes change ++ codes "</tspan>"
+change_words x change = codes "<tspan" ++ attribute (codes "x") x ++ attribute (codes "dy") 18 ++ codes ">" ++ state_change change ++ codes "</tspan>"
 
 -- the changes of an event, the first of them beside its dot
 abbrev pub changes_beside : Chart → ChartRow → List WordChange → List ℕ

@@ -1,5 +1,5 @@
 ghost use Rattle.std.specs.Prelude.{◌≡◌, ◌≤◌, ◌++◌, OnOk};
-ghost use Rattle.message_chart.specs.Marks.{attribute, dot, element, place, segment, words_begin, words_end, x_of, y_of};
+ghost use Rattle.message_chart.specs.Marks.{attribute, dot, element, place, line_element, words_begin, words_end, x_of, y_of};
 
 use dn_base::Memory;
 use text_pieces::{push, push_long};
@@ -61,14 +61,14 @@ fn push_place(out: &mut Vec<u8>, x: &[u8], y: &[u8], at: Point) -> Result<(), Me
 }
 
 /// Adds a line of a class from one point to another.
-#[tactic(auto, unfolding(crate::specs::Marks::segment))]
+#[tactic(auto, unfolding(crate::specs::Marks::line_element))]
 pub(crate) fn push_segment(
     out: &mut Vec<u8>,
     class: &[u8],
     from: Point,
     to: Point,
 ) -> Result<(), Memory>
-    ensures { OnOk result (out.new.items ≡ out.old.items ++ segment class.now from.x from.y to.x to.y) }
+    ensures { OnOk result (out.new.items ≡ out.old.items ++ line_element class.now from.x from.y to.x to.y) }
 {
     push_element(out, b"line", class)?;
     push_place(out, b"x1", b"y1", from)?;

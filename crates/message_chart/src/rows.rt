@@ -1,7 +1,7 @@
 ghost use Rattle.std.specs.Prelude.{◌≡◌, ◌≤◌, ◌++◌, flat_map, OnOk};
-ghost use Rattle.message_net.specs.Mail.{place_of};
+ghost use Rattle.message_net.specs.Mail.{actor_index};
 ghost use Rattle.message_chart.specs.Marks.{x_of, y_of};
-ghost use Rattle.message_chart.specs.Picture.{actor_name, arrow, arrow_from, becomes, change_words, changes_beside, column, comes_from_right, height_of, kind_words, named, number_words, point, row_words, side, state_words};
+ghost use Rattle.message_chart.specs.Picture.{actor_name, arrow, arrow_from, state_change, change_words, changes_beside, column, comes_from_right, height_of, kind_words, named, number_words, point, row_words, side, state_words};
 
 use crate::chart::{Chart, ChartRow, Origin};
 use crate::marks::{
@@ -195,9 +195,9 @@ fn push_kind(out: &mut Vec<u8>, chart: &Chart, row: &ChartRow) -> Result<(), Mem
 }
 
 /// Adds what becomes of a word.
-#[tactic(auto, unfolding(crate::specs::Picture::becomes))]
+#[tactic(auto, unfolding(crate::specs::Picture::state_change))]
 fn push_becomes(out: &mut Vec<u8>, change: WordChange) -> Result<(), Memory>
-    ensures { OnOk result (out.new.items ≡ out.old.items ++ becomes change) }
+    ensures { OnOk result (out.new.items ≡ out.old.items ++ state_change change) }
 {
     push_named(out, b"word", change.word.0)?;
     push(out, b": ")?;

@@ -12,15 +12,15 @@ use Rattle.message_net.specs.declared.message.Outgoing.{Outgoing}
 use Rattle.message_net.specs.Id.{same_actor, same_id}
 use Rattle.message_net.specs.Pool.{of_id, count_of, AreDistinct, posted}
 use Rattle.message_net.proofs.PoolLemmas.{same_actor-true, AreDistinct-posted}
-use Rattle.message_net.specs.Mail.{has_actor, place_of, mail_of, mails_with, mails_of, all_mails}
+use Rattle.message_net.specs.Mail.{has_actor, actor_index, mail_of, mails_with, mails_of, all_mails}
 
 -- each actor of a machine has a place of its own
-pub place_of-within : (cores banks : ℕ) (a : Actor) → has_actor cores banks a ≡ true → place_of cores banks a < cores + banks + 1
+pub place_of-within : (cores banks : ℕ) (a : Actor) → has_actor cores banks a ≡ true → actor_index cores banks a < cores + banks + 1
 place_of-within cores banks (Core core) there = grind (arith, nat_tests)
 place_of-within cores banks (Bank bank) there = grind (arith, nat_tests)
 place_of-within cores banks Keeper there = omega arith
 
-pub place_of-own : (cores banks : ℕ) (a b : Actor) → has_actor cores banks a ≡ true → has_actor cores banks b ≡ true → place_of cores banks a ≡ place_of cores banks b → a ≡ b
+pub place_of-own : (cores banks : ℕ) (a b : Actor) → has_actor cores banks a ≡ true → has_actor cores banks b ≡ true → actor_index cores banks a ≡ actor_index cores banks b → a ≡ b
 place_of-own cores banks (Core a) (Core b) first second same = grind (arith, nat_tests)
 place_of-own cores banks (Core a) (Bank b) first second same = absurd (grind (arith, nat_tests))
 place_of-own cores banks (Core a) Keeper first second same = absurd (grind (arith, nat_tests))

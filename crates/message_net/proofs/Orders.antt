@@ -9,7 +9,7 @@ use Rattle.std.proofs.lemmas.Bool.Decides.{nat_tests}
 use Rattle.message_net.specs.declared.actor.MailId.{MailId}
 use Rattle.message_net.specs.declared.message.Mail.{Mail}
 use Rattle.message_net.specs.Id.{same_id}
-use Rattle.message_net.specs.Pool.{of_id, count_of, AreDistinct, posted, without, taken}
+use Rattle.message_net.specs.Pool.{of_id, count_of, AreDistinct, posted, without_mail_at, removed}
 use Rattle.message_net.proofs.PoolLemmas.{same_id-refl, place-counted, found-counted, taken-none, taken-of_id, AreDistinct-without}
 
 -- a mail stands at some place
@@ -32,14 +32,14 @@ pub posted-permuted : (xs ys : List Mail) (m : Mail) → IsPermutation xs ys →
 posted-permuted xs ys m moved = IsPermutation-append_left (m ∷ []) xs ys moved
 
 -- a mail at a place may as well stand first
-pub fronted : (mails : List Mail) (place : ℕ) (m : Mail) → slice_get mails place ≡ Some m → IsPermutation mails (m ∷ without place mails)
+pub fronted : (mails : List Mail) (place : ℕ) (m : Mail) → slice_get mails place ≡ Some m → IsPermutation mails (m ∷ without_mail_at place mails)
 fronted mails place m here =
     let at = get_or_from_slice_get mails place m m here in
     rw here (IsPermutation-swap_remove mails place m (slice_get_within mails place m here) (sym at))
 
-pub taken-permuted : (id : MailId) (xs ys : List Mail) → AreDistinct xs → IsPermutation xs ys → (taken id xs).0 ≡ (taken id ys).0
+pub taken-permuted : (id : MailId) (xs ys : List Mail) → AreDistinct xs → IsPermutation xs ys → (removed id xs).0 ≡ (removed id ys).0
 taken-permuted id xs ys distinct moved = by_count (nat_lt 0 (count_of id xs)) refl where
-  by_count : (t : Bool) → nat_lt 0 (count_of id xs) ≡ t → (taken id xs).0 ≡ (taken id ys).0
+  by_count : (t : Bool) → nat_lt 0 (count_of id xs) ≡ t → (removed id xs).0 ≡ (removed id ys).0
   by_count true e =
       let found = found-counted id xs (ltb-true 0 (count_of id xs) e) in
       let m = found.1 in
@@ -70,12 +70,12 @@ from-held : (xs ys : List Mail) → AreDistinct xs → AreDistinct ys → length
 from-held [] [] first second same all = IsPermutation-refl []
 from-held [] (y ∷ ys) first second same all = absurd (omega arith)
 from-held (x ∷ xs) ys first second same all = by_place (all x (0, refl)) (from-held xs) where
-  behind : (place : ℕ) → slice_get ys place ≡ Some x → (m : Mail) → Holds xs m → Holds (without place ys) m
+  behind : (place : ℕ) → slice_get ys place ≡ Some x → (m : Mail) → Holds xs m → Holds (without_mail_at place ys) m
   behind place here m held =
       let there = all m (suc held.0, held.1) in
-      let moved = holds-permuted ys (x ∷ without place ys) m there.0 (fronted ys place x here) there.1 in
-      by_front (in-front x m (without place ys) moved.0 moved.1) where
-        by_front : (x ≡ m) ⊎ Holds (without place ys) m → Holds (without place ys) m
+      let moved = holds-permuted ys (x ∷ without_mail_at place ys) m there.0 (fronted ys place x here) there.1 in
+      by_front (in-front x m (without_mail_at place ys) moved.0 moved.1) where
+        by_front : (x ≡ m) ⊎ Holds (without_mail_at place ys) m → Holds (without_mail_at place ys) m
         by_front (inl same) =
             absurd (twice x xs held.0 first (rw same held.1))
         by_front (inr rest) = rest
@@ -84,40 +84,40 @@ from-held (x ∷ xs) ys first second same all = by_place (all x (0, refl)) (from
   by_place here rest =
       let front = fronted ys here.0 x here.1 in
       let distinct : AreDistinct xs = λ id. omega (arith, first id, sum_by-cons (λ m. bit (of_id id m)) x xs) in
-      let length' : length xs ≡ length (without here.0 ys) = omega (arith, same, length_permutation ys (x ∷ without here.0 ys) front) in
-      let others = rest (without here.0 ys) distinct (AreDistinct-without ys here.0 second) length' (behind here.0 here.1) in
-      IsPermutation-trans (x ∷ xs) (x ∷ without here.0 ys) ys (IsPermutation-cons x xs (without here.0 ys) others) (IsPermutation-sym ys (x ∷ without here.0 ys) front)
+      let length' : length xs ≡ length (without_mail_at here.0 ys) = omega (arith, same, length_permutation ys (x ∷ without_mail_at here.0 ys) front) in
+      let others = rest (without_mail_at here.0 ys) distinct (AreDistinct-without ys here.0 second) length' (behind here.0 here.1) in
+      IsPermutation-trans (x ∷ xs) (x ∷ without_mail_at here.0 ys) ys (IsPermutation-cons x xs (without_mail_at here.0 ys) others) (IsPermutation-sym ys (x ∷ without_mail_at here.0 ys) front)
 
-pub rest-permuted : (id : MailId) (xs ys : List Mail) → AreDistinct xs → IsPermutation xs ys → IsPermutation (taken id xs).1 (taken id ys).1
+pub rest-permuted : (id : MailId) (xs ys : List Mail) → AreDistinct xs → IsPermutation xs ys → IsPermutation (removed id xs).1 (removed id ys).1
 rest-permuted id xs ys distinct moved = by_count (nat_lt 0 (count_of id xs)) refl where
   distinct' : AreDistinct ys
   distinct' = AreDistinct-permuted xs ys moved distinct
 
-  at_places : (m : Mail) (i j : ℕ) → slice_get xs i ≡ Some m → slice_get ys j ≡ Some m → IsPermutation (without i xs) (without j ys)
+  at_places : (m : Mail) (i j : ℕ) → slice_get xs i ≡ Some m → slice_get ys j ≡ Some m → IsPermutation (without_mail_at i xs) (without_mail_at j ys)
   at_places m i j here there =
-      from-held (without i xs) (without j ys) (AreDistinct-without xs i distinct) (AreDistinct-without ys j distinct') lengths holds where
-        first : IsPermutation xs (m ∷ without i xs)
+      from-held (without_mail_at i xs) (without_mail_at j ys) (AreDistinct-without xs i distinct) (AreDistinct-without ys j distinct') lengths holds where
+        first : IsPermutation xs (m ∷ without_mail_at i xs)
         first = fronted xs i m here
 
-        second : IsPermutation ys (m ∷ without j ys)
+        second : IsPermutation ys (m ∷ without_mail_at j ys)
         second = fronted ys j m there
 
-        lengths : length (without i xs) ≡ length (without j ys)
+        lengths : length (without_mail_at i xs) ≡ length (without_mail_at j ys)
         lengths =
-            omega (arith, length_permutation xs (m ∷ without i xs) first, length_permutation ys (m ∷ without j ys) second, length_permutation xs ys moved)
+            omega (arith, length_permutation xs (m ∷ without_mail_at i xs) first, length_permutation ys (m ∷ without_mail_at j ys) second, length_permutation xs ys moved)
 
-        holds : (x : Mail) → Holds (without i xs) x → Holds (without j ys) x
+        holds : (x : Mail) → Holds (without_mail_at i xs) x → Holds (without_mail_at j ys) x
         holds x held =
-            let back = holds-permuted (m ∷ without i xs) xs x (suc held.0) (IsPermutation-sym xs (m ∷ without i xs) first) held.1 in
+            let back = holds-permuted (m ∷ without_mail_at i xs) xs x (suc held.0) (IsPermutation-sym xs (m ∷ without_mail_at i xs) first) held.1 in
             let over = holds-permuted xs ys x back.0 moved back.1 in
-            let to = holds-permuted ys (m ∷ without j ys) x over.0 second over.1 in
-            by_front (in-front m x (without j ys) to.0 to.1) where
-              by_front : (m ≡ x) ⊎ Holds (without j ys) x → Holds (without j ys) x
+            let to = holds-permuted ys (m ∷ without_mail_at j ys) x over.0 second over.1 in
+            by_front (in-front m x (without_mail_at j ys) to.0 to.1) where
+              by_front : (m ≡ x) ⊎ Holds (without_mail_at j ys) x → Holds (without_mail_at j ys) x
               by_front (inl same) =
-                  absurd (twice m (without i xs) held.0 (AreDistinct-permuted xs (m ∷ without i xs) first distinct) (rw same held.1))
+                  absurd (twice m (without_mail_at i xs) held.0 (AreDistinct-permuted xs (m ∷ without_mail_at i xs) first distinct) (rw same held.1))
               by_front (inr rest) = rest
 
-  by_count : (t : Bool) → nat_lt 0 (count_of id xs) ≡ t → IsPermutation (taken id xs).1 (taken id ys).1
+  by_count : (t : Bool) → nat_lt 0 (count_of id xs) ≡ t → IsPermutation (removed id xs).1 (removed id ys).1
   by_count true e =
       let found = found-counted id xs (ltb-true 0 (count_of id xs) e) in
       let m = found.1 in

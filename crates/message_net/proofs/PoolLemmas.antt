@@ -13,7 +13,7 @@ use Rattle.message_net.specs.declared.actor.Actor.{Actor}
 use Rattle.message_net.specs.declared.actor.Actor.TheVariants.{Core, Bank, Keeper}
 use Rattle.message_net.specs.declared.message.Mail.{Mail}
 use Rattle.message_net.specs.Id.{same_actor, same_id}
-use Rattle.message_net.specs.Pool.{of_id, count_of, AreDistinct, IsPool, IsFound, posted, without, taken, taken_at}
+use Rattle.message_net.specs.Pool.{of_id, count_of, AreDistinct, IsPool, IsFound, posted, without_mail_at, removed, removed_at}
 
 -- ids that pass the test are equal
 pub same_actor-true : (a b : Actor) → same_actor a b ≡ true → a ≡ b
@@ -39,7 +39,7 @@ pub same_id-refl : (a : MailId) → same_id a a ≡ true
 same_id-refl a = grind (arith, nat_tests, same_actor-refl a.sender)
 
 -- a take frees one mail
-pub sum_by-without : (f : Mail → ℕ) (mails : List Mail) (place : ℕ) (m : Mail) → slice_get mails place ≡ Some m → sum_by f (without place mails) + f m ≡ sum_by f mails
+pub sum_by-without : (f : Mail → ℕ) (mails : List Mail) (place : ℕ) (m : Mail) → slice_get mails place ≡ Some m → sum_by f (without_mail_at place mails) + f m ≡ sum_by f mails
 sum_by-without f mails place m found =
     let within = slice_get_within mails place m found in
     let at : get_or mails place m ≡ m = get_or_from_slice_get mails place m m found in
@@ -51,13 +51,13 @@ abbrev bit : Bool → ℕ
 bit b = cond b 1 0
 
 -- counts of ids after a post and a take
-count_of-without : (id : MailId) (mails : List Mail) (place : ℕ) → count_of id (without place mails) ≤ count_of id mails
+count_of-without : (id : MailId) (mails : List Mail) (place : ℕ) → count_of id (without_mail_at place mails) ≤ count_of id mails
 count_of-without id mails place = by_place (slice_get mails place) refl where
-  by_place : (o : Option Mail) → slice_get mails place ≡ o → count_of id (without place mails) ≤ count_of id mails
+  by_place : (o : Option Mail) → slice_get mails place ≡ o → count_of id (without_mail_at place mails) ≤ count_of id mails
   by_place None e = rw e (omega arith)
   by_place (Some m) e = omega (arith, sum_by-without (λ x. cond (of_id id x) 1 0) mails place m e)
 
-pub AreDistinct-without : (mails : List Mail) (place : ℕ) → AreDistinct mails → AreDistinct (without place mails)
+pub AreDistinct-without : (mails : List Mail) (place : ℕ) → AreDistinct mails → AreDistinct (without_mail_at place mails)
 AreDistinct-without mails place distinct id = omega (arith, distinct id, count_of-without id mails place)
 
 pub AreDistinct-posted : (mails : List Mail) (m : Mail) → AreDistinct mails → count_of m.id mails ≡ 0 → AreDistinct (posted m mails)
@@ -129,13 +129,13 @@ pub IsPool-posted : (mails : List Mail) (m : Mail) → IsPool mails → count_of
 IsPool-posted mails m pool new room =
     record { within = omega (arith, length-append mails (m ∷ [])); distinct = AreDistinct-posted mails m pool.distinct new }
 
-pub length-without : (mails : List Mail) (place : ℕ) → length (without place mails) ≤ length mails
+pub length-without : (mails : List Mail) (place : ℕ) → length (without_mail_at place mails) ≤ length mails
 length-without mails place = by_place (slice_get mails place) refl where
-  by_place : (o : Option Mail) → slice_get mails place ≡ o → length (without place mails) ≤ length mails
+  by_place : (o : Option Mail) → slice_get mails place ≡ o → length (without_mail_at place mails) ≤ length mails
   by_place None e = rw e (omega arith)
   by_place (Some m) e = rw e (omega (arith, length-take {A = Mail}, length-set {A = Mail}))
 
-pub IsPool-without : (mails : List Mail) (place : ℕ) → IsPool mails → IsPool (without place mails)
+pub IsPool-without : (mails : List Mail) (place : ℕ) → IsPool mails → IsPool (without_mail_at place mails)
 IsPool-without mails place pool =
     record { within = omega (arith, pool.within, length-without mails place); distinct = AreDistinct-without mails place pool.distinct }
 
@@ -153,7 +153,7 @@ position-of_id mails place m distinct found =
           absurd (omega (arith, distinct m.id, passes_two (of_id m.id) mails k place m before (slice_get_within mails place m found) e here))
       by_test k before false e here = e
 
-pub taken-of_id : (mails : List Mail) (place : ℕ) (m : Mail) → AreDistinct mails → slice_get mails place ≡ Some m → taken m.id mails ≡ (Some m, without place mails)
+pub taken-of_id : (mails : List Mail) (place : ℕ) (m : Mail) → AreDistinct mails → slice_get mails place ≡ Some m → removed m.id mails ≡ (Some m, without_mail_at place mails)
 taken-of_id mails place m distinct found = rw (position-of_id mails place m distinct found, found) refl
 
 -- where at least one mail passes a test, and where none does
@@ -188,7 +188,7 @@ found-counted id mails some = by_place (position (of_id id) mails) refl where
       let cases = slice_get_cases mails place in
       absurd (grind (arith, nat_tests))
   by_mail place (Some m) e f =
-      let is : taken id mails ≡ (Some m, without place mails) = rw (e, f) refl in
+      let is : removed id mails ≡ (Some m, without_mail_at place mails) = rw (e, f) refl in
       (place, m, record { here = f; named = found_has_id id mails place m e f; takes = is })
 
   by_place : (o : Option ℕ) → position (of_id id) mails ≡ o → (place : ℕ) × (m : Mail) × IsFound id mails place m
@@ -197,24 +197,24 @@ found-counted id mails some = by_place (position (of_id id) mails) refl where
   by_place (Some place) e = by_mail place (slice_get mails place) e refl
 
 -- what is taken stood at a place
-pub taken-place : (id : MailId) (mails : List Mail) (m : Mail) → (taken id mails).0 ≡ Some m → (place : ℕ) × IsFound id mails place m
+pub taken-place : (id : MailId) (mails : List Mail) (m : Mail) → (removed id mails).0 ≡ Some m → (place : ℕ) × IsFound id mails place m
 taken-place id mails m took = by_place (position (of_id id) mails) refl where
   by_place : (o : Option ℕ) → position (of_id id) mails ≡ o → (place : ℕ) × IsFound id mails place m
   by_place None e = let never = rw e at took in absurd (cc)
   by_place (Some place) e =
       let here = rw e at took in
-      let is : taken id mails ≡ (Some m, without place mails) = rw (e, here) refl in
+      let is : removed id mails ≡ (Some m, without_mail_at place mails) = rw (e, here) refl in
       (place, record { here = here; named = found_has_id id mails place m e here; takes = is })
 
-pub taken-none : (id : MailId) (mails : List Mail) → count_of id mails ≡ 0 → taken id mails ≡ (None, mails)
+pub taken-none : (id : MailId) (mails : List Mail) → count_of id mails ≡ 0 → removed id mails ≡ (None, mails)
 taken-none id mails none = by_place (position (of_id id) mails) refl where
-  by_place : (o : Option ℕ) → position (of_id id) mails ≡ o → taken id mails ≡ (None, mails)
+  by_place : (o : Option ℕ) → position (of_id id) mails ≡ o → removed id mails ≡ (None, mails)
   by_place None e = rw e refl
   by_place (Some place) e =
       let never = (position-none (of_id id) mails).1 none in
       absurd (cc)
 
-pub sum_by-taken : (f : Mail → ℕ) (id : MailId) (mails : List Mail) (m : Mail) → (taken id mails).0 ≡ Some m → sum_by f (taken id mails).1 + f m ≡ sum_by f mails
+pub sum_by-taken : (f : Mail → ℕ) (id : MailId) (mails : List Mail) (m : Mail) → (removed id mails).0 ≡ Some m → sum_by f (removed id mails).1 + f m ≡ sum_by f mails
 sum_by-taken f id mails m took =
     let found = taken-place id mails m took in
     rw found.1.takes (sum_by-without f mails found.0 m found.1.here)
@@ -223,9 +223,9 @@ sum_by-taken f id mails m took =
 pub count_of-posted : (id : MailId) (mails : List Mail) (m : Mail) → count_of id (posted m mails) ≡ count_of id mails + bit (same_id m.id id)
 count_of-posted id mails m = sum_by_push (λ x. cond (of_id id x) 1 0) mails m
 
-pub count_of-taken : (id : MailId) (mails : List Mail) → AreDistinct mails → count_of id (taken id mails).1 ≡ 0
+pub count_of-taken : (id : MailId) (mails : List Mail) → AreDistinct mails → count_of id (removed id mails).1 ≡ 0
 count_of-taken id mails distinct = by_count (nat_lt 0 (count_of id mails)) refl where
-  by_count : (t : Bool) → nat_lt 0 (count_of id mails) ≡ t → count_of id (taken id mails).1 ≡ 0
+  by_count : (t : Bool) → nat_lt 0 (count_of id mails) ≡ t → count_of id (removed id mails).1 ≡ 0
   by_count true e =
       let found = found-counted id mails (ltb-true 0 (count_of id mails) e) in
       let m = found.1 in
@@ -235,9 +235,9 @@ count_of-taken id mails distinct = by_count (nat_lt 0 (count_of id mails)) refl 
       let none : count_of id mails ≡ 0 = grind (arith, nat_tests) in
       rw (taken-none id mails none) none
 
-pub count_of-taken_other : (id other : MailId) (mails : List Mail) → same_id id other ≡ false → count_of other (taken id mails).1 ≡ count_of other mails
+pub count_of-taken_other : (id other : MailId) (mails : List Mail) → same_id id other ≡ false → count_of other (removed id mails).1 ≡ count_of other mails
 count_of-taken_other id other mails differ = by_count (nat_lt 0 (count_of id mails)) refl where
-  by_count : (t : Bool) → nat_lt 0 (count_of id mails) ≡ t → count_of other (taken id mails).1 ≡ count_of other mails
+  by_count : (t : Bool) → nat_lt 0 (count_of id mails) ≡ t → count_of other (removed id mails).1 ≡ count_of other mails
   by_count true e =
       let found = found-counted id mails (ltb-true 0 (count_of id mails) e) in
       let m = found.1 in
@@ -247,9 +247,9 @@ count_of-taken_other id other mails differ = by_count (nat_lt 0 (count_of id mai
       let none : count_of id mails ≡ 0 = grind (arith, nat_tests) in
       rw (taken-none id mails none) refl
 
-pub AreDistinct-taken : (id : MailId) (mails : List Mail) → AreDistinct mails → AreDistinct (taken id mails).1
+pub AreDistinct-taken : (id : MailId) (mails : List Mail) → AreDistinct mails → AreDistinct (removed id mails).1
 AreDistinct-taken id mails distinct = by_place (position (of_id id) mails) where
-  by_place : (o : Option ℕ) → AreDistinct (taken_at mails o).1
+  by_place : (o : Option ℕ) → AreDistinct (removed_at mails o).1
   by_place None = distinct
   by_place (Some place) = AreDistinct-without mails place distinct
 

@@ -27,10 +27,10 @@ has_actor cores banks (Bank bank) = nat_lt bank.0 banks
 has_actor cores banks Keeper = true
 
 -- the place of an actor among all of a machine: cores come first, then banks, then the keeper
-abbrev pub place_of : ℕ → ℕ → Actor → ℕ
-place_of cores banks (Core core) = core.0
-place_of cores banks (Bank bank) = cores + bank.0
-place_of cores banks Keeper = cores + banks
+abbrev pub actor_index : ℕ → ℕ → Actor → ℕ
+actor_index cores banks (Core core) = core.0
+actor_index cores banks (Bank bank) = cores + bank.0
+actor_index cores banks Keeper = cores + banks
 
 -- the mail that a message becomes, with its sender and that sender's number for it
 abbrev pub mail_of : Actor → ℕ → Outgoing → Mail

@@ -40,19 +40,19 @@ abbrev pub freed : ℕ → List Mail → Option Mail → List Mail
 freed place mails None = mails
 freed place mails (Some m) = swap_remove mails place m
 
-abbrev pub without : ℕ → List Mail → List Mail
-without place mails = freed place mails (slice_get mails place)
+abbrev pub without_mail_at : ℕ → List Mail → List Mail
+without_mail_at place mails = freed place mails (slice_get mails place)
 
 -- the mail with an id, if there is one, and the mails without it
-abbrev pub taken_at : List Mail → Option ℕ → Option Mail × List Mail
-taken_at mails None = (None, mails)
-taken_at mails (Some place) = (slice_get mails place, without place mails)
+abbrev pub removed_at : List Mail → Option ℕ → Option Mail × List Mail
+removed_at mails None = (None, mails)
+removed_at mails (Some place) = (slice_get mails place, without_mail_at place mails)
 
-abbrev pub taken : MailId → List Mail → Option Mail × List Mail
-taken id mails = taken_at mails (position (of_id id) mails)
+abbrev pub removed : MailId → List Mail → Option Mail × List Mail
+removed id mails = removed_at mails (position (of_id id) mails)
 
 -- where the mail with an id stands, and that a take by the id gives it and leaves the others
 pub record IsFound (id : MailId) (mails : List Mail) (place : ℕ) (m : Mail) : Type 0 where
   pub here : slice_get mails place ≡ Some m
   pub named : m.id ≡ id
-  pub takes : taken id mails ≡ (Some m, without place mails)
+  pub takes : removed id mails ≡ (Some m, without_mail_at place mails)

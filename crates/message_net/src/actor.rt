@@ -1,6 +1,6 @@
 ghost use Rattle.std.specs.Prelude.{◌≡◌};
 ghost use Rattle.message_net.specs.Id.{same_id};
-ghost use Rattle.message_net.specs.Mail.{place_of};
+ghost use Rattle.message_net.specs.Mail.{actor_index};
 
 use dn_base::{BankId, CoreId};
 
@@ -30,7 +30,7 @@ impl Actor {
     /// The place of the actor among all of a machine with so many cores and banks: cores come first, then banks, then the
     /// keeper.
     pub fn place(&self, cores: u32, banks: u32) -> usize
-        ensures { result ≡ place_of cores banks self.now }
+        ensures { result ≡ actor_index cores banks self.now }
     {
         match self {
             Actor::Core(core) => core.0 as usize,

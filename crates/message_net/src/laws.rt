@@ -7,10 +7,10 @@ ghost use Rattle.message_net.specs.declared.event.EventKind.{EventKind};
 ghost use Rattle.message_net.specs.declared.message.Mail.{Mail};
 ghost use Rattle.message_net.specs.declared.message.Outgoing.{Outgoing};
 ghost use Rattle.message_net.specs.Id.{same_id};
-ghost use Rattle.message_net.specs.Pool.{count_of, AreDistinct, IsFound, posted, without, taken};
+ghost use Rattle.message_net.specs.Pool.{count_of, AreDistinct, IsFound, posted, without_mail_at, removed};
 ghost use Rattle.message_net.specs.Kind.{kind_place};
 ghost use Rattle.message_net.specs.Order.{actor_order};
-ghost use Rattle.message_net.specs.Mail.{has_actor, place_of, mails_of, all_mails};
+ghost use Rattle.message_net.specs.Mail.{has_actor, actor_index, mails_of, all_mails};
 
 use crate::actor::Actor;
 
@@ -28,11 +28,11 @@ pub fn a_post_adds_its_mail()
 /// A take of the mail at a place takes its weight away, whatever the weights are.
 pub fn a_take_frees_one_mail()
     ensures weight { (f : Mail → ℕ) (mails : List Mail) (place : ℕ) (m : Mail) → slice_get mails place ≡ Some m
-        → sum_by f (without place mails) + f m ≡ sum_by f mails }
+        → sum_by f (without_mail_at place mails) + f m ≡ sum_by f mails }
     ensures length { (mails : List Mail) (place : ℕ) (m : Mail) → slice_get mails place ≡ Some m
-        → length (without place mails) + 1 ≡ length mails }
-    ensures by_id { (f : Mail → ℕ) (id : MailId) (mails : List Mail) (m : Mail) → (taken id mails).0 ≡ Some m
-        → sum_by f (taken id mails).1 + f m ≡ sum_by f mails }
+        → length (without_mail_at place mails) + 1 ≡ length mails }
+    ensures by_id { (f : Mail → ℕ) (id : MailId) (mails : List Mail) (m : Mail) → (removed id mails).0 ≡ Some m
+        → sum_by f (removed id mails).1 + f m ≡ sum_by f mails }
 {}
 
 /// At least one mail passes a test exactly where a mail that passes it stands at some place.
@@ -44,14 +44,14 @@ pub fn a_counted_mail_stands_somewhere()
 /// Where an id is counted its mail is found, and where it isn't nothing is taken.
 pub fn a_counted_id_is_found()
     ensures some { (id : MailId) (mails : List Mail) → 1 ≤ count_of id mails → (place : ℕ) × (m : Mail) × IsFound id mails place m }
-    ensures none { (id : MailId) (mails : List Mail) → count_of id mails ≡ 0 → taken id mails ≡ (None, mails) }
+    ensures none { (id : MailId) (mails : List Mail) → count_of id mails ≡ 0 → removed id mails ≡ (None, mails) }
 {}
 
 /// Each actor of a machine has a place of its own among the places of all.
 pub fn actors_have_places_of_their_own()
-    ensures within { (cores banks : ℕ) (a : Actor) → has_actor cores banks a ≡ true → place_of cores banks a < cores + banks + 1 }
+    ensures within { (cores banks : ℕ) (a : Actor) → has_actor cores banks a ≡ true → actor_index cores banks a < cores + banks + 1 }
     ensures own { (cores banks : ℕ) (a b : Actor) → has_actor cores banks a ≡ true → has_actor cores banks b ≡ true
-        → place_of cores banks a ≡ place_of cores banks b → a ≡ b }
+        → actor_index cores banks a ≡ actor_index cores banks b → a ≡ b }
 {}
 
 /// Actors compare as cores first, then banks, each by number, then the keeper. The actors of a machine stand in the order of their
@@ -59,7 +59,7 @@ pub fn actors_have_places_of_their_own()
 pub fn actors_are_in_order()
     ensures order { (a b : Actor) → ⟦<Actor as Ord>⟧.cmp a b ≡ actor_order a b }
     ensures place { (cores banks : ℕ) (a b : Actor) → has_actor cores banks a ≡ true → has_actor cores banks b ≡ true
-        → actor_order a b ≡ nat_cmp (place_of cores banks a) (place_of cores banks b) }
+        → actor_order a b ≡ nat_cmp (actor_index cores banks a) (actor_index cores banks b) }
 {}
 
 /// Each kind has a place of its own among the seventeen.
@@ -73,9 +73,9 @@ pub fn kinds_have_places_of_their_own()
 pub fn the_order_of_mails_does_not_matter()
     ensures weight { (f : Mail → ℕ) (xs ys : List Mail) → IsPermutation xs ys → sum_by f ys ≡ sum_by f xs }
     ensures posted { (xs ys : List Mail) (m : Mail) → IsPermutation xs ys → IsPermutation (posted m xs) (posted m ys) }
-    ensures taken { (id : MailId) (xs ys : List Mail) → AreDistinct xs → IsPermutation xs ys → (taken id xs).0 ≡ (taken id ys).0 }
+    ensures taken { (id : MailId) (xs ys : List Mail) → AreDistinct xs → IsPermutation xs ys → (removed id xs).0 ≡ (removed id ys).0 }
     ensures rest { (id : MailId) (xs ys : List Mail) → AreDistinct xs → IsPermutation xs ys
-        → IsPermutation (taken id xs).1 (taken id ys).1 }
+        → IsPermutation (removed id xs).1 (removed id ys).1 }
 {}
 
 /// Messages that are sent one after the other add their mails to those in flight.
@@ -89,8 +89,8 @@ pub fn all_mails_are_added()
 /// Ids stay distinct: what is taken is gone, and a sender's next numbers are new where none of them is in flight.
 pub fn ids_stay_distinct()
     ensures post { (mails : List Mail) (m : Mail) → AreDistinct mails → count_of m.id mails ≡ 0 → AreDistinct (posted m mails) }
-    ensures take { (mails : List Mail) (place : ℕ) → AreDistinct mails → AreDistinct (without place mails) }
-    ensures gone { (id : MailId) (mails : List Mail) → AreDistinct mails → count_of id (taken id mails).1 ≡ 0 }
+    ensures take { (mails : List Mail) (place : ℕ) → AreDistinct mails → AreDistinct (without_mail_at place mails) }
+    ensures gone { (id : MailId) (mails : List Mail) → AreDistinct mails → count_of id (removed id mails).1 ≡ 0 }
     ensures sent { (from : Actor) (number : ℕ) (outs : List Outgoing) (mails : List Mail) → AreDistinct mails
         → ((i : ℕ) → number ≤ i → i < number + length outs → count_of (record { sender = from; number = i }) mails ≡ 0)
         → AreDistinct (all_mails from number outs mails) }
@@ -99,5 +99,5 @@ pub fn ids_stay_distinct()
 /// To take by id what stands at a place is to take it by its place.
 pub fn a_mail_is_found_by_its_id()
     ensures { (mails : List Mail) (place : ℕ) (m : Mail) → AreDistinct mails → slice_get mails place ≡ Some m
-        → taken m.id mails ≡ (Some m, without place mails) }
+        → removed m.id mails ≡ (Some m, without_mail_at place mails) }
 {}

@@ -1,6 +1,6 @@
 ghost use Rattle.std.specs.Prelude.{◌≡◌, ◌+◌, ◌<◌, ◌≤◌, ◌↔◌, [], length, slice_get, position, Some, vec_len, OnOk, OnErr, IfSome, IfNone, IsNone};
 ghost use Rattle.std.specs.Vec.{vec_capacity};
-ghost use Rattle.message_net.specs.Pool.{of_id, count_of, has_id, AreDistinct, posted, without, taken};
+ghost use Rattle.message_net.specs.Pool.{of_id, count_of, has_id, AreDistinct, posted, without_mail_at, removed};
 
 use crate::actor::{MailId, is_same};
 use crate::message::Mail;
@@ -47,7 +47,7 @@ fn place_of(mails: &[Mail], id: MailId) -> Option<usize>
 fn take_out(row: &mut Vec<Mail>, place: usize) -> Mail
     requires { place < length row.old.items }
     ensures value { slice_get row.old.items place ≡ Some result }
-    ensures rest { row.new.items ≡ without place row.old.items }
+    ensures rest { row.new.items ≡ without_mail_at place row.old.items }
     ensures len { vec_len row.new + 1 ≡ vec_len row.old }
     ensures capacity { vec_capacity row.new ≡ vec_capacity row.old }
 {
@@ -108,8 +108,8 @@ impl Pool {
     /// Takes the mail with this id out; the last mail moves into the free place, and the room of the mail is spare. None
     /// where no mail has the id, and the pool is then as before. Takes no memory.
     pub fn take(&mut self, id: MailId) -> Option<Mail>
-        ensures value { result ≡ (taken id self.old.mails).0 }
-        ensures rest { self.new.mails ≡ (taken id self.old.mails).1 }
+        ensures value { result ≡ (removed id self.old.mails).0 }
+        ensures rest { self.new.mails ≡ (removed id self.old.mails).1 }
         ensures some { IfSome result (λ mail. mail.id ≡ id) }
         ensures none { IsNone result ↔ (count_of id self.old.mails ≡ 0) }
         ensures spare { IfSome result (λ mail. self.new.spare ≡ self.old.spare + 1) }
@@ -125,7 +125,7 @@ impl Pool {
     pub fn take_at(&mut self, place: u32) -> Mail
         requires { place < length self.old.mails }
         ensures value { slice_get self.old.mails place ≡ Some result }
-        ensures rest { self.new.mails ≡ without place self.old.mails }
+        ensures rest { self.new.mails ≡ without_mail_at place self.old.mails }
         ensures spare { self.new.spare ≡ self.old.spare + 1 }
     {
         take_out(&mut self.row, place as usize)

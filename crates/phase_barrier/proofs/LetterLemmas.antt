@@ -9,7 +9,7 @@ use Rattle.message_net.specs.declared.message.Outgoing.{Outgoing}
 use Rattle.phase_barrier.specs.declared.keeper.Verdict.{Verdict}
 use Rattle.phase_barrier.specs.declared.keeper.Verdict.TheVariants.{Wait, Go, Halt}
 use Rattle.message_net.specs.declared.message.Message as message
-use Rattle.phase_barrier.specs.Letters.{letter_of, letter_count, to_number, to_each, told, letters, goes_to}
+use Rattle.phase_barrier.specs.Letters.{letter_of, letter_count, to_number, to_each, letters_to_all, letters, goes_to_core}
 
 -- a weight that looks at the letters to one core alone
 pub each-one : (g : Outgoing → ℕ) (first n d : ℕ) (m : Message) → ((c : ℕ) → c ≢ d → g (to_number c m) ≡ 0) → sum_by g (to_each first n m) ≡ cond (nat_le first d && nat_lt d (first + n)) (g (to_number d m)) 0
@@ -47,7 +47,7 @@ abbrev pub letter_weight : (Outgoing → ℕ) → ℕ → Option Message → ℕ
 letter_weight g core None = 0
 letter_weight g core (Some m) = g (to_number core m)
 
-told-one : (g : Outgoing → ℕ) (cores d : ℕ) (o : Option Message) → ((c : ℕ) (m : Message) → c ≢ d → g (to_number c m) ≡ 0) → d < cores → sum_by g (told cores o) ≡ letter_weight g d o
+told-one : (g : Outgoing → ℕ) (cores d : ℕ) (o : Option Message) → ((c : ℕ) (m : Message) → c ≢ d → g (to_number c m) ≡ 0) → d < cores → sum_by g (letters_to_all cores o) ≡ letter_weight g d o
 told-one g cores d None others below = refl
 told-one g cores d (Some m) others below =
     each-one g 0 cores d m (λ c differ. others c m differ) ∙ grind (arith, nat_tests)
@@ -57,7 +57,7 @@ letters-one g cores d v others below = told-one g cores d (letter_of v) others b
 
 pub letters-none : (g : Outgoing → ℕ) (cores : ℕ) (v : Verdict) → ((c : ℕ) (m : Message) → c < cores → g (to_number c m) ≡ 0) → sum_by g (letters cores v) ≡ 0
 letters-none g cores v none = by_letter (letter_of v) where
-  by_letter : (o : Option Message) → sum_by g (told cores o) ≡ 0
+  by_letter : (o : Option Message) → sum_by g (letters_to_all cores o) ≡ 0
   by_letter None = refl
   by_letter (Some m) =
       each-none g 0 cores m (λ c below. none c m (omega (arith, below)))
@@ -67,13 +67,13 @@ length-letters cores Wait = omega arith
 length-letters cores (Go phase) = omega (arith, length-to_each 0 cores (message.TheVariants.Go phase))
 length-letters cores Halt = omega (arith, length-to_each 0 cores message.TheVariants.Halt)
 
-pub letters-to_core : (cores d : ℕ) (v : Verdict) → d < cores → count_by (goes_to d) (letters cores v) ≡ letter_count v
-letters-to_core cores d v below = letters-one (λ (out : Outgoing). cond (goes_to d out) 1 0) cores d v (λ c m differ. grind (arith, nat_tests)) below ∙ by_verdict v where
-  by_verdict : (v : Verdict) → letter_weight (λ (out : Outgoing). cond (goes_to d out) 1 0) d (letter_of v) ≡ letter_count v
+pub letters-to_core : (cores d : ℕ) (v : Verdict) → d < cores → count_by (goes_to_core d) (letters cores v) ≡ letter_count v
+letters-to_core cores d v below = letters-one (λ (out : Outgoing). cond (goes_to_core d out) 1 0) cores d v (λ c m differ. grind (arith, nat_tests)) below ∙ by_verdict v where
+  by_verdict : (v : Verdict) → letter_weight (λ (out : Outgoing). cond (goes_to_core d out) 1 0) d (letter_of v) ≡ letter_count v
   by_verdict Wait = refl
   by_verdict (Go phase) = grind (arith, nat_tests)
   by_verdict Halt = grind (arith, nat_tests)
 
-pub letters-to_others : (cores d : ℕ) (v : Verdict) → cores ≤ d → count_by (goes_to d) (letters cores v) ≡ 0
+pub letters-to_others : (cores d : ℕ) (v : Verdict) → cores ≤ d → count_by (goes_to_core d) (letters cores v) ≡ 0
 letters-to_others cores d v past =
-    letters-none (λ (out : Outgoing). cond (goes_to d out) 1 0) cores v (λ c m below. grind (arith, nat_tests))
+    letters-none (λ (out : Outgoing). cond (goes_to_core d out) 1 0) cores v (λ c m below. grind (arith, nat_tests))

@@ -15,8 +15,8 @@ pub record Barrier : Type 0 where
   pub bad : Bool
 
 -- the first phase begins, and nobody has arrived
-abbrev pub opened : ℕ → ℕ → Barrier
-opened cores phases = record { phases = phases; phase = 0; arrived = replicate cores false; bad = false }
+abbrev pub initial_barrier : ℕ → ℕ → Barrier
+initial_barrier cores phases = record { phases = phases; phase = 0; arrived = replicate cores false; bad = false }
 
 -- whether every core has arrived
 abbrev pub all_arrived : Barrier → Bool
@@ -27,42 +27,42 @@ abbrev pub is_over : Barrier → Bool
 is_over k = k.bad || nat_le k.phases (k.phase + 1)
 
 -- the next phase begins, and nobody has arrived
-abbrev pub advanced : Barrier → Barrier
-advanced k = record k { phase = k.phase + 1; arrived = replicate (length k.arrived) false }
+abbrev pub in_next_phase : Barrier → Barrier
+in_next_phase k = record k { phase = k.phase + 1; arrived = replicate (length k.arrived) false }
 
 -- the answer once every core has arrived
-abbrev pub released : Barrier → Barrier × Verdict
-released k = if is_over k then (k, Halt) else (advanced k, Go (record { 0 = k.phase + 1 }))
+abbrev pub answer_to_all : Barrier → Barrier × Verdict
+answer_to_all k = if is_over k then (k, Halt) else (in_next_phase k, Go (record { 0 = k.phase + 1 }))
 
 -- the answer to a core that is counted: it waits while another is missing
 abbrev pub decided : Barrier → Barrier × Verdict
-decided k = if all_arrived k then released k else (k, Wait)
+decided k = if all_arrived k then answer_to_all k else (k, Wait)
 
 -- the core has arrived, and it may have been bad
-abbrev pub counted : ℕ → Bool → Barrier → Barrier
-counted core bad k = record k { arrived = slice_set k.arrived core true; bad = k.bad || bad }
+abbrev pub with_arrival : ℕ → Bool → Barrier → Barrier
+with_arrival core bad k = record k { arrived = slice_set k.arrived core true; bad = k.bad || bad }
 
 -- an arrival, by what is known of its core: it isn't there, it has arrived already, or it is new
-abbrev pub arrival : Barrier → ℕ → Bool → Option Bool → Barrier × Verdict
-arrival k core bad None = (k, Wait)
-arrival k core bad (Some true) = (k, Wait)
-arrival k core bad (Some false) = decided (counted core bad k)
+abbrev pub on_arrival : Barrier → ℕ → Bool → Option Bool → Barrier × Verdict
+on_arrival k core bad None = (k, Wait)
+on_arrival k core bad (Some true) = (k, Wait)
+on_arrival k core bad (Some false) = decided (with_arrival core bad k)
 
-abbrev pub arrives : Barrier → ℕ → Bool → Barrier × Verdict
-arrives k core bad = arrival k core bad (slice_get k.arrived core)
+abbrev pub keeper_arrives : Barrier → ℕ → Bool → Barrier × Verdict
+keeper_arrives k core bad = on_arrival k core bad (slice_get k.arrived core)
 
 -- what the keeper does with a message, and its verdict: a message of any other kind than an arrival changes nothing
 unfoldable pub keeper_gets : Barrier → Message → Barrier × Verdict
-keeper_gets k (Arrived core bad) = arrives k core.0 bad
+keeper_gets k (Arrived core bad) = keeper_arrives k core.0 bad
 keeper_gets k _ = (k, Wait)
 
 -- whether a core has arrived in the current phase
-abbrev pub is_marked : Option Bool → Bool
-is_marked None = false
-is_marked (Some mark) = mark
+abbrev pub flag_is_set : Option Bool → Bool
+flag_is_set None = false
+flag_is_set (Some mark) = mark
 
 abbrev pub has_arrived : ℕ → Barrier → Bool
-has_arrived core k = is_marked (slice_get k.arrived core)
+has_arrived core k = flag_is_set (slice_get k.arrived core)
 
 -- whether a core waits at the barrier: it has arrived, and another has not
 abbrev pub waits_in : ℕ → Barrier → Bool

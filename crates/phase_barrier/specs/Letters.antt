@@ -34,13 +34,13 @@ to_each first zero m = []
 to_each first (suc n) m = to_number first m ∷ to_each (first + 1) n m
 
 -- what the cores of a machine are told at a verdict: its message goes to each of them, and nothing at Wait
-abbrev pub told : ℕ → Option Message → List Outgoing
-told cores None = []
-told cores (Some m) = to_each 0 cores m
+abbrev pub letters_to_all : ℕ → Option Message → List Outgoing
+letters_to_all cores None = []
+letters_to_all cores (Some m) = to_each 0 cores m
 
 abbrev pub letters : ℕ → Verdict → List Outgoing
-letters cores verdict = told cores (letter_of verdict)
+letters cores verdict = letters_to_all cores (letter_of verdict)
 
 -- whether a letter goes to a core
-abbrev pub goes_to : ℕ → Outgoing → Bool
-goes_to core out = same_actor out.to (Core (record { 0 = core }))
+abbrev pub goes_to_core : ℕ → Outgoing → Bool
+goes_to_core core out = same_actor out.to (Core (record { 0 = core }))

@@ -1,5 +1,5 @@
 ghost use Rattle.std.specs.Prelude.{◌≡◌, ◌+◌, ◌<◌, ◌≤◌, ◌||◌, Some, None, false, length, slice_get, IsTrue};
-ghost use Rattle.phase_barrier.specs.Barrier.{opened, all_arrived, is_over, advanced, released, decided, counted, arrives, keeper_gets};
+ghost use Rattle.phase_barrier.specs.Barrier.{initial_barrier, all_arrived, is_over, in_next_phase, answer_to_all, decided, with_arrival, keeper_arrives, keeper_gets};
 ghost use Rattle.phase_barrier.specs.Letters.{letter_of};
 
 use dn_base::{CoreId, MOST_CORES, PhaseId};
@@ -60,7 +60,7 @@ impl Keeper {
         requires some { 1 ≤ cores }
         requires cores { cores ≤ 16 }
         requires phases { phases ≤ 64 }
-        ensures { result ≡ opened cores phases }
+        ensures { result ≡ initial_barrier cores phases }
     {
         Keeper {
             cores,
@@ -96,7 +96,7 @@ impl Keeper {
     /// Notes that the core has arrived.
     fn count(&mut self, core: CoreId, bad: bool)
         requires { core.0 < length self.old.arrived }
-        ensures { self.new ≡ counted core.0 bad self.old }
+        ensures { self.new ≡ with_arrival core.0 bad self.old }
     {
         self.arrived[core.0 as usize] = true;
         self.bad |= bad;
@@ -111,8 +111,8 @@ impl Keeper {
 
     /// The answer once every core has arrived.
     fn release(&mut self) -> Verdict
-        ensures keeper { self.new ≡ (released self.old).0 }
-        ensures verdict { result ≡ (released self.old).1 }
+        ensures keeper { self.new ≡ (answer_to_all self.old).0 }
+        ensures verdict { result ≡ (answer_to_all self.old).1 }
     {
         if self.bad || self.phases <= self.phase + 1 {
             return Verdict::Halt;
@@ -130,8 +130,8 @@ impl Keeper {
     /// and else Go: the next phase is current then, and nobody has arrived. A core that has arrived already, one that isn't
     /// there, and every call after Halt get Wait and change nothing. Takes no memory.
     pub fn arrived(&mut self, core: CoreId, bad: bool) -> Verdict
-        ensures keeper { self.new ≡ (arrives self.old core.0 bad).0 }
-        ensures verdict { result ≡ (arrives self.old core.0 bad).1 }
+        ensures keeper { self.new ≡ (keeper_arrives self.old core.0 bad).0 }
+        ensures verdict { result ≡ (keeper_arrives self.old core.0 bad).1 }
     {
         match self.flags().get(core.0 as usize) {
             Some(false) => {}

@@ -5,36 +5,36 @@ ghost use Rattle.message_net.specs.declared.event.EventKind.TheVariants.{Arrived
 ghost use Rattle.message_net.specs.Kind.{kind_of};
 ghost use Rattle.phase_barrier.specs.declared.keeper.Verdict.{Verdict};
 ghost use Rattle.phase_barrier.specs.declared.keeper.Verdict.TheVariants.{Wait, Go, Halt};
-ghost use Rattle.phase_barrier.specs.Barrier.{Barrier, IsBarrier, opened, all_arrived, counted, advanced, released, is_over, arrives, keeper_gets, waits_in, arrived_count};
-ghost use Rattle.phase_barrier.specs.Letters.{letter_count, go_count, letters, goes_to};
+ghost use Rattle.phase_barrier.specs.Barrier.{Barrier, IsBarrier, initial_barrier, all_arrived, with_arrival, in_next_phase, answer_to_all, is_over, keeper_arrives, keeper_gets, waits_in, arrived_count};
+ghost use Rattle.phase_barrier.specs.Letters.{letter_count, go_count, letters, goes_to_core};
 
 /// Counting a core marks that core alone.
 pub fn a_count_marks_one_core()
     ensures flags { (k : Barrier) (core d : ℕ) (bad : Bool)
-        → slice_get (counted core bad k).arrived d ≡ (if (core == d) && nat_lt d (length k.arrived) then Some true else slice_get k.arrived d) }
-    ensures cores { (k : Barrier) (core : ℕ) (bad : Bool) → length (counted core bad k).arrived ≡ length k.arrived }
+        → slice_get (with_arrival core bad k).arrived d ≡ (if (core == d) && nat_lt d (length k.arrived) then Some true else slice_get k.arrived d) }
+    ensures cores { (k : Barrier) (core : ℕ) (bad : Bool) → length (with_arrival core bad k).arrived ≡ length k.arrived }
     ensures count { (k : Barrier) (core : ℕ) (bad : Bool) → slice_get k.arrived core ≡ Some false
-        → arrived_count (counted core bad k) ≡ arrived_count k + 1 }
+        → arrived_count (with_arrival core bad k) ≡ arrived_count k + 1 }
 {}
 
 /// An arrival of a core that is counted already, or that isn't there, changes nothing.
 pub fn a_core_is_counted_once()
-    ensures { (k : Barrier) (core : ℕ) (bad : Bool) → slice_get k.arrived core ≢ Some false → arrives k core bad ≡ (k, Wait) }
+    ensures { (k : Barrier) (core : ℕ) (bad : Bool) → slice_get k.arrived core ≢ Some false → keeper_arrives k core bad ≡ (k, Wait) }
 {}
 
 /// Each core waits from its arrival on, until it is told with all others.
 pub fn a_core_waits_until_all_are_told()
     ensures { (k : Barrier) (core d : ℕ) (bad : Bool) → slice_get k.arrived core ≡ Some false → d < length k.arrived
-        → (if waits_in d (arrives k core bad).0 then 1 else 0) + letter_count (arrives k core bad).1
+        → (if waits_in d (keeper_arrives k core bad).0 then 1 else 0) + letter_count (keeper_arrives k core bad).1
         ≡ (if waits_in d k then 1 else 0) + (if core == d then 1 else 0) }
 {}
 
 /// A new core's arrival goes on by a phase at Go alone, and notes whether it was bad.
 pub fn an_arrival_goes_on_at_go_alone()
     ensures phase { (k : Barrier) (core : ℕ) (bad : Bool) → slice_get k.arrived core ≡ Some false
-        → (arrives k core bad).0.phase ≡ k.phase + go_count (arrives k core bad).1 }
+        → (keeper_arrives k core bad).0.phase ≡ k.phase + go_count (keeper_arrives k core bad).1 }
     ensures bad { (k : Barrier) (core : ℕ) (bad : Bool) → slice_get k.arrived core ≡ Some false
-        → (arrives k core bad).0.bad ≡ (k.bad || bad) }
+        → (keeper_arrives k core bad).0.bad ≡ (k.bad || bad) }
 {}
 
 /// No message changes how many phases and cores there are, and one that is no arrival changes nothing.
@@ -46,36 +46,36 @@ pub fn only_arrivals_count()
 
 /// A machine's keeper stays one: the current phase is one of the program's, and all have arrived only once the run is over.
 pub fn a_keeper_stays_the_machines()
-    ensures opened { (cores phases : ℕ) → 1 ≤ cores → IsBarrier (opened cores phases) }
+    ensures opened { (cores phases : ℕ) → 1 ≤ cores → IsBarrier (initial_barrier cores phases) }
     ensures kept { (k : Barrier) (m : Message) → IsBarrier k → IsBarrier (keeper_gets k m).0 }
 {}
 
 /// A verdict has one letter for each core of the machine and none for another, and at Wait there are none at all.
 pub fn each_core_is_told_once()
-    ensures own { (cores d : ℕ) (verdict : Verdict) → d < cores → count_by (goes_to d) (letters cores verdict) ≡ letter_count verdict }
-    ensures other { (cores d : ℕ) (verdict : Verdict) → cores ≤ d → count_by (goes_to d) (letters cores verdict) ≡ 0 }
+    ensures own { (cores d : ℕ) (verdict : Verdict) → d < cores → count_by (goes_to_core d) (letters cores verdict) ≡ letter_count verdict }
+    ensures other { (cores d : ℕ) (verdict : Verdict) → cores ≤ d → count_by (goes_to_core d) (letters cores verdict) ≡ 0 }
 {}
 
 /// A new core waits while another has not arrived.
 pub fn a_new_core_waits_for_the_others()
     ensures { (k : Barrier) (core d : ℕ) (bad : Bool) → slice_get k.arrived core ≡ Some false → d ≢ core
-        → slice_get k.arrived d ≡ Some false → arrives k core bad ≡ (counted core bad k, Wait) }
+        → slice_get k.arrived d ≡ Some false → keeper_arrives k core bad ≡ (with_arrival core bad k, Wait) }
 {}
 
 /// The last core that was missing brings Go or Halt.
 pub fn the_last_core_releases_all()
     ensures { (k : Barrier) (core : ℕ) (bad : Bool) → slice_get k.arrived core ≡ Some false
-        → ((d : ℕ) → d ≢ core → slice_get k.arrived d ≢ Some false) → arrives k core bad ≡ released (counted core bad k) }
+        → ((d : ℕ) → d ≢ core → slice_get k.arrived d ≢ Some false) → keeper_arrives k core bad ≡ answer_to_all (with_arrival core bad k) }
 {}
 
 /// After Go the phase is one of the program's, and nobody has arrived in it.
 pub fn nobody_has_arrived_after_go()
-    ensures phase { (k : Barrier) → is_over k ≡ false → (advanced k).phase < k.phases }
-    ensures flags { (k : Barrier) (d : ℕ) → d < length k.arrived → slice_get (advanced k).arrived d ≡ Some false }
-    ensures cores { (k : Barrier) → length (advanced k).arrived ≡ length k.arrived }
+    ensures phase { (k : Barrier) → is_over k ≡ false → (in_next_phase k).phase < k.phases }
+    ensures flags { (k : Barrier) (d : ℕ) → d < length k.arrived → slice_get (in_next_phase k).arrived d ≡ Some false }
+    ensures cores { (k : Barrier) → length (in_next_phase k).arrived ≡ length k.arrived }
 {}
 
 /// Once every core has arrived, as after Halt, an arrival changes nothing and gets Wait.
 pub fn a_full_barrier_stays()
-    ensures { (k : Barrier) (core : ℕ) (bad : Bool) → all_arrived k ≡ true → arrives k core bad ≡ (k, Wait) }
+    ensures { (k : Barrier) (core : ℕ) (bad : Bool) → all_arrived k ≡ true → keeper_arrives k core bad ≡ (k, Wait) }
 {}

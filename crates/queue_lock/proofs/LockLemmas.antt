@@ -8,21 +8,21 @@ use Rattle.std.proofs.lemmas.Bool.Decides.{nat_tests}
 use Rattle.dn_base.specs.declared.ids.CoreId.{CoreId}
 use Rattle.write_signature.specs.declared.signature.Signature.{Signature}
 use Rattle.circular_buffer.specs.Buffer.{Buffer, buffer}
-use Rattle.queue_lock.specs.Lock.{Lock, IsLock, free_lock, is_core, waits, places_of, queued, asked, acquired, handed_on, given_up, released}
+use Rattle.queue_lock.specs.Lock.{Lock, IsLock, free_lock, is_core, waits, times_queued, queued, asked, acquired, handed_on, given_up, released}
 use Rattle.write_signature.specs.Signature.{joined}
 
 -- what passes a test weighs 1
 abbrev bit : Bool → ℕ
 bit b = cond b 1 0
 
-pub places_of-cons : (core : ℕ) (d : CoreId) (queue : List CoreId) → places_of core (d ∷ queue) ≡ bit (d.0 == core) + places_of core queue
+pub places_of-cons : (core : ℕ) (d : CoreId) (queue : List CoreId) → times_queued core (d ∷ queue) ≡ bit (d.0 == core) + times_queued core queue
 places_of-cons core d queue = sum_by-cons (λ (x : CoreId). bit (is_core core x)) d queue
 
-pub places_of-push : (core : ℕ) (queue : List CoreId) (d : CoreId) → places_of core (queue ++ d ∷ []) ≡ places_of core queue + bit (d.0 == core)
+pub places_of-push : (core : ℕ) (queue : List CoreId) (d : CoreId) → times_queued core (queue ++ d ∷ []) ≡ times_queued core queue + bit (d.0 == core)
 places_of-push core queue d = sum_by_push (λ (x : CoreId). bit (is_core core x)) queue d
 
 -- a core that does not wait stands at no place
-pub places_of-none : (core : ℕ) (queue : List CoreId) → waits core queue ≡ false → places_of core queue ≡ 0
+pub places_of-none : (core : ℕ) (queue : List CoreId) → waits core queue ≡ false → times_queued core queue ≡ 0
 places_of-none core [] absent = refl
 places_of-none core (d ∷ queue) absent =
     let rest : waits core queue ≡ false = grind (arith, nat_tests) in
@@ -31,7 +31,7 @@ places_of-none core (d ∷ queue) absent =
 
 pub popped : (h : Lock) (s : Signature) → IsLock h → IsLock (record { holder = slice_get h.queue 0; queue = drop 1 h.queue; capacity = h.capacity; kept = s })
 popped h s good = by_queue h.queue good.once good.within where
-  by_queue : (queue : List CoreId) → ((core : ℕ) → places_of core queue ≤ 1) → length queue ≤ h.capacity → IsLock (record { holder = slice_get queue 0; queue = drop 1 queue; capacity = h.capacity; kept = s })
+  by_queue : (queue : List CoreId) → ((core : ℕ) → times_queued core queue ≤ 1) → length queue ≤ h.capacity → IsLock (record { holder = slice_get queue 0; queue = drop 1 queue; capacity = h.capacity; kept = s })
   by_queue [] once within = record { free = λ e. refl; once = once; within = within }
   by_queue (d ∷ queue) once within =
       record { free = λ e. absurd (cc); once = λ core. omega (arith, once core, places_of-cons core d queue); within = omega (arith) }
@@ -39,10 +39,10 @@ popped h s good = by_queue h.queue good.once good.within where
 pub pushed : (h : Lock) (core : CoreId) → IsLock h → h.holder ≢ None → waits core.0 h.queue ≡ false → length h.queue < h.capacity → IsLock (record h { queue = h.queue ++ core ∷ [] })
 pushed h core good held absent room =
     record { free = λ e. absurd (held e); once = λ c. by_core c (core.0 == c) refl; within = omega (arith, length-append h.queue (core ∷ [])) } where
-      by_core : (c : ℕ) (t : Bool) → (core.0 == c) ≡ t → places_of c (h.queue ++ core ∷ []) ≤ 1
+      by_core : (c : ℕ) (t : Bool) → (core.0 == c) ≡ t → times_queued c (h.queue ++ core ∷ []) ≤ 1
       by_core c true e =
           let same : core.0 ≡ c = grind (arith, nat_tests) in
-          let none : places_of c h.queue ≡ 0 = rw (← same) (places_of-none core.0 h.queue absent) in
+          let none : times_queued c h.queue ≡ 0 = rw (← same) (places_of-none core.0 h.queue absent) in
           let one : bit (core.0 == c) ≡ 1 = rw e refl in
           omega (arith, none, one, places_of-push c h.queue core)
       by_core c false e =
@@ -73,7 +73,7 @@ IsLock-acquired h core good = by_holder h.holder refl where
 
 IsLock-handed : (h : Lock) (s : Signature) → IsLock h → IsLock (handed_on (record h { kept = s }) h.queue).0
 IsLock-handed h s good = by_queue h.queue refl good.once good.within where
-  by_queue : (queue : List CoreId) → h.queue ≡ queue → ((core : ℕ) → places_of core queue ≤ 1) → length queue ≤ h.capacity → IsLock (handed_on (record h { kept = s }) queue).0
+  by_queue : (queue : List CoreId) → h.queue ≡ queue → ((core : ℕ) → times_queued core queue ≤ 1) → length queue ≤ h.capacity → IsLock (handed_on (record h { kept = s }) queue).0
   by_queue [] e once within = record { free = λ none. e; once = good.once; within = good.within }
   by_queue (d ∷ ds) e once within =
       record { free = λ none. absurd (cc); once = λ core. omega (arith, once core, places_of-cons core d ds); within = omega (arith, within) }
@@ -88,14 +88,14 @@ IsLock-released h core s good = by_holder h.holder where
   by_holder None = good
   by_holder (Some d) = by_test (is_core core.0 d)
 
-pub waits-stands : (core : ℕ) (queue : List CoreId) → (waits core queue ≡ true) ↔ (1 ≤ places_of core queue)
+pub waits-stands : (core : ℕ) (queue : List CoreId) → (waits core queue ≡ true) ↔ (1 ≤ times_queued core queue)
 waits-stands core [] = ((λ e. cc), (λ some. absurd (omega arith)))
 waits-stands core (d ∷ queue) = grind (arith, nat_tests, waits-stands core queue, places_of-cons core d queue)
 
 -- how many places the first cores have together
 total : ℕ → List CoreId → ℕ
 total zero queue = 0
-total (suc n) queue = total n queue + places_of n queue
+total (suc n) queue = total n queue + times_queued n queue
 
 total-none : (n : ℕ) → total n [] ≡ 0
 unfolding total
@@ -114,24 +114,24 @@ total-all n (d ∷ queue) within =
     let rest = total-all n queue (λ k x below. within (suc k) x (omega (arith, below))) in
     grind (arith, nat_tests, total-cons n d queue, rest)
 
-total-once : (n : ℕ) (queue : List CoreId) → ((d : ℕ) → places_of d queue ≤ 1) → total n queue ≤ n
+total-once : (n : ℕ) (queue : List CoreId) → ((d : ℕ) → times_queued d queue ≤ 1) → total n queue ≤ n
 unfolding total
 total-once zero queue once = omega arith
 total-once (suc n) queue once = omega (arith, once n, total-once n queue once)
 
-total-absent : (n core : ℕ) (queue : List CoreId) → ((d : ℕ) → places_of d queue ≤ 1) → core < n → places_of core queue ≡ 0 → total n queue < n
+total-absent : (n core : ℕ) (queue : List CoreId) → ((d : ℕ) → times_queued d queue ≤ 1) → core < n → times_queued core queue ≡ 0 → total n queue < n
 unfolding total
 total-absent zero core queue once below absent = absurd (omega arith)
 total-absent (suc n) core queue once below absent = by_test (core == n) refl (total-absent n core queue once) where
-  by_test : (t : Bool) → (core == n) ≡ t → (core < n → places_of core queue ≡ 0 → total n queue < n) → total n queue + places_of n queue < suc n
+  by_test : (t : Bool) → (core == n) ≡ t → (core < n → times_queued core queue ≡ 0 → total n queue < n) → total n queue + times_queued n queue < suc n
   by_test true e rest =
       let same : core ≡ n = grind (arith, nat_tests) in
-      let none : places_of n queue ≡ 0 = rw (← same) absent in
+      let none : times_queued n queue ≡ 0 = rw (← same) absent in
       omega (arith, none, total-once n queue once)
   by_test false e rest =
       let lower : core < n = grind (arith, nat_tests) in
       omega (arith, rest lower absent, once n)
 
-pub room : (queue : List CoreId) (cores core : ℕ) → All (λ (d : CoreId). d.0 < cores) queue → ((d : ℕ) → places_of d queue ≤ 1) → core < cores → places_of core queue ≡ 0 → length queue < cores
+pub room : (queue : List CoreId) (cores core : ℕ) → All (λ (d : CoreId). d.0 < cores) queue → ((d : ℕ) → times_queued d queue ≤ 1) → core < cores → times_queued core queue ≡ 0 → length queue < cores
 room queue cores core within once below absent =
     omega (arith, total-all cores queue within, total-absent cores core queue once below absent)

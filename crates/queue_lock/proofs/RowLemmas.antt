@@ -8,7 +8,7 @@ use Rattle.std.proofs.lemmas.Bool.Decides.{nat_tests}
 use Rattle.dn_base.specs.declared.ids.CoreId.{CoreId}
 use Rattle.write_signature.specs.declared.signature.Signature.{Signature}
 use Rattle.write_signature.specs.Signature.{joined}
-use Rattle.queue_lock.specs.Lock.{Lock, IsLockOf, free_lock, is_core, waits, places_of, queued, asked, acquired, handed_on, given_up, released, holder_count, grant_count, next_count}
+use Rattle.queue_lock.specs.Lock.{Lock, IsLockOf, free_lock, is_core, waits, times_queued, queued, asked, acquired, handed_on, given_up, released, holder_count, grant_count, next_count}
 use Rattle.queue_lock.proofs.LockLemmas.{places_of-cons, places_of-push, waits-stands, room, IsLock-free, IsLock-acquired, IsLock-released}
 
 -- what passes a test weighs 1
@@ -16,7 +16,7 @@ abbrev bit : Bool → ℕ
 bit b = cond b 1 0
 
 -- a core does not wait exactly where it stands at no place
-waits-none : (core : ℕ) (queue : List CoreId) → places_of core queue ≡ 0 → waits core queue ≡ false
+waits-none : (core : ℕ) (queue : List CoreId) → times_queued core queue ≡ 0 → waits core queue ≡ false
 waits-none core queue none = by_test (waits core queue) refl where
   by_test : (t : Bool) → waits core queue ≡ t → waits core queue ≡ false
   by_test true e = absurd (omega (arith, none, (waits-stands core queue).0 e))
@@ -41,13 +41,13 @@ holder-one c d (Some x) = grind (arith, nat_tests)
 pub acquired-free : (h : Lock) (core : CoreId) → h.holder ≡ None → acquired h core ≡ (record h { holder = Some core }, Some h.kept)
 acquired-free h core free = rw free refl
 
-pub acquired-held : (h : Lock) (core holder : CoreId) → h.holder ≡ Some holder → places_of core.0 h.queue ≡ 0 → length h.queue < h.capacity → acquired h core ≡ (record h { queue = h.queue ++ core ∷ [] }, None)
+pub acquired-held : (h : Lock) (core holder : CoreId) → h.holder ≡ Some holder → times_queued core.0 h.queue ≡ 0 → length h.queue < h.capacity → acquired h core ≡ (record h { queue = h.queue ++ core ∷ [] }, None)
 acquired-held h core holder held absent room =
     let none = waits-none core.0 h.queue absent in
     let fits : nat_le h.capacity (length h.queue) ≡ false = grind (arith, nat_tests) in
     rw (held, none, fits) refl
 
-pub acquired-again : (h : Lock) (core holder : CoreId) → h.holder ≡ Some holder → 1 ≤ places_of core.0 h.queue → acquired h core ≡ (h, None)
+pub acquired-again : (h : Lock) (core holder : CoreId) → h.holder ≡ Some holder → 1 ≤ times_queued core.0 h.queue → acquired h core ≡ (h, None)
 acquired-again h core holder held there =
     let waiting : waits core.0 h.queue ≡ true = (waits-stands core.0 h.queue).1 there in
     rw (held, waiting) refl
@@ -83,9 +83,9 @@ holder-acquired h core d = by_holder h.holder refl where
       let same : (queued h core).holder ≡ h.holder = grind (arith, nat_tests) in
       rw same (omega arith)
 
-pub queue-acquired : (h : Lock) (core : CoreId) (d : ℕ) → places_of core.0 h.queue ≡ 0 → length h.queue < h.capacity → places_of d (acquired h core).0.queue + grant_count d core (acquired h core).1 ≡ places_of d h.queue + bit (core.0 == d)
+pub queue-acquired : (h : Lock) (core : CoreId) (d : ℕ) → times_queued core.0 h.queue ≡ 0 → length h.queue < h.capacity → times_queued d (acquired h core).0.queue + grant_count d core (acquired h core).1 ≡ times_queued d h.queue + bit (core.0 == d)
 queue-acquired h core d absent room = by_holder h.holder refl where
-  by_holder : (o : Option CoreId) → h.holder ≡ o → places_of d (acquired h core).0.queue + grant_count d core (acquired h core).1 ≡ places_of d h.queue + bit (core.0 == d)
+  by_holder : (o : Option CoreId) → h.holder ≡ o → times_queued d (acquired h core).0.queue + grant_count d core (acquired h core).1 ≡ times_queued d h.queue + bit (core.0 == d)
   by_holder None e = rw (acquired-free h core e) refl
   by_holder (Some x) e =
       rw (acquired-held h core x e absent room) (omega (arith, places_of-push d h.queue core))
@@ -132,9 +132,9 @@ holder-released h core s d own = rw (released-own h core s own) (by_queue h.queu
   by_queue [] = refl
   by_queue (x ∷ xs) = refl
 
-pub queue-released : (h : Lock) (core : CoreId) (s : Signature) (d : ℕ) → holder_count core.0 h.holder ≡ 1 → places_of d (released h core s).0.queue + next_count d (released h core s).1 ≡ places_of d h.queue
+pub queue-released : (h : Lock) (core : CoreId) (s : Signature) (d : ℕ) → holder_count core.0 h.holder ≡ 1 → times_queued d (released h core s).0.queue + next_count d (released h core s).1 ≡ times_queued d h.queue
 queue-released h core s d own = rw (released-own h core s own) (by_queue h.queue refl) where
-  by_queue : (queue : List CoreId) → h.queue ≡ queue → places_of d (handed_on (record h { kept = joined h.kept s }) queue).0.queue + next_count d (handed_on (record h { kept = joined h.kept s }) queue).1 ≡ places_of d queue
+  by_queue : (queue : List CoreId) → h.queue ≡ queue → times_queued d (handed_on (record h { kept = joined h.kept s }) queue).0.queue + next_count d (handed_on (record h { kept = joined h.kept s }) queue).1 ≡ times_queued d queue
   by_queue [] e = rw e refl
   by_queue (x ∷ xs) e = omega (arith, places_of-cons d x xs)
 
@@ -218,7 +218,7 @@ IsLockOf-released cores h core s good =
     let members = released-members cores h core s good in
     record { lock = IsLock-released h core s good.lock; room = capacity-released h core s ∙ good.room; holder = members.holder; queue = members.queue }
 
-pub room-of : (cores : ℕ) (h : Lock) (core : CoreId) → IsLockOf cores h → core.0 < cores → places_of core.0 h.queue ≡ 0 → length h.queue < h.capacity
+pub room-of : (cores : ℕ) (h : Lock) (core : CoreId) → IsLockOf cores h → core.0 < cores → times_queued core.0 h.queue ≡ 0 → length h.queue < h.capacity
 room-of cores h core good below absent =
     rw good.room (room h.queue cores core.0 good.queue good.lock.once below absent)
 
@@ -231,9 +231,9 @@ outsider-holder cores h d good past = by_holder h.holder refl where
       let below : x.0 < cores = good.holder x e in
       grind (arith, nat_tests)
 
-pub outsider-queue : (cores : ℕ) (h : Lock) (d : ℕ) → IsLockOf cores h → cores ≤ d → places_of d h.queue ≡ 0
+pub outsider-queue : (cores : ℕ) (h : Lock) (d : ℕ) → IsLockOf cores h → cores ≤ d → times_queued d h.queue ≡ 0
 outsider-queue cores h d good past = by_queue h.queue good.queue where
-  by_queue : (queue : List CoreId) → All (λ (c : CoreId). c.0 < cores) queue → places_of d queue ≡ 0
+  by_queue : (queue : List CoreId) → All (λ (c : CoreId). c.0 < cores) queue → times_queued d queue ≡ 0
   by_queue [] all = refl
   by_queue (x ∷ xs) all =
       let below : x.0 < cores = All-head (λ (c : CoreId). c.0 < cores) x xs all in

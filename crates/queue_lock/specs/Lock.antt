@@ -26,13 +26,13 @@ abbrev pub waits : ℕ → List CoreId → Bool
 waits core queue = list_any (is_core core) queue
 
 -- at how many places of the queue a core stands
-abbrev pub places_of : ℕ → List CoreId → ℕ
-places_of core queue = count_by (is_core core) queue
+abbrev pub times_queued : ℕ → List CoreId → ℕ
+times_queued core queue = count_by (is_core core) queue
 
 -- what is true of every lock: nobody waits for a free one, and no core stands in the queue twice
 pub record IsLock (h : Lock) : Type 0 where
   pub free : h.holder ≡ None → h.queue ≡ []
-  pub once : (core : ℕ) → places_of core h.queue ≤ 1
+  pub once : (core : ℕ) → times_queued core h.queue ≤ 1
   pub within : length h.queue ≤ h.capacity
 
 -- what is true of every lock of a machine with so many cores: only they hold it and wait for it, and all of them may wait

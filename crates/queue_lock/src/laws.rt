@@ -4,7 +4,7 @@ ghost use Rattle.std.specs.List.{All};
 ghost use Rattle.dn_base.specs.declared.ids.CoreId.{CoreId};
 ghost use Rattle.write_signature.specs.declared.signature.Signature.{Signature};
 ghost use Rattle.write_signature.specs.Signature.{joined};
-ghost use Rattle.queue_lock.specs.Lock.{Lock, IsLock, IsLockOf, free_lock, is_core, waits, places_of, acquired, released, holder_count, grant_count, next_count};
+ghost use Rattle.queue_lock.specs.Lock.{Lock, IsLock, IsLockOf, free_lock, is_core, waits, times_queued, acquired, released, holder_count, grant_count, next_count};
 
 /// A free lock has an empty queue, and no core stands in a queue twice, whatever is asked and given up.
 pub fn locks_stay_well_formed()
@@ -23,15 +23,15 @@ pub fn locks_stay_the_machines()
 
 /// A core waits exactly where it stands in the queue.
 pub fn who_waits_stands_in_the_queue()
-    ensures { (core : ℕ) (queue : List CoreId) → (waits core queue ≡ true) ↔ (1 ≤ places_of core queue) }
+    ensures { (core : ℕ) (queue : List CoreId) → (waits core queue ≡ true) ↔ (1 ≤ times_queued core queue) }
 {}
 
 /// A queue in which each of the cores stands at most once, and one of them not at all, has fewer than all of them; so the
 /// queue of a machine's lock has room for a core that doesn't stand in it.
 pub fn a_queue_without_a_core_has_room()
-    ensures queue { (queue : List CoreId) (cores core : ℕ) → All (λ (d : CoreId). d.0 < cores) queue → ((d : ℕ) → places_of d queue ≤ 1)
-        → core < cores → places_of core queue ≡ 0 → length queue < cores }
-    ensures lock { (cores : ℕ) (h : Lock) (core : CoreId) → IsLockOf cores h → core.0 < cores → places_of core.0 h.queue ≡ 0
+    ensures queue { (queue : List CoreId) (cores core : ℕ) → All (λ (d : CoreId). d.0 < cores) queue → ((d : ℕ) → times_queued d queue ≤ 1)
+        → core < cores → times_queued core queue ≡ 0 → length queue < cores }
+    ensures lock { (cores : ℕ) (h : Lock) (core : CoreId) → IsLockOf cores h → core.0 < cores → times_queued core.0 h.queue ≡ 0
         → length h.queue < h.capacity }
 {}
 
@@ -44,9 +44,9 @@ pub fn one_core_holds_a_lock()
 pub fn an_acquire_counts_its_core()
     ensures holder { (h : Lock) (core : CoreId) (d : ℕ)
         → holder_count d (acquired h core).0.holder ≡ holder_count d h.holder + grant_count d core (acquired h core).1 }
-    ensures queue { (h : Lock) (core : CoreId) (d : ℕ) → places_of core.0 h.queue ≡ 0 → length h.queue < h.capacity
-        → places_of d (acquired h core).0.queue + grant_count d core (acquired h core).1
-        ≡ places_of d h.queue + (if is_core d core then 1 else 0) }
+    ensures queue { (h : Lock) (core : CoreId) (d : ℕ) → times_queued core.0 h.queue ≡ 0 → length h.queue < h.capacity
+        → times_queued d (acquired h core).0.queue + grant_count d core (acquired h core).1
+        ≡ times_queued d h.queue + (if is_core d core then 1 else 0) }
     ensures kept { (h : Lock) (core : CoreId) → (acquired h core).0.kept ≡ h.kept }
     ensures answer { (h : Lock) (core : CoreId) (signature : Signature) → (acquired h core).1 ≡ Some signature
         → (h.holder ≡ None) × (signature ≡ h.kept) }
@@ -58,7 +58,7 @@ pub fn a_release_hands_the_lock_on()
     ensures holder { (h : Lock) (core : CoreId) (signature : Signature) (d : ℕ) → holder_count core.0 h.holder ≡ 1
         → holder_count d (released h core signature).0.holder ≡ next_count d (released h core signature).1 }
     ensures queue { (h : Lock) (core : CoreId) (signature : Signature) (d : ℕ) → holder_count core.0 h.holder ≡ 1
-        → places_of d (released h core signature).0.queue + next_count d (released h core signature).1 ≡ places_of d h.queue }
+        → times_queued d (released h core signature).0.queue + next_count d (released h core signature).1 ≡ times_queued d h.queue }
     ensures kept { (h : Lock) (core : CoreId) (signature : Signature) → holder_count core.0 h.holder ≡ 1
         → (released h core signature).0.kept ≡ joined h.kept signature }
     ensures answer { (h : Lock) (core next : CoreId) (signature told : Signature) → (released h core signature).1 ≡ Some (next, told)

@@ -10,7 +10,7 @@ use Rattle.region_table.specs.declared.declared.Region.{Region}
 use Rattle.region_table.specs.declared.declared.Phase.{Phase}
 use Rattle.region_table.specs.Words.{in_interval, has, AreApart, IsCanonical}
 use Rattle.region_table.specs.Program.{AreTiled}
-use Rattle.region_table.specs.Plan.{in_region, phase_writes, IsWritten}
+use Rattle.region_table.specs.Plan.{in_region, phase_writes, IsInTouchedRegion}
 use Rattle.region_table.specs.Overlap.{overlaps, in_overlapped}
 use Rattle.region_table.proofs.WordLemmas.{in_interval-true}
 use Rattle.region_table.proofs.MergeLemmas.{RisesTo, rises_on}
@@ -144,7 +144,7 @@ overlap-from_word (i ∷ is) r v m h =
 
 -- a word in an overlapped region is written
 written-from_overlapped : (regions : List Region) (end : ℕ) (p : Phase) (set : List Interval) (w : ℕ) → AreTiled 0 regions end → IsCanonical set
-    → ((v : ℕ) → has set v ≡ phase_writes p v) → in_overlapped regions set w ≡ true → IsWritten regions p w
+    → ((v : ℕ) → has set v ≡ phase_writes p v) → in_overlapped regions set w ≡ true → IsInTouchedRegion regions p w
 written-from_overlapped regions end p set w t c same h =
     let some = Any-from_list_any (λ (r : Region). in_region r w && overlaps set r) regions h in
     let r : Region = some.1 in
@@ -154,7 +154,7 @@ written-from_overlapped regions end p set w t c same h =
     (some.0, r, some.2, some.3, (parts.0, (word.0, word.1, sym (same word.0) ∙ word.2)))
 
 -- a written word is in an overlapped region
-overlapped-from_written : (regions : List Region) (p : Phase) (set : List Interval) (w : ℕ) → ((v : ℕ) → has set v ≡ phase_writes p v) → IsWritten regions p w → in_overlapped regions set w ≡ true
+overlapped-from_written : (regions : List Region) (p : Phase) (set : List Interval) (w : ℕ) → ((v : ℕ) → has set v ≡ phase_writes p v) → IsInTouchedRegion regions p w → in_overlapped regions set w ≡ true
 overlapped-from_written regions p set w same h =
     let r : Region = h.1 in
     let word = h.4.1 in
@@ -163,7 +163,7 @@ overlapped-from_written regions p set w same h =
 
 -- the words of the regions that the written words overlap are the words that a plan says are written
 pub written-overlapped : (regions : List Region) (end : ℕ) (p : Phase) (set : List Interval) (w : ℕ) → AreTiled 0 regions end → IsCanonical set
-    → ((v : ℕ) → has set v ≡ phase_writes p v) → IsTrue (in_overlapped regions set w) ↔ IsWritten regions p w
+    → ((v : ℕ) → has set v ≡ phase_writes p v) → IsTrue (in_overlapped regions set w) ↔ IsInTouchedRegion regions p w
 written-overlapped regions end p set w t c same =
     (written-from_overlapped regions end p set w t c same, overlapped-from_written regions p set w same)
 

@@ -39,13 +39,13 @@ abbrev pub IsTouched : Phase → Region → Type 0
 IsTouched p r = (v : ℕ) × IsTrue (in_region r v) × IsTrue (phase_writes p v)
 
 -- the word lies in a region of which some task of the phase writes some word
-abbrev pub IsWritten : List Region → Phase → ℕ → Type 0
-IsWritten regions p w = Any (λ (r : Region). IsTrue (in_region r w) × IsTouched p r) regions
+abbrev pub IsInTouchedRegion : List Region → Phase → ℕ → Type 0
+IsInTouchedRegion regions p w = Any (λ (r : Region). IsTrue (in_region r w) × IsTouched p r) regions
 
 -- the plan of a phase
 pub record IsPlan (program : ProgramParts) (p : Phase) (plan : PhasePlan) : Type 0 where
   -- `written` has the words of the regions in which the phase writes, and no others
-  pub written : (w : ℕ) → IsTrue (has plan.written w) ↔ IsWritten program.regions p w
+  pub written : (w : ℕ) → IsTrue (has plan.written w) ↔ IsInTouchedRegion program.regions p w
   -- there is one set of guarded words for each lock, which has the words that the lock guards for some task
   pub by_lock : length plan.guarded ≡ length program.locks
   pub guarded : (lock w : ℕ) → lock < length program.locks → has (slice_index_or plan.guarded lock []) w ≡ phase_guards p lock w

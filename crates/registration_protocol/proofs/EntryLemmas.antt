@@ -14,8 +14,8 @@ use Rattle.word_cache.proofs.LookLemmas.{lookup-without, lookup-put, lookup-chan
 use Rattle.registration_protocol.specs.declared.node.NodeWait as wait
 use Rattle.registration_protocol.specs.Node.{NodeParts, Setting, entry_of}
 use Rattle.registration_protocol.specs.OwnEvents.{stored, evicts}
-use Rattle.registration_protocol.specs.Messages.{node_gets, ack_row, forward_row, gone_row, read_row, data_row}
-use Rattle.registration_protocol.specs.Changes.{acknowledged, forwarded, given_back, given_up}
+use Rattle.registration_protocol.specs.Messages.{node_gets, reg_ack_row, reg_fwd_row, wb_ack_row, read_fwd_row, data_reply_row}
+use Rattle.registration_protocol.specs.Changes.{on_reg_ack, on_reg_fwd, on_wb_ack, on_evict}
 
 -- what a word has that has an entry's change
 pub at_word : (f : Option Entry → Option Entry) (w v : ℕ) (ps : List Pair) (e r : Option Entry) → lookup w ps ≡ e → f e ≡ r → cond (w == v) r (lookup v ps) ≡ cond (w == v) (f (lookup v ps)) (lookup v ps)
@@ -46,42 +46,42 @@ rewritten : (f : Option Entry → Option Entry) (w v : ℕ) (ps : List Pair) (a 
 rewritten f w v ps a b is becomes =
     lookup-changed w v b ps ∙ ap (λ (o : Option Entry). cond (w == v) (option_map (λ (_ : Entry). b) o) (lookup v ps)) is ∙ at_word f w v ps (Some a) (Some b) is becomes
 
-pub ack-entry : (n : NodeParts) (word : WordId) (v : ℕ) (e : Option Entry) → entry_of n word.0 ≡ e → entry_of (ack_row n word e).0 v ≡ cond (word.0 == v) (acknowledged (entry_of n v)) (entry_of n v)
-ack-entry n word v None is = steady acknowledged word.0 v n.cache.pairs None is refl
-ack-entry n word v (Some (Valid value marked)) is = steady acknowledged word.0 v n.cache.pairs (Some (Valid value marked)) is refl
-ack-entry n word v (Some (Registered value true)) is = rewritten acknowledged word.0 v n.cache.pairs (Registered value true) (Registered value false) is refl
-ack-entry n word v (Some (Registered value false)) is = steady acknowledged word.0 v n.cache.pairs (Some (Registered value false)) is refl
-ack-entry n word v (Some (Leaving value)) is = steady acknowledged word.0 v n.cache.pairs (Some (Leaving value)) is refl
+pub ack-entry : (n : NodeParts) (word : WordId) (v : ℕ) (e : Option Entry) → entry_of n word.0 ≡ e → entry_of (reg_ack_row n word e).0 v ≡ cond (word.0 == v) (on_reg_ack (entry_of n v)) (entry_of n v)
+ack-entry n word v None is = steady on_reg_ack word.0 v n.cache.pairs None is refl
+ack-entry n word v (Some (Valid value marked)) is = steady on_reg_ack word.0 v n.cache.pairs (Some (Valid value marked)) is refl
+ack-entry n word v (Some (Registered value true)) is = rewritten on_reg_ack word.0 v n.cache.pairs (Registered value true) (Registered value false) is refl
+ack-entry n word v (Some (Registered value false)) is = steady on_reg_ack word.0 v n.cache.pairs (Some (Registered value false)) is refl
+ack-entry n word v (Some (Leaving value)) is = steady on_reg_ack word.0 v n.cache.pairs (Some (Leaving value)) is refl
 
 pub forward-entry : (n : NodeParts) (word : WordId) (core : CoreId) (v : ℕ) (e : Option Entry) → entry_of n word.0 ≡ e
-    → entry_of (forward_row n word core e).0 v ≡ cond (word.0 == v) (forwarded (entry_of n v)) (entry_of n v)
-forward-entry n word core v None is = steady forwarded word.0 v n.cache.pairs None is refl
-forward-entry n word core v (Some (Valid value marked)) is = steady forwarded word.0 v n.cache.pairs (Some (Valid value marked)) is refl
-forward-entry n word core v (Some (Registered value true)) is = steady forwarded word.0 v n.cache.pairs (Some (Registered value true)) is refl
-forward-entry n word core v (Some (Registered value false)) is = taken_out forwarded word.0 v n.cache.pairs (Some (Registered value false)) is refl
-forward-entry n word core v (Some (Leaving value)) is = steady forwarded word.0 v n.cache.pairs (Some (Leaving value)) is refl
+    → entry_of (reg_fwd_row n word core e).0 v ≡ cond (word.0 == v) (on_reg_fwd (entry_of n v)) (entry_of n v)
+forward-entry n word core v None is = steady on_reg_fwd word.0 v n.cache.pairs None is refl
+forward-entry n word core v (Some (Valid value marked)) is = steady on_reg_fwd word.0 v n.cache.pairs (Some (Valid value marked)) is refl
+forward-entry n word core v (Some (Registered value true)) is = steady on_reg_fwd word.0 v n.cache.pairs (Some (Registered value true)) is refl
+forward-entry n word core v (Some (Registered value false)) is = taken_out on_reg_fwd word.0 v n.cache.pairs (Some (Registered value false)) is refl
+forward-entry n word core v (Some (Leaving value)) is = steady on_reg_fwd word.0 v n.cache.pairs (Some (Leaving value)) is refl
 
-pub back-entry : (n : NodeParts) (word : WordId) (v : ℕ) (e : Option Entry) → entry_of n word.0 ≡ e → entry_of (gone_row n word e).0 v ≡ cond (word.0 == v) (given_back (entry_of n v)) (entry_of n v)
-back-entry n word v None is = steady given_back word.0 v n.cache.pairs None is refl
-back-entry n word v (Some (Valid value marked)) is = steady given_back word.0 v n.cache.pairs (Some (Valid value marked)) is refl
-back-entry n word v (Some (Registered value pending)) is = steady given_back word.0 v n.cache.pairs (Some (Registered value pending)) is refl
-back-entry n word v (Some (Leaving value)) is = taken_out given_back word.0 v n.cache.pairs (Some (Leaving value)) is refl
+pub back-entry : (n : NodeParts) (word : WordId) (v : ℕ) (e : Option Entry) → entry_of n word.0 ≡ e → entry_of (wb_ack_row n word e).0 v ≡ cond (word.0 == v) (on_wb_ack (entry_of n v)) (entry_of n v)
+back-entry n word v None is = steady on_wb_ack word.0 v n.cache.pairs None is refl
+back-entry n word v (Some (Valid value marked)) is = steady on_wb_ack word.0 v n.cache.pairs (Some (Valid value marked)) is refl
+back-entry n word v (Some (Registered value pending)) is = steady on_wb_ack word.0 v n.cache.pairs (Some (Registered value pending)) is refl
+back-entry n word v (Some (Leaving value)) is = taken_out on_wb_ack word.0 v n.cache.pairs (Some (Leaving value)) is refl
 
-pub evict-entry : (C : Setting) (n : NodeParts) (word : WordId) (v : ℕ) (e : Option Entry) → entry_of n word.0 ≡ e → entry_of (evicts C n word e).0 v ≡ cond (word.0 == v) (given_up (entry_of n v)) (entry_of n v)
-evict-entry C n word v None is = steady given_up word.0 v n.cache.pairs None is refl
-evict-entry C n word v (Some (Valid value marked)) is = taken_out given_up word.0 v n.cache.pairs (Some (Valid value marked)) is refl
-evict-entry C n word v (Some (Registered value true)) is = steady given_up word.0 v n.cache.pairs (Some (Registered value true)) is refl
-evict-entry C n word v (Some (Registered value false)) is = rewritten given_up word.0 v n.cache.pairs (Registered value false) (Leaving value) is refl
-evict-entry C n word v (Some (Leaving value)) is = steady given_up word.0 v n.cache.pairs (Some (Leaving value)) is refl
+pub evict-entry : (C : Setting) (n : NodeParts) (word : WordId) (v : ℕ) (e : Option Entry) → entry_of n word.0 ≡ e → entry_of (evicts C n word e).0 v ≡ cond (word.0 == v) (on_evict (entry_of n v)) (entry_of n v)
+evict-entry C n word v None is = steady on_evict word.0 v n.cache.pairs None is refl
+evict-entry C n word v (Some (Valid value marked)) is = taken_out on_evict word.0 v n.cache.pairs (Some (Valid value marked)) is refl
+evict-entry C n word v (Some (Registered value true)) is = steady on_evict word.0 v n.cache.pairs (Some (Registered value true)) is refl
+evict-entry C n word v (Some (Registered value false)) is = rewritten on_evict word.0 v n.cache.pairs (Registered value false) (Leaving value) is refl
+evict-entry C n word v (Some (Leaving value)) is = steady on_evict word.0 v n.cache.pairs (Some (Leaving value)) is refl
 
-pub read-same : (C : Setting) (n : NodeParts) (word : WordId) (reader : CoreId) (e : Option Entry) → (read_row C n word reader e).0 ≡ n
+pub read-same : (C : Setting) (n : NodeParts) (word : WordId) (reader : CoreId) (e : Option Entry) → (read_fwd_row C n word reader e).0 ≡ n
 read-same C n word reader None = refl
 read-same C n word reader (Some (Valid value marked)) = refl
 read-same C n word reader (Some (Registered value pending)) = refl
 read-same C n word reader (Some (Leaving value)) = refl
 
 pub data-entry : (n : NodeParts) (word : WordId) (value v : ℕ) → n.waiting ≡ wait.TheVariants.Reading word → entry_of n word.0 ≡ None → has_room n.cache word.0 ≡ true
-    → entry_of (data_row n word value n.waiting).0 v ≡ cond (word.0 == v) (Some (Valid value false)) (entry_of n v)
+    → entry_of (data_reply_row n word value n.waiting).0 v ≡ cond (word.0 == v) (Some (Valid value false)) (entry_of n v)
 data-entry n word value v waits none room =
     let same : (word.0 == word.0) ≡ true = grind (arith, nat_tests) in
     rw (waits, same, none, room) (lookup-put word (Valid value false) v n.cache.pairs)
@@ -92,16 +92,16 @@ store-entry C n d t word e v = lookup-put word e v n.cache.pairs
 
 -- ---- from the message
 
-pub gets-ack : (C : Setting) (n : NodeParts) (word : WordId) (v : ℕ) → entry_of (node_gets C n (RegAck word)).0 v ≡ cond (word.0 == v) (acknowledged (entry_of n v)) (entry_of n v)
+pub gets-ack : (C : Setting) (n : NodeParts) (word : WordId) (v : ℕ) → entry_of (node_gets C n (RegAck word)).0 v ≡ cond (word.0 == v) (on_reg_ack (entry_of n v)) (entry_of n v)
 unfolding node_gets
 gets-ack C n word v = ack-entry n word v (entry_of n word.0) refl
 
 pub gets-forward : (C : Setting) (n : NodeParts) (word : WordId) (core : CoreId) (v : ℕ)
-    → entry_of (node_gets C n (RegFwd word core)).0 v ≡ cond (word.0 == v) (forwarded (entry_of n v)) (entry_of n v)
+    → entry_of (node_gets C n (RegFwd word core)).0 v ≡ cond (word.0 == v) (on_reg_fwd (entry_of n v)) (entry_of n v)
 unfolding node_gets
 gets-forward C n word core v = forward-entry n word core v (entry_of n word.0) refl
 
-pub gets-back : (C : Setting) (n : NodeParts) (word : WordId) (v : ℕ) → entry_of (node_gets C n (WbAck word)).0 v ≡ cond (word.0 == v) (given_back (entry_of n v)) (entry_of n v)
+pub gets-back : (C : Setting) (n : NodeParts) (word : WordId) (v : ℕ) → entry_of (node_gets C n (WbAck word)).0 v ≡ cond (word.0 == v) (on_wb_ack (entry_of n v)) (entry_of n v)
 unfolding node_gets
 gets-back C n word v = back-entry n word v (entry_of n word.0) refl
 

@@ -20,7 +20,7 @@ use Rattle.rv_core.specs.declared.task.End as cause
 use Rattle.rv_core.specs.declared.task.End.{End}
 use Rattle.rv_core.specs.declared.need.Need as need
 use Rattle.rv_core.specs.declared.need.Need.{Need}
-use Rattle.rv_core.specs.Access.{holds}
+use Rattle.rv_core.specs.Access.{is_held}
 use Rattle.rv_core.specs.Kinds.{IsLoad, IsAdvance, EndsByFuel, Tells}
 use Rattle.rv_core.specs.Need.{need_of}
 use Rattle.rv_core.specs.Step.{advanced, loaded_of}
@@ -39,10 +39,10 @@ use Rattle.word_cache.proofs.CacheLaws.{cache-empty, cache-put, cache-changed, c
 use Rattle.registration_protocol.specs.declared.node.NodeWait as wait
 use Rattle.registration_protocol.specs.declared.node.NodeWait.{NodeWait}
 use Rattle.registration_protocol.specs.declared.node.Received.{Received}
-use Rattle.registration_protocol.specs.Node.{NodeParts, Setting, need_now, need_if, entry_of, is_ready, keeping, opened}
+use Rattle.registration_protocol.specs.Node.{NodeParts, Setting, need_now, need_if, entry_of, is_ready, keeping, initial_node}
 use Rattle.registration_protocol.specs.Fit.{Fits, HoldsOwn, NeedsLock, IsOfPhase}
-use Rattle.registration_protocol.specs.OwnEvents.{may_access, lets, noted, loads, stores, stored, instr_row, instr_by, instructed, may_instr, evicts, evicted, arrives}
-use Rattle.registration_protocol.specs.Messages.{fills, data_row, ack_row, forward_row, read_row, gone_row, granted_to, grant_row, begins, go_row, halt_row, node_gets}
+use Rattle.registration_protocol.specs.OwnEvents.{may_access, lets, noted, load_row, store_row, stored, instr_row, instr_by, instructed, may_instr, evicts, evicted, arrives}
+use Rattle.registration_protocol.specs.Messages.{fills, data_reply_row, reg_ack_row, reg_fwd_row, read_fwd_row, wb_ack_row, granted_to, grant_row, begins, go_row, halt_row, node_gets}
 use Rattle.registration_protocol.proofs.InstrLemmas.{HasNext, has-next}
 use Rattle.registration_protocol.proofs.SignatureLemmas.{length-noted, noted-tags}
 
@@ -152,23 +152,23 @@ ready_needs (wait.TheVariants.Locking lock) x e = absurd (cc)
 -- ---- what is held after an instruction
 
 held_same : (locks : ℕ) (t next : TaskState) → next.held ≡ t.held → HoldsOwn locks t → HoldsOwn locks next
-held_same locks t next same own = λ l h. own l (subst (λ (x : ℕ). holds x l ≡ true) same h)
+held_same locks t next same own = λ l h. own l (subst (λ (x : ℕ). is_held x l ≡ true) same h)
 
 held_more : (locks lock : ℕ) (t next : TaskState) → lock < locks → next.held ≡ bit_or t.held (2 ^ lock) → HoldsOwn locks t → HoldsOwn locks next
 held_more locks lock t next within e own =
     λ k h.
     ⊎_elim (λ (same : k ≡ lock). subst (λ (x : ℕ). x < locks) (sym same) within)
     (λ (apart : k ≡ lock → ⊥).
-    let now : holds (bit_or t.held (2 ^ lock)) k ≡ true = subst (λ (x : ℕ). holds x k ≡ true) e h in
+    let now : is_held (bit_or t.held (2 ^ lock)) k ≡ true = subst (λ (x : ℕ). is_held x k ≡ true) e h in
     own k (ap (nat_lt 0) (sym (and_or_apart (2 ^ k) t.held (2 ^ lock) (pow_apart lock k (λ s. apart (sym s))))) ∙ now))
     (cases_eq k lock)
 
-held_less : (locks lock : ℕ) (t next : TaskState) → holds t.held lock ≡ true → next.held ≡ bit_xor t.held (2 ^ lock) → HoldsOwn locks t → HoldsOwn locks next
+held_less : (locks lock : ℕ) (t next : TaskState) → is_held t.held lock ≡ true → next.held ≡ bit_xor t.held (2 ^ lock) → HoldsOwn locks t → HoldsOwn locks next
 held_less locks lock t next there e own =
     λ k h.
-    ⊎_elim (λ (same : k ≡ lock). own k (subst (λ (x : ℕ). holds t.held x ≡ true) (sym same) there))
+    ⊎_elim (λ (same : k ≡ lock). own k (subst (λ (x : ℕ). is_held t.held x ≡ true) (sym same) there))
     (λ (apart : k ≡ lock → ⊥).
-    let now : holds (bit_xor t.held (2 ^ lock)) k ≡ true = subst (λ (x : ℕ). holds x k ≡ true) e h in
+    let now : is_held (bit_xor t.held (2 ^ lock)) k ≡ true = subst (λ (x : ℕ). is_held x k ≡ true) e h in
     own k (ap (nat_lt 0) (sym (and_xor_apart (2 ^ k) t.held (2 ^ lock) (pow_apart lock k (λ s. apart (sym s))))) ∙ now))
     (cases_eq k lock)
 
@@ -227,7 +227,7 @@ access_room n w None is may = rw is may
 access_room n w (Some e) is may = rw is refl
 
 load_fits : (C : Setting) (n : NodeParts) (d : TaskDecl) (t : TaskState) (word : WordId) (e : Option Entry) → Fits C n → HasNeed C n d t (need.TheVariants.Load word)
-    → Fits C (loads C n d t word e).0
+    → Fits C (load_row C n d t word e).0
 load_fits C n d t word None fit has = with_wait C n (wait.TheVariants.Reading word) tt fit
 load_fits C n d t word (Some (Valid value marked)) fit has =
     with_task C n _ wait.TheVariants.None _ n.signatures fit (has_task C n d t _ has) (loaded-fine C d t value word has.needs has.fine) (λ x. tt)
@@ -246,7 +246,7 @@ stored_fits C n d t word whole e fit has =
     (record { count = length-noted d t.held word.0 n.phase 0 n.signatures; tags = noted-tags d t.held word.0 n.phase 0 n.signatures fit.tags })
 
 store_fits : (C : Setting) (n : NodeParts) (d : TaskDecl) (t : TaskState) (word : WordId) (whole all : Bool) (e : Option Entry) → Fits C n → HasNeed C n d t (need.TheVariants.Store word all)
-    → Fits C (stores C n d t word whole e).0
+    → Fits C (store_row C n d t word whole e).0
 store_fits C n d t word true all None fit has = stored_fits C n d t word all _ fit has
 store_fits C n d t word false all None fit has = with_wait C n (wait.TheVariants.Reading word) tt fit
 store_fits C n d t word whole all (Some (Valid value marked)) fit has = stored_fits C n d t word all _ fit has
@@ -333,33 +333,33 @@ fills_fit C n word value None fit =
     (with_cache C n _ (cache-put n.cache word _ fit.cache (or_second (is_some (entry_of n word.0)) (has_room n.cache word.0) room)) fit)) fit
 fills_fit C n word value (Some e) fit = fit
 
-data_fits : (C : Setting) (n : NodeParts) (word : WordId) (value : ℕ) (w : NodeWait) → Fits C n → Fits C (data_row n word value w).0
+data_fits : (C : Setting) (n : NodeParts) (word : WordId) (value : ℕ) (w : NodeWait) → Fits C n → Fits C (data_reply_row n word value w).0
 data_fits C n word value wait.TheVariants.None fit = fit
 data_fits C n word value (wait.TheVariants.Reading wanted) fit = either_fits C (wanted.0 == word.0) _ _ (fills_fit C n word value (entry_of n word.0) fit) fit
 data_fits C n word value (wait.TheVariants.Filled wanted) fit = fit
 data_fits C n word value (wait.TheVariants.Locking lock) fit = fit
 
-ack_fits : (C : Setting) (n : NodeParts) (word : WordId) (e : Option Entry) → Fits C n → Fits C (ack_row n word e).0
+ack_fits : (C : Setting) (n : NodeParts) (word : WordId) (e : Option Entry) → Fits C n → Fits C (reg_ack_row n word e).0
 ack_fits C n word None fit = fit
 ack_fits C n word (Some (Valid value marked)) fit = fit
 ack_fits C n word (Some (Registered value true)) fit = with_cache C n _ (cache-changed n.cache word.0 _ fit.cache) fit
 ack_fits C n word (Some (Registered value false)) fit = fit
 ack_fits C n word (Some (Leaving value)) fit = fit
 
-forward_fits : (C : Setting) (n : NodeParts) (word : WordId) (core : CoreId) (e : Option Entry) → Fits C n → Fits C (forward_row n word core e).0
+forward_fits : (C : Setting) (n : NodeParts) (word : WordId) (core : CoreId) (e : Option Entry) → Fits C n → Fits C (reg_fwd_row n word core e).0
 forward_fits C n word core None fit = fit
 forward_fits C n word core (Some (Valid value marked)) fit = fit
 forward_fits C n word core (Some (Registered value true)) fit = fit
 forward_fits C n word core (Some (Registered value false)) fit = with_cache C n _ (cache-without n.cache word.0 fit.cache) fit
 forward_fits C n word core (Some (Leaving value)) fit = fit
 
-read_fits : (C : Setting) (n : NodeParts) (word : WordId) (reader : CoreId) (e : Option Entry) → Fits C n → Fits C (read_row C n word reader e).0
+read_fits : (C : Setting) (n : NodeParts) (word : WordId) (reader : CoreId) (e : Option Entry) → Fits C n → Fits C (read_fwd_row C n word reader e).0
 read_fits C n word reader None fit = fit
 read_fits C n word reader (Some (Valid value marked)) fit = fit
 read_fits C n word reader (Some (Registered value pending)) fit = fit
 read_fits C n word reader (Some (Leaving value)) fit = fit
 
-gone_fits : (C : Setting) (n : NodeParts) (word : WordId) (e : Option Entry) → Fits C n → Fits C (gone_row n word e).0
+gone_fits : (C : Setting) (n : NodeParts) (word : WordId) (e : Option Entry) → Fits C n → Fits C (wb_ack_row n word e).0
 gone_fits C n word None fit = fit
 gone_fits C n word (Some (Valid value marked)) fit = fit
 gone_fits C n word (Some (Registered value pending)) fit = fit
@@ -409,7 +409,7 @@ started_retired fuel (Some d) = omega arith
 started_held : (locks : ℕ) (o : Option TaskDecl) → IfSome (option_map started o) (HoldsOwn locks)
 started_held locks None = tt
 started_held locks (Some d) =
-    λ l h. let none : holds 0 l ≡ false = ap (nat_lt 0) (and_zero_l (2 ^ l)) in absurd (cc)
+    λ l h. let none : is_held 0 l ≡ false = ap (nat_lt 0) (and_zero_l (2 ^ l)) in absurd (cc)
 
 started_some : (o : Option TaskDecl) → is_some (option_map started o) ≡ is_some o
 started_some None = refl
@@ -459,7 +459,7 @@ gets-fits C n (message.TheVariants.Arrived core bad) fit = fit
 
 -- ---- the node of a core as a run begins
 
-pub opened-fits : (C : Setting) (core : ℕ) → core < C.shape.cores → Fits C (opened C core)
+pub opened-fits : (C : Setting) (core : ℕ) → core < C.shape.cores → Fits C (initial_node C core)
 opened-fits C core within =
     record {
       core = within;

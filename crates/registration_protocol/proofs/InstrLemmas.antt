@@ -20,9 +20,9 @@ use Rattle.word_cache.specs.Cache.{may_go}
 use Rattle.word_cache.proofs.LookLemmas.{lookup-put, lookup-touched}
 use Rattle.registration_protocol.specs.declared.node.NodeWait as wait
 use Rattle.registration_protocol.specs.declared.node.NodeWait.{NodeWait}
-use Rattle.registration_protocol.specs.Node.{NodeParts, Setting, need_now, need_if, need_by, entry_of, is_active, is_ready, is_settled, goes_on, waits_for_nothing}
-use Rattle.registration_protocol.specs.OwnEvents.{lets, loads, stores, instr_row, instr_by, instructed, may_instr, may_evict, may_arrive, makes_room, wanted_by, written_by, written_if, written_now}
-use Rattle.registration_protocol.specs.Changes.{looked_at, stored_in}
+use Rattle.registration_protocol.specs.Node.{NodeParts, Setting, need_now, need_if, need_by, entry_of, is_active, is_ready, is_settled, is_running, waits_for_nothing}
+use Rattle.registration_protocol.specs.OwnEvents.{lets, load_row, store_row, instr_row, instr_by, instructed, may_instr, may_evict, may_arrive, makes_room, wanted_by, written_by, written_if, written_now}
+use Rattle.registration_protocol.specs.Changes.{on_load, on_store}
 use Rattle.registration_protocol.specs.Parts.{MayInstruct, MayEvict, MayArrive, accessed, Instructs, completes, loads_to, task_by, Retires, Acquires}
 use Rattle.registration_protocol.proofs.EntryLemmas.{at_word, steady}
 
@@ -113,10 +113,10 @@ not_going false e = refl
 
 pub may-arrive : (n : NodeParts) → may_arrive n ≡ true → MayArrive n
 may-arrive n may =
-    let parts = and_parts (is_active n && not (goes_on n.task)) (is_settled n) may in
-    let first = and_parts (is_active n) (not (goes_on n.task)) parts.0 in
+    let parts = and_parts (is_active n && not (is_running n.task)) (is_settled n) may in
+    let first = and_parts (is_active n) (not (is_running n.task)) parts.0 in
     let marks = inactive n.halted n.arrived first.0 in
-    record { done = not_going (goes_on n.task) first.1; settled = parts.1; arrived = marks.1; halted = marks.0 }
+    record { done = not_going (is_running n.task) first.1; settled = parts.1; arrived = marks.1; halted = marks.0 }
 
 -- ---- the row of an instruction
 
@@ -129,13 +129,13 @@ instructed-is C n d t x there has now =
     ∙ ap (λ (o : Option Need). instr_by C n (Some d) (Some t) o) now
 
 load_parts : (C : Setting) (n : NodeParts) (d : TaskDecl) (t : TaskState) (word : WordId) (e : Option Entry) → n.task ≡ Some t → entry_of n word.0 ≡ e
-    → Instructs C n d t (need.TheVariants.Load word) e (loads C n d t word e).0 (loads C n d t word e).1
+    → Instructs C n d t (need.TheVariants.Load word) e (load_row C n d t word e).0 (load_row C n d t word e).1
 load_parts C n d t word None has is =
     record {
       place = record { core = refl; phase = refl; arrived = refl; halted = refl };
       sets = refl;
       ways = refl;
-      entries = λ w. steady (looked_at d word.0) word.0 w n.cache.pairs None is refl;
+      entries = λ w. steady (on_load d word.0) word.0 w n.cache.pairs None is refl;
       task = has;
       waiting = refl;
       signatures = refl;
@@ -147,7 +147,7 @@ load_parts C n d t word (Some (Valid value marked)) has is =
       place = record { core = refl; phase = refl; arrived = refl; halted = refl };
       sets = refl;
       ways = refl;
-      entries = λ w. lookup-put word _ w n.cache.pairs ∙ at_word (looked_at d word.0) word.0 w n.cache.pairs (Some (Valid value marked)) _ is refl;
+      entries = λ w. lookup-put word _ w n.cache.pairs ∙ at_word (on_load d word.0) word.0 w n.cache.pairs (Some (Valid value marked)) _ is refl;
       task = refl;
       waiting = refl;
       signatures = refl;
@@ -159,7 +159,7 @@ load_parts C n d t word (Some (Registered value pending)) has is =
       place = record { core = refl; phase = refl; arrived = refl; halted = refl };
       sets = refl;
       ways = refl;
-      entries = λ w. lookup-touched word w n.cache.pairs ∙ steady (looked_at d word.0) word.0 w n.cache.pairs (Some (Registered value pending)) is refl;
+      entries = λ w. lookup-touched word w n.cache.pairs ∙ steady (on_load d word.0) word.0 w n.cache.pairs (Some (Registered value pending)) is refl;
       task = refl;
       waiting = refl;
       signatures = refl;
@@ -171,7 +171,7 @@ load_parts C n d t word (Some (Leaving value)) has is =
       place = record { core = refl; phase = refl; arrived = refl; halted = refl };
       sets = refl;
       ways = refl;
-      entries = λ w. steady (looked_at d word.0) word.0 w n.cache.pairs (Some (Leaving value)) is refl;
+      entries = λ w. steady (on_load d word.0) word.0 w n.cache.pairs (Some (Leaving value)) is refl;
       task = has;
       waiting = refl;
       signatures = refl;
@@ -180,13 +180,13 @@ load_parts C n d t word (Some (Leaving value)) has is =
     }
 
 store_parts : (C : Setting) (n : NodeParts) (d : TaskDecl) (t : TaskState) (word : WordId) (whole : Bool) (e : Option Entry) → n.task ≡ Some t → entry_of n word.0 ≡ e
-    → Instructs C n d t (need.TheVariants.Store word whole) e (stores C n d t word whole e).0 (stores C n d t word whole e).1
+    → Instructs C n d t (need.TheVariants.Store word whole) e (store_row C n d t word whole e).0 (store_row C n d t word whole e).1
 store_parts C n d t word true None has is =
     record {
       place = record { core = refl; phase = refl; arrived = refl; halted = refl };
       sets = refl;
       ways = refl;
-      entries = λ w. lookup-put word _ w n.cache.pairs ∙ at_word (stored_in C t true) word.0 w n.cache.pairs None _ is refl;
+      entries = λ w. lookup-put word _ w n.cache.pairs ∙ at_word (on_store C t true) word.0 w n.cache.pairs None _ is refl;
       task = refl;
       waiting = refl;
       signatures = refl;
@@ -198,7 +198,7 @@ store_parts C n d t word false None has is =
       place = record { core = refl; phase = refl; arrived = refl; halted = refl };
       sets = refl;
       ways = refl;
-      entries = λ w. steady (stored_in C t false) word.0 w n.cache.pairs None is refl;
+      entries = λ w. steady (on_store C t false) word.0 w n.cache.pairs None is refl;
       task = has;
       waiting = refl;
       signatures = refl;
@@ -210,7 +210,7 @@ store_parts C n d t word whole (Some (Valid value marked)) has is =
       place = record { core = refl; phase = refl; arrived = refl; halted = refl };
       sets = refl;
       ways = refl;
-      entries = λ w. lookup-put word _ w n.cache.pairs ∙ at_word (stored_in C t whole) word.0 w n.cache.pairs (Some (Valid value marked)) _ is refl;
+      entries = λ w. lookup-put word _ w n.cache.pairs ∙ at_word (on_store C t whole) word.0 w n.cache.pairs (Some (Valid value marked)) _ is refl;
       task = refl;
       waiting = refl;
       signatures = refl;
@@ -222,7 +222,7 @@ store_parts C n d t word whole (Some (Registered value pending)) has is =
       place = record { core = refl; phase = refl; arrived = refl; halted = refl };
       sets = refl;
       ways = refl;
-      entries = λ w. lookup-put word _ w n.cache.pairs ∙ at_word (stored_in C t whole) word.0 w n.cache.pairs (Some (Registered value pending)) _ is refl;
+      entries = λ w. lookup-put word _ w n.cache.pairs ∙ at_word (on_store C t whole) word.0 w n.cache.pairs (Some (Registered value pending)) _ is refl;
       task = refl;
       waiting = refl;
       signatures = refl;
@@ -234,7 +234,7 @@ store_parts C n d t word whole (Some (Leaving value)) has is =
       place = record { core = refl; phase = refl; arrived = refl; halted = refl };
       sets = refl;
       ways = refl;
-      entries = λ w. steady (stored_in C t whole) word.0 w n.cache.pairs (Some (Leaving value)) is refl;
+      entries = λ w. steady (on_store C t whole) word.0 w n.cache.pairs (Some (Leaving value)) is refl;
       task = has;
       waiting = refl;
       signatures = refl;
@@ -314,7 +314,7 @@ written_same C t word v old value pending is =
 
 -- what is written is what the word's entry has then, which is registered
 pub written-entry : (C : Setting) (t : TaskState) (word v : WordId) (whole : Bool) (e : Option Entry) (value : ℕ) → written_by C t word whole e ≡ Some (v, value)
-    → (pending : Bool) × (v ≡ word) × (stored_in C t whole e ≡ Some (Registered value pending))
+    → (pending : Bool) × (v ≡ word) × (on_store C t whole e ≡ Some (Registered value pending))
 written-entry C t word v true None value is = written_same C t word v (merged_of C.program 0 t) value true is
 written-entry C t word v false None value is = absurd (cc)
 written-entry C t word v whole (Some (Valid old marked)) value is = written_same C t word v (merged_of C.program old t) value true is

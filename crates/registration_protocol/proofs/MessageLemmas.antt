@@ -24,26 +24,26 @@ use Rattle.registration_protocol.specs.declared.node.NodeWait as wait
 use Rattle.registration_protocol.specs.declared.node.NodeWait.{NodeWait}
 use Rattle.registration_protocol.specs.declared.node.Received.{Received}
 use Rattle.registration_protocol.specs.Node.{NodeParts, Setting, entry_of, keeping}
-use Rattle.registration_protocol.specs.Messages.{node_gets, becomes, fills, data_row, ack_row, forward_row, read_row, gone_row, guarded_by, written_in, holds_now, granted_to, grant_row, begins}
+use Rattle.registration_protocol.specs.Messages.{node_gets, becomes, fills, data_reply_row, reg_ack_row, reg_fwd_row, read_fwd_row, wb_ack_row, guarded_by, written_in, holds_now, granted_to, grant_row, begins}
 use Rattle.registration_protocol.specs.Changes.{KeepsTask, is_for_node}
 use Rattle.registration_protocol.proofs.PlaceLemmas.{ack-keeps, forward-keeps, read-keeps, gone-keeps}
-use Rattle.registration_protocol.specs.Parts.{retired_of, held_of}
+use Rattle.registration_protocol.specs.Parts.{retired_so_far, held_locks}
 
 -- ---- the table, row by row
 
-pub ack-is : (C : Setting) (n : NodeParts) (word : WordId) → node_gets C n (RegAck word) ≡ ack_row n word (entry_of n word.0)
+pub ack-is : (C : Setting) (n : NodeParts) (word : WordId) → node_gets C n (RegAck word) ≡ reg_ack_row n word (entry_of n word.0)
 unfolding node_gets
 ack-is C n word = refl
 
-pub forward-is : (C : Setting) (n : NodeParts) (word : WordId) (core : CoreId) → node_gets C n (RegFwd word core) ≡ forward_row n word core (entry_of n word.0)
+pub forward-is : (C : Setting) (n : NodeParts) (word : WordId) (core : CoreId) → node_gets C n (RegFwd word core) ≡ reg_fwd_row n word core (entry_of n word.0)
 unfolding node_gets
 forward-is C n word core = refl
 
-pub read-is : (C : Setting) (n : NodeParts) (word : WordId) (reader : CoreId) → node_gets C n (ReadFwd word reader) ≡ read_row C n word reader (entry_of n word.0)
+pub read-is : (C : Setting) (n : NodeParts) (word : WordId) (reader : CoreId) → node_gets C n (ReadFwd word reader) ≡ read_fwd_row C n word reader (entry_of n word.0)
 unfolding node_gets
 read-is C n word reader = refl
 
-pub back-is : (C : Setting) (n : NodeParts) (word : WordId) → node_gets C n (WbAck word) ≡ gone_row n word (entry_of n word.0)
+pub back-is : (C : Setting) (n : NodeParts) (word : WordId) → node_gets C n (WbAck word) ≡ wb_ack_row n word (entry_of n word.0)
 unfolding node_gets
 back-is C n word = refl
 
@@ -120,7 +120,7 @@ back-kept C n word = gone-keeps n word (entry_of n word.0)
 abbrev pub nothing : Received
 nothing = record { sent = None; granted = None }
 
-ack_sends : (n : NodeParts) (word : WordId) (e : Option Entry) → (ack_row n word e).1 ≡ nothing
+ack_sends : (n : NodeParts) (word : WordId) (e : Option Entry) → (reg_ack_row n word e).1 ≡ nothing
 ack_sends n word None = refl
 ack_sends n word (Some (Valid value marked)) = refl
 ack_sends n word (Some (Registered value true)) = refl
@@ -131,7 +131,7 @@ pub ack-sends : (C : Setting) (n : NodeParts) (word : WordId) → (node_gets C n
 unfolding node_gets
 ack-sends C n word = ack_sends n word (entry_of n word.0)
 
-forward_sends : (n : NodeParts) (word : WordId) (core : CoreId) (e : Option Entry) → (forward_row n word core e).1 ≡ record { sent = to_core core (RegAck word); granted = None }
+forward_sends : (n : NodeParts) (word : WordId) (core : CoreId) (e : Option Entry) → (reg_fwd_row n word core e).1 ≡ record { sent = to_core core (RegAck word); granted = None }
 forward_sends n word core None = refl
 forward_sends n word core (Some (Valid value marked)) = refl
 forward_sends n word core (Some (Registered value true)) = refl
@@ -142,7 +142,7 @@ pub forward-sends : (C : Setting) (n : NodeParts) (word : WordId) (core : CoreId
 unfolding node_gets
 forward-sends C n word core = forward_sends n word core (entry_of n word.0)
 
-back_sends : (n : NodeParts) (word : WordId) (e : Option Entry) → (gone_row n word e).1 ≡ nothing
+back_sends : (n : NodeParts) (word : WordId) (e : Option Entry) → (wb_ack_row n word e).1 ≡ nothing
 back_sends n word None = refl
 back_sends n word (Some (Valid value marked)) = refl
 back_sends n word (Some (Registered value pending)) = refl
@@ -160,7 +160,7 @@ fills_sends : (n : NodeParts) (word : WordId) (value : ℕ) (e : Option Entry) �
 fills_sends n word value None = either (has_room n.cache word.0) _ _ nothing refl refl
 fills_sends n word value (Some e) = refl
 
-data_sends : (n : NodeParts) (word : WordId) (value : ℕ) (w : NodeWait) → (data_row n word value w).1 ≡ nothing
+data_sends : (n : NodeParts) (word : WordId) (value : ℕ) (w : NodeWait) → (data_reply_row n word value w).1 ≡ nothing
 data_sends n word value wait.TheVariants.None = refl
 data_sends n word value (wait.TheVariants.Reading wanted) = either (wanted.0 == word.0) _ _ nothing (fills_sends n word value (entry_of n word.0)) refl
 data_sends n word value (wait.TheVariants.Filled wanted) = refl
@@ -207,9 +207,9 @@ pub begin-entries : (C : Setting) (n : NodeParts) (phase w : ℕ) → IsCache n.
 begin-entries C n phase w is = lookup-dropped_written (written_in (slice_get C.plans n.phase)) w n.cache.pairs is.apart
 
 -- a task that begins has retired nothing and holds no lock
-starts_anew : (o : Option TaskDecl) → (retired_of (option_map started o) ≡ 0) × (held_of (option_map started o) ≡ 0)
+starts_anew : (o : Option TaskDecl) → (retired_so_far (option_map started o) ≡ 0) × (held_locks (option_map started o) ≡ 0)
 starts_anew None = (refl, refl)
 starts_anew (Some d) = (refl, refl)
 
-pub begin-task : (C : Setting) (n : NodeParts) (phase : ℕ) → (retired_of (begins C n phase).task ≡ 0) × (held_of (begins C n phase).task ≡ 0)
+pub begin-task : (C : Setting) (n : NodeParts) (phase : ℕ) → (retired_so_far (begins C n phase).task ≡ 0) × (held_locks (begins C n phase).task ≡ 0)
 begin-task C n phase = starts_anew (declared C.program phase n.core)

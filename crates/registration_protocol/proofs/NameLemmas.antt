@@ -20,7 +20,7 @@ use Rattle.registration_protocol.specs.declared.node.Step.{Step}
 use Rattle.registration_protocol.specs.Node.{NodeParts, Setting, entry_of}
 use Rattle.registration_protocol.specs.Fit.{IsContext}
 use Rattle.registration_protocol.specs.OwnEvents.{may_instr, instructed, evicts, evicted, arrives}
-use Rattle.registration_protocol.specs.Messages.{node_gets, read_row}
+use Rattle.registration_protocol.specs.Messages.{node_gets, read_fwd_row}
 use Rattle.registration_protocol.specs.Names.{NamesOwn, IsFor}
 use Rattle.registration_protocol.specs.Parts.{accessed, load_sends, store_sends, sent_by}
 use Rattle.registration_protocol.proofs.InstrLemmas.{may-instruct, instructed-is, instr-parts}
@@ -43,7 +43,7 @@ silent_for C o is = subst (λ (x : Option Outgoing). IfSome x (IsFor C)) (sym is
 -- ---- messages
 
 read_for : (C : Setting) (n : NodeParts) (word : WordId) (reader : CoreId) (e : Option Entry) → IsContext C → word.0 < length C.program.memory → reader.0 < C.shape.cores
-    → IfSome (read_row C n word reader e).1.sent (IsFor C)
+    → IfSome (read_fwd_row C n word reader e).1.sent (IsFor C)
 read_for C n word reader None context words cores = home_for C word.0 (message.TheVariants.ReadReq word reader) context (words, cores)
 read_for C n word reader (Some (Valid value marked)) context words cores = home_for C word.0 (message.TheVariants.ReadReq word reader) context (words, cores)
 read_for C n word reader (Some (Registered value pending)) context words cores = core_for C reader (message.TheVariants.DataReply word value) cores words

@@ -18,11 +18,11 @@ use Rattle.registration_protocol.specs.declared.node.NodeWait as wait
 use Rattle.registration_protocol.specs.declared.node.NodeWait.{NodeWait}
 use Rattle.registration_protocol.specs.declared.node.Received.{Received}
 use Rattle.registration_protocol.specs.Node.{NodeParts, Setting, need_now, entry_of, keeping}
-use Rattle.registration_protocol.specs.OwnEvents.{loads, stores, instr_row, instr_by, instructed, evicts, evicted}
-use Rattle.registration_protocol.specs.Messages.{node_gets, fills, data_row, ack_row, forward_row, read_row, gone_row, granted_to, grant_row}
-use Rattle.registration_protocol.specs.Changes.{is_from_keeper, KeepsPlace, KeepsTask}
+use Rattle.registration_protocol.specs.OwnEvents.{load_row, store_row, instr_row, instr_by, instructed, evicts, evicted}
+use Rattle.registration_protocol.specs.Messages.{node_gets, fills, data_reply_row, reg_ack_row, reg_fwd_row, read_fwd_row, wb_ack_row, granted_to, grant_row}
+use Rattle.registration_protocol.specs.Changes.{is_from_keeper, KeepsPhase, KeepsTask}
 
-same : (n : NodeParts) → KeepsPlace n n
+same : (n : NodeParts) → KeepsPhase n n
 same n = record { core = refl; phase = refl; arrived = refl; halted = refl }
 
 all_same : (n : NodeParts) → KeepsTask n n
@@ -33,20 +33,20 @@ pairs_alone n ps = record { place = record { core = refl; phase = refl; arrived 
 
 -- ---- own events
 
-load_place : (C : Setting) (n : NodeParts) (d : TaskDecl) (t : TaskState) (word : WordId) (e : Option Entry) → KeepsPlace n (loads C n d t word e).0
+load_place : (C : Setting) (n : NodeParts) (d : TaskDecl) (t : TaskState) (word : WordId) (e : Option Entry) → KeepsPhase n (load_row C n d t word e).0
 load_place C n d t word None = record { core = refl; phase = refl; arrived = refl; halted = refl }
 load_place C n d t word (Some (Valid value marked)) = record { core = refl; phase = refl; arrived = refl; halted = refl }
 load_place C n d t word (Some (Registered value pending)) = record { core = refl; phase = refl; arrived = refl; halted = refl }
 load_place C n d t word (Some (Leaving value)) = same n
 
-store_place : (C : Setting) (n : NodeParts) (d : TaskDecl) (t : TaskState) (word : WordId) (whole : Bool) (e : Option Entry) → KeepsPlace n (stores C n d t word whole e).0
+store_place : (C : Setting) (n : NodeParts) (d : TaskDecl) (t : TaskState) (word : WordId) (whole : Bool) (e : Option Entry) → KeepsPhase n (store_row C n d t word whole e).0
 store_place C n d t word true None = record { core = refl; phase = refl; arrived = refl; halted = refl }
 store_place C n d t word false None = record { core = refl; phase = refl; arrived = refl; halted = refl }
 store_place C n d t word whole (Some (Valid value marked)) = record { core = refl; phase = refl; arrived = refl; halted = refl }
 store_place C n d t word whole (Some (Registered value pending)) = record { core = refl; phase = refl; arrived = refl; halted = refl }
 store_place C n d t word whole (Some (Leaving value)) = same n
 
-row_place : (C : Setting) (n : NodeParts) (d : TaskDecl) (t : TaskState) (x : Need) → KeepsPlace n (instr_row C n d t x).0
+row_place : (C : Setting) (n : NodeParts) (d : TaskDecl) (t : TaskState) (x : Need) → KeepsPhase n (instr_row C n d t x).0
 row_place C n d t need.TheVariants.Local = record { core = refl; phase = refl; arrived = refl; halted = refl }
 row_place C n d t (need.TheVariants.End by) = record { core = refl; phase = refl; arrived = refl; halted = refl }
 row_place C n d t (need.TheVariants.Load word) = load_place C n d t word (entry_of n word.0)
@@ -54,13 +54,13 @@ row_place C n d t (need.TheVariants.Store word whole) = store_place C n d t word
 row_place C n d t (need.TheVariants.Acquire lock) = record { core = refl; phase = refl; arrived = refl; halted = refl }
 row_place C n d t (need.TheVariants.Release lock) = record { core = refl; phase = refl; arrived = refl; halted = refl }
 
-instr_place : (C : Setting) (n : NodeParts) (o : Option TaskDecl) (p : Option TaskState) (x : Option Need) → KeepsPlace n (instr_by C n o p x).0
+instr_place : (C : Setting) (n : NodeParts) (o : Option TaskDecl) (p : Option TaskState) (x : Option Need) → KeepsPhase n (instr_by C n o p x).0
 instr_place C n None p x = same n
 instr_place C n (Some d) None x = same n
 instr_place C n (Some d) (Some t) None = same n
 instr_place C n (Some d) (Some t) (Some x) = row_place C n d t x
 
-pub instr-place : (C : Setting) (n : NodeParts) → KeepsPlace n (instructed C n).0
+pub instr-place : (C : Setting) (n : NodeParts) → KeepsPhase n (instructed C n).0
 unfolding instructed
 instr-place C n = instr_place C n (declared C.program n.phase n.core) n.task (need_now C n)
 
@@ -76,27 +76,27 @@ evict-keeps C n word = evict_keeps C n word (entry_of n word.0)
 
 -- ---- messages that change entries alone
 
-pub ack-keeps : (n : NodeParts) (word : WordId) (e : Option Entry) → KeepsTask n (ack_row n word e).0
+pub ack-keeps : (n : NodeParts) (word : WordId) (e : Option Entry) → KeepsTask n (reg_ack_row n word e).0
 ack-keeps n word None = all_same n
 ack-keeps n word (Some (Valid value marked)) = all_same n
 ack-keeps n word (Some (Registered value true)) = pairs_alone n _
 ack-keeps n word (Some (Registered value false)) = all_same n
 ack-keeps n word (Some (Leaving value)) = all_same n
 
-pub forward-keeps : (n : NodeParts) (word : WordId) (core : CoreId) (e : Option Entry) → KeepsTask n (forward_row n word core e).0
+pub forward-keeps : (n : NodeParts) (word : WordId) (core : CoreId) (e : Option Entry) → KeepsTask n (reg_fwd_row n word core e).0
 forward-keeps n word core None = all_same n
 forward-keeps n word core (Some (Valid value marked)) = all_same n
 forward-keeps n word core (Some (Registered value true)) = all_same n
 forward-keeps n word core (Some (Registered value false)) = pairs_alone n _
 forward-keeps n word core (Some (Leaving value)) = all_same n
 
-pub read-keeps : (C : Setting) (n : NodeParts) (word : WordId) (reader : CoreId) (e : Option Entry) → KeepsTask n (read_row C n word reader e).0
+pub read-keeps : (C : Setting) (n : NodeParts) (word : WordId) (reader : CoreId) (e : Option Entry) → KeepsTask n (read_fwd_row C n word reader e).0
 read-keeps C n word reader None = all_same n
 read-keeps C n word reader (Some (Valid value marked)) = all_same n
 read-keeps C n word reader (Some (Registered value pending)) = all_same n
 read-keeps C n word reader (Some (Leaving value)) = all_same n
 
-pub gone-keeps : (n : NodeParts) (word : WordId) (e : Option Entry) → KeepsTask n (gone_row n word e).0
+pub gone-keeps : (n : NodeParts) (word : WordId) (e : Option Entry) → KeepsTask n (wb_ack_row n word e).0
 gone-keeps n word None = all_same n
 gone-keeps n word (Some (Valid value marked)) = all_same n
 gone-keeps n word (Some (Registered value pending)) = all_same n
@@ -104,31 +104,31 @@ gone-keeps n word (Some (Leaving value)) = pairs_alone n _
 
 -- ---- the place of a node at a message that is not the keeper's
 
-either_place : (n : NodeParts) (b : Bool) (x y : NodeParts × Received) → KeepsPlace n x.0 → KeepsPlace n y.0 → KeepsPlace n (cond b x y).0
+either_place : (n : NodeParts) (b : Bool) (x y : NodeParts × Received) → KeepsPhase n x.0 → KeepsPhase n y.0 → KeepsPhase n (cond b x y).0
 either_place n true x y p q = p
 either_place n false x y p q = q
 
-fill_place : (n : NodeParts) (word : WordId) (value : ℕ) (e : Option Entry) → KeepsPlace n (fills n word value e).0
+fill_place : (n : NodeParts) (word : WordId) (value : ℕ) (e : Option Entry) → KeepsPhase n (fills n word value e).0
 fill_place n word value None = either_place n (has_room n.cache word.0) _ _ (record { core = refl; phase = refl; arrived = refl; halted = refl }) (same n)
 fill_place n word value (Some e) = same n
 
-data_place : (n : NodeParts) (word : WordId) (value : ℕ) (w : NodeWait) → KeepsPlace n (data_row n word value w).0
+data_place : (n : NodeParts) (word : WordId) (value : ℕ) (w : NodeWait) → KeepsPhase n (data_reply_row n word value w).0
 data_place n word value wait.TheVariants.None = same n
 data_place n word value (wait.TheVariants.Reading wanted) = either_place n (wanted.0 == word.0) _ _ (fill_place n word value (entry_of n word.0)) (same n)
 data_place n word value (wait.TheVariants.Filled wanted) = same n
 data_place n word value (wait.TheVariants.Locking lock) = same n
 
-granted_place : (C : Setting) (n : NodeParts) (lock : LockId) (signature : Signature) (o : Option TaskState) → KeepsPlace n (granted_to C n lock signature o).0
+granted_place : (C : Setting) (n : NodeParts) (lock : LockId) (signature : Signature) (o : Option TaskState) → KeepsPhase n (granted_to C n lock signature o).0
 granted_place C n lock signature None = same n
 granted_place C n lock signature (Some t) = record { core = refl; phase = refl; arrived = refl; halted = refl }
 
-grant_place : (C : Setting) (n : NodeParts) (lock : LockId) (signature : Signature) (w : NodeWait) → KeepsPlace n (grant_row C n lock signature w).0
+grant_place : (C : Setting) (n : NodeParts) (lock : LockId) (signature : Signature) (w : NodeWait) → KeepsPhase n (grant_row C n lock signature w).0
 grant_place C n lock signature wait.TheVariants.None = same n
 grant_place C n lock signature (wait.TheVariants.Reading word) = same n
 grant_place C n lock signature (wait.TheVariants.Filled word) = same n
 grant_place C n lock signature (wait.TheVariants.Locking wanted) = either_place n (wanted.0 == lock.0) _ _ (granted_place C n lock signature n.task) (same n)
 
-pub gets-place : (C : Setting) (n : NodeParts) (m : Message) → is_from_keeper m ≡ false → KeepsPlace n (node_gets C n m).0
+pub gets-place : (C : Setting) (n : NodeParts) (m : Message) → is_from_keeper m ≡ false → KeepsPhase n (node_gets C n m).0
 unfolding node_gets
 gets-place C n (message.TheVariants.DataReply word value) other = data_place n word value n.waiting
 gets-place C n (message.TheVariants.RegAck word) other = (ack-keeps n word (entry_of n word.0)).place

@@ -9,10 +9,10 @@ use Rattle.dn_base.specs.declared.ids.WordId.{WordId}
 use Rattle.dn_base.specs.declared.ids.LockId.{LockId}
 use Rattle.region_table.specs.Words.{has}
 use Rattle.region_table.specs.declared.declared.TaskDecl.{TaskDecl}
-use Rattle.rv_core.specs.Access.{holds as is_held}
+use Rattle.rv_core.specs.Access.{is_held}
 use Rattle.rv_core.specs.declared.task.TaskState.{TaskState}
 use Rattle.write_signature.specs.declared.signature.Signature.{Signature}
-use Rattle.write_signature.specs.Signature.{tag, empty, holds, inserted, in_phase}
+use Rattle.write_signature.specs.Signature.{tag, empty, may_hold, inserted, in_phase}
 use Rattle.write_signature.proofs.SignatureLemmas.{tag-empty, inserted_holds, inserted_keeps}
 use Rattle.word_cache.specs.declared.row.Entry.{Entry}
 use Rattle.registration_protocol.specs.Node.{NodeParts, Setting, signature_of}
@@ -67,13 +67,13 @@ store-signature C n d t word e lock within =
 
 -- the signature of a held lock that guards the word for the task's stores has the word then
 pub noted-holds : (d : TaskDecl) (held w phase lock : ℕ) (s : Signature) → is_held held lock ≡ true → has (slice_index_or d.effects.guarded_writes lock []) w ≡ true
-    → holds (noted_at d held w phase lock s) w phase ≡ true
+    → may_hold (noted_at d held w phase lock s) w phase ≡ true
 noted-holds d held w phase lock s own guards = rw (own, guards) (inserted_holds s w phase)
 
 -- and each signature keeps what it has of the phase
-pub noted-keeps : (d : TaskDecl) (held w phase lock v : ℕ) (s : Signature) → holds s v phase ≡ true → holds (noted_at d held w phase lock s) v phase ≡ true
+pub noted-keeps : (d : TaskDecl) (held w phase lock v : ℕ) (s : Signature) → may_hold s v phase ≡ true → may_hold (noted_at d held w phase lock s) v phase ≡ true
 noted-keeps d held w phase lock v s has_it = by_test (is_held held lock && has (slice_index_or d.effects.guarded_writes lock []) w)
   where
-    by_test : (b : Bool) → holds (cond b (inserted s w phase) s) v phase ≡ true
+    by_test : (b : Bool) → may_hold (cond b (inserted s w phase) s) v phase ≡ true
     by_test true = inserted_keeps s v w phase has_it
     by_test false = has_it

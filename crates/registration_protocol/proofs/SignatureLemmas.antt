@@ -6,7 +6,7 @@ use Rattle.std.specs.List.{All}
 use Rattle.std.specs.Option.{option_map}
 use Rattle.region_table.specs.Words.{has}
 use Rattle.region_table.specs.declared.declared.TaskDecl.{TaskDecl}
-use Rattle.rv_core.specs.Access.{holds as is_held}
+use Rattle.rv_core.specs.Access.{is_held}
 use Rattle.rv_core.proofs.HeldLemmas.{holds-none}
 use Rattle.write_signature.specs.Signature.{tag, inserted}
 use Rattle.write_signature.proofs.SignatureLemmas.{tag-inserted}

@@ -17,7 +17,7 @@ use Rattle.word_cache.proofs.WeightLemmas.{pending-some}
 use Rattle.word_cache.proofs.CacheLaws.{victim-goes, full-blocked}
 use Rattle.registration_protocol.specs.declared.node.NodeWait as wait
 use Rattle.registration_protocol.specs.declared.node.NodeWait.{NodeWait}
-use Rattle.registration_protocol.specs.Node.{NodeParts, Setting, need_now, need_if, need_by, entry_of, goes_on, is_settled, is_active, is_ready, waits_for_nothing}
+use Rattle.registration_protocol.specs.Node.{NodeParts, Setting, need_now, need_if, need_by, entry_of, is_running, is_settled, is_active, is_ready, waits_for_nothing}
 use Rattle.registration_protocol.specs.Fit.{Fits}
 use Rattle.registration_protocol.specs.OwnEvents.{may_access, lets, makes_room, wanted_by, crowded, IsStill}
 use Rattle.registration_protocol.specs.Parts.{IsStuckAt, IsWaiting}
@@ -70,7 +70,7 @@ off true b e is = is
 off false b e is = absurd (cc)
 
 -- without a need no task goes on
-without_need : (C : Setting) (n : NodeParts) → Fits C n → need_now C n ≡ None → goes_on n.task ≡ false
+without_need : (C : Setting) (n : NodeParts) → Fits C n → need_now C n ≡ None → is_running n.task ≡ false
 without_need C n fit none = by_task n.task refl
   where
     by_end : (t : TaskState) (e : Option End) (o : Option TaskDecl) → t.end ≡ e → declared C.program n.phase n.core ≡ o → is_some o ≡ true → cond (is_some e) None (need_by C o t) ≡ None → not (is_some e) ≡ false
@@ -78,7 +78,7 @@ without_need C n fit none = by_task n.task refl
     by_end t None None ended there has now = absurd (cc)
     by_end t None (Some d) ended there has now = absurd (cc)
 
-    by_task : (o : Option TaskState) → n.task ≡ o → goes_on o ≡ false
+    by_task : (o : Option TaskState) → n.task ≡ o → is_running o ≡ false
     by_task None has = refl
     by_task (Some t) has =
         let now : need_if C n.phase n.core (Some t) ≡ None = subst (λ (o : Option TaskState). need_if C n.phase n.core o ≡ None) has none in
@@ -99,8 +99,8 @@ still-waits C n fit some arrived halted still filled = by_wait n.waiting refl
     stuck : (p : Option Need) → need_now C n ≡ p → n.waiting ≡ wait.TheVariants.None → lets n p ≡ false → IsStuckAt n
     stuck None now waits may =
         let done = without_need C n fit now in
-        let first : (is_active n && not (goes_on n.task)) ≡ true = rw (active, done) refl in
-        unsettled n fit.cache (off (is_active n && not (goes_on n.task)) (is_settled n) first still.arrive)
+        let first : (is_active n && not (is_running n.task)) ≡ true = rw (active, done) refl in
+        unsettled n fit.cache (off (is_active n && not (is_running n.task)) (is_settled n) first still.arrive)
     stuck (Some x) now waits may =
         let idle : (is_active n && waits_for_nothing n.waiting) ≡ true = rw (active, waits) refl in
         let none : (w : ℕ) → makes_room n w (wanted_by n (Some x)) ≡ false =

@@ -13,43 +13,43 @@ use Rattle.word_cache.specs.declared.row.Entry.TheVariants.{Valid, Registered, L
 use Rattle.registration_protocol.specs.Node.{NodeParts, Setting}
 
 -- at RegAck it is pending no more
-abbrev pub acknowledged : Option Entry → Option Entry
-acknowledged (Some (Registered value true)) = Some (Registered value false)
-acknowledged e = e
+abbrev pub on_reg_ack : Option Entry → Option Entry
+on_reg_ack (Some (Registered value true)) = Some (Registered value false)
+on_reg_ack e = e
 
 -- at RegFwd a registered word that isn't pending goes
-abbrev pub forwarded : Option Entry → Option Entry
-forwarded (Some (Registered value false)) = None
-forwarded e = e
+abbrev pub on_reg_fwd : Option Entry → Option Entry
+on_reg_fwd (Some (Registered value false)) = None
+on_reg_fwd e = e
 
 -- at WbAck a leaving word goes
-abbrev pub given_back : Option Entry → Option Entry
-given_back (Some (Leaving value)) = None
-given_back e = e
+abbrev pub on_wb_ack : Option Entry → Option Entry
+on_wb_ack (Some (Leaving value)) = None
+on_wb_ack e = e
 
 -- an eviction takes a copy away, and makes a registered word that isn't pending a leaving one
-abbrev pub given_up : Option Entry → Option Entry
-given_up (Some (Valid value marked)) = None
-given_up (Some (Registered value false)) = Some (Leaving value)
-given_up e = e
+abbrev pub on_evict : Option Entry → Option Entry
+on_evict (Some (Valid value marked)) = None
+on_evict (Some (Registered value false)) = Some (Leaving value)
+on_evict e = e
 
 -- a load marks the copy of a word that the task uses plainly
-abbrev pub looked_at : TaskDecl → ℕ → Option Entry → Option Entry
-looked_at d w (Some (Valid value marked)) = Some (Valid value (marked || uses_plainly d w))
-looked_at d w e = e
+abbrev pub on_load : TaskDecl → ℕ → Option Entry → Option Entry
+on_load d w (Some (Valid value marked)) = Some (Valid value (marked || uses_plainly d w))
+on_load d w e = e
 
 -- a store that retires registers its word, or leaves it registered
-abbrev pub stored_in : Setting → TaskState → Bool → Option Entry → Option Entry
-stored_in C t whole None = if whole then Some (Registered (merged_of C.program 0 t) true) else None
-stored_in C t whole (Some (Valid value marked)) = Some (Registered (merged_of C.program value t) true)
-stored_in C t whole (Some (Registered value pending)) = Some (Registered (merged_of C.program value t) pending)
-stored_in C t whole (Some (Leaving value)) = Some (Leaving value)
+abbrev pub on_store : Setting → TaskState → Bool → Option Entry → Option Entry
+on_store C t whole None = if whole then Some (Registered (merged_of C.program 0 t) true) else None
+on_store C t whole (Some (Valid value marked)) = Some (Registered (merged_of C.program value t) true)
+on_store C t whole (Some (Registered value pending)) = Some (Registered (merged_of C.program value t) pending)
+on_store C t whole (Some (Leaving value)) = Some (Leaving value)
 
 -- an instruction changes the entry of the word that it accesses, and no other
-abbrev pub entry_by : Setting → TaskDecl → TaskState → Need → ℕ → Option Entry → Option Entry
-entry_by C d t (need.TheVariants.Load word) w e = if word.0 == w then looked_at d word.0 e else e
-entry_by C d t (need.TheVariants.Store word whole) w e = if word.0 == w then stored_in C t whole e else e
-entry_by C d t _ w e = e
+abbrev pub on_instr : Setting → TaskDecl → TaskState → Need → ℕ → Option Entry → Option Entry
+on_instr C d t (need.TheVariants.Load word) w e = if word.0 == w then on_load d word.0 e else e
+on_instr C d t (need.TheVariants.Store word whole) w e = if word.0 == w then on_store C t whole e else e
+on_instr C d t _ w e = e
 
 -- whether a message is the keeper's
 abbrev pub is_from_keeper : Message → Bool
@@ -70,7 +70,7 @@ is_for_node message.TheVariants.Halt = true
 is_for_node _ = false
 
 -- a node that stays the same core's, in its phase, arrived and halted or not as before
-pub record KeepsPlace (n m : NodeParts) : Type 0 where
+pub record KeepsPhase (n m : NodeParts) : Type 0 where
   pub core : m.core ≡ n.core
   pub phase : m.phase ≡ n.phase
   pub arrived : m.arrived ≡ n.arrived
@@ -78,7 +78,7 @@ pub record KeepsPlace (n m : NodeParts) : Type 0 where
 
 -- a node of which at most entries differ
 pub record KeepsTask (n m : NodeParts) : Type 0 where
-  pub place : KeepsPlace n m
+  pub place : KeepsPhase n m
   pub task : m.task ≡ n.task
   pub waiting : m.waiting ≡ n.waiting
   pub signatures : m.signatures ≡ n.signatures

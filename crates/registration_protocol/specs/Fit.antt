@@ -9,7 +9,7 @@ use Rattle.region_table.specs.declared.declared.TaskDecl.{TaskDecl}
 use Rattle.rv_core.specs.declared.task.TaskState.{TaskState}
 use Rattle.rv_core.specs.declared.need.Need as need
 use Rattle.rv_core.specs.declared.need.Need.{Need}
-use Rattle.rv_core.specs.Access.{holds}
+use Rattle.rv_core.specs.Access.{is_held}
 use Rattle.rv_core.specs.declared.need.Next.{Next}
 use Rattle.rv_core.specs.Next.{IsNextOf}
 use Rattle.write_signature.specs.declared.signature.Signature.{Signature}
@@ -35,7 +35,7 @@ pub record IsContext (C : Setting) : Type 0 where
 
 -- every lock that the task holds is one of the program's
 abbrev pub HoldsOwn : ℕ → TaskState → Type 0
-HoldsOwn locks t = (lock : ℕ) → holds t.held lock ≡ true → lock < locks
+HoldsOwn locks t = (lock : ℕ) → is_held t.held lock ≡ true → lock < locks
 
 -- a node that waits for a lock has a task that goes on and whose next instruction acquires that lock
 abbrev pub NeedsLock : Option Need → NodeWait → Type 0

@@ -45,31 +45,31 @@ fills n word value None =
     else becomes n
 fills n word value (Some e) = becomes n
 
-abbrev pub data_row : NodeParts → WordId → ℕ → NodeWait → NodeParts × Received
-data_row n word value (wait.TheVariants.Reading wanted) =
+abbrev pub data_reply_row : NodeParts → WordId → ℕ → NodeWait → NodeParts × Received
+data_reply_row n word value (wait.TheVariants.Reading wanted) =
     if wanted.0 == word.0 then fills n word value (entry_of n word.0) else becomes n
-data_row n word value _ = becomes n
+data_reply_row n word value _ = becomes n
 
 -- RegAck: the entry is pending no more
-abbrev pub ack_row : NodeParts → WordId → Option Entry → NodeParts × Received
-ack_row n word (Some (Registered value true)) = becomes (with_entry n word.0 (Registered value false))
-ack_row n word _ = becomes n
+abbrev pub reg_ack_row : NodeParts → WordId → Option Entry → NodeParts × Received
+reg_ack_row n word (Some (Registered value true)) = becomes (with_entry n word.0 (Registered value false))
+reg_ack_row n word _ = becomes n
 
 -- RegFwd: a registered entry that isn't pending goes, and the new registrant is acknowledged in any case
-abbrev pub forward_row : NodeParts → WordId → CoreId → Option Entry → NodeParts × Received
-forward_row n word core (Some (Registered value false)) = answers (lacking n word.0) (to_core core (message.TheVariants.RegAck word))
-forward_row n word core _ = answers n (to_core core (message.TheVariants.RegAck word))
+abbrev pub reg_fwd_row : NodeParts → WordId → CoreId → Option Entry → NodeParts × Received
+reg_fwd_row n word core (Some (Registered value false)) = answers (lacking n word.0) (to_core core (message.TheVariants.RegAck word))
+reg_fwd_row n word core _ = answers n (to_core core (message.TheVariants.RegAck word))
 
 -- ReadFwd: the value goes to the reader, or the read goes back to the word's home
-abbrev pub read_row : Setting → NodeParts → WordId → CoreId → Option Entry → NodeParts × Received
-read_row C n word reader (Some (Registered value pending)) = answers n (to_core reader (message.TheVariants.DataReply word value))
-read_row C n word reader (Some (Leaving value)) = answers n (to_core reader (message.TheVariants.DataReply word value))
-read_row C n word reader _ = answers n (to_home C.shape.banks word.0 (message.TheVariants.ReadReq word reader))
+abbrev pub read_fwd_row : Setting → NodeParts → WordId → CoreId → Option Entry → NodeParts × Received
+read_fwd_row C n word reader (Some (Registered value pending)) = answers n (to_core reader (message.TheVariants.DataReply word value))
+read_fwd_row C n word reader (Some (Leaving value)) = answers n (to_core reader (message.TheVariants.DataReply word value))
+read_fwd_row C n word reader _ = answers n (to_home C.shape.banks word.0 (message.TheVariants.ReadReq word reader))
 
 -- WbAck: a leaving entry goes
-abbrev pub gone_row : NodeParts → WordId → Option Entry → NodeParts × Received
-gone_row n word (Some (Leaving value)) = becomes (lacking n word.0)
-gone_row n word _ = becomes n
+abbrev pub wb_ack_row : NodeParts → WordId → Option Entry → NodeParts × Received
+wb_ack_row n word (Some (Leaving value)) = becomes (lacking n word.0)
+wb_ack_row n word _ = becomes n
 
 -- the words that a lock guards in a phase, and those that a phase may have written
 abbrev pub guarded_by : Option PhasePlan → ℕ → List Interval
@@ -124,11 +124,11 @@ halt_row n = if n.arrived then becomes (record n { halted = true }) else becomes
 
 -- what a node does with a message: the table, row by row; one that no row names changes nothing and sends nothing
 unfoldable pub node_gets : Setting → NodeParts → Message → NodeParts × Received
-node_gets C n (message.TheVariants.DataReply word value) = data_row n word value n.waiting
-node_gets C n (message.TheVariants.RegAck word) = ack_row n word (entry_of n word.0)
-node_gets C n (message.TheVariants.RegFwd word core) = forward_row n word core (entry_of n word.0)
-node_gets C n (message.TheVariants.ReadFwd word reader) = read_row C n word reader (entry_of n word.0)
-node_gets C n (message.TheVariants.WbAck word) = gone_row n word (entry_of n word.0)
+node_gets C n (message.TheVariants.DataReply word value) = data_reply_row n word value n.waiting
+node_gets C n (message.TheVariants.RegAck word) = reg_ack_row n word (entry_of n word.0)
+node_gets C n (message.TheVariants.RegFwd word core) = reg_fwd_row n word core (entry_of n word.0)
+node_gets C n (message.TheVariants.ReadFwd word reader) = read_fwd_row C n word reader (entry_of n word.0)
+node_gets C n (message.TheVariants.WbAck word) = wb_ack_row n word (entry_of n word.0)
 node_gets C n (message.TheVariants.Grant lock signature) = grant_row C n lock signature n.waiting
 node_gets C n (message.TheVariants.Go phase) = go_row C n phase.0
 node_gets C n message.TheVariants.Halt = halt_row n

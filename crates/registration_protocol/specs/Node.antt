@@ -38,9 +38,9 @@ pub record Setting : Type 0 where
   pub fuel : ℕ
 
 -- whether a task goes on
-abbrev pub goes_on : Option TaskState → Bool
-goes_on None = false
-goes_on (Some t) = not (is_some t.end)
+abbrev pub is_running : Option TaskState → Bool
+is_running None = false
+is_running (Some t) = not (is_some t.end)
 
 -- what the next instruction of a task that goes on needs
 abbrev pub need_by : Setting → Option TaskDecl → TaskState → Option Need
@@ -85,8 +85,8 @@ abbrev pub signature_of : NodeParts → ℕ → Signature
 signature_of n lock = slice_index_or n.signatures lock (empty n.phase)
 
 -- a node as a run begins: in phase 0 with its task, or halted where there are no phases
-abbrev pub opened : Setting → ℕ → NodeParts
-opened C core =
+abbrev pub initial_node : Setting → ℕ → NodeParts
+initial_node C core =
     record {
       core = core;
       phase = 0;

@@ -15,7 +15,7 @@ use Rattle.rv_core.specs.declared.need.Need.{Need}
 use Rattle.rv_core.specs.declared.ending.EndShown as shown
 use Rattle.rv_core.specs.declared.ending.EndShown.{EndShown}
 use Rattle.rv_core.specs.declared.ending.TaskEnd.{TaskEnd}
-use Rattle.rv_core.specs.Access.{holds as is_held}
+use Rattle.rv_core.specs.Access.{is_held}
 use Rattle.rv_core.specs.Step.{advanced, loaded_of, merged_of}
 use Rattle.rv_core.specs.Task.{stopped}
 use Rattle.rv_core.specs.Ending.{shown_end}
@@ -32,7 +32,7 @@ use Rattle.word_cache.specs.Cache.{has_room, put, changed, touched, without, may
 use Rattle.registration_protocol.specs.declared.node.NodeWait as wait
 use Rattle.registration_protocol.specs.declared.node.NodeWait.{NodeWait}
 use Rattle.registration_protocol.specs.declared.node.Step.{Step}
-use Rattle.registration_protocol.specs.Node.{NodeParts, Setting, goes_on, need_now, entry_of, is_settled, is_active, is_ready, waits_for_nothing, keeping, signature_of}
+use Rattle.registration_protocol.specs.Node.{NodeParts, Setting, is_running, need_now, entry_of, is_settled, is_active, is_ready, waits_for_nothing, keeping, signature_of}
 
 -- whether an access of a word may go on, by its entry: it stalls while the word is leaving, and where there is no entry it
 -- needs room
@@ -73,7 +73,7 @@ abbrev pub may_evict : Setting → NodeParts → ℕ → Bool
 may_evict C n w = is_active n && waits_for_nothing n.waiting && makes_room n w (wanted_by n (need_now C n))
 
 abbrev pub may_arrive : NodeParts → Bool
-may_arrive n = is_active n && not (goes_on n.task) && is_settled n
+may_arrive n = is_active n && not (is_running n.task) && is_settled n
 
 -- the node with this entry for a word, which is the one used last then
 abbrev pub with_put : NodeParts → WordId → Entry → NodeParts
@@ -86,8 +86,8 @@ retires n t = record n { task = Some t; waiting = wait.TheVariants.None }
 abbrev pub silent : NodeParts → NodeParts × Step
 silent n = (n, record { sent = None; seen = None })
 
-abbrev pub sends : NodeParts → Option Outgoing → NodeParts × Step
-sends n sent = (n, record { sent = sent; seen = None })
+abbrev pub sends_only : NodeParts → Option Outgoing → NodeParts × Step
+sends_only n sent = (n, record { sent = sent; seen = None })
 
 abbrev pub sees : NodeParts → WordId → ℕ → NodeParts × Step
 sees n word value = (n, record { sent = None; seen = Some (record { word = word; value = value }) })
@@ -97,16 +97,16 @@ me n = record { 0 = n.core }
 
 -- a word is asked for
 abbrev pub misses : Setting → NodeParts → WordId → NodeParts × Step
-misses C n word = sends (record n { waiting = wait.TheVariants.Reading word }) (to_home C.shape.banks word.0 (ReadReq word (me n)))
+misses C n word = sends_only (record n { waiting = wait.TheVariants.Reading word }) (to_home C.shape.banks word.0 (ReadReq word (me n)))
 
 -- Load w, by the entry of w
-abbrev pub loads : Setting → NodeParts → TaskDecl → TaskState → WordId → Option Entry → NodeParts × Step
-loads C n d t word None = misses C n word
-loads C n d t word (Some (Valid value marked)) =
+abbrev pub load_row : Setting → NodeParts → TaskDecl → TaskState → WordId → Option Entry → NodeParts × Step
+load_row C n d t word None = misses C n word
+load_row C n d t word (Some (Valid value marked)) =
     sees (retires (with_put n word (Valid value (marked || uses_plainly d word.0))) (loaded_of C.program value t)) word value
-loads C n d t word (Some (Registered value pending)) =
+load_row C n d t word (Some (Registered value pending)) =
     sees (retires (keeping n (touched word n.cache.pairs)) (loaded_of C.program value t)) word value
-loads C n d t word (Some (Leaving value)) = silent n
+load_row C n d t word (Some (Leaving value)) = silent n
 
 -- the signature of a lock after a store to a word: it has the word then where the task holds the lock and the lock guards the
 -- word for the task's stores
@@ -125,27 +125,27 @@ stored C n d t word e =
     record (retires (with_put n word e) (advanced C.program t)) { signatures = noted d t.held word.0 n.phase 0 n.signatures }
 
 -- a store registers its word
-abbrev pub registers : Setting → NodeParts → TaskDecl → TaskState → WordId → ℕ → NodeParts × Step
-registers C n d t word value = sends (stored C n d t word (Registered value true)) (to_home C.shape.banks word.0 (RegReq word (me n)))
+abbrev pub registers_word : Setting → NodeParts → TaskDecl → TaskState → WordId → ℕ → NodeParts × Step
+registers_word C n d t word value = sends_only (stored C n d t word (Registered value true)) (to_home C.shape.banks word.0 (RegReq word (me n)))
 
 -- Store w, by the entry of w
-abbrev pub stores : Setting → NodeParts → TaskDecl → TaskState → WordId → Bool → Option Entry → NodeParts × Step
-stores C n d t word whole None = if whole then registers C n d t word (merged_of C.program 0 t) else misses C n word
-stores C n d t word whole (Some (Valid value marked)) = registers C n d t word (merged_of C.program value t)
-stores C n d t word whole (Some (Registered value pending)) =
+abbrev pub store_row : Setting → NodeParts → TaskDecl → TaskState → WordId → Bool → Option Entry → NodeParts × Step
+store_row C n d t word whole None = if whole then registers_word C n d t word (merged_of C.program 0 t) else misses C n word
+store_row C n d t word whole (Some (Valid value marked)) = registers_word C n d t word (merged_of C.program value t)
+store_row C n d t word whole (Some (Registered value pending)) =
     silent (stored C n d t word (Registered (merged_of C.program value t) pending))
-stores C n d t word whole (Some (Leaving value)) = silent n
+store_row C n d t word whole (Some (Leaving value)) = silent n
 
 -- an instruction, by its need
 abbrev pub instr_row : Setting → NodeParts → TaskDecl → TaskState → Need → NodeParts × Step
 instr_row C n d t need.TheVariants.Local = silent (record n { task = Some (advanced C.program t) })
 instr_row C n d t (need.TheVariants.End cause) = silent (record n { task = Some (stopped cause t) })
-instr_row C n d t (need.TheVariants.Load word) = loads C n d t word (entry_of n word.0)
-instr_row C n d t (need.TheVariants.Store word whole) = stores C n d t word whole (entry_of n word.0)
+instr_row C n d t (need.TheVariants.Load word) = load_row C n d t word (entry_of n word.0)
+instr_row C n d t (need.TheVariants.Store word whole) = store_row C n d t word whole (entry_of n word.0)
 instr_row C n d t (need.TheVariants.Acquire lock) =
-    sends (record n { waiting = wait.TheVariants.Locking lock }) (to_home C.shape.banks lock.0 (Acquire lock (me n)))
+    sends_only (record n { waiting = wait.TheVariants.Locking lock }) (to_home C.shape.banks lock.0 (Acquire lock (me n)))
 instr_row C n d t (need.TheVariants.Release lock) =
-    sends (record n { task = Some (advanced C.program t) }) (to_home C.shape.banks lock.0 (Release lock (me n) (signature_of n lock.0)))
+    sends_only (record n { task = Some (advanced C.program t) }) (to_home C.shape.banks lock.0 (Release lock (me n) (signature_of n lock.0)))
 
 -- an instruction of a task that goes on
 abbrev pub instr_by : Setting → NodeParts → Option TaskDecl → Option TaskState → Option Need → NodeParts × Step
@@ -186,13 +186,13 @@ ended_badly None = false
 ended_badly (Some cause.TheVariants.Finished) = false
 ended_badly (Some _) = true
 
-abbrev pub is_bad : Option TaskState → Bool
-is_bad None = false
-is_bad (Some t) = ended_badly t.end
+abbrev pub task_ended_badly : Option TaskState → Bool
+task_ended_badly None = false
+task_ended_badly (Some t) = ended_badly t.end
 
 -- the arrival at the barrier
 abbrev pub arrives : NodeParts → NodeParts × Option Outgoing
-arrives n = (record n { arrived = true }, to_keeper (Arrived (me n) (is_bad n.task)))
+arrives n = (record n { arrived = true }, to_keeper (Arrived (me n) (task_ended_badly n.task)))
 
 -- the cache's victim for the wanted word, if there is one
 abbrev pub victim_for : NodeParts → Option WordId → Option WordId

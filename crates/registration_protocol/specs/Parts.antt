@@ -13,7 +13,7 @@ use Rattle.rv_core.specs.Step.{advanced, loaded_of}
 use Rattle.rv_core.specs.Task.{stopped, retires_at}
 use Rattle.rv_core.specs.declared.task.End.{End}
 use Rattle.rv_core.specs.Kinds.{held_after}
-use Rattle.rv_core.specs.Access.{holds}
+use Rattle.rv_core.specs.Access.{is_held}
 use Rattle.write_signature.specs.declared.signature.Signature.{Signature}
 use Rattle.message_net.specs.declared.message.Message.TheVariants.{ReadReq, RegReq, Acquire, Release}
 use Rattle.message_net.specs.declared.message.Outgoing.{Outgoing}
@@ -26,9 +26,9 @@ use Rattle.word_cache.specs.Cache.{may_go, is_stuck}
 use Rattle.registration_protocol.specs.declared.node.NodeWait as wait
 use Rattle.registration_protocol.specs.declared.node.NodeWait.{NodeWait}
 use Rattle.registration_protocol.specs.declared.node.Step.{Step}
-use Rattle.registration_protocol.specs.Node.{NodeParts, Setting, need_now, entry_of, signature_of, is_settled, goes_on, is_ready}
+use Rattle.registration_protocol.specs.Node.{NodeParts, Setting, need_now, entry_of, signature_of, is_settled, is_running, is_ready}
 use Rattle.registration_protocol.specs.OwnEvents.{lets, noted, me, wanted_by, makes_room, may_instr, may_evict, may_arrive}
-use Rattle.registration_protocol.specs.Changes.{KeepsPlace, entry_by}
+use Rattle.registration_protocol.specs.Changes.{KeepsPhase, on_instr}
 
 -- a node whose next instruction may go on: its task, the task's declaration, and what the instruction needs
 pub record MayInstruct (C : Setting) (n : NodeParts) : Type 0 where
@@ -55,19 +55,19 @@ pub record MayEvict (C : Setting) (n : NodeParts) (w : ℕ) : Type 0 where
 
 -- a node that may arrive at the barrier
 pub record MayArrive (n : NodeParts) : Type 0 where
-  pub done : goes_on n.task ≡ false
+  pub done : is_running n.task ≡ false
   pub settled : is_settled n ≡ true
   pub arrived : n.arrived ≡ false
   pub halted : n.halted ≡ false
 
 -- how many instructions a node's task has retired, and the locks that it holds; none where there is no task
-abbrev pub retired_of : Option TaskState → ℕ
-retired_of None = 0
-retired_of (Some t) = t.retired
+abbrev pub retired_so_far : Option TaskState → ℕ
+retired_so_far None = 0
+retired_so_far (Some t) = t.retired
 
-abbrev pub held_of : Option TaskState → ℕ
-held_of None = 0
-held_of (Some t) = t.held
+abbrev pub held_locks : Option TaskState → ℕ
+held_locks None = 0
+held_locks (Some t) = t.held
 
 -- the entry of the word that an instruction accesses
 abbrev pub accessed : NodeParts → Need → Option Entry
@@ -135,20 +135,20 @@ signatures_by n d t (need.TheVariants.Store word whole) e =
 signatures_by n d t _ e = n.signatures
 
 -- what an access that lacks a value or a registration sends
-abbrev pub asks_for : Setting → NodeParts → WordId → Option Outgoing
-asks_for C n word = to_home C.shape.banks word.0 (ReadReq word (me n))
+abbrev pub sends_read_req : Setting → NodeParts → WordId → Option Outgoing
+sends_read_req C n word = to_home C.shape.banks word.0 (ReadReq word (me n))
 
-abbrev pub asks_to_own : Setting → NodeParts → WordId → Option Outgoing
-asks_to_own C n word = to_home C.shape.banks word.0 (RegReq word (me n))
+abbrev pub sends_reg_req : Setting → NodeParts → WordId → Option Outgoing
+sends_reg_req C n word = to_home C.shape.banks word.0 (RegReq word (me n))
 
 -- what a load and a store send, by the entry of the word
 abbrev pub load_sends : Setting → NodeParts → WordId → Option Entry → Option Outgoing
-load_sends C n word None = asks_for C n word
+load_sends C n word None = sends_read_req C n word
 load_sends C n word (Some e) = None
 
 abbrev pub store_sends : Setting → NodeParts → WordId → Bool → Option Entry → Option Outgoing
-store_sends C n word whole None = if whole then asks_to_own C n word else asks_for C n word
-store_sends C n word whole (Some (Valid value marked)) = asks_to_own C n word
+store_sends C n word whole None = if whole then sends_reg_req C n word else sends_read_req C n word
+store_sends C n word whole (Some (Valid value marked)) = sends_reg_req C n word
 store_sends C n word whole (Some _) = None
 
 -- what an instruction sends
@@ -172,10 +172,10 @@ seen_by _ e = None
 
 -- the node after an instruction with this need, where the word that it accesses has this entry, and what it sends and reads
 pub record Instructs (C : Setting) (n : NodeParts) (d : TaskDecl) (t : TaskState) (x : Need) (e : Option Entry) (m : NodeParts) (s : Step) : Type 0 where
-  pub place : KeepsPlace n m
+  pub place : KeepsPhase n m
   pub sets : m.cache.sets ≡ n.cache.sets
   pub ways : m.cache.ways ≡ n.cache.ways
-  pub entries : (w : ℕ) → entry_of m w ≡ entry_by C d t x w (entry_of n w)
+  pub entries : (w : ℕ) → entry_of m w ≡ on_instr C d t x w (entry_of n w)
   pub task : m.task ≡ Some (task_by C t x e)
   pub waiting : m.waiting ≡ wait_by n.waiting x e
   pub signatures : m.signatures ≡ signatures_by n d t x e
@@ -191,7 +191,7 @@ pub record Retires (t : TaskState) (x : Need) (e : Option Entry) (u : TaskState)
 -- the task of a node that a lock is granted to: it acquires the lock then
 pub record Acquires (C : Setting) (t : TaskState) (lock : LockId) (u : TaskState) : Type 0 where
   pub within : lock.0 < length C.program.locks
-  pub free : holds t.held lock.0 ≡ false
+  pub free : is_held t.held lock.0 ≡ false
   pub retired : u.retired ≡ t.retired + 1
   pub held : u.held ≡ bit_or t.held (2 ^ lock.0)
   pub end : u.end ≡ t.end

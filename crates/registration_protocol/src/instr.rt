@@ -12,7 +12,7 @@ ghost use Rattle.word_cache.specs.Cache.{has_room};
 ghost use Rattle.registration_protocol.specs.Fit.{IsContext, Fits, IsLook};
 ghost use Rattle.registration_protocol.specs.Node.{entry_of, signature_of};
 ghost use Rattle.registration_protocol.specs.declared.node.NodeWait.TheVariants.{None as WaitsForNothing, Locking};
-ghost use Rattle.registration_protocol.specs.OwnEvents.{may_access, lets, may_instr, misses, me, stored, registers, loads, stores, instr_row, instructed, noted};
+ghost use Rattle.registration_protocol.specs.OwnEvents.{may_access, lets, may_instr, misses, me, stored, registers_word, load_row, store_row, instr_row, instructed, noted};
 ghost use Rattle.registration_protocol.specs.Setting.{setting};
 
 use crate::node::{Node, NodeWait, Step, send_home};
@@ -151,8 +151,8 @@ impl Node {
         requires banks { 0 < (setting context.now).shape.banks }
         requires look { IfSome self.old.task (IsLook (setting context.now) declared.now next.now) }
         requires kind { IsLoad next.now.need }
-        ensures node { (t : TaskState) → self.old.task ≡ Some t → self.new ≡ (loads (setting context.now) self.old declared.now t word (entry_of self.old word.0)).0 }
-        ensures step { (t : TaskState) → self.old.task ≡ Some t → result ≡ (loads (setting context.now) self.old declared.now t word (entry_of self.old word.0)).1 }
+        ensures node { (t : TaskState) → self.old.task ≡ Some t → self.new ≡ (load_row (setting context.now) self.old declared.now t word (entry_of self.old word.0)).0 }
+        ensures step { (t : TaskState) → self.old.task ≡ Some t → result ≡ (load_row (setting context.now) self.old declared.now t word (entry_of self.old word.0)).1 }
     {
         match self.cache.get(word) {
             None => self.miss(context, word),
@@ -223,9 +223,9 @@ impl Node {
         requires locks { length self.old.signatures ≤ 32 }
         requires room { (is_some (entry_of self.old word.0) || has_room self.old.cache word.0) ≡ true }
         ensures node { (t : TaskState) → self.old.task ≡ Some t
-            → self.new ≡ (registers (setting context.now) self.old declared.now t word (merged_of (setting context.now).program old t)).0 }
+            → self.new ≡ (registers_word (setting context.now) self.old declared.now t word (merged_of (setting context.now).program old t)).0 }
         ensures step { (t : TaskState) → self.old.task ≡ Some t
-            → result ≡ (registers (setting context.now) self.old declared.now t word (merged_of (setting context.now).program old t)).1 }
+            → result ≡ (registers_word (setting context.now) self.old declared.now t word (merged_of (setting context.now).program old t)).1 }
     {
         let core = self.core;
         self.write(context, declared, next, word, old, true);
@@ -246,8 +246,8 @@ impl Node {
         requires kind { IsStore next.now.need }
         requires locks { length self.old.signatures ≤ 32 }
         requires access { may_access self.old word.0 (entry_of self.old word.0) ≡ true }
-        ensures node { (t : TaskState) → self.old.task ≡ Some t → self.new ≡ (stores (setting context.now) self.old declared.now t word whole (entry_of self.old word.0)).0 }
-        ensures step { (t : TaskState) → self.old.task ≡ Some t → result ≡ (stores (setting context.now) self.old declared.now t word whole (entry_of self.old word.0)).1 }
+        ensures node { (t : TaskState) → self.old.task ≡ Some t → self.new ≡ (store_row (setting context.now) self.old declared.now t word whole (entry_of self.old word.0)).0 }
+        ensures step { (t : TaskState) → self.old.task ≡ Some t → result ≡ (store_row (setting context.now) self.old declared.now t word whole (entry_of self.old word.0)).1 }
     {
         match self.cache.get(word) {
             None if whole => self.register(context, declared, next, word, 0),

@@ -20,21 +20,21 @@ ghost use Rattle.word_cache.specs.declared.row.Entry.{Entry};
 ghost use Rattle.word_cache.specs.declared.row.Entry.TheVariants.{Valid};
 ghost use Rattle.word_cache.specs.Cache.{IsCache, has_room, entry_after_phase, entry_after_grant};
 ghost use Rattle.registration_protocol.specs.declared.node.NodeWait.TheVariants.{Reading, Filled, Locking};
-ghost use Rattle.registration_protocol.specs.Node.{NodeParts, Setting, need_now, entry_of, signature_of, opened};
+ghost use Rattle.registration_protocol.specs.Node.{NodeParts, Setting, need_now, entry_of, signature_of, initial_node};
 ghost use Rattle.registration_protocol.specs.Fit.{IsContext, Fits};
 ghost use Rattle.registration_protocol.specs.OwnEvents.{IsStill, lets, may_instr, may_evict, may_arrive, stored, noted_at, instr_row, instructed, written_by, written_now, evicted, arrives, own_event};
 ghost use Rattle.registration_protocol.specs.Messages.{node_gets, becomes, guarded_by, written_in, holds_now, begins};
-ghost use Rattle.registration_protocol.specs.Changes.{acknowledged, forwarded, given_back, given_up, is_from_keeper, KeepsPlace, KeepsTask};
-ghost use Rattle.registration_protocol.specs.Parts.{IsWaiting, MayInstruct, MayEvict, MayArrive, accessed, task_by, Instructs, Retires, Acquires, MayCome, retired_of, held_of};
+ghost use Rattle.registration_protocol.specs.Changes.{on_reg_ack, on_reg_fwd, on_wb_ack, on_evict, is_from_keeper, KeepsPhase, KeepsTask};
+ghost use Rattle.registration_protocol.specs.Parts.{IsWaiting, MayInstruct, MayEvict, MayArrive, accessed, task_by, Instructs, Retires, Acquires, MayCome, retired_so_far, held_locks};
 ghost use Rattle.registration_protocol.specs.Names.{NamesOwn, IsFor};
 
 /// An acknowledgement, a forwarded registration and an eviction change the entry of their word alone, and a forwarded read
 /// changes nothing.
 pub fn one_entry_changes()
-    ensures ack { (C : Setting) (n : NodeParts) (word : WordId) (v : ℕ) → entry_of (node_gets C n (RegAck word)).0 v ≡ (if word.0 == v then acknowledged (entry_of n v) else entry_of n v) }
-    ensures forward { (C : Setting) (n : NodeParts) (word : WordId) (core : CoreId) (v : ℕ) → entry_of (node_gets C n (RegFwd word core)).0 v ≡ (if word.0 == v then forwarded (entry_of n v) else entry_of n v) }
-    ensures back { (C : Setting) (n : NodeParts) (word : WordId) (v : ℕ) → entry_of (node_gets C n (WbAck word)).0 v ≡ (if word.0 == v then given_back (entry_of n v) else entry_of n v) }
-    ensures evict { (C : Setting) (n : NodeParts) (word : WordId) (v : ℕ) → entry_of (evicted C n word).0 v ≡ (if word.0 == v then given_up (entry_of n v) else entry_of n v) }
+    ensures ack { (C : Setting) (n : NodeParts) (word : WordId) (v : ℕ) → entry_of (node_gets C n (RegAck word)).0 v ≡ (if word.0 == v then on_reg_ack (entry_of n v) else entry_of n v) }
+    ensures forward { (C : Setting) (n : NodeParts) (word : WordId) (core : CoreId) (v : ℕ) → entry_of (node_gets C n (RegFwd word core)).0 v ≡ (if word.0 == v then on_reg_fwd (entry_of n v) else entry_of n v) }
+    ensures back { (C : Setting) (n : NodeParts) (word : WordId) (v : ℕ) → entry_of (node_gets C n (WbAck word)).0 v ≡ (if word.0 == v then on_wb_ack (entry_of n v) else entry_of n v) }
+    ensures evict { (C : Setting) (n : NodeParts) (word : WordId) (v : ℕ) → entry_of (evicted C n word).0 v ≡ (if word.0 == v then on_evict (entry_of n v) else entry_of n v) }
     ensures read { (C : Setting) (n : NodeParts) (word : WordId) (reader : CoreId) → (node_gets C n (ReadFwd word reader)).0 ≡ n }
 {}
 
@@ -66,9 +66,9 @@ pub fn a_store_writes_one_word()
 
 /// Only the keeper's messages and an arrival change a node's phase and marks.
 pub fn a_node_keeps_its_place()
-    ensures instr { (C : Setting) (n : NodeParts) → KeepsPlace n (instructed C n).0 }
-    ensures evict { (C : Setting) (n : NodeParts) (word : WordId) → KeepsPlace n (evicted C n word).0 }
-    ensures receive { (C : Setting) (n : NodeParts) (m : Message) → is_from_keeper m ≡ false → KeepsPlace n (node_gets C n m).0 }
+    ensures instr { (C : Setting) (n : NodeParts) → KeepsPhase n (instructed C n).0 }
+    ensures evict { (C : Setting) (n : NodeParts) (word : WordId) → KeepsPhase n (evicted C n word).0 }
+    ensures receive { (C : Setting) (n : NodeParts) (m : Message) → is_from_keeper m ≡ false → KeepsPhase n (node_gets C n m).0 }
 {}
 
 /// What it says of a node that it may go on with its instruction, evict a word or arrive.
@@ -112,7 +112,7 @@ pub fn a_phase_begins_part_by_part()
     ensures entries { (C : Setting) (n : NodeParts) (phase w : ℕ) → IsCache n.cache
         → entry_of (begins C n phase) w ≡ entry_after_phase (written_in (slice_get C.plans n.phase)) w (entry_of n w) }
     ensures signatures { (C : Setting) (n : NodeParts) (phase lock : ℕ) → signature_of (begins C n phase) lock ≡ empty phase }
-    ensures task { (C : Setting) (n : NodeParts) (phase : ℕ) → (retired_of (begins C n phase).task ≡ 0) × (held_of (begins C n phase).task ≡ 0) }
+    ensures task { (C : Setting) (n : NodeParts) (phase : ℕ) → (retired_so_far (begins C n phase).task ≡ 0) × (held_locks (begins C n phase).task ≡ 0) }
 {}
 
 /// A node's signatures are of its phase, and a store notes its word in that of each lock.
@@ -124,7 +124,7 @@ pub fn signatures_are_of_the_phase()
 
 /// A node fits its context as a run begins and after every event.
 pub fn a_node_stays_fit()
-    ensures opened { (C : Setting) (core : ℕ) → core < C.shape.cores → Fits C (opened C core) }
+    ensures opened { (C : Setting) (core : ℕ) → core < C.shape.cores → Fits C (initial_node C core) }
     ensures instr { (C : Setting) (n : NodeParts) → Fits C n → may_instr C n ≡ true → Fits C (instructed C n).0 }
     ensures evict { (C : Setting) (n : NodeParts) (word : WordId) → Fits C n → Fits C (evicted C n word).0 }
     ensures arrive { (C : Setting) (n : NodeParts) → Fits C n → Fits C (arrives n).0 }

@@ -1,10 +1,10 @@
 ghost use Rattle.std.specs.Prelude.{◌≡◌, ◌<◌, true, Some, None, IfOk, if◌then◌else◌, ◌&&◌};
 ghost use Rattle.message_net.specs.Mail.{to_core, to_home};
-ghost use Rattle.registration_protocol.specs.Node.{NodeParts, Setting, opened, need_now, entry_of, is_settled, goes_on, is_active, is_ready};
+ghost use Rattle.registration_protocol.specs.Node.{NodeParts, Setting, initial_node, need_now, entry_of, is_settled, is_running, is_active, is_ready};
 ghost use Rattle.registration_protocol.specs.Fit.{IsContext, Fits};
 ghost use Rattle.registration_protocol.specs.Setting.{setting};
 ghost use Rattle.registration_protocol.specs.OwnEvents.{may_access, lets, may_instr, may_arrive, arrives, evicted};
-ghost use Rattle.registration_protocol.specs.Messages.{fills, read_row, data_row, ack_row, forward_row, gone_row, halt_row};
+ghost use Rattle.registration_protocol.specs.Messages.{fills, read_fwd_row, data_reply_row, reg_ack_row, reg_fwd_row, wb_ack_row, halt_row};
 
 use crate::setting::{Context, declaration, start};
 use crate::signatures::empty_signatures;
@@ -107,7 +107,7 @@ impl Node {
     pub fn new(alloc: Global, core: CoreId, context: &Context<'_>) -> Result<Node, Memory>
         requires context { IsContext (setting context.now) }
         requires core { core.0 < (setting context.now).shape.cores }
-        ensures node { IfOk result (λ n. n ≡ opened (setting context.now) core.0) }
+        ensures node { IfOk result (λ n. n ≡ initial_node (setting context.now) core.0) }
         ensures fits { IfOk result (Fits (setting context.now)) }
     {
         let program = context.program;
@@ -139,7 +139,7 @@ impl Node {
 
     /// Whether the node has a task that goes on.
     pub(crate) fn goes_on(&self) -> bool
-        ensures { result ≡ goes_on self.now.task }
+        ensures { result ≡ is_running self.now.task }
     {
         match &self.task {
             Some(task) => task.end.is_none(),
@@ -246,8 +246,8 @@ impl Node {
 
     /// The value of a word comes.
     pub(crate) fn data(&mut self, word: WordId, value: u32) -> Received
-        ensures node { self.new ≡ (data_row self.old word value self.old.waiting).0 }
-        ensures received { result ≡ (data_row self.old word value self.old.waiting).1 }
+        ensures node { self.new ≡ (data_reply_row self.old word value self.old.waiting).0 }
+        ensures received { result ≡ (data_reply_row self.old word value self.old.waiting).1 }
     {
         if self.wait == NodeWait::Reading(word) {
             self.fill(word, value);
@@ -259,7 +259,7 @@ impl Node {
     /// back to the word's home.
     pub(crate) fn read(&self, context: &Context<'_>, word: WordId, reader: CoreId) -> Received
         requires { 0 < (setting context.now).shape.banks }
-        ensures { result ≡ (read_row (setting context.now) self.now word reader (entry_of self.now word.0)).1 }
+        ensures { result ≡ (read_fwd_row (setting context.now) self.now word reader (entry_of self.now word.0)).1 }
     {
         match self.cache.get(word) {
             Some(Entry::Registered { value, .. } | Entry::Leaving(value)) => send(
@@ -311,8 +311,8 @@ impl Node {
 
     /// The home of a word says that the core is its registrant.
     pub(crate) fn acknowledged(&mut self, word: WordId) -> Received
-        ensures node { self.new ≡ (ack_row self.old word (entry_of self.old word.0)).0 }
-        ensures received { result ≡ (ack_row self.old word (entry_of self.old word.0)).1 }
+        ensures node { self.new ≡ (reg_ack_row self.old word (entry_of self.old word.0)).0 }
+        ensures received { result ≡ (reg_ack_row self.old word (entry_of self.old word.0)).1 }
     {
         if let Some(
             Entry::Registered {
@@ -332,8 +332,8 @@ impl Node {
 
     /// Another core is the registrant of a word now.
     pub(crate) fn forwarded(&mut self, word: WordId, core: CoreId) -> Received
-        ensures node { self.new ≡ (forward_row self.old word core (entry_of self.old word.0)).0 }
-        ensures received { result ≡ (forward_row self.old word core (entry_of self.old word.0)).1 }
+        ensures node { self.new ≡ (reg_fwd_row self.old word core (entry_of self.old word.0)).0 }
+        ensures received { result ≡ (reg_fwd_row self.old word core (entry_of self.old word.0)).1 }
     {
         if let Some(Entry::Registered { pending: false, .. }) = self.cache.get(word) {
             self.cache.remove(word);
@@ -343,8 +343,8 @@ impl Node {
 
     /// The home of a word has had it back.
     pub(crate) fn given_back(&mut self, word: WordId) -> Received
-        ensures node { self.new ≡ (gone_row self.old word (entry_of self.old word.0)).0 }
-        ensures received { result ≡ (gone_row self.old word (entry_of self.old word.0)).1 }
+        ensures node { self.new ≡ (wb_ack_row self.old word (entry_of self.old word.0)).0 }
+        ensures received { result ≡ (wb_ack_row self.old word (entry_of self.old word.0)).1 }
     {
         if let Some(Entry::Leaving(_)) = self.cache.get(word) {
             self.cache.remove(word);

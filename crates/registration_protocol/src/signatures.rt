@@ -1,6 +1,6 @@
 ghost use Rattle.std.specs.Prelude.{◌≡◌, ◌<◌, ◌≤◌, ◌&&◌, length, replicate, slice_set, slice_index_or, [], IfOk};
 ghost use Rattle.region_table.specs.Words.{has};
-ghost use Rattle.rv_core.specs.Access.{holds};
+ghost use Rattle.rv_core.specs.Access.{is_held};
 ghost use Rattle.write_signature.specs.declared.signature.Signature.{Signature};
 ghost use Rattle.write_signature.specs.Signature.{empty};
 ghost use Rattle.registration_protocol.specs.OwnEvents.{noted, noted_at};
@@ -43,7 +43,7 @@ fn is_guarded(sets: &[WordSet], lock: usize, word: WordId) -> bool
 /// Whether a lock is among those that are held.
 fn is_held(held: u32, lock: u32) -> bool
     requires { lock < 32 }
-    ensures { result ≡ holds held lock }
+    ensures { result ≡ is_held held lock }
 {
     held & (1 << lock) != 0
 }
@@ -51,7 +51,7 @@ fn is_held(held: u32, lock: u32) -> bool
 /// Whether the task holds the lock and may store the word under it.
 fn stores_under(task: &TaskDecl, held: u32, lock: usize, word: WordId) -> bool
     requires { lock < 32 }
-    ensures { result ≡ (holds held lock && has (slice_index_or task.now.effects.guarded_writes lock []) word.0) }
+    ensures { result ≡ (is_held held lock && has (slice_index_or task.now.effects.guarded_writes lock []) word.0) }
 {
     is_held(held, lock as u32) && is_guarded(task.effects.guarded_writes.as_slice(), lock, word)
 }

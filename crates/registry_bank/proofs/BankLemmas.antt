@@ -8,10 +8,10 @@ use Rattle.dn_base.specs.declared.ids.LockId.{LockId}
 use Rattle.write_signature.specs.declared.signature.Signature.{Signature}
 use Rattle.message_net.specs.declared.message.Outgoing.{Outgoing}
 use Rattle.queue_lock.specs.Lock.{Lock, acquired, released}
-use Rattle.registry_bank.specs.Bank.{BankParts, is_here, bank_lock, lock_place, acquires, releases, grants, hands_on}
+use Rattle.registry_bank.specs.Bank.{BankParts, is_here, bank_lock, lock_index, acquires, releases, grants, hands_on}
 
 -- a lock of the bank stands at its place
-pub lock_at : (b : BankParts) (l place : ℕ) → Some place ≡ lock_place b l → (place ≡ l / b.banks) × (place < length b.locks) × (bank_lock b l ≡ slice_get b.locks place)
+pub lock_at : (b : BankParts) (l place : ℕ) → Some place ≡ lock_index b l → (place ≡ l / b.banks) × (place < length b.locks) × (bank_lock b l ≡ slice_get b.locks place)
 lock_at b l place found = by_test (is_here b l) (nat_lt (l / b.banks) (length b.locks)) refl refl where
   by_test : (t u : Bool) → is_here b l ≡ t → nat_lt (l / b.banks) (length b.locks) ≡ u → (place ≡ l / b.banks) × (place < length b.locks) × (bank_lock b l ≡ slice_get b.locks place)
   by_test false u e f = let never = rw e at found in absurd (cc)
@@ -28,7 +28,7 @@ state_at locks place within = by_case (slice_get locks place) refl where
   by_case None e = absurd (grind (arith, slice_get_cases locks place))
   by_case (Some state) e = (state, e)
 
-pub acquire_found : (b : BankParts) (lock : LockId) (core : CoreId) (place : ℕ) (locks : List Lock) (sent : Option Outgoing) → Some place ≡ lock_place b lock.0 → ((state : Lock) → slice_get b.locks place ≡ Some state → (locks ≡ slice_set b.locks place (acquired state core).0) × (sent ≡ grants lock core (acquired state core).1)) → acquires b lock core (bank_lock b lock.0) ≡ (record b { locks = locks }, sent)
+pub acquire_found : (b : BankParts) (lock : LockId) (core : CoreId) (place : ℕ) (locks : List Lock) (sent : Option Outgoing) → Some place ≡ lock_index b lock.0 → ((state : Lock) → slice_get b.locks place ≡ Some state → (locks ≡ slice_set b.locks place (acquired state core).0) × (sent ≡ grants lock core (acquired state core).1)) → acquires b lock core (bank_lock b lock.0) ≡ (record b { locks = locks }, sent)
 acquire_found b lock core place locks sent found does =
     let at = lock_at b lock.0 place found in
     let held = state_at b.locks place at.1 in
@@ -37,7 +37,7 @@ acquire_found b lock core place locks sent found does =
       finish : (state : Lock) → slice_get b.locks place ≡ Some state → place ≡ lock.0 / b.banks → bank_lock b lock.0 ≡ slice_get b.locks place → locks ≡ slice_set b.locks place (acquired state core).0 → sent ≡ grants lock core (acquired state core).1 → acquires b lock core (bank_lock b lock.0) ≡ (record b { locks = locks }, sent)
       finish state here same at after answer = rw (at, here, after, answer, same) refl
 
-pub release_found : (b : BankParts) (lock : LockId) (core : CoreId) (signature : Signature) (place : ℕ) (locks : List Lock) (sent : Option Outgoing) → Some place ≡ lock_place b lock.0 → ((state : Lock) → slice_get b.locks place ≡ Some state → (locks ≡ slice_set b.locks place (released state core signature).0) × (sent ≡ hands_on lock (released state core signature).1)) → releases b lock core signature (bank_lock b lock.0) ≡ (record b { locks = locks }, sent)
+pub release_found : (b : BankParts) (lock : LockId) (core : CoreId) (signature : Signature) (place : ℕ) (locks : List Lock) (sent : Option Outgoing) → Some place ≡ lock_index b lock.0 → ((state : Lock) → slice_get b.locks place ≡ Some state → (locks ≡ slice_set b.locks place (released state core signature).0) × (sent ≡ hands_on lock (released state core signature).1)) → releases b lock core signature (bank_lock b lock.0) ≡ (record b { locks = locks }, sent)
 release_found b lock core signature place locks sent found does =
     let at = lock_at b lock.0 place found in
     let held = state_at b.locks place at.1 in

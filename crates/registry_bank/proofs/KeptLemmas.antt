@@ -14,7 +14,7 @@ use Rattle.queue_lock.specs.Lock.{Lock, IsLockOf, acquired, released}
 use Rattle.queue_lock.proofs.RowLemmas.{IsLockOf-acquired, IsLockOf-released, answer-released}
 use Rattle.registry_bank.specs.declared.bank.BankWord.{BankWord}
 use Rattle.registry_bank.specs.declared.bank.BankWord.TheVariants.{Home, Reg}
-use Rattle.registry_bank.specs.Bank.{BankParts, IsBank, is_core, bank_word, bank_lock, with_word, with_lock, reads, registers, takes_back, acquires, releases, grants, hands_on, from_core, bank_gets, is_for_bank}
+use Rattle.registry_bank.specs.Bank.{BankParts, IsBank, is_same_core, bank_word, bank_lock, with_word, with_lock, reads, registers, takes_back, acquires, releases, grants, hands_on, from_core, bank_gets, is_for_bank}
 use Rattle.registry_bank.proofs.ChangeLemmas.{word-changed, lock-changed}
 
 -- one bank is another after a message, as far as numbers go
@@ -55,7 +55,7 @@ place-registers b word core (Some (Reg registrant)) = place-word b word.0 (Reg c
 place-takes_back : (b : BankParts) (word : WordId) (value : ℕ) (core : CoreId) (o : Option BankWord) → KeepsPlace b (takes_back b word value core o).0
 place-takes_back b word value core None = place-same b
 place-takes_back b word value core (Some (Home old)) = place-same b
-place-takes_back b word value core (Some (Reg registrant)) = by_test (is_core registrant core) where
+place-takes_back b word value core (Some (Reg registrant)) = by_test (is_same_core registrant core) where
   by_test : (t : Bool) → KeepsPlace b (cond t (with_word b word.0 (Home value)) b)
   by_test true = place-word b word.0 (Home value)
   by_test false = place-same b
@@ -141,7 +141,7 @@ stays-registers b word core None e good below = silent b good
 stays-registers b word core (Some (Home value)) e good below =
     to-core b (with_word b word.0 (Reg core)) core (RegAck word) (IsBank-word b word.0 (Home value) (Reg core) good e (registrant-below b core below)) below
 stays-registers b word core (Some (Reg registrant)) e good below =
-    by_test (is_core registrant core) (IsBank-word b word.0 (Reg registrant) (Reg core) good e (registrant-below b core below)) where
+    by_test (is_same_core registrant core) (IsBank-word b word.0 (Reg registrant) (Reg core) good e (registrant-below b core below)) where
       by_test : (t : Bool) → IsBank (with_word b word.0 (Reg core)) → Stays b (with_word b word.0 (Reg core), cond t (to_core core (RegAck word)) (to_core registrant (RegFwd word core)))
       by_test true new =
           to-core b (with_word b word.0 (Reg core)) core (RegAck word) new below
@@ -153,7 +153,7 @@ stays-takes_back b word value core None e good below = silent b good
 stays-takes_back b word value core (Some (Home old)) e good below =
     to-core b b core (WbAck word) good below
 stays-takes_back b word value core (Some (Reg registrant)) e good below =
-    by_test (is_core registrant core) where
+    by_test (is_same_core registrant core) where
       by_test : (t : Bool) → Stays b (cond t (with_word b word.0 (Home value)) b, to_core core (WbAck word))
       by_test true =
           to-core b (with_word b word.0 (Home value)) core (WbAck word) (IsBank-word b word.0 (Reg registrant) (Home value) good e (λ d never. absurd (cc))) below

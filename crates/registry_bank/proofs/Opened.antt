@@ -10,7 +10,7 @@ use Rattle.queue_lock.specs.Lock.{Lock, IsLockOf, free_lock}
 use Rattle.queue_lock.proofs.RowLemmas.{IsLockOf-free}
 use Rattle.dn_base.specs.declared.ids.CoreId.{CoreId}
 use Rattle.registry_bank.specs.declared.bank.BankWord.TheVariants.{Home, Reg}
-use Rattle.registry_bank.specs.Bank.{IsNewBank, IsBank, bank_word, bank_lock, first_word, own_of, opened_bank}
+use Rattle.registry_bank.specs.Bank.{IsNewBank, IsBank, bank_word, bank_lock, first_word, own_of, initial_bank}
 use Rattle.registry_bank.proofs.Strides.{AreStrided}
 
 -- two numbers with one rest, less than the divisor apart, are one
@@ -116,7 +116,7 @@ opened-locks bank banks cores locks k some =
     own-strided bank banks (replicate locks (free_lock cores)) k some
     ∙ get-replicate locks (free_lock cores) (bank + banks * k)
 
-pub opened-is-new : (bank banks cores : ℕ) (memory : List ℕ) (locks : ℕ) → bank < banks → IsNewBank bank banks cores memory locks (opened_bank bank banks cores memory locks)
+pub opened-is-new : (bank banks cores : ℕ) (memory : List ℕ) (locks : ℕ) → bank < banks → IsNewBank bank banks cores memory locks (initial_bank bank banks cores memory locks)
 opened-is-new bank banks cores memory locks some = record {
   number = refl;
   bank_count = refl;
@@ -127,17 +127,17 @@ opened-is-new bank banks cores memory locks some = record {
   number : (n : ℕ) → n % banks ≡ bank → bank + banks * (n / banks) ≡ n
   number n own = omega (arith, own, some)
 
-  by_word : (w : ℕ) (t : Bool) → (w % banks == bank) ≡ t → bank_word (opened_bank bank banks cores memory locks) w ≡ cond (w % banks == bank) (first_word (slice_get memory w)) None
+  by_word : (w : ℕ) (t : Bool) → (w % banks == bank) ≡ t → bank_word (initial_bank bank banks cores memory locks) w ≡ cond (w % banks == bank) (first_word (slice_get memory w)) None
   by_word w true e =
       rw e (opened-words bank banks memory (w / banks) some ∙ ap (λ (n : ℕ). first_word (slice_get memory n)) (number w (eqb-true (w % banks) bank e)))
   by_word w false e = rw e refl
 
-  by_lock : (l : ℕ) (t : Bool) → (l % banks == bank) ≡ t → bank_lock (opened_bank bank banks cores memory locks) l ≡ cond ((l % banks == bank) && nat_lt l locks) (Some (free_lock cores)) None
+  by_lock : (l : ℕ) (t : Bool) → (l % banks == bank) ≡ t → bank_lock (initial_bank bank banks cores memory locks) l ≡ cond ((l % banks == bank) && nat_lt l locks) (Some (free_lock cores)) None
   by_lock l true e =
       rw e (opened-locks bank banks cores locks (l / banks) some ∙ ap (λ (n : ℕ). cond (nat_lt n locks) (Some (free_lock cores)) None) (number l (eqb-true (l % banks) bank e)))
   by_lock l false e = rw e refl
 
-pub IsBank-opened : (bank banks cores : ℕ) (memory : List ℕ) (locks : ℕ) → bank < banks → IsBank (opened_bank bank banks cores memory locks)
+pub IsBank-opened : (bank banks cores : ℕ) (memory : List ℕ) (locks : ℕ) → bank < banks → IsBank (initial_bank bank banks cores memory locks)
 IsBank-opened bank banks cores memory locks some = record { number = some; registrants = registrants; locks = each } where
   by_first : (o : Option ℕ) (core : CoreId) → first_word o ≡ Some (Reg core) → core.0 < cores
   by_first None core e = absurd (cc)
@@ -147,7 +147,7 @@ IsBank-opened bank banks cores memory locks some = record { number = some; regis
   by_here true o core e = by_first o core e
   by_here false o core e = absurd (cc)
 
-  registrants : (w : ℕ) (core : CoreId) → bank_word (opened_bank bank banks cores memory locks) w ≡ Some (Reg core) → core.0 < cores
+  registrants : (w : ℕ) (core : CoreId) → bank_word (initial_bank bank banks cores memory locks) w ≡ Some (Reg core) → core.0 < cores
   registrants w core e =
       by_here (w % banks == bank) (slice_get memory w) core (sym ((opened-is-new bank banks cores memory locks some).each_word w) ∙ e)
 
@@ -157,6 +157,6 @@ IsBank-opened bank banks cores memory locks some = record { number = some; regis
       rw (← same) (IsLockOf-free cores)
   by_free false h e = absurd (cc)
 
-  each : (l : ℕ) (h : Lock) → bank_lock (opened_bank bank banks cores memory locks) l ≡ Some h → IsLockOf cores h
+  each : (l : ℕ) (h : Lock) → bank_lock (initial_bank bank banks cores memory locks) l ≡ Some h → IsLockOf cores h
   each l h e =
       by_free ((l % banks == bank) && nat_lt l locks) h (sym ((opened-is-new bank banks cores memory locks some).each_lock l) ∙ e)

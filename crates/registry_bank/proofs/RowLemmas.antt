@@ -12,7 +12,7 @@ use Rattle.message_net.specs.Mail.{to_core}
 use Rattle.queue_lock.specs.Lock.{Lock, acquired, released}
 use Rattle.registry_bank.specs.declared.bank.BankWord.{BankWord}
 use Rattle.registry_bank.specs.declared.bank.BankWord.TheVariants.{Home, Reg}
-use Rattle.registry_bank.specs.Bank.{BankParts, is_core, bank_word, bank_lock, with_word, with_lock, reads, registers, takes_back, acquires, releases, grants, hands_on, from_core, bank_gets, after_register, after_write_back, after_acquire, after_release}
+use Rattle.registry_bank.specs.Bank.{BankParts, is_same_core, bank_word, bank_lock, with_word, with_lock, reads, registers, takes_back, acquires, releases, grants, hands_on, from_core, bank_gets, after_register, after_write_back, after_acquire, after_release}
 use Rattle.registry_bank.proofs.ChangeLemmas.{word-changed, lock-changed}
 
 from_core-there : (b : BankParts) (core : CoreId) (row : BankParts × Option Outgoing) → core.0 < b.cores → from_core b core row ≡ row
@@ -63,22 +63,22 @@ register-home b word core value there held = register-row b word core there ∙ 
 
 pub register-own : (b : BankParts) (word : WordId) (core registrant : CoreId) → core.0 < b.cores → bank_word b word.0 ≡ Some (Reg registrant) → registrant.0 ≡ core.0 → bank_gets b (RegReq word core) ≡ (with_word b word.0 (Reg core), to_core core (RegAck word))
 register-own b word core registrant there held same =
-    let is : is_core registrant core ≡ true = grind (arith, nat_tests) in
+    let is : is_same_core registrant core ≡ true = grind (arith, nat_tests) in
     register-row b word core there ∙ rw (held, is) refl
 
 pub register-other : (b : BankParts) (word : WordId) (core registrant : CoreId) → core.0 < b.cores → bank_word b word.0 ≡ Some (Reg registrant) → registrant.0 ≢ core.0 → bank_gets b (RegReq word core) ≡ (with_word b word.0 (Reg core), to_core registrant (RegFwd word core))
 register-other b word core registrant there held other =
-    let is : is_core registrant core ≡ false = grind (arith, nat_tests) in
+    let is : is_same_core registrant core ≡ false = grind (arith, nat_tests) in
     register-row b word core there ∙ rw (held, is) refl
 
 pub write_back-own : (b : BankParts) (word : WordId) (value : ℕ) (core registrant : CoreId) → core.0 < b.cores → bank_word b word.0 ≡ Some (Reg registrant) → registrant.0 ≡ core.0 → bank_gets b (WriteBack word value core) ≡ (with_word b word.0 (Home value), to_core core (WbAck word))
 write_back-own b word value core registrant there held same =
-    let is : is_core registrant core ≡ true = grind (arith, nat_tests) in
+    let is : is_same_core registrant core ≡ true = grind (arith, nat_tests) in
     write_back-row b word value core there ∙ rw (held, is) refl
 
 pub write_back-other : (b : BankParts) (word : WordId) (value : ℕ) (core registrant : CoreId) → core.0 < b.cores → bank_word b word.0 ≡ Some (Reg registrant) → registrant.0 ≢ core.0 → bank_gets b (WriteBack word value core) ≡ (b, to_core core (WbAck word))
 write_back-other b word value core registrant there held other =
-    let is : is_core registrant core ≡ false = grind (arith, nat_tests) in
+    let is : is_same_core registrant core ≡ false = grind (arith, nat_tests) in
     write_back-row b word value core there ∙ rw (held, is) refl
 
 pub write_back-home : (b : BankParts) (word : WordId) (value old : ℕ) (core : CoreId) → core.0 < b.cores → bank_word b word.0 ≡ Some (Home old) → bank_gets b (WriteBack word value core) ≡ (b, to_core core (WbAck word))
@@ -113,7 +113,7 @@ word-registered b word core w some there =
 pub word-written_back : (b : BankParts) (word : WordId) (value : ℕ) (core : CoreId) (w : ℕ) → 0 < b.banks → core.0 < b.cores → bank_word (bank_gets b (WriteBack word value core)).0 w ≡ cond (word.0 == w) (after_write_back core value (bank_word b w)) (bank_word b w)
 word-written_back b word value core w some there =
     rw (write_back-row b word value core there) (by_content (bank_word b word.0) refl (word.0 == w) refl) where
-      by_registrant : (registrant : CoreId) → bank_word b word.0 ≡ Some (Reg registrant) → (own t : Bool) → is_core registrant core ≡ own → (word.0 == w) ≡ t → bank_word (takes_back b word value core (Some (Reg registrant))).0 w ≡ cond (word.0 == w) (after_write_back core value (bank_word b w)) (bank_word b w)
+      by_registrant : (registrant : CoreId) → bank_word b word.0 ≡ Some (Reg registrant) → (own t : Bool) → is_same_core registrant core ≡ own → (word.0 == w) ≡ t → bank_word (takes_back b word value core (Some (Reg registrant))).0 w ≡ cond (word.0 == w) (after_write_back core value (bank_word b w)) (bank_word b w)
       by_registrant registrant e true true g f =
           let same : word.0 ≡ w = eqb-true word.0 w f in
           rw g (word-changed b word.0 w (Reg registrant) (Home value) some e ∙ rw (f, ← same, e, g) refl)
@@ -134,7 +134,7 @@ word-written_back b word value core w some there =
           rw (f, ← same, e) refl
       by_content (Some (Home old)) e false f = rw f refl
       by_content (Some (Reg registrant)) e t f =
-          by_registrant registrant e (is_core registrant core) t refl f
+          by_registrant registrant e (is_same_core registrant core) t refl f
 
 -- what each lock has after a message
 pub lock-acquired : (b : BankParts) (lock : LockId) (core : CoreId) (l : ℕ) → 0 < b.banks → core.0 < b.cores → bank_lock (bank_gets b (Acquire lock core)).0 l ≡ cond (lock.0 == l) (after_acquire core (bank_lock b l)) (bank_lock b l)
@@ -227,7 +227,7 @@ lock-at_write_back b word value core l =
       by_content : (o : Option BankWord) → bank_lock (takes_back b word value core o).0 l ≡ bank_lock b l
       by_content None = refl
       by_content (Some (Home old)) = refl
-      by_content (Some (Reg registrant)) = by_test (is_core registrant core)
+      by_content (Some (Reg registrant)) = by_test (is_same_core registrant core)
 
 pub word-at_acquire : (b : BankParts) (lock : LockId) (core : CoreId) (w : ℕ) → bank_word (bank_gets b (Acquire lock core)).0 w ≡ bank_word b w
 unfolding bank_gets

@@ -33,8 +33,8 @@ abbrev pub bank_lock : BankParts → ℕ → Option Lock
 bank_lock b l = if is_here b l then slice_get b.locks (l / b.banks) else None
 
 -- where a lock stands among the bank's own, if it is one of them
-abbrev pub lock_place : BankParts → ℕ → Option ℕ
-lock_place b l =
+abbrev pub lock_index : BankParts → ℕ → Option ℕ
+lock_index b l =
     if is_here b l && nat_lt (l / b.banks) (length b.locks) then Some (l / b.banks) else None
 
 -- the bank with another content for one of its words, and with another state of one of its locks
@@ -56,8 +56,8 @@ own_of bank banks place (x ∷ xs) =
     if place % banks == bank then x ∷ own_of bank banks (place + 1) xs else own_of bank banks (place + 1) xs
 
 -- a bank as a run begins: its words at home, with their values in the first memory, and its locks, which are free
-abbrev pub opened_bank : ℕ → ℕ → ℕ → List ℕ → ℕ → BankParts
-opened_bank bank banks cores memory locks = record {
+abbrev pub initial_bank : ℕ → ℕ → ℕ → List ℕ → ℕ → BankParts
+initial_bank bank banks cores memory locks = record {
   bank = bank;
   banks = banks;
   cores = cores;
@@ -81,8 +81,8 @@ pub record IsBank (b : BankParts) : Type 0 where
   pub locks : (l : ℕ) (h : Lock) → bank_lock b l ≡ Some h → IsLockOf b.cores h
 
 -- whether a core is this one
-abbrev pub is_core : CoreId → CoreId → Bool
-is_core core other = core.0 == other.0
+abbrev pub is_same_core : CoreId → CoreId → Bool
+is_same_core core other = core.0 == other.0
 
 -- ReadReq, by what the bank holds for the word: its value goes to the reader, or the registrant is asked to send it
 abbrev pub reads : BankParts → WordId → CoreId → Option BankWord → BankParts × Option Outgoing
@@ -95,14 +95,14 @@ abbrev pub registers : BankParts → WordId → CoreId → Option BankWord → B
 registers b word core None = (b, None)
 registers b word core (Some (Home value)) = (with_word b word.0 (Reg core), to_core core (RegAck word))
 registers b word core (Some (Reg registrant)) =
-    (with_word b word.0 (Reg core), if is_core registrant core then to_core core (RegAck word) else to_core registrant (RegFwd word core))
+    (with_word b word.0 (Reg core), if is_same_core registrant core then to_core core (RegAck word) else to_core registrant (RegFwd word core))
 
 -- WriteBack: the value is taken from the registrant alone; the core gets its answer in any case
 abbrev pub takes_back : BankParts → WordId → ℕ → CoreId → Option BankWord → BankParts × Option Outgoing
 takes_back b word value core None = (b, None)
 takes_back b word value core (Some (Home old)) = (b, to_core core (WbAck word))
 takes_back b word value core (Some (Reg registrant)) =
-    (if is_core registrant core then with_word b word.0 (Home value) else b, to_core core (WbAck word))
+    (if is_same_core registrant core then with_word b word.0 (Home value) else b, to_core core (WbAck word))
 
 -- the lock is granted with a signature, if there is one
 abbrev pub grants : LockId → CoreId → Option Signature → Option Outgoing
@@ -155,7 +155,7 @@ after_register core (Some content) = Some (Reg core)
 abbrev pub after_write_back : CoreId → ℕ → Option BankWord → Option BankWord
 after_write_back core value None = None
 after_write_back core value (Some (Home old)) = Some (Home old)
-after_write_back core value (Some (Reg registrant)) = if is_core registrant core then Some (Home value) else Some (Reg registrant)
+after_write_back core value (Some (Reg registrant)) = if is_same_core registrant core then Some (Home value) else Some (Reg registrant)
 
 -- the state of a lock once a core has asked for it, and once a core has given it up
 abbrev pub after_acquire : CoreId → Option Lock → Option Lock

@@ -2,7 +2,7 @@ ghost use Rattle.std.specs.Prelude.{◌≡◌, ℕ, map, replicate, ◌+◌, ◌
 ghost use Rattle.queue_lock.specs.Lock.{Lock, free_lock, acquired, released};
 ghost use Rattle.message_net.specs.Mail.{to_core};
 ghost use Rattle.registry_bank.specs.declared.bank.BankWord.TheVariants.{Home};
-ghost use Rattle.registry_bank.specs.Bank.{BankParts, opened_bank, own_of, is_here, bank_word, bank_lock, lock_place, with_word, with_lock, reads, registers, takes_back, acquires, releases, grants, hands_on, from_core, bank_gets};
+ghost use Rattle.registry_bank.specs.Bank.{BankParts, initial_bank, own_of, is_here, bank_word, bank_lock, lock_index, with_word, with_lock, reads, registers, takes_back, acquires, releases, grants, hands_on, from_core, bank_gets};
 
 use dn_base::{BankId, CoreId, LockId, Memory, WordId};
 use message_net::{Message, Outgoing};
@@ -139,7 +139,7 @@ impl Bank {
         requires cores { cores ≤ 16 }
         requires memory { length memory.now ≤ 65536 }
         requires locks { locks ≤ 32 }
-        ensures { IfOk result (λ b. b ≡ opened_bank bank.0 banks cores memory.now locks) }
+        ensures { IfOk result (λ b. b ≡ initial_bank bank.0 banks cores memory.now locks) }
     {
         Ok(Bank {
             bank,
@@ -215,7 +215,7 @@ impl Bank {
 
     /// The place of a lock among the bank's own; None where it isn't one of them.
     fn place(&self, lock: LockId) -> Option<usize>
-        ensures { result ≡ lock_place self.now lock.0 }
+        ensures { result ≡ lock_index self.now lock.0 }
     {
         let place = (lock.0 / self.banks) as usize;
         if lock.0 % self.banks == self.bank.0 && place < self.locks.len() {

@@ -10,17 +10,17 @@ ghost use Rattle.message_net.specs.declared.message.Message.{Message};
 ghost use Rattle.message_net.specs.declared.message.Message.TheVariants.{ReadReq, RegReq, WriteBack, Acquire, Release};
 ghost use Rattle.message_net.specs.declared.message.Outgoing.{Outgoing};
 ghost use Rattle.registry_bank.specs.declared.bank.BankWord.{BankWord};
-ghost use Rattle.registry_bank.specs.Bank.{BankParts, IsNewBank, IsBank, opened_bank, bank_word, bank_lock, with_word, with_lock, bank_gets, is_for_bank, after_register, after_write_back, after_acquire, after_release};
+ghost use Rattle.registry_bank.specs.Bank.{BankParts, IsNewBank, IsBank, initial_bank, bank_word, bank_lock, with_word, with_lock, bank_gets, is_for_bank, after_register, after_write_back, after_acquire, after_release};
 
 /// As a run begins each word of the bank holds its value in the first memory, and each of its locks is free.
 pub fn an_opened_bank_holds_the_first_memory()
     ensures { (bank banks cores : ℕ) (memory : List ℕ) (locks : ℕ) → bank < banks
-        → IsNewBank bank banks cores memory locks (opened_bank bank banks cores memory locks) }
+        → IsNewBank bank banks cores memory locks (initial_bank bank banks cores memory locks) }
 {}
 
 /// A bank of a machine stays one, whatever the message, and sends what it sends to the machine's cores.
 pub fn a_bank_stays_the_machines()
-    ensures opened { (bank banks cores : ℕ) (memory : List ℕ) (locks : ℕ) → bank < banks → IsBank (opened_bank bank banks cores memory locks) }
+    ensures opened { (bank banks cores : ℕ) (memory : List ℕ) (locks : ℕ) → bank < banks → IsBank (initial_bank bank banks cores memory locks) }
     ensures kept { (b : BankParts) (m : Message) → IsBank b → IsBank (bank_gets b m).0 }
     ensures answers { (b : BankParts) (m : Message) (out : Outgoing) → IsBank b → (bank_gets b m).1 ≡ Some out
         → (core : CoreId) × (out.to ≡ Core core) × (core.0 < b.cores) }

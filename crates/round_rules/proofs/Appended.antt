@@ -12,7 +12,7 @@ use Rattle.bank_hall.specs.Halls.{PassView, HasMadeCalls}
 use Rattle.bank_hall.specs.Rows.{made_of}
 use Rattle.round_rules.specs.Members.{Member, after_deed}
 use Rattle.round_rules.specs.Steps.{Step, stamp_of, Goes, clock_after}
-use Rattle.round_rules.specs.Acts.{Act, is_act_of, done_in, core_step, note_of, events_by, notes_by, steps_by, act_calls, calls_in}
+use Rattle.round_rules.specs.Acts.{Act, is_act_of, act_done, core_step, note_of, events_by, notes_by, steps_by, act_calls, calls_in}
 use Rattle.round_rules.specs.Passes.{Held, HasGone, held_member, end_seen}
 
 banks-append : (shape : Shape) (number b : ℕ) (first more : List Act) → (calls_in shape number (first ++ more)).banks b ≡ (calls_in shape number first).banks b ++ (calls_in shape number more).banks b
@@ -56,7 +56,7 @@ steps-append core first more =
 
 events-append : (shape : Shape) (a : Actor) (first more : List Act) → events_by shape a (first ++ more) ≡ events_by shape a first ++ events_by shape a more
 events-append shape a first more =
-    ap (filter_map (done_in shape)) (filter-append (is_act_of a) first more) ∙ filter_map-append (done_in shape) (filter (is_act_of a) first) (filter (is_act_of a) more)
+    ap (filter_map (act_done shape)) (filter-append (is_act_of a) first more) ∙ filter_map-append (act_done shape) (filter (is_act_of a) first) (filter (is_act_of a) more)
 
 pub notes-follow : (shape : Shape) (a : Actor) (first more : List Act) → notes_by shape a (first ++ more) ≡ notes_by shape a first ++ notes_by shape a more
 notes-follow shape a first more = ap (map note_of) (events-append shape a first more) ∙ map-append note_of (events_by shape a first) (events_by shape a more)

@@ -14,14 +14,14 @@ use Rattle.message_net.specs.declared.message.Mail.{Mail}
 use Rattle.registration_protocol.specs.Node.{NodeParts, Setting}
 use Rattle.registration_protocol.specs.OwnEvents.{own_event}
 use Rattle.machine_rules.specs.State.{State}
-use Rattle.machine_rules.specs.Next.{place_in}
+use Rattle.machine_rules.specs.Next.{actor_index_in}
 use Rattle.machine_rules.specs.Flight.{bit}
 use Rattle.turn_lock.specs.History.{maker}
 use Rattle.bank_hall.specs.declared.posted.Posted.{Posted}
 use Rattle.bank_hall.specs.Halls.{Calls}
 use Rattle.round_rules.specs.Members.{IsIn}
 use Rattle.round_rules.specs.Steps.{Done, with_stamp}
-use Rattle.round_rules.specs.Acts.{Act, Took, Made, Stepped, Kept, is_act_of, done_in, note_of, events_in, events_by, steps_by, and_then, try_calls, postings, sent_by, act_calls, calls_in}
+use Rattle.round_rules.specs.Acts.{Act, Took, Made, Stepped, Kept, is_act_of, act_done, note_of, events_in, events_by, steps_by, and_then, try_calls, postings, posted_by, act_calls, calls_in}
 use Rattle.round_rules.specs.Rounds.{Round, owner, actors, bank_in, keeper_in, IsReached, IsJoined}
 use Rattle.round_rules.specs.Beginnings.{acts_of, OwnComesNext, HaveBegun, HasEvent, AllHaveActed}
 use Rattle.round_rules.proofs.Weights.{sum-filter, sum-map, sum-flat, sum-zero, zero-sum, somewhere}
@@ -53,7 +53,7 @@ tried-acts shape a number (act ∷ acts) =
       arith,
       sum_by-cons (λ (x : Act). tried_at a (try_calls number x)) act acts,
       tried-then a (act_calls shape number act) (calls_in shape number acts),
-      tried-then a (try_calls number act) (postings shape number (sent_by (done_in shape act))),
+      tried-then a (try_calls number act) (postings shape number (posted_by (act_done shape act))),
       tried-acts shape a number acts,
     )
 
@@ -129,7 +129,7 @@ module _ (C : Setting) (S T : State) (r : Round) (reached : IsReached C S) (most
         let tries = tries-come (Bank bank) (Stepped bank start.0 start.1) start.2 start.3 (λ number. sum-only bank_try _ (bank.0 == bank.0) 1 refl ∙ ap one_if (itself bank.0)) in
         event-of (Bank bank) inside (λ none.
         bank-moves (r.histories.banks bank.0) (bank_in S bank.0 c.first (r.began (Bank bank)) 0) (bank_in T bank.0 c.last (r.left (Bank bank)) c.clock) c.legal some (omega arith)
-        (reached-numbers C S (place_in S (Bank bank)) most reached) (began-early (Bank bank) inside) (posts-far (Bank bank) inside) tries
+        (reached-numbers C S (actor_index_in S (Bank bank)) most reached) (began-early (Bank bank) inside) (posts-far (Bank bank) inside) tries
         (bank-history C S T r joined.some joined.worked bank ∙ none))
     inside-event Keeper inside some =
         let start = begun.keeper in
@@ -137,7 +137,7 @@ module _ (C : Setting) (S T : State) (r : Round) (reached : IsReached C S) (most
         let tries = tries-come Keeper (Kept start.0 start.1) start.2 start.3 (λ number. omega arith) in
         event-of Keeper inside (λ none.
         keeper-moves C.shape.cores r.histories.keeper (keeper_in S (r.began Keeper) 0) (keeper_in T (r.left Keeper) c.clock) c.legal some (omega arith)
-        (reached-numbers C S (place_in S Keeper) most reached) (began-early Keeper inside) (posts-far Keeper inside) tries
+        (reached-numbers C S (actor_index_in S Keeper) most reached) (began-early Keeper inside) (posts-far Keeper inside) tries
         (keeper-history C S T r joined.some joined.worked ∙ none))
 
     -- a mail in an inbox goes to its actor

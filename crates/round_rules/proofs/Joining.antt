@@ -20,7 +20,7 @@ use Rattle.turn_lock.specs.History.{maker}
 use Rattle.bank_hall.specs.declared.posted.Posted.{Posted}
 use Rattle.round_rules.specs.Members.{member, IsIn}
 use Rattle.round_rules.specs.Steps.{Step, Done, Goes}
-use Rattle.round_rules.specs.Acts.{Act, actor_of, is_act_of, done_in, note_of, events_in, events_by, core_step, steps_by, calls_in}
+use Rattle.round_rules.specs.Acts.{Act, actor_of, is_act_of, act_done, note_of, events_in, events_by, core_step, steps_by, calls_in}
 use Rattle.round_rules.specs.Rounds.{Round, owner, actors, bank_in, keeper_in, AreClosed, HaveWorked, IsMerged, IsOwn}
 use Rattle.round_rules.proofs.Weights.{sum-flat, sum-agree, sum-same, sum-flip, sum-parted, parts-weigh, told-cons}
 use Rattle.round_rules.proofs.Actors.{actor-once, all-inside, in-range}
@@ -110,22 +110,22 @@ module _ (C : Setting) (S T : State) (r : Round) (some : 1 ≤ r.workers) (worke
   weight g None = 0
   weight g (Some d) = g d
 
-  sum-events : (g : Done → ℕ) (acts : List Act) → sum_by g (events_in C.shape acts) ≡ sum_by (λ act. weight g (done_in C.shape act)) acts
+  sum-events : (g : Done → ℕ) (acts : List Act) → sum_by g (events_in C.shape acts) ≡ sum_by (λ act. weight g (act_done C.shape act)) acts
   sum-events g [] = refl
-  sum-events g (act ∷ acts) = by_done (done_in C.shape act) refl (sum-events g acts) where
-    by_done : (o : Option Done) → done_in C.shape act ≡ o → sum_by g (events_in C.shape acts) ≡ sum_by (λ x. weight g (done_in C.shape x)) acts → sum_by g (events_in C.shape (act ∷ acts)) ≡ sum_by (λ x. weight g (done_in C.shape x)) (act ∷ acts)
+  sum-events g (act ∷ acts) = by_done (act_done C.shape act) refl (sum-events g acts) where
+    by_done : (o : Option Done) → act_done C.shape act ≡ o → sum_by g (events_in C.shape acts) ≡ sum_by (λ x. weight g (act_done C.shape x)) acts → sum_by g (events_in C.shape (act ∷ acts)) ≡ sum_by (λ x. weight g (act_done C.shape x)) (act ∷ acts)
     by_done None e rest =
-        let here : weight g (done_in C.shape act) ≡ 0 = ap (weight g) e in
-        ap (λ l. sum_by g l) (told-cons (done_in C.shape) act acts None e) ∙ omega (arith, here, rest, sum_by-cons (λ x. weight g (done_in C.shape x)) act acts)
+        let here : weight g (act_done C.shape act) ≡ 0 = ap (weight g) e in
+        ap (λ l. sum_by g l) (told-cons (act_done C.shape) act acts None e) ∙ omega (arith, here, rest, sum_by-cons (λ x. weight g (act_done C.shape x)) act acts)
     by_done (Some d) e rest =
-        let here : weight g (done_in C.shape act) ≡ g d = ap (weight g) e in
-        ap (λ l. sum_by g l) (told-cons (done_in C.shape) act acts (Some d) e) ∙ omega (arith, here, rest, sum_by-cons g d (events_in C.shape acts), sum_by-cons (λ x. weight g (done_in C.shape x)) act acts)
+        let here : weight g (act_done C.shape act) ≡ g d = ap (weight g) e in
+        ap (λ l. sum_by g l) (told-cons (act_done C.shape) act acts (Some d) e) ∙ omega (arith, here, rest, sum_by-cons g d (events_in C.shape acts), sum_by-cons (λ x. weight g (act_done C.shape x)) act acts)
 
   -- the events of a worker, by actors
   events-parted : (g : Done → ℕ) (k : ℕ) → k < r.workers → sum_by (λ a. sum_by g (events_by C.shape a (r.work k))) (actors C) ≡ sum_by g (events_in C.shape (r.work k))
   events-parted g k below =
-      sum-same (λ a. sum_by g (events_by C.shape a (r.work k))) (λ a. sum_by (λ act. weight g (done_in C.shape act)) (filter (is_act_of a) (r.work k))) (actors C) (λ a. sum-events g (filter (is_act_of a) (r.work k)))
-      ∙ (parts-weigh is_act_of (λ act. has_actor C.shape.cores C.shape.banks (actor_of act)) (actors C) (λ act. actor-once C (actor_of act)) (λ act. weight g (done_in C.shape act)) (r.work k) (λ i d within. (worked.own k below i d within).0)
+      sum-same (λ a. sum_by g (events_by C.shape a (r.work k))) (λ a. sum_by (λ act. weight g (act_done C.shape act)) (filter (is_act_of a) (r.work k))) (actors C) (λ a. sum-events g (filter (is_act_of a) (r.work k)))
+      ∙ (parts-weigh is_act_of (λ act. has_actor C.shape.cores C.shape.banks (actor_of act)) (actors C) (λ act. actor-once C (actor_of act)) (λ act. weight g (act_done C.shape act)) (r.work k) (λ i d within. (worked.own k below i d within).0)
       ∙ sym (sum-events g (r.work k)))
 
   -- an actor's events are those of its owner

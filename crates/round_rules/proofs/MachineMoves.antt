@@ -17,7 +17,7 @@ use Rattle.message_net.specs.declared.message.Mail.{Mail}
 use Rattle.message_net.specs.declared.message.Message.{Message}
 use Rattle.message_net.specs.declared.message.Message.TheVariants.{ReadReq, ReadFwd, DataReply, RegReq, RegFwd, RegAck, WriteBack, WbAck, Acquire, Release, Grant, Arrived, Go, Halt}
 use Rattle.message_net.specs.Kind.{kind_of}
-use Rattle.message_net.specs.Pool.{of_id, count_of, taken}
+use Rattle.message_net.specs.Pool.{of_id, count_of, removed}
 use Rattle.message_net.specs.Mail.{has_actor, mails_of}
 use Rattle.message_net.proofs.PoolLemmas.{same_id-refl, place-counted, weight-within, taken-of_id, sum_by-taken}
 use Rattle.registry_bank.specs.Bank.{BankParts, bank_gets}
@@ -27,10 +27,10 @@ use Rattle.registration_protocol.specs.OwnEvents.{me, may_instr, may_evict, may_
 use Rattle.registration_protocol.specs.Messages.{node_gets}
 use Rattle.registration_protocol.specs.Parts.{MayCome}
 use Rattle.registration_protocol.proofs.OwnLemmas.{own-comes}
-use Rattle.machine_rules.specs.State.{State, opened}
+use Rattle.machine_rules.specs.State.{State, initial_state}
 use Rattle.machine_rules.specs.Sound.{IsSound, IsMachine}
-use Rattle.machine_rules.specs.Flight.{bit, counted, flight}
-use Rattle.machine_rules.specs.Next.{next, enabled as may_come, number_of, when_there, kind_in, granted_in}
+use Rattle.machine_rules.specs.Flight.{bit, mail_count, flight}
+use Rattle.machine_rules.specs.Next.{next, enabled as may_come, next_number, when_there, kind_in, granted_in}
 use Rattle.machine_rules.specs.Runs.{after}
 use Rattle.machine_rules.proofs.Invariant.{Invariant, is_bank, is_core, is_keeper, is_right, is_lost}
 use Rattle.machine_rules.proofs.Steps.{Handled, handled as found_handled, as_sent, instr-step, evict-step, arrive-step, core-step, bank-step, keeper-step}
@@ -42,7 +42,7 @@ use Rattle.machine_rules.proofs.RunsCoherent.{first_memory, run-all}
 use Rattle.bank_hall.specs.declared.posted.Posted.{Posted}
 use Rattle.round_rules.specs.Members.{ActorParts, Member, node_there, bank_there, parts_of, member, IsIn, Deed, Handles, Makes, event_of, deed_kind, Came, node_got, node_ran, node_sent, bank_got, keeper_got, comes_of, MayDo}
 use Rattle.round_rules.specs.Steps.{with_stamp}
-use Rattle.round_rules.specs.Rounds.{IsReached, end_there, end_told}
+use Rattle.round_rules.specs.Rounds.{IsReached, end_of_node, end_observed}
 use Rattle.round_rules.proofs.Moving.{Moves, handled, comes, sends}
 use Rattle.round_rules.proofs.MachineSends.{Sent, instr-sent, evict-sent, arrive-sent, core-got-sent, bank-got-sent, keeper-got-sent}
 use Rattle.round_rules.proofs.MachineParts.{Became, there, node-became, bank-became, keeper-became}
@@ -59,22 +59,22 @@ holds : (C : Setting) (S : State) → IsReached C S → Holds S
 holds C S reached =
     record {
       made = length reached.before;
-      memory = memory_over (first_memory C) (opened C) reached.before;
+      memory = memory_over (first_memory C) (initial_state C) reached.before;
       sound = subst (λ (T : State). IsSound T (length reached.before)) (sym reached.leads) all.0;
-      inv = subst (λ (T : State). Invariant T (memory_over (first_memory C) (opened C) reached.before)) (sym reached.leads) all.1;
+      inv = subst (λ (T : State). Invariant T (memory_over (first_memory C) (initial_state C) reached.before)) (sym reached.leads) all.1;
     }
   where
-    all : IsSound (after (opened C) reached.before) (length reached.before) × Invariant (after (opened C) reached.before) (memory_over (first_memory C) (opened C) reached.before)
+    all : IsSound (after (initial_state C) reached.before) (length reached.before) × Invariant (after (initial_state C) reached.before) (memory_over (first_memory C) (initial_state C) reached.before)
     all = run-all C reached.before reached.ready reached.run
 
 reached-setting : (C : Setting) (S : State) → IsReached C S → S.setting ≡ C
-reached-setting C S reached = ap (λ (T : State). T.setting) reached.leads ∙ (run-setting (opened C) reached.before ∙ opened-setting C)
+reached-setting C S reached = ap (λ (T : State). T.setting) reached.leads ∙ (run-setting (initial_state C) reached.before ∙ opened-setting C)
 
 -- ---- mails go to actors of the machine
 
 -- a mail that goes astray weighs 1
 abbrev astray : Setting → Mail → ℕ
-astray C m = counted (is_lost C.shape.cores C.shape.banks) m
+astray C m = mail_count (is_lost C.shape.cores C.shape.banks) m
 
 bank-inside : (cores banks w : ℕ) (a : Actor) → 0 < banks → is_bank (w % banks) a ≡ true → has_actor cores banks a ≡ true
 bank-inside cores banks w (Bank bank) some right =
@@ -133,7 +133,7 @@ record Acted (S : State) (a : Actor) (deed : Deed) (c : Came) (rest : List Mail)
   left : (f : Mail → ℕ) → sum_by f rest + handled f deed ≡ sum_by f S.mails
   kind : kind_in S (event_of deed) ≡ deed_kind deed
   granted : granted_in S (event_of deed) ≡ c.granted
-  end : end_told S (event_of deed) ≡ c.end
+  end : end_observed S (event_of deed) ≡ c.end
 
 -- no mail goes astray after the event
 none-astray : (S : State) (e : Event) → Holds S → may_come S e ≡ true → sum_by (astray S.setting) (next S e).mails ≡ 0
@@ -151,12 +151,12 @@ moves S a deed c rest h act =
     record {
       enabled = act.enabled;
       mine =
-          same-member (parts_of (next S (event_of deed)) a) (comes S.setting S a deed).parts (number_of (next S (event_of deed)) a) (number_of S a + length (comes S.setting S a deed).sent)
+          same-member (parts_of (next S (event_of deed)) a) (comes S.setting S a deed).parts (next_number (next S (event_of deed)) a) (next_number S a + length (comes S.setting S a deed).sent)
           (act.became.mine ∙ sym (ap (λ (x : Came). x.parts) act.came))
-          (act.sent.next ∙ sym (ap (λ (x : Came). number_of S a + length x.sent) act.came));
+          (act.sent.next ∙ sym (ap (λ (x : Came). next_number S a + length x.sent) act.came));
       others =
           λ b inside differ.
-          same-member (parts_of (next S (event_of deed)) b) (parts_of S b) (number_of (next S (event_of deed)) b) (number_of S b) (act.became.others b differ) (act.sent.others b inside differ);
+          same-member (parts_of (next S (event_of deed)) b) (parts_of S b) (next_number (next S (event_of deed)) b) (next_number S b) (act.became.others b differ) (act.sent.others b inside differ);
       pool = pool;
       inside = all-inside S.setting (sends S.setting S a deed) h.inv.machine.context.some_banks right;
       kind = act.kind;
@@ -164,8 +164,8 @@ moves S a deed c rest h act =
       end = act.end ∙ sym (ap (λ (x : Came). x.end) act.came);
     }
   where
-    same_sends : sends S.setting S a deed ≡ mails_of a (number_of S a) c.sent
-    same_sends = ap (λ (x : Came). mails_of a (number_of S a) x.sent) act.came
+    same_sends : sends S.setting S a deed ≡ mails_of a (next_number S a) c.sent
+    same_sends = ap (λ (x : Came). mails_of a (next_number S a) x.sent) act.came
 
     pool : (f : Mail → ℕ) → sum_by f (next S (event_of deed)).mails + handled f deed ≡ sum_by f S.mails + sum_by f (sends S.setting S a deed)
     pool f = omega (arith, act.left f, act.sent.pool f, ap (sum_by f) same_sends)
@@ -221,7 +221,7 @@ arrive-moves S core n h found may =
       left = none-left S (Arrive core);
       kind = refl;
       granted = refl;
-      end = ap end_there found;
+      end = ap end_of_node found;
     }
 
 node-moves : (S : State) (core : CoreId) (n : NodeParts) (e : Event) → Holds S → slice_get S.nodes core.0 ≡ Some n → MayCome S.setting n e → Moves S.setting S (Core core) (Makes e)
@@ -257,7 +257,7 @@ own-moves C S a e reached may =
 
 found-mail : (S : State) (m : Mail) (place : ℕ) → IsMachine S → slice_get S.mails place ≡ Some m → Handled S m.id m
 found-mail S m place good here =
-    let took : (taken m.id S.mails).0 ≡ Some m = ap (λ (x : Option Mail × List Mail). x.0) (taken-of_id S.mails place m good.distinct here) in
+    let took : (removed m.id S.mails).0 ≡ Some m = ap (λ (x : Option Mail × List Mail). x.0) (taken-of_id S.mails place m good.distinct here) in
     record { place = place; there = here; named = refl; took = took; weights = λ f. sum_by-taken f m.id S.mails m took }
 
 may-handle : (S : State) (m : Mail) (place : ℕ) → slice_get S.mails place ≡ Some m → may_come S (Handle m.id) ≡ true
@@ -274,7 +274,7 @@ core-handles : (S : State) (p : Posted) (core : CoreId) (n : NodeParts) → Hold
     → slice_get S.nodes core.0 ≡ Some n → Moves S.setting S (Core core) (Handles p)
 unfolding member comes_of granted_in
 core-handles S p core n h m may to found =
-    moves S (Core core) (Handles p) (node_got (node_gets S.setting n p.mail.message)) (taken p.mail.id S.mails).1 h
+    moves S (Core core) (Handles p) (node_got (node_gets S.setting n p.mail.message)) (removed p.mail.id S.mails).1 h
     record {
       came = ap (λ (o : Option NodeParts). comes_of S.setting (node_there o) (Handles p)) found;
       enabled = may;
@@ -292,7 +292,7 @@ bank-handles : (S : State) (p : Posted) (bank : BankId) (b : BankParts) → Hold
     → slice_get S.banks bank.0 ≡ Some b → Moves S.setting S (Bank bank) (Handles p)
 unfolding member comes_of granted_in
 bank-handles S p bank b h m may to found =
-    moves S (Bank bank) (Handles p) (bank_got (bank_gets b p.mail.message)) (taken p.mail.id S.mails).1 h
+    moves S (Bank bank) (Handles p) (bank_got (bank_gets b p.mail.message)) (removed p.mail.id S.mails).1 h
     record {
       came = ap (λ (o : Option BankParts). comes_of S.setting (bank_there o) (Handles p)) found;
       enabled = may;
@@ -307,7 +307,7 @@ bank-handles S p bank b h m may to found =
 keeper-handles : (S : State) (p : Posted) → Holds S → Handled S p.mail.id p.mail → may_come S (Handle p.mail.id) ≡ true → p.mail.to ≡ Keeper → Moves S.setting S Keeper (Handles p)
 unfolding member comes_of granted_in
 keeper-handles S p h m may to =
-    moves S Keeper (Handles p) (keeper_got S.setting.shape.cores (keeper_gets S.keeper p.mail.message)) (taken p.mail.id S.mails).1 h
+    moves S Keeper (Handles p) (keeper_got S.setting.shape.cores (keeper_gets S.keeper p.mail.message)) (removed p.mail.id S.mails).1 h
     record {
       came = refl;
       enabled = may;

@@ -15,7 +15,7 @@ use Rattle.message_net.specs.declared.event.Event.TheVariants.{Instr, Evict, Arr
 use Rattle.message_net.specs.declared.message.Mail.{Mail}
 use Rattle.message_net.specs.declared.message.Outgoing.{Outgoing}
 use Rattle.message_net.specs.Id.{same_actor}
-use Rattle.message_net.specs.Pool.{taken}
+use Rattle.message_net.specs.Pool.{removed}
 use Rattle.message_net.specs.Mail.{mail_of, mails_of}
 use Rattle.message_net.proofs.PoolLemmas.{same_actor-refl}
 use Rattle.message_net.proofs.MailLemmas.{place_of-within, place_of-own, weight_sent, sum_by-mails_with, sum_by-all_mails}
@@ -27,24 +27,24 @@ use Rattle.registration_protocol.specs.OwnEvents.{instructed, evicted, arrives}
 use Rattle.registration_protocol.specs.Messages.{node_gets}
 use Rattle.machine_rules.specs.State.{State}
 use Rattle.machine_rules.specs.Sound.{IsMachine}
-use Rattle.machine_rules.specs.Next.{next, place_in, number_of, numbers_with, sends, posts}
+use Rattle.machine_rules.specs.Next.{next, actor_index_in, next_number, numbers_with, sends, posts}
 use Rattle.machine_rules.proofs.Steps.{Handled}
 use Rattle.machine_rules.proofs.MachineMails.{raised-here}
 use Rattle.round_rules.specs.Members.{IsIn}
 
 -- an actor has sent messages with its next numbers, and what was in flight else is `rest`
 pub record Sent (S T : State) (a : Actor) (rest : List Mail) (sent : List Outgoing) : Type 0 where
-  pub next : number_of T a ≡ number_of S a + length sent
-  pub others : (b : Actor) → IsIn S.setting b → same_actor b a ≡ false → number_of T b ≡ number_of S b
-  pub pool : (f : Mail → ℕ) → sum_by f T.mails ≡ sum_by f rest + sum_by f (mails_of a (number_of S a) sent)
+  pub next : next_number T a ≡ next_number S a + length sent
+  pub others : (b : Actor) → IsIn S.setting b → same_actor b a ≡ false → next_number T b ≡ next_number S b
+  pub pool : (f : Mail → ℕ) → sum_by f T.mails ≡ sum_by f rest + sum_by f (mails_of a (next_number S a) sent)
 
 -- ---- numbers
 
-place-there : (S : State) (a : Actor) → IsMachine S → IsIn S.setting a → place_in S a < length S.numbers
+place-there : (S : State) (a : Actor) → IsMachine S → IsIn S.setting a → actor_index_in S a < length S.numbers
 place-there S a good inside = omega (arith, good.numbers, place_of-within S.setting.shape.cores S.setting.shape.banks a inside)
 
 -- two actors stand at two places
-apart : (S : State) (a b : Actor) → IsIn S.setting a → IsIn S.setting b → same_actor b a ≡ false → place_in S b ≡ place_in S a → ⊥
+apart : (S : State) (a b : Actor) → IsIn S.setting a → IsIn S.setting b → same_actor b a ≡ false → actor_index_in S b ≡ actor_index_in S a → ⊥
 apart S a b first second differ same =
     let one : b ≡ a = place_of-own S.setting.shape.cores S.setting.shape.banks b a second first same in
     let alike : same_actor b a ≡ true = subst (λ (x : Actor). same_actor b x ≡ true) one (same_actor-refl b) in
@@ -69,17 +69,17 @@ sends-sent : (S : State) (nodes : List NodeParts) (banks : List BankParts) (rest
     → Sent S (sends (record S { nodes = nodes; banks = banks; mails = rest }) a sent) a rest (option_to_list sent)
 sends-sent S nodes banks rest a sent good inside =
     record {
-      next = number-sent S.numbers (place_in S a) sent (place-there S a good inside);
-      others = λ b other differ. number-other S.numbers (place_in S a) (place_in S b) sent (apart S a b inside other differ);
-      pool = λ f. sum_by-mails_with f a (number_of S a) sent rest ∙ ap (λ (x : ℕ). sum_by f rest + x) (weight-sent f a (number_of S a) sent);
+      next = number-sent S.numbers (actor_index_in S a) sent (place-there S a good inside);
+      others = λ b other differ. number-other S.numbers (actor_index_in S a) (actor_index_in S b) sent (apart S a b inside other differ);
+      pool = λ f. sum_by-mails_with f a (next_number S a) sent rest ∙ ap (λ (x : ℕ). sum_by f rest + x) (weight-sent f a (next_number S a) sent);
     }
 
 posts-sent : (S : State) (rest : List Mail) (k : Barrier) (outs : List Outgoing) → IsMachine S → Sent S (posts (record S { keeper = k; mails = rest }) outs) Keeper rest outs
 posts-sent S rest k outs good =
     record {
-      next = raised-here S.numbers (place_in S Keeper) (number_of S Keeper + length outs) (place-there S Keeper good refl);
-      others = λ b other differ. get_or-set_other S.numbers (place_in S Keeper) (place_in S b) (number_of S Keeper + length outs) 0 (apart S Keeper b refl other differ);
-      pool = λ f. sum_by-all_mails f Keeper (number_of S Keeper) outs rest;
+      next = raised-here S.numbers (actor_index_in S Keeper) (next_number S Keeper + length outs) (place-there S Keeper good refl);
+      others = λ b other differ. get_or-set_other S.numbers (actor_index_in S Keeper) (actor_index_in S b) (next_number S Keeper + length outs) 0 (apart S Keeper b refl other differ);
+      pool = λ f. sum_by-all_mails f Keeper (next_number S Keeper) outs rest;
     }
 
 -- ---- a core's own events
@@ -112,21 +112,21 @@ arrive-sent S core n good found = rw (found) (core-sent S S.mails core n (arrive
 -- ---- the handling of a mail
 
 pub core-got-sent : (S : State) (id : MailId) (m : Mail) (core : CoreId) (n : NodeParts) → IsMachine S → Handled S id m → m.to ≡ Core core → slice_get S.nodes core.0 ≡ Some n
-    → Sent S (next S (Handle id)) (Core core) (taken id S.mails).1 (option_to_list (node_gets S.setting n m.message).1.sent)
+    → Sent S (next S (Handle id)) (Core core) (removed id S.mails).1 (option_to_list (node_gets S.setting n m.message).1.sent)
 unfolding next
 core-got-sent S id m core n good h to found =
-    rw (h.took, to, found) (core-sent S (taken id S.mails).1 core n (node_gets S.setting n m.message).0 (node_gets S.setting n m.message).1.sent good found)
+    rw (h.took, to, found) (core-sent S (removed id S.mails).1 core n (node_gets S.setting n m.message).0 (node_gets S.setting n m.message).1.sent good found)
 
 pub bank-got-sent : (S : State) (id : MailId) (m : Mail) (bank : BankId) (b : BankParts) → IsMachine S → Handled S id m → m.to ≡ Bank bank → slice_get S.banks bank.0 ≡ Some b
-    → Sent S (next S (Handle id)) (Bank bank) (taken id S.mails).1 (option_to_list (bank_gets b m.message).1)
+    → Sent S (next S (Handle id)) (Bank bank) (removed id S.mails).1 (option_to_list (bank_gets b m.message).1)
 unfolding next
 bank-got-sent S id m bank b good h to found =
     rw (h.took, to, found)
-    (sends-sent S S.nodes (slice_set S.banks bank.0 (bank_gets b m.message).0) (taken id S.mails).1 (Bank bank) (bank_gets b m.message).1 good (bank-in S bank b good found))
+    (sends-sent S S.nodes (slice_set S.banks bank.0 (bank_gets b m.message).0) (removed id S.mails).1 (Bank bank) (bank_gets b m.message).1 good (bank-in S bank b good found))
 
 pub keeper-got-sent : (S : State) (id : MailId) (m : Mail) → IsMachine S → Handled S id m → m.to ≡ Keeper
-    → Sent S (next S (Handle id)) Keeper (taken id S.mails).1 (letters S.setting.shape.cores (keeper_gets S.keeper m.message).1)
+    → Sent S (next S (Handle id)) Keeper (removed id S.mails).1 (letters S.setting.shape.cores (keeper_gets S.keeper m.message).1)
 unfolding next
 keeper-got-sent S id m good h to =
     rw (h.took, to)
-    (posts-sent S (taken id S.mails).1 (keeper_gets S.keeper m.message).0 (letters S.setting.shape.cores (keeper_gets S.keeper m.message).1) good)
+    (posts-sent S (removed id S.mails).1 (keeper_gets S.keeper m.message).0 (letters S.setting.shape.cores (keeper_gets S.keeper m.message).1) good)

@@ -10,8 +10,8 @@ use Rattle.message_net.specs.Id.{same_actor}
 use Rattle.message_net.proofs.PoolLemmas.{same_actor-true}
 use Rattle.message_net.proofs.MailLemmas.{length-mails_of}
 use Rattle.registration_protocol.specs.Node.{Setting}
-use Rattle.machine_rules.specs.State.{State, opened}
-use Rattle.machine_rules.specs.Next.{next, enabled, number_of, place_in}
+use Rattle.machine_rules.specs.State.{State, initial_state}
+use Rattle.machine_rules.specs.Next.{next, enabled, next_number, actor_index_in}
 use Rattle.machine_rules.specs.Runs.{after, IsRun}
 use Rattle.machine_rules.proofs.BoundRuns.{run-ends}
 use Rattle.round_rules.specs.Members.{Member, Deed, Handles, Makes, IsIn, member, event_of}
@@ -55,28 +55,28 @@ module _ (C : Setting) (S : State) (a : Actor) (deed : Deed) (moves : Moves C S 
         length-mails_of a (member S a).next (comes C S a deed).sent,
       )
 
-  number-now : number_of then_is a ≡ number_of S a + sent
+  number-now : next_number then_is a ≡ next_number S a + sent
   unfolding member
   number-now = ap (λ (m : Member). m.next) moves.mine
 
-  number-stays : (b : Actor) → IsIn C b → same_actor b a ≡ false → number_of then_is b ≡ number_of S b
+  number-stays : (b : Actor) → IsIn C b → same_actor b a ≡ false → next_number then_is b ≡ next_number S b
   unfolding member
   number-stays b inside differ = ap (λ (m : Member). m.next) (moves.others b inside differ)
 
   -- what an actor has sent by then was handled, in an event each, or is in flight
-  pub deed-counted : (made : ℕ) → ((b : Actor) → IsIn C b → number_of S b ≤ made + length S.mails) → (b : Actor) → IsIn C b → number_of then_is b ≤ made + 1 + length then_is.mails
+  pub deed-counted : (made : ℕ) → ((b : Actor) → IsIn C b → next_number S b ≤ made + length S.mails) → (b : Actor) → IsIn C b → next_number then_is b ≤ made + 1 + length then_is.mails
   deed-counted made counted b inside = by_actor (same_actor b a) refl where
-    by_actor : (t : Bool) → same_actor b a ≡ t → number_of then_is b ≤ made + 1 + length then_is.mails
+    by_actor : (t : Bool) → same_actor b a ≡ t → next_number then_is b ≤ made + 1 + length then_is.mails
     by_actor true is =
         let same : b ≡ a = same_actor-true b a is in
         let here = counted a (subst (IsIn C) same inside) in
-        subst (λ x. number_of then_is x ≤ made + 1 + length then_is.mails) (sym same) (omega (arith, here, number-now, in-flight, one-handled deed))
+        subst (λ x. next_number then_is x ≤ made + 1 + length then_is.mails) (sym same) (omega (arith, here, number-now, in-flight, one-handled deed))
     by_actor false is = omega (arith, counted b inside, number-stays b inside is, in-flight, one-handled deed)
 
 -- ---- a run
 
 abbrev AreCounted : Setting → State → ℕ → Type 0
-AreCounted C S made = (a : Actor) → IsIn C a → number_of S a ≤ made + length S.mails
+AreCounted C S made = (a : Actor) → IsIn C a → next_number S a ≤ made + length S.mails
 
 event-counted : (C : Setting) (S : State) (made : ℕ) (e : Event) → IsReached C S → enabled S e ≡ true → AreCounted C S made → AreCounted C (next S e) (made + 1)
 event-counted C S made e reached may counted =
@@ -94,12 +94,12 @@ none-used zero i = refl
 none-used (suc n) zero = refl
 none-used (suc n) (suc i) = none-used n i
 
-none-sent : (C : Setting) (i : ℕ) → slice_index (opened C).numbers i ≡ 0
-unfolding opened
+none-sent : (C : Setting) (i : ℕ) → slice_index (initial_state C).numbers i ≡ 0
+unfolding initial_state
 none-sent C i = none-used (C.shape.cores + C.shape.banks + 1) i
 
-opened-counted : (C : Setting) → AreCounted C (opened C) 0
-opened-counted C a inside = omega (arith, none-sent C (place_in (opened C) a))
+opened-counted : (C : Setting) → AreCounted C (initial_state C) 0
+opened-counted C a inside = omega (arith, none-sent C (actor_index_in (initial_state C) a))
 
 -- so many mails in flight may be handled one after the other
 record AreHandled (S : State) (count : ℕ) : Type 0 where
@@ -120,15 +120,15 @@ module _ (C : Setting) (S : State) (reached : IsReached C S) where
   few-mails : length reached.before + length S.mails ≤ 25169664
   few-mails =
       let all = handle-all C S (length S.mails) reached (omega arith) in
-      let whole : IsRun (opened C) (reached.before ++ all.events) = run-append (opened C) reached.before all.events reached.run (subst (λ (U : State). IsRun U all.events) reached.leads all.run) in
+      let whole : IsRun (initial_state C) (reached.before ++ all.events) = run-append (initial_state C) reached.before all.events reached.run (subst (λ (U : State). IsRun U all.events) reached.leads all.run) in
       omega (arith, run-ends C (reached.before ++ all.events) reached.ready whole, length-append reached.before all.events, all.long)
 
   -- no actor's number is greater than a run has events
-  pub number-low : (a : Actor) → IsIn C a → number_of S a ≤ 25169664
+  pub number-low : (a : Actor) → IsIn C a → next_number S a ≤ 25169664
   number-low a inside =
-      let first : IsReached C (opened C) = record { ready = reached.ready; before = []; run = tt; leads = refl } in
-      let counted = run-counted C (opened C) 0 reached.before first reached.run (opened-counted C) a inside in
-      let here : number_of S a ≤ length reached.before + length S.mails = subst (λ (U : State). number_of U a ≤ length reached.before + length U.mails) (sym reached.leads) (omega (arith, counted)) in
+      let first : IsReached C (initial_state C) = record { ready = reached.ready; before = []; run = tt; leads = refl } in
+      let counted = run-counted C (initial_state C) 0 reached.before first reached.run (opened-counted C) a inside in
+      let here : next_number S a ≤ length reached.before + length S.mails = subst (λ (U : State). next_number U a ≤ length reached.before + length U.mails) (sym reached.leads) (omega (arith, counted)) in
       omega (arith, here, few-mails)
 
 -- ---- a round
@@ -141,6 +141,6 @@ numbers-low C S T r reached joined =
     record {
       along = λ count a inside. number-low C (after S (take count (events_of r.merged))) (front count) a inside;
       ended = λ a inside.
-          let same : number_of T a ≡ number_of (after S (events_of r.merged)) a = ap (λ (U : State). number_of U a) runs.rest in
+          let same : next_number T a ≡ next_number (after S (events_of r.merged)) a = ap (λ (U : State). next_number U a) runs.rest in
           omega (arith, same, number-low C (after S (events_of r.merged)) end a inside);
     }

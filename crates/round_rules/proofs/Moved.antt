@@ -15,7 +15,7 @@ use Rattle.bank_hall.specs.declared.keeper.KeeperIn as keeper_in
 use Rattle.bank_hall.specs.declared.keeper.KeeperIn.{KeeperIn}
 use Rattle.bank_hall.specs.declared.keeper.KeeperOut as keeper_out
 use Rattle.bank_hall.specs.Stamps.{is_early, may_handle}
-use Rattle.bank_hall.specs.Inbox.{with_mail, place_in, taken, taken_at}
+use Rattle.bank_hall.specs.Inbox.{with_mail, picked_index, picked_out, picked_out_at}
 use Rattle.bank_hall.specs.Banks.{BankState, bank_handles, bank_call}
 use Rattle.bank_hall.specs.Keepers.{KeeperState, keeper_handles, keeper_call}
 use Rattle.bank_hall.specs.Ports.{port_call}
@@ -54,12 +54,12 @@ abbrev pub far : Posted → ℕ
 far p = late 25169664 p
 
 pub taken-some : (may : Posted → Bool) (inbox : List Posted) (pick : ℕ) → 1 ≤ length inbox → ((place : ℕ) (p : Posted) → slice_get inbox place ≡ Some p → may p ≡ true)
-    → (p : Posted) × (rest : List Posted) × (taken may inbox pick ≡ (Some p, rest))
+    → (p : Posted) × (rest : List Posted) × (picked_out may inbox pick ≡ (Some p, rest))
 taken-some may inbox pick some all =
-    let at = there inbox (place_in inbox pick) (remainder pick (length inbox) some) in (
+    let at = there inbox (picked_index inbox pick) (remainder pick (length inbox) some) in (
       at.0,
-      swap_remove inbox (place_in inbox pick) at.0,
-      ap (taken_at may inbox (place_in inbox pick)) at.1 ∙ ap (λ t. taken_if t inbox (place_in inbox pick) at.0) (all (place_in inbox pick) at.0 at.1),
+      swap_remove inbox (picked_index inbox pick) at.0,
+      ap (picked_out_at may inbox (picked_index inbox pick)) at.1 ∙ ap (λ t. taken_if t inbox (picked_index inbox pick) at.0) (all (picked_index inbox pick) at.0 at.1),
     )
 
 pub soon : (inbox : List Posted) → sum_by far inbox ≡ 0 → (place : ℕ) (p : Posted) → slice_get inbox place ≡ Some p → p.stamp ≤ 25169664

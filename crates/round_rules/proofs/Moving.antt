@@ -9,7 +9,7 @@ use Rattle.registration_protocol.specs.Node.{Setting}
 use Rattle.machine_rules.specs.State.{State}
 use Rattle.machine_rules.specs.Next.{next, enabled as may_come, kind_in, granted_in}
 use Rattle.round_rules.specs.Members.{Deed, Handles, Makes, Came, member, event_of, deed_kind, comes_of, after_deed, IsIn}
-use Rattle.round_rules.specs.Rounds.{end_told}
+use Rattle.round_rules.specs.Rounds.{end_observed}
 
 -- what the mail weighs that a deed handles
 abbrev pub handled : (Mail → ℕ) → Deed → ℕ
@@ -31,4 +31,4 @@ pub record Moves (C : Setting) (S : State) (a : Actor) (deed : Deed) : Type 0 wh
   pub inside : All (λ (m : Mail). IsIn C m.to) (sends C S a deed)
   pub kind : kind_in S (event_of deed) ≡ deed_kind deed
   pub granted : granted_in S (event_of deed) ≡ (comes C S a deed).granted
-  pub end : end_told S (event_of deed) ≡ (comes C S a deed).end
+  pub end : end_observed S (event_of deed) ≡ (comes C S a deed).end

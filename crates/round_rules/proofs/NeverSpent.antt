@@ -12,7 +12,7 @@ use Rattle.grant_log.specs.Log.{of_actor}
 use Rattle.registry_bank.specs.Bank.{BankParts}
 use Rattle.registration_protocol.specs.Node.{Setting}
 use Rattle.machine_rules.specs.State.{State}
-use Rattle.machine_rules.specs.Next.{place_in, number_of}
+use Rattle.machine_rules.specs.Next.{actor_index_in, next_number}
 use Rattle.machine_rules.specs.Runs.{after}
 use Rattle.turn_lock.specs.declared.entry.Entry.{Entry}
 use Rattle.turn_lock.specs.History.{Legal}
@@ -134,10 +134,10 @@ module _ (C : Setting) (S T : State) (r : Round) (reached : IsReached C S) (most
   events-soon a inside = all-map IsSoon note_of (events_by C.shape a (r.work (owner r.workers a))) (subst (All IsSoon) (joined.merged.parts a inside) (All-filter (of_actor a) IsSoon r.merged all-soon))
 
   -- the numbers of the end are those of a state that is reached
-  end-numbers : (a : Actor) → number_of T a < 4294967000
+  end-numbers : (a : Actor) → next_number T a < 4294967000
   end-numbers a =
-      let end : number_of T a ≡ number_of (after S (events_of r.merged)) a = ap (λ (U : State). number_of U a) runs.rest in
-      omega (arith, end, reached-numbers C (after S (events_of r.merged)) (place_in (after S (events_of r.merged)) a) most (reached-run C S (events_of r.merged) reached runs.run))
+      let end : next_number T a ≡ next_number (after S (events_of r.merged)) a = ap (λ (U : State). next_number U a) runs.rest in
+      omega (arith, end, reached-numbers C (after S (events_of r.merged)) (actor_index_in (after S (events_of r.merged)) a) most (reached-run C S (events_of r.merged) reached runs.run))
 
   bank-unspent : (b : ℕ) (bank : BankParts) (there : BankState) (call : BankEntry) → slice_get S.banks b ≡ Some bank → IsCallAt bank_answer bank_next (bank_in S b bank (r.began (bank_at b)) 0) (r.histories.banks b) there call
       → call.output ≡ bank_out.TheVariants.Stepped None → there.inbox ≡ []

@@ -15,7 +15,7 @@ use Rattle.registry_bank.proofs.KeptLemmas.{place-kept}
 use Rattle.phase_barrier.specs.declared.keeper.Verdict.{Verdict}
 use Rattle.phase_barrier.specs.declared.keeper.Verdict.TheVariants.{Wait, Go, Halt}
 use Rattle.phase_barrier.specs.Barrier.{Barrier, keeper_gets}
-use Rattle.phase_barrier.specs.Letters.{letter_of, letter_count, letters, told, to_each}
+use Rattle.phase_barrier.specs.Letters.{letter_of, letter_count, letters, letters_to_all, to_each}
 use Rattle.phase_barrier.proofs.CountLemmas.{cores-kept}
 use Rattle.phase_barrier.proofs.LetterLemmas.{length-to_each}
 use Rattle.registration_protocol.specs.Node.{Setting}
@@ -33,8 +33,8 @@ use Rattle.bank_hall.specs.declared.keeper.KeeperIn as keeper_in
 use Rattle.bank_hall.specs.declared.keeper.KeeperIn.{KeeperIn}
 use Rattle.bank_hall.specs.declared.keeper.KeeperOut as keeper_out
 use Rattle.bank_hall.specs.declared.keeper.KeeperOut.{KeeperOut}
-use Rattle.bank_hall.specs.Stamps.{is_early, may_handle, stamp_after, noted}
-use Rattle.bank_hall.specs.Inbox.{with_mail, place_in, taken, taken_at}
+use Rattle.bank_hall.specs.Stamps.{is_early, may_handle, stamp_after, handling_note}
+use Rattle.bank_hall.specs.Inbox.{with_mail, picked_index, picked_out, picked_out_at}
 use Rattle.bank_hall.specs.Note.{KeeperNote, letter_with}
 use Rattle.bank_hall.specs.Banks.{BankState, bank_actor, reply_of, next_after, bank_row, bank_handles, bank_call}
 use Rattle.bank_hall.specs.Keepers.{KeeperState, keeper_row, keeper_handles, keeper_call}
@@ -101,15 +101,15 @@ abbrev pub taken_if : Bool → List Posted → ℕ → Posted → Option Posted 
 taken_if t inbox place p = if t then (Some p, swap_remove inbox place p) else (None, inbox)
 
 -- what is taken from an inbox leaves it
-taken-weighs : (may : Posted → Bool) (inbox : List Posted) (pick : ℕ) (f : Posted → ℕ) → sum_by f (taken may inbox pick).1 + weight_of f (taken may inbox pick).0 ≡ sum_by f inbox
-taken-weighs may inbox pick f = by_found (slice_get inbox (place_in inbox pick)) refl where
-  by_may : (p : Posted) → slice_get inbox (place_in inbox pick) ≡ Some p → (t : Bool)
-      → sum_by f (taken_if t inbox (place_in inbox pick) p).1 + weight_of f (taken_if t inbox (place_in inbox pick) p).0 ≡ sum_by f inbox
-  by_may p found true = sum-left f inbox (place_in inbox pick) p found
+taken-weighs : (may : Posted → Bool) (inbox : List Posted) (pick : ℕ) (f : Posted → ℕ) → sum_by f (picked_out may inbox pick).1 + weight_of f (picked_out may inbox pick).0 ≡ sum_by f inbox
+taken-weighs may inbox pick f = by_found (slice_get inbox (picked_index inbox pick)) refl where
+  by_may : (p : Posted) → slice_get inbox (picked_index inbox pick) ≡ Some p → (t : Bool)
+      → sum_by f (taken_if t inbox (picked_index inbox pick) p).1 + weight_of f (taken_if t inbox (picked_index inbox pick) p).0 ≡ sum_by f inbox
+  by_may p found true = sum-left f inbox (picked_index inbox pick) p found
   by_may p found false = omega arith
 
-  by_found : (o : Option Posted) → slice_get inbox (place_in inbox pick) ≡ o
-      → sum_by f (taken_at may inbox (place_in inbox pick) o).1 + weight_of f (taken_at may inbox (place_in inbox pick) o).0 ≡ sum_by f inbox
+  by_found : (o : Option Posted) → slice_get inbox (picked_index inbox pick) ≡ o
+      → sum_by f (picked_out_at may inbox (picked_index inbox pick) o).1 + weight_of f (picked_out_at may inbox (picked_index inbox pick) o).0 ≡ sum_by f inbox
   by_found None found = omega arith
   by_found (Some p) found = by_may p found (may p)
 
@@ -138,11 +138,11 @@ port-flow (e ∷ H) s t legal f = by_input e.input refl (port-flow H) where
       let post : port_post f e ≡ f p = ap (port_posted f) input in
       ap (λ l. sum_by f l + sum_by f t) (told-cons port_told e H None none) ∙ omega (arith, here, post, more, sum_by_push f s p)
   by_input (port_in.TheVariants.Take pick) input rest =
-      let here = rest (taken is_early s pick).1 t (subst (λ u. Legal port_answer port_next u H t) (ap (port_next s) input) legal.1) f in
-      let told_is : port_told e ≡ (taken is_early s pick).0 = ap port_said (legal.0 ∙ ap (port_answer s) input) in
+      let here = rest (picked_out is_early s pick).1 t (subst (λ u. Legal port_answer port_next u H t) (ap (port_next s) input) legal.1) f in
+      let told_is : port_told e ≡ (picked_out is_early s pick).0 = ap port_said (legal.0 ∙ ap (port_answer s) input) in
       let post : port_post f e ≡ 0 = ap (port_posted f) input in
-      ap (λ l. sum_by f l + sum_by f t) (told-cons port_told e H (taken is_early s pick).0 told_is)
-      ∙ omega (arith, here, post, more, sum-told f (taken is_early s pick).0 (filter_map port_told H), taken-weighs is_early s pick f)
+      ap (λ l. sum_by f l + sum_by f t) (told-cons port_told e H (picked_out is_early s pick).0 told_is)
+      ∙ omega (arith, here, post, more, sum-told f (picked_out is_early s pick).0 (filter_map port_told H), taken-weighs is_early s pick f)
 
 -- ---- banks
 
@@ -166,7 +166,7 @@ counts next None = omega arith
 counts next (Some out) = omega arith
 
 abbrev bank_tells : Actor → ℕ → ℕ → Posted → List Posted → Done
-bank_tells a next stamp p sent = record { stamped = noted a stamp p.mail; sent = sent; end = None }
+bank_tells a next stamp p sent = record { stamped = handling_note a stamp p.mail; sent = sent; end = None }
 
 -- one step of a bank
 module _ (C : Setting) (b : BankId) (s t : BankState) (is : bank_actor s.bank ≡ Bank b) (p : Posted) (inbox : List Posted) where
@@ -201,7 +201,7 @@ abbrev BankRest : Setting → BankId → List BankEntry → Type 0
 BankRest C b H = (u v : BankState) → bank_actor u.bank ≡ Bank b → Legal bank_answer bank_next u H v → BankPart C b u v H
 
 abbrev bank_took : BankState → ℕ → Option Posted × List Posted
-bank_took s pick = taken (may_handle s.clock s.next) s.inbox pick
+bank_took s pick = picked_out (may_handle s.clock s.next) s.inbox pick
 
 pub bank-part : (C : Setting) (b : BankId) (H : List BankEntry) (s t : BankState) → bank_actor s.bank ≡ Bank b → Legal bank_answer bank_next s H t → BankPart C b s t H
 unfolding bank_call
@@ -279,7 +279,7 @@ no-letter : (note : KeeperNote) (first n : ℕ) → filter_map (λ core. letter_
 no-letter note first zero = refl
 no-letter note first (suc n) = no-letter note (first + 1) n
 
-letters-sent : (note : KeeperNote) (cores : ℕ) (o : Option Message) → filter_map (λ core. letter_with note core o) (range_with_len 0 cores) ≡ map (with_stamp note.stamped.stamp) (mails_of Keeper note.first (told cores o))
+letters-sent : (note : KeeperNote) (cores : ℕ) (o : Option Message) → filter_map (λ core. letter_with note core o) (range_with_len 0 cores) ≡ map (with_stamp note.stamped.stamp) (mails_of Keeper note.first (letters_to_all cores o))
 letters-sent note cores None = no-letter note 0 cores
 letters-sent note cores (Some m) = each-letter note m 0 cores note.first (omega arith)
 
@@ -296,7 +296,7 @@ module _ (C : Setting) (s t : KeeperState) (all : length s.keeper.arrived ≡ C.
   keeper_then = (keeper_row s p inbox keeper_came).0
 
   abbrev keeper_note : KeeperNote
-  keeper_note = record { stamped = noted Keeper (stamp_after s.clock p) p.mail; verdict = keeper_came.1; first = s.next }
+  keeper_note = record { stamped = handling_note Keeper (stamp_after s.clock p) p.mail; verdict = keeper_came.1; first = s.next }
 
   abbrev keeper_step : Step
   keeper_step = record { deed = Handles p; done = keeper_done C.shape.cores keeper_note }
@@ -319,7 +319,7 @@ abbrev KeeperRest : Setting → List KeeperEntry → Type 0
 KeeperRest C H = (u v : KeeperState) → length u.keeper.arrived ≡ C.shape.cores → Legal keeper_answer keeper_next u H v → KeeperPart C u v H
 
 abbrev keeper_took : KeeperState → ℕ → Option Posted × List Posted
-keeper_took s pick = taken (may_handle s.clock s.next) s.inbox pick
+keeper_took s pick = picked_out (may_handle s.clock s.next) s.inbox pick
 
 pub keeper-part : (C : Setting) (H : List KeeperEntry) (s t : KeeperState) → length s.keeper.arrived ≡ C.shape.cores → Legal keeper_answer keeper_next s H t → KeeperPart C s t H
 unfolding keeper_call

@@ -13,7 +13,7 @@ use Rattle.registration_protocol.specs.Node.{Setting}
 use Rattle.machine_rules.specs.State.{State}
 use Rattle.bank_hall.specs.declared.posted.Posted.{Posted}
 use Rattle.bank_hall.specs.Halls.{post_calls}
-use Rattle.round_rules.specs.Acts.{Act, Took, Made, Stepped, Kept, is_act_of, done_in, no_calls, try_calls, posting, postings, sent_by, act_calls, calls_in}
+use Rattle.round_rules.specs.Acts.{Act, Took, Made, Stepped, Kept, is_act_of, act_done, no_calls, try_calls, posting, postings, posted_by, act_calls, calls_in}
 use Rattle.round_rules.specs.Rounds.{Round, owner, HaveWorked, core_at, bank_at}
 use Rattle.round_rules.specs.Owners.{AreOwners}
 use Rattle.round_rules.proofs.Weights.{sum-zero, zero-sum}
@@ -81,9 +81,9 @@ none-try shape a number (act ∷ acts) none = by_test (is_act_of a act) refl (no
       omega (
         arith,
         tried-then a (act_calls shape number act) (calls_in shape number acts),
-        tried-then a (try_calls number act) (postings shape number (sent_by (done_in shape act))),
+        tried-then a (try_calls number act) (postings shape number (posted_by (act_done shape act))),
         other-try a number act e,
-        posts-try shape a number (sent_by (done_in shape act)),
+        posts-try shape a number (posted_by (act_done shape act)),
         rest later,
       )
 

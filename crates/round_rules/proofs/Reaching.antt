@@ -2,7 +2,7 @@
 use Rattle.std.proofs.Common.{◌≡◌, ℕ, zero, suc, ◌+◌, ◌<◌, ◌≤◌, Bool, true, false, slice_index, List, [], ◌∷◌, ◌++◌, length, take, length-append, refl, sym, ap, subst, ◌∙◌, arith}
 use Rattle.message_net.specs.declared.event.Event.{Event}
 use Rattle.registration_protocol.specs.Node.{Setting}
-use Rattle.machine_rules.specs.State.{State, opened}
+use Rattle.machine_rules.specs.State.{State, initial_state}
 use Rattle.machine_rules.specs.Next.{next, enabled}
 use Rattle.machine_rules.specs.Runs.{after, IsRun}
 use Rattle.std.proofs.lemmas.Nat.{mul-le}
@@ -31,12 +31,12 @@ run-front S (e ∷ es) (suc count) run = (run.0, run-front (next S e) es count r
 
 pub reached-next : (C : Setting) (S : State) (e : Event) → IsReached C S → enabled S e ≡ true → IsReached C (next S e)
 reached-next C S e reached may =
-    let one : IsRun (after (opened C) reached.before) (e ∷ []) = subst (λ (U : State). IsRun U (e ∷ [])) reached.leads (may, tt) in
+    let one : IsRun (after (initial_state C) reached.before) (e ∷ []) = subst (λ (U : State). IsRun U (e ∷ [])) reached.leads (may, tt) in
     record {
       ready = reached.ready;
       before = reached.before ++ e ∷ [];
-      run = run-append (opened C) reached.before (e ∷ []) reached.run one;
-      leads = ap (λ (U : State). next U e) reached.leads ∙ sym (after-append (opened C) reached.before (e ∷ []));
+      run = run-append (initial_state C) reached.before (e ∷ []) reached.run one;
+      leads = ap (λ (U : State). next U e) reached.leads ∙ sym (after-append (initial_state C) reached.before (e ∷ []));
     }
 
 pub reached-run : (C : Setting) (S : State) (es : List Event) → IsReached C S → IsRun S es → IsReached C (after S es)
@@ -44,7 +44,7 @@ reached-run C S [] reached run = reached
 reached-run C S (e ∷ es) reached run = reached-run C (next S e) es (reached-next C S e reached run.0) run.1
 
 pub reached-setting : (C : Setting) (S : State) → IsReached C S → S.setting ≡ C
-reached-setting C S reached = ap (λ (U : State). U.setting) reached.leads ∙ (run-setting (opened C) reached.before ∙ opened-setting C)
+reached-setting C S reached = ap (λ (U : State). U.setting) reached.leads ∙ (run-setting (initial_state C) reached.before ∙ opened-setting C)
 
 pub reached-machine : (C : Setting) (S : State) → IsReached C S → IsMachine S
 reached-machine C S reached = subst IsMachine (sym reached.leads) (run-all C reached.before reached.ready reached.run).0.machine
@@ -52,7 +52,7 @@ reached-machine C S reached = subst IsMachine (sym reached.leads) (run-all C rea
 -- a run from a state that is reached has few events
 pub reached-few : (C : Setting) (S : State) (es : List Event) → IsReached C S → IsRun S es → length es ≤ 25169664
 reached-few C S es reached run =
-    let whole : IsRun (opened C) (reached.before ++ es) = run-append (opened C) reached.before es reached.run (subst (λ (U : State). IsRun U es) reached.leads run) in
+    let whole : IsRun (initial_state C) (reached.before ++ es) = run-append (initial_state C) reached.before es reached.run (subst (λ (U : State). IsRun U es) reached.leads run) in
     omega (arith, run-ends C (reached.before ++ es) reached.ready whole, length-append reached.before es)
 
 pub most-rounds : (S : State) → IsMachine S → S.keeper.phase ≤ length S.setting.program.phases → rounds S ≤ 65

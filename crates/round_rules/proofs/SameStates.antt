@@ -4,7 +4,7 @@ use Rattle.std.proofs.lemmas.List.{ext_get_or}
 use Rattle.std.proofs.lemmas.Bool.Decides.{nat_tests}
 use Rattle.message_net.specs.declared.actor.Actor.{Actor}
 use Rattle.message_net.specs.declared.actor.Actor.TheVariants.{Keeper}
-use Rattle.message_net.specs.Mail.{place_of}
+use Rattle.message_net.specs.Mail.{actor_index}
 use Rattle.registry_bank.specs.Bank.{BankParts}
 use Rattle.phase_barrier.specs.Barrier.{Barrier}
 use Rattle.registration_protocol.specs.Node.{NodeParts, Setting}
@@ -47,9 +47,9 @@ keeper-of : (S : State) (d : Barrier) → keeper_back d (member S Keeper).parts 
 unfolding member
 keeper-of S d = refl
 
-number-at : (C : Setting) (S : State) (a : Actor) → S.setting ≡ C → (member S a).next ≡ slice_index S.numbers (place_of C.shape.cores C.shape.banks a)
+number-at : (C : Setting) (S : State) (a : Actor) → S.setting ≡ C → (member S a).next ≡ slice_index S.numbers (actor_index C.shape.cores C.shape.banks a)
 unfolding member
-number-at C S a is = ap (λ (D : Setting). slice_index S.numbers (place_of D.shape.cores D.shape.banks a)) is
+number-at C S a is = ap (λ (D : Setting). slice_index S.numbers (actor_index D.shape.cores D.shape.banks a)) is
 
 pub same-states : (C : Setting) (E T : State) → E.setting ≡ C → T.setting ≡ C → length E.nodes ≡ C.shape.cores → length T.nodes ≡ C.shape.cores → length E.banks ≡ C.shape.banks → length T.banks ≡ C.shape.banks
     → length E.numbers ≡ C.shape.cores + C.shape.banks + 1 → length T.numbers ≡ C.shape.cores + C.shape.banks + 1
@@ -70,7 +70,7 @@ same-states C E T eset tset enodes tnodes ebanks tbanks enumbers tnumbers same =
     banks_same = same-places T.banks E.banks (tbanks ∙ sym ebanks) (λ i within.
         sym (bank-of T i) ∙ (ap (λ (x : Member). bank_back x.parts) (sym (same (bank_at i) (is-below i C.shape.banks (omega (arith, within, tbanks))))) ∙ bank-of E i))
 
-    number-same : (a : Actor) → IsIn C a → slice_index T.numbers (place_of C.shape.cores C.shape.banks a) ≡ slice_index E.numbers (place_of C.shape.cores C.shape.banks a)
+    number-same : (a : Actor) → IsIn C a → slice_index T.numbers (actor_index C.shape.cores C.shape.banks a) ≡ slice_index E.numbers (actor_index C.shape.cores C.shape.banks a)
     number-same a inside = sym (number-at C T a tset) ∙ (ap (λ (x : Member). x.next) (sym (same a inside)) ∙ number-at C E a eset)
 
     at : (i : ℕ) → i < length T.numbers → get_or T.numbers i 0 ≡ get_or E.numbers i 0

@@ -19,7 +19,7 @@ use Rattle.bank_hall.specs.declared.keeper.KeeperOut as keeper_out
 use Rattle.bank_hall.specs.Halls.{Calls, post_calls}
 use Rattle.round_rules.specs.Members.{Deed, Handles, Makes}
 use Rattle.round_rules.specs.Steps.{Done, Step}
-use Rattle.round_rules.specs.Acts.{Act, Took, Made, Stepped, Kept, is_act_of, done_in, events_in, events_by, core_step, steps_by, no_calls, and_then, try_calls, posting, postings, sent_by, act_calls, calls_in, taken_mail, taken_step, taken_done, bank_done, keeper_done}
+use Rattle.round_rules.specs.Acts.{Act, Took, Made, Stepped, Kept, is_act_of, act_done, events_in, events_by, core_step, steps_by, no_calls, and_then, try_calls, posting, postings, posted_by, act_calls, calls_in, taken_mail, taken_step, taken_done, bank_done, keeper_done}
 use Rattle.round_rules.proofs.Weights.{told-cons}
 use Rattle.round_rules.proofs.Stepping.{takes, deed_takes}
 use Rattle.round_rules.proofs.Objects.{bank_post, bank_told, keeper_post, keeper_told, port_post, port_told, step_done}
@@ -119,11 +119,11 @@ posted-all shape f a number (p ∷ ps) inside =
 abbrev pub sent_in : Shape → List Act → List Posted
 sent_in shape acts = flat_map (λ (d : Done). d.sent) (events_in shape acts)
 
-sent-first : (shape : Shape) (f : Posted → ℕ) (act : Act) (acts : List Act) → sum_by f (sent_in shape (act ∷ acts)) ≡ sum_by f (sent_by (done_in shape act)) + sum_by f (sent_in shape acts)
-sent-first shape f act acts = by_done (done_in shape act) refl where
-  by_done : (o : Option Done) → done_in shape act ≡ o → sum_by f (sent_in shape (act ∷ acts)) ≡ sum_by f (sent_by o) + sum_by f (sent_in shape acts)
-  by_done None e = ap (λ l. sum_by f (flat_map (λ (d : Done). d.sent) l)) (told-cons (done_in shape) act acts None e) ∙ zero-first (sum_by f (sent_in shape acts))
-  by_done (Some d) e = ap (λ l. sum_by f (flat_map (λ (x : Done). x.sent) l)) (told-cons (done_in shape) act acts (Some d) e) ∙ sum_by-append f d.sent (sent_in shape acts)
+sent-first : (shape : Shape) (f : Posted → ℕ) (act : Act) (acts : List Act) → sum_by f (sent_in shape (act ∷ acts)) ≡ sum_by f (posted_by (act_done shape act)) + sum_by f (sent_in shape acts)
+sent-first shape f act acts = by_done (act_done shape act) refl where
+  by_done : (o : Option Done) → act_done shape act ≡ o → sum_by f (sent_in shape (act ∷ acts)) ≡ sum_by f (posted_by o) + sum_by f (sent_in shape acts)
+  by_done None e = ap (λ l. sum_by f (flat_map (λ (d : Done). d.sent) l)) (told-cons (act_done shape) act acts None e) ∙ zero-first (sum_by f (sent_in shape acts))
+  by_done (Some d) e = ap (λ l. sum_by f (flat_map (λ (x : Done). x.sent) l)) (told-cons (act_done shape) act acts (Some d) e) ∙ sum_by-append f d.sent (sent_in shape acts)
 
 -- into an inbox come just the mails that the events sent to its actor
 pub posts-sent : (shape : Shape) (f : Posted → ℕ) (a : Actor) (number : ℕ) (acts : List Act) → has_actor shape.cores shape.banks a ≡ true
@@ -135,9 +135,9 @@ posts-sent shape f a number (act ∷ acts) inside =
     posts-then f a (act_calls shape number act) (calls_in shape number acts)
     ∙ omega (
       arith,
-      posts-then f a (try_calls number act) (postings shape number (sent_by (done_in shape act))),
+      posts-then f a (try_calls number act) (postings shape number (posted_by (act_done shape act))),
       tries-post-nothing f a number act,
-      posted-all shape f a number (sent_by (done_in shape act)) inside,
+      posted-all shape f a number (posted_by (act_done shape act)) inside,
       posts-sent shape f a number acts inside,
       sent-first shape (weigh_to f a) act acts,
     )
@@ -145,7 +145,7 @@ posts-sent shape f a number (act ∷ acts) inside =
 -- ---- what the steps and takes tell
 
 events-first : (shape : Shape) (a : Actor) (act : Act) (acts : List Act) (t : Bool) → is_act_of a act ≡ t
-    → events_by shape a (act ∷ acts) ≡ cond t (cons_option (done_in shape act) (events_by shape a acts)) (events_by shape a acts)
+    → events_by shape a (act ∷ acts) ≡ cond t (cons_option (act_done shape act) (events_by shape a acts)) (events_by shape a acts)
 events-first shape a act acts true e = ap (λ t. events_in shape (cond t (act ∷ filter (is_act_of a) acts) (filter (is_act_of a) acts))) e
 events-first shape a act acts false e = ap (λ t. events_in shape (cond t (act ∷ filter (is_act_of a) acts) (filter (is_act_of a) acts))) e
 
@@ -211,11 +211,11 @@ no-more (y ∷ first) posts rest none = ap (λ l. y ∷ l) (no-more first posts 
 -- a bank's calls of acts tell the events of the bank's acts
 pub bank-tells : (shape : Shape) (b : BankId) (number : ℕ) (acts : List Act) → banks_tell b.0 (calls_in shape number acts) ≡ events_by shape (Bank b) acts
 bank-tells shape b number [] = refl
-bank-tells shape b number (act ∷ acts) = parts ∙ (no-more (banks_tell b.0 (try_calls number act)) (banks_tell b.0 (postings shape number (sent_by (done_in shape act)))) (banks_tell b.0 (calls_in shape number acts)) (bank-posts-tell shape b.0 number (sent_by (done_in shape act)))
+bank-tells shape b number (act ∷ acts) = parts ∙ (no-more (banks_tell b.0 (try_calls number act)) (banks_tell b.0 (postings shape number (posted_by (act_done shape act)))) (banks_tell b.0 (calls_in shape number acts)) (bank-posts-tell shape b.0 number (posted_by (act_done shape act)))
     ∙ (ap (λ l. banks_tell b.0 (try_calls number act) ++ l) (bank-tells shape b number acts) ∙ by_act act)) where
-      parts : banks_tell b.0 (calls_in shape number (act ∷ acts)) ≡ (banks_tell b.0 (try_calls number act) ++ banks_tell b.0 (postings shape number (sent_by (done_in shape act)))) ++ banks_tell b.0 (calls_in shape number acts)
+      parts : banks_tell b.0 (calls_in shape number (act ∷ acts)) ≡ (banks_tell b.0 (try_calls number act) ++ banks_tell b.0 (postings shape number (posted_by (act_done shape act)))) ++ banks_tell b.0 (calls_in shape number acts)
       parts = filter_map-append bank_told ((act_calls shape number act).banks b.0) ((calls_in shape number acts).banks b.0)
-          ∙ ap (λ l. l ++ banks_tell b.0 (calls_in shape number acts)) (filter_map-append bank_told ((try_calls number act).banks b.0) ((postings shape number (sent_by (done_in shape act))).banks b.0))
+          ∙ ap (λ l. l ++ banks_tell b.0 (calls_in shape number acts)) (filter_map-append bank_told ((try_calls number act).banks b.0) ((postings shape number (posted_by (act_done shape act))).banks b.0))
 
       by_act : (one : Act) → banks_tell b.0 (try_calls number one) ++ events_by shape (Bank b) acts ≡ events_by shape (Bank b) (one ∷ acts)
       by_act (Took core pick taken) = refl
@@ -228,11 +228,11 @@ bank-tells shape b number (act ∷ acts) = parts ∙ (no-more (banks_tell b.0 (t
 
 pub keeper-tells : (shape : Shape) (number : ℕ) (acts : List Act) → keeper_tells shape.cores (calls_in shape number acts) ≡ events_by shape Keeper acts
 keeper-tells shape number [] = refl
-keeper-tells shape number (act ∷ acts) = parts ∙ (no-more (keeper_tells shape.cores (try_calls number act)) (keeper_tells shape.cores (postings shape number (sent_by (done_in shape act)))) (keeper_tells shape.cores (calls_in shape number acts)) (keeper-posts-tell shape number (sent_by (done_in shape act)))
+keeper-tells shape number (act ∷ acts) = parts ∙ (no-more (keeper_tells shape.cores (try_calls number act)) (keeper_tells shape.cores (postings shape number (posted_by (act_done shape act)))) (keeper_tells shape.cores (calls_in shape number acts)) (keeper-posts-tell shape number (posted_by (act_done shape act)))
     ∙ (ap (λ l. keeper_tells shape.cores (try_calls number act) ++ l) (keeper-tells shape number acts) ∙ by_act act)) where
-      parts : keeper_tells shape.cores (calls_in shape number (act ∷ acts)) ≡ (keeper_tells shape.cores (try_calls number act) ++ keeper_tells shape.cores (postings shape number (sent_by (done_in shape act)))) ++ keeper_tells shape.cores (calls_in shape number acts)
+      parts : keeper_tells shape.cores (calls_in shape number (act ∷ acts)) ≡ (keeper_tells shape.cores (try_calls number act) ++ keeper_tells shape.cores (postings shape number (posted_by (act_done shape act)))) ++ keeper_tells shape.cores (calls_in shape number acts)
       parts = filter_map-append (keeper_told shape.cores) (act_calls shape number act).keeper (calls_in shape number acts).keeper
-          ∙ ap (λ l. l ++ keeper_tells shape.cores (calls_in shape number acts)) (filter_map-append (keeper_told shape.cores) (try_calls number act).keeper (postings shape number (sent_by (done_in shape act))).keeper)
+          ∙ ap (λ l. l ++ keeper_tells shape.cores (calls_in shape number acts)) (filter_map-append (keeper_told shape.cores) (try_calls number act).keeper (postings shape number (posted_by (act_done shape act))).keeper)
 
       by_act : (one : Act) → keeper_tells shape.cores (try_calls number one) ++ events_by shape Keeper acts ≡ events_by shape Keeper (one ∷ acts)
       by_act (Took core pick taken) = refl
@@ -255,11 +255,11 @@ steps-first core act acts false e = ap (λ t. filter_map core_step (cond t (act 
 
 pub port-tells : (shape : Shape) (core : CoreId) (number : ℕ) (acts : List Act) → ports_tell core.0 (calls_in shape number acts) ≡ filter_map handled_in (steps_by core acts)
 port-tells shape core number [] = refl
-port-tells shape core number (act ∷ acts) = parts ∙ (no-more (ports_tell core.0 (try_calls number act)) (ports_tell core.0 (postings shape number (sent_by (done_in shape act)))) (ports_tell core.0 (calls_in shape number acts)) (port-posts-tell shape core.0 number (sent_by (done_in shape act)))
+port-tells shape core number (act ∷ acts) = parts ∙ (no-more (ports_tell core.0 (try_calls number act)) (ports_tell core.0 (postings shape number (posted_by (act_done shape act)))) (ports_tell core.0 (calls_in shape number acts)) (port-posts-tell shape core.0 number (posted_by (act_done shape act)))
     ∙ (ap (λ l. ports_tell core.0 (try_calls number act) ++ l) (port-tells shape core number acts) ∙ by_act act)) where
-      parts : ports_tell core.0 (calls_in shape number (act ∷ acts)) ≡ (ports_tell core.0 (try_calls number act) ++ ports_tell core.0 (postings shape number (sent_by (done_in shape act)))) ++ ports_tell core.0 (calls_in shape number acts)
+      parts : ports_tell core.0 (calls_in shape number (act ∷ acts)) ≡ (ports_tell core.0 (try_calls number act) ++ ports_tell core.0 (postings shape number (posted_by (act_done shape act)))) ++ ports_tell core.0 (calls_in shape number acts)
       parts = filter_map-append port_told ((act_calls shape number act).ports core.0) ((calls_in shape number acts).ports core.0)
-          ∙ ap (λ l. l ++ ports_tell core.0 (calls_in shape number acts)) (filter_map-append port_told ((try_calls number act).ports core.0) ((postings shape number (sent_by (done_in shape act))).ports core.0))
+          ∙ ap (λ l. l ++ ports_tell core.0 (calls_in shape number acts)) (filter_map-append port_told ((try_calls number act).ports core.0) ((postings shape number (posted_by (act_done shape act))).ports core.0))
 
       made-quiet : (t : Bool) (s : Step) → handled_in s ≡ None → filter_map handled_in (steps_by core acts) ≡ filter_map handled_in (cond t (s ∷ steps_by core acts) (steps_by core acts))
       made-quiet true s none = sym (told-cons handled_in s (steps_by core acts) None none)

@@ -18,7 +18,7 @@ use Rattle.machine_rules.specs.Runs.{after, IsRun, read_off, kinds_of, grants_of
 use Rattle.bank_hall.specs.declared.posted.Posted.{Posted}
 use Rattle.round_rules.specs.Members.{Member, member, event_of, deed_kind, IsIn}
 use Rattle.round_rules.specs.Steps.{Step, Done, stamp_of, Goes}
-use Rattle.round_rules.specs.Rounds.{IsReached, end_told}
+use Rattle.round_rules.specs.Rounds.{IsReached, end_observed}
 use Rattle.round_rules.proofs.Moving.{handled}
 use Rattle.round_rules.proofs.Weights.{filter-true, filter-false, sum-zero, zero-sum}
 use Rattle.round_rules.proofs.Weaving.{step_actor, is_step_of}
@@ -56,7 +56,7 @@ pub record Comes (C : Setting) (S : State) (n : ℕ) (ss : List Step) (left : Li
   pub pool : (f : Mail → ℕ) → sum_by f (after S (map step_event ss)).mails ≡ sum_by (λ p. f p.mail) left
   pub kinds : map step_kind ss ≡ kinds_of S (map step_event ss)
   pub grants : filter_map step_grant ss ≡ grants_of S (map step_event ss)
-  pub told : filter_map step_end ss ≡ read_off end_told S (map step_event ss)
+  pub told : filter_map step_end ss ≡ read_off end_observed S (map step_event ss)
   pub early : (i : ℕ) (s : Step) → slice_get ss i ≡ Some s → stamp_of s ≤ n + i + 1
 
 told-step : {X : Type 0} (tell : State → Event → Option X) (h : Step → Option X) (S : State) (s : Step) (ss : List Step) (es : List Event) (o : Option X)
@@ -149,7 +149,7 @@ module _ (C : Setting) (S : State) (n : ℕ) (clock : Actor → ℕ) (ps : List 
     pool = rest.pool;
     kinds = λ i. sym happening.moves.kind i ∷ rest.kinds i;
     grants = told-step granted_in step_grant S s ss (map step_event ss) (step_grant s) refl (happening.moves.granted ∙ sym (ap (λ (d : Done). d.stamped.granted) part.0.tells)) rest.grants;
-    told = told-step end_told step_end S s ss (map step_event ss) (step_end s) refl (happening.moves.end ∙ sym (ap (λ (d : Done). d.end) part.0.tells)) rest.told;
+    told = told-step end_observed step_end S s ss (map step_event ss) (step_end s) refl (happening.moves.end ∙ sym (ap (λ (d : Done). d.end) part.0.tells)) rest.told;
     early = early_at;
   }
     where

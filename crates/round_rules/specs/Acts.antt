@@ -55,15 +55,15 @@ abbrev pub taken_done : Posted × Done → Done
 taken_done t = t.1
 
 -- the event that came of an act, if one did
-abbrev pub done_in : Shape → Act → Option Done
-done_in shape (Took core pick taken) = option_map taken_done taken
-done_in shape (Made core event done) = Some done
-done_in shape (Stepped bank pick handled) = option_map bank_done handled
-done_in shape (Kept pick answer) = option_map (keeper_done shape.cores) answer
+abbrev pub act_done : Shape → Act → Option Done
+act_done shape (Took core pick taken) = option_map taken_done taken
+act_done shape (Made core event done) = Some done
+act_done shape (Stepped bank pick handled) = option_map bank_done handled
+act_done shape (Kept pick answer) = option_map (keeper_done shape.cores) answer
 
 -- the events of all acts, and those of one actor, in their order
 abbrev pub events_in : Shape → List Act → List Done
-events_in shape acts = filter_map (done_in shape) acts
+events_in shape acts = filter_map (act_done shape) acts
 
 abbrev pub events_by : Shape → Actor → List Act → List Done
 events_by shape a acts = events_in shape (filter (is_act_of a) acts)
@@ -126,13 +126,13 @@ abbrev pub postings : Shape → ℕ → List Posted → Calls
 postings shape number [] = no_calls
 postings shape number (p ∷ ps) = and_then (posting shape number p) (postings shape number ps)
 
-abbrev pub sent_by : Option Done → List Posted
-sent_by None = []
-sent_by (Some d) = d.sent
+abbrev pub posted_by : Option Done → List Posted
+posted_by None = []
+posted_by (Some d) = d.sent
 
 -- the calls of an act: its take or step, and then a post of each mail that its event sent
 abbrev pub act_calls : Shape → ℕ → Act → Calls
-act_calls shape number act = and_then (try_calls number act) (postings shape number (sent_by (done_in shape act)))
+act_calls shape number act = and_then (try_calls number act) (postings shape number (posted_by (act_done shape act)))
 
 -- the calls of all acts, in their order
 abbrev pub calls_in : Shape → ℕ → List Act → Calls

@@ -21,7 +21,7 @@ use Rattle.registration_protocol.specs.Node.{NodeParts, Setting}
 use Rattle.registration_protocol.specs.OwnEvents.{own_event, instructed, evicted, arrives, end_of}
 use Rattle.registration_protocol.specs.Messages.{node_gets}
 use Rattle.machine_rules.specs.State.{State}
-use Rattle.machine_rules.specs.Next.{number_of}
+use Rattle.machine_rules.specs.Next.{next_number}
 use Rattle.bank_hall.specs.declared.posted.Posted.{Posted}
 
 -- what an actor is; a machine may lack it
@@ -51,7 +51,7 @@ parts_of S Keeper = KeeperIs S.keeper
 
 -- an actor in a state of the machine
 unfoldable pub member : State → Actor → Member
-member S a = record { parts = parts_of S a; next = number_of S a }
+member S a = record { parts = parts_of S a; next = next_number S a }
 
 -- the machine of a setting has this actor
 abbrev pub IsIn : Setting → Actor → Type 0

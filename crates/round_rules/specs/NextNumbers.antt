@@ -3,7 +3,7 @@ use Rattle.std.specs.Prelude.{ℕ, ◌≤◌, take}
 use Rattle.message_net.specs.declared.actor.Actor.{Actor}
 use Rattle.registration_protocol.specs.Node.{Setting}
 use Rattle.machine_rules.specs.State.{State}
-use Rattle.machine_rules.specs.Next.{number_of}
+use Rattle.machine_rules.specs.Next.{next_number}
 use Rattle.machine_rules.specs.Runs.{after}
 use Rattle.round_rules.specs.Members.{IsIn}
 use Rattle.round_rules.specs.Rounds.{Round, events_of}
@@ -11,5 +11,5 @@ use Rattle.round_rules.specs.Rounds.{Round, events_of}
 -- the number of each actor's next mail is at most 25,169,664, the most events of a run: after each front of the round's events,
 -- and in T, where the round ended
 pub record AreNumbersLow (C : Setting) (S T : State) (r : Round) : Type 0 where
-  pub along : (count : ℕ) (a : Actor) → IsIn C a → number_of (after S (take count (events_of r.merged))) a ≤ 25169664
-  pub ended : (a : Actor) → IsIn C a → number_of T a ≤ 25169664
+  pub along : (count : ℕ) (a : Actor) → IsIn C a → next_number (after S (take count (events_of r.merged))) a ≤ 25169664
+  pub ended : (a : Actor) → IsIn C a → next_number T a ≤ 25169664

@@ -10,8 +10,8 @@ use Rattle.grant_log.specs.declared.log.Stamped.{Stamped}
 use Rattle.registration_protocol.specs.Node.{NodeParts, Setting}
 use Rattle.registration_protocol.specs.OwnEvents.{own_event}
 use Rattle.bank_hall.specs.declared.posted.Posted.{Posted}
-use Rattle.bank_hall.specs.Halls.{PassView, HasMadeCalls, number_of}
-use Rattle.bank_hall.specs.Stamps.{goes_on}
+use Rattle.bank_hall.specs.Halls.{PassView, HasMadeCalls, pass_number}
+use Rattle.bank_hall.specs.Stamps.{has_numbers_left}
 use Rattle.round_rules.specs.declared.end_seen.EndSeen.{EndSeen}
 use Rattle.round_rules.specs.Members.{NodeIs, Member}
 use Rattle.round_rules.specs.Steps.{Done, Step, Goes, clock_after}
@@ -61,7 +61,7 @@ pub record IsCorePass (C : Setting) (acts : List Act) (core : CoreId) (old : Hel
   pub next : ℕ
   pub handled : Goes C (Core core) old.clock (held_member old) (taken_steps taken) (record { parts = NodeIs node; next = next })
   pub acts_are : filter (is_act_of (Core core)) acts
-      ≡ Took core pick taken ∷ own_acts core (goes_on (clock_after old.clock (taken_steps taken)) next) (own_event C node) done
+      ≡ Took core pick taken ∷ own_acts core (has_numbers_left (clock_after old.clock (taken_steps taken)) next) (own_event C node) done
 
 -- the actors that a worker tries in one pass: each core with which it goes on, each of its banks, and the keeper if it has it
 abbrev pub tries_of : List CoreId → List BankId → Bool → List Actor
@@ -71,6 +71,6 @@ tries_of cores banks false = map Core cores ++ map Bank banks
 -- one pass of a worker: the hall's pass made the calls of its acts and no other, and it tries each of these actors once, in
 -- their order
 pub record HasPassed (C : Setting) (old new : PassView) (tries : List Actor) (acts : List Act) (count : ℕ) : Type 0 where
-  pub calls : HasMadeCalls old new (calls_in C.shape (number_of old) acts)
+  pub calls : HasMadeCalls old new (calls_in C.shape (pass_number old) acts)
   pub tried : filter_map tried_in acts ≡ tries
   pub counted : count ≡ length (events_in C.shape acts)

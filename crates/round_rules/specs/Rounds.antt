@@ -15,8 +15,8 @@ use Rattle.grant_log.specs.Log.{of_actor, grants_in}
 use Rattle.registry_bank.specs.Bank.{BankParts}
 use Rattle.registration_protocol.specs.Node.{NodeParts, Setting}
 use Rattle.registration_protocol.specs.OwnEvents.{end_of}
-use Rattle.machine_rules.specs.State.{State, opened}
-use Rattle.machine_rules.specs.Next.{number_of}
+use Rattle.machine_rules.specs.State.{State, initial_state}
+use Rattle.machine_rules.specs.Next.{next_number}
 use Rattle.machine_rules.specs.Runs.{after, IsRun, read_off, grants_of, kinds_of}
 use Rattle.machine_rules.specs.Sound.{IsReady}
 use Rattle.turn_lock.specs.History.{Legal, calls_by}
@@ -48,8 +48,8 @@ actors C = map core_at (range_with_len 0 C.shape.cores) ++ (map bank_at (range_w
 pub record IsReached (C : Setting) (S : State) : Type 0 where
   pub ready : IsReady C
   pub before : List Event
-  pub run : IsRun (opened C) before
-  pub leads : S ≡ after (opened C) before
+  pub run : IsRun (initial_state C) before
+  pub leads : S ≡ after (initial_state C) before
 
 -- a round: how many workers there were and what each did, all calls of each object of the hall, the inbox of each actor as it
 -- began and as it ended, and what was noted of all events, in one list
@@ -63,10 +63,10 @@ pub record Round : Type 0 where
 
 -- what a bank is in a state of the machine, with an inbox and a clock, and what the keeper is
 abbrev pub bank_in : State → ℕ → BankParts → List Posted → ℕ → BankState
-bank_in S b bank inbox clock = record { bank = bank; inbox = inbox; next = number_of S (bank_at b); clock = clock }
+bank_in S b bank inbox clock = record { bank = bank; inbox = inbox; next = next_number S (bank_at b); clock = clock }
 
 abbrev pub keeper_in : State → List Posted → ℕ → KeeperState
-keeper_in S inbox clock = record { keeper = S.keeper; inbox = inbox; next = number_of S Keeper; clock = clock }
+keeper_in S inbox clock = record { keeper = S.keeper; inbox = inbox; next = next_number S Keeper; clock = clock }
 
 -- the history of a bank leads from what it was in S to what it is in T
 pub record IsBankClosed (S T : State) (r : Round) (b : ℕ) : Type 0 where
@@ -138,7 +138,7 @@ pub record AreInboxes (C : Setting) (S T : State) (r : Round) : Type 0 where
   pub left : IsPermutation (map mail_in (flat_map r.left (actors C))) T.mails
 
 -- T has as many nodes, banks and numbers as S, and is of the same setting
-pub record IsAlike (C : Setting) (S T : State) : Type 0 where
+pub record HasSameSizes (C : Setting) (S T : State) : Type 0 where
   pub setting : T.setting ≡ C
   pub nodes : length T.nodes ≡ length S.nodes
   pub banks : length T.banks ≡ length S.banks
@@ -147,7 +147,7 @@ pub record IsAlike (C : Setting) (S T : State) : Type 0 where
 -- T is what the workers joined after a round that began in S
 pub record IsJoined (C : Setting) (S T : State) (r : Round) : Type 0 where
   pub some : 1 ≤ r.workers
-  pub alike : IsAlike C S T
+  pub alike : HasSameSizes C S T
   pub inboxes : AreInboxes C S T r
   pub closed : AreClosed C S T r
   pub worked : HaveWorked C S T r
@@ -164,16 +164,16 @@ abbrev pub events_of : List Stamped → List Event
 events_of merged = map noted_event merged
 
 -- how the task of a core that arrives at the barrier has ended
-abbrev pub end_there : Option NodeParts → Option TaskEnd
-end_there None = None
-end_there (Some n) = end_of n n.task
+abbrev pub end_of_node : Option NodeParts → Option TaskEnd
+end_of_node None = None
+end_of_node (Some n) = end_of n n.task
 
-abbrev pub end_told : State → Event → Option TaskEnd
-end_told S (Arrive core) = end_there (slice_get S.nodes core.0)
-end_told S _ = None
+abbrev pub end_observed : State → Event → Option TaskEnd
+end_observed S (Arrive core) = end_of_node (slice_get S.nodes core.0)
+end_observed S _ = None
 
-abbrev pub end_in : Done → Option TaskEnd
-end_in d = d.end
+abbrev pub end_of_done : Done → Option TaskEnd
+end_of_done d = d.end
 
 abbrev pub done_by : Actor → Done → Bool
 done_by a d = of_actor a d.stamped
@@ -182,7 +182,7 @@ done_by a d = of_actor a d.stamped
 pub record AreTold (C : Setting) (S : State) (r : Round) (told : List Done) : Type 0 where
   pub notes : map note_of told ≡ r.merged
   pub parts : (a : Actor) → IsIn C a → filter (done_by a) told ≡ events_by C.shape a (r.work (owner r.workers a))
-  pub ends : filter_map end_in told ≡ read_off end_told S (events_of r.merged)
+  pub ends : filter_map end_of_done told ≡ read_off end_observed S (events_of r.merged)
 
 -- The round is a run of the machine. Its events may come one after the other from S on, and lead to T but for the order of
 -- the mails in flight; their kinds, grants and ends are the run's; and each has a stamp that is at most its place

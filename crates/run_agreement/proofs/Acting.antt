@@ -20,8 +20,8 @@ use Rattle.rv_core.specs.Step.{advanced}
 use Rattle.flat_machine.specs.Step.{Started, At, wish, wish_unless, step_by}
 use Rattle.flat_machine.specs.Grants.{grant_of}
 use Rattle.flat_machine.specs.Laws.{at_memory}
-use Rattle.flat_agreement.specs.Worlds.{LeadsToRun, acquired}
-use Rattle.flat_agreement.specs.Cores.{world_of, ChangesOne, done_by, IsFreeAmong, IsAgreed}
+use Rattle.flat_agreement.specs.Worlds.{LeadsToRun, past_acquire}
+use Rattle.flat_agreement.specs.Cores.{world_of, ChangesOne, step_of_task, IsFreeAmong, IsAgreed}
 use Rattle.flat_agreement.proofs.CoreByCore.{agreed-step, agreed-grant}
 use Rattle.effect_checker.specs.Checked.{IsChecked}
 use Rattle.message_net.specs.declared.message.Outgoing.{Outgoing}
@@ -95,9 +95,9 @@ world-step C gs K K' L L' phase core p d t t' loads needs m m' program checked d
     let who = task-of C phase core p d h.there declares in
     let old : stands K L phase d ≡ task_of phase d t (L phase core) = stands-as K L phase core d t (L phase core) who.own here refl in
     let wish_is : wish P C.fuel (stands K L phase d) ≡ Some needs = ap (wish P C.fuel) old ∙ wants-one P C.fuel phase d t (L phase core) needs open' wants in
-    let done : done_by P (stands K L phase) d m needs ≡ at_memory (task_of phase d t' loads) m' = ap (λ (r : Started). step_by P (at_memory r m) (Some needs)) old ∙ goes in
+    let done : step_of_task P (stands K L phase) d m needs ≡ at_memory (task_of phase d t' loads) m' = ap (λ (r : Started). step_by P (at_memory r m) (Some needs)) old ∙ goes in
     let one : ChangesOne d (task_of phase d t' loads) (stands K L phase) (stands K' L' phase) = changes-one K K' L L' phase core d t' loads change who.own in
-    let changes : ChangesOne d (done_by P (stands K L phase) d m needs).task (stands K L phase) (stands K' L' phase) =
+    let changes : ChangesOne d (step_of_task P (stands K L phase) d m needs).task (stands K L phase) (stands K' L' phase) =
     subst (λ (s : At). ChangesOne d s.task (stands K L phase) (stands K' L' phase)) (sym done) one in
     let next = agreed-step P C.fuel gs phase (tasks_from K L 0 (take phase P.phases)) p d needs (stands K L phase) (stands K' L' phase) m program checked who.among wish_is changes h in
     let there : IsAgreed P C.fuel gs phase (tasks_from K L 0 (take phase P.phases)) p (stands K' L' phase) m' =
@@ -117,8 +117,8 @@ world-grant C gs K K' L L' phase core p d t lock m program checked declares open
     let wish_is : wish P C.fuel (stands K L phase d) ≡ Some (need.TheVariants.Acquire lock) =
     ap (wish P C.fuel) old ∙ wants-one P C.fuel phase d t (L phase core) (need.TheVariants.Acquire lock) open' wants in
     let one : ChangesOne d (task_of phase d (advanced P t) (L phase core)) (stands K L phase) (stands K' L' phase) = changes-one K K' L L' phase core d (advanced P t) (L phase core) change who.own in
-    let changes : ChangesOne d (acquired P (stands K L phase d)) (stands K L phase) (stands K' L' phase) =
-    subst (λ (r : Started). ChangesOne d (acquired P r) (stands K L phase) (stands K' L' phase)) (sym old) one in
+    let changes : ChangesOne d (past_acquire P (stands K L phase d)) (stands K L phase) (stands K' L' phase) =
+    subst (λ (r : Started). ChangesOne d (past_acquire P r) (stands K L phase) (stands K' L' phase)) (sym old) one in
     let next = agreed-grant P C.fuel gs phase (tasks_from K L 0 (take phase P.phases)) p d lock (stands K L phase) (stands K' L' phase) m program checked who.among wish_is free changes h in
     let grant : grant_of (stands K L phase d) lock ≡ record { phase = record { 0 = phase }; core = record { 0 = core }; lock = lock } =
     ap (λ (x : ℕ). record { phase = record { 0 = phase }; core = record { 0 = x }; lock = lock }) who.own in

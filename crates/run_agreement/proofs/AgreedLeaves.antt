@@ -27,7 +27,7 @@ use Rattle.registration_protocol.specs.Node.{NodeParts, entry_of}
 use Rattle.registration_protocol.specs.Messages.{holds_now}
 use Rattle.machine_rules.specs.State.{State}
 use Rattle.machine_rules.specs.Next.{next, seen_in, granted_in}
-use Rattle.machine_rules.specs.Flight.{flight, grants}
+use Rattle.machine_rules.specs.Flight.{flight, is_grant_to}
 use Rattle.machine_rules.proofs.Bits.{passes}
 use Rattle.machine_rules.proofs.Invariant.{Invariant}
 use Rattle.machine_rules.proofs.Leaves.{Leaves, Tells, IsActing, stored_to, at_core}
@@ -172,8 +172,8 @@ takes-lock {E} S M e gs L core n d t lock s inv h works open' wants told step =
       own = same-loads S e L told.seen_is n.phase core.0;
       others = λ q c apart. same-loads S e L told.seen_is q c;
     } in
-    let one : passes (grants lock.0 core.0) (at_core core (Grant lock s)) ≡ 1 = rw (same-number lock.0, same-number core.0) refl in
-    let some : 1 ≤ flight S (grants lock.0 core.0) = omega (arith, one, step.flown (grants lock.0 core.0)) in
+    let one : passes (is_grant_to lock.0 core.0) (at_core core (Grant lock s)) ≡ 1 = rw (same-number lock.0, same-number core.0) refl in
+    let some : 1 ≤ flight S (is_grant_to lock.0 core.0) = omega (arith, one, step.flown (is_grant_to lock.0 core.0)) in
     let free : IsFreeAmong h.phase (stands h.states L n.phase) lock.0 =
     subst (λ (k : ℕ). IsFreeAmong h.phase (stands h.states L k) lock.0) (sym (in-phase S M core.0 n d t inv works)) (granted-free S M h.states L h.phase lock.0 core.0 inv h.shown h.world.there some) in
     let now : Agreed (next S e) M (gs ++ g ∷ []) (more_loads L S e) E =

@@ -10,7 +10,7 @@ use Rattle.rv_core.specs.declared.ending.TaskEnd.{TaskEnd}
 use Rattle.flat_machine.specs.declared.ending.TaskLoads.{TaskLoads}
 use Rattle.flat_machine.specs.Step.{Started}
 use Rattle.flat_machine.specs.Phases.{Flat, initial}
-use Rattle.flat_machine.specs.Ending.{task_end, task_loads, loads_of as flat_loads, ends_of as flat_ends, end_of, flat_end}
+use Rattle.flat_machine.specs.Ending.{task_end, task_loads, flat_loads_of as flat_loads, flat_ends_of as flat_ends, flat_end_of, flat_end}
 use Rattle.rv_core.specs.Ending.{ending_of}
 use Rattle.flat_agreement.specs.Cores.{world_of}
 use Rattle.flat_agreement.proofs.CoreByCore.{agreed-ends, none-ends}
@@ -18,7 +18,7 @@ use Rattle.flat_agreement.proofs.Places.{get-cases}
 use Rattle.message_net.specs.declared.event.Event.{Event}
 use Rattle.phase_barrier.specs.Barrier.{Barrier, all_arrived}
 use Rattle.registration_protocol.specs.Node.{NodeParts, Setting}
-use Rattle.machine_rules.specs.State.{State, opened}
+use Rattle.machine_rules.specs.State.{State, initial_state}
 use Rattle.machine_rules.specs.Sound.{IsSound, IsReady}
 use Rattle.machine_rules.specs.Next.{next}
 use Rattle.machine_rules.specs.Memory.{store_in, memory_of}
@@ -58,7 +58,7 @@ some-cores : (ts : List TaskDecl) → 1 ≤ cores_in ts
 some-cores [] = omega arith
 some-cores (d ∷ ds) = let rest = some-cores ds in omega (arith, rest)
 
-opened-halting : (C : Setting) → IsReady C → IsHalting (opened C)
+opened-halting : (C : Setting) → IsReady C → IsHalting (initial_state C)
 opened-halting C ready =
     record {
       level = λ c n found halted. ap (λ (x : NodeParts). x.phase) (opened-node C c n found).is ∙ sym (ap (λ (k : Barrier). k.phase) (opened-keeper C));
@@ -91,12 +91,12 @@ loads-list K S events L phase (p ∷ ps) same =
 
 -- ---- the end
 
-end-loads : (P : ProgramParts) (fuel : ℕ) (F : Flat) → (end_of P fuel F).loads ≡ flat_loads F
-unfolding end_of
+end-loads : (P : ProgramParts) (fuel : ℕ) (F : Flat) → (flat_end_of P fuel F).loads ≡ flat_loads F
+unfolding flat_end_of
 end-loads P fuel F = refl
 
-end-ending : (P : ProgramParts) (fuel : ℕ) (F : Flat) → (end_of P fuel F).ending ≡ ending_of (flat_ends P fuel F) F.memory
-unfolding end_of
+end-ending : (P : ProgramParts) (fuel : ℕ) (F : Flat) → (flat_end_of P fuel F).ending ≡ ending_of (flat_ends P fuel F) F.memory
+unfolding flat_end_of
 end-ending P fuel F = refl
 
 same-ending : (xs ys : List TaskEnd) (m m' : List ℕ) → xs ≡ ys → m ≡ m' → ending_of xs m ≡ ending_of ys m'
@@ -113,41 +113,41 @@ whole-or-open S M p inv over there some = by_rest (rest S M inv over) where
   by_rest (inl all) = let n = get-cases S.nodes 0 some in by_ended (inv.ended 0 n.0 n.1 (all 0 n.0 n.1))
   by_rest (inr stuck) = inr stuck.some
 
-phases-end : (C : Setting) (p : Phase) (events : List Event) → IsReady C → slice_get C.program.phases 0 ≡ Some p → IsCompleteRun (opened C) events → HasFlatEnd C events
+phases-end : (C : Setting) (p : Phase) (events : List Event) → IsReady C → slice_get C.program.phases 0 ≡ Some p → IsCompleteRun (initial_state C) events → HasFlatEnd C events
 phases-end C p events ready first complete =
     record {
-      end' = end_of S.setting.program S.setting.fuel W;
-      run = subst (λ (x : Setting). flat_end x.program x.fuel (grants_of (opened C) events) ≡ Some (end_of S.setting.program S.setting.fuel W)) setting ends;
+      end' = flat_end_of S.setting.program S.setting.fuel W;
+      run = subst (λ (x : Setting). flat_end x.program x.fuel (grants_of (initial_state C) events) ≡ Some (flat_end_of S.setting.program S.setting.fuel W)) setting ends;
       loads = end-loads S.setting.program S.setting.fuel W ∙ loads;
-      ending = end-ending S.setting.program S.setting.fuel W ∙ same-ending (flat_ends S.setting.program S.setting.fuel W) (ends_of (opened C) events) h.memory (memory_of S) tasks memory;
+      ending = end-ending S.setting.program S.setting.fuel W ∙ same-ending (flat_ends S.setting.program S.setting.fuel W) (ends_of (initial_state C) events) h.memory (memory_of S) tasks memory;
     }
   where
     S : State
-    S = after (opened C) events
+    S = after (initial_state C) events
 
     M : ℕ → ℕ
-    M = memory_over (first_memory C) (opened C) events
+    M = memory_over (first_memory C) (initial_state C) events
 
     L : Loads
-    L = loads_over no_loads (opened C) events
+    L = loads_over no_loads (initial_state C) events
 
     E : Ends
-    E = ends_over (more_ends no_ends (opened C)) (opened C) events
+    E = ends_over (more_ends no_ends (initial_state C)) (initial_state C) events
 
-    h : Agreed S M (grants_of (opened C) events) L E
+    h : Agreed S M (grants_of (initial_state C) events) L E
     h = run-agreed C p events ready first complete.run
 
     inv : Invariant S M
     inv = (run-all C events ready complete.run).1
 
     setting : S.setting ≡ C
-    setting = run-setting (opened C) events ∙ opened-setting C
+    setting = run-setting (initial_state C) events ∙ opened-setting C
 
     resting : IsResting S M h.states L h.phase
     resting =
         record {
           inv = inv;
-          halting = run-halting (opened C) (first_memory C) 0 events (opened-sound C ready.context ready.program ready.checked) (opened-invariant C ready.context ready.program ready.checked)
+          halting = run-halting (initial_state C) (first_memory C) 0 events (opened-sound C ready.context ready.program ready.checked) (opened-invariant C ready.context ready.program ready.checked)
               (opened-halting C ready) complete.run;
           over = complete.over;
           shown = h.shown;
@@ -163,58 +163,58 @@ phases-end C p events ready first complete =
     nodes : 0 < length S.nodes
     nodes = omega (arith, inv.machine.nodes, inv.machine.context.cores, some-cores (tasks_of S.setting.program.phases))
 
-    ends : flat_end S.setting.program S.setting.fuel (grants_of (opened C) events) ≡ Some (end_of S.setting.program S.setting.fuel W)
+    ends : flat_end S.setting.program S.setting.fuel (grants_of (initial_state C) events) ≡ Some (flat_end_of S.setting.program S.setting.fuel W)
     ends =
-        agreed-ends S.setting.program S.setting.fuel (grants_of (opened C) events) S.keeper.phase past h.phase (stands h.states L S.keeper.phase) h.memory
+        agreed-ends S.setting.program S.setting.fuel (grants_of (initial_state C) events) S.keeper.phase past h.phase (stands h.states L S.keeper.phase) h.memory
         (λ d among. task-stops S M h.states L h.phase d resting among)
         (no-next S M h.states L h.phase past h.memory resting (whole-or-open S M h.phase inv complete.over h.world.there nodes)) h.world
 
-    loads : flat_loads W ≡ all_loads (opened C) events
+    loads : flat_loads W ≡ all_loads (initial_state C) events
     loads =
         let number : suc S.keeper.phase ≡ S.keeper.phase + 1 = omega arith in
-        ap (λ (ts : List Started). map task_loads ts) (all-standing S.setting (grants_of (opened C) events) h.states L S.keeper.phase h.phase h.memory h.world)
-        ∙ loads-list h.states (opened C) events L 0 (take (suc S.keeper.phase) S.setting.program.phases) (λ q c. refl)
-        ∙ ap (λ (k : ℕ). loads_from 0 (take k S.setting.program.phases) (opened C) events) number
+        ap (λ (ts : List Started). map task_loads ts) (all-standing S.setting (grants_of (initial_state C) events) h.states L S.keeper.phase h.phase h.memory h.world)
+        ∙ loads-list h.states (initial_state C) events L 0 (take (suc S.keeper.phase) S.setting.program.phases) (λ q c. refl)
+        ∙ ap (λ (k : ℕ). loads_from 0 (take k S.setting.program.phases) (initial_state C) events) number
 
     task : (j : ℕ) (x : Phase) (d : TaskDecl) → slice_get (take (suc S.keeper.phase) S.setting.program.phases) j ≡ Some x → IsAmong x.tasks d
-        → last_end (0 + j) d.core.0 (opened C) events ≡ Some (task_end S.setting.program S.setting.fuel (stands h.states L (0 + j) d))
+        → last_end (0 + j) d.core.0 (initial_state C) events ≡ Some (task_end S.setting.program S.setting.fuel (stands h.states L (0 + j) d))
     task j x d there among =
         let back = take-back S.setting.program.phases (suc S.keeper.phase) j x there in
         let number : j ≡ 0 + j = omega arith in
         let seen : E j d.core.0 ≡ Some (task_end S.setting.program S.setting.fuel (stands h.states L j d)) =
-        task-seen S M h.states L E h.phase j x d resting (last-run (opened C) (more_ends no_ends (opened C)) events (last-more (opened C) no_ends)) h.ended (omega (arith, back.0)) back.1 among in
-        subst (λ (k : ℕ). last_end k d.core.0 (opened C) events ≡ Some (task_end S.setting.program S.setting.fuel (stands h.states L k d))) number
-        (sym (ends-last (opened C) events j d.core.0) ∙ seen)
+        task-seen S M h.states L E h.phase j x d resting (last-run (initial_state C) (more_ends no_ends (initial_state C)) events (last-more (initial_state C) no_ends)) h.ended (omega (arith, back.0)) back.1 among in
+        subst (λ (k : ℕ). last_end k d.core.0 (initial_state C) events ≡ Some (task_end S.setting.program S.setting.fuel (stands h.states L k d))) number
+        (sym (ends-last (initial_state C) events j d.core.0) ∙ seen)
 
-    tasks : flat_ends S.setting.program S.setting.fuel W ≡ ends_of (opened C) events
+    tasks : flat_ends S.setting.program S.setting.fuel W ≡ ends_of (initial_state C) events
     tasks =
         let number : suc S.keeper.phase ≡ S.keeper.phase + 1 = omega arith in
-        ap (λ (ts : List Started). map (task_end S.setting.program S.setting.fuel) ts) (all-standing S.setting (grants_of (opened C) events) h.states L S.keeper.phase h.phase h.memory h.world)
-        ∙ ends-list S.setting.program S.setting.fuel h.states L (opened C) events 0 (take (suc S.keeper.phase) S.setting.program.phases) task
-        ∙ ap (λ (k : ℕ). ends_from 0 (take k S.setting.program.phases) (opened C) events) number
+        ap (λ (ts : List Started). map (task_end S.setting.program S.setting.fuel) ts) (all-standing S.setting (grants_of (initial_state C) events) h.states L S.keeper.phase h.phase h.memory h.world)
+        ∙ ends-list S.setting.program S.setting.fuel h.states L (initial_state C) events 0 (take (suc S.keeper.phase) S.setting.program.phases) task
+        ∙ ap (λ (k : ℕ). ends_from 0 (take k S.setting.program.phases) (initial_state C) events) number
 
     memory : h.memory ≡ memory_of S
-    memory = ext_get_or 0 h.memory (memory_after C.program.memory (opened C) events) long (λ i within. h.same i ∙ sym (run-memory C events i)) ∙ sym (run-shows C events ready complete.run)
+    memory = ext_get_or 0 h.memory (memory_after C.program.memory (initial_state C) events) long (λ i within. h.same i ∙ sym (run-memory C events i)) ∙ sym (run-shows C events ready complete.run)
       where
-        long : length h.memory ≡ length (memory_after C.program.memory (opened C) events)
-        long = h.world.leads.world.words ∙ ap (λ (x : Setting). length x.program.memory) setting ∙ sym (memory-length (opened C) C.program.memory events)
+        long : length h.memory ≡ length (memory_after C.program.memory (initial_state C) events)
+        long = h.world.leads.world.words ∙ ap (λ (x : Setting). length x.program.memory) setting ∙ sym (memory-length (initial_state C) C.program.memory events)
 
 -- without phases nothing comes
-none-end : (C : Setting) (events : List Event) → IsReady C → C.program.phases ≡ [] → IsCompleteRun (opened C) events → HasFlatEnd C events
+none-end : (C : Setting) (events : List Event) → IsReady C → C.program.phases ≡ [] → IsCompleteRun (initial_state C) events → HasFlatEnd C events
 none-end C events ready none complete =
     record {
-      end' = end_of C.program C.fuel (initial C.program);
-      run = ap (λ (es : List Event). flat_end C.program C.fuel (grants_of (opened C) es)) empty ∙ none-ends C.program C.fuel (ap length none);
-      loads = end-loads C.program C.fuel (initial C.program) ∙ sym (no-begun (opened C) none-too);
-      ending = end-ending C.program C.fuel (initial C.program) ∙ same-ending [] (ends_of (opened C) events) C.program.memory (memory_of (after (opened C) events)) (sym (no-ends (opened C) none-too))
-          (sym (run-shows C events ready complete.run ∙ ap (λ (es : List Event). memory_after C.program.memory (opened C) es) empty));
+      end' = flat_end_of C.program C.fuel (initial C.program);
+      run = ap (λ (es : List Event). flat_end C.program C.fuel (grants_of (initial_state C) es)) empty ∙ none-ends C.program C.fuel (ap length none);
+      loads = end-loads C.program C.fuel (initial C.program) ∙ sym (no-begun (initial_state C) none-too);
+      ending = end-ending C.program C.fuel (initial C.program) ∙ same-ending [] (ends_of (initial_state C) events) C.program.memory (memory_of (after (initial_state C) events)) (sym (no-ends (initial_state C) none-too))
+          (sym (run-shows C events ready complete.run ∙ ap (λ (es : List Event). memory_after C.program.memory (initial_state C) es) empty));
     }
   where
     empty : events ≡ []
     empty = no-phases-run C events (ap length none) complete.run
 
-    none-too : (after (opened C) events).setting.program.phases ≡ []
-    none-too = ap (λ (x : Setting). x.program.phases) (run-setting (opened C) events ∙ opened-setting C) ∙ none
+    none-too : (after (initial_state C) events).setting.program.phases ≡ []
+    none-too = ap (λ (x : Setting). x.program.phases) (run-setting (initial_state C) events ∙ opened-setting C) ∙ none
 
     no-begun : (S : State) → (after S events).setting.program.phases ≡ [] → all_loads S events ≡ []
     no-begun S is = ap (λ (ps : List Phase). loads_from 0 (take ((after S events).keeper.phase + 1) ps) S events) is ∙ no-first ((after S events).keeper.phase + 1)
@@ -230,7 +230,7 @@ none-end C events ready none complete =
         no-first zero = refl
         no-first (suc k) = refl
 
-pub end-agrees : (C : Setting) (events : List Event) → IsReady C → IsCompleteRun (opened C) events → HasFlatEnd C events
+pub end-agrees : (C : Setting) (events : List Event) → IsReady C → IsCompleteRun (initial_state C) events → HasFlatEnd C events
 end-agrees C events ready complete = by_phases C.program.phases refl where
   by_phases : (ps : List Phase) → C.program.phases ≡ ps → HasFlatEnd C events
   by_phases [] is = none-end C events ready is complete

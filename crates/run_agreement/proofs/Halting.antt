@@ -6,11 +6,11 @@ use Rattle.message_net.specs.declared.event.Event.{Event}
 use Rattle.message_net.specs.declared.message.Message.{Message}
 use Rattle.message_net.specs.declared.message.Message.TheVariants.{Arrived, Go, Halt}
 use Rattle.message_net.specs.declared.message.Outgoing.{Outgoing}
-use Rattle.phase_barrier.specs.Barrier.{Barrier, counted, advanced, all_arrived, is_over}
+use Rattle.phase_barrier.specs.Barrier.{Barrier, with_arrival, in_next_phase, all_arrived, is_over}
 use Rattle.registration_protocol.specs.Node.{NodeParts}
 use Rattle.machine_rules.specs.State.{State}
 use Rattle.machine_rules.specs.Next.{next}
-use Rattle.machine_rules.specs.Flight.{bit, arrives, halts}
+use Rattle.machine_rules.specs.Flight.{bit, is_arrival_of, is_halt_to}
 use Rattle.machine_rules.specs.Coherent.{is_alive}
 use Rattle.machine_rules.proofs.Invariant.{Invariant}
 use Rattle.machine_rules.proofs.Leaves.{Leaves, at_core, at_keeper, BarrierStep}
@@ -62,7 +62,7 @@ alive-one o = by_bit (is_alive o) where
 -- who is told to halt is in the keeper's phase
 told-level : (S T : State) (M : ℕ → ℕ) (core : CoreId) (n m : NodeParts) → NodeStep S T core.0 n m (at_core core Halt) None → Invariant S M → n.halted ≡ false → n.phase ≡ S.keeper.phase
 told-level S T M core n m step inv awake =
-    let came = rw (same-number core.0) at (step.flown (halts core.0)) in
+    let came = rw (same-number core.0) at (step.flown (is_halt_to core.0)) in
     omega (arith, came, inv.phases.row core.0, alive-one (slice_get S.nodes core.0), inv.phases.phase core.0 n step.found awake)
 
 pub not-all : (n : ℕ) → 1 ≤ n → list_all (λ (a : Bool). a) (replicate n false) ≡ false
@@ -71,8 +71,8 @@ not-all (suc n) some = refl
 
 -- nobody is halted as the next phase begins
 halting-go : (S T : State) (M : ℕ → ℕ) (core : CoreId) (bad : Bool) → Invariant S M
-    → BarrierStep S T (advanced (counted core.0 bad S.keeper)) (at_keeper (Arrived core bad)) (Some (Go (record { 0 = S.keeper.phase + 1 })))
-    → slice_get S.keeper.arrived core.0 ≡ Some false → all_arrived (counted core.0 bad S.keeper) ≡ true → IsHalting T
+    → BarrierStep S T (in_next_phase (with_arrival core.0 bad S.keeper)) (at_keeper (Arrived core bad)) (Some (Go (record { 0 = S.keeper.phase + 1 })))
+    → slice_get S.keeper.arrived core.0 ≡ Some false → all_arrived (with_arrival core.0 bad S.keeper) ≡ true → IsHalting T
 halting-go S T M core bad inv step new whole =
     record {
       level = λ c n found halted. absurd (awake c n (sym (ap (λ (ns : List NodeParts). slice_get ns c) step.nodes) ∙ found) halted);
@@ -86,19 +86,19 @@ halting-go S T M core bad inv step new whole =
     a = arriving S core.0 bad inv.machine new
 
     w : IsWhole S core.0
-    w = is-whole S core.0 bad inv.machine inv.phases a (in-flight S T (advanced (counted core.0 bad S.keeper)) core bad (Some go) step (none-posted (arrives core.0) go (λ d. refl) S.setting.shape.cores)) whole
+    w = is-whole S core.0 bad inv.machine inv.phases a (in-flight S T (in_next_phase (with_arrival core.0 bad S.keeper)) core bad (Some go) step (none-posted (is_arrival_of core.0) go (λ d. refl) S.setting.shape.cores)) whole
 
     awake : (c : ℕ) (n : NodeParts) → slice_get S.nodes c ≡ Some n → n.halted ≡ true → ⊥
     awake c n found halted =
         let off = alive-awake S c n found (omega (arith, w.alive c, there-within S c n inv.machine found)) in
         absurd (cc)
 
-    long : length (counted core.0 bad S.keeper).arrived ≡ length S.keeper.arrived
+    long : length (with_arrival core.0 bad S.keeper).arrived ≡ length S.keeper.arrived
     long = set-length S.keeper.arrived core.0 true
 
-    never : all_arrived (advanced (counted core.0 bad S.keeper)) ≡ true → ⊥
+    never : all_arrived (in_next_phase (with_arrival core.0 bad S.keeper)) ≡ true → ⊥
     never all =
-        let none = not-all (length (counted core.0 bad S.keeper).arrived) (omega (arith, long, inv.machine.cores, a.within)) in
+        let none = not-all (length (with_arrival core.0 bad S.keeper).arrived) (omega (arith, long, inv.machine.cores, a.within)) in
         absurd (cc)
 
 pub halting-leaves : (S : State) (M : ℕ → ℕ) (e : Event) → Invariant S M → IsHalting S → Leaves S M e (λ M'. IsHalting (next S e))

@@ -14,7 +14,7 @@ use Rattle.flat_machine.specs.Step.{fresh}
 use Rattle.flat_agreement.proofs.CoreByCore.{agreed-opens}
 use Rattle.phase_barrier.specs.Barrier.{Barrier}
 use Rattle.registration_protocol.specs.Node.{NodeParts, Setting}
-use Rattle.machine_rules.specs.State.{opened}
+use Rattle.machine_rules.specs.State.{initial_state}
 use Rattle.machine_rules.proofs.OpenedFacts.{opened-setting, opened-keeper, IsNewNode, opened-node}
 use Rattle.machine_rules.specs.Sound.{IsReady}
 use Rattle.machine_rules.proofs.RunsCoherent.{first_memory}
@@ -36,7 +36,7 @@ new-state : (o : Option TaskDecl) (t : TaskState) → option_map started o ≡ S
 new-state None t is = absurd (none-some t is)
 new-state (Some d) t is = same_Some (started d) t is
 
-first-shown : (C : Setting) → AreShown (opened C) (first_states C.program) no_loads
+first-shown : (C : Setting) → AreShown (initial_state C) (first_states C.program) no_loads
 first-shown C =
     record {
       here = λ c n t found task. here c n t (opened-node C c n found) task;
@@ -50,7 +50,7 @@ first-shown C =
         let first : option_map started (declared C.program 0 c) ≡ Some t = sym (ap (λ (x : NodeParts). x.task) new.is) ∙ task in
         ap (λ (k : ℕ). first_states C.program k c) phase ∙ new-state (declared C.program 0 c) t first
 
-pub opened-agreed : {E : Ends} (C : Setting) (p : Phase) → IsReady C → slice_get C.program.phases 0 ≡ Some p → Agreed (opened C) (first_memory C) [] no_loads E
+pub opened-agreed : {E : Ends} (C : Setting) (p : Phase) → IsReady C → slice_get C.program.phases 0 ≡ Some p → Agreed (initial_state C) (first_memory C) [] no_loads E
 opened-agreed {E} C p ready there =
     record {
       states = first_states C.program;
@@ -59,7 +59,7 @@ opened-agreed {E} C p ready there =
       memory = C.program.memory;
       same = λ w. refl;
       phase = p;
-      world = subst (λ (x : Setting). IsWorldAt x [] (first_states C.program) no_loads (opened C).keeper.phase p C.program.memory) (sym (opened-setting C))
+      world = subst (λ (x : Setting). IsWorldAt x [] (first_states C.program) no_loads (initial_state C).keeper.phase p C.program.memory) (sym (opened-setting C))
           (subst (λ (k : ℕ). IsWorldAt C [] (first_states C.program) no_loads k p C.program.memory) (sym (ap (λ (k : Barrier). k.phase) (opened-keeper C))) now);
     }
   where

@@ -19,11 +19,11 @@ use Rattle.flat_agreement.proofs.Places.{get-cases}
 use Rattle.flat_agreement.proofs.CoreByCore.{agreed-begin}
 use Rattle.message_net.specs.declared.message.Message.{Message}
 use Rattle.message_net.specs.declared.message.Message.TheVariants.{Arrived, Go}
-use Rattle.phase_barrier.specs.Barrier.{Barrier, counted, advanced, all_arrived, is_over}
-use Rattle.registration_protocol.specs.Node.{NodeParts, Setting, goes_on}
-use Rattle.registration_protocol.specs.OwnEvents.{is_bad}
+use Rattle.phase_barrier.specs.Barrier.{Barrier, with_arrival, in_next_phase, all_arrived, is_over}
+use Rattle.registration_protocol.specs.Node.{NodeParts, Setting, is_running}
+use Rattle.registration_protocol.specs.OwnEvents.{task_ended_badly}
 use Rattle.machine_rules.specs.State.{State}
-use Rattle.machine_rules.specs.Flight.{bit, arrives}
+use Rattle.machine_rules.specs.Flight.{bit, is_arrival_of}
 use Rattle.machine_rules.specs.Coherent.{is_alive}
 use Rattle.machine_rules.proofs.Invariant.{Invariant, bad_in, is_lie}
 use Rattle.machine_rules.proofs.Leaves.{BarrierStep, at_keeper}
@@ -42,13 +42,13 @@ or-false true y e = absurd (cc)
 or-false false y e = (refl, e)
 
 -- a task that is over and not bad has finished
-over-finished : (t : TaskState) → goes_on (Some t) ≡ false → is_bad (Some t) ≡ false → finished_by t.end ≡ true
+over-finished : (t : TaskState) → is_running (Some t) ≡ false → task_ended_badly (Some t) ≡ false → finished_by t.end ≡ true
 over-finished t over fine = by_end t.end refl where
   by_end : (o : Option End) → t.end ≡ o → finished_by t.end ≡ true
-  by_end None is = let on : goes_on (Some t) ≡ true = rw (is) refl in absurd (cc)
+  by_end None is = let on : is_running (Some t) ≡ true = rw (is) refl in absurd (cc)
   by_end (Some Finished) is = rw (is) refl
-  by_end (Some Fuel) is = let bad : is_bad (Some t) ≡ true = rw (is) refl in absurd (cc)
-  by_end (Some (Trap kind pc value)) is = let bad : is_bad (Some t) ≡ true = rw (is) refl in absurd (cc)
+  by_end (Some Fuel) is = let bad : task_ended_badly (Some t) ≡ true = rw (is) refl in absurd (cc)
+  by_end (Some (Trap kind pc value)) is = let bad : task_ended_badly (Some t) ≡ true = rw (is) refl in absurd (cc)
 
 pub alive-awake : (S : State) (c : ℕ) (n : NodeParts) → slice_get S.nodes c ≡ Some n → 1 ≤ bit (is_alive (slice_get S.nodes c)) → n.halted ≡ false
 alive-awake S c n found some = by_flags n.arrived n.halted refl refl where
@@ -60,12 +60,12 @@ alive-awake S c n found some = by_flags n.arrived n.halted refl refl where
 -- each node is in the phase, its task is over, and it isn't bad
 pub record IsDone (S : State) (n : NodeParts) : Type 0 where
   pub phase : n.phase ≡ S.keeper.phase
-  pub over : goes_on n.task ≡ false
-  pub fine : is_bad n.task ≡ false
+  pub over : is_running n.task ≡ false
+  pub fine : task_ended_badly n.task ≡ false
 
 pub all-done : (S T : State) (M : ℕ → ℕ) (core : CoreId) (bad : Bool) → Invariant S M
-    → BarrierStep S T (advanced (counted core.0 bad S.keeper)) (at_keeper (Arrived core bad)) (Some (Go (record { 0 = S.keeper.phase + 1 })))
-    → slice_get S.keeper.arrived core.0 ≡ Some false → all_arrived (counted core.0 bad S.keeper) ≡ true → is_over (counted core.0 bad S.keeper) ≡ false
+    → BarrierStep S T (in_next_phase (with_arrival core.0 bad S.keeper)) (at_keeper (Arrived core bad)) (Some (Go (record { 0 = S.keeper.phase + 1 })))
+    → slice_get S.keeper.arrived core.0 ≡ Some false → all_arrived (with_arrival core.0 bad S.keeper) ≡ true → is_over (with_arrival core.0 bad S.keeper) ≡ false
     → (c : ℕ) (n : NodeParts) → slice_get S.nodes c ≡ Some n → IsDone S n
 all-done S T M core bad inv step new whole on c n found =
     record {
@@ -81,10 +81,10 @@ all-done S T M core bad inv step new whole on c n found =
     a = arriving S core.0 bad inv.machine new
 
     all : IsWhole S core.0
-    all = is-whole S core.0 bad inv.machine inv.phases a (in-flight S T (advanced (counted core.0 bad S.keeper)) core bad (Some go) step (none-posted (arrives core.0) go (λ d. refl) S.setting.shape.cores)) whole
+    all = is-whole S core.0 bad inv.machine inv.phases a (in-flight S T (in_next_phase (with_arrival core.0 bad S.keeper)) core bad (Some go) step (none-posted (is_arrival_of core.0) go (λ d. refl) S.setting.shape.cores)) whole
 
     says : bad ≡ bad_in (slice_get S.nodes core.0)
-    says = said S T (advanced (counted core.0 bad S.keeper)) core bad (Some go) step inv.phases (none-posted (is_lie S.nodes) go (λ d. refl) S.setting.shape.cores)
+    says = said S T (in_next_phase (with_arrival core.0 bad S.keeper)) core bad (Some go) step inv.phases (none-posted (is_lie S.nodes) go (λ d. refl) S.setting.shape.cores)
 
     alive : 1 ≤ bit (is_alive (slice_get S.nodes c))
     alive = omega (arith, all.alive c, there-within S c n inv.machine found)
@@ -95,7 +95,7 @@ all-done S T M core bad inv step new whole on c n found =
     good : (S.keeper.bad ≡ false) × (bad ≡ false)
     good = or-false S.keeper.bad bad parts.0
 
-    fine-at : (x : Bool) → (core.0 == c) ≡ x → is_bad n.task ≡ false
+    fine-at : (x : Bool) → (core.0 == c) ≡ x → task_ended_badly n.task ≡ false
     fine-at true e =
         let here = subst (λ (x : ℕ). bad ≡ bad_in (slice_get S.nodes x)) (eqb-true core.0 c e) says in
         sym (ap bad_in found) ∙ sym here ∙ good.1
@@ -103,7 +103,7 @@ all-done S T M core bad inv step new whole on c n found =
         let mark = all.marked c e (grind (arith, nat_tests, there-within S c n inv.machine found)) in
         rw (mark) at (sym (counts-is S c n found) ∙ inv.phases.good good.0 c)
 
-later-phase : (S T : State) (M : ℕ → ℕ) (core : CoreId) (bad : Bool) → Invariant S M → is_over (counted core.0 bad S.keeper) ≡ false → S.keeper.phase + 1 < length S.setting.program.phases
+later-phase : (S T : State) (M : ℕ → ℕ) (core : CoreId) (bad : Bool) → Invariant S M → is_over (with_arrival core.0 bad S.keeper) ≡ false → S.keeper.phase + 1 < length S.setting.program.phases
 later-phase S T M core bad inv on =
     let parts = or-false (S.keeper.bad || bad) (nat_le S.keeper.phases (S.keeper.phase + 1)) on in
     grind (arith, nat_tests, parts.1, inv.machine.phases)
@@ -120,8 +120,8 @@ next-fresh S M K L phase q d inv shown there later among =
     rw (shown.ahead d.core.0 phase node.0 d node.1 before declares, shown.unread d.core.0 phase node.0 node.1 before) refl
 
 pub begins-agreed : {E : Ends} (S T : State) (M : ℕ → ℕ) (gs : List Grant) (L : Loads) (core : CoreId) (bad : Bool) → Invariant S M → Agreed S M gs L E
-    → BarrierStep S T (advanced (counted core.0 bad S.keeper)) (at_keeper (Arrived core bad)) (Some (Go (record { 0 = S.keeper.phase + 1 })))
-    → slice_get S.keeper.arrived core.0 ≡ Some false → all_arrived (counted core.0 bad S.keeper) ≡ true → is_over (counted core.0 bad S.keeper) ≡ false → Agreed T M gs L E
+    → BarrierStep S T (in_next_phase (with_arrival core.0 bad S.keeper)) (at_keeper (Arrived core bad)) (Some (Go (record { 0 = S.keeper.phase + 1 })))
+    → slice_get S.keeper.arrived core.0 ≡ Some false → all_arrived (with_arrival core.0 bad S.keeper) ≡ true → is_over (with_arrival core.0 bad S.keeper) ≡ false → Agreed T M gs L E
 begins-agreed {E} S T M gs L core bad inv h step new whole on =
     record {
       states = K;
@@ -155,8 +155,8 @@ begins-agreed {E} S T M gs L core bad inv h step new whole on =
     finished d among = by_node (node-there S M k h.phase d inv h.world.there among) where
       by_ways : (n : NodeParts) → IsDone S n → HasIt S K d n ⊎ ((n.phase < k) × (K k d.core.0 ≡ started d)) → has_finished (stands K L k d) ≡ true
       by_ways n done (inl it) =
-          let over : goes_on (Some it.task) ≡ false = sym (ap goes_on it.has) ∙ done.over in
-          let fine : is_bad (Some it.task) ≡ false = sym (ap is_bad it.has) ∙ done.fine in
+          let over : is_running (Some it.task) ≡ false = sym (ap is_running it.has) ∙ done.over in
+          let fine : task_ended_badly (Some it.task) ≡ false = sym (ap task_ended_badly it.has) ∙ done.fine in
           ap (λ (t : TaskState). finished_by t.end) it.is ∙ over-finished it.task over fine
       by_ways n done (inr before) = absurd (omega (arith, before.0, done.phase))
 

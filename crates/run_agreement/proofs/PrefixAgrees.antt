@@ -6,7 +6,7 @@ use Rattle.dn_base.specs.declared.ids.Grant.{Grant}
 use Rattle.region_table.specs.declared.declared.TaskDecl.{TaskDecl}
 use Rattle.region_table.specs.declared.declared.Phase.{Phase}
 use Rattle.flat_machine.specs.Step.{Started}
-use Rattle.flat_machine.specs.Phases.{Flat, all_tasks, settled, opened as opened_flat}
+use Rattle.flat_machine.specs.Phases.{Flat, all_tasks, settled, initial_flat as opened_flat}
 use Rattle.flat_machine.specs.Grants.{so_far}
 use Rattle.flat_machine.specs.Laws.{StandsLater}
 use Rattle.flat_agreement.specs.Cores.{world_of}
@@ -14,7 +14,7 @@ use Rattle.flat_agreement.proofs.Agreeing.{run-later}
 use Rattle.flat_agreement.proofs.Places.{front-place, place-map}
 use Rattle.message_net.specs.declared.event.Event.{Event}
 use Rattle.registration_protocol.specs.Node.{Setting}
-use Rattle.machine_rules.specs.State.{opened}
+use Rattle.machine_rules.specs.State.{initial_state}
 use Rattle.machine_rules.specs.Runs.{after, IsRun, grants_of}
 use Rattle.machine_rules.proofs.OpenedFacts.{opened-setting}
 use Rattle.machine_rules.proofs.OpenedSound.{opened-sound}
@@ -23,7 +23,7 @@ use Rattle.machine_rules.proofs.RunsKept.{memory_over, run-setting}
 use Rattle.machine_rules.specs.Sound.{IsReady}
 use Rattle.machine_rules.proofs.RunsCoherent.{first_memory}
 use Rattle.run_agreement.specs.Agreed.{States, Loads, stands, tasks_from, IsWorldAt, Agreed, more_ends}
-use Rattle.run_agreement.specs.Fronts.{BeginsWith, IsFrontOf}
+use Rattle.run_agreement.specs.Fronts.{HasStartedWith, IsFrontOf}
 use Rattle.run_agreement.proofs.Standing.{tasks-next}
 use Rattle.run_agreement.proofs.Quiet.{last-more}
 use Rattle.machine_rules.proofs.NoPhases.{no-phases-run}
@@ -71,7 +71,7 @@ among-place : {X : Type 0} (xs : List X) (i : ℕ) (x : X) → slice_get xs i �
 among-place xs i x there = (i, (slice_get_within xs i x there, sym (get_or_from_slice_get xs i x x there)))
 
 world-begins : (C : Setting) (gs : List Grant) (K : States) (L : Loads) (k : ℕ) (p : Phase) (m : List ℕ) (F : Flat) → IsWorldAt C gs K L k p m → so_far C.program C.fuel gs ≡ Some F
-    → (q : ℕ) (x : Phase) (d : TaskDecl) → q ≤ k → slice_get C.program.phases q ≡ Some x → IsAmong x.tasks d → BeginsWith F q d (L q d.core.0)
+    → (q : ℕ) (x : Phase) (d : TaskDecl) → q ≤ k → slice_get C.program.phases q ≡ Some x → IsAmong x.tasks d → HasStartedWith F q d (L q d.core.0)
 world-begins C gs K L k p m F h run q x d before there among =
     let W : Flat = world_of k (tasks_from K L 0 (take k C.program.phases)) p (stands K L k) m in
     let at' : slice_get x.tasks among.0 ≡ Some d = slice_get-get_or x.tasks among.0 d among.1.0 ∙ ap Some (sym among.1.1) in
@@ -90,42 +90,42 @@ world-begins C gs K L k p m F h run q x d before there among =
     }
 
 -- the state after a run agrees
-pub run-agreed : (C : Setting) (p : Phase) (events : List Event) → IsReady C → slice_get C.program.phases 0 ≡ Some p → IsRun (opened C) events
-    → Agreed (after (opened C) events) (memory_over (first_memory C) (opened C) events) (grants_of (opened C) events) (loads_over no_loads (opened C) events)
-    (ends_over (more_ends no_ends (opened C)) (opened C) events)
+pub run-agreed : (C : Setting) (p : Phase) (events : List Event) → IsReady C → slice_get C.program.phases 0 ≡ Some p → IsRun (initial_state C) events
+    → Agreed (after (initial_state C) events) (memory_over (first_memory C) (initial_state C) events) (grants_of (initial_state C) events) (loads_over no_loads (initial_state C) events)
+    (ends_over (more_ends no_ends (initial_state C)) (initial_state C) events)
 run-agreed C p events ready there run =
-    agreed-run (opened C) (first_memory C) 0 [] no_loads (more_ends no_ends (opened C)) events (opened-sound C ready.context ready.program ready.checked) (opened-invariant C ready.context ready.program ready.checked)
-    (last-more (opened C) no_ends) (opened-agreed C p ready there) run
+    agreed-run (initial_state C) (first_memory C) 0 [] no_loads (more_ends no_ends (initial_state C)) events (opened-sound C ready.context ready.program ready.checked) (opened-invariant C ready.context ready.program ready.checked)
+    (last-more (initial_state C) no_ends) (opened-agreed C p ready there) run
 
-pub run-world : (C : Setting) (p : Phase) (events : List Event) → IsReady C → slice_get C.program.phases 0 ≡ Some p → IsRun (opened C) events
-    → (K : States) × (q : Phase) × (m : List ℕ) × IsWorldAt C (grants_of (opened C) events) K (loads_over no_loads (opened C) events) (after (opened C) events).keeper.phase q m
+pub run-world : (C : Setting) (p : Phase) (events : List Event) → IsReady C → slice_get C.program.phases 0 ≡ Some p → IsRun (initial_state C) events
+    → (K : States) × (q : Phase) × (m : List ℕ) × IsWorldAt C (grants_of (initial_state C) events) K (loads_over no_loads (initial_state C) events) (after (initial_state C) events).keeper.phase q m
 run-world C p events ready there run =
     let h = run-agreed C p events ready there run in (
       h.states,
       h.phase,
       h.memory,
-      subst (λ (x : Setting). IsWorldAt x (grants_of (opened C) events) h.states (loads_over no_loads (opened C) events) (after (opened C) events).keeper.phase h.phase h.memory)
-          (run-setting (opened C) events ∙ opened-setting C) h.world,
+      subst (λ (x : Setting). IsWorldAt x (grants_of (initial_state C) events) h.states (loads_over no_loads (initial_state C) events) (after (initial_state C) events).keeper.phase h.phase h.memory)
+          (run-setting (initial_state C) events ∙ opened-setting C) h.world,
     )
 
-pub prefix-agrees : (C : Setting) (events : List Event) → IsReady C → IsRun (opened C) events → (F : Flat) × IsFrontOf C events F
+pub prefix-agrees : (C : Setting) (events : List Event) → IsReady C → IsRun (initial_state C) events → (F : Flat) × IsFrontOf C events F
 prefix-agrees C events ready run = by_phases C.program.phases refl where
   by_phases : (ps : List Phase) → C.program.phases ≡ ps → (F : Flat) × IsFrontOf C events F
   by_phases [] is =
       let none : events ≡ [] = no-phases-run C events (ap length is) run in (
         opened_flat C.program C.fuel,
         record {
-          leads = ap (λ (es : List Event). so_far C.program C.fuel (grants_of (opened C) es)) none;
+          leads = ap (λ (es : List Event). so_far C.program C.fuel (grants_of (initial_state C) es)) none;
           fronts = λ q x d before there among. absurd (none-some x (ap (λ (ps : List Phase). slice_get ps q) (sym is) ∙ there));
         },
       )
   by_phases (p ∷ ps) is =
-      let gs : List Grant = grants_of (opened C) events in
+      let gs : List Grant = grants_of (initial_state C) events in
       let w = run-world C p events ready (ap (λ (xs : List Phase). slice_get xs 0) is) run in
       let F : Flat = settled C.program C.fuel w.3.leads.flat in (
         F,
         record {
           leads = w.3.leads.run;
-          fronts = λ q x d before there among. world-begins C gs w.0 (loads_over no_loads (opened C) events) (after (opened C) events).keeper.phase w.1 w.2 F w.3 w.3.leads.run q x d before there among;
+          fronts = λ q x d before there among. world-begins C gs w.0 (loads_over no_loads (initial_state C) events) (after (initial_state C) events).keeper.phase w.1 w.2 F w.3 w.3.leads.run q x d before there among;
         },
       )

@@ -14,13 +14,13 @@ use Rattle.rv_core.specs.Ending.{shown_end}
 use Rattle.rv_core.specs.Task.{started}
 use Rattle.message_net.specs.declared.message.Outgoing.{Outgoing}
 use Rattle.phase_barrier.specs.Barrier.{Barrier}
-use Rattle.registration_protocol.specs.Node.{NodeParts, goes_on}
+use Rattle.registration_protocol.specs.Node.{NodeParts, is_running}
 use Rattle.registration_protocol.specs.OwnEvents.{end_of, end_by, shown_by}
 use Rattle.registration_protocol.specs.Messages.{begins}
 use Rattle.machine_rules.specs.State.{State}
 use Rattle.machine_rules.proofs.Invariant.{Invariant}
 use Rattle.machine_rules.proofs.Steps.{NodeStep}
-use Rattle.run_agreement.specs.Agreed.{Loads, Ends, stands, AreShown, HasEnded, AreEnded, Agreed, more_ends}
+use Rattle.run_agreement.specs.Agreed.{Loads, Ends, stands, AreShown, TaskHasEnded, AreEnded, Agreed, more_ends}
 use Rattle.run_agreement.proofs.Standing.{SameAt, stands-same}
 use Rattle.run_agreement.proofs.Shown.{shown-still, shown-step, shown-go, ended-still, ended-step, ended-go}
 use Rattle.run_agreement.proofs.Acting.{past-same, world-same, world-moves}
@@ -56,15 +56,15 @@ quiet-agreed {E} S T M gs L core n m left sent step phase task h =
 abbrev pub IsLast : State → Ends → Type 0
 IsLast S E = (c : ℕ) (n : NodeParts) (x : TaskEnd) → slice_get S.nodes c ≡ Some n → end_of n n.task ≡ Some x → E n.phase c ≡ Some x
 
-over-ended : (t : TaskState) → goes_on (Some t) ≡ false → (by : End) × (t.end ≡ Some by)
+over-ended : (t : TaskState) → is_running (Some t) ≡ false → (by : End) × (t.end ≡ Some by)
 over-ended t off = by_end t.end refl where
   by_end : (o : Option End) → t.end ≡ o → (by : End) × (t.end ≡ Some by)
-  by_end None is = let on : goes_on (Some t) ≡ true = rw (is) refl in absurd (cc)
+  by_end None is = let on : is_running (Some t) ≡ true = rw (is) refl in absurd (cc)
   by_end (Some by) is = (by, is)
 
 -- the end of a node's task is seen
 pub seen-ended : (S : State) (M : ℕ → ℕ) (E : Ends) (c : ℕ) (n : NodeParts) (d : TaskDecl) (t : TaskState) (by : End) → Invariant S M → IsLast S E → slice_get S.nodes c ≡ Some n → n.task ≡ Some t
-    → declared S.setting.program n.phase c ≡ Some d → t.end ≡ Some by → HasEnded n.phase d t (E n.phase c)
+    → declared S.setting.program n.phase c ≡ Some d → t.end ≡ Some by → TaskHasEnded n.phase d t (E n.phase c)
 seen-ended S M E c n d t by inv last found task declares over =
     let tells : IsDeclaration S.setting.program n.phase c d = declared-tells S.setting.program n.phase c d declares in
     let place : n.core ≡ d.core.0 = (inv.machine.node c n found).core ∙ sym tells.own in
@@ -87,12 +87,12 @@ go-agreed {E} S T M gs L core n phase left sent inv step later there last h =
     (λ q c. refl) h.shown)
     (ended-go S T h.states E core n (begins S.setting n phase) left sent step later own h.ended)
   where
-    own : (d : TaskDecl) → declared S.setting.program n.phase core ≡ Some d → HasEnded n.phase d (h.states n.phase core) (E n.phase core)
+    own : (d : TaskDecl) → declared S.setting.program n.phase core ≡ Some d → TaskHasEnded n.phase d (h.states n.phase core) (E n.phase core)
     own d declares =
         let task = task-there S M core n d inv step.found declares in
-        let over : goes_on (Some task.0) ≡ false = sym (ap goes_on task.1) ∙ (inv.phases.arrived core n step.found there).over in
+        let over : is_running (Some task.0) ≡ false = sym (ap is_running task.1) ∙ (inv.phases.arrived core n step.found there).over in
         let by = over-ended task.0 over in
-        subst (λ (t : TaskState). HasEnded n.phase d t (E n.phase core)) (sym (h.shown.here core n task.0 step.found task.1)) (seen-ended S M E core n d task.0 by.0 inv last step.found task.1 declares by.1)
+        subst (λ (t : TaskState). TaskHasEnded n.phase d t (E n.phase core)) (sym (h.shown.here core n task.0 step.found task.1)) (seen-ended S M E core n d task.0 by.0 inv last step.found task.1 declares by.1)
 
 -- the same loads, and the same grants
 pub loads-same : {E : Ends} (S : State) (M : ℕ → ℕ) (gs gs' : List Grant) (L L' : Loads) → gs' ≡ gs → ((q c : ℕ) → L' q c ≡ L q c) → Agreed S M gs L E → Agreed S M gs' L' E
@@ -124,7 +124,7 @@ ends-more S M gs L E h = record { states = h.states; shown = h.shown; ended = en
     by_test false e = rw (found, e) refl
 
   ended : AreEnded S h.states (more_ends E S)
-  ended c q n d found before is = subst (λ (o : Option TaskEnd). HasEnded q d (h.states q c) o) (sym (past c q n found before)) (h.ended c q n d found before is)
+  ended c q n d found before is = subst (λ (o : Option TaskEnd). TaskHasEnded q d (h.states q c) o) (sym (past c q n found before)) (h.ended c q n d found before is)
 
 pub last-more : (S : State) (E : Ends) → IsLast S (more_ends E S)
 last-more S E c n x found is = by_test (n.phase == n.phase) refl where

@@ -15,7 +15,7 @@ use Rattle.rv_core.specs.declared.task.End.TheVariants.{Finished, Fuel, Trap}
 use Rattle.rv_core.specs.declared.need.Need as need
 use Rattle.rv_core.specs.declared.need.Need.{Need}
 use Rattle.rv_core.specs.Need.{need_of}
-use Rattle.rv_core.specs.Access.{holds}
+use Rattle.rv_core.specs.Access.{is_held}
 use Rattle.rv_core.specs.Task.{started}
 use Rattle.flat_machine.specs.Step.{Started, wish, wish_unless}
 use Rattle.flat_machine.specs.Phases.{has_finished, finished_by, next_phase}
@@ -24,12 +24,12 @@ use Rattle.flat_machine.proofs.Rights.{both-ways}
 use Rattle.flat_agreement.specs.Cores.{world_of, IsHeldAmong, IsStoppedAmong}
 use Rattle.flat_agreement.proofs.CoreByCore.{last-phase, unfinished-phase}
 use Rattle.phase_barrier.specs.Barrier.{all_arrived, is_over}
-use Rattle.registration_protocol.specs.Node.{NodeParts, goes_on, need_now}
+use Rattle.registration_protocol.specs.Node.{NodeParts, is_running, need_now}
 use Rattle.registration_protocol.specs.declared.node.NodeWait as wait
-use Rattle.registration_protocol.specs.OwnEvents.{is_bad}
+use Rattle.registration_protocol.specs.OwnEvents.{task_ended_badly}
 use Rattle.registration_protocol.proofs.InstrLemmas.{HasNext, has-next}
 use Rattle.machine_rules.specs.State.{State}
-use Rattle.machine_rules.specs.Flight.{goes}
+use Rattle.machine_rules.specs.Flight.{is_go_to}
 use Rattle.machine_rules.specs.Runs.{IsOver}
 use Rattle.machine_rules.specs.Sound.{IsNodeAt}
 use Rattle.machine_rules.specs.Rest.{HasOpenTask, IsLockedOut, IsAtRest}
@@ -55,7 +55,7 @@ rests-in : (S : State) (M : ℕ → ℕ) (K : States) (L : Loads) (p : Phase) (d
 rests-in S M K L p d n h among found = by_ways (stands-or S M K L p d n h.inv h.shown h.there among found) where
   by_halted : n.phase < S.keeper.phase → (x : Bool) → n.halted ≡ x → ⊥
   by_halted before true is = omega (arith, before, h.halting.level d.core.0 n found is)
-  by_halted before false is = omega (arith, before, h.inv.phases.phase d.core.0 n found is, over-quiet S h.over (goes d.core.0))
+  by_halted before false is = omega (arith, before, h.inv.phases.phase d.core.0 n found is, over-quiet S h.over (is_go_to d.core.0))
 
   by_ways : HasIt S K d n ⊎ ((n.phase < S.keeper.phase) × (K S.keeper.phase d.core.0 ≡ started d)) → HasIt S K d n
   by_ways (inl it) = it
@@ -71,7 +71,7 @@ holder-among S M K L p c lock h has = by_node (slice_get S.nodes c) refl where
       let none : is_some n.task ≡ false = fits.fits.task ∙ ap (λ (x : ℕ). is_some (declared S.setting.program n.phase x)) fits.core ∙ ap is_some is in
       absurd (cc)
   with_decl n found t task (Some e) is = by_halted n.halted refl where
-    held : holds t.held lock ≡ true
+    held : is_held t.held lock ≡ true
     held = sym (ap (holds_lock lock) found ∙ rw (task) refl) ∙ has
 
     in_phase : n.phase ≡ S.keeper.phase → IsHeldAmong p (stands K L S.keeper.phase) lock
@@ -83,20 +83,20 @@ holder-among S M K L p c lock h has = by_node (slice_get S.nodes c) refl where
         record {
           by = e;
           among = subst (λ (x : Phase). IsAmong x.tasks e) one tells.among;
-          holds = ap (λ (x : ℕ). holds (K S.keeper.phase x).held lock) tells.own ∙ ap (λ (x : TaskState). holds x.held lock) state ∙ held;
+          holds = ap (λ (x : ℕ). is_held (K S.keeper.phase x).held lock) tells.own ∙ ap (λ (x : TaskState). is_held x.held lock) state ∙ held;
         }
 
     by_halted : (x : Bool) → n.halted ≡ x → IsHeldAmong p (stands K L S.keeper.phase) lock
     by_halted true off = in_phase (h.halting.level c n found off)
-    by_halted false off = in_phase (omega (arith, h.inv.phases.phase c n found off, over-quiet S h.over (goes c)))
+    by_halted false off = in_phase (omega (arith, h.inv.phases.phase c n found off, over-quiet S h.over (is_go_to c)))
 
   by_task : (n : NodeParts) → slice_get S.nodes c ≡ Some n → (o : Option TaskState) → n.task ≡ o → IsHeldAmong p (stands K L S.keeper.phase) lock
   by_task n found None task =
-      let none : has_lock S c lock ≡ holds 0 lock = ap (holds_lock lock) found ∙ rw (task) refl in
+      let none : has_lock S c lock ≡ is_held 0 lock = ap (holds_lock lock) found ∙ rw (task) refl in
       absurd (held-none (sym none ∙ has))
     where
-      held-none : holds 0 lock ≡ true → ⊥
-      held-none some = both-ways (holds 0 lock) (holds-none lock) some
+      held-none : is_held 0 lock ≡ true → ⊥
+      held-none some = both-ways (is_held 0 lock) (holds-none lock) some
   by_task n found (Some t) task = with_decl n found t task (declared S.setting.program n.phase c) refl
 
   by_node : (o : Option NodeParts) → slice_get S.nodes c ≡ o → IsHeldAmong p (stands K L S.keeper.phase) lock
@@ -138,7 +138,7 @@ task-stops S M K L p d h among = by_node (node-there S M S.keeper.phase p d h.in
   by_rest : (n : NodeParts) → slice_get S.nodes d.core.0 ≡ Some n → (it : HasIt S K d n) → it.task.end ≡ None → IsAtRest S → Stops
   by_rest n found it open' (inl all) =
       let over = (h.inv.phases.asleep d.core.0 n found (all d.core.0 n found)).over in
-      let on : goes_on n.task ≡ true = rw (it.has, open') refl in
+      let on : is_running n.task ≡ true = rw (it.has, open') refl in
       absurd (cc)
   by_rest n found it open' (inr stuck) =
       waits n found it open' (stuck.each d.core.0 (record { node = n; found = found; phase = it.phase; goes = rw (it.has, open') refl }))
@@ -172,17 +172,17 @@ core-task S M K L p c n t h found task fails same = by_decl (declared S.setting.
         ap (λ (x : ℕ). finished_by (K S.keeper.phase x).end) tells.own ∙ ap (λ (x : TaskState). finished_by x.end) state ∙ fails,
       )
 
-open-fails : (t : TaskState) → goes_on (Some t) ≡ true → finished_by t.end ≡ false
+open-fails : (t : TaskState) → is_running (Some t) ≡ true → finished_by t.end ≡ false
 open-fails t on = by_end t.end refl where
   by_end : (o : Option End) → t.end ≡ o → finished_by t.end ≡ false
   by_end None is = rw (is) refl
-  by_end (Some by) is = let off : goes_on (Some t) ≡ false = rw (is) refl in absurd (cc)
+  by_end (Some by) is = let off : is_running (Some t) ≡ false = rw (is) refl in absurd (cc)
 
-bad-fails : (t : TaskState) → is_bad (Some t) ≡ true → finished_by t.end ≡ false
+bad-fails : (t : TaskState) → task_ended_badly (Some t) ≡ true → finished_by t.end ≡ false
 bad-fails t bad = by_end t.end refl where
   by_end : (o : Option End) → t.end ≡ o → finished_by t.end ≡ false
   by_end None is = rw (is) refl
-  by_end (Some Finished) is = let fine : is_bad (Some t) ≡ false = rw (is) refl in absurd (cc)
+  by_end (Some Finished) is = let fine : task_ended_badly (Some t) ≡ false = rw (is) refl in absurd (cc)
   by_end (Some Fuel) is = rw (is) refl
   by_end (Some (Trap kind pc value)) is = rw (is) refl
 
@@ -193,9 +193,9 @@ no-next S M K L p past m h (inr (c, open')) = by_task open'.node.task refl where
   None-next = next_phase S.setting.program (world_of S.keeper.phase past p (stands K L S.keeper.phase) m) ≡ None
 
   by_task : (o : Option TaskState) → open'.node.task ≡ o → None-next
-  by_task None is = let off : goes_on open'.node.task ≡ false = ap goes_on is in let on = open'.goes in absurd (cc)
+  by_task None is = let off : is_running open'.node.task ≡ false = ap is_running is in let on = open'.goes in absurd (cc)
   by_task (Some t) is =
-      let u = core-task S M K L p c open'.node t h open'.found is (open-fails t (sym (ap goes_on is) ∙ open'.goes)) open'.phase in
+      let u = core-task S M K L p c open'.node t h open'.found is (open-fails t (sym (ap is_running is) ∙ open'.goes)) open'.phase in
       unfinished-phase S.setting.program S.keeper.phase past p (stands K L S.keeper.phase) m u.0 u.1 u.2
 no-next S M K L p past m h (inl all) = by_bad S.keeper.bad refl (h.halting.over all) where
   None-next : Type 0
@@ -216,17 +216,17 @@ no-next S M K L p past m h (inl all) = by_bad S.keeper.bad refl (h.halting.over 
     bad-node true y e = e
     bad-node false y e = absurd (cc)
 
-    bad_is : is_bad n.task ≡ true
-    bad_is = bad-node (marked S c) (is_bad n.task) (sym (counts-is S c n is) ∙ bad)
+    bad_is : task_ended_badly n.task ≡ true
+    bad_is = bad-node (marked S c) (task_ended_badly n.task) (sym (counts-is S c n is) ∙ bad)
 
     level : (x : Bool) → n.halted ≡ x → n.phase ≡ S.keeper.phase
     level true off = h.halting.level c n is off
-    level false off = omega (arith, h.inv.phases.phase c n is off, over-quiet S h.over (goes c))
+    level false off = omega (arith, h.inv.phases.phase c n is off, over-quiet S h.over (is_go_to c))
 
     by_task : (o : Option TaskState) → n.task ≡ o → None-next
-    by_task None has = let fine : is_bad n.task ≡ false = ap is_bad has in let bad_too = bad_is in absurd (cc)
+    by_task None has = let fine : task_ended_badly n.task ≡ false = ap task_ended_badly has in let bad_too = bad_is in absurd (cc)
     by_task (Some t) has =
-        let u = core-task S M K L p c n t h is has (bad-fails t (sym (ap is_bad has) ∙ bad_is)) (level n.halted refl) in
+        let u = core-task S M K L p c n t h is has (bad-fails t (sym (ap task_ended_badly has) ∙ bad_is)) (level n.halted refl) in
         unfinished-phase S.setting.program S.keeper.phase past p (stands K L S.keeper.phase) m u.0 u.1 u.2
 
   by_bad : (x : Bool) → S.keeper.bad ≡ x → is_over S.keeper ≡ true → None-next

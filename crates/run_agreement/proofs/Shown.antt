@@ -11,7 +11,7 @@ use Rattle.message_net.specs.declared.message.Outgoing.{Outgoing}
 use Rattle.registration_protocol.specs.Node.{NodeParts, Setting}
 use Rattle.machine_rules.specs.State.{State}
 use Rattle.machine_rules.proofs.Steps.{NodeStep}
-use Rattle.run_agreement.specs.Agreed.{States, Loads, Ends, AreShown, HasEnded, AreEnded}
+use Rattle.run_agreement.specs.Agreed.{States, Loads, Ends, AreShown, TaskHasEnded, AreEnded}
 use Rattle.run_agreement.proofs.Standing.{SameAt}
 
 -- the nodes of the state after a core's event
@@ -120,29 +120,29 @@ ended-step S T K K' E core n m left sent step phase others h c q x d found befor
   declares : declared S.setting.program q c ≡ Some d
   declares = subst (λ (C : Setting). declared C.program q c ≡ Some d) step.setting is
 
-  by_ways : ((core ≡ c) × (m ≡ x)) ⊎ ((c ≡ core → ⊥) × (slice_get S.nodes c ≡ Some x)) → HasEnded q d (K' q c) (E q c)
+  by_ways : ((core ≡ c) × (m ≡ x)) ⊎ ((c ≡ core → ⊥) × (slice_get S.nodes c ≡ Some x)) → TaskHasEnded q d (K' q c) (E q c)
   by_ways (inl (at', same)) =
       let earlier : q < n.phase = subst (λ (y : ℕ). q < y) (sym (ap (λ (y : NodeParts). y.phase) same) ∙ phase) before in
       let there : slice_get S.nodes c ≡ Some n = subst (λ (y : ℕ). slice_get S.nodes y ≡ Some n) at' step.found in
-      subst (λ (t : TaskState). HasEnded q d t (E q c)) (sym (others q c (λ e f. omega (arith, e, earlier)))) (h c q n d there earlier declares)
-  by_ways (inr (apart, there)) = subst (λ (t : TaskState). HasEnded q d t (E q c)) (sym (others q c (λ e f. apart f))) (h c q x d there before declares)
+      subst (λ (t : TaskState). TaskHasEnded q d t (E q c)) (sym (others q c (λ e f. omega (arith, e, earlier)))) (h c q n d there earlier declares)
+  by_ways (inr (apart, there)) = subst (λ (t : TaskState). TaskHasEnded q d t (E q c)) (sym (others q c (λ e f. apart f))) (h c q x d there before declares)
 
 -- a node enters the next phase, and its task was over
 pub ended-go : (S T : State) (K : States) (E : Ends) (core : ℕ) (n m : NodeParts) (left sent : Option Outgoing) → NodeStep S T core n m left sent → m.phase ≡ n.phase + 1
-    → ((d : TaskDecl) → declared S.setting.program n.phase core ≡ Some d → HasEnded n.phase d (K n.phase core) (E n.phase core)) → AreEnded S K E → AreEnded T K E
+    → ((d : TaskDecl) → declared S.setting.program n.phase core ≡ Some d → TaskHasEnded n.phase d (K n.phase core) (E n.phase core)) → AreEnded S K E → AreEnded T K E
 ended-go S T K E core n m left sent step phase own h c q x d found before is = by_ways (node-at S T core n m left sent c x step found) where
   declares : declared S.setting.program q c ≡ Some d
   declares = subst (λ (C : Setting). declared C.program q c ≡ Some d) step.setting is
 
-  by_phase : core ≡ c → q < n.phase + 1 → (b : Bool) → (n.phase == q) ≡ b → HasEnded q d (K q c) (E q c)
+  by_phase : core ≡ c → q < n.phase + 1 → (b : Bool) → (n.phase == q) ≡ b → TaskHasEnded q d (K q c) (E q c)
   by_phase at' earlier true e =
       let same : n.phase ≡ q = eqb-true n.phase q e in
       let mine : declared S.setting.program n.phase core ≡ Some d =
       subst (λ (y : ℕ). declared S.setting.program n.phase y ≡ Some d) (sym at') (subst (λ (k : ℕ). declared S.setting.program k c ≡ Some d) (sym same) declares) in
-      subst (λ (y : ℕ). HasEnded q d (K q y) (E q y)) at' (subst (λ (k : ℕ). HasEnded k d (K k core) (E k core)) same (own d mine))
+      subst (λ (y : ℕ). TaskHasEnded q d (K q y) (E q y)) at' (subst (λ (k : ℕ). TaskHasEnded k d (K k core) (E k core)) same (own d mine))
   by_phase at' earlier false e =
       h c q n d (subst (λ (y : ℕ). slice_get S.nodes y ≡ Some n) at' step.found) (grind (arith, nat_tests, e, earlier)) declares
 
-  by_ways : ((core ≡ c) × (m ≡ x)) ⊎ ((c ≡ core → ⊥) × (slice_get S.nodes c ≡ Some x)) → HasEnded q d (K q c) (E q c)
+  by_ways : ((core ≡ c) × (m ≡ x)) ⊎ ((c ≡ core → ⊥) × (slice_get S.nodes c ≡ Some x)) → TaskHasEnded q d (K q c) (E q c)
   by_ways (inl (at', same)) = by_phase at' (subst (λ (y : ℕ). q < y) (sym (ap (λ (y : NodeParts). y.phase) same) ∙ phase) before) (n.phase == q) refl
   by_ways (inr (apart, there)) = h c q x d there before declares

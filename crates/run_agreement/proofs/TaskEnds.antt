@@ -21,20 +21,20 @@ use Rattle.rv_core.specs.declared.ending.EndShown.{EndShown}
 use Rattle.rv_core.specs.declared.ending.TaskEnd.{TaskEnd}
 use Rattle.rv_core.specs.Need.{need_of}
 use Rattle.flat_machine.specs.Step.{Started}
-use Rattle.flat_machine.specs.Ending.{task_end, shown_of, shown_by}
+use Rattle.flat_machine.specs.Ending.{task_end, shown_of, wait_shown}
 use Rattle.message_net.specs.declared.event.Event.{Event}
-use Rattle.registration_protocol.specs.Node.{NodeParts, goes_on, need_now}
+use Rattle.registration_protocol.specs.Node.{NodeParts, is_running, need_now}
 use Rattle.registration_protocol.specs.declared.node.NodeWait as wait
 use Rattle.registration_protocol.specs.declared.node.NodeWait.{NodeWait}
 use Rattle.registration_protocol.specs.OwnEvents.{end_of, end_by, shown_by as shown_in}
 use Rattle.registration_protocol.proofs.InstrLemmas.{HasNext, has-next}
 use Rattle.machine_rules.specs.State.{State}
-use Rattle.machine_rules.specs.Flight.{goes}
+use Rattle.machine_rules.specs.Flight.{is_go_to}
 use Rattle.machine_rules.specs.Rest.{IsLockedOut, IsAtRest}
 use Rattle.machine_rules.specs.Runs.{last_end, ends_from}
 use Rattle.machine_rules.proofs.RestNodes.{over-quiet}
 use Rattle.machine_rules.proofs.RestStates.{rest}
-use Rattle.run_agreement.specs.Agreed.{States, Loads, Ends, stands, tasks_from, HasEnded, AreEnded}
+use Rattle.run_agreement.specs.Agreed.{States, Loads, Ends, stands, tasks_from, TaskHasEnded, AreEnded}
 use Rattle.run_agreement.proofs.Nodes.{node-there, task-there}
 use Rattle.run_agreement.proofs.Quiet.{IsLast, seen-ended}
 use Rattle.run_agreement.proofs.Resting.{IsResting}
@@ -46,22 +46,22 @@ rests-level : (S : State) (M : ℕ → ℕ) (K : States) (L : Loads) (p : Phase)
 rests-level S M K L p c n h found = by_halted n.halted refl where
   by_halted : (x : Bool) → n.halted ≡ x → n.phase ≡ S.keeper.phase
   by_halted true off = h.halting.level c n found off
-  by_halted false off = omega (arith, h.inv.phases.phase c n found off, over-quiet S h.over (goes c))
+  by_halted false off = omega (arith, h.inv.phases.phase c n found off, over-quiet S h.over (is_go_to c))
 
 -- a task that is seen to have ended
-ended-shows : (P : ProgramParts) (fuel : ℕ) (K : States) (L : Loads) (q : ℕ) (d : TaskDecl) (o : Option TaskEnd) → HasEnded q d (K q d.core.0) o → o ≡ Some (task_end P fuel (stands K L q d))
+ended-shows : (P : ProgramParts) (fuel : ℕ) (K : States) (L : Loads) (q : ℕ) (d : TaskDecl) (o : Option TaskEnd) → TaskHasEnded q d (K q d.core.0) o → o ≡ Some (task_end P fuel (stands K L q d))
 ended-shows P fuel K L q d o h =
     h.shown
     ∙ ap (λ (e : Option End). Some (record { phase = record { 0 = q }; core = d.core; end = shown_of P fuel (stands K L q d) e; retired = (K q d.core.0).retired })) (sym h.over)
 
 -- a task that waits for a lock
 waiting-shows : (P : ProgramParts) (fuel : ℕ) (K : States) (L : Loads) (q : ℕ) (d : TaskDecl) (t : TaskState) (needs : Need) → K q d.core.0 ≡ t → t.end ≡ None → need_of P d fuel t ≡ needs
-    → task_end P fuel (stands K L q d) ≡ record { phase = record { 0 = q }; core = d.core; end = shown_by needs; retired = t.retired }
+    → task_end P fuel (stands K L q d) ≡ record { phase = record { 0 = q }; core = d.core; end = wait_shown needs; retired = t.retired }
 waiting-shows P fuel K L q d t needs state open' wants =
     let r : TaskState → Started = λ x. record { phase = record { 0 = q }; decl = d; state = x; loads = L q d.core.0 } in
     ap (λ (x : TaskState). task_end P fuel (r x)) state
     ∙ ap (λ (e : Option End). record { phase = record { 0 = q }; core = d.core; end = shown_of P fuel (r t) e; retired = t.retired }) open'
-    ∙ ap (λ (x : Need). record { phase = record { 0 = q }; core = d.core; end = shown_by x; retired = t.retired }) wants
+    ∙ ap (λ (x : Need). record { phase = record { 0 = q }; core = d.core; end = wait_shown x; retired = t.retired }) wants
 
 waiting-tells : (n : NodeParts) (t : TaskState) (lock : LockId) (q : ℕ) (c : CoreId) → n.task ≡ Some t → t.end ≡ None → n.waiting ≡ wait.TheVariants.Locking lock → n.phase ≡ q → n.core ≡ c.0
     → end_of n n.task ≡ Some (record { phase = record { 0 = q }; core = c; end = shown.TheVariants.Waits lock; retired = t.retired })
@@ -104,7 +104,7 @@ task-seen S M K L E p q x d h last ended begun there among = by_node (node-there
   by_rest : (n : NodeParts) → slice_get S.nodes c ≡ Some n → n.phase ≡ q → (t : TaskState) → n.task ≡ Some t → K q c ≡ t → t.end ≡ None → IsAtRest S → Seen
   by_rest n found same t task state open' (inl all) =
       let over = (h.inv.phases.asleep c n found (all c n found)).over in
-      let on : goes_on n.task ≡ true = rw (task, open') refl in
+      let on : is_running n.task ≡ true = rw (task, open') refl in
       absurd (cc)
   by_rest n found same t task state open' (inr stuck) =
       waits n found same t task state open' (stuck.each c (record { node = n; found = found; phase = rests-level S M K L p c n h found; goes = rw (task, open') refl }))
@@ -112,9 +112,9 @@ task-seen S M K L E p q x d h last ended begun there among = by_node (node-there
   by_end : (n : NodeParts) → slice_get S.nodes c ≡ Some n → n.phase ≡ q → (t : TaskState) → n.task ≡ Some t → K q c ≡ t → (o : Option End) → t.end ≡ o → Seen
   by_end n found same t task state None is = by_rest n found same t task state is (rest S M h.inv h.over)
   by_end n found same t task state (Some by) is =
-      let now : HasEnded n.phase d t (E n.phase c) = seen-ended S M E c n d t by h.inv last found task (subst (λ (k : ℕ). declared P k c ≡ Some d) (sym same) declares) is in
-      let here : HasEnded q d t (E q c) = subst (λ (k : ℕ). HasEnded k d t (E k c)) same now in
-      ended-shows P S.setting.fuel K L q d (E q c) (subst (λ (y : TaskState). HasEnded q d y (E q c)) (sym state) here)
+      let now : TaskHasEnded n.phase d t (E n.phase c) = seen-ended S M E c n d t by h.inv last found task (subst (λ (k : ℕ). declared P k c ≡ Some d) (sym same) declares) is in
+      let here : TaskHasEnded q d t (E q c) = subst (λ (k : ℕ). TaskHasEnded k d t (E k c)) same now in
+      ended-shows P S.setting.fuel K L q d (E q c) (subst (λ (y : TaskState). TaskHasEnded q d y (E q c)) (sym state) here)
 
   by_phase : (n : NodeParts) → slice_get S.nodes c ≡ Some n → (b : Bool) → (n.phase == q) ≡ b → Seen
   by_phase n found true e =

@@ -12,7 +12,7 @@ use Rattle.message_net.specs.declared.event.Event.TheVariants.{Instr, Evict, Arr
 use Rattle.message_net.specs.declared.message.Outgoing.{Outgoing}
 use Rattle.registration_protocol.specs.Node.{NodeParts}
 use Rattle.machine_rules.specs.State.{State}
-use Rattle.machine_rules.specs.Next.{next, seen_in, seen_by, granted_in}
+use Rattle.machine_rules.specs.Next.{next, seen_in, load_completed, granted_in}
 use Rattle.machine_rules.specs.Runs.{load_of, in_phase_of}
 use Rattle.machine_rules.proofs.Steps.{NodeStep, instr-step}
 use Rattle.run_agreement.specs.Agreed.{Loads, listed, more_grants, more_loads}
@@ -48,7 +48,7 @@ loads-core S (Evict c word) core n m seen left sent is step apart = absurd (none
 loads-core S (Arrive c) core n m seen left sent is step apart = absurd (none-some seen is)
 loads-core S (Handle id) core n m seen left sent is step apart = absurd (none-some seen is)
 loads-core S (Instr c) core n m seen left sent is step apart = (c, refl, by_core (c.0 == core.0) refl) where
-  by_node : (o : Option NodeParts) → slice_get S.nodes c.0 ≡ o → seen_by S.setting o ≡ Some seen → (c.0 == core.0) ≡ false → m ≡ n
+  by_node : (o : Option NodeParts) → slice_get S.nodes c.0 ≡ o → load_completed S.setting o ≡ Some seen → (c.0 == core.0) ≡ false → m ≡ n
   by_node None there is e = absurd (none-some seen is)
   by_node (Some x) there is e =
       let own = (instr-step S c x there).nodes core.0 in

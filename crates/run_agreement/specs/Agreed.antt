@@ -16,7 +16,7 @@ use Rattle.message_net.specs.declared.event.Event.{Event}
 use Rattle.registration_protocol.specs.Node.{NodeParts, Setting}
 use Rattle.machine_rules.specs.State.{State}
 use Rattle.machine_rules.specs.Next.{granted_in}
-use Rattle.machine_rules.specs.Runs.{load_of, end_in_phase, later}
+use Rattle.machine_rules.specs.Runs.{load_of, end_in_phase, newer_or}
 
 -- by phase and core: how the core's task of the phase stands, or stood when the phase was over, and what it has loaded
 abbrev pub States : Type 0
@@ -47,7 +47,7 @@ pub record AreShown (S : State) (states : States) (loads : Loads) : Type 0 where
   pub unread : (c phase : ℕ) (n : NodeParts) → slice_get S.nodes c ≡ Some n → n.phase < phase → loads phase c ≡ []
 
 -- the task of a phase that stands so has ended, and this end is seen of it
-pub record HasEnded (phase : ℕ) (d : TaskDecl) (t : TaskState) (seen : Option TaskEnd) : Type 0 where
+pub record TaskHasEnded (phase : ℕ) (d : TaskDecl) (t : TaskState) (seen : Option TaskEnd) : Type 0 where
   pub by : End
   pub over : t.end ≡ Some by
   pub shown : seen ≡ Some (record { phase = record { 0 = phase }; core = d.core; end = shown_end by; retired = t.retired })
@@ -55,7 +55,7 @@ pub record HasEnded (phase : ℕ) (d : TaskDecl) (t : TaskState) (seen : Option 
 -- the tasks of the phases before that of their node have ended, and these ends are seen of them
 abbrev pub AreEnded : State → States → Ends → Type 0
 AreEnded S states ends =
-    (c phase : ℕ) (n : NodeParts) (d : TaskDecl) → slice_get S.nodes c ≡ Some n → phase < n.phase → declared S.setting.program phase c ≡ Some d → HasEnded phase d (states phase c) (ends phase c)
+    (c phase : ℕ) (n : NodeParts) (d : TaskDecl) → slice_get S.nodes c ≡ Some n → phase < n.phase → declared S.setting.program phase c ≡ Some d → TaskHasEnded phase d (states phase c) (ends phase c)
 
 -- in phase number `phase`, which is p, the tasks that stand so lead to the flat machine's run by the grants
 abbrev pub IsWorldAt : Setting → List Grant → States → Loads → ℕ → Phase → List ℕ → Type 0
@@ -86,4 +86,4 @@ abbrev pub more_loads : Loads → State → Event → Loads
 more_loads loads S e phase c = loads phase c ++ listed (load_of phase c S e)
 
 abbrev pub more_ends : Ends → State → Ends
-more_ends ends S phase c = later (end_in_phase phase (slice_get S.nodes c)) (ends phase c)
+more_ends ends S phase c = newer_or (end_in_phase phase (slice_get S.nodes c)) (ends phase c)

@@ -9,11 +9,11 @@ use Rattle.flat_machine.specs.Phases.{Flat, all_tasks}
 use Rattle.flat_machine.specs.Grants.{so_far}
 use Rattle.message_net.specs.declared.event.Event.{Event}
 use Rattle.registration_protocol.specs.Node.{Setting}
-use Rattle.machine_rules.specs.State.{opened}
+use Rattle.machine_rules.specs.State.{initial_state}
 use Rattle.machine_rules.specs.Runs.{after, grants_of, loads_of}
 
 -- the task of a phase has started in F, where its loads begin with these
-pub record BeginsWith (F : Flat) (phase : ℕ) (d : TaskDecl) (loads : List LoadSeen) : Type 0 where
+pub record HasStartedWith (F : Flat) (phase : ℕ) (d : TaskDecl) (loads : List LoadSeen) : Type 0 where
   pub task : Started
   pub among : IsAmong (all_tasks F) task
   pub in_phase : task.phase.0 ≡ phase
@@ -24,6 +24,6 @@ pub record BeginsWith (F : Flat) (phase : ℕ) (d : TaskDecl) (loads : List Load
 -- the run's grants lead the flat machine to F, and of each task of a phase that has begun in the run the loads so far are a front
 -- of its loads in F
 pub record IsFrontOf (C : Setting) (events : List Event) (F : Flat) : Type 0 where
-  pub leads : so_far C.program C.fuel (grants_of (opened C) events) ≡ Some F
-  pub fronts : (phase : ℕ) (p : Phase) (d : TaskDecl) → phase ≤ (after (opened C) events).keeper.phase → slice_get C.program.phases phase ≡ Some p → IsAmong p.tasks d
-      → BeginsWith F phase d (loads_of phase d.core.0 (opened C) events)
+  pub leads : so_far C.program C.fuel (grants_of (initial_state C) events) ≡ Some F
+  pub fronts : (phase : ℕ) (p : Phase) (d : TaskDecl) → phase ≤ (after (initial_state C) events).keeper.phase → slice_get C.program.phases phase ≡ Some p → IsAmong p.tasks d
+      → HasStartedWith F phase d (loads_of phase d.core.0 (initial_state C) events)

@@ -15,13 +15,13 @@ use Rattle.message_chart.specs.declared.states.WordState.{WordState}
 use Rattle.message_chart.specs.declared.states.WordChange.{WordChange}
 use Rattle.run_chart.specs.declared.drawing.Drawing.{Drawing}
 use Rattle.run_chart.specs.declared.mails.SentMail.{SentMail}
-use Rattle.run_chart.specs.Drawing.{moved, the_actor, maker, is_marked, height, row_of, with_row}
+use Rattle.run_chart.specs.Drawing.{moved, the_actor, event_maker, is_on_chain, height, row_of, with_row}
 use Rattle.run_chart.specs.Mails.{noted_mails, origin_of}
 use Rattle.run_chart.specs.Words.{word_state, word_states, changes_from, changes_in}
 
 module _ (marks : List ℕ) (d : Drawing) (e : Event) where
-  row-is : (actor : Actor) (kind : EventKind) (mail : Option Origin) (changes : List WordChange) (marked : Bool) → actor ≡ maker d.machine.state e → kind ≡ kind_in d.machine.state e
-      → mail ≡ origin_of d.sent e → changes ≡ changes_in d.machine.state (next d.machine.state e) (maker d.machine.state e) → marked ≡ is_marked marks d.event
+  row-is : (actor : Actor) (kind : EventKind) (mail : Option Origin) (changes : List WordChange) (marked : Bool) → actor ≡ event_maker d.machine.state e → kind ≡ kind_in d.machine.state e
+      → mail ≡ origin_of d.sent e → changes ≡ changes_in d.machine.state (next d.machine.state e) (event_maker d.machine.state e) → marked ≡ is_on_chain marks d.event
       → ◌≡◌ {A = ChartRow} (record { event = d.event; actor = actor; kind = kind; line = d.line; mail = mail; changes = changes; marked = marked }) (row_of marks d e)
   row-is actor kind mail changes marked who what whence become mark = rw (who, what, whence, become, mark) refl
 
@@ -35,17 +35,17 @@ module _ (marks : List ℕ) (d : Drawing) (e : Event) where
       (flew flew' sent : List SentMail) (lines : ℕ) (marked : Bool) (rows : List ChartRow) → actor_in d.machine.state e ≡ Some actor → flew ≡ d.sent → mail ≡ origin_of flew e
       → machine ≡ d.machine → befores ≡ word_states d.machine.state actor → made_in parts ≡ moved machine e → kind ≡ kind_in machine.state e → seen ≡ befores
       → changes ≡ changes_from (word_state (made_in parts).state actor) 0 seen → flew' ≡ d.sent → sent ≡ noted_mails parts.pool.mails (Some d.line) flew' → seen' ≡ changes
-      → lines ≡ height seen' → marked ≡ is_marked marks d.event
+      → lines ≡ height seen' → marked ≡ is_on_chain marks d.event
       → rows ≡ d.rows ++ record { event = d.event; actor = actor; kind = kind; line = d.line; mail = mail; changes = changes; marked = marked } ∷ [] → joined ≡ made_in parts
       → ◌≡◌ {A = Drawing} (record { machine = joined; sent = sent; event = d.event + 1; line = d.line + lines; rows = rows }) (with_row marks d e)
   with-row-is actor mail kind machine joined befores seen parts changes seen' flew flew' sent lines marked rows acts flew_is mails same states came kinds seen_is changed flew_is' noted changes_are
       heights mark pushed joins =
       let S = d.machine.state in
       let made : made_in parts ≡ moved d.machine e = came ∙ ap (λ (x : Made). moved x e) same in
-      let who : actor ≡ maker S e = sym (ap the_actor acts) in
+      let who : actor ≡ event_maker S e = sym (ap the_actor acts) in
       let what : kind ≡ kind_in S e = kinds ∙ ap (λ (x : Made). kind_in x.state e) same in
       let whence : mail ≡ origin_of d.sent e = mails ∙ ap (λ (s : List SentMail). origin_of s e) flew_is in
-      let become : changes ≡ changes_in S (next S e) (maker S e) =
+      let become : changes ≡ changes_in S (next S e) (event_maker S e) =
       changed
       ∙ ap (λ (x : List WordState). changes_from (word_state (made_in parts).state actor) 0 x) (seen_is ∙ states)
       ∙ ap (λ (x : Made). changes_from (word_state x.state actor) 0 (word_states S actor)) made

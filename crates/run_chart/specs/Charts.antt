@@ -4,7 +4,7 @@ use Rattle.dn_base.specs.declared.ids.Shape.{Shape}
 use Rattle.region_table.specs.Program.{ProgramParts}
 use Rattle.message_net.specs.declared.event.Event.{Event}
 use Rattle.registration_protocol.specs.Node.{Setting}
-use Rattle.machine_rules.specs.State.{opened}
+use Rattle.machine_rules.specs.State.{initial_state}
 use Rattle.dn_machine.specs.Kept.{Made}
 use Rattle.dn_machine.specs.Settings.{IsSettingOf}
 use Rattle.message_chart.specs.declared.chart.Chart.{Chart}
@@ -22,7 +22,7 @@ chart_in shape d = record { cores = shape.cores; banks = shape.banks; rows = d.r
 
 -- the chart of the events that come from the opened machine on
 abbrev pub chart_of : Setting → List Event → Range → List ℕ → Chart
-chart_of C events range marks = chart_in C.shape (draw range marks (blank (record { state = opened C; made = 0 })) events)
+chart_of C events range marks = chart_in C.shape (draw range marks (blank (record { state = initial_state C; made = 0 })) events)
 
 -- the chart of a run of the machine of this program, shape and fuel
 pub record IsChartOf (P : ProgramParts) (shape : Shape) (fuel : ℕ) (events : List Event) (range : Range) (marks : List ℕ) (chart : Chart) : Type 0 where

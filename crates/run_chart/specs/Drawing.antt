@@ -23,13 +23,13 @@ abbrev pub the_actor : Option Actor → Actor
 the_actor None = Keeper
 the_actor (Some a) = a
 
-abbrev pub maker : State → Event → Actor
-maker S e = the_actor (actor_in S e)
+abbrev pub event_maker : State → Event → Actor
+event_maker S e = the_actor (actor_in S e)
 
 -- whether an event is among those to be marked
-abbrev pub is_marked : List ℕ → ℕ → Bool
-is_marked [] event = false
-is_marked (m ∷ ms) event = (m == event) || is_marked ms event
+abbrev pub is_on_chain : List ℕ → ℕ → Bool
+is_on_chain [] event = false
+is_on_chain (m ∷ ms) event = (m == event) || is_on_chain ms event
 
 -- how many lines a row with these changes has
 abbrev pub height : List WordChange → ℕ
@@ -45,12 +45,12 @@ abbrev pub row_of : List ℕ → Drawing → Event → ChartRow
 row_of marks d e =
     record {
       event = d.event;
-      actor = maker d.machine.state e;
+      actor = event_maker d.machine.state e;
       kind = kind_in d.machine.state e;
       line = d.line;
       mail = origin_of d.sent e;
-      changes = changes_in d.machine.state (next d.machine.state e) (maker d.machine.state e);
-      marked = is_marked marks d.event;
+      changes = changes_in d.machine.state (next d.machine.state e) (event_maker d.machine.state e);
+      marked = is_on_chain marks d.event;
     }
 
 -- the drawing with one event more, which has a row

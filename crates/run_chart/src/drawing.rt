@@ -3,7 +3,7 @@ ghost use Rattle.machine_rules.specs.Next.{enabled, kind_in, next};
 ghost use Rattle.dn_machine.specs.Actors.{actor_in};
 ghost use Rattle.dn_machine.specs.Kept.{IsKept};
 ghost use Rattle.dn_machine.specs.Parts.{made_in};
-ghost use Rattle.run_chart.specs.Drawing.{draw, drawn, has_row, height, is_marked, maker, moved, with_row, without_row};
+ghost use Rattle.run_chart.specs.Drawing.{draw, drawn, has_row, height, is_on_chain, event_maker, moved, with_row, without_row};
 ghost use Rattle.run_chart.specs.Words.{changes_in, word_states};
 
 use crate::mails::{SentMail, noted_mails, origin_of};
@@ -78,7 +78,7 @@ fn make(machine: Machine, event: Event) -> Result<Came, Memory>
 
 /// Whether an event is among those to be marked.
 fn is_marked(marks: &[u32], event: u32) -> bool
-    ensures { result ≡ is_marked marks.now event }
+    ensures { result ≡ is_on_chain marks.now event }
 {
     for mark in marks {
         if *mark == event {

@@ -1,6 +1,6 @@
 ghost use Rattle.std.specs.Prelude.{◌≡◌, IfOk};
 ghost use Rattle.message_net.specs.Id.{same_id};
-ghost use Rattle.run_chart.specs.Mails.{line_of, noted_mails, origin_of};
+ghost use Rattle.run_chart.specs.Mails.{noted_line, noted_mails, origin_of};
 
 use dn_base::{Memory, Sequence};
 use message_chart::Origin;
@@ -23,7 +23,7 @@ fn is_same(a: MailId, b: MailId) -> bool
 
 /// The line that is noted of the mail with an id, or else this one.
 fn line_of(id: MailId, line: Option<u32>, sent: &[SentMail]) -> Option<u32>
-    ensures { result ≡ line_of id line sent.now }
+    ensures { result ≡ noted_line id line sent.now }
 {
     for mail in sent {
         if is_same(mail.id, id) {

@@ -14,7 +14,7 @@ use Rattle.run_replay.specs.declared.trace.TraceFault.{TraceFault}
 use Rattle.run_replay.specs.declared.trace.TraceFault.TheVariants.{TooLarge, Head as NoHead, Line, Rest, Memory}
 use Rattle.run_replay.specs.Field.{field, IsFrom, Stands, NoneStands}
 use Rattle.run_replay.specs.Document.{IsTraceShape, IsNamed, IsMail, IsTold, Head, IsHead, IsTrace, head_of, title, shape_line, source_part, head_text, mail_line, event_line, event_lines, document_of, IsDocument}
-use Rattle.run_replay.specs.Faults.{most_bytes, BeginsWith, IsBrokenAt, GoesOn, HasFault}
+use Rattle.run_replay.specs.Faults.{most_bytes, BeginsWithEvents, IsBrokenAt, GoesOn, HasFault}
 use Rattle.run_replay.specs.Lines.{two_fields}
 use Rattle.run_replay.proofs.Forms.{IsOne, field-one, two-one, head-one, head-parts, shape-parts, source-parts}
 
@@ -127,7 +127,7 @@ lines-less (e ∷ es) (f ∷ fs) r q te tf is less none =
 
 -- ---- what bytes begin with
 
-module _ (bytes : List ℕ) (h g : Head) (es fs : List Event) (r q : List ℕ) (a : BeginsWith bytes h es r) (b : BeginsWith bytes g fs q) where
+module _ (bytes : List ℕ) (h g : Head) (es fs : List Event) (r q : List ℕ) (a : BeginsWithEvents bytes h es r) (b : BeginsWithEvents bytes g fs q) where
   begin-one : (h ≡ g) × (event_lines es ++ r ≡ event_lines fs ++ q)
   begin-one = head-one h g (event_lines es ++ r) (event_lines fs ++ q) a.head b.head (sym a.parts ∙ b.parts)
 
@@ -240,7 +240,7 @@ append-nil' : (xs : List ℕ) → xs ++ [] ≡ xs
 append-nil' [] = refl
 append-nil' (x ∷ xs) = ap (λ ys. x ∷ ys) (append-nil' xs)
 
-doc-begins : (bytes : List ℕ) (t : Trace) → IsDocument bytes t → BeginsWith bytes (head_of t) t.events []
+doc-begins : (bytes : List ℕ) (t : Trace) → IsDocument bytes t → BeginsWithEvents bytes (head_of t) t.events []
 doc-begins bytes t doc =
     record {
       within = omega (arith, ap length doc.is, document-within t doc.told);
@@ -259,7 +259,7 @@ one-trace bytes t u a b =
     λ i. record { shape = (heads.0 i).shape; text = (heads.0 i).text; events = lines.0 i }
 
 -- where as many lines are there as the head announces, no line is the first that isn't there
-no-broken : (bytes : List ℕ) (h : Head) (es : List Event) (r : List ℕ) (number : ℕ) → BeginsWith bytes h es r → length es ≡ h.count → IsBrokenAt bytes number → ⊥
+no-broken : (bytes : List ℕ) (h : Head) (es : List Event) (r : List ℕ) (number : ℕ) → BeginsWithEvents bytes h es r → length es ≡ h.count → IsBrokenAt bytes number → ⊥
 no-broken bytes h es r number begins all broken =
     begin-less bytes broken.head h broken.before es broken.rest r broken.begins begins
     (omega (arith, broken.place, broken.announced, all, same-count bytes broken.head h broken.before es broken.rest r broken.begins begins)) broken.none
@@ -275,7 +275,7 @@ doc-fault bytes t Rest doc fault =
     omega (arith, fault.some, ap length lines.1)
 doc-fault bytes t Memory doc fault = fault
 
-no-head : (bytes : List ℕ) (h : Head) (es : List Event) (r : List ℕ) → BeginsWith bytes h es r → HasFault bytes NoHead → ⊥
+no-head : (bytes : List ℕ) (h : Head) (es : List Event) (r : List ℕ) → BeginsWithEvents bytes h es r → HasFault bytes NoHead → ⊥
 no-head bytes h es r begins fault = fault.1 h (event_lines es ++ r) (record { fits = begins.head; parts = begins.parts })
 
 first-broken : (bytes : List ℕ) (m n : ℕ) → IsBrokenAt bytes m → IsBrokenAt bytes n → m < n → ⊥

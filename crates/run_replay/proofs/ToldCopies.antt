@@ -9,7 +9,7 @@ use Rattle.dn_base.specs.declared.ids.WordId.{WordId}
 use Rattle.region_table.specs.declared.interval.Interval.{Interval}
 use Rattle.region_table.specs.Words.{has}
 use Rattle.write_signature.specs.declared.signature.Signature.{Signature}
-use Rattle.write_signature.specs.Signature.{holds}
+use Rattle.write_signature.specs.Signature.{may_hold}
 use Rattle.message_net.specs.declared.event.Event.{Event}
 use Rattle.message_net.specs.declared.message.Outgoing.{Outgoing}
 use Rattle.word_cache.specs.declared.row.Entry.{Entry}
@@ -20,7 +20,7 @@ use Rattle.registration_protocol.specs.declared.node.NodeWait as wait
 use Rattle.registration_protocol.specs.Node.{NodeParts, Setting, entry_of}
 use Rattle.registration_protocol.specs.Messages.{with_entry, guarded_by, written_in}
 use Rattle.registration_protocol.proofs.MessageLemmas.{grant-entries, begin-entries}
-use Rattle.machine_rules.specs.State.{State, entry_in, entry_at, opened}
+use Rattle.machine_rules.specs.State.{State, entry_in, entry_at, initial_state}
 use Rattle.machine_rules.specs.Next.{next}
 use Rattle.machine_rules.specs.Flight.{bit}
 use Rattle.machine_rules.proofs.Bits.{valid_bit}
@@ -77,7 +77,7 @@ after-phase words w (Some (Leaving value)) = omega arith
 
 after-grant : (s : Signature) (phase : ℕ) (words : List Interval) (w : ℕ) (e : Option Entry) → valid_bit (entry_after_grant s phase words w e) ≤ valid_bit e
 after-grant s phase words w None = omega arith
-after-grant s phase words w (Some (Valid value marked)) = by_test (has words w && holds s w phase) where
+after-grant s phase words w (Some (Valid value marked)) = by_test (has words w && may_hold s w phase) where
   by_test : (x : Bool) → valid_bit (cond x None (Some (Valid value marked))) ≤ 1
   by_test true = omega arith
   by_test false = omega arith
@@ -170,5 +170,5 @@ copies-leaves S M e inv g =
     }
 
 -- no core has a copy as a run begins
-pub opened-copies : (C : Setting) → AreOfProgram (opened C)
+pub opened-copies : (C : Setting) → AreOfProgram (initial_state C)
 opened-copies C c w = omega (arith, ap valid_bit (opened-entry C c w))

@@ -13,7 +13,7 @@ use Rattle.message_net.specs.declared.message.Mail.{Mail}
 use Rattle.message_net.specs.declared.message.Message.{Message}
 use Rattle.message_net.specs.declared.message.Outgoing.{Outgoing}
 use Rattle.message_net.specs.Mail.{has_actor, mail_of, mails_of}
-use Rattle.message_net.specs.Pool.{taken}
+use Rattle.message_net.specs.Pool.{removed}
 use Rattle.message_net.proofs.PoolLemmas.{weight-within}
 use Rattle.message_net.proofs.MailLemmas.{weight_sent, sum_by-mails_with, sum_by-all_mails}
 use Rattle.registry_bank.specs.Bank.{BankParts, bank_gets}
@@ -22,9 +22,9 @@ use Rattle.phase_barrier.specs.Letters.{letters}
 use Rattle.registration_protocol.specs.Node.{NodeParts, Setting}
 use Rattle.registration_protocol.specs.OwnEvents.{instructed, evicted, arrives}
 use Rattle.registration_protocol.specs.Messages.{node_gets}
-use Rattle.machine_rules.specs.State.{State, opened}
+use Rattle.machine_rules.specs.State.{State, initial_state}
 use Rattle.machine_rules.specs.Flight.{bit, weighs}
-use Rattle.machine_rules.specs.Next.{next, enabled, number_of, sends, posts, core_does, bank_does, does_instr, does_evict, does_arrive, core_gets, bank_handles, gets, delivers}
+use Rattle.machine_rules.specs.Next.{next, enabled, next_number, sends, posts, core_does, bank_does, does_instr, does_evict, does_arrive, core_gets, bank_handles, gets, delivers}
 use Rattle.machine_rules.specs.Sound.{IsMachine}
 use Rattle.machine_rules.proofs.Steps.{Handled, handled, without_mail}
 
@@ -60,11 +60,11 @@ own-mails C from number (out ∷ outs) there =
 sent-one : (S : State) (from : Actor) (sent : Option Outgoing) → IsThere S from → AreSent S → AreSent (sends S from sent)
 sent-one S from None there good = good
 sent-one S from (Some out) there good =
-    omega (arith, good, sum_by-mails_with (strange S.setting) from (number_of S from) (Some out) S.mails, own-sent S.setting from (number_of S from) (Some out) there)
+    omega (arith, good, sum_by-mails_with (strange S.setting) from (next_number S from) (Some out) S.mails, own-sent S.setting from (next_number S from) (Some out) there)
 
 sent-all : (S : State) (outs : List Outgoing) → AreSent S → AreSent (posts S outs)
 sent-all S outs good =
-    omega (arith, good, sum_by-all_mails (strange S.setting) Keeper (number_of S Keeper) outs S.mails, own-mails S.setting Keeper (number_of S Keeper) outs refl)
+    omega (arith, good, sum_by-all_mails (strange S.setting) Keeper (next_number S Keeper) outs S.mails, own-mails S.setting Keeper (next_number S Keeper) outs refl)
 
 sent-core : (S : State) (core : CoreId) (m : NodeParts) (sent : Option Outgoing) → IsThere S (Core core) → AreSent S → AreSent (core_does S core m sent)
 sent-core S core m sent there good = sent-one (record S { nodes = slice_set S.nodes core.0 m }) (Core core) sent there good
@@ -109,7 +109,7 @@ sent-next S (Handle id) machine may good = by_mail (handled S id may) where
   rest : State
   rest = without_mail S id
 
-  by_mail : (m : Mail) × Handled S id m → AreSent (delivers rest (taken id S.mails).0)
+  by_mail : (m : Mail) × Handled S id m → AreSent (delivers rest (removed id S.mails).0)
   by_mail (m, h) = rw (h.took) (sent-gets rest m.to m.message machine.nodes machine.banks (omega (arith, good, h.weights (strange S.setting))))
 
 -- ---- who has sent a mail
@@ -121,6 +121,6 @@ sender-there S place m good there = by_bit (has_actor S.setting.shape.cores S.se
   by_bit false none = absurd (omega (arith, none))
 
 -- no mail is in flight as a run begins
-pub opened-sent : (C : Setting) → AreSent (opened C)
-unfolding opened
+pub opened-sent : (C : Setting) → AreSent (initial_state C)
+unfolding initial_state
 opened-sent C = refl

@@ -21,8 +21,8 @@ use Rattle.phase_barrier.specs.Barrier.{all_arrived}
 use Rattle.registration_protocol.specs.Node.{NodeParts, Setting, entry_of}
 use Rattle.registration_protocol.specs.OwnEvents.{may_instr, may_evict, may_arrive}
 use Rattle.registration_protocol.proofs.InstrLemmas.{may-evict}
-use Rattle.machine_rules.specs.State.{State, entry_in, home_at, opened}
-use Rattle.machine_rules.specs.Next.{next, enabled, when_there, place_in}
+use Rattle.machine_rules.specs.State.{State, entry_in, home_at, initial_state}
+use Rattle.machine_rules.specs.Next.{next, enabled, when_there, actor_index_in}
 use Rattle.machine_rules.specs.Memory.{store_in}
 use Rattle.machine_rules.specs.Runs.{IsRun}
 use Rattle.machine_rules.specs.Flight.{bit}
@@ -109,7 +109,7 @@ told-mail S made id sound sent few short may = by_mail (handled S id may) where
   by_mail (m, h) =
       subst IsMail h.named (
         low-actor S.setting.shape.cores S.setting.shape.banks m.id.sender few sound.machine.context.most_banks (sender-there S h.place m sent h.there),
-        omega (arith, sound.machine.numbered h.place m h.there, low-number S made (place_in S m.id.sender) sound few short),
+        omega (arith, sound.machine.numbered h.place m h.there, low-number S made (actor_index_in S m.id.sender) sound few short),
       )
 
 -- ---- every event
@@ -140,7 +140,7 @@ told-events S M made (e ∷ es) sound inv copies sent few short run =
     (omega (arith, few, ap (λ (C : Setting). C.shape.cores) (same-setting S e))) (omega (arith, short)) run.1 in
     All-cons IsTold e es first rest
 
-pub run-told : (C : Setting) (events : List Event) → IsReady C → C.shape.cores ≤ 16 → IsRun (opened C) events → All IsTold events
+pub run-told : (C : Setting) (events : List Event) → IsReady C → C.shape.cores ≤ 16 → IsRun (initial_state C) events → All IsTold events
 run-told C events ready few run =
-    told-events (opened C) (first_memory C) 0 events (opened-sound C ready.context ready.program ready.checked) (opened-invariant C ready.context ready.program ready.checked)
+    told-events (initial_state C) (first_memory C) 0 events (opened-sound C ready.context ready.program ready.checked) (opened-invariant C ready.context ready.program ready.checked)
     (opened-copies C) (opened-sent C) (omega (arith, few, ap (λ (x : Setting). x.shape.cores) (opened-setting C))) (omega (arith, run-ends C events ready run)) run

@@ -15,13 +15,13 @@ use Rattle.message_net.specs.declared.event.Event.{Event}
 use Rattle.message_net.specs.declared.event.Event.TheVariants.{Instr, Evict, Arrive, Handle}
 use Rattle.message_net.specs.declared.event.EventKind.{EventKind}
 use Rattle.message_net.specs.declared.message.Mail.{Mail}
-use Rattle.message_net.specs.Pool.{taken}
+use Rattle.message_net.specs.Pool.{removed}
 use Rattle.grant_log.specs.declared.counts.Counts.{Counts}
-use Rattle.grant_log.specs.Counts.{count_of, AreCounts}
+use Rattle.grant_log.specs.Counts.{kind_count, AreCounts}
 use Rattle.grant_log.proofs.CountLemmas.{length-added}
 use Rattle.grant_log.proofs.TotalLemmas.{one_counts}
 use Rattle.registration_protocol.specs.Node.{Setting}
-use Rattle.machine_rules.specs.State.{State, opened}
+use Rattle.machine_rules.specs.State.{State, initial_state}
 use Rattle.machine_rules.specs.Next.{next, enabled}
 use Rattle.machine_rules.specs.Runs.{after, IsRun, IsOver, IsCompleteRun, grants_of, kinds_of, ending_of_run}
 use Rattle.machine_rules.specs.Sound.{IsReady}
@@ -33,17 +33,17 @@ use Rattle.machine_rules.proofs.BoundRuns.{run-few, run-ends}
 use Rattle.run_agreement.proofs.EndAgrees.{end-agrees}
 use Rattle.dn_machine.specs.declared.log.Happened.{Happened}
 use Rattle.dn_machine.specs.declared.log.Log.{Log}
-use Rattle.dn_machine.specs.Actors.{actor_in, goes_to}
-use Rattle.dn_machine.specs.Kept.{Made, IsKept, IsOpened}
+use Rattle.dn_machine.specs.Actors.{actor_in, receiver_of}
+use Rattle.dn_machine.specs.Kept.{Made, IsKept, IsInitialMachine}
 use Rattle.dn_machine.specs.Run.{IsRecord}
 use Rattle.dn_machine.specs.Settings.{IsSettingOf}
-use Rattle.dn_machine.specs.Log.{core_in, core_of, HasCome, no_log, noted, IsLogOf}
+use Rattle.dn_machine.specs.Log.{core_in, core_of, HasCome, no_log, with_event, IsLogOf}
 use Rattle.dn_machine.proofs.LogLemmas.{log-more, log-opened, count-within}
 use Rattle.dn_machine.proofs.RunLemmas.{in-place, ready-of, ending-true, complete-run-of}
 use Rattle.dn_machine.proofs.ScheduleLaws.{after-more}
 use Rattle.run_replay.specs.declared.replaying.Replayed.{Replayed}
 use Rattle.run_replay.specs.declared.replaying.Replayed.TheVariants.{Complete, NotEnabled, Incomplete}
-use Rattle.run_replay.specs.Replay.{IsRunWith, IsStoppedAt, IsUnfinished, IsTrueOf, IsFinished, IsReplayOf}
+use Rattle.run_replay.specs.Replay.{IsRunWith, IsFirstNotEnabled, IsUnfinished, IsTrueOf, IsReplayOutcome, IsReplayOf}
 
 -- the core that an event changes is the actor that makes it, where that is a core
 pub core-in : (S : State) (e : Event) (a : Actor) → actor_in S e ≡ Some a → core_in S e ≡ core_of (Some a)
@@ -64,42 +64,42 @@ run-at S (x ∷ xs) rest e run = run-at (next S x) xs rest e run.1
 
 -- the events so far are a run of the opened machine, which leads to this state, and they are noted
 pub record IsUnderWay (C : Setting) (events : List Event) (T : State) (made : ℕ) (log : Log) : Type 0 where
-  pub run : IsRun (opened C) events
-  pub leads : T ≡ after (opened C) events
+  pub run : IsRun (initial_state C) events
+  pub leads : T ≡ after (initial_state C) events
   pub count : made ≡ length events
   pub all : length log.counts.kinds ≡ 17
-  pub logged : IsLogOf (opened C) events log
+  pub logged : IsLogOf (initial_state C) events log
 
-pub begins : (C : Setting) (T : State) → T ≡ opened C → IsUnderWay C [] T 0 (no_log (length C.program.phases))
+pub begins : (C : Setting) (T : State) → T ≡ initial_state C → IsUnderWay C [] T 0 (no_log (length C.program.phases))
 begins C T opens = record { run = tt; leads = opens; count = refl; all = refl; logged = log-opened C }
 
 pub goes-on : (C : Setting) (events : List Event) (S T : State) (made : ℕ) (log : Log) (h : Happened) → IsUnderWay C events S made log → enabled S h.event ≡ true → HasCome S T h
-    → IsKept T (made + 1) → IsUnderWay C (events ++ h.event ∷ []) T (made + 1) (noted h log)
+    → IsKept T (made + 1) → IsUnderWay C (events ++ h.event ∷ []) T (made + 1) (with_event h log)
 goes-on C events S T made log h way may come kept =
     record {
-      run = run-more (opened C) events h.event way.run (rw (← way.leads) may);
-      leads = come.next ∙ ap (λ (x : State). next x h.event) way.leads ∙ sym (after-more (opened C) events h.event);
+      run = run-more (initial_state C) events h.event way.run (rw (← way.leads) may);
+      leads = come.next ∙ ap (λ (x : State). next x h.event) way.leads ∙ sym (after-more (initial_state C) events h.event);
       count = omega (arith, way.count, length-append events (h.event ∷ []));
       all = length-added h.told.kind log.counts ∙ way.all;
-      logged = log-more (opened C) T events log h way.all (in-place T (made + 1) kept) (rw (← way.leads) come) way.logged;
+      logged = log-more (initial_state C) T events log h way.all (in-place T (made + 1) kept) (rw (← way.leads) come) way.logged;
     }
 
 pub way-setting : (C : Setting) (events : List Event) (T : State) (made : ℕ) (log : Log) → IsUnderWay C events T made log → T.setting ≡ C
-way-setting C events T made log way = ap (λ (x : State). x.setting) way.leads ∙ run-setting (opened C) events ∙ opened-setting C
+way-setting C events T made log way = ap (λ (x : State). x.setting) way.leads ∙ run-setting (initial_state C) events ∙ opened-setting C
 
 pub way-ready : (C : Setting) (events : List Event) (T : State) (made : ℕ) (log : Log) → IsUnderWay C events T made log → IsKept T made → IsReady C
 way-ready C events T made log way kept = subst IsReady (way-setting C events T made log way) (ready-of T made kept.sound)
 
 -- ---- at the end
 
-pub finished : (C : Setting) (events : List Event) (T : State) (made : ℕ) (log : Log) (r : Replayed) → IsUnderWay C events T made log → IsKept T made → IsFinished T log r → IsTrueOf C events r
+pub finished : (C : Setting) (events : List Event) (T : State) (made : ℕ) (log : Log) (r : Replayed) → IsUnderWay C events T made log → IsKept T made → IsReplayOutcome T log r → IsTrueOf C events r
 finished C events T made log (Complete ending grants counts) way kept last =
     let ready = way-ready C events T made log way kept in
-    let complete : IsCompleteRun (opened C) events = record { run = way.run; over = subst IsOver way.leads last.0 } in
-    let is : IsRecord (opened C) (record { events = events; grants = grants; counts = counts; ending = ending }) =
+    let complete : IsCompleteRun (initial_state C) events = record { run = way.run; over = subst IsOver way.leads last.0 } in
+    let is : IsRecord (initial_state C) (record { events = events; grants = grants; counts = counts; ending = ending }) =
     record {
       granted = last.2 ∙ way.logged.granted;
-      counted = subst (AreCounts (kinds_of (opened C) events)) (sym last.3) way.logged.counted;
+      counted = subst (AreCounts (kinds_of (initial_state C) events)) (sym last.3) way.logged.counted;
       ends = last.1 ∙ ending-true C T events log.ends ready.program way.leads way.logged.ends;
     }
     in
@@ -111,7 +111,7 @@ finished C events T made log Incomplete way kept last =
 -- ---- an event that may not come
 
 pub stopped : (C : Setting) (events : List Event) (i : ℕ) (d : Event) (T : State) (made : ℕ) (log : Log) → i < length events → IsUnderWay C (take i events) T made log
-    → enabled T (get_or events i d) ≡ false → IsStoppedAt C events i
+    → enabled T (get_or events i d) ≡ false → IsFirstNotEnabled C events i
 stopped C events i d T made log low way not =
     record {
       before = take i events;
@@ -125,7 +125,7 @@ stopped C events i d T made log low way not =
 
 -- ---- what the calls of a machine say
 
-pub setting-of : (P : ProgramParts) (shape : Shape) (fuel : ℕ) (m : Made) → IsOpened P shape fuel m → IsKept m.state m.made → IsSettingOf P shape fuel m.state.setting
+pub setting-of : (P : ProgramParts) (shape : Shape) (fuel : ℕ) (m : Made) → IsInitialMachine P shape fuel m → IsKept m.state m.made → IsSettingOf P shape fuel m.state.setting
 setting-of P shape fuel m at kept =
     record {
       program = at.program_is;
@@ -141,9 +141,9 @@ not-both : (S : State) (e : Event) → enabled S e ≡ true → enabled S e ≡ 
 not-both S e may not = true≢false (sym may ∙ not)
 
 -- events that stop a run at a place don't go on there
-no-run : (C : Setting) (events : List Event) (number : ℕ) → IsStoppedAt C events number → IsRun (opened C) events → ⊥
+no-run : (C : Setting) (events : List Event) (number : ℕ) → IsFirstNotEnabled C events number → IsRun (initial_state C) events → ⊥
 no-run C events number s run =
-    not-both (after (opened C) s.before) s.event (run-at (opened C) s.before s.rest s.event (subst (IsRun (opened C)) s.parts run)) s.stopped
+    not-both (after (initial_state C) s.before) s.event (run-at (initial_state C) s.before s.rest s.event (subst (IsRun (initial_state C)) s.parts run)) s.stopped
 
 one-place : (S : State) (xs ys : List Event) (e f : Event) (r q : List Event) → xs ++ e ∷ r ≡ ys ++ f ∷ q → IsRun S xs → IsRun S ys → enabled (after S xs) e ≡ false
     → enabled (after S ys) f ≡ false → length xs ≡ length ys
@@ -165,7 +165,7 @@ complete-one : (C : Setting) (events : List Event) (e f : Ending) (g h : List Gr
 complete-one C events e f g h m n a b =
     let ending : e ≡ f = a.run.is_true.ends ∙ sym b.run.is_true.ends in
     let grants : g ≡ h = a.run.is_true.granted ∙ sym b.run.is_true.granted in
-    let counts : m ≡ n = one_counts (kinds_of (opened C) events) m n a.each_kind b.each_kind a.run.is_true.counted b.run.is_true.counted in
+    let counts : m ≡ n = one_counts (kinds_of (initial_state C) events) m n a.each_kind b.each_kind a.run.is_true.counted b.run.is_true.counted in
     λ i. Complete (ending i) (grants i) (counts i)
 
 over-not : (S : State) → IsOver S → (e : Event) → enabled S e ≡ true → ⊥
@@ -174,14 +174,14 @@ over-not S over e may = not-both S e may (over e)
 pub one-replay : (C : Setting) (events : List Event) (r s : Replayed) → IsTrueOf C events r → IsTrueOf C events s → r ≡ s
 one-replay C events (Complete e g m) (Complete f h n) a b = complete-one C events e f g h m n a b
 one-replay C events (Complete e g m) (NotEnabled k) a b = absurd (no-run C events k b a.run.complete.run)
-one-replay C events (Complete e g m) Incomplete a b = absurd (over-not (after (opened C) events) a.run.complete.over b.more b.may)
+one-replay C events (Complete e g m) Incomplete a b = absurd (over-not (after (initial_state C) events) a.run.complete.over b.more b.may)
 one-replay C events (NotEnabled k) (Complete e g m) a b = absurd (no-run C events k a b.run.complete.run)
 one-replay C events (NotEnabled k) (NotEnabled l) a b =
-    let places = one-place (opened C) a.before b.before a.event b.event a.rest b.rest (sym a.parts ∙ b.parts) a.run b.run a.stopped b.stopped in
+    let places = one-place (initial_state C) a.before b.before a.event b.event a.rest b.rest (sym a.parts ∙ b.parts) a.run b.run a.stopped b.stopped in
     let same : k ≡ l = sym a.place ∙ places ∙ b.place in
     ap NotEnabled same
 one-replay C events (NotEnabled k) Incomplete a b = absurd (no-run C events k a b.run)
-one-replay C events Incomplete (Complete e g m) a b = absurd (over-not (after (opened C) events) b.run.complete.over a.more a.may)
+one-replay C events Incomplete (Complete e g m) a b = absurd (over-not (after (initial_state C) events) b.run.complete.over a.more a.may)
 one-replay C events Incomplete (NotEnabled k) a b = absurd (no-run C events k b a.run)
 one-replay C events Incomplete Incomplete a b = refl
 
@@ -189,7 +189,7 @@ one-replay C events Incomplete Incomplete a b = refl
 
 -- the event after the first `i` has come, and is noted
 pub one-more : (C : Setting) (events : List Event) (i : ℕ) (d : Event) (S T : State) (made made' : ℕ) (log log' : Log) (h : Happened) → i < length events
-    → IsUnderWay C (take i events) S made log → enabled S (get_or events i d) ≡ true → h.event ≡ get_or events i d → HasCome S T h → made' ≡ made + 1 → IsKept T made' → log' ≡ noted h log
+    → IsUnderWay C (take i events) S made log → enabled S (get_or events i d) ≡ true → h.event ≡ get_or events i d → HasCome S T h → made' ≡ made + 1 → IsKept T made' → log' ≡ with_event h log
     → IsUnderWay C (take (i + 1) events) T made' log'
 one-more C events i d S T made made' log log' h low way may event_is come made_is kept log_is =
     let parts : take (i + 1) events ≡ take i events ++ h.event ∷ [] =
@@ -199,9 +199,9 @@ one-more C events i d S T made made' log log' h low way may event_is come made_i
     let next_way = goes-on C (take i events) S T made log h way may' come kept' in
     subst (λ (m : ℕ). IsUnderWay C (take (i + 1) events) T m log') (sym made_is)
     (subst (λ (l : Log). IsUnderWay C (take (i + 1) events) T (made + 1) l) (sym log_is)
-    (subst (λ (es : List Event). IsUnderWay C es T (made + 1) (noted h log)) (sym parts) next_way))
+    (subst (λ (es : List Event). IsUnderWay C es T (made + 1) (with_event h log)) (sym parts) next_way))
 
-pub starts : (C : Setting) (events : List Event) (T : State) (made : ℕ) (log : Log) → T ≡ opened C → made ≡ 0 → log ≡ no_log (length C.program.phases) → IsUnderWay C (take 0 events) T made log
+pub starts : (C : Setting) (events : List Event) (T : State) (made : ℕ) (log : Log) → T ≡ initial_state C → made ≡ 0 → log ≡ no_log (length C.program.phases) → IsUnderWay C (take 0 events) T made log
 starts C events T made log opens none empty =
     subst (λ (m : ℕ). IsUnderWay C [] T m log) (sym none) (subst (λ (l : Log). IsUnderWay C [] T 0 l) (sym empty) (begins C T opens))
 
@@ -209,17 +209,17 @@ pub few-made : (C : Setting) (events : List Event) (i : ℕ) (T : State) (made :
 few-made C events i T made log few low way = omega (arith, way.count, length-take-le i events low)
 
 pub few-noted : (C : Setting) (events : List Event) (i : ℕ) (T : State) (made : ℕ) (log : Log) (k : EventKind) → length events ≤ 25169664 → i ≤ length events → IsUnderWay C (take i events) T made log
-    → count_of k log.counts < 18446744073709551615
+    → kind_count k log.counts < 18446744073709551615
 few-noted C events i T made log k few low way =
-    omega (arith, few, low, count-within (opened C) (take i events) log.counts k way.logged.counted, length-take-le i events low)
+    omega (arith, few, low, count-within (initial_state C) (take i events) log.counts k way.logged.counted, length-take-le i events low)
 
 pub at-end : (C : Setting) (events : List Event) (i : ℕ) (T : State) (made : ℕ) (log : Log) (r : Result Replayed Memory) → length events ≤ i → IsUnderWay C (take i events) T made log → IsKept T made
-    → IfOk r (IsFinished T log) → IfOk r (IsTrueOf C events)
+    → IfOk r (IsReplayOutcome T log) → IfOk r (IsTrueOf C events)
 at-end C events i T made log (Ok x) low way kept last =
     finished C events T made log x (subst (λ (es : List Event). IsUnderWay C es T made log) (take_all i events low) way) kept last
 at-end C events i T made log (Err e) low way kept last = tt
 
-pub replay-of : (P : ProgramParts) (shape : Shape) (fuel : ℕ) (events : List Event) (m : Made) (r : Result Replayed Memory) → IsOpened P shape fuel m → IsKept m.state m.made
+pub replay-of : (P : ProgramParts) (shape : Shape) (fuel : ℕ) (events : List Event) (m : Made) (r : Result Replayed Memory) → IsInitialMachine P shape fuel m → IsKept m.state m.made
     → IfOk r (IsTrueOf m.state.setting events) → IfOk r (IsReplayOf P shape fuel events)
 replay-of P shape fuel events m (Ok x) at kept is = record { setting = m.state.setting; told = setting-of P shape fuel m at kept; is_true = is }
 replay-of P shape fuel events m (Err e) at kept is = tt

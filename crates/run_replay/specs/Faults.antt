@@ -11,7 +11,7 @@ abbrev pub most_bytes : ℕ
 most_bytes = 536870912
 
 -- the bytes, which are not too many, begin with a head and the lines of some events, and behind these stands the rest
-pub record BeginsWith (bytes : List ℕ) (h : Head) (events : List Event) (rest : List ℕ) : Type 0 where
+pub record BeginsWithEvents (bytes : List ℕ) (h : Head) (events : List Event) (rest : List ℕ) : Type 0 where
   pub within : length bytes ≤ most_bytes
   pub head : IsHead h
   pub told : All IsTold events
@@ -22,7 +22,7 @@ pub record IsBrokenAt (bytes : List ℕ) (number : ℕ) : Type 0 where
   pub head : Head
   pub before : List Event
   pub rest : List ℕ
-  pub begins : BeginsWith bytes head before rest
+  pub begins : BeginsWithEvents bytes head before rest
   pub place : length before ≡ number
   pub announced : number < head.count
   pub none : NoneStands IsTold event_line rest
@@ -32,7 +32,7 @@ pub record GoesOn (bytes : List ℕ) : Type 0 where
   pub head : Head
   pub events : List Event
   pub rest : List ℕ
-  pub begins : BeginsWith bytes head events rest
+  pub begins : BeginsWithEvents bytes head events rest
   pub all : length events ≡ head.count
   pub some : 0 < length rest
 

@@ -5,7 +5,7 @@ ghost use Rattle.message_net.specs.declared.event.Event.{Event};
 ghost use Rattle.registration_protocol.specs.Node.{Setting};
 ghost use Rattle.machine_rules.specs.Runs.{IsRun};
 ghost use Rattle.machine_rules.specs.Sound.{IsReady};
-ghost use Rattle.machine_rules.specs.State.{opened};
+ghost use Rattle.machine_rules.specs.State.{initial_state};
 ghost use Rattle.run_replay.specs.declared.trace.Trace.{Trace};
 ghost use Rattle.run_replay.specs.declared.replaying.Replayed.{Replayed};
 ghost use Rattle.run_replay.specs.Document.{IsTold, IsTrace, document_of};
@@ -29,5 +29,5 @@ pub fn events_have_one_replay()
 
 /// The events of a run of the opened machine are within the limits of a document.
 pub fn what_a_run_tells_fits_a_document()
-    ensures { (C : Setting) (events : List Event) → IsReady C → C.shape.cores ≤ 16 → IsRun (opened C) events → All IsTold events }
+    ensures { (C : Setting) (events : List Event) → IsReady C → C.shape.cores ≤ 16 → IsRun (initial_state C) events → All IsTold events }
 {}

@@ -1,10 +1,10 @@
 ghost use Rattle.std.specs.Prelude.{◌≡◌, ◌+◌, ◌<◌, ◌≤◌, true, Some, length, IfOk, OnOk};
 ghost use Rattle.region_table.specs.Program.{cores_of};
-ghost use Rattle.machine_rules.specs.State.{opened};
+ghost use Rattle.machine_rules.specs.State.{initial_state};
 ghost use Rattle.machine_rules.specs.Next.{enabled};
 ghost use Rattle.dn_machine.specs.Kept.{IsKept};
 ghost use Rattle.dn_machine.specs.Log.{core_of, end_there, HasCome};
-ghost use Rattle.run_replay.specs.Replay.{IsTrueOf, IsReplayOf, IsFinished};
+ghost use Rattle.run_replay.specs.Replay.{IsTrueOf, IsReplayOf, IsReplayOutcome};
 
 use dn_base::{Grant, Memory, Sequence, Shape};
 use dn_machine::{Happened, Log, Machine, a_machine_is_kept};
@@ -64,7 +64,7 @@ fn advance(machine: &mut Machine, event: Event) -> Result<Happened, Memory>
 
 /// What the events so far come to, where all of them came: a complete run, or none yet.
 fn finish(alloc: Global, machine: &Machine, log: Log) -> Result<Replayed, Memory>
-    ensures tells { IfOk result (IsFinished machine.now.state log) }
+    ensures tells { IfOk result (IsReplayOutcome machine.now.state log) }
     ensures kept { IsKept machine.now.state machine.now.made }
 {
     a_machine_is_kept(machine);
@@ -87,7 +87,7 @@ fn finish(alloc: Global, machine: &Machine, log: Log) -> Result<Replayed, Memory
 
 /// Replays events on a machine as a run begins.
 fn follow(alloc: Global, machine: Machine, events: &[Event]) -> Result<Replayed, Memory>
-    requires opened { machine.state ≡ opened machine.state.setting }
+    requires opened { machine.state ≡ initial_state machine.state.setting }
     requires made { machine.made ≡ 0 }
     requires few { length events.now ≤ 25169664 }
     ensures { IfOk result (IsTrueOf machine.state.setting events.now) }

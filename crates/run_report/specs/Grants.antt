@@ -10,5 +10,5 @@ grant_line g =
     codes "grant " ++ decimal g.phase.0 ++ space ++ decimal g.core.0 ++ space ++ decimal g.lock.0 ++ newline
 
 -- one line a grant, in their order
-unfoldable pub grants_of : List Grant → List ℕ
-grants_of grants = flat_map grant_line grants
+unfoldable pub grant_lines : List Grant → List ℕ
+grant_lines grants = flat_map grant_line grants

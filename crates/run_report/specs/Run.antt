@@ -6,10 +6,10 @@ use Rattle.message_net.specs.declared.event.EventKind as kind
 use Rattle.message_net.specs.declared.event.EventKind.{EventKind}
 use Rattle.rv_core.specs.declared.ending.Ending.{Ending}
 use Rattle.grant_log.specs.declared.counts.Counts.{Counts}
-use Rattle.grant_log.specs.Counts.{count_of}
+use Rattle.grant_log.specs.Counts.{kind_count}
 use Rattle.text_pieces.specs.Pieces.{newline, space}
 use Rattle.run_report.specs.Answer.{answer_of}
-use Rattle.run_report.specs.Grants.{grants_of}
+use Rattle.run_report.specs.Grants.{grant_lines}
 
 abbrev pub event_word : EventKind → List ℕ
 event_word kind.TheVariants.Instr = codes "instr"
@@ -40,20 +40,20 @@ all_kinds =
     ∷ kind.TheVariants.Halt ∷ []
 
 -- a word and how many events it counts
-unfoldable pub event_line : List ℕ → ℕ → List ℕ
-event_line word count = codes "count " ++ word ++ space ++ decimal count ++ newline
+unfoldable pub counted_line : List ℕ → ℕ → List ℕ
+counted_line word count = codes "count " ++ word ++ space ++ decimal count ++ newline
 
 -- how many events of a kind there were
 abbrev pub kind_line : Counts → EventKind → List ℕ
-kind_line counts k = event_line (event_word k) (count_of k counts)
+kind_line counts k = counted_line (event_word k) (kind_count k counts)
 
 -- how many events there were, and how many of each kind
 abbrev pub counts_text : Counts → List ℕ
-counts_text counts = event_line (codes "events") (sum counts.kinds) ++ flat_map (kind_line counts) all_kinds
+counts_text counts = counted_line (codes "events") (sum counts.kinds) ++ flat_map (kind_line counts) all_kinds
 
 -- the grants of locks in their order, and the counts of events
 unfoldable pub run_text : List Grant → Counts → List ℕ
-run_text grants counts = grants_of grants ++ counts_text counts
+run_text grants counts = grant_lines grants ++ counts_text counts
 
 -- the answer of a run, and then how it was made
 unfoldable pub report_of : Ending → List Grant → Counts → List ℕ

@@ -16,13 +16,13 @@ unfoldable pub sum_line : List ℕ → List ℕ
 sum_line memory = codes "sum " ++ hexadecimal (sum memory % 2 ^ 32) ++ newline
 
 -- the instructions that all tasks retired
-abbrev pub retired_by : List TaskEnd → ℕ
-retired_by tasks = sum_by (λ (t : TaskEnd). t.retired) tasks
+abbrev pub retired_by_all : List TaskEnd → ℕ
+retired_by_all tasks = sum_by (λ (t : TaskEnd). t.retired) tasks
 
 -- the outcome, how many tasks started, how many instructions they retired, how many data words there are, and their sum
 unfoldable pub summary_of : Ending → List ℕ
 summary_of e =
-    outcome_line e.outcome ++ count_line (codes "tasks ") (length e.tasks) ++ count_line (codes "retired ") (retired_by e.tasks)
+    outcome_line e.outcome ++ count_line (codes "tasks ") (length e.tasks) ++ count_line (codes "retired ") (retired_by_all e.tasks)
     ++ words_line (length e.memory) ++ sum_line e.memory
 
 -- how many phases, tasks and data words a program has

@@ -1,5 +1,5 @@
 ghost use Rattle.std.specs.Prelude.{◌≡◌, ◌++◌, flat_map, IfOk, OnOk};
-ghost use Rattle.run_report.specs.Grants.{grant_line, grants_of};
+ghost use Rattle.run_report.specs.Grants.{grant_line, grant_lines};
 
 use dn_base::{Grant, Memory};
 use std::alloc::Global;
@@ -31,9 +31,9 @@ pub(crate) fn push_grants(out: &mut Vec<u8>, grants: &[Grant]) -> Result<(), Mem
 ///
 /// # Errors
 /// `Memory` where there is no room for the text.
-#[tactic(auto, unfolding(crate::specs::Grants::grants_of))]
+#[tactic(auto, unfolding(crate::specs::Grants::grant_lines))]
 pub fn grant_text(alloc: Global, grants: &[Grant]) -> Result<Vec<u8>, Memory>
-    ensures { IfOk result (λ text. text.items ≡ grants_of grants.now) }
+    ensures { IfOk result (λ text. text.items ≡ grant_lines grants.now) }
 {
     let mut out = Vec::new(alloc);
     push_grants(&mut out, grants)?;

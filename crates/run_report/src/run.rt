@@ -1,5 +1,5 @@
 ghost use Rattle.std.specs.Prelude.{◌≡◌, ◌<◌, ◌≤◌, ◌++◌, length, flat_map, sum, IfOk, OnOk};
-ghost use Rattle.run_report.specs.Run.{event_word, all_kinds, event_line, kind_line, counts_text, run_text, report_of};
+ghost use Rattle.run_report.specs.Run.{event_word, all_kinds, counted_line, kind_line, counts_text, run_text, report_of};
 
 use crate::answer::answer_text;
 use crate::grants::push_grants;
@@ -62,9 +62,9 @@ pub fn event_name(kind: EventKind) -> &'static [u8]
 }
 
 /// Adds a word and how many events it counts.
-#[tactic(auto, unfolding(crate::specs::Run::event_line))]
+#[tactic(auto, unfolding(crate::specs::Run::counted_line))]
 fn push_event(out: &mut Vec<u8>, word: &[u8], count: u64) -> Result<(), Memory>
-    ensures { OnOk result (out.new.items ≡ out.old.items ++ event_line word.now count) }
+    ensures { OnOk result (out.new.items ≡ out.old.items ++ counted_line word.now count) }
 {
     push(out, b"count ")?;
     push(out, word)?;
@@ -106,7 +106,7 @@ fn push_counts(out: &mut Vec<u8>, counts: &Counts) -> Result<(), Memory>
 ///
 /// # Errors
 /// `Memory` where there is no room for the text.
-#[tactic(auto, unfolding(crate::specs::Run::report_of, crate::specs::Run::run_text, crate::specs::Grants::grants_of))]
+#[tactic(auto, unfolding(crate::specs::Run::report_of, crate::specs::Run::run_text, crate::specs::Grants::grant_lines))]
 pub fn report(
     alloc: Global,
     ending: &Ending,

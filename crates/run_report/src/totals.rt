@@ -1,6 +1,6 @@
 ghost use Rattle.std.specs.Prelude.{◌≡◌, ◌≤◌, ◌++◌, length, sum, IfOk, OnOk};
 ghost use Rattle.region_table.specs.Program.{tasks_of};
-ghost use Rattle.run_report.specs.Summary.{count_line, sum_line, retired_by, summary_of, checked_of};
+ghost use Rattle.run_report.specs.Summary.{count_line, sum_line, retired_by_all, summary_of, checked_of};
 
 use crate::answer::{push_count, push_outcome};
 use dn_base::Memory;
@@ -12,7 +12,7 @@ use text_pieces::{push, push_decimal, push_hexadecimal, push_long};
 /// The instructions that all tasks retired.
 fn retired(tasks: &[TaskEnd]) -> u64
     requires { length tasks.now ≤ 64 }
-    ensures { result ≡ retired_by tasks.now }
+    ensures { result ≡ retired_by_all tasks.now }
 {
     tasks.iter().map(|task| u64::from(task.retired)).sum()
 }

@@ -4,11 +4,11 @@ use Rattle.dn_base.specs.declared.ids.Shape.{Shape}
 use Rattle.message_net.specs.declared.actor.Actor.{Actor}
 use Rattle.message_net.specs.declared.event.Event.{Event}
 use Rattle.message_net.specs.declared.event.EventKind.{EventKind}
-use Rattle.message_net.specs.Mail.{place_of}
+use Rattle.message_net.specs.Mail.{actor_index}
 use Rattle.message_net.proofs.MailLemmas.{place_of-within}
 use Rattle.registration_protocol.specs.Node.{Setting}
-use Rattle.machine_rules.specs.State.{State, opened}
-use Rattle.machine_rules.specs.Next.{next, enabled, kind_in, number_of}
+use Rattle.machine_rules.specs.State.{State, initial_state}
+use Rattle.machine_rules.specs.Next.{next, enabled, kind_in, next_number}
 use Rattle.machine_rules.specs.Runs.{IsRun}
 use Rattle.machine_rules.specs.Sound.{IsReady}
 use Rattle.dn_machine.specs.Actors.{actor_in}
@@ -16,10 +16,10 @@ use Rattle.run_timing.specs.declared.rows.Rows.{Rows}
 use Rattle.run_timing.specs.declared.ticks.Ticks.{Ticks}
 use Rattle.run_timing.specs.Depends.{state_at, actor_at, kind_at, IsOwnBefore, IsSender}
 use Rattle.run_timing.specs.Noted.{AreRowsOf}
-use Rattle.run_timing.specs.Rows.{finish_in, later, with_row, AreNoted}
+use Rattle.run_timing.specs.Rows.{finish_in, later, with_timing_row, AreNoted}
 use Rattle.run_timing.specs.Ticks.{ticks_at}
 use Rattle.run_timing.specs.Ticks.{AreWithinLimits, ticks_of}
-use Rattle.run_timing.specs.Tracks.{last_at, noted_last, noted_mails, sender_in}
+use Rattle.run_timing.specs.Tracks.{last_at, noted_last, noted_senders, sender_in}
 use Rattle.run_timing.proofs.Moves.{has, place}
 use Rattle.run_timing.proofs.OnRuns.{enabled-at, there-at}
 use Rattle.run_timing.proofs.RowLemmas.{later-either}
@@ -34,22 +34,22 @@ pub record CanNote (shape : Shape) (last : List (Option ℕ)) (senders : List (L
   pub small : (i : ℕ) → i < length rows.finishes → finish_in rows i ≤ 25169664000000
 
 pub can-note : (ticks : Ticks) (C : Setting) (shape : Shape) (events : List Event) (n : ℕ) (state : State) (made : ℕ) (last : List (Option ℕ)) (senders : List (List ℕ)) (rows : Rows) (e : Event) (a : Actor) (at' : ℕ)
-    → C.shape ≡ shape → IsReady C → IsRun (opened C) events → length events ≤ 25169664 → IsTimed ticks C events n state made last senders rows → n < length events → slice_get events n ≡ Some e
-    → actor_in state e ≡ Some a → at' ≡ place_of shape.cores shape.banks a → CanNote shape last senders rows e at'
+    → C.shape ≡ shape → IsReady C → IsRun (initial_state C) events → length events ≤ 25169664 → IsTimed ticks C events n state made last senders rows → n < length events → slice_get events n ≡ Some e
+    → actor_in state e ≡ Some a → at' ≡ actor_index shape.cores shape.banks a → CanNote shape last senders rows e at'
 can-note ticks C shape events n state made last senders rows e a at' same ready run few timed within here is stands =
-    subst (CanNote shape last senders rows e) (sym stands) (subst (λ (s : Shape). CanNote s last senders rows e (place_of s.cores s.banks a)) same own_shape)
+    subst (CanNote shape last senders rows e) (sym stands) (subst (λ (s : Shape). CanNote s last senders rows e (actor_index s.cores s.banks a)) same own_shape)
   where
-    is-here : actor_in (state_at (opened C) events n) e ≡ Some a
+    is-here : actor_in (state_at (initial_state C) events n) e ≡ Some a
     is-here = subst (λ (X : State). actor_in X e ≡ Some a) timed.leads is
 
     there : has C a ≡ true
     there = there-at C events n e a ready run here is-here
 
-    now : actor_at (opened C) events n ≡ Some a
-    now = actor-here (opened C) events n e a here is-here
+    now : actor_at (initial_state C) events n ≡ Some a
+    now = actor-here (initial_state C) events n e a here is-here
 
-    may : enabled (state_at (opened C) events n) e ≡ true
-    may = enabled-at (opened C) events n e run here
+    may : enabled (state_at (initial_state C) events n) e ≡ true
+    may = enabled-at (initial_state C) events n e run here
 
     low : place C a < C.shape.cores + C.shape.banks + 1
     low = place_of-within C.shape.cores C.shape.banks a there
@@ -65,10 +65,10 @@ can-note ticks C shape events n state made last senders rows e a at' same ready 
         }
 
 pub run-more : (ticks : Ticks) (C : Setting) (shape : Shape) (events : List Event) (n : ℕ) (state new_state : State) (made new_made : ℕ) (last new_last : List (Option ℕ)) (senders new_senders : List (List ℕ)) (rows new_rows : Rows)
-    (e : Event) (a : Actor) (at' count number : ℕ) (before : Option ℕ) (kind : EventKind) → C.shape ≡ shape → IsReady C → IsRun (opened C) events
-    → IsTimed ticks C events n state made last senders rows → slice_get events n ≡ Some e → actor_in state e ≡ Some a → AreWithinLimits ticks → at' ≡ place_of shape.cores shape.banks a → number ≡ n
-    → before ≡ later (finish_in rows) (last_at last at') (sender_in shape.cores shape.banks senders e) → kind ≡ kind_in state e → number_of state a + count ≡ number_of (next state e) a
-    → new_state ≡ next state e → new_made ≡ made + 1 → new_last ≡ noted_last at' number last → new_senders ≡ noted_mails at' count number senders → new_rows ≡ with_row kind (ticks_of ticks kind) before rows
+    (e : Event) (a : Actor) (at' count number : ℕ) (before : Option ℕ) (kind : EventKind) → C.shape ≡ shape → IsReady C → IsRun (initial_state C) events
+    → IsTimed ticks C events n state made last senders rows → slice_get events n ≡ Some e → actor_in state e ≡ Some a → AreWithinLimits ticks → at' ≡ actor_index shape.cores shape.banks a → number ≡ n
+    → before ≡ later (finish_in rows) (last_at last at') (sender_in shape.cores shape.banks senders e) → kind ≡ kind_in state e → next_number state a + count ≡ next_number (next state e) a
+    → new_state ≡ next state e → new_made ≡ made + 1 → new_last ≡ noted_last at' number last → new_senders ≡ noted_senders at' count number senders → new_rows ≡ with_timing_row kind (ticks_of ticks kind) before rows
     → IsTimed ticks C events (n + 1) new_state new_made new_last new_senders new_rows
 run-more ticks C shape events n state new_state made new_made last new_last senders new_senders rows new_rows e a at' count number before kind same ready run timed here is limits stands numbered before_is kind_is counts
     state_is made_is last_is senders_is rows_is =
@@ -76,25 +76,25 @@ run-more ticks C shape events n state new_state made new_made last new_last send
     (subst (λ (x : ℕ). IsTimed ticks C events (n + 1) (next state e) x new_last new_senders new_rows) (sym made_is)
     (subst (λ (x : List (Option ℕ)). IsTimed ticks C events (n + 1) (next state e) (made + 1) x new_senders new_rows) (sym last_same)
     (subst (λ (x : List (List ℕ)). IsTimed ticks C events (n + 1) (next state e) (made + 1) (noted_last (place C a) n last) x new_rows) (sym senders_same)
-    (subst (λ (x : Rows). IsTimed ticks C events (n + 1) (next state e) (made + 1) (noted_last (place C a) n last) (noted_mails (place C a) count n senders) x) (sym rows_same)
+    (subst (λ (x : Rows). IsTimed ticks C events (n + 1) (next state e) (made + 1) (noted_last (place C a) n last) (noted_senders (place C a) count n senders) x) (sym rows_same)
     (timed-more ticks C events n state made last senders rows e a count ready run timed here is counts ((limits (kind_in state e)).1))))))
   where
     place_is : at' ≡ place C a
-    place_is = stands ∙ ap (λ (s : Shape). place_of s.cores s.banks a) (sym same)
+    place_is = stands ∙ ap (λ (s : Shape). actor_index s.cores s.banks a) (sym same)
 
     last_same : new_last ≡ noted_last (place C a) n last
     last_same = last_is ∙ (ap (λ (x : ℕ). noted_last x number last) place_is ∙ ap (λ (x : ℕ). noted_last (place C a) x last) numbered)
 
-    senders_same : new_senders ≡ noted_mails (place C a) count n senders
-    senders_same = senders_is ∙ (ap (λ (x : ℕ). noted_mails x count number senders) place_is ∙ ap (λ (x : ℕ). noted_mails (place C a) count x senders) numbered)
+    senders_same : new_senders ≡ noted_senders (place C a) count n senders
+    senders_same = senders_is ∙ (ap (λ (x : ℕ). noted_senders x count number senders) place_is ∙ ap (λ (x : ℕ). noted_senders (place C a) count x senders) numbered)
 
     before_same : before ≡ later (finish_in rows) (last_at last (place C a)) (sender_in C.shape.cores C.shape.banks senders e)
     before_same =
         before_is ∙ (ap (λ (x : ℕ). later (finish_in rows) (last_at last x) (sender_in shape.cores shape.banks senders e)) place_is
         ∙ ap (λ (s : Shape). later (finish_in rows) (last_at last (place C a)) (sender_in s.cores s.banks senders e)) (sym same))
 
-    rows_same : new_rows ≡ with_row (kind_in state e) (ticks_of ticks (kind_in state e)) (later (finish_in rows) (last_at last (place C a)) (sender_in C.shape.cores C.shape.banks senders e)) rows
-    rows_same = rows_is ∙ (ap (λ (k : EventKind). with_row k (ticks_of ticks k) before rows) kind_is ∙ ap (λ (b : Option ℕ). with_row (kind_in state e) (ticks_of ticks (kind_in state e)) b rows) before_same)
+    rows_same : new_rows ≡ with_timing_row (kind_in state e) (ticks_of ticks (kind_in state e)) (later (finish_in rows) (last_at last (place C a)) (sender_in C.shape.cores C.shape.banks senders e)) rows
+    rows_same = rows_is ∙ (ap (λ (k : EventKind). with_timing_row k (ticks_of ticks k) before rows) kind_is ∙ ap (λ (b : Option ℕ). with_timing_row (kind_in state e) (ticks_of ticks (kind_in state e)) b rows) before_same)
 
 -- the later of two events is earlier where both are
 pub before-within : (f : ℕ → ℕ) (own sender before : Option ℕ) (n : ℕ) → before ≡ later f own sender → ((p : ℕ) → own ≡ Some p → p < n) → ((p : ℕ) → sender ≡ Some p → p < n) → (p : ℕ) → before ≡ Some p → p < n
@@ -103,18 +103,18 @@ before-within f own sender before n is mine sent p there = by_either (later-eith
   by_either (inl first) = mine p first
   by_either (inr second) = sent p second
 
-pub run-none : (ticks : Ticks) (C : Setting) (shape : Shape) (events : List Event) (state : State) (made : ℕ) (last : List (Option ℕ)) (senders : List (List ℕ)) (rows : Rows) → C.shape ≡ shape → state ≡ opened C → made ≡ 0
+pub run-none : (ticks : Ticks) (C : Setting) (shape : Shape) (events : List Event) (state : State) (made : ℕ) (last : List (Option ℕ)) (senders : List (List ℕ)) (rows : Rows) → C.shape ≡ shape → state ≡ initial_state C → made ≡ 0
     → last ≡ replicate (shape.cores + shape.banks + 1) None → senders ≡ replicate (shape.cores + shape.banks + 1) [] → rows ≡ record { finishes = []; befores = []; kinds = [] }
     → IsTimed ticks C events 0 state made last senders rows
 run-none ticks C shape events state made last senders rows same state_is made_is last_is senders_is rows_is =
     subst (λ (x : State). IsTimed ticks C events 0 x made last senders rows) (sym state_is)
-    (subst (λ (x : ℕ). IsTimed ticks C events 0 (opened C) x last senders rows) (sym made_is)
-    (subst (λ (x : List (Option ℕ)). IsTimed ticks C events 0 (opened C) 0 x senders rows) (sym (last_is ∙ ap (λ (s : Shape). replicate (s.cores + s.banks + 1) None) (sym same)))
-    (subst (λ (x : List (List ℕ)). IsTimed ticks C events 0 (opened C) 0 (replicate (C.shape.cores + C.shape.banks + 1) None) x rows) (sym (senders_is ∙ ap (λ (s : Shape). replicate (s.cores + s.banks + 1) []) (sym same)))
-    (subst (λ (x : Rows). IsTimed ticks C events 0 (opened C) 0 (replicate (C.shape.cores + C.shape.banks + 1) None) (replicate (C.shape.cores + C.shape.banks + 1) []) x) (sym rows_is) (timed-none ticks C events)))))
+    (subst (λ (x : ℕ). IsTimed ticks C events 0 (initial_state C) x last senders rows) (sym made_is)
+    (subst (λ (x : List (Option ℕ)). IsTimed ticks C events 0 (initial_state C) 0 x senders rows) (sym (last_is ∙ ap (λ (s : Shape). replicate (s.cores + s.banks + 1) None) (sym same)))
+    (subst (λ (x : List (List ℕ)). IsTimed ticks C events 0 (initial_state C) 0 (replicate (C.shape.cores + C.shape.banks + 1) None) x rows) (sym (senders_is ∙ ap (λ (s : Shape). replicate (s.cores + s.banks + 1) []) (sym same)))
+    (subst (λ (x : Rows). IsTimed ticks C events 0 (initial_state C) 0 (replicate (C.shape.cores + C.shape.banks + 1) None) (replicate (C.shape.cores + C.shape.banks + 1) []) x) (sym rows_is) (timed-none ticks C events)))))
 
-pub run-end : (ticks : Ticks) (C : Setting) (events : List Event) (n : ℕ) (first state : State) (made : ℕ) (last : List (Option ℕ)) (senders : List (List ℕ)) (rows : Rows) → first ≡ opened C → n ≡ length events
+pub run-end : (ticks : Ticks) (C : Setting) (events : List Event) (n : ℕ) (first state : State) (made : ℕ) (last : List (Option ℕ)) (senders : List (List ℕ)) (rows : Rows) → first ≡ initial_state C → n ≡ length events
     → IsTimed ticks C events n state made last senders rows → AreRowsOf ticks first events rows
 run-end ticks C events n first state made last senders rows opens all timed =
     subst (λ (S : State). AreRowsOf ticks S events rows) (sym opens)
-    (subst (λ (k : ℕ). AreNoted (IsOwnBefore (opened C) events) (IsSender (opened C) events) (ticks_at ticks (opened C) events) (kind_at (opened C) events) k rows) all timed.noted)
+    (subst (λ (k : ℕ). AreNoted (IsOwnBefore (initial_state C) events) (IsSender (initial_state C) events) (ticks_at ticks (initial_state C) events) (kind_at (initial_state C) events) k rows) all timed.noted)

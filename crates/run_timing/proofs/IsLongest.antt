@@ -12,7 +12,7 @@ use Rattle.run_timing.specs.declared.ticks.Ticks.{Ticks}
 use Rattle.run_timing.specs.declared.timing.Link.{Link}
 use Rattle.run_timing.specs.declared.timing.Timing.{Timing}
 use Rattle.run_timing.specs.Chains.{IsChain, cost, last_of, IsFinish}
-use Rattle.run_timing.specs.Depends.{state_at, actor_of, actor_at, kind_at, IsOwnBefore, IsSender, DependsOn}
+use Rattle.run_timing.specs.Depends.{state_at, actor_of_event, actor_at, kind_at, IsOwnBefore, IsSender, DependsOn}
 use Rattle.run_timing.specs.Longest.{numbers_in, IsLinkOf, IsLongest}
 use Rattle.run_timing.specs.Noted.{AreRowsOf}
 use Rattle.run_timing.specs.Rows.{finish_in, before_in, behind, AreInStep, AreSummed, IsWay, IsLatest}
@@ -24,7 +24,7 @@ use Rattle.run_timing.proofs.Ways.{way-leads, way-link}
 -- an event that depends on one comes after it, and is one of the list
 actor-within : (S : State) (events : List Event) (i : ℕ) (a : Actor) → actor_at S events i ≡ Some a → i < length events
 actor-within S events i a is = by_event (slice_get events i) refl is where
-  by_event : (o : Option Event) → slice_get events i ≡ o → actor_of (state_at S events i) o ≡ Some a → i < length events
+  by_event : (o : Option Event) → slice_get events i ≡ o → actor_of_event (state_at S events i) o ≡ Some a → i < length events
   by_event None e made = absurd (none-some a made)
   by_event (Some x) e made = slice_get_within events i x e
 

@@ -3,12 +3,12 @@
 use Rattle.std.proofs.Common.{◌≡◌, ◌⊎◌, ℕ, zero, suc, ◌+◌, ◌<◌, ◌≤◌, List, [], ◌∷◌, ◌++◌, Option, Some, None, refl, ap, arith}
 use Rattle.std.proofs.lemmas.List.Sums.{sum_by-cons, sum_by_push}
 use Rattle.std.proofs.lemmas.Option.{same_Some, none-some}
-use Rattle.run_timing.specs.Rows.{behind, IsRow}
+use Rattle.run_timing.specs.Rows.{behind, IsTimingRow}
 use Rattle.run_timing.specs.Chains.{IsChainBehind, IsChain, cost, last_from, last_of, IsFinish}
 
 -- each of n numbers has such a row, and depends on earlier ones alone
 pub record AreRows (Own Sender : ℕ → ℕ → Type 0) (n : ℕ) (ticks f : ℕ → ℕ) (b : ℕ → Option ℕ) : Type 0 where
-  pub row : (i : ℕ) → i < n → IsRow Own Sender ticks f (b i) i
+  pub row : (i : ℕ) → i < n → IsTimingRow Own Sender ticks f (b i) i
   pub earlier : (p i : ℕ) → Own p i ⊎ Sender p i → (p < i) × (i < n)
 
 -- ---- no chain costs more than its last number's finish
@@ -74,7 +74,7 @@ finish-below Own Sender n ticks f b rows zero i low within = absurd (omega (arit
 finish-below Own Sender n ticks f b rows (suc most) i low within =
     by_before (b i) refl (λ p less. finish-below Own Sender n ticks f b rows most p (omega (arith, low, less)) (omega (arith, less, within)))
   where
-    row : IsRow Own Sender ticks f (b i) i
+    row : IsTimingRow Own Sender ticks f (b i) i
     row = rows.row i within
 
     by_before : (o : Option ℕ) → b i ≡ o → ((p : ℕ) → p < i → IsFinish (λ p j. Own p j ⊎ Sender p j) n ticks p (f p)) → IsFinish (λ p j. Own p j ⊎ Sender p j) n ticks i (f i)

@@ -13,8 +13,8 @@ use Rattle.message_net.specs.declared.message.Mail.{Mail}
 use Rattle.message_net.specs.declared.message.Message.{Message}
 use Rattle.message_net.specs.declared.message.Outgoing.{Outgoing}
 use Rattle.message_net.specs.Id.{same_actor}
-use Rattle.message_net.specs.Mail.{has_actor, place_of, all_mails}
-use Rattle.message_net.specs.Pool.{of_id, count_of, taken}
+use Rattle.message_net.specs.Mail.{has_actor, actor_index, all_mails}
+use Rattle.message_net.specs.Pool.{of_id, count_of, removed}
 use Rattle.message_net.proofs.PoolLemmas.{same_actor-true, same_actor-refl, sum_by-taken}
 use Rattle.message_net.proofs.MailLemmas.{place_of-within, sum_by-all_mails, count_of-mails_of}
 use Rattle.registry_bank.specs.Bank.{BankParts, bank_gets}
@@ -24,18 +24,18 @@ use Rattle.registration_protocol.specs.Node.{NodeParts, Setting}
 use Rattle.registration_protocol.specs.OwnEvents.{instructed, evicted, arrives}
 use Rattle.registration_protocol.specs.Messages.{node_gets}
 use Rattle.machine_rules.specs.State.{State}
-use Rattle.machine_rules.specs.Next.{next, place_in, sends, does_instr, does_evict, does_arrive, core_gets, bank_handles, gets, delivers}
+use Rattle.machine_rules.specs.Next.{next, actor_index_in, sends, does_instr, does_evict, does_arrive, core_gets, bank_handles, gets, delivers}
 use Rattle.machine_rules.specs.Sound.{IsMachine}
 use Rattle.machine_rules.proofs.MachineMails.{raised-here, unused}
 use Rattle.machine_rules.proofs.MachineKept.{posts_by}
-use Rattle.dn_machine.specs.Actors.{goes_to, actor_in}
+use Rattle.dn_machine.specs.Actors.{receiver_of, actor_in}
 
 -- whether a setting's machine has an actor, where it stands, and how many mails it has sent in a state
 abbrev pub has : Setting → Actor → Bool
 has C a = has_actor C.shape.cores C.shape.banks a
 
 abbrev pub place : Setting → Actor → ℕ
-place C a = place_of C.shape.cores C.shape.banks a
+place C a = actor_index C.shape.cores C.shape.banks a
 
 abbrev pub sent_so_far : Setting → State → Actor → ℕ
 sent_so_far C S a = slice_index S.numbers (place C a)
@@ -67,7 +67,7 @@ stays S nodes banks keeper left a good there fewer =
       grows = omega arith;
       others = λ b has_b apart. refl;
       sends = λ id none some. absurd (omega (arith, none, some, fewer id));
-      absent = λ k past. unused (place_in S) S.numbers S.mails a k good.numbered past;
+      absent = λ k past. unused (actor_index_in S) S.numbers S.mails a k good.numbered past;
       in_flight = λ k past below. absurd (omega (arith, past, below));
     }
 
@@ -101,7 +101,7 @@ posts S nodes banks keeper left a outs good there fewer =
       sends = λ id none some.
           let new = new-mail a old outs left id (omega (arith, none, fewer id)) some in
           (new.0, new.1, omega (arith, new.2, more));
-      absent = λ k past. unused (place_in S) S.numbers S.mails a k good.numbered past;
+      absent = λ k past. unused (actor_index_in S) S.numbers S.mails a k good.numbered past;
       in_flight = λ k past below. mail-sent a old outs left k past (omega (arith, below, more));
     }
   where
@@ -144,16 +144,16 @@ gets-move S left (Bank bank) m good there fewer = by_bank (slice_get S.banks ban
 gets-move S left Keeper m good there fewer =
     posts S S.nodes S.banks (keeper_gets S.keeper m).0 left Keeper (letters S.setting.shape.cores (keeper_gets S.keeper m).1) good there fewer
 
-handle-move : (S : State) (id : MailId) (a : Actor) → IsMachine S → goes_to (taken id S.mails).0 ≡ Some a → has S.setting a ≡ true
-    → IsMove S.setting S (delivers (record S { mails = (taken id S.mails).1 }) (taken id S.mails).0) a
-handle-move S id a good is there = by_mail (taken id S.mails).0 refl is where
-  by_mail : (o : Option Mail) → (taken id S.mails).0 ≡ o → goes_to o ≡ Some a → IsMove S.setting S (delivers (record S { mails = (taken id S.mails).1 }) o) a
+handle-move : (S : State) (id : MailId) (a : Actor) → IsMachine S → receiver_of (removed id S.mails).0 ≡ Some a → has S.setting a ≡ true
+    → IsMove S.setting S (delivers (record S { mails = (removed id S.mails).1 }) (removed id S.mails).0) a
+handle-move S id a good is there = by_mail (removed id S.mails).0 refl is where
+  by_mail : (o : Option Mail) → (removed id S.mails).0 ≡ o → receiver_of o ≡ Some a → IsMove S.setting S (delivers (record S { mails = (removed id S.mails).1 }) o) a
   by_mail None e is = absurd (none-some a is)
   by_mail (Some m) e is =
       let to : m.to ≡ a = same_Some m.to a is in
-      let fewer : AreFewer (taken id S.mails).1 S.mails = λ other. omega (arith, sum_by-taken (λ (x : Mail). cond (of_id other x) 1 0) id S.mails m e) in
-      subst (λ (x : Actor). IsMove S.setting S (gets (record S { mails = (taken id S.mails).1 }) m.to m.message) x) to
-      (gets-move S (taken id S.mails).1 m.to m.message good (rw to there) fewer)
+      let fewer : AreFewer (removed id S.mails).1 S.mails = λ other. omega (arith, sum_by-taken (λ (x : Mail). cond (of_id other x) 1 0) id S.mails m e) in
+      subst (λ (x : Actor). IsMove S.setting S (gets (record S { mails = (removed id S.mails).1 }) m.to m.message) x) to
+      (gets-move S (removed id S.mails).1 m.to m.message good (rw to there) fewer)
 
 pub event-move : (S : State) (e : Event) (a : Actor) → IsMachine S → actor_in S e ≡ Some a → has S.setting a ≡ true → IsMove S.setting S (next S e) a
 unfolding next actor_in

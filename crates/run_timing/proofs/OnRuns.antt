@@ -12,12 +12,12 @@ use Rattle.message_net.specs.declared.message.Mail.{Mail}
 use Rattle.message_net.specs.declared.message.Message.{Message}
 use Rattle.message_net.specs.declared.message.Message.TheVariants.{ReadReq, ReadFwd, DataReply, RegReq, RegFwd, RegAck, WriteBack, WbAck, Acquire, Release, Grant, Arrived, Go, Halt}
 use Rattle.message_net.specs.Mail.{has_actor}
-use Rattle.message_net.specs.Pool.{taken}
+use Rattle.message_net.specs.Pool.{removed}
 use Rattle.message_net.proofs.PoolLemmas.{taken-place, weight-within}
 use Rattle.registration_protocol.specs.Node.{NodeParts, Setting}
 use Rattle.registration_protocol.specs.OwnEvents.{may_instr, may_evict, may_arrive}
-use Rattle.machine_rules.specs.State.{State, opened}
-use Rattle.machine_rules.specs.Flight.{counted, bit}
+use Rattle.machine_rules.specs.State.{State, initial_state}
+use Rattle.machine_rules.specs.Flight.{mail_count, bit}
 use Rattle.machine_rules.specs.Next.{next, enabled, when_there}
 use Rattle.machine_rules.specs.Runs.{IsRun}
 use Rattle.machine_rules.specs.Sound.{IsReady, IsMachine}
@@ -25,7 +25,7 @@ use Rattle.machine_rules.proofs.Invariant.{Invariant, is_bank, is_core, is_keepe
 use Rattle.machine_rules.proofs.OpenedFacts.{opened-setting}
 use Rattle.machine_rules.proofs.RunsKept.{run-setting, memory_over}
 use Rattle.machine_rules.proofs.RunsCoherent.{run-all, first_memory}
-use Rattle.dn_machine.specs.Actors.{goes_to, actor_in}
+use Rattle.dn_machine.specs.Actors.{receiver_of, actor_in}
 use Rattle.run_timing.specs.Depends.{state_at}
 use Rattle.run_timing.proofs.Moves.{has, IsMove, event-move}
 
@@ -52,8 +52,8 @@ front-run S events zero run = tt
 front-run S [] (suc n) run = tt
 front-run S (x ∷ xs) (suc n) run = (run.0, front-run (next S x) xs n run.1)
 
-pub setting-at : (C : Setting) (events : List Event) (n : ℕ) → (state_at (opened C) events n).setting ≡ C
-setting-at C events n = run-setting (opened C) (take n events) ∙ opened-setting C
+pub setting-at : (C : Setting) (events : List Event) (n : ℕ) → (state_at (initial_state C) events n).setting ≡ C
+setting-at C events n = run-setting (initial_state C) (take n events) ∙ opened-setting C
 
 -- ---- actors
 
@@ -102,13 +102,13 @@ node-there S place test good may = by_node (slice_get S.nodes place) refl may wh
   by_node None is may = absurd (cc)
   by_node (Some n) is may = grind (arith, nat_tests, slice_get_within S.nodes place n is, good.nodes)
 
-mail-there : (S : State) (M : ℕ → ℕ) (id : MailId) (a : Actor) → Invariant S M → goes_to (taken id S.mails).0 ≡ Some a → has S.setting a ≡ true
-mail-there S M id a inv is = by_mail (taken id S.mails).0 refl is where
-  by_mail : (o : Option Mail) → (taken id S.mails).0 ≡ o → goes_to o ≡ Some a → has S.setting a ≡ true
+mail-there : (S : State) (M : ℕ → ℕ) (id : MailId) (a : Actor) → Invariant S M → receiver_of (removed id S.mails).0 ≡ Some a → has S.setting a ≡ true
+mail-there S M id a inv is = by_mail (removed id S.mails).0 refl is where
+  by_mail : (o : Option Mail) → (removed id S.mails).0 ≡ o → receiver_of o ≡ Some a → has S.setting a ≡ true
   by_mail None e is = absurd (none-some a is)
   by_mail (Some m) e is =
       let found = taken-place id S.mails m e in
-      let one = weight-within (counted (is_lost S.setting.shape.cores S.setting.shape.banks)) S.mails found.0 m found.1.here in
+      let one = weight-within (mail_count (is_lost S.setting.shape.cores S.setting.shape.banks)) S.mails found.0 m found.1.here in
       let right = not-lost (is_right S.setting.shape.cores S.setting.shape.banks m.to m.message) (omega (arith, one, inv.addressed)) in
       subst (λ (x : Actor). has S.setting x ≡ true) (same_Some m.to a is)
       (right-there S.setting.shape.cores S.setting.shape.banks m.to m.message inv.machine.context.some_banks right)
@@ -124,18 +124,18 @@ actor-there S M (Handle id) a inv may is = mail-there S M id a inv is
 
 -- ---- what an event of a run sends
 
-pub there-at : (C : Setting) (events : List Event) (n : ℕ) (e : Event) (a : Actor) → IsReady C → IsRun (opened C) events → slice_get events n ≡ Some e
-    → actor_in (state_at (opened C) events n) e ≡ Some a → has C a ≡ true
+pub there-at : (C : Setting) (events : List Event) (n : ℕ) (e : Event) (a : Actor) → IsReady C → IsRun (initial_state C) events → slice_get events n ≡ Some e
+    → actor_in (state_at (initial_state C) events n) e ≡ Some a → has C a ≡ true
 there-at C events n e a ready run here is =
-    let all = run-all C (take n events) ready (front-run (opened C) events n run) in
-    let there = actor-there (state_at (opened C) events n) (memory_over (first_memory C) (opened C) (take n events)) e a all.1 (enabled-at (opened C) events n e run here) is in
+    let all = run-all C (take n events) ready (front-run (initial_state C) events n run) in
+    let there = actor-there (state_at (initial_state C) events n) (memory_over (first_memory C) (initial_state C) (take n events)) e a all.1 (enabled-at (initial_state C) events n e run here) is in
     subst (λ (X : Setting). has X a ≡ true) (setting-at C events n) there
 
-pub move-at : (C : Setting) (events : List Event) (n : ℕ) (e : Event) (a : Actor) → IsReady C → IsRun (opened C) events → slice_get events n ≡ Some e
-    → actor_in (state_at (opened C) events n) e ≡ Some a → IsMove C (state_at (opened C) events n) (state_at (opened C) events (n + 1)) a
+pub move-at : (C : Setting) (events : List Event) (n : ℕ) (e : Event) (a : Actor) → IsReady C → IsRun (initial_state C) events → slice_get events n ≡ Some e
+    → actor_in (state_at (initial_state C) events n) e ≡ Some a → IsMove C (state_at (initial_state C) events n) (state_at (initial_state C) events (n + 1)) a
 move-at C events n e a ready run here is =
-    let S = state_at (opened C) events n in
-    let all = run-all C (take n events) ready (front-run (opened C) events n run) in
+    let S = state_at (initial_state C) events n in
+    let all = run-all C (take n events) ready (front-run (initial_state C) events n run) in
     let there : has S.setting a ≡ true = subst (λ (X : Setting). has X a ≡ true) (sym (setting-at C events n)) (there-at C events n e a ready run here is) in
-    subst (λ (X : Setting). IsMove X S (state_at (opened C) events (n + 1)) a) (setting-at C events n)
-    (subst (λ (T : State). IsMove S.setting S T a) (sym (next-at (opened C) events n e here)) (event-move S e a all.0.machine is there))
+    subst (λ (X : Setting). IsMove X S (state_at (initial_state C) events (n + 1)) a) (setting-at C events n)
+    (subst (λ (T : State). IsMove S.setting S T a) (sym (next-at (initial_state C) events n e here)) (event-move S e a all.0.machine is there))

@@ -8,13 +8,13 @@ use Rattle.message_net.specs.declared.event.Event.{Event}
 use Rattle.message_net.specs.declared.event.Event.TheVariants.{Handle}
 use Rattle.region_table.specs.Program.{ProgramParts}
 use Rattle.registration_protocol.specs.Node.{Setting}
-use Rattle.machine_rules.specs.State.{State, opened}
+use Rattle.machine_rules.specs.State.{State, initial_state}
 use Rattle.machine_rules.specs.Next.{kind_in}
 use Rattle.run_timing.specs.declared.ticks.Ticks.{Ticks}
 use Rattle.run_timing.specs.declared.timing.Link.{Link}
 use Rattle.run_timing.specs.declared.timing.Timing.{Timing}
 use Rattle.run_timing.specs.Chains.{cost}
-use Rattle.run_timing.specs.Depends.{state_at, kind_of, kind_at, IsOwnBefore, Sends, IsSender, DependsOn}
+use Rattle.run_timing.specs.Depends.{state_at, kind_if_any, kind_at, IsOwnBefore, Sends, IsSender, DependsOn}
 use Rattle.run_timing.specs.Longest.{FinishesAt, numbers_in, IsLongest, IsTimingOf}
 use Rattle.run_timing.specs.Ticks.{AreWithinLimits, ticks_of, ticks_with, ticks_at}
 use Rattle.run_timing.proofs.IsLongest.{depends-within}
@@ -53,7 +53,7 @@ some-ticks : (ticks : Ticks) (S : State) (events : List Event) (i : ℕ) → Are
 some-ticks ticks S events i limits below =
     let e = event-at events i below in
     let kind = kind_in (state_at S events i) e.0 in
-    let takes : ticks_at ticks S events i ≡ ticks_of ticks kind = ap (λ (o : Option Event). ticks_with ticks (kind_of (state_at S events i) o)) e.1 in
+    let takes : ticks_at ticks S events i ≡ ticks_of ticks kind = ap (λ (o : Option Event). ticks_with ticks (kind_if_any (state_at S events i) o)) e.1 in
     omega (arith, takes, (limits kind).0)
 
 single : (ticks : Ticks) (S : State) (events : List Event) → AreWithinLimits ticks → AreSingle (IsOwnBefore S events) (IsSender S events) (length events) (ticks_at ticks S events)
@@ -144,4 +144,4 @@ pub one-timing : (P : ProgramParts) (machine : Shape) (most : ℕ) (events : Lis
     → IsTimingOf P machine most events ticks u → (t.total ≡ u.total) × (t.links.items ≡ u.links.items)
 one-timing P machine most events ticks t u limits is also =
     let same : also.setting ≡ is.setting = same-setting P machine most also.setting is.setting also.told is.told in
-    one-longest ticks (opened is.setting) events t u limits is.longest (subst (λ (C : Setting). IsLongest ticks (opened C) events u) same also.longest)
+    one-longest ticks (initial_state is.setting) events t u limits is.longest (subst (λ (C : Setting). IsLongest ticks (initial_state C) events u) same also.longest)

@@ -6,7 +6,7 @@ use Rattle.std.proofs.lemmas.List.{get_or_append_left, get_or_push, length_push}
 use Rattle.std.proofs.lemmas.Option.{none-some, same_Some}
 use Rattle.message_net.specs.declared.event.EventKind.{EventKind}
 use Rattle.run_timing.specs.declared.rows.Rows.{Rows}
-use Rattle.run_timing.specs.Rows.{finish_in, before_in, behind, later, with_row, IsRow, AreNoted}
+use Rattle.run_timing.specs.Rows.{finish_in, before_in, behind, later, with_timing_row, IsTimingRow, AreNoted}
 
 -- ---- the row of an event, from what it depends on
 
@@ -18,7 +18,7 @@ pub record IsChoice (Own Sender : ℕ → ℕ → Type 0) (i : ℕ) (own sender 
   pub sender_known : (p : ℕ) → Sender p i → sender ≡ Some p
 
 pub choice-row : (Own Sender : ℕ → ℕ → Type 0) (ticks f : ℕ → ℕ) (i : ℕ) (own sender : Option ℕ) → IsChoice Own Sender i own sender → f i ≡ ticks i + behind f (later f own sender)
-    → IsRow Own Sender ticks f (later f own sender) i
+    → IsTimingRow Own Sender ticks f (later f own sender) i
 choice-row Own Sender ticks f i None None is finish =
     record {
       finish = finish;
@@ -53,7 +53,7 @@ choice-row Own Sender ticks f i (Some o) None is finish =
     low p (inl mine) = let same : o ≡ p = same_Some o p (is.own_known p mine) in rw same (omega arith)
     low p (inr sent) = absurd (none-some p (is.sender_known p sent))
 choice-row Own Sender ticks f i (Some o) (Some s) is finish = by_test (nat_lt (f o) (f s)) refl finish where
-  by_test : (t : Bool) → nat_lt (f o) (f s) ≡ t → f i ≡ ticks i + behind f (cond t (Some s) (Some o)) → IsRow Own Sender ticks f (cond t (Some s) (Some o)) i
+  by_test : (t : Bool) → nat_lt (f o) (f s) ≡ t → f i ≡ ticks i + behind f (cond t (Some s) (Some o)) → IsTimingRow Own Sender ticks f (cond t (Some s) (Some o)) i
   by_test true e total =
       record {
         finish = total;
@@ -87,8 +87,8 @@ choice-row Own Sender ticks f i (Some o) (Some s) is finish = by_test (nat_lt (f
       low p (inr sent) = let same : s ≡ p = same_Some s p (is.sender_known p sent) in rw (← same) (grind (arith, nat_tests, e))
 
 -- a row tells the same of finishes that are the same up to it
-row-same : (Own Sender : ℕ → ℕ → Type 0) (ticks f g : ℕ → ℕ) (before : Option ℕ) (i : ℕ) → IsRow Own Sender ticks f before i → ((p : ℕ) → Own p i ⊎ Sender p i → f p ≡ g p) → f i ≡ g i
-    → IsRow Own Sender ticks g before i
+row-same : (Own Sender : ℕ → ℕ → Type 0) (ticks f g : ℕ → ℕ) (before : Option ℕ) (i : ℕ) → IsTimingRow Own Sender ticks f before i → ((p : ℕ) → Own p i ⊎ Sender p i → f p ≡ g p) → f i ≡ g i
+    → IsTimingRow Own Sender ticks g before i
 row-same Own Sender ticks f g before i row same here =
     record {
       finish = sym here ∙ (row.finish ∙ ap (λ (x : ℕ). ticks i + x) (by_before before row.depends));
@@ -144,7 +144,7 @@ none-noted Own Sender ticks kinds =
 
 pub noted-more : (Own Sender : ℕ → ℕ → Type 0) (ticks : ℕ → ℕ) (kinds : ℕ → Option EventKind) (n : ℕ) (rows : Rows) (own sender : Option ℕ) (kind : EventKind) (count : ℕ)
     → ((p i : ℕ) → Own p i ⊎ Sender p i → p < i) → AreNoted Own Sender ticks kinds n rows → IsChoice Own Sender n own sender → kinds n ≡ Some kind → ticks n ≡ count → count ≤ 1000000
-    → AreNoted Own Sender ticks kinds (n + 1) (with_row kind count (later (finish_in rows) own sender) rows)
+    → AreNoted Own Sender ticks kinds (n + 1) (with_timing_row kind count (later (finish_in rows) own sender) rows)
 noted-more Own Sender ticks kinds n rows own sender kind count earlier noted choice kind_is ticks_is low =
     record {
       finishes = omega (arith, length_push rows.finishes (behind f before + count), noted.finishes);
@@ -162,7 +162,7 @@ noted-more Own Sender ticks kinds n rows own sender kind count earlier noted cho
     before = later f own sender
 
     all : Rows
-    all = with_row kind count before rows
+    all = with_timing_row kind count before rows
 
     finish-old : (i : ℕ) → i < n → finish_in all i ≡ f i
     finish-old i below = get_or_append_left rows.finishes ((behind f before + count) ∷ []) 0 i (omega (arith, below, noted.finishes))
@@ -195,20 +195,20 @@ noted-more Own Sender ticks kinds n rows own sender kind count earlier noted cho
     before-same : before ≡ later (finish_in all) own sender
     before-same = later-same f (finish_in all) own sender (λ p is. sym (finish-old p (earlier-own p is))) (λ p is. sym (finish-old p (earlier-sender p is)))
 
-    new_row : IsRow Own Sender ticks (finish_in all) before n
+    new_row : IsTimingRow Own Sender ticks (finish_in all) before n
     new_row =
         let total : finish_in all n ≡ ticks n + behind (finish_in all) before = omega (arith, finish-new, behind-same before before-earlier, ticks_is) in
-        subst (λ (b : Option ℕ). IsRow Own Sender ticks (finish_in all) b n) (sym before-same)
+        subst (λ (b : Option ℕ). IsTimingRow Own Sender ticks (finish_in all) b n) (sym before-same)
         (choice-row Own Sender ticks (finish_in all) n own sender choice (subst (λ (b : Option ℕ). finish_in all n ≡ ticks n + behind (finish_in all) b) before-same total))
 
-    row : (i : ℕ) → i < n + 1 → (t : Bool) → (i == n) ≡ t → IsRow Own Sender ticks (finish_in all) (before_in all i) i
+    row : (i : ℕ) → i < n + 1 → (t : Bool) → (i == n) ≡ t → IsTimingRow Own Sender ticks (finish_in all) (before_in all i) i
     row i below true e =
         let same : n ≡ i = sym (eqb-true i n e) in
-        subst (λ (x : ℕ). IsRow Own Sender ticks (finish_in all) (before_in all x) x) same
-        (subst (λ (b : Option ℕ). IsRow Own Sender ticks (finish_in all) b n) (sym before-new) new_row)
+        subst (λ (x : ℕ). IsTimingRow Own Sender ticks (finish_in all) (before_in all x) x) same
+        (subst (λ (b : Option ℕ). IsTimingRow Own Sender ticks (finish_in all) b n) (sym before-new) new_row)
     row i below false e =
         let old : i < n = grind (arith, nat_tests, below, e) in
-        subst (λ (b : Option ℕ). IsRow Own Sender ticks (finish_in all) b i) (sym (before-old i old))
+        subst (λ (b : Option ℕ). IsTimingRow Own Sender ticks (finish_in all) b i) (sym (before-old i old))
         (row-same Own Sender ticks f (finish_in all) (before_in rows i) i (noted.row i old) (λ p d. sym (finish-old p (omega (arith, earlier p i d, old)))) (sym (finish-old i old)))
 
     kinds_are : (i : ℕ) → i < n + 1 → (t : Bool) → (i == n) ≡ t → slice_get all.kinds i ≡ kinds i

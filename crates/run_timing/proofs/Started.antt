@@ -10,7 +10,7 @@ use Rattle.message_net.specs.declared.event.EventKind.TheVariants.{Instr as Inst
 use Rattle.machine_rules.specs.State.{State}
 use Rattle.machine_rules.specs.Runs.{IsRun}
 use Rattle.machine_rules.specs.Sound.{IsReady}
-use Rattle.dn_machine.specs.Kept.{Made, IsKept, IsOpened}
+use Rattle.dn_machine.specs.Kept.{Made, IsKept, IsInitialMachine}
 use Rattle.run_timing.specs.declared.rows.Rows.{Rows}
 use Rattle.run_timing.specs.declared.ticks.Ticks.{Ticks}
 use Rattle.run_timing.specs.declared.timing.Timing.{Timing}
@@ -25,7 +25,7 @@ use Rattle.run_timing.proofs.IsLongest.{way-longest}
 pub ready-of : (S : State) (made : ℕ) → IsKept S made → IsReady S.setting
 ready-of S made kept = record { context = kept.sound.machine.context; program = kept.sound.machine.program; checked = kept.sound.machine.checked }
 
-pub setting-of : (P : ProgramParts) (machine : Shape) (most : ℕ) (m : Made) → IsOpened P machine most m → IsKept m.state m.made → IsSettingOf P machine most m.state.setting
+pub setting-of : (P : ProgramParts) (machine : Shape) (most : ℕ) (m : Made) → IsInitialMachine P machine most m → IsKept m.state m.made → IsSettingOf P machine most m.state.setting
 setting-of P machine most m opens kept =
     record {
       program = opens.program_is;
@@ -35,7 +35,7 @@ setting-of P machine most m opens kept =
       fuel = opens.fuel_is;
     }
 
-pub run-of : (P : ProgramParts) (machine : Shape) (most : ℕ) (m : Made) (events : List Event) → IsOpened P machine most m → IsKept m.state m.made → IsRunOn P machine most events → IsRun m.state events
+pub run-of : (P : ProgramParts) (machine : Shape) (most : ℕ) (m : Made) (events : List Event) → IsInitialMachine P machine most m → IsKept m.state m.made → IsRunOn P machine most events → IsRun m.state events
 run-of P machine most m events opens kept run =
     subst (λ (S : State). IsRun S events) (sym opens.state) (run m.state.setting (setting-of P machine most m opens kept))
 
@@ -49,7 +49,7 @@ some-time ticks S events rows limits noted i within =
     let takes = ap (ticks_with ticks) told in
     omega (arith, (noted.row i below).finish, takes, (limits kind).0)
 
-pub timing-of : (P : ProgramParts) (machine : Shape) (most : ℕ) (m : Made) (events : List Event) (ticks : Ticks) (rows : Rows) (last : Option ℕ) (timing : Timing) → IsOpened P machine most m
+pub timing-of : (P : ProgramParts) (machine : Shape) (most : ℕ) (m : Made) (events : List Event) (ticks : Ticks) (rows : Rows) (last : Option ℕ) (timing : Timing) → IsInitialMachine P machine most m
     → IsKept m.state m.made → length events ≤ 25169664 → AreRowsOf ticks m.state events rows → IsLatest (length rows.finishes) (finish_in rows) last → IsWay rows None last timing.links.items
     → timing.total ≡ behind (finish_in rows) last → IsTimingOf P machine most events ticks timing
 timing-of P machine most m events ticks rows last timing opens kept few noted latest way total =

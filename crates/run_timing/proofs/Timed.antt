@@ -10,17 +10,17 @@ use Rattle.message_net.specs.declared.event.Event.TheVariants.{Instr, Evict, Arr
 use Rattle.message_net.specs.Mail.{has_actor}
 use Rattle.message_net.specs.Pool.{count_of}
 use Rattle.registration_protocol.specs.Node.{Setting}
-use Rattle.machine_rules.specs.State.{State, opened}
-use Rattle.machine_rules.specs.Next.{next, enabled, kind_in, number_of}
+use Rattle.machine_rules.specs.State.{State, initial_state}
+use Rattle.machine_rules.specs.Next.{next, enabled, kind_in, next_number}
 use Rattle.machine_rules.specs.Runs.{IsRun}
 use Rattle.machine_rules.specs.Sound.{IsReady}
 use Rattle.dn_machine.specs.Actors.{actor_in}
 use Rattle.run_timing.specs.declared.rows.Rows.{Rows}
 use Rattle.run_timing.specs.declared.ticks.Ticks.{Ticks}
-use Rattle.run_timing.specs.Depends.{state_at, actor_of, actor_at, kind_of, kind_at, IsOwnBefore, Sends, IsSender, DependsOn}
-use Rattle.run_timing.specs.Rows.{finish_in, later, with_row, AreNoted}
+use Rattle.run_timing.specs.Depends.{state_at, actor_of_event, actor_at, kind_if_any, kind_at, IsOwnBefore, Sends, IsSender, DependsOn}
+use Rattle.run_timing.specs.Rows.{finish_in, later, with_timing_row, AreNoted}
 use Rattle.run_timing.specs.Ticks.{ticks_of, ticks_with, ticks_at}
-use Rattle.run_timing.specs.Tracks.{last_at, noted_last, noted_mails, sender_in}
+use Rattle.run_timing.specs.Tracks.{last_at, noted_last, noted_senders, sender_in}
 use Rattle.run_timing.proofs.Moves.{has, place, sent_so_far, IsMove}
 use Rattle.run_timing.proofs.OnRuns.{next-at, enabled-at, setting-at, there-at, move-at}
 use Rattle.run_timing.proofs.RowLemmas.{IsChoice, none-noted, noted-more}
@@ -30,10 +30,10 @@ use Rattle.run_timing.proofs.Tracked.{IsLastOf, IsTurn, AreTables, tables-more}
 
 abbrev pub AreTablesOf : Setting → List Event → ℕ → List (Option ℕ) → List (List ℕ) → Type 0
 AreTablesOf C events n last senders =
-    AreTables C.shape.cores C.shape.banks (actor_at (opened C) events) (λ k a. sent_so_far C (state_at (opened C) events k) a) (Sends (opened C) events) n last senders
+    AreTables C.shape.cores C.shape.banks (actor_at (initial_state C) events) (λ k a. sent_so_far C (state_at (initial_state C) events k) a) (Sends (initial_state C) events) n last senders
 
-turn-of : (C : Setting) (events : List Event) (n : ℕ) (a : Actor) → IsMove C (state_at (opened C) events n) (state_at (opened C) events (n + 1)) a
-    → IsTurn C.shape.cores C.shape.banks (λ k b. sent_so_far C (state_at (opened C) events k) b) (Sends (opened C) events) n a
+turn-of : (C : Setting) (events : List Event) (n : ℕ) (a : Actor) → IsMove C (state_at (initial_state C) events n) (state_at (initial_state C) events (n + 1)) a
+    → IsTurn C.shape.cores C.shape.banks (λ k b. sent_so_far C (state_at (initial_state C) events k) b) (Sends (initial_state C) events) n a
 turn-of C events n a move =
     record {
       there = move.there;
@@ -49,7 +49,7 @@ no-item (suc n) zero x = refl
 no-item (suc n) (suc i) x = no-item n i x
 
 pub no-tables : (C : Setting) (events : List Event) → AreTablesOf C events 0 (replicate (C.shape.cores + C.shape.banks + 1) None) (replicate (C.shape.cores + C.shape.banks + 1) [])
-unfolding opened
+unfolding initial_state
 no-tables C events =
     record {
       lasts = length-replicate actors None;
@@ -66,27 +66,27 @@ no-tables C events =
 
 -- a mail is in flight after event number p, and from then on until event number n
 abbrev pub IsInFlight : Setting → List Event → MailId → ℕ → ℕ → Type 0
-IsInFlight C events id p n = (k : ℕ) → p < k → k ≤ n → 1 ≤ count_of id (state_at (opened C) events k).mails
+IsInFlight C events id p n = (k : ℕ) → p < k → k ≤ n → 1 ≤ count_of id (state_at (initial_state C) events k).mails
 
 -- each mail in flight was sent by an event, and is in flight since
 abbrev pub HaveSenders : Setting → List Event → ℕ → Type 0
-HaveSenders C events n = (id : MailId) → 1 ≤ count_of id (state_at (opened C) events n).mails → (p : ℕ) × (p < n) × Sends (opened C) events p id × IsInFlight C events id p n
+HaveSenders C events n = (id : MailId) → 1 ≤ count_of id (state_at (initial_state C) events n).mails → (p : ℕ) × (p < n) × Sends (initial_state C) events p id × IsInFlight C events id p n
 
 pub no-mails : (C : Setting) (events : List Event) → HaveSenders C events 0
-unfolding opened
+unfolding initial_state
 no-mails C events id some = absurd (omega (arith, some))
 
-in-flight-more : (C : Setting) (events : List Event) (id : MailId) (p n : ℕ) → IsInFlight C events id p n → 1 ≤ count_of id (state_at (opened C) events (n + 1)).mails → IsInFlight C events id p (n + 1)
+in-flight-more : (C : Setting) (events : List Event) (id : MailId) (p n : ℕ) → IsInFlight C events id p n → 1 ≤ count_of id (state_at (initial_state C) events (n + 1)).mails → IsInFlight C events id p (n + 1)
 in-flight-more C events id p n was some k past below = by_test (nat_lt n k) refl where
-  by_test : (t : Bool) → nat_lt n k ≡ t → 1 ≤ count_of id (state_at (opened C) events k).mails
+  by_test : (t : Bool) → nat_lt n k ≡ t → 1 ≤ count_of id (state_at (initial_state C) events k).mails
   by_test true e =
       let same : n + 1 ≡ k = grind (arith, nat_tests, e, below) in
-      subst (λ (x : ℕ). 1 ≤ count_of id (state_at (opened C) events x).mails) same some
+      subst (λ (x : ℕ). 1 ≤ count_of id (state_at (initial_state C) events x).mails) same some
   by_test false e = was k past (grind (arith, nat_tests, e))
 
 mails-more : (C : Setting) (events : List Event) (n : ℕ) → HaveSenders C events n → HaveSenders C events (n + 1)
-mails-more C events n were id some = by_test (nat_lt 0 (count_of id (state_at (opened C) events n).mails)) refl where
-  by_test : (t : Bool) → nat_lt 0 (count_of id (state_at (opened C) events n).mails) ≡ t → (p : ℕ) × (p < n + 1) × Sends (opened C) events p id × IsInFlight C events id p (n + 1)
+mails-more C events n were id some = by_test (nat_lt 0 (count_of id (state_at (initial_state C) events n).mails)) refl where
+  by_test : (t : Bool) → nat_lt 0 (count_of id (state_at (initial_state C) events n).mails) ≡ t → (p : ℕ) × (p < n + 1) × Sends (initial_state C) events p id × IsInFlight C events id p (n + 1)
   by_test true e =
       let old = were id (grind (arith, nat_tests, e)) in
       (old.0, omega (arith, old.1), old.2, in-flight-more C events id old.0 n old.3 some)
@@ -97,20 +97,20 @@ mails-more C events n were id some = by_test (nat_lt 0 (count_of id (state_at (o
 -- ---- what an event depends on stands in the tables
 
 pub own-choice : (C : Setting) (events : List Event) (n : ℕ) (last : List (Option ℕ)) (senders : List (List ℕ)) (a : Actor) (p : ℕ) → AreTablesOf C events n last senders → has C a ≡ true
-    → actor_at (opened C) events n ≡ Some a → last_at last (place C a) ≡ Some p → IsOwnBefore (opened C) events p n
+    → actor_at (initial_state C) events n ≡ Some a → last_at last (place C a) ≡ Some p → IsOwnBefore (initial_state C) events p n
 own-choice C events n last senders a p tables there now is =
     let was = tables.last_is a p there is in
     record { earlier = was.earlier; actor = a; makes = was.makes; makes_next = now; none_between = was.none_since }
 
 own-known : (C : Setting) (events : List Event) (n : ℕ) (last : List (Option ℕ)) (senders : List (List ℕ)) (a : Actor) (p : ℕ) → AreTablesOf C events n last senders → has C a ≡ true
-    → actor_at (opened C) events n ≡ Some a → IsOwnBefore (opened C) events p n → last_at last (place C a) ≡ Some p
+    → actor_at (initial_state C) events n ≡ Some a → IsOwnBefore (initial_state C) events p n → last_at last (place C a) ≡ Some p
 own-known C events n last senders a p tables there now is =
     let same : is.actor ≡ a = same_Some is.actor a (sym is.makes_next ∙ now) in
-    let was : IsLastOf (actor_at (opened C) events) n is.actor p = record { earlier = is.earlier; makes = is.makes; none_since = is.none_between } in
-    tables.last_known a p there (subst (λ (x : Actor). IsLastOf (actor_at (opened C) events) n x p) same was)
+    let was : IsLastOf (actor_at (initial_state C) events) n is.actor p = record { earlier = is.earlier; makes = is.makes; none_since = is.none_between } in
+    tables.last_known a p there (subst (λ (x : Actor). IsLastOf (actor_at (initial_state C) events) n x p) same was)
 
 pub mail-choice : (C : Setting) (events : List Event) (n : ℕ) (last : List (Option ℕ)) (senders : List (List ℕ)) (e : Event) (p : ℕ) → AreTablesOf C events n last senders → HaveSenders C events n
-    → slice_get events n ≡ Some e → enabled (state_at (opened C) events n) e ≡ true → sender_in C.shape.cores C.shape.banks senders e ≡ Some p → IsSender (opened C) events p n
+    → slice_get events n ≡ Some e → enabled (state_at (initial_state C) events n) e ≡ true → sender_in C.shape.cores C.shape.banks senders e ≡ Some p → IsSender (initial_state C) events p n
 unfolding enabled
 mail-choice C events n last senders (Instr core) p tables have here may is = absurd (none-some p is)
 mail-choice C events n last senders (Evict core word) p tables have here may is = absurd (none-some p is)
@@ -123,7 +123,7 @@ mail-choice C events n last senders (Handle id) p tables have here may is =
     record { earlier = all.0; id = id; handled = here; sent = all.1; in_flight = subst (λ (x : ℕ). IsInFlight C events id x n) same sent.3 }
 
 mail-known : (C : Setting) (events : List Event) (n : ℕ) (last : List (Option ℕ)) (senders : List (List ℕ)) (e : Event) (p : ℕ) → AreTablesOf C events n last senders
-    → slice_get events n ≡ Some e → IsSender (opened C) events p n → sender_in C.shape.cores C.shape.banks senders e ≡ Some p
+    → slice_get events n ≡ Some e → IsSender (initial_state C) events p n → sender_in C.shape.cores C.shape.banks senders e ≡ Some p
 mail-known C events n last senders e p tables here is =
     let same : Handle is.id ≡ e = same_Some (Handle is.id) e (sym is.handled ∙ here) in
     subst (λ (x : Event). sender_in C.shape.cores C.shape.banks senders x ≡ Some p) same (tables.sender_known p is.id is.earlier is.sent).1
@@ -132,21 +132,21 @@ mail-known C events n last senders e p tables here is =
 
 -- before event number n the machine's state, the tables and the rows are those of the events before it
 pub record IsTimed (ticks : Ticks) (C : Setting) (events : List Event) (n : ℕ) (state : State) (made : ℕ) (last : List (Option ℕ)) (senders : List (List ℕ)) (rows : Rows) : Type 0 where
-  pub leads : state ≡ state_at (opened C) events n
+  pub leads : state ≡ state_at (initial_state C) events n
   pub counts : made ≡ n
   pub tables : AreTablesOf C events n last senders
   pub have : HaveSenders C events n
-  pub noted : AreNoted (IsOwnBefore (opened C) events) (IsSender (opened C) events) (ticks_at ticks (opened C) events) (kind_at (opened C) events) n rows
+  pub noted : AreNoted (IsOwnBefore (initial_state C) events) (IsSender (initial_state C) events) (ticks_at ticks (initial_state C) events) (kind_at (initial_state C) events) n rows
 
 pub timed-none : (ticks : Ticks) (C : Setting) (events : List Event)
-    → IsTimed ticks C events 0 (opened C) 0 (replicate (C.shape.cores + C.shape.banks + 1) None) (replicate (C.shape.cores + C.shape.banks + 1) []) (record { finishes = []; befores = []; kinds = [] })
+    → IsTimed ticks C events 0 (initial_state C) 0 (replicate (C.shape.cores + C.shape.banks + 1) None) (replicate (C.shape.cores + C.shape.banks + 1) []) (record { finishes = []; befores = []; kinds = [] })
 timed-none ticks C events =
     record {
       leads = refl;
       counts = refl;
       tables = no-tables C events;
       have = no-mails C events;
-      noted = none-noted (IsOwnBefore (opened C) events) (IsSender (opened C) events) (ticks_at ticks (opened C) events) (kind_at (opened C) events);
+      noted = none-noted (IsOwnBefore (initial_state C) events) (IsSender (initial_state C) events) (ticks_at ticks (initial_state C) events) (kind_at (initial_state C) events);
     }
 
 -- what an event depends on comes before it
@@ -155,68 +155,68 @@ depends-earlier S events p i (inl own) = own.earlier
 depends-earlier S events p i (inr sender) = sender.earlier
 
 -- the numbers of mails by the state or by the setting
-pub number-so_far : (C : Setting) (S : State) (a : Actor) → S.setting ≡ C → number_of S a ≡ sent_so_far C S a
+pub number-so_far : (C : Setting) (S : State) (a : Actor) → S.setting ≡ C → next_number S a ≡ sent_so_far C S a
 number-so_far C S a same = ap (λ (X : Setting). slice_index S.numbers (place X a)) same
 
 -- the kind, the ticks and the actor of an event, in the state in which it comes
 kind-here : (S : State) (events : List Event) (n : ℕ) (e : Event) → slice_get events n ≡ Some e → kind_at S events n ≡ Some (kind_in (state_at S events n) e)
-kind-here S events n e here = ap (kind_of (state_at S events n)) here
+kind-here S events n e here = ap (kind_if_any (state_at S events n)) here
 
 pub actor-here : (S : State) (events : List Event) (n : ℕ) (e : Event) (a : Actor) → slice_get events n ≡ Some e → actor_in (state_at S events n) e ≡ Some a → actor_at S events n ≡ Some a
-actor-here S events n e a here is = ap (actor_of (state_at S events n)) here ∙ is
+actor-here S events n e a here is = ap (actor_of_event (state_at S events n)) here ∙ is
 
 -- what the code works with before event number n
 pub record IsAtEvent (C : Setting) (events : List Event) (n : ℕ) (state : State) (e : Event) : Type 0 where
   pub may : enabled state e ≡ true
   pub there : (a : Actor) → actor_in state e ≡ Some a → has_actor state.setting.shape.cores state.setting.shape.banks a ≡ true
   pub still : (next state e).setting ≡ state.setting
-  pub grows : (a : Actor) → actor_in state e ≡ Some a → number_of state a ≤ number_of (next state e) a
+  pub grows : (a : Actor) → actor_in state e ≡ Some a → next_number state a ≤ next_number (next state e) a
 
 pub at-event : (ticks : Ticks) (C : Setting) (events : List Event) (n : ℕ) (state : State) (made : ℕ) (last : List (Option ℕ)) (senders : List (List ℕ)) (rows : Rows) (e : Event) → IsReady C
-    → IsRun (opened C) events → IsTimed ticks C events n state made last senders rows → slice_get events n ≡ Some e → IsAtEvent C events n state e
+    → IsRun (initial_state C) events → IsTimed ticks C events n state made last senders rows → slice_get events n ≡ Some e → IsAtEvent C events n state e
 at-event ticks C events n state made last senders rows e ready run timed here =
     subst (λ (X : State). IsAtEvent C events n X e) (sym timed.leads)
     (record {
-      may = enabled-at (opened C) events n e run here;
+      may = enabled-at (initial_state C) events n e run here;
       there = λ a is. subst (λ (X : Setting). has X a ≡ true) (sym same) (there-at C events n e a ready run here is);
       still = next-setting ∙ sym same;
       grows = λ a is.
           let move = move-at C events n e a ready run here is in
-          let after_is : sent_so_far C (state_at (opened C) events (n + 1)) a ≡ number_of (next S e) a =
-          ap (λ (X : State). sent_so_far C X a) (next-at (opened C) events n e here) ∙ sym (number-so_far C (next S e) a next-setting)
+          let after_is : sent_so_far C (state_at (initial_state C) events (n + 1)) a ≡ next_number (next S e) a =
+          ap (λ (X : State). sent_so_far C X a) (next-at (initial_state C) events n e here) ∙ sym (number-so_far C (next S e) a next-setting)
           in
           omega (arith, move.grows, after_is, number-so_far C S a same);
     })
   where
     S : State
-    S = state_at (opened C) events n
+    S = state_at (initial_state C) events n
 
     same : S.setting ≡ C
     same = setting-at C events n
 
     next-setting : (next S e).setting ≡ C
-    next-setting = ap (λ (X : State). X.setting) (sym (next-at (opened C) events n e here)) ∙ setting-at C events (n + 1)
+    next-setting = ap (λ (X : State). X.setting) (sym (next-at (initial_state C) events n e here)) ∙ setting-at C events (n + 1)
 
 pub timed-more : (ticks : Ticks) (C : Setting) (events : List Event) (n : ℕ) (state : State) (made : ℕ) (last : List (Option ℕ)) (senders : List (List ℕ)) (rows : Rows) (e : Event) (a : Actor) (count : ℕ)
-    → IsReady C → IsRun (opened C) events → IsTimed ticks C events n state made last senders rows → slice_get events n ≡ Some e → actor_in state e ≡ Some a
-    → number_of state a + count ≡ number_of (next state e) a → ticks_of ticks (kind_in state e) ≤ 1000000
-    → IsTimed ticks C events (n + 1) (next state e) (made + 1) (noted_last (place C a) n last) (noted_mails (place C a) count n senders)
-    (with_row (kind_in state e) (ticks_of ticks (kind_in state e)) (later (finish_in rows) (last_at last (place C a)) (sender_in C.shape.cores C.shape.banks senders e)) rows)
+    → IsReady C → IsRun (initial_state C) events → IsTimed ticks C events n state made last senders rows → slice_get events n ≡ Some e → actor_in state e ≡ Some a
+    → next_number state a + count ≡ next_number (next state e) a → ticks_of ticks (kind_in state e) ≤ 1000000
+    → IsTimed ticks C events (n + 1) (next state e) (made + 1) (noted_last (place C a) n last) (noted_senders (place C a) count n senders)
+    (with_timing_row (kind_in state e) (ticks_of ticks (kind_in state e)) (later (finish_in rows) (last_at last (place C a)) (sender_in C.shape.cores C.shape.banks senders e)) rows)
 timed-more ticks C events n state made last senders rows e a count ready run timed here is counts low =
     record {
-      leads = ap (λ (X : State). next X e) timed.leads ∙ sym (next-at (opened C) events n e here);
+      leads = ap (λ (X : State). next X e) timed.leads ∙ sym (next-at (initial_state C) events n e here);
       counts = omega (arith, timed.counts);
       tables =
-          tables-more C.shape.cores C.shape.banks (actor_at (opened C) events) (λ k b. sent_so_far C (state_at (opened C) events k) b) (Sends (opened C) events) n last senders a count timed.tables
+          tables-more C.shape.cores C.shape.banks (actor_at (initial_state C) events) (λ k b. sent_so_far C (state_at (initial_state C) events k) b) (Sends (initial_state C) events) n last senders a count timed.tables
           (turn-of C events n a move) now sent;
       have = mails-more C events n timed.have;
       noted =
-          noted-more (IsOwnBefore (opened C) events) (IsSender (opened C) events) (ticks_at ticks (opened C) events) (kind_at (opened C) events) n rows (last_at last (place C a))
-          (sender_in C.shape.cores C.shape.banks senders e) (kind_in state e) (ticks_of ticks (kind_in state e)) (depends-earlier (opened C) events) timed.noted choice kind takes low;
+          noted-more (IsOwnBefore (initial_state C) events) (IsSender (initial_state C) events) (ticks_at ticks (initial_state C) events) (kind_at (initial_state C) events) n rows (last_at last (place C a))
+          (sender_in C.shape.cores C.shape.banks senders e) (kind_in state e) (ticks_of ticks (kind_in state e)) (depends-earlier (initial_state C) events) timed.noted choice kind takes low;
     }
   where
     S : State
-    S = state_at (opened C) events n
+    S = state_at (initial_state C) events n
 
     is-here : actor_in S e ≡ Some a
     is-here = subst (λ (X : State). actor_in X e ≡ Some a) timed.leads is
@@ -224,35 +224,35 @@ timed-more ticks C events n state made last senders rows e a count ready run tim
     there : has C a ≡ true
     there = there-at C events n e a ready run here is-here
 
-    now : actor_at (opened C) events n ≡ Some a
-    now = actor-here (opened C) events n e a here is-here
+    now : actor_at (initial_state C) events n ≡ Some a
+    now = actor-here (initial_state C) events n e a here is-here
 
-    move : IsMove C S (state_at (opened C) events (n + 1)) a
+    move : IsMove C S (state_at (initial_state C) events (n + 1)) a
     move = move-at C events n e a ready run here is-here
 
-    next-is : state_at (opened C) events (n + 1) ≡ next state e
-    next-is = next-at (opened C) events n e here ∙ ap (λ (X : State). next X e) (sym timed.leads)
+    next-is : state_at (initial_state C) events (n + 1) ≡ next state e
+    next-is = next-at (initial_state C) events n e here ∙ ap (λ (X : State). next X e) (sym timed.leads)
 
-    sent : sent_so_far C S a + count ≡ sent_so_far C (state_at (opened C) events (n + 1)) a
+    sent : sent_so_far C S a + count ≡ sent_so_far C (state_at (initial_state C) events (n + 1)) a
     sent =
-        let before : number_of state a ≡ sent_so_far C S a =
-        ap (λ (X : State). number_of X a) timed.leads ∙ number-so_far C S a (setting-at C events n)
+        let before : next_number state a ≡ sent_so_far C S a =
+        ap (λ (X : State). next_number X a) timed.leads ∙ number-so_far C S a (setting-at C events n)
         in
-        let after_it : number_of (next state e) a ≡ sent_so_far C (state_at (opened C) events (n + 1)) a =
-        ap (λ (X : State). number_of X a) (sym next-is) ∙ number-so_far C (state_at (opened C) events (n + 1)) a (setting-at C events (n + 1))
+        let after_it : next_number (next state e) a ≡ sent_so_far C (state_at (initial_state C) events (n + 1)) a =
+        ap (λ (X : State). next_number X a) (sym next-is) ∙ number-so_far C (state_at (initial_state C) events (n + 1)) a (setting-at C events (n + 1))
         in
         omega (arith, counts, before, after_it)
 
-    kind : kind_at (opened C) events n ≡ Some (kind_in state e)
-    kind = kind-here (opened C) events n e here ∙ ap (λ (X : State). Some (kind_in X e)) (sym timed.leads)
+    kind : kind_at (initial_state C) events n ≡ Some (kind_in state e)
+    kind = kind-here (initial_state C) events n e here ∙ ap (λ (X : State). Some (kind_in X e)) (sym timed.leads)
 
-    takes : ticks_at ticks (opened C) events n ≡ ticks_of ticks (kind_in state e)
+    takes : ticks_at ticks (initial_state C) events n ≡ ticks_of ticks (kind_in state e)
     takes = ap (ticks_with ticks) kind
 
     may : enabled S e ≡ true
-    may = enabled-at (opened C) events n e run here
+    may = enabled-at (initial_state C) events n e run here
 
-    choice : IsChoice (IsOwnBefore (opened C) events) (IsSender (opened C) events) n (last_at last (place C a)) (sender_in C.shape.cores C.shape.banks senders e)
+    choice : IsChoice (IsOwnBefore (initial_state C) events) (IsSender (initial_state C) events) n (last_at last (place C a)) (sender_in C.shape.cores C.shape.banks senders e)
     choice =
         record {
           own_is = λ p mine. own-choice C events n last senders a p timed.tables there now mine;

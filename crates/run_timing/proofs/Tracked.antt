@@ -6,8 +6,8 @@ use Rattle.std.proofs.lemmas.List.{get_or-set_same, get_or-set_other, length-rep
 use Rattle.std.proofs.lemmas.Option.{none-some, same_Some}
 use Rattle.message_net.specs.declared.actor.Actor.{Actor}
 use Rattle.message_net.specs.declared.actor.MailId.{MailId}
-use Rattle.message_net.specs.Mail.{has_actor, place_of}
-use Rattle.run_timing.specs.Tracks.{last_at, row_at, noted_last, noted_mails}
+use Rattle.message_net.specs.Mail.{has_actor, actor_index}
+use Rattle.run_timing.specs.Tracks.{last_at, senders_at, noted_last, noted_senders}
 use Rattle.message_net.proofs.MailLemmas.{place_of-within, place_of-own}
 
 -- ---- lists that grow
@@ -52,7 +52,7 @@ pub record IsLastOf (actors : ℕ → Option Actor) (n : ℕ) (a : Actor) (o : �
 pub record IsTurn (cores banks : ℕ) (so_far : ℕ → Actor → ℕ) (Sent : ℕ → MailId → Type 0) (n : ℕ) (a : Actor) : Type 0 where
   pub there : has_actor cores banks a ≡ true
   pub grows : so_far n a ≤ so_far (n + 1) a
-  pub others : (b : Actor) → has_actor cores banks b ≡ true → place_of cores banks b ≢ place_of cores banks a → so_far (n + 1) b ≡ so_far n b
+  pub others : (b : Actor) → has_actor cores banks b ≡ true → actor_index cores banks b ≢ actor_index cores banks a → so_far (n + 1) b ≡ so_far n b
   pub sends : (id : MailId) → Sent n id → (id.sender ≡ a) × (so_far n a ≤ id.number) × (id.number < so_far (n + 1) a)
   pub sent : (k : ℕ) → so_far n a ≤ k → k < so_far (n + 1) a → Sent n (record { sender = a; number = k })
 
@@ -60,11 +60,11 @@ pub record IsTurn (cores banks : ℕ) (so_far : ℕ → Actor → ℕ) (Sent : �
 pub record AreTables (cores banks : ℕ) (actors : ℕ → Option Actor) (so_far : ℕ → Actor → ℕ) (Sent : ℕ → MailId → Type 0) (n : ℕ) (last : List (Option ℕ)) (senders : List (List ℕ)) : Type 0 where
   pub lasts : length last ≡ cores + banks + 1
   pub rows : length senders ≡ cores + banks + 1
-  pub last_is : (a : Actor) (o : ℕ) → has_actor cores banks a ≡ true → last_at last (place_of cores banks a) ≡ Some o → IsLastOf actors n a o
-  pub last_known : (a : Actor) (o : ℕ) → has_actor cores banks a ≡ true → IsLastOf actors n a o → last_at last (place_of cores banks a) ≡ Some o
-  pub long : (a : Actor) → has_actor cores banks a ≡ true → length (row_at senders (place_of cores banks a)) ≡ so_far n a
-  pub sender_is : (a : Actor) (k p : ℕ) → has_actor cores banks a ≡ true → slice_get (row_at senders (place_of cores banks a)) k ≡ Some p → (p < n) × Sent p (record { sender = a; number = k })
-  pub sender_known : (p : ℕ) (id : MailId) → p < n → Sent p id → (has_actor cores banks id.sender ≡ true) × (slice_get (row_at senders (place_of cores banks id.sender)) id.number ≡ Some p)
+  pub last_is : (a : Actor) (o : ℕ) → has_actor cores banks a ≡ true → last_at last (actor_index cores banks a) ≡ Some o → IsLastOf actors n a o
+  pub last_known : (a : Actor) (o : ℕ) → has_actor cores banks a ≡ true → IsLastOf actors n a o → last_at last (actor_index cores banks a) ≡ Some o
+  pub long : (a : Actor) → has_actor cores banks a ≡ true → length (senders_at senders (actor_index cores banks a)) ≡ so_far n a
+  pub sender_is : (a : Actor) (k p : ℕ) → has_actor cores banks a ≡ true → slice_get (senders_at senders (actor_index cores banks a)) k ≡ Some p → (p < n) × Sent p (record { sender = a; number = k })
+  pub sender_known : (p : ℕ) (id : MailId) → p < n → Sent p id → (has_actor cores banks id.sender ≡ true) × (slice_get (senders_at senders (actor_index cores banks id.sender)) id.number ≡ Some p)
 
 -- ---- the last events
 
@@ -99,115 +99,115 @@ only-now actors n a o now was = by_test (nat_lt o n) refl where
 
 pub tables-more : (cores banks : ℕ) (actors : ℕ → Option Actor) (so_far : ℕ → Actor → ℕ) (Sent : ℕ → MailId → Type 0) (n : ℕ) (last : List (Option ℕ)) (senders : List (List ℕ)) (a : Actor) (count : ℕ)
     → AreTables cores banks actors so_far Sent n last senders → IsTurn cores banks so_far Sent n a → actors n ≡ Some a → so_far n a + count ≡ so_far (n + 1) a
-    → AreTables cores banks actors so_far Sent (n + 1) (noted_last (place_of cores banks a) n last) (noted_mails (place_of cores banks a) count n senders)
+    → AreTables cores banks actors so_far Sent (n + 1) (noted_last (actor_index cores banks a) n last) (noted_senders (actor_index cores banks a) count n senders)
 tables-more cores banks actors so_far Sent n last senders a count tables turn now counts =
     record {
       lasts = length-set last at' (Some n) ∙ tables.lasts;
-      rows = length-set senders at' (row_at senders at' ++ replicate count n) ∙ tables.rows;
-      last_is = λ b o has_b is. last_is b o has_b (place_of cores banks b == at') refl is;
-      last_known = λ b o has_b is. last_known b o has_b (place_of cores banks b == at') refl is;
-      long = λ b has_b. long b has_b (place_of cores banks b == at') refl;
-      sender_is = λ b k p has_b is. sender_is b k p has_b (place_of cores banks b == at') refl is;
+      rows = length-set senders at' (senders_at senders at' ++ replicate count n) ∙ tables.rows;
+      last_is = λ b o has_b is. last_is b o has_b (actor_index cores banks b == at') refl is;
+      last_known = λ b o has_b is. last_known b o has_b (actor_index cores banks b == at') refl is;
+      long = λ b has_b. long b has_b (actor_index cores banks b == at') refl;
+      sender_is = λ b k p has_b is. sender_is b k p has_b (actor_index cores banks b == at') refl is;
       sender_known = λ p id below is. sender_known p id (p == n) refl below is;
     }
   where
     at' : ℕ
-    at' = place_of cores banks a
+    at' = actor_index cores banks a
 
     within : at' < cores + banks + 1
     within = place_of-within cores banks a turn.there
 
     new_row : List ℕ
-    new_row = row_at senders at' ++ replicate count n
+    new_row = senders_at senders at' ++ replicate count n
 
     last_here : last_at (noted_last at' n last) at' ≡ Some n
     last_here = get_or-set_same last at' (Some n) None (omega (arith, within, tables.lasts))
 
-    row_here : row_at (noted_mails at' count n senders) at' ≡ new_row
+    row_here : senders_at (noted_senders at' count n senders) at' ≡ new_row
     row_here = get_or-set_same senders at' new_row [] (omega (arith, within, tables.rows))
 
     last_there : (place : ℕ) → place ≢ at' → last_at (noted_last at' n last) place ≡ last_at last place
     last_there place apart = get_or-set_other last at' place (Some n) None apart
 
-    row_there : (place : ℕ) → place ≢ at' → row_at (noted_mails at' count n senders) place ≡ row_at senders place
+    row_there : (place : ℕ) → place ≢ at' → senders_at (noted_senders at' count n senders) place ≡ senders_at senders place
     row_there place apart = get_or-set_other senders at' place new_row [] apart
 
-    same-actor : (b : Actor) → has_actor cores banks b ≡ true → (place_of cores banks b == at') ≡ true → b ≡ a
-    same-actor b has_b e = place_of-own cores banks b a has_b turn.there (eqb-true (place_of cores banks b) at' e)
+    same-actor : (b : Actor) → has_actor cores banks b ≡ true → (actor_index cores banks b == at') ≡ true → b ≡ a
+    same-actor b has_b e = place_of-own cores banks b a has_b turn.there (eqb-true (actor_index cores banks b) at' e)
 
-    other-actor : (b : Actor) → (place_of cores banks b == at') ≡ false → a ≢ b
-    other-actor b e is = eqb-false (place_of cores banks b) at' e (ap (place_of cores banks) (sym is))
+    other-actor : (b : Actor) → (actor_index cores banks b == at') ≡ false → a ≢ b
+    other-actor b e is = eqb-false (actor_index cores banks b) at' e (ap (actor_index cores banks) (sym is))
 
-    last_is : (b : Actor) (o : ℕ) → has_actor cores banks b ≡ true → (t : Bool) → (place_of cores banks b == at') ≡ t → last_at (noted_last at' n last) (place_of cores banks b) ≡ Some o
+    last_is : (b : Actor) (o : ℕ) → has_actor cores banks b ≡ true → (t : Bool) → (actor_index cores banks b == at') ≡ t → last_at (noted_last at' n last) (actor_index cores banks b) ≡ Some o
         → IsLastOf actors (n + 1) b o
     last_is b o has_b true e is =
         let here = same-actor b has_b e in
-        let there : last_at (noted_last at' n last) at' ≡ Some o = subst (λ (x : Actor). last_at (noted_last at' n last) (place_of cores banks x) ≡ Some o) here is in
+        let there : last_at (noted_last at' n last) at' ≡ Some o = subst (λ (x : Actor). last_at (noted_last at' n last) (actor_index cores banks x) ≡ Some o) here is in
         let number : n ≡ o = same_Some n o (sym last_here ∙ there) in
         subst (λ (x : Actor). IsLastOf actors (n + 1) x o) (sym here) (subst (IsLastOf actors (n + 1) a) number (last-now actors n a now))
     last_is b o has_b false e is =
         last-later actors n a b o now (other-actor b e)
-        (tables.last_is b o has_b (sym (last_there (place_of cores banks b) (eqb-false (place_of cores banks b) at' e)) ∙ is))
+        (tables.last_is b o has_b (sym (last_there (actor_index cores banks b) (eqb-false (actor_index cores banks b) at' e)) ∙ is))
 
-    last_known : (b : Actor) (o : ℕ) → has_actor cores banks b ≡ true → (t : Bool) → (place_of cores banks b == at') ≡ t → IsLastOf actors (n + 1) b o
-        → last_at (noted_last at' n last) (place_of cores banks b) ≡ Some o
+    last_known : (b : Actor) (o : ℕ) → has_actor cores banks b ≡ true → (t : Bool) → (actor_index cores banks b == at') ≡ t → IsLastOf actors (n + 1) b o
+        → last_at (noted_last at' n last) (actor_index cores banks b) ≡ Some o
     last_known b o has_b true e is =
         let here = same-actor b has_b e in
         let number : n ≡ o = only-now actors n a o now (subst (λ (x : Actor). IsLastOf actors (n + 1) x o) here is) in
-        subst (λ (x : Actor). last_at (noted_last at' n last) (place_of cores banks x) ≡ Some o) (sym here) (last_here ∙ ap (λ (x : ℕ). Some x) number)
+        subst (λ (x : Actor). last_at (noted_last at' n last) (actor_index cores banks x) ≡ Some o) (sym here) (last_here ∙ ap (λ (x : ℕ). Some x) number)
     last_known b o has_b false e is =
-        last_there (place_of cores banks b) (eqb-false (place_of cores banks b) at' e)
+        last_there (actor_index cores banks b) (eqb-false (actor_index cores banks b) at' e)
         ∙ tables.last_known b o has_b (last-earlier actors n a b o now (other-actor b e) is)
 
-    long : (b : Actor) → has_actor cores banks b ≡ true → (t : Bool) → (place_of cores banks b == at') ≡ t → length (row_at (noted_mails at' count n senders) (place_of cores banks b)) ≡ so_far (n + 1) b
+    long : (b : Actor) → has_actor cores banks b ≡ true → (t : Bool) → (actor_index cores banks b == at') ≡ t → length (senders_at (noted_senders at' count n senders) (actor_index cores banks b)) ≡ so_far (n + 1) b
     long b has_b true e =
         let here = same-actor b has_b e in
         let all : length new_row ≡ so_far (n + 1) a =
-        omega (arith, length-append (row_at senders at') (replicate count n), length-replicate count n, tables.long a turn.there, counts)
+        omega (arith, length-append (senders_at senders at') (replicate count n), length-replicate count n, tables.long a turn.there, counts)
         in
-        subst (λ (x : Actor). length (row_at (noted_mails at' count n senders) (place_of cores banks x)) ≡ so_far (n + 1) x) (sym here) (ap (λ (xs : List ℕ). length xs) row_here ∙ all)
+        subst (λ (x : Actor). length (senders_at (noted_senders at' count n senders) (actor_index cores banks x)) ≡ so_far (n + 1) x) (sym here) (ap (λ (xs : List ℕ). length xs) row_here ∙ all)
     long b has_b false e =
-        let apart = eqb-false (place_of cores banks b) at' e in
-        ap (λ (xs : List ℕ). length xs) (row_there (place_of cores banks b) apart) ∙ (tables.long b has_b ∙ sym (turn.others b has_b apart))
+        let apart = eqb-false (actor_index cores banks b) at' e in
+        ap (λ (xs : List ℕ). length xs) (row_there (actor_index cores banks b) apart) ∙ (tables.long b has_b ∙ sym (turn.others b has_b apart))
 
-    new_sender : (k p : ℕ) → (slice_get (row_at senders at') k ≡ Some p) ⊎ ((length (row_at senders at') ≤ k) × (k < length (row_at senders at') + count) × (n ≡ p))
+    new_sender : (k p : ℕ) → (slice_get (senders_at senders at') k ≡ Some p) ⊎ ((length (senders_at senders at') ≤ k) × (k < length (senders_at senders at') + count) × (n ≡ p))
         → (p < n + 1) × Sent p (record { sender = a; number = k })
     new_sender k p (inl old) = let was = tables.sender_is a k p turn.there old in (omega (arith, was.0), was.1)
     new_sender k p (inr new) =
         let all = tables.long a turn.there in
         (omega (arith, new.2), subst (λ (x : ℕ). Sent x (record { sender = a; number = k })) new.2 (turn.sent k (omega (arith, new.0, all)) (omega (arith, new.1, all, counts))))
 
-    sender_is : (b : Actor) (k p : ℕ) → has_actor cores banks b ≡ true → (t : Bool) → (place_of cores banks b == at') ≡ t → slice_get (row_at (noted_mails at' count n senders) (place_of cores banks b)) k ≡ Some p
+    sender_is : (b : Actor) (k p : ℕ) → has_actor cores banks b ≡ true → (t : Bool) → (actor_index cores banks b == at') ≡ t → slice_get (senders_at (noted_senders at' count n senders) (actor_index cores banks b)) k ≡ Some p
         → (p < n + 1) × Sent p (record { sender = b; number = k })
     sender_is b k p has_b true e is =
         let here = same-actor b has_b e in
         let there : slice_get new_row k ≡ Some p =
-        ap (λ (xs : List ℕ). slice_get xs k) (sym row_here) ∙ subst (λ (x : Actor). slice_get (row_at (noted_mails at' count n senders) (place_of cores banks x)) k ≡ Some p) here is
+        ap (λ (xs : List ℕ). slice_get xs k) (sym row_here) ∙ subst (λ (x : Actor). slice_get (senders_at (noted_senders at' count n senders) (actor_index cores banks x)) k ≡ Some p) here is
         in
-        subst (λ (x : Actor). (p < n + 1) × Sent p (record { sender = x; number = k })) (sym here) (new_sender k p (get-either (row_at senders at') count k n p there))
+        subst (λ (x : Actor). (p < n + 1) × Sent p (record { sender = x; number = k })) (sym here) (new_sender k p (get-either (senders_at senders at') count k n p there))
     sender_is b k p has_b false e is =
-        let apart = eqb-false (place_of cores banks b) at' e in
-        let was = tables.sender_is b k p has_b (ap (λ (xs : List ℕ). slice_get xs k) (sym (row_there (place_of cores banks b) apart)) ∙ is) in
+        let apart = eqb-false (actor_index cores banks b) at' e in
+        let was = tables.sender_is b k p has_b (ap (λ (xs : List ℕ). slice_get xs k) (sym (row_there (actor_index cores banks b) apart)) ∙ is) in
         (omega (arith, was.0), was.1)
 
-    kept : (id : MailId) (p : ℕ) → slice_get (row_at senders (place_of cores banks id.sender)) id.number ≡ Some p → (t : Bool) → (place_of cores banks id.sender == at') ≡ t
-        → slice_get (row_at (noted_mails at' count n senders) (place_of cores banks id.sender)) id.number ≡ Some p
+    kept : (id : MailId) (p : ℕ) → slice_get (senders_at senders (actor_index cores banks id.sender)) id.number ≡ Some p → (t : Bool) → (actor_index cores banks id.sender == at') ≡ t
+        → slice_get (senders_at (noted_senders at' count n senders) (actor_index cores banks id.sender)) id.number ≡ Some p
     kept id p was true e =
-        let here : place_of cores banks id.sender ≡ at' = eqb-true (place_of cores banks id.sender) at' e in
-        let old : slice_get (row_at senders at') id.number ≡ Some p = subst (λ (x : ℕ). slice_get (row_at senders x) id.number ≡ Some p) here was in
-        subst (λ (x : ℕ). slice_get (row_at (noted_mails at' count n senders) x) id.number ≡ Some p) (sym here)
-        (ap (λ (xs : List ℕ). slice_get xs id.number) row_here ∙ get-left (row_at senders at') (replicate count n) id.number p old)
-    kept id p was false e = ap (λ (xs : List ℕ). slice_get xs id.number) (row_there (place_of cores banks id.sender) (eqb-false (place_of cores banks id.sender) at' e)) ∙ was
+        let here : actor_index cores banks id.sender ≡ at' = eqb-true (actor_index cores banks id.sender) at' e in
+        let old : slice_get (senders_at senders at') id.number ≡ Some p = subst (λ (x : ℕ). slice_get (senders_at senders x) id.number ≡ Some p) here was in
+        subst (λ (x : ℕ). slice_get (senders_at (noted_senders at' count n senders) x) id.number ≡ Some p) (sym here)
+        (ap (λ (xs : List ℕ). slice_get xs id.number) row_here ∙ get-left (senders_at senders at') (replicate count n) id.number p old)
+    kept id p was false e = ap (λ (xs : List ℕ). slice_get xs id.number) (row_there (actor_index cores banks id.sender) (eqb-false (actor_index cores banks id.sender) at' e)) ∙ was
 
     sender_known : (p : ℕ) (id : MailId) (t : Bool) → (p == n) ≡ t → p < n + 1 → Sent p id
-        → (has_actor cores banks id.sender ≡ true) × (slice_get (row_at (noted_mails at' count n senders) (place_of cores banks id.sender)) id.number ≡ Some p)
+        → (has_actor cores banks id.sender ≡ true) × (slice_get (senders_at (noted_senders at' count n senders) (actor_index cores banks id.sender)) id.number ≡ Some p)
     sender_known p id true e below is =
         let number : p ≡ n = eqb-true p n e in
         let new = turn.sends id (subst (λ (x : ℕ). Sent x id) number is) in
         let all = tables.long a turn.there in
-        let there : slice_get new_row id.number ≡ Some n = get-new (row_at senders at') count id.number n (omega (arith, new.1, all)) (omega (arith, new.2, all, counts)) in
-        let here : slice_get (row_at (noted_mails at' count n senders) at') id.number ≡ Some p = ap (λ (xs : List ℕ). slice_get xs id.number) row_here ∙ (there ∙ ap (λ (x : ℕ). Some x) (sym number)) in
-        subst (λ (x : Actor). (has_actor cores banks x ≡ true) × (slice_get (row_at (noted_mails at' count n senders) (place_of cores banks x)) id.number ≡ Some p)) (sym new.0) (turn.there, here)
+        let there : slice_get new_row id.number ≡ Some n = get-new (senders_at senders at') count id.number n (omega (arith, new.1, all)) (omega (arith, new.2, all, counts)) in
+        let here : slice_get (senders_at (noted_senders at' count n senders) at') id.number ≡ Some p = ap (λ (xs : List ℕ). slice_get xs id.number) row_here ∙ (there ∙ ap (λ (x : ℕ). Some x) (sym number)) in
+        subst (λ (x : Actor). (has_actor cores banks x ≡ true) × (slice_get (senders_at (noted_senders at' count n senders) (actor_index cores banks x)) id.number ≡ Some p)) (sym new.0) (turn.there, here)
     sender_known p id false e below is =
         let was = tables.sender_known p id (grind (arith, nat_tests, below, e)) is in
-        (was.0, kept id p was.1 (place_of cores banks id.sender == at') refl)
+        (was.0, kept id p was.1 (actor_index cores banks id.sender == at') refl)

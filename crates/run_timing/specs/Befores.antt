@@ -2,9 +2,9 @@
 use Rattle.std.specs.Prelude.{◌≡◌, ℕ, zero, suc, ◌<◌, List, slice_index_or, Option, Some, None}
 
 -- the event that a kept number tells: none by 0, else the one before the number
-abbrev pub told : ℕ → Option ℕ
-told zero = None
-told (suc i) = Some i
+abbrev pub decoded_before : ℕ → Option ℕ
+decoded_before zero = None
+decoded_before (suc i) = Some i
 
 -- each event finishes behind an earlier one, if behind any
 abbrev pub IsEarlier : List (Option ℕ) → Type 0

@@ -16,19 +16,19 @@ abbrev pub state_at : State → List Event → ℕ → State
 state_at S events i = after S (take i events)
 
 -- the actor that makes an event of a list, and the event's kind; None past the end
-abbrev pub actor_of : State → Option Event → Option Actor
-actor_of S None = None
-actor_of S (Some e) = actor_in S e
+abbrev pub actor_of_event : State → Option Event → Option Actor
+actor_of_event S None = None
+actor_of_event S (Some e) = actor_in S e
 
 abbrev pub actor_at : State → List Event → ℕ → Option Actor
-actor_at S events i = actor_of (state_at S events i) (slice_get events i)
+actor_at S events i = actor_of_event (state_at S events i) (slice_get events i)
 
-abbrev pub kind_of : State → Option Event → Option EventKind
-kind_of S None = None
-kind_of S (Some e) = Some (kind_in S e)
+abbrev pub kind_if_any : State → Option Event → Option EventKind
+kind_if_any S None = None
+kind_if_any S (Some e) = Some (kind_in S e)
 
 abbrev pub kind_at : State → List Event → ℕ → Option EventKind
-kind_at S events i = kind_of (state_at S events i) (slice_get events i)
+kind_at S events i = kind_if_any (state_at S events i) (slice_get events i)
 
 -- event number i is the one before event number j among those of j's own actor
 pub record IsOwnBefore (S : State) (events : List Event) (i j : ℕ) : Type 0 where

@@ -4,7 +4,7 @@ use Rattle.dn_base.specs.declared.ids.Shape.{Shape}
 use Rattle.message_net.specs.declared.event.Event.{Event}
 use Rattle.region_table.specs.Program.{ProgramParts}
 use Rattle.registration_protocol.specs.Node.{Setting}
-use Rattle.machine_rules.specs.State.{State, opened}
+use Rattle.machine_rules.specs.State.{State, initial_state}
 use Rattle.run_timing.specs.declared.ticks.Ticks.{Ticks}
 use Rattle.run_timing.specs.declared.timing.Link.{Link}
 use Rattle.run_timing.specs.declared.timing.Timing.{Timing}
@@ -55,4 +55,4 @@ pub record IsLongest (ticks : Ticks) (S : State) (events : List Event) (timing :
 pub record IsTimingOf (P : ProgramParts) (machine : Shape) (most : ℕ) (events : List Event) (ticks : Ticks) (timing : Timing) : Type 0 where
   pub setting : Setting
   pub told : IsSettingOf P machine most setting
-  pub longest : IsLongest ticks (opened setting) events timing
+  pub longest : IsLongest ticks (initial_state setting) events timing

@@ -26,8 +26,8 @@ later f (Some o) None = Some o
 later f (Some o) (Some s) = if nat_lt (f o) (f s) then Some s else Some o
 
 -- one more event, of this kind and so many ticks, behind another
-abbrev pub with_row : EventKind → ℕ → Option ℕ → Rows → Rows
-with_row kind ticks before rows =
+abbrev pub with_timing_row : EventKind → ℕ → Option ℕ → Rows → Rows
+with_timing_row kind ticks before rows =
     record {
       finishes = rows.finishes ++ (behind (finish_in rows) before + ticks) ∷ [];
       befores = rows.befores ++ before ∷ [];
@@ -65,7 +65,7 @@ pub record IsLatest (n : ℕ) (f : ℕ → ℕ) (latest : Option ℕ) : Type 0 w
 
 -- event number i finishes behind the one of those that it depends on which finishes last; where the one of its own actor and the
 -- sender of its mail finish alike, behind the own
-pub record IsRow (Own Sender : ℕ → ℕ → Type 0) (ticks f : ℕ → ℕ) (before : Option ℕ) (i : ℕ) : Type 0 where
+pub record IsTimingRow (Own Sender : ℕ → ℕ → Type 0) (ticks f : ℕ → ℕ) (before : Option ℕ) (i : ℕ) : Type 0 where
   pub finish : f i ≡ ticks i + behind f before
   pub depends : (p : ℕ) → before ≡ Some p → Own p i ⊎ Sender p i
   pub latest : (p : ℕ) → Own p i ⊎ Sender p i → f p ≤ behind f before
@@ -76,6 +76,6 @@ pub record AreNoted (Own Sender : ℕ → ℕ → Type 0) (ticks : ℕ → ℕ) 
   pub finishes : length rows.finishes ≡ n
   pub befores : length rows.befores ≡ n
   pub kinds : length rows.kinds ≡ n
-  pub row : (i : ℕ) → i < n → IsRow Own Sender ticks (finish_in rows) (before_in rows i) i
+  pub row : (i : ℕ) → i < n → IsTimingRow Own Sender ticks (finish_in rows) (before_in rows i) i
   pub kind : (i : ℕ) → i < n → slice_get rows.kinds i ≡ kinds_are i
   pub small : (i : ℕ) → i < n → finish_in rows i ≤ 1000000 * (i + 1)

@@ -3,22 +3,22 @@
 use Rattle.std.specs.Prelude.{ℕ, List, [], ◌++◌, replicate, slice_get, slice_set, slice_index_or, Option, Some, None}
 use Rattle.message_net.specs.declared.event.Event.{Event}
 use Rattle.message_net.specs.declared.event.Event.TheVariants.{Handle}
-use Rattle.message_net.specs.Mail.{place_of}
+use Rattle.message_net.specs.Mail.{actor_index}
 
 abbrev pub last_at : List (Option ℕ) → ℕ → Option ℕ
 last_at last place = slice_index_or last place None
 
-abbrev pub row_at : List (List ℕ) → ℕ → List ℕ
-row_at senders place = slice_index_or senders place []
+abbrev pub senders_at : List (List ℕ) → ℕ → List ℕ
+senders_at senders place = slice_index_or senders place []
 
 -- an event of the actor at a place comes, and sends so many mails
 abbrev pub noted_last : ℕ → ℕ → List (Option ℕ) → List (Option ℕ)
 noted_last place event last = slice_set last place (Some event)
 
-abbrev pub noted_mails : ℕ → ℕ → ℕ → List (List ℕ) → List (List ℕ)
-noted_mails place count event senders = slice_set senders place (row_at senders place ++ replicate count event)
+abbrev pub noted_senders : ℕ → ℕ → ℕ → List (List ℕ) → List (List ℕ)
+noted_senders place count event senders = slice_set senders place (senders_at senders place ++ replicate count event)
 
 -- the event that sent the mail that an event handles, in a machine of so many cores and banks
 abbrev pub sender_in : ℕ → ℕ → List (List ℕ) → Event → Option ℕ
-sender_in cores banks senders (Handle id) = slice_get (row_at senders (place_of cores banks id.sender)) id.number
+sender_in cores banks senders (Handle id) = slice_get (senders_at senders (actor_index cores banks id.sender)) id.number
 sender_in cores banks senders _ = None

@@ -1,5 +1,5 @@
 ghost use Rattle.std.specs.Prelude.{◌≡◌, ◌+◌, ◌<◌, ◌≤◌, ◌++◌, ◌∷◌, ℕ, List, Option, [], None, Some, map, length, slice_index_or, IfOk, OnOk};
-ghost use Rattle.run_timing.specs.Befores.{IsEarlier, told};
+ghost use Rattle.run_timing.specs.Befores.{IsEarlier, decoded_before};
 
 use dn_base::{Memory, Sequence};
 use std::alloc::Global;
@@ -17,13 +17,13 @@ pub(crate) struct Befores {
 impl Model for Befores {
     ghost Value = { List (Option ℕ) };
 
-    ghost view = { λ befores. map told befores.numbers };
+    ghost view = { λ befores. map decoded_before befores.numbers };
 }
 
 /// The number that is kept for an event, or for none.
 fn kept(event: Option<u32>) -> u32
     requires { (i : ℕ) → event ≡ Some i → i < 4294967295 }
-    ensures { told result ≡ event }
+    ensures { decoded_before result ≡ event }
 {
     match event {
         Some(event) => event + 1,
@@ -33,7 +33,7 @@ fn kept(event: Option<u32>) -> u32
 
 /// The event for which this number is kept, or none.
 fn event_of(number: u32) -> Option<u32>
-    ensures { result ≡ told number }
+    ensures { result ≡ decoded_before number }
 {
     match number {
         0 => None,

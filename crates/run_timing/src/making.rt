@@ -1,6 +1,6 @@
 ghost use Rattle.std.specs.Prelude.{◌≡◌, ◌+◌, ◌<◌, ◌≤◌, true, IfOk, OnOk};
 ghost use Rattle.message_net.specs.Mail.{has_actor};
-ghost use Rattle.machine_rules.specs.Next.{enabled, kind_in, next, number_of};
+ghost use Rattle.machine_rules.specs.Next.{enabled, kind_in, next, next_number};
 
 use dn_base::Memory;
 use dn_machine::Machine;
@@ -22,11 +22,11 @@ pub(crate) fn make(machine: &mut Machine, event: Event, actor: Actor) -> Result<
     requires made { machine.old.made < 4000000000 }
     requires there { has_actor machine.old.state.setting.shape.cores machine.old.state.setting.shape.banks actor ≡ true }
     requires still { (next machine.old.state event).setting ≡ machine.old.state.setting }
-    requires grows { number_of machine.old.state actor ≤ number_of (next machine.old.state event) actor }
+    requires grows { next_number machine.old.state actor ≤ next_number (next machine.old.state event) actor }
     ensures state { OnOk result (machine.new.state ≡ next machine.old.state event) }
     ensures made { OnOk result (machine.new.made ≡ machine.old.made + 1) }
     ensures kind { IfOk result (λ happened. happened.kind ≡ kind_in machine.old.state event) }
-    ensures sent { IfOk result (λ happened. number_of machine.old.state actor + happened.sent ≡ number_of (next machine.old.state event) actor) }
+    ensures sent { IfOk result (λ happened. next_number machine.old.state actor + happened.sent ≡ next_number (next machine.old.state event) actor) }
 {
     let first = machine.next_mail(actor);
     let told = machine.step(event)?;

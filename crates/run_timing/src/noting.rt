@@ -1,5 +1,5 @@
 ghost use Rattle.std.specs.Prelude.{◌≡◌, ◌<◌, ◌≤◌, ℕ, Some, length, OnOk};
-ghost use Rattle.run_timing.specs.Rows.{finish_in, later, with_row};
+ghost use Rattle.run_timing.specs.Rows.{finish_in, later, with_timing_row};
 ghost use Rattle.run_timing.specs.Ticks.{AreWithinLimits, ticks_of};
 ghost use Rattle.run_timing.specs.Tracks.{last_at, sender_in};
 
@@ -52,7 +52,7 @@ pub(crate) fn note_row(
     requires few { length rows.old.finishes ≤ 25169664 }
     requires small { (i : ℕ) → i < length rows.old.finishes → finish_in rows.old i ≤ 25169664000000 }
     requires ticks { AreWithinLimits ticks.now }
-    ensures { OnOk result (rows.new ≡ with_row happened.kind (ticks_of ticks.now happened.kind) before rows.old) }
+    ensures { OnOk result (rows.new ≡ with_timing_row happened.kind (ticks_of ticks.now happened.kind) before rows.old) }
 {
     rows.add(happened.kind, ticks.of(happened.kind), before)
 }

@@ -1,5 +1,5 @@
 ghost use Rattle.std.specs.Prelude.{◌≡◌, ◌+◌, ◌<◌, ◌≤◌, ℕ, [], Some, length, OnOk, IfOk};
-ghost use Rattle.run_timing.specs.Rows.{IsLatest, behind, finish_in, later, with_row};
+ghost use Rattle.run_timing.specs.Rows.{IsLatest, behind, finish_in, later, with_timing_row};
 
 use crate::befores::Befores;
 use dn_base::{Memory, Sequence};
@@ -74,7 +74,7 @@ impl Rows {
         requires before { (i : ℕ) → before ≡ Some i → i < length self.old.finishes }
         requires few { length self.old.finishes ≤ 25169664 }
         requires fits { behind (finish_in self.old) before + ticks < 18446744073709551616 }
-        ensures { OnOk result (self.new ≡ with_row kind ticks before self.old) }
+        ensures { OnOk result (self.new ≡ with_timing_row kind ticks before self.old) }
     {
         let finish = self.finish(before) + ticks as u64;
         self.finishes.push(finish)?;

@@ -1,5 +1,5 @@
 ghost use Rattle.std.specs.Prelude.{◌≡◌, ◌<◌, ◌≤◌, length, IfOk};
-ghost use Rattle.machine_rules.specs.State.{opened};
+ghost use Rattle.machine_rules.specs.State.{initial_state};
 ghost use Rattle.machine_rules.specs.Runs.{IsRun};
 ghost use Rattle.run_timing.specs.Noted.{AreRowsOf};
 ghost use Rattle.run_timing.specs.Ticks.{AreWithinLimits};
@@ -27,7 +27,7 @@ pub(crate) fn timed_rows(
     events: &[Event],
     ticks: &Ticks,
 ) -> Result<Rows, Memory>
-    requires opened { machine.state ≡ opened machine.state.setting }
+    requires opened { machine.state ≡ initial_state machine.state.setting }
     requires made { machine.made ≡ 0 }
     requires shape { machine.state.setting.shape ≡ shape }
     requires run { IsRun machine.state events.now }

@@ -1,5 +1,5 @@
 ghost use Rattle.std.specs.Prelude.{◌≡◌, ◌<◌, ◌++◌, [], length, replicate, slice_get, IfOk, OnOk, Some, None};
-ghost use Rattle.run_timing.specs.Tracks.{last_at, noted_last, noted_mails, row_at};
+ghost use Rattle.run_timing.specs.Tracks.{last_at, noted_last, noted_senders, senders_at};
 
 use dn_base::{Memory, Sequence};
 use std::alloc::Global;
@@ -42,7 +42,7 @@ fn push_at(
     event: u32,
 ) -> Result<(), Memory>
     requires { place < length rows.old.items }
-    ensures { OnOk result (rows.new.items ≡ noted_mails place count event rows.old.items) }
+    ensures { OnOk result (rows.new.items ≡ noted_senders place count event rows.old.items) }
 {
     let row = &mut rows[place];
     push_mails(row, count, event)
@@ -73,7 +73,7 @@ impl Tracks {
 
     /// The event that sent the mail with this number of the actor at a place.
     pub(crate) fn sender(&self, place: usize, number: u32) -> Option<u32>
-        ensures { result ≡ slice_get (row_at self.now.senders.items place) number }
+        ensures { result ≡ slice_get (senders_at self.now.senders.items place) number }
     {
         match self.senders.as_slice().get(place) {
             Some(row) => row.get(number as usize).copied(),
@@ -89,7 +89,7 @@ impl Tracks {
         requires last { place < length self.old.last }
         requires senders { place < length self.old.senders.items }
         ensures last { OnOk result (self.new.last ≡ noted_last place event self.old.last) }
-        ensures senders { OnOk result (self.new.senders.items ≡ noted_mails place count event self.old.senders.items) }
+        ensures senders { OnOk result (self.new.senders.items ≡ noted_senders place count event self.old.senders.items) }
     {
         self.last.set(place, Some(event));
         push_at(&mut self.senders, place, count, event)

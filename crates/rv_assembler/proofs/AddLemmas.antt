@@ -10,17 +10,17 @@ use Rattle.rv_assembler.specs.declared.statement.Statement.{Statement}
 use Rattle.rv_assembler.specs.declared.statement.Statement as statement
 use Rattle.rv_assembler.specs.declared.reading.Saying.{Saying}
 use Rattle.rv_assembler.specs.declared.names.Meaning.{Meaning}
-use Rattle.rv_assembler.specs.Number.{count_of, wrapped, is_length}
+use Rattle.rv_assembler.specs.Number.{natural_of, wrapped, is_length}
 use Rattle.rv_assembler.specs.Gathering.{more}
-use Rattle.rv_assembler.specs.Size.{size_of}
-use Rattle.rv_assembler.specs.Named.{no_cores, entry_of}
+use Rattle.rv_assembler.specs.Size.{code_word_count}
+use Rattle.rv_assembler.specs.Named.{no_cores, task_entry}
 use Rattle.rv_assembler.specs.Drafting.{wrapped_entry, members}
 use Rattle.rv_assembler.specs.Counts.{region_words, code_size, data_size, is_region, is_lock, is_phase, code_words, data_words, regions_in, locks_in, phases_in, family_in}
 use Rattle.rv_assembler.specs.Placed.{placed}
 use Rattle.rv_assembler.specs.Rows.{starts}
 use Rattle.rv_assembler.specs.Fault.{are_cores, entry_far, out_of_range}
-use Rattle.rv_assembler.specs.Tables.{code_at, region_at, lock_at, tasks_at}
-use Rattle.rv_assembler.specs.Adding.{after}
+use Rattle.rv_assembler.specs.Tables.{placed_code, region_at, lock_name_at, tasks_at}
+use Rattle.rv_assembler.specs.Adding.{draft_after}
 use Rattle.rv_assembler.proofs.SoundLemmas.{not-false, or-none, length-counted}
 use Rattle.rv_assembler.proofs.WrappedTables.{wrapped_value_at, wrapped_claim_at, wrapped_tables}
 use Rattle.rv_assembler.proofs.RangeLemmas.{family-cores}
@@ -54,13 +54,13 @@ module _ (text : List ℕ) (names : List ℕ → Option Meaning) (near : (q : Li
   first_task f entry core = record { phase = phases_in ss; core = core; entry = entry; arg = f.arg }
 
   pub tables-more : (st : Statement) → length ss ≤ 65536 → data_words ss ≤ 65536 → out_of_range text names (wrapped_tables text names ss) st ≡ false
-      → wrapped_tables text names (ss ++ said st ∷ []) ≡ after text names (wrapped_tables text names ss) st
+      → wrapped_tables text names (ss ++ said st ∷ []) ≡ draft_after text names (wrapped_tables text names ss) st
   tables-more statement.TheVariants.Nothing few small fits =
       let s = said statement.TheVariants.Nothing in
       λ i. record {
-        code = table-same (code_at text names) ss s refl i;
+        code = table-same (placed_code text names) ss s refl i;
         regions = table-same (region_at text) ss s refl i;
-        locks = table-same (lock_at text) ss s refl i;
+        locks = table-same (lock_name_at text) ss s refl i;
         values = table-same (wrapped_value_at text names) ss s refl i;
         tasks = table-same (tasks_at text names) ss s refl i;
         claims = table-same (wrapped_claim_at text names) ss s refl i;
@@ -71,13 +71,13 @@ module _ (text : List ℕ) (names : List ℕ → Option Meaning) (near : (q : Li
   tables-more (statement.TheVariants.Instruction k) few small fits =
       let s = said (statement.TheVariants.Instruction k) in
       let bound = code-bound ss in
-      let size : size_of k ≤ 2 = two-at_most k in
-      let pushed : sum_by code_of (ss ++ s ∷ []) ≡ code_words ss + size_of k = sum_by_push code_of ss s in
-      let grown : sum_by code_of (ss ++ s ∷ []) ≡ more (code_words ss) (size_of k) = omega arith in
+      let size : code_word_count k ≤ 2 = two-at_most k in
+      let pushed : sum_by code_of (ss ++ s ∷ []) ≡ code_words ss + code_word_count k = sum_by_push code_of ss s in
+      let grown : sum_by code_of (ss ++ s ∷ []) ≡ more (code_words ss) (code_word_count k) = omega arith in
       λ i. record {
-        code = table-more (code_at text names) ss s i;
+        code = table-more (placed_code text names) ss s i;
         regions = table-same (region_at text) ss s refl i;
-        locks = table-same (lock_at text) ss s refl i;
+        locks = table-same (lock_name_at text) ss s refl i;
         values = table-same (wrapped_value_at text names) ss s refl i;
         tasks = table-same (tasks_at text names) ss s refl i;
         claims = table-same (wrapped_claim_at text names) ss s refl i;
@@ -102,9 +102,9 @@ module _ (text : List ℕ) (names : List ℕ → Option Meaning) (near : (q : Li
       let longer : flat_map (region_at text) (placed (ss ++ s ∷ [])) ≡ done ++ region name (wrapped len) ∷ [] =
       table-more (region_at text) ss s ∙ ap (λ (n : ℕ). done ++ region name n ∷ []) (length-counted len (not-false (is_length len) fits)) in
       λ i. record {
-        code = table-same (code_at text names) ss s refl i;
+        code = table-same (placed_code text names) ss s refl i;
         regions = longer i;
-        locks = table-same (lock_at text) ss s refl i;
+        locks = table-same (lock_name_at text) ss s refl i;
         values = table-same (wrapped_value_at text names) ss s refl i;
         tasks = table-same (tasks_at text names) ss s refl i;
         claims = table-same (wrapped_claim_at text names) ss s refl i;
@@ -120,9 +120,9 @@ module _ (text : List ℕ) (names : List ℕ → Option Meaning) (near : (q : Li
   tables-more (statement.TheVariants.Word region index value) few small fits =
       let s = said (statement.TheVariants.Word region index value) in
       λ i. record {
-        code = table-same (code_at text names) ss s refl i;
+        code = table-same (placed_code text names) ss s refl i;
         regions = table-same (region_at text) ss s refl i;
-        locks = table-same (lock_at text) ss s refl i;
+        locks = table-same (lock_name_at text) ss s refl i;
         values = table-more (wrapped_value_at text names) ss s i;
         tasks = table-same (tasks_at text names) ss s refl i;
         claims = table-same (wrapped_claim_at text names) ss s refl i;
@@ -136,9 +136,9 @@ module _ (text : List ℕ) (names : List ℕ → Option Meaning) (near : (q : Li
       let counted : sum_by lock_of (ss ++ s ∷ []) ≡ locks_in ss + 1 = sum_by_push lock_of ss s in
       let one : sum_by lock_of (ss ++ s ∷ []) ≡ more (locks_in ss) 1 = omega arith in
       λ i. record {
-        code = table-same (code_at text names) ss s refl i;
+        code = table-same (placed_code text names) ss s refl i;
         regions = table-same (region_at text) ss s refl i;
-        locks = table-more (lock_at text) ss s i;
+        locks = table-more (lock_name_at text) ss s i;
         values = table-same (wrapped_value_at text names) ss s refl i;
         tasks = table-same (tasks_at text names) ss s refl i;
         claims = table-same (wrapped_claim_at text names) ss s refl i;
@@ -157,9 +157,9 @@ module _ (text : List ℕ) (names : List ℕ → Option Meaning) (near : (q : Li
       let counted : sum_by phase_of (ss ++ s ∷ []) ≡ phases_in ss + 1 = sum_by_push phase_of ss s in
       let one : sum_by phase_of (ss ++ s ∷ []) ≡ more (phases_in ss) 1 = omega arith in
       λ i. record {
-        code = table-same (code_at text names) ss s refl i;
+        code = table-same (placed_code text names) ss s refl i;
         regions = table-same (region_at text) ss s refl i;
-        locks = table-same (lock_at text) ss s refl i;
+        locks = table-same (lock_name_at text) ss s refl i;
         values = table-same (wrapped_value_at text names) ss s refl i;
         tasks = table-same (tasks_at text names) ss s refl i;
         claims = table-same (wrapped_claim_at text names) ss s refl i;
@@ -172,19 +172,19 @@ module _ (text : List ℕ) (names : List ℕ → Option Meaning) (near : (q : Li
       let few_cores = family-cores f fits in
       let done : List Start = flat_map (tasks_at text names) (placed ss) in
       let entry = wrapped_entry text names f.entry in
-      let same : entry_of text names f.entry ≡ entry = entry-same text names near f.entry (or-none (not (are_cores f)) (entry_far f.entry.kind) fits).1 in
-      let cores : starts (first_task f (entry_of text names f.entry) (count_of f.core)) f.step (count_of f.count) ≡ starts (first_task f entry (wrapped f.core)) f.step (wrapped f.count) =
-      ap (λ (e : ℕ). starts (first_task f e (count_of f.core)) f.step (count_of f.count)) same
-      ∙ ap (λ (c : ℕ). starts (first_task f entry c) f.step (count_of f.count)) few_cores.core
+      let same : task_entry text names f.entry ≡ entry = entry-same text names near f.entry (or-none (not (are_cores f)) (entry_far f.entry.kind) fits).1 in
+      let cores : starts (first_task f (task_entry text names f.entry) (natural_of f.core)) f.step (natural_of f.count) ≡ starts (first_task f entry (wrapped f.core)) f.step (wrapped f.count) =
+      ap (λ (e : ℕ). starts (first_task f e (natural_of f.core)) f.step (natural_of f.count)) same
+      ∙ ap (λ (c : ℕ). starts (first_task f entry c) f.step (natural_of f.count)) few_cores.core
       ∙ ap (λ (n : ℕ). starts (first_task f entry (wrapped f.core)) f.step n) few_cores.count in
       let grown : flat_map (tasks_at text names) (placed (ss ++ s ∷ [])) ≡ done ++ members (record { phase = phases_in ss; core = wrapped f.core; entry = entry; arg = f.arg % 2 ^ 32 }) f.step (wrapped f.count) =
       table-more (tasks_at text names) ss s ∙ ap (λ (ts : List Start). done ++ ts) (cores ∙ members-same (first_task f entry (wrapped f.core)) f.step (wrapped f.count) few_cores.few) in
       let family : family_in (ss ++ s ∷ []) ≡ record { first = wrapped f.core; count = wrapped f.count } =
-      family-new ss s (record { first = count_of f.core; count = count_of f.count }) refl ∙ (λ i. record { first = few_cores.core i; count = few_cores.count i }) in
+      family-new ss s (record { first = natural_of f.core; count = natural_of f.count }) refl ∙ (λ i. record { first = few_cores.core i; count = few_cores.count i }) in
       λ i. record {
-        code = table-same (code_at text names) ss s refl i;
+        code = table-same (placed_code text names) ss s refl i;
         regions = table-same (region_at text) ss s refl i;
-        locks = table-same (lock_at text) ss s refl i;
+        locks = table-same (lock_name_at text) ss s refl i;
         values = table-same (wrapped_value_at text names) ss s refl i;
         tasks = grown i;
         claims = table-same (wrapped_claim_at text names) ss s refl i;
@@ -195,9 +195,9 @@ module _ (text : List ℕ) (names : List ℕ → Option Meaning) (near : (q : Li
   tables-more (statement.TheVariants.Uses e) few small fits =
       let s = said (statement.TheVariants.Uses e) in
       λ i. record {
-        code = table-same (code_at text names) ss s refl i;
+        code = table-same (placed_code text names) ss s refl i;
         regions = table-same (region_at text) ss s refl i;
-        locks = table-same (lock_at text) ss s refl i;
+        locks = table-same (lock_name_at text) ss s refl i;
         values = table-same (wrapped_value_at text names) ss s refl i;
         tasks = table-same (tasks_at text names) ss s refl i;
         claims = table-more (wrapped_claim_at text names) ss s i;

@@ -4,7 +4,7 @@ use Rattle.std.specs.List.{filter_map, cons_option, list_any}
 use Rattle.std.proofs.lemmas.Bool.{cond_both, cases_lt}
 use Rattle.std.proofs.lemmas.Bool.Decides.{nat_tests}
 use Rattle.src_text.specs.Byte.{is_bad}
-use Rattle.src_text.specs.Lexeme.{code_of, lexemes_of, is_bad_number, token_of}
+use Rattle.src_text.specs.Lexeme.{before_comment, lexemes_of, is_bad_number, token_of}
 use Rattle.src_text.specs.Line as line_of_text
 use Rattle.src_text.specs.Line.{cut, line_with, line_of, is_over_limit, numbered, lines_of}
 use Rattle.src_text.specs.declared.line.Line.{Line}
@@ -13,7 +13,7 @@ use Rattle.src_text.specs.declared.token.Token.{Token}
 use Rattle.rv_assembler.specs.declared.statement.Statement as statement
 use Rattle.rv_assembler.specs.declared.reading.Saying.{Saying}
 use Rattle.rv_assembler.specs.declared.reading.Reading.TheVariants.{Bad, Good}
-use Rattle.rv_assembler.specs.Reading.{fault_of_line, reading_of, is_version, is_blank, version_line}
+use Rattle.rv_assembler.specs.Reading.{fault_of_line, reading_of, is_version, is_blank_line, version_line}
 use Rattle.rv_assembler.specs.Source.{good, sayings}
 
 -- a line of a number above 65,536 has a fault, and no tokens
@@ -33,7 +33,7 @@ bad_line number f = record { number = number; tokens = []; fault = Some f }
 late : (number place : ℕ) (l : List ℕ) → 65536 < number → (f : LineFault) × (line_of number place l ≡ bad_line number f)
 late number place l h =
     let over : is_over_limit number l ≡ true = right (nat_lt 1024 (length l)) (nat_lt 65536 number) (lt-ltb 65536 number h) in
-    let found = third (list_any is_bad (code_of l)) (list_any is_bad_number (lexemes_of 0 l)) (is_over_limit number l) _ _ _ over in
+    let found = third (list_any is_bad (before_comment l)) (list_any is_bad_number (lexemes_of 0 l)) (is_over_limit number l) _ _ _ over in
     (found.0, ap (λ (o : Option LineFault). line_with number (filter_map token_of (lexemes_of place l)) o) found.1)
 
 pub number-of : (number : ℕ) (ts : List Token) (o : Option LineFault) → (line_with number ts o).number ≡ number
@@ -56,7 +56,7 @@ version-bound text number place [] = omega arith
 version-bound text number place (l ∷ ls) =
     let line = line_of number place l in
     let rest = numbered (number + 1) (place + (length l + 1)) ls in
-    cond_both (is_blank line) (version_line text rest) (cond (is_version text line) line.number 0) (λ (n : ℕ). n ≤ 65536)
+    cond_both (is_blank_line line) (version_line text rest) (cond (is_version text line) line.number 0) (λ (n : ℕ). n ≤ 65536)
     (λ e. version-bound text (number + 1) (place + (length l + 1)) ls)
     (λ e. cond_both (is_version text line) line.number 0 (λ (n : ℕ). n ≤ 65536) (version-of_line text number place l) (λ f. omega arith))
 

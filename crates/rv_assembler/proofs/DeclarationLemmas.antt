@@ -12,8 +12,8 @@ use Rattle.rv_assembler.specs.declared.names.Meaning as meaning
 use Rattle.rv_assembler.specs.declared.names.Count.{Count}
 use Rattle.rv_assembler.specs.Operand.{bytes_of}
 use Rattle.rv_assembler.specs.First.{first_of}
-use Rattle.rv_assembler.specs.Size.{size_of}
-use Rattle.rv_assembler.specs.Gathering.{more, no_count, counted, label_of_means, name_means, meaning_in}
+use Rattle.rv_assembler.specs.Size.{code_word_count}
+use Rattle.rv_assembler.specs.Gathering.{more, no_count, count_behind, label_of_means, name_means, meaning_in}
 use Rattle.rv_assembler.specs.Placed.{placed_behind}
 use Rattle.rv_assembler.specs.Counts.{region_words, code_size, data_size, is_region, is_lock, code_words, data_words, regions_in, locks_in}
 use Rattle.rv_assembler.specs.Declarations.{Declaration, label_by, named_by, declared_at, meaning_among, meaning_of}
@@ -83,12 +83,12 @@ module _ (before : List Saying) (line : ℕ) (label : Option Token) (c : Count) 
   all-same : (st : Statement) → code_size st ≡ 0 → data_size st ≡ 0 → tally (is_region st) ≡ 0 → tally (is_lock st) ≡ 0 → AreCapped (before ++ said st ∷ []) c
   all-same st a b r l = record { code = code-same st a; words = words-same st b; regions = regions-same st r; locks = locks-same st l }
 
-  capped-after : (st : Statement) → AreCapped (before ++ said st ∷ []) (counted c st)
+  capped-after : (st : Statement) → AreCapped (before ++ said st ∷ []) (count_behind c st)
   capped-after statement.TheVariants.Nothing = all-same statement.TheVariants.Nothing refl refl refl refl
   capped-after (statement.TheVariants.Instruction k) =
       let st = statement.TheVariants.Instruction k in
       record {
-        code = capped-more (code_words before) (size_of k) _ c.code h.code (sum_by_push (λ (s : Saying). code_size s.statement) before (said st));
+        code = capped-more (code_words before) (code_word_count k) _ c.code h.code (sum_by_push (λ (s : Saying). code_size s.statement) before (said st));
         words = words-same st refl;
         regions = regions-same st refl;
         locks = locks-same st refl;
@@ -158,8 +158,8 @@ gathered-from text (Good s ∷ rs) before c q h few =
     let locks = h.locks in
     let here = line-same text before c q (omega arith) (omega arith) (omega arith) (omega arith) s in
     let longer : length (before ++ s ∷ []) ≡ length before + 1 = length-append before (s ∷ []) in
-    let rest = gathered-from text rs (before ++ s ∷ []) (counted c s.statement) q (capped-after before s.line s.label c h s.statement) (omega arith) in
-    ap (λ (m : Option Meaning). first_of m (meaning_in text (counted c s.statement) rs q)) here
+    let rest = gathered-from text rs (before ++ s ∷ []) (count_behind c s.statement) q (capped-after before s.line s.label c h s.statement) (omega arith) in
+    ap (λ (m : Option Meaning). first_of m (meaning_in text (count_behind c s.statement) rs q)) here
     ∙ ap (λ (m : Option Meaning). first_of (meaning_among (declared_at text (place before s)) q) m) rest
     ∙ sym (found-append (declared_at text (place before s)) (flat_map (declared_at text) (placed_behind (before ++ s ∷ []) (sayings rs))) q)
 

@@ -5,7 +5,7 @@ use Rattle.std.specs.Option.{option_map}
 use Rattle.std.proofs.lemmas.Bool.{cond_both, and_parts, le-leb}
 use Rattle.std.proofs.lemmas.List.Elements.{All-nil, All-cons, All-head, All-tail, All-append, All-map, All-weaker}
 use Rattle.src_text.specs.Byte.{is_letter, is_word}
-use Rattle.src_text.specs.Laws.{is_name, IsPlaced}
+use Rattle.src_text.specs.Laws.{are_name_bytes, IsPlaced}
 use Rattle.src_text.specs.Line.{lines_of}
 use Rattle.src_text.specs.declared.line.Line.{Line}
 use Rattle.src_text.specs.declared.line.LineFault.{LineFault}
@@ -32,11 +32,11 @@ use Rattle.rv_assembler.specs.declared.draft.Draft.{Draft}
 use Rattle.rv_assembler.specs.Names.{is_declared_name, AreDeclaredNames}
 use Rattle.rv_assembler.specs.Operand.{bytes_of, token_at}
 use Rattle.rv_assembler.specs.Shape as shape
-use Rattle.rv_assembler.specs.Shape.{Shape, memory_rows, operation_rows, short_rows, directive_rows, later_rows, is_colon, is_plain, piece_fits, fits, has_word, is_row, kind_in, knows_word, kind_for}
+use Rattle.rv_assembler.specs.Shape.{Shape, memory_rows, operation_rows, short_rows, directive_rows, later_rows, is_colon, is_plain, piece_fits, fits, shape_has_word, is_row, kind_in_rows, knows_word, kind_for}
 use Rattle.rv_assembler.specs.First.{first_of}
 use Rattle.rv_assembler.specs.Reading.{statement_for, statement_of, statement_in, said, labelled, read_tokens, read_line, reading_of, version_line}
-use Rattle.rv_assembler.specs.Adding.{no_draft, after, fault_of, unless_fault, total, program_in, draft_of}
-use Rattle.rv_assembler.specs.Finishing.{program_of}
+use Rattle.rv_assembler.specs.Adding.{no_draft, draft_after, fault_on_line, unless_fault, total, program_in, draft_of}
+use Rattle.rv_assembler.specs.Finishing.{finished_program}
 use Rattle.rv_assembler.specs.Adding as adding
 use Rattle.rv_assembler.specs.Source.{source}
 use Rattle.rv_assembler.proofs.AgreeLemmas.{source-added}
@@ -60,7 +60,7 @@ without-dot false true p a e f = e
 without-dot false false true a e f = absurd cc
 without-dot false false false a e f = e
 
-name-declared : (bs : List ℕ) → is_name bs ≡ true → not (eqb (get_or bs 0 0) 46) ≡ true → is_declared_name bs ≡ true
+name-declared : (bs : List ℕ) → are_name_bytes bs ≡ true → not (eqb (get_or bs 0 0) 46) ≡ true → is_declared_name bs ≡ true
 name-declared [] e f = e
 name-declared (b ∷ bs) e f = without-dot (is_letter b) (eqb b 95) (eqb b 46) (list_all is_word bs) e f
 
@@ -129,15 +129,15 @@ abbrev FoundGood : List ℕ → List Token → Option Kind → Type 0
 FoundGood text ts None = Unit {0}
 FoundGood text ts (Some k) = DeclaresGood text (statement_for text ts k)
 
-found-good : (v : Bool) (text w : List ℕ) (ts : List Token) → All (IsPart text) ts → (shapes : List Shape) → list_all row_named shapes ≡ true → FoundGood text ts (kind_in v text w ts shapes)
+found-good : (v : Bool) (text w : List ℕ) (ts : List Token) → All (IsPart text) ts → (shapes : List Shape) → list_all row_named shapes ≡ true → FoundGood text ts (kind_in_rows v text w ts shapes)
 found-good v text w ts all [] e = tt
 found-good v text w ts all (s ∷ ss) e = by_row (is_row v text w ts s) refl (found-good v text w ts all ss named.1)
   where
     named : (row_named s ≡ true) × (list_all row_named ss ≡ true)
     named = and_parts (row_named s) (list_all row_named ss) e
 
-    by_row : (c : Bool) → is_row v text w ts s ≡ c → FoundGood text ts (kind_in v text w ts ss) → FoundGood text ts (option_map (λ (s : Shape). s.kind) (cond c (Some s) (find (is_row v text w ts) ss)))
-    by_row true e rest = kind-good text s.kind s.operands ts all named.0 (and_parts (has_word v w s) (fits text s.operands ts) e).1
+    by_row : (c : Bool) → is_row v text w ts s ≡ c → FoundGood text ts (kind_in_rows v text w ts ss) → FoundGood text ts (option_map (λ (s : Shape). s.kind) (cond c (Some s) (find (is_row v text w ts) ss)))
+    by_row true e rest = kind-good text s.kind s.operands ts all named.0 (and_parts (shape_has_word v w s) (fits text s.operands ts) e).1
     by_row false e rest = rest
 
 else-good : (text : List ℕ) (ts : List Token) (a b : Option Kind) → FoundGood text ts a → FoundGood text ts b → FoundGood text ts (first_of a b)
@@ -222,7 +222,7 @@ record HasGoodNames (d : Draft) : Type 0 where
   regions : All (λ (r : Region). IsDeclared r.name) d.regions
   locks : All IsDeclared d.locks
 
-after-named : (text : List ℕ) (names : List ℕ → Option Meaning) (d : Draft) (s : Statement) → HasGoodNames d → DeclaresGood text s → HasGoodNames (after text names d s)
+after-named : (text : List ℕ) (names : List ℕ → Option Meaning) (d : Draft) (s : Statement) → HasGoodNames d → DeclaresGood text s → HasGoodNames (draft_after text names d s)
 after-named text names d statement.TheVariants.Nothing h g = record { regions = h.regions; locks = h.locks }
 after-named text names d (statement.TheVariants.Instruction c) h g = record { regions = h.regions; locks = h.locks }
 after-named text names d (statement.TheVariants.Region name len) h g =
@@ -242,8 +242,8 @@ total-named v text names d e [] all h is = let same : d ≡ e = cc in subst HasG
 total-named v text names d e (Bad f ∷ rs) all h is = absurd cc
 total-named v text names d e (Good s ∷ rs) all h is =
     let rest = All-tail (ReadingGood text) (Good s) rs all in
-    let good : HasGoodNames (after text names d s.statement) = after-named text names d s.statement h (All-head (ReadingGood text) (Good s) rs all) in
-    total-named v text names (after text names d s.statement) e rs rest good (no_fault (fault_of v text names d s) (total v text names (after text names d s.statement) rs) is)
+    let good : HasGoodNames (draft_after text names d s.statement) = after-named text names d s.statement h (All-head (ReadingGood text) (Good s) rs all) in
+    total-named v text names (draft_after text names d s.statement) e rs rest good (no_fault (fault_on_line v text names d s) (total v text names (draft_after text names d s.statement) rs) is)
   where
     no_fault : (o : Option SourceFault) (r : Result Draft SourceFault) → unless_fault o r ≡ Ok e → r ≡ Ok e
     no_fault None r is = is
@@ -256,10 +256,10 @@ draft-named text d is =
     let all : All (ReadingGood text) (map (reading_of version text) ls) =
     All-map (ReadingGood text) (reading_of version text) ls
     (All-weaker (λ (l : Line). All (IsPart text) l.tokens) (λ (l : Line). ReadingGood text (reading_of version text l)) (reading-named version text) ls (AreParts-lines_of text)) in
-    total-named (nat_lt 0 version) text (adding.names_of text) no_draft d (map (reading_of version text) ls) all
+    total-named (nat_lt 0 version) text (adding.gathered_names text) no_draft d (map (reading_of version text) ls) all
     (record { regions = All-nil (λ (r : Region). IsDeclared r.name); locks = All-nil IsDeclared }) is
 
-program-named : (d : Draft) → HasGoodNames d → AreDeclaredNames (names_of (program_of d))
+program-named : (d : Draft) → HasGoodNames d → AreDeclaredNames (names_of (finished_program d))
 program-named d h = All-append IsDeclared (map (λ (r : Region). r.name) d.regions) d.locks (All-map IsDeclared (λ (r : Region). r.name) d.regions h.regions) h.locks
 
 -- the names of a text's program are names that a text may declare
@@ -267,7 +267,7 @@ pub source-declared : (text : List ℕ) (P : ProgramParts) → source text ≡ O
 source-declared text P is = by_size (nat_lt 1048576 (length text)) (sym (source-added text) ∙ is)
   where
     by_draft : (r : Result Draft SourceFault) → draft_of text ≡ r → program_in r ≡ Ok P → AreDeclaredNames (names_of P)
-    by_draft (Ok d) e f = let same : program_of d ≡ P = cc in subst (λ (p : ProgramParts). AreDeclaredNames (names_of p)) same (program-named d (draft-named text d e))
+    by_draft (Ok d) e f = let same : finished_program d ≡ P = cc in subst (λ (p : ProgramParts). AreDeclaredNames (names_of p)) same (program-named d (draft-named text d e))
     by_draft (Err g) e f = absurd cc
 
     by_size : (c : Bool) → cond c (Err fault.TheVariants.TooLarge) (program_in (draft_of text)) ≡ Ok P → AreDeclaredNames (names_of P)

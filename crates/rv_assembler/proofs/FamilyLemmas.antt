@@ -15,12 +15,12 @@ use Rattle.rv_assembler.specs.declared.draft.Usage.{Usage}
 use Rattle.rv_assembler.specs.declared.draft.Claim.{Claim}
 use Rattle.rv_assembler.specs.declared.draft.Cores.{Cores}
 use Rattle.rv_assembler.specs.declared.draft.Place.{Place}
-use Rattle.rv_assembler.specs.Number.{count_of, wrapped}
+use Rattle.rv_assembler.specs.Number.{natural_of, wrapped}
 use Rattle.rv_assembler.specs.Operand.{bytes_of, token_at, number_at}
 use Rattle.rv_assembler.specs.Reading.{directive_for}
-use Rattle.rv_assembler.specs.Named.{entry_by, entry_of, region_place, usage_of}
+use Rattle.rv_assembler.specs.Named.{entry_value, task_entry, region_span, usage_of}
 use Rattle.rv_assembler.specs.Rows.{start_at, from_index, to_index, moved_by, use_at, uses_of}
-use Rattle.rv_assembler.specs.Counts.{opened}
+use Rattle.rv_assembler.specs.Counts.{current_family}
 use Rattle.rv_assembler.specs.Tables.{tasks_by}
 use Rattle.rv_assembler.specs.BaseLine.{IsAlike}
 use Rattle.rv_assembler.specs.FamilyLines.{IsTaskLine, HasTaskLines, interval_at, one_of, HasUseLines}
@@ -52,12 +52,12 @@ wrapped-moved a s (suc i) =
 
 -- ---- tasks
 
-entry-alike : (text : List ℕ) (names : List ℕ → Option Meaning) (t u : Token) → IsAlike text t u → entry_of text names t ≡ entry_of text names u
-entry-alike text names t u a = ap (λ (bs : List ℕ). entry_by names bs t.kind) a.bytes ∙ ap (entry_by names (bytes_of text u)) a.kind
+entry-alike : (text : List ℕ) (names : List ℕ → Option Meaning) (t u : Token) → IsAlike text t u → task_entry text names t ≡ task_entry text names u
+entry-alike text names t u a = ap (λ (bs : List ℕ). entry_value names bs t.kind) a.bytes ∙ ap (entry_value names (bytes_of text u)) a.kind
 
 module _ (text : List ℕ) (ts : List Token) (names : List ℕ → Option Meaning) (phase f : ℕ) (first_core : number_at ts 0 ≡ pos f) where
   abbrev first : Start
-  first = record { phase = phase; core = count_of (number_at ts 0); entry = entry_of text names (token_at ts 4); arg = wrapped (number_at ts 6) }
+  first = record { phase = phase; core = natural_of (number_at ts 0); entry = task_entry text names (token_at ts 4); arg = wrapped (number_at ts 6) }
 
   abbrev step : ℕ
   step = wrapped (number_at ts 8)
@@ -65,8 +65,8 @@ module _ (text : List ℕ) (ts : List Token) (names : List ℕ → Option Meanin
   one-task : (i : ℕ) (us : List Token) → IsTaskLine text ts i us → tasks_by text names phase (directive_for us Task) ≡ start_at first step i ∷ []
   one-task i us h =
       let plain : f + i + 0 ≡ f + i = omega arith in
-      let core : count_of (number_at us 0) + 0 ≡ count_of (number_at ts 0) + i =
-      ap (λ (z : ℤ). count_of z + 0) (h.core ∙ ap (λ (z : ℤ). z +ℤ pos i) first_core) ∙ plain ∙ ap (λ (z : ℤ). count_of z + i) (sym first_core) in
+      let core : natural_of (number_at us 0) + 0 ≡ natural_of (number_at ts 0) + i =
+      ap (λ (z : ℤ). natural_of z + 0) (h.core ∙ ap (λ (z : ℤ). z +ℤ pos i) first_core) ∙ plain ∙ ap (λ (z : ℤ). natural_of z + i) (sym first_core) in
       let arg : (wrapped (number_at us 4) + 0 * 0) % 2 ^ 32 ≡ (wrapped (number_at ts 6) + i * step) % 2 ^ 32 =
       let e = h.argument in let moved = wrapped-moved (number_at ts 6) (number_at ts 8) i in omega arith in
       λ k. record { phase = phase; core = core k; entry = sym (entry-alike text names (token_at ts 4) (token_at us 2) h.entry) k; arg = arg k } ∷ []
@@ -78,18 +78,18 @@ module _ (text : List ℕ) (ts : List Token) (names : List ℕ → Option Meanin
       ap (λ (ss : List Start). start_at first step k ∷ ss) (tasks-on lines m h n (k + 1) (omega arith))
       ∙ ap (λ (ss : List Start). ss ++ flat_map (λ i. tasks_by text names phase (directive_for (lines i) Task)) (range_with_len (k + 1) n)) (sym (one-task k (lines k) (h k (omega arith))))
 
-  one-family : (family : Cores) (i : ℕ) (us : List Token) → IsTaskLine text ts i us → opened (directive_for ts Forall) ≡ Some family → opened (directive_for us Task) ≡ Some (one_of family i)
+  one-family : (family : Cores) (i : ℕ) (us : List Token) → IsTaskLine text ts i us → current_family (directive_for ts Forall) ≡ Some family → current_family (directive_for us Task) ≡ Some (one_of family i)
   one-family family i us h e =
-      let same : record { first = count_of (number_at ts 0); count = count_of (number_at ts 2) } ≡ family = cc in
-      let core : count_of (number_at us 0) ≡ count_of (number_at ts 0) + i = ap count_of (h.core ∙ ap (λ (z : ℤ). z +ℤ pos i) first_core) ∙ ap (λ (z : ℤ). count_of z + i) (sym first_core) in
+      let same : record { first = natural_of (number_at ts 0); count = natural_of (number_at ts 2) } ≡ family = cc in
+      let core : natural_of (number_at us 0) ≡ natural_of (number_at ts 0) + i = ap natural_of (h.core ∙ ap (λ (z : ℤ). z +ℤ pos i) first_core) ∙ ap (λ (z : ℤ). natural_of z + i) (sym first_core) in
       (λ k. Some (record { first = core k; count = 1 })) ∙ ap (λ (c : Cores). Some (one_of c i)) same
 
-pub task-lines : (text : List ℕ) (ts : List Token) (f : ℕ) (lines : ℕ → List Token) → number_at ts 0 ≡ pos f → ((i : ℕ) → i < count_of (number_at ts 2) → IsTaskLine text ts i (lines i)) → HasTaskLines text ts lines
+pub task-lines : (text : List ℕ) (ts : List Token) (f : ℕ) (lines : ℕ → List Token) → number_at ts 0 ≡ pos f → ((i : ℕ) → i < natural_of (number_at ts 2) → IsTaskLine text ts i (lines i)) → HasTaskLines text ts lines
 task-lines text ts f lines core h = record {
-  tasks = λ names phase. tasks-on text ts names phase f core lines (count_of (number_at ts 2)) h (count_of (number_at ts 2)) 0 (omega arith);
+  tasks = λ names phase. tasks-on text ts names phase f core lines (natural_of (number_at ts 2)) h (natural_of (number_at ts 2)) 0 (omega arith);
   cores = λ family i e l.
-      let same : record { first = count_of (number_at ts 0); count = count_of (number_at ts 2) } ≡ family = cc in
-      let count : count_of (number_at ts 2) ≡ family.count = ap (λ (c : Cores). c.count) same in
+      let same : record { first = natural_of (number_at ts 0); count = natural_of (number_at ts 2) } ≡ family = cc in
+      let count : natural_of (number_at ts 2) ≡ family.count = ap (λ (c : Cores). c.count) same in
       one-family text ts (λ q. None) 0 f core family i (lines i) (h i (omega arith)) e;
 }
 
@@ -118,7 +118,7 @@ high-same len (extent.TheVariants.Stepped lo hi step) i = not-moved (hi +ℤ pos
 one-use : (phase : ℕ) (family : Cores) (u : Usage) (p : Place) (e : Extent) (i : ℕ) → use_at phase (one_of family i) u p (interval_at e i) 0 ≡ use_at phase family u p e i
 one-use phase family u p e i =
     let core : family.first + i + 0 ≡ family.first + i = omega arith in
-    λ k. record { phase = phase; core = core k; usage = u; lo = p.start + count_of (low-same e i k); hi = p.start + count_of (high-same p.len e i k) }
+    λ k. record { phase = phase; core = core k; usage = u; lo = p.start + natural_of (low-same e i k); hi = p.start + natural_of (high-same p.len e i k) }
 
 uses-on : (phase : ℕ) (family : Cores) (u : Usage) (p : Place) (e : Extent) (n k : ℕ)
     → map (use_at phase family u p e) (range_with_len k n) ≡ flat_map (λ i. uses_of phase (one_of family i) (Some p) (Some u) (interval_at e i)) (range_with_len k n)
@@ -133,4 +133,4 @@ of-uses phase family (Some p) None e = no-uses family.count 0
 of-uses phase family (Some p) (Some u) e = uses-on phase family u p e family.count 0
 
 pub use-lines : (text : List ℕ) (phase : ℕ) (family : Cores) (e : Effect) → HasUseLines text phase family e
-use-lines text phase family e names = of-uses phase family (region_place (names (bytes_of text e.region))) (usage_of text names e) e.extent
+use-lines text phase family e names = of-uses phase family (region_span (names (bytes_of text e.region))) (usage_of text names e) e.extent

@@ -10,7 +10,7 @@ use Rattle.rv_assembler.specs.declared.draft.Usage.{Usage}
 use Rattle.rv_assembler.specs.declared.draft.Claim.{Claim}
 use Rattle.rv_assembler.specs.declared.draft.Cores.{Cores}
 use Rattle.rv_assembler.specs.declared.draft.Place.{Place}
-use Rattle.rv_assembler.specs.Number.{count_of, is_interval}
+use Rattle.rv_assembler.specs.Number.{natural_of, is_interval}
 use Rattle.rv_assembler.specs.Gathering.{more}
 use Rattle.rv_assembler.specs.Drafting.{members}
 use Rattle.rv_assembler.specs.Rows.{start_at, starts, from_index, to_index, moved_by, use_at, uses_of}
@@ -49,7 +49,7 @@ fits-index len step lo hi n = fits-on len step lo hi n 0 ∙ (λ i. fits_from le
 abbrev pub uses_from : ℕ → ℕ → Usage → ℕ → ℤ → ℤ → ℤ → ℕ → List Claim
 uses_from phase core usage start lo hi step zero = []
 uses_from phase core usage start lo hi step (suc n) =
-    record { phase = phase; core = core; usage = usage; lo = start + count_of lo; hi = start + count_of hi }
+    record { phase = phase; core = core; usage = usage; lo = start + natural_of lo; hi = start + natural_of hi }
     ∷ uses_from phase (core + 1) usage start (lo +ℤ step) (hi +ℤ step) step n
 
 module _ (phase : ℕ) (family : Cores) (u : Usage) (p : Place) (e : Extent) where

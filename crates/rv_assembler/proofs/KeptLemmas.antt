@@ -29,22 +29,22 @@ all-filter P f (x ∷ xs) a =
     cond_both (f x) (x ∷ filter f xs) (filter f xs) (All P) (λ e. All-cons P x (filter f xs) (All-head P x xs a) rest) (λ e. rest)
 
 module _ (words : ℕ) where
-  interval-same : (u : Usage) (c : Claim) → IsInMemory words c → finishing.interval_of words u c ≡ interval_of u c
+  interval-same : (u : Usage) (c : Claim) → IsInMemory words c → finishing.interval_within words u c ≡ interval_of u c
   interval-same u c h =
       let i : Option Interval = Some (record { lo = c.lo; hi = c.hi }) in
       ap (λ (b : Bool). cond (same_usage c.usage u && b) i None) (and_from (ltb c.lo c.hi) (leb c.hi words) (lt-ltb c.lo c.hi h.0) (le-leb c.hi words h.1))
       ∙ ap (λ (b : Bool). cond b i None) (and-true (same_usage c.usage u))
 
-  intervals-same : (u : Usage) (cs : List Claim) → All (IsInMemory words) cs → filter_map (finishing.interval_of words u) cs ≡ filter_map (interval_of u) cs
+  intervals-same : (u : Usage) (cs : List Claim) → All (IsInMemory words) cs → filter_map (finishing.interval_within words u) cs ≡ filter_map (interval_of u) cs
   intervals-same u [] a = refl
   intervals-same u (c ∷ cs) a =
-      ap (λ (o : Option Interval). cons_option o (filter_map (finishing.interval_of words u) cs)) (interval-same u c (All-head (IsInMemory words) c cs a))
+      ap (λ (o : Option Interval). cons_option o (filter_map (finishing.interval_within words u) cs)) (interval-same u c (All-head (IsInMemory words) c cs a))
       ∙ ap (λ (is : List Interval). cons_option (interval_of u c) is) (intervals-same u cs (All-tail (IsInMemory words) c cs a))
 
-  words-same : (cs : List Claim) → All (IsInMemory words) cs → (u : Usage) → finishing.words_of words cs u ≡ words_of cs u
+  words-same : (cs : List Claim) → All (IsInMemory words) cs → (u : Usage) → finishing.words_within words cs u ≡ words_of cs u
   words-same cs a u = ap united (intervals-same u cs a)
 
-  effects-same : (locks : ℕ) (cs : List Claim) → All (IsInMemory words) cs → finishing.effects_of words locks cs ≡ effects_of locks cs
+  effects-same : (locks : ℕ) (cs : List Claim) → All (IsInMemory words) cs → finishing.effects_within words locks cs ≡ effects_of locks cs
   effects-same locks cs a =
       λ i. record {
         reads = words-same cs a Reads i;
@@ -53,11 +53,11 @@ module _ (words : ℕ) where
         guarded_writes = map (λ (k : ℕ). words-same cs a (GuardedWrites k) i) (range_with_len 0 locks);
       }
 
-  task-same : (locks : ℕ) (cs : List Claim) → All (IsInMemory words) cs → (t : Start) → finishing.task_of words locks cs t ≡ task_of locks cs t
+  task-same : (locks : ℕ) (cs : List Claim) → All (IsInMemory words) cs → (t : Start) → finishing.task_within words locks cs t ≡ task_of locks cs t
   task-same locks cs a t =
       ap (λ (e : Effects). let q : TaskDecl = record { core = record { 0 = t.core }; entry = t.entry; arg = t.arg; effects = e } in q)
       (effects-same locks (filter (is_claim_of t) cs) (all-filter (IsInMemory words) (is_claim_of t) cs a))
 
-  pub phase-same : (locks : ℕ) (cs : List Claim) → All (IsInMemory words) cs → (tasks : List Start) (p : ℕ) → finishing.phase_of words locks cs tasks p ≡ phase_of locks cs tasks p
+  pub phase-same : (locks : ℕ) (cs : List Claim) → All (IsInMemory words) cs → (tasks : List Start) (p : ℕ) → finishing.phase_within words locks cs tasks p ≡ phase_of locks cs tasks p
   phase-same locks cs a tasks p =
       λ i. record { tasks = filter_map (λ (core : ℕ). option_map (λ (t : Start). task-same locks cs a t i) (find (is_task p core) tasks)) (range_with_len 0 16) }

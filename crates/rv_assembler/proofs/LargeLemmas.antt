@@ -19,7 +19,7 @@ use Rattle.rv_assembler.specs.Shape.{is_name, is_colon, is_plain, knows_word, ki
 use Rattle.rv_assembler.specs.Reading.{statement_of, statement_in, said, labelled, read_tokens, read_line, reading_of, version_line}
 use Rattle.rv_assembler.specs.First.{first_of}
 use Rattle.src_text.specs.Line.{lines_of}
-use Rattle.rv_assembler.specs.Adding.{no_draft, after, fault_of, unless_fault, total, total_of, program_in, names_of, draft_of, added}
+use Rattle.rv_assembler.specs.Adding.{no_draft, draft_after, fault_on_line, unless_fault, total, total_of, program_in, gathered_names, draft_of, added_program}
 use Rattle.rv_assembler.specs.Fault.{out_of_range, unknown, misplaced, over_limit, limit_fault}
 use Rattle.rv_assembler.specs.Testing.{doubled_by_meaning, draft_fault}
 use Rattle.rv_assembler.specs.Source.{source}
@@ -104,9 +104,9 @@ unless-small (Some x) r e f = e
 step-small : (v : Bool) (text : List ℕ) (names : List ℕ → Option Meaning) (d : Draft) (r : Reading) (rs : List Reading) → reading_large r ≡ false → ((d : Draft) → error_large (total v text names d rs) ≡ false) → error_large (total v text names d (r ∷ rs)) ≡ false
 step-small v text names d (Bad f) rs e h = e
 step-small v text names d (Good s) rs e h =
-    unless-small (fault_of v text names d s) (total v text names (after text names d s.statement) rs)
-    (first-small (draft_fault text names d s) (limit_fault v (after text names d s.statement) s.line) (early-small text names d s) (limit-small v (after text names d s.statement) s.line))
-    (h (after text names d s.statement))
+    unless-small (fault_on_line v text names d s) (total v text names (draft_after text names d s.statement) rs)
+    (first-small (draft_fault text names d s) (limit_fault v (draft_after text names d s.statement) s.line) (early-small text names d s) (limit-small v (draft_after text names d s.statement) s.line))
+    (h (draft_after text names d s.statement))
 
 total-small : (version : ℕ) (text : List ℕ) (names : List ℕ → Option Meaning) (ls : List Line) (d : Draft) → error_large (total_of version text names d ls) ≡ false
 total-small version text names [] d = refl
@@ -117,14 +117,14 @@ program-small : (r : Result Draft SourceFault) → error_large r ≡ false → e
 program-small (Ok d) e = refl
 program-small (Err f) e = e
 
-added-large : (text : List ℕ) → added text ≡ Err fault.TheVariants.TooLarge → 1048576 < length text
+added-large : (text : List ℕ) → added_program text ≡ Err fault.TheVariants.TooLarge → 1048576 < length text
 added-large text e =
     ⊎_elim
     (λ (l : 1048576 < length text). l)
     (λ (l : length text ≤ 1048576).
-    let small : added text ≡ program_in (draft_of text) = rw (le-ltb 1048576 (length text) l) refl in
-    let not_large : error_large (added text) ≡ false = ap (λ (r : Result ProgramParts SourceFault). error_large r) small ∙ program-small (draft_of text) (total-small (version_line text (lines_of text)) text (names_of text) (lines_of text) no_draft) in
-    let large : error_large (added text) ≡ true = ap (λ (r : Result ProgramParts SourceFault). error_large r) e in
+    let small : added_program text ≡ program_in (draft_of text) = rw (le-ltb 1048576 (length text) l) refl in
+    let not_large : error_large (added_program text) ≡ false = ap (λ (r : Result ProgramParts SourceFault). error_large r) small ∙ program-small (draft_of text) (total-small (version_line text (lines_of text)) text (gathered_names text) (lines_of text) no_draft) in
+    let large : error_large (added_program text) ≡ true = ap (λ (r : Result ProgramParts SourceFault). error_large r) e in
     let no : true ≡ false = sym large ∙ not_large in
     absurd cc)
     (cases_lt 1048576 (length text))

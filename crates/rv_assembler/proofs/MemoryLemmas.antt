@@ -8,7 +8,7 @@ use Rattle.std.proofs.lemmas.Grind.{get_or-set_at}
 use Rattle.rv_assembler.specs.declared.draft.FirstValue.{FirstValue}
 use Rattle.rv_assembler.specs.declared.draft.Draft.{Draft}
 use Rattle.rv_assembler.specs.Program.{value_for, first_value}
-use Rattle.rv_assembler.specs.Finishing.{stored, program_of}
+use Rattle.rv_assembler.specs.Finishing.{with_first_values, finished_program}
 use Rattle.rv_assembler.specs.Program as program
 use Rattle.rv_assembler.proofs.KeptLemmas.{IsInMemory, phase-same}
 
@@ -16,7 +16,7 @@ use Rattle.rv_assembler.proofs.KeptLemmas.{IsInMemory, phase-same}
 abbrev value_after : Option ℕ → List FirstValue → ℕ → ℕ
 value_after o vs w = unwrap_or (last_or o (filter_map (value_for w) vs)) 0
 
-stored-at : (vs : List FirstValue) (m : List ℕ) (w : ℕ) (o : Option ℕ) → w < length m → get_or m w 0 ≡ unwrap_or o 0 → get_or (stored m vs) w 0 ≡ value_after o vs w
+stored-at : (vs : List FirstValue) (m : List ℕ) (w : ℕ) (o : Option ℕ) → w < length m → get_or m w 0 ≡ unwrap_or o 0 → get_or (with_first_values m vs) w 0 ≡ value_after o vs w
 stored-at [] m w o l h = h
 stored-at (v ∷ vs) m w o l h =
     let long = length-set m v.word v.value in
@@ -30,18 +30,18 @@ stored-at (v ∷ vs) m w o l h =
     ∙ ap (λ (b : Bool). unwrap_or (last_or o (cons_option (cond b (Some v.value) None) (filter_map (value_for w) vs))) 0) (sym e))
     (cases_Bool (eqb v.word w))
 
-length-stored : (vs : List FirstValue) (m : List ℕ) → length (stored m vs) ≡ length m
+length-stored : (vs : List FirstValue) (m : List ℕ) → length (with_first_values m vs) ≡ length m
 length-stored [] m = omega arith
 length-stored (v ∷ vs) m = length-stored vs (set m v.word v.value) ∙ length-set m v.word v.value
 
-first-values : (words : ℕ) (vs : List FirstValue) → stored (replicate words 0) vs ≡ map (first_value vs) (range_with_len 0 words)
+first-values : (words : ℕ) (vs : List FirstValue) → with_first_values (replicate words 0) vs ≡ map (first_value vs) (range_with_len 0 words)
 first-values words vs =
     let long : length (replicate words 0) ≡ words = length-replicate words 0 in
-    fill_by_all (first_value vs) (stored (replicate words 0) vs) words 0 (length-stored vs (replicate words 0) ∙ long)
+    fill_by_all (first_value vs) (with_first_values (replicate words 0) vs) words 0 (length-stored vs (replicate words 0) ∙ long)
     (λ w l. stored-at vs (replicate words 0) w None (omega (arith, long)) (get_or-replicate words w 0 0 l))
 
 -- so both ways from the tables give one program, where claims are of words of the memory
-pub finished : (d : Draft) → All (IsInMemory d.count.words) d.claims → program_of d ≡ program.program_of d
+pub finished : (d : Draft) → All (IsInMemory d.count.words) d.claims → finished_program d ≡ program.program_of d
 finished d held =
     λ i. record {
       code = d.code;

@@ -9,11 +9,11 @@ use Rattle.rv_assembler.specs.declared.statement.Statement as statement
 use Rattle.rv_assembler.specs.declared.reading.Saying.{Saying}
 use Rattle.rv_assembler.specs.declared.names.Meaning.{Meaning}
 use Rattle.rv_assembler.specs.declared.names.Meaning as meaning
-use Rattle.rv_assembler.specs.Number.{count_of, wrapped, is_within}
+use Rattle.rv_assembler.specs.Number.{natural_of, wrapped, is_within}
 use Rattle.rv_assembler.specs.Operand.{bytes_of}
 use Rattle.rv_assembler.specs.First.{first_of}
-use Rattle.rv_assembler.specs.Emission.{label_place}
-use Rattle.rv_assembler.specs.Named.{entry_at, entry_by, entry_of}
+use Rattle.rv_assembler.specs.Emission.{label_index}
+use Rattle.rv_assembler.specs.Named.{entry_address, entry_value, task_entry}
 use Rattle.rv_assembler.specs.Drafting.{wrapped_entry_at, wrapped_entry_by, wrapped_entry}
 use Rattle.rv_assembler.specs.Fault.{is_address, entry_far}
 use Rattle.rv_assembler.specs.Placed.{placed_behind}
@@ -72,7 +72,7 @@ near-all text ss q few = near-from text ss [] q (omega arith)
 
 -- ---- entries
 
-number-entry : (n : ℤ) → is_address n ≡ true → count_of n ≡ wrapped n
+number-entry : (n : ℤ) → is_address n ≡ true → natural_of n ≡ wrapped n
 number-entry (pos n) e =
     let p = and_parts (is_within (pos 0) (pos 0x1_0000_0000) (pos n)) (eqb (n % 4) 0) e in
     let q = and_parts (int_le (pos 0) (pos n)) (int_lt (pos n) (pos 0x1_0000_0000)) p.0 in
@@ -80,13 +80,13 @@ number-entry (pos n) e =
     omega arith
 number-entry (negsuc n) e = let no : false ≡ true = e in absurd cc
 
-place-entry : (m : Option Meaning) → IsNear m → entry_at (label_place m) ≡ wrapped_entry_at (label_place m)
+place-entry : (m : Option Meaning) → IsNear m → entry_address (label_index m) ≡ wrapped_entry_at (label_index m)
 place-entry None h = refl
 place-entry (Some (meaning.TheVariants.Label line at)) h = omega arith
 place-entry (Some (meaning.TheVariants.Region number start len)) h = refl
 place-entry (Some (meaning.TheVariants.Lock number)) h = refl
 
-kind-entry : (names : List ℕ → Option Meaning) (name : List ℕ) (k : TokenKind) → IsNear (names name) → entry_far k ≡ false → entry_by names name k ≡ wrapped_entry_by names name k
+kind-entry : (names : List ℕ → Option Meaning) (name : List ℕ) (k : TokenKind) → IsNear (names name) → entry_far k ≡ false → entry_value names name k ≡ wrapped_entry_by names name k
 kind-entry names name (token.TheVariants.Number n) h e = number-entry n (not-false (is_address n) e)
 kind-entry names name token.TheVariants.Name h e = place-entry (names name) h
 kind-entry names name token.TheVariants.Comma h e = place-entry (names name) h
@@ -94,5 +94,5 @@ kind-entry names name token.TheVariants.Colon h e = place-entry (names name) h
 kind-entry names name token.TheVariants.Left h e = place-entry (names name) h
 kind-entry names name token.TheVariants.Right h e = place-entry (names name) h
 
-pub entry-same : (text : List ℕ) (names : List ℕ → Option Meaning) → ((q : List ℕ) → IsNear (names q)) → (t : Token) → entry_far t.kind ≡ false → entry_of text names t ≡ wrapped_entry text names t
+pub entry-same : (text : List ℕ) (names : List ℕ → Option Meaning) → ((q : List ℕ) → IsNear (names q)) → (t : Token) → entry_far t.kind ≡ false → task_entry text names t ≡ wrapped_entry text names t
 entry-same text names near t e = kind-entry names (bytes_of text t) t.kind (near (bytes_of text t)) e

@@ -14,7 +14,7 @@ use Rattle.rv_assembler.specs.declared.draft.Usage.{Usage}
 use Rattle.rv_assembler.specs.declared.draft.Usage.TheVariants.{Reads, Writes, GuardedReads, GuardedWrites}
 use Rattle.rv_assembler.specs.declared.draft.Claim.{Claim}
 use Rattle.rv_assembler.specs.Program.{same_usage, is_claim_of, is_task}
-use Rattle.rv_assembler.specs.Finishing.{interval_of, words_of, read_under, written_under, effects_of, task_of, task_at, phase_of}
+use Rattle.rv_assembler.specs.Finishing.{interval_within, words_within, guarded_reads_within, guarded_writes_within, effects_within, task_within, core_task_within, phase_within}
 use Rattle.rv_assembler.proofs.UnionLemmas.{IsSome, united-within}
 
 -- a core has the greater number
@@ -37,7 +37,7 @@ all-map : {X : Type 0} (P : X → Type 0) (f : ℕ → X) (ns : List ℕ) → ((
 all-map P f [] h = All-nil P
 all-map P f (n ∷ ns) h = All-cons P (f n) (map f ns) (h n) (all-map P f ns h)
 
-interval-valid : (words : ℕ) (u : Usage) (c : Claim) → IfSome (interval_of words u c) (IsSome words)
+interval-valid : (words : ℕ) (u : Usage) (c : Claim) → IfSome (interval_within words u c) (IsSome words)
 interval-valid words u c =
     ⊎_elim
     (λ (e : (same_usage c.usage u && (ltb c.lo c.hi && leb c.hi words)) ≡ true).
@@ -48,31 +48,31 @@ interval-valid words u c =
     (cases_Bool (same_usage c.usage u && (ltb c.lo c.hi && leb c.hi words)))
 
 -- the intervals of claims are words of the memory
-pub valid : (words : ℕ) (u : Usage) (claims : List Claim) → All (IsSome words) (filter_map (interval_of words u) claims)
+pub valid : (words : ℕ) (u : Usage) (claims : List Claim) → All (IsSome words) (filter_map (interval_within words u) claims)
 valid words u [] = All-nil (IsSome words)
-valid words u (c ∷ cs) = cons-all (IsSome words) (interval_of words u c) (filter_map (interval_of words u) cs) (interval-valid words u c) (valid words u cs)
+valid words u (c ∷ cs) = cons-all (IsSome words) (interval_within words u c) (filter_map (interval_within words u) cs) (interval-valid words u c) (valid words u cs)
 
-pub valid-most : (words : ℕ) (u : Usage) (claims : List Claim) → words ≤ 65536 → All (IsSome 65536) (filter_map (interval_of words u) claims)
-valid-most words u claims most = λ k d l. let v : IsSome words (get_or (filter_map (interval_of words u) claims) k d) = valid words u claims k d l in (v.0, omega arith)
+pub valid-most : (words : ℕ) (u : Usage) (claims : List Claim) → words ≤ 65536 → All (IsSome 65536) (filter_map (interval_within words u) claims)
+valid-most words u claims most = λ k d l. let v : IsSome words (get_or (filter_map (interval_within words u) claims) k d) = valid words u claims k d l in (v.0, omega arith)
 
-lies : (words : ℕ) (claims : List Claim) (u : Usage) → LiesIn words (words_of words claims u)
-lies words claims u = united-within words (filter_map (interval_of words u) claims) (valid words u claims)
+lies : (words : ℕ) (claims : List Claim) (u : Usage) → LiesIn words (words_within words claims u)
+lies words claims u = united-within words (filter_map (interval_within words u) claims) (valid words u claims)
 
-effects-well : (words locks : ℕ) (claims : List Claim) → AreEffects words locks (effects_of words locks claims)
+effects-well : (words locks : ℕ) (claims : List Claim) → AreEffects words locks (effects_within words locks claims)
 effects-well words locks claims = record {
   reads = lies words claims Reads;
   writes = lies words claims Writes;
-  guarded_reads = all-map (LiesIn words) (read_under words claims) (range_with_len 0 locks) (λ n. lies words claims (GuardedReads n));
-  guarded_writes = all-map (LiesIn words) (written_under words claims) (range_with_len 0 locks) (λ n. lies words claims (GuardedWrites n));
-  reads_by_lock = length-map (range_with_len 0 locks) (read_under words claims) ∙ length-range_with_len 0 locks;
-  writes_by_lock = length-map (range_with_len 0 locks) (written_under words claims) ∙ length-range_with_len 0 locks;
+  guarded_reads = all-map (LiesIn words) (guarded_reads_within words claims) (range_with_len 0 locks) (λ n. lies words claims (GuardedReads n));
+  guarded_writes = all-map (LiesIn words) (guarded_writes_within words claims) (range_with_len 0 locks) (λ n. lies words claims (GuardedWrites n));
+  reads_by_lock = length-map (range_with_len 0 locks) (guarded_reads_within words claims) ∙ length-range_with_len 0 locks;
+  writes_by_lock = length-map (range_with_len 0 locks) (guarded_writes_within words claims) ∙ length-range_with_len 0 locks;
 }
 
 -- the entry is the address of a word
 abbrev pub IsAligned : Start → Type 0
 IsAligned t = t.entry % 4 ≡ 0
 
-task-well : (words locks : ℕ) (claims : List Claim) (t : Start) → t.core < 16 → IsAligned t → IsTask words locks (task_of words locks claims t)
+task-well : (words locks : ℕ) (claims : List Claim) (t : Start) → t.core < 16 → IsAligned t → IsTask words locks (task_within words locks claims t)
 task-well words locks claims t h a = record {
   core = h;
   entry = a;
@@ -91,10 +91,10 @@ found-core p c (t ∷ ts) all =
 abbrev pub IsOn : ℕ → ℕ → ℕ → TaskDecl → Type 0
 IsOn words locks c t = IsTask words locks t × (t.core.0 ≡ c)
 
-pub task-found : (words locks : ℕ) (claims : List Claim) (tasks : List Start) (p c : ℕ) → All IsAligned tasks → c < 16 → IfSome (task_at words locks claims tasks p c) (IsOn words locks c)
+pub task-found : (words locks : ℕ) (claims : List Claim) (tasks : List Start) (p c : ℕ) → All IsAligned tasks → c < 16 → IfSome (core_task_within words locks claims tasks p c) (IsOn words locks c)
 task-found words locks claims tasks p c all l =
-    if_some-map (IsOn words locks c) (task_of words locks claims) (find (is_task p c) tasks)
-    (if_some-weaker (λ (t : Start). (t.core ≡ c) × IsAligned t) (λ (t : Start). IsOn words locks c (task_of words locks claims t)) (find (is_task p c) tasks)
+    if_some-map (IsOn words locks c) (task_within words locks claims) (find (is_task p c) tasks)
+    (if_some-weaker (λ (t : Start). (t.core ≡ c) × IsAligned t) (λ (t : Start). IsOn words locks c (task_within words locks claims t)) (find (is_task p c) tasks)
     (λ t e. let same = e.0 in (task-well words locks claims t (omega arith) e.1, same))
     (found-core p c tasks all))
 
@@ -126,7 +126,7 @@ module _ (words locks : ℕ) (f : ℕ → Option TaskDecl) (h : (c : ℕ) → c 
   pub phase-filled : IsPhase words locks (record { tasks = filter_map f (range_with_len 0 16) })
   phase-filled = record { tasks = filled 0 16 (omega arith); rising = rising 0 16 (omega arith) }
 
-pub phases-well : (words locks : ℕ) (claims : List Claim) (tasks : List Start) (ps : List ℕ) → All IsAligned tasks → All (IsPhase words locks) (map (phase_of words locks claims tasks) ps)
+pub phases-well : (words locks : ℕ) (claims : List Claim) (tasks : List Start) (ps : List ℕ) → All IsAligned tasks → All (IsPhase words locks) (map (phase_within words locks claims tasks) ps)
 phases-well words locks claims tasks ps all =
-    all-map (IsPhase words locks) (phase_of words locks claims tasks) ps
-    (λ p. phase-filled words locks (task_at words locks claims tasks p) (λ c l. task-found words locks claims tasks p c all l))
+    all-map (IsPhase words locks) (phase_within words locks claims tasks) ps
+    (λ p. phase-filled words locks (core_task_within words locks claims tasks p) (λ c l. task-found words locks claims tasks p c all l))

@@ -17,19 +17,19 @@ use Rattle.rv_assembler.specs.declared.names.Meaning as meaning
 use Rattle.rv_assembler.specs.declared.draft.FirstValue.{FirstValue}
 use Rattle.rv_assembler.specs.declared.draft.Draft.{Draft}
 use Rattle.rv_assembler.specs.declared.draft.Start.{Start}
-use Rattle.rv_assembler.specs.Number.{count_of, wrapped, is_within, is_length}
+use Rattle.rv_assembler.specs.Number.{natural_of, wrapped, is_within, is_length}
 use Rattle.rv_assembler.specs.Counts.{region_words}
-use Rattle.rv_assembler.specs.Emission.{label_place}
+use Rattle.rv_assembler.specs.Emission.{label_index}
 use Rattle.rv_assembler.specs.Gathering.{more}
 use Rattle.rv_assembler.specs.Drafting.{wrapped_entry_at, wrapped_entry_by, wrapped_entry, next_task, members}
 use Rattle.rv_assembler.specs.Operand.{bytes_of}
 use Rattle.src_text.specs.declared.token.TokenKind.{TokenKind}
 use Rattle.src_text.specs.declared.token.TokenKind as token
-use Rattle.rv_assembler.specs.Adding.{no_draft, after}
+use Rattle.rv_assembler.specs.Adding.{no_draft, draft_after}
 use Rattle.rv_assembler.specs.Fault.{is_address, entry_far, are_cores, out_of_range, unknown, misplaced, most_regions, over_limit}
 use Rattle.rv_assembler.specs.Testing.{region_doubled, lock_doubled, name_doubled, label_of_doubled, doubled_by_meaning, draft_fault}
-use Rattle.rv_assembler.specs.Finishing.{stored, program_of}
-use Rattle.rv_assembler.specs.Whole.{IsWhole}
+use Rattle.rv_assembler.specs.Finishing.{with_first_values, finished_program}
+use Rattle.rv_assembler.specs.Whole.{IsWholeDraft}
 use Rattle.rv_assembler.proofs.PhaseLemmas.{IsAligned, phases-well}
 use Rattle.rv_assembler.proofs.TaskLemmas.{tasks-within}
 
@@ -141,7 +141,7 @@ length-words (negsuc n) e =
     let f : false ≡ true = p.0 in
     absurd cc
 
-pub length-counted : (z : ℤ) → is_length z ≡ true → count_of z ≡ wrapped z
+pub length-counted : (z : ℤ) → is_length z ≡ true → natural_of z ≡ wrapped z
 length-counted (pos n) e =
     let p = and_parts (int_le (pos 1) (pos n)) (int_le (pos n) (pos 65536)) e in
     let high : n ≤ 65536 = leb-true n 65536 p.1 in
@@ -165,18 +165,18 @@ number-aligned (negsuc n) e = let no : false ≡ true = e in absurd cc
 
 kind-aligned : (names : List ℕ → Option Meaning) (name : List ℕ) (k : TokenKind) → entry_far k ≡ false → wrapped_entry_by names name k % 4 ≡ 0
 kind-aligned names name (token.TheVariants.Number n) e = number-aligned n (not-false (is_address n) e)
-kind-aligned names name token.TheVariants.Name e = place-aligned (label_place (names name))
-kind-aligned names name token.TheVariants.Comma e = place-aligned (label_place (names name))
-kind-aligned names name token.TheVariants.Colon e = place-aligned (label_place (names name))
-kind-aligned names name token.TheVariants.Left e = place-aligned (label_place (names name))
-kind-aligned names name token.TheVariants.Right e = place-aligned (label_place (names name))
+kind-aligned names name token.TheVariants.Name e = place-aligned (label_index (names name))
+kind-aligned names name token.TheVariants.Comma e = place-aligned (label_index (names name))
+kind-aligned names name token.TheVariants.Colon e = place-aligned (label_index (names name))
+kind-aligned names name token.TheVariants.Left e = place-aligned (label_index (names name))
+kind-aligned names name token.TheVariants.Right e = place-aligned (label_index (names name))
 
 members-aligned : (t : Start) (step n : ℕ) → IsAligned t → All IsAligned (members t step n)
 members-aligned t step zero a = All-nil IsAligned
 members-aligned t step (suc n) a = All-cons IsAligned t (members (next_task t step) step n) a (members-aligned (next_task t step) step n a)
 
 sound-statement : (text : List ℕ) (names : List ℕ → Option Meaning) (d : Draft) (s : Statement) → Sound names d → out_of_range text names d s ≡ false → name_doubled text names d.count s ≡ false
-    → d.count.words ≤ 65536 → length d.regions ≤ 4096 → length d.locks ≤ 32 → Sound names (after text names d s)
+    → d.count.words ≤ 65536 → length d.regions ≤ 4096 → length d.locks ≤ 32 → Sound names (draft_after text names d s)
 sound-statement text names d statement.TheVariants.Nothing h o n w r l = record { region_count = h.region_count; lock_count = h.lock_count; tiled = h.tiled; regions = h.regions; locks = h.locks; aligned = h.aligned }
 sound-statement text names d (statement.TheVariants.Instruction k) h o n w r l = record { region_count = h.region_count; lock_count = h.lock_count; tiled = h.tiled; regions = h.regions; locks = h.locks; aligned = h.aligned }
 sound-statement text names d (statement.TheVariants.Region name len) h o n w r l =
@@ -260,21 +260,21 @@ within version_2 d e =
       tasks = ltb-false 64 (length d.tasks) t.1;
     }
 
-pub sound-after : (text : List ℕ) (names : List ℕ → Option Meaning) (d : Draft) (s : Saying) → Sound names d → IsWithin d → draft_fault text names d s ≡ None → Sound names (after text names d s.statement)
+pub sound-after : (text : List ℕ) (names : List ℕ → Option Meaning) (d : Draft) (s : Saying) → Sound names d → IsWithin d → draft_fault text names d s ≡ None → Sound names (draft_after text names d s.statement)
 sound-after text names d s h w e =
     let p = first-none (out_of_range text names d s.statement) (doubled_by_meaning text names d.count s) (unknown text names d.count.code s.statement) (misplaced d s.statement) _ _ _ _ e in
     let q = or-none (label_of_doubled text names s.line s.label) (name_doubled text names d.count s.statement) p.1 in
     sound-statement text names d s.statement h p.0 q.1 w.words w.regions w.locks
 
-length-stored : (memory : List ℕ) (vs : List FirstValue) → length (stored memory vs) ≡ length memory
+length-stored : (memory : List ℕ) (vs : List FirstValue) → length (with_first_values memory vs) ≡ length memory
 length-stored memory [] = refl
 length-stored memory (v ∷ vs) = length-stored (set memory v.word v.value) vs ∙ length-set memory v.word v.value
 
 -- such lines add up to a well-formed program
-pub whole : (names : List ℕ → Option Meaning) (d : Draft) → Sound names d → IsWithin d → IsWhole d
+pub whole : (names : List ℕ → Option Meaning) (d : Draft) → Sound names d → IsWithin d → IsWholeDraft d
 whole names d h w =
-    let memory : length (stored (replicate d.count.words 0) d.values) ≡ d.count.words = length-stored (replicate d.count.words 0) d.values ∙ length-replicate d.count.words 0 in
-    let phases : length (program_of d).phases ≡ d.phases = length-map (range_with_len 1 d.phases) _ ∙ length-range_with_len 1 d.phases in
+    let memory : length (with_first_values (replicate d.count.words 0) d.values) ≡ d.count.words = length-stored (replicate d.count.words 0) d.values ∙ length-replicate d.count.words 0 in
+    let phases : length (finished_program d).phases ≡ d.phases = length-map (range_with_len 1 d.phases) _ ∙ length-range_with_len 1 d.phases in
     let tasks = tasks-within d.count.words (length d.locks) d.claims d.tasks 1 d.phases in
     record {
       words = w.words;

@@ -12,17 +12,17 @@ use Rattle.src_text.specs.declared.line.Line.{Line}
 use Rattle.src_text.specs.Line.{lines_of}
 use Rattle.rv_assembler.specs.Reading.{version_line, reading_of}
 use Rattle.rv_assembler.specs.Gathering.{no_count, meaning_in}
-use Rattle.rv_assembler.specs.Adding.{no_draft, after, total, total_of, draft_of}
+use Rattle.rv_assembler.specs.Adding.{no_draft, draft_after, total, total_of, draft_of}
 use Rattle.rv_assembler.specs.Fault.{over_limit}
 use Rattle.rv_assembler.specs.Testing.{draft_fault}
 
 pub total-early : (version_2 : Bool) (text : List ℕ) (names : List ℕ → Option Meaning) (d : Draft) (s : Saying) (rs : List Reading) (f : SourceFault) → draft_fault text names d s ≡ Some f → total version_2 text names d (Good s ∷ rs) ≡ Err f
 total-early version_2 text names d s rs f e = rw e refl
 
-pub total-limit : (version_2 : Bool) (text : List ℕ) (names : List ℕ → Option Meaning) (d : Draft) (s : Saying) (rs : List Reading) → draft_fault text names d s ≡ None → over_limit version_2 (after text names d s.statement) ≡ true → total version_2 text names d (Good s ∷ rs) ≡ Err (fault.TheVariants.Limit s.line)
+pub total-limit : (version_2 : Bool) (text : List ℕ) (names : List ℕ → Option Meaning) (d : Draft) (s : Saying) (rs : List Reading) → draft_fault text names d s ≡ None → over_limit version_2 (draft_after text names d s.statement) ≡ true → total version_2 text names d (Good s ∷ rs) ≡ Err (fault.TheVariants.Limit s.line)
 total-limit version_2 text names d s rs e l = rw (e, l) refl
 
-pub total-more : (version_2 : Bool) (text : List ℕ) (names : List ℕ → Option Meaning) (d : Draft) (s : Saying) (rs : List Reading) → draft_fault text names d s ≡ None → over_limit version_2 (after text names d s.statement) ≡ false → total version_2 text names d (Good s ∷ rs) ≡ total version_2 text names (after text names d s.statement) rs
+pub total-more : (version_2 : Bool) (text : List ℕ) (names : List ℕ → Option Meaning) (d : Draft) (s : Saying) (rs : List Reading) → draft_fault text names d s ≡ None → over_limit version_2 (draft_after text names d s.statement) ≡ false → total version_2 text names d (Good s ∷ rs) ≡ total version_2 text names (draft_after text names d s.statement) rs
 total-more version_2 text names d s rs e l = rw (e, l) refl
 
 -- tables in which all names mean the same give the same
@@ -54,8 +54,8 @@ module _ (version : ℕ) (text : List ℕ) (names : List ℕ → Option Meaning)
   pub line-early : (s : Saying) (f : SourceFault) → reading_of version text line ≡ Good s → draft_fault text names d s ≡ Some f → b ≡ Err f
   line-early s f g n = sym (with-reading (Good s) g) ∙ total-early (nat_lt 0 version) text names d s (map (reading_of version text) (drop (i + 1) lines)) f n
 
-  pub line-limit : (s : Saying) → reading_of version text line ≡ Good s → draft_fault text names d s ≡ None → over_limit (nat_lt 0 version) (after text names d s.statement) ≡ true → b ≡ Err (fault.TheVariants.Limit s.line)
+  pub line-limit : (s : Saying) → reading_of version text line ≡ Good s → draft_fault text names d s ≡ None → over_limit (nat_lt 0 version) (draft_after text names d s.statement) ≡ true → b ≡ Err (fault.TheVariants.Limit s.line)
   line-limit s g n o = sym (with-reading (Good s) g) ∙ total-limit (nat_lt 0 version) text names d s (map (reading_of version text) (drop (i + 1) lines)) n o
 
-  pub line-more : (s : Saying) → reading_of version text line ≡ Good s → draft_fault text names d s ≡ None → over_limit (nat_lt 0 version) (after text names d s.statement) ≡ false → total_of version text names (after text names d s.statement) (drop (i + 1) lines) ≡ b
+  pub line-more : (s : Saying) → reading_of version text line ≡ Good s → draft_fault text names d s ≡ None → over_limit (nat_lt 0 version) (draft_after text names d s.statement) ≡ false → total_of version text names (draft_after text names d s.statement) (drop (i + 1) lines) ≡ b
   line-more s g n o = sym (total-more (nat_lt 0 version) text names d s (map (reading_of version text) (drop (i + 1) lines)) n o) ∙ with-reading (Good s) g

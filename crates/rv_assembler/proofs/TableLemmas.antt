@@ -11,11 +11,11 @@ use Rattle.rv_assembler.specs.declared.statement.Statement.{Statement}
 use Rattle.rv_assembler.specs.declared.statement.Statement as statement
 use Rattle.rv_assembler.specs.declared.reading.Saying.{Saying}
 use Rattle.rv_assembler.specs.declared.draft.Cores.{Cores}
-use Rattle.rv_assembler.specs.Number.{count_of, is_length}
-use Rattle.rv_assembler.specs.Size.{size_of}
+use Rattle.rv_assembler.specs.Number.{natural_of, is_length}
+use Rattle.rv_assembler.specs.Size.{code_word_count}
 use Rattle.rv_assembler.specs.Named.{no_cores}
 use Rattle.rv_assembler.specs.Placed.{Placed, placed_behind, placed}
-use Rattle.rv_assembler.specs.Counts.{region_words, code_size, data_size, is_region, is_lock, code_words, data_words, counts_in, opened, family_in}
+use Rattle.rv_assembler.specs.Counts.{region_words, code_size, data_size, is_region, is_lock, code_words, data_words, counts_in, current_family, family_in}
 use Rattle.rv_assembler.proofs.SoundLemmas.{length-words, length-counted}
 
 module _ {X : Type 0} where
@@ -45,14 +45,14 @@ last-more o [] x = refl
 last-more o (y ∷ ys) x = last-more (Some y) ys x
 
 abbrev opened_by : Saying → Option Cores
-opened_by s = opened s.statement
+opened_by s = current_family s.statement
 
-pub family-same : (ss : List Saying) (s : Saying) → opened s.statement ≡ None → family_in (ss ++ s ∷ []) ≡ family_in ss
+pub family-same : (ss : List Saying) (s : Saying) → current_family s.statement ≡ None → family_in (ss ++ s ∷ []) ≡ family_in ss
 family-same ss s e =
     ap (λ (cs : List Cores). unwrap_or (last_or None cs) no_cores)
     (filter_map-append opened_by ss (s ∷ []) ∙ ap (λ (o : Option Cores). filter_map opened_by ss ++ cons_option o []) e ∙ append-nil (filter_map opened_by ss))
 
-pub family-new : (ss : List Saying) (s : Saying) (c : Cores) → opened s.statement ≡ Some c → family_in (ss ++ s ∷ []) ≡ c
+pub family-new : (ss : List Saying) (s : Saying) (c : Cores) → current_family s.statement ≡ Some c → family_in (ss ++ s ∷ []) ≡ c
 family-new ss s c e =
     ap (λ (cs : List Cores). unwrap_or (last_or None cs) no_cores)
     (filter_map-append opened_by ss (s ∷ []) ∙ ap (λ (o : Option Cores). filter_map opened_by ss ++ cons_option o []) e)
@@ -74,7 +74,7 @@ counts-same ss s c d r l =
       locks = sum-same (λ (s : Saying). tally (is_lock s.statement)) ss s l i;
     }
 
-pub two-at_most : (k : Code) → size_of k ≤ 2
+pub two-at_most : (k : Code) → code_word_count k ≤ 2
 two-at_most (LoadNumber rd n) = omega arith
 two-at_most (LoadAddress rd n) = omega arith
 two-at_most _ = omega arith
@@ -85,7 +85,7 @@ code-at_most _ = omega arith
 
 pub length-at_most : (len : ℤ) → region_words len ≤ 65536
 length-at_most len =
-    cond_both (is_length len) (count_of len) 0 (λ (n : ℕ). n ≤ 65536) (λ e. let same = length-counted len e in let l = (length-words len e).1 in omega arith) (λ e. omega arith)
+    cond_both (is_length len) (natural_of len) 0 (λ (n : ℕ). n ≤ 65536) (λ e. let same = length-counted len e in let l = (length-words len e).1 in omega arith) (λ e. omega arith)
 
 data-at_most : (s : Statement) → data_size s ≤ 65536
 data-at_most (statement.TheVariants.Region name len) = length-at_most len

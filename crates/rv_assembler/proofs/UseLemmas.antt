@@ -23,11 +23,11 @@ use Rattle.rv_assembler.specs.declared.draft.Claim.{Claim}
 use Rattle.rv_assembler.specs.declared.draft.Cores.{Cores}
 use Rattle.rv_assembler.specs.declared.draft.Place.{Place}
 use Rattle.rv_assembler.specs.declared.draft.Draft.{Draft}
-use Rattle.rv_assembler.specs.Number.{count_of, wrapped, is_length, is_interval}
+use Rattle.rv_assembler.specs.Number.{natural_of, wrapped, is_length, is_interval}
 use Rattle.rv_assembler.specs.Gathering.{more}
 use Rattle.rv_assembler.specs.Operand.{bytes_of}
 use Rattle.rv_assembler.specs.First.{first_of}
-use Rattle.rv_assembler.specs.Named.{no_cores, region_place, usage_of}
+use Rattle.rv_assembler.specs.Named.{no_cores, region_span, usage_of}
 use Rattle.rv_assembler.specs.Drafting.{next_claim, claimed, claims_for, values_for}
 use Rattle.rv_assembler.specs.Rows.{first_values, from_index, to_index, moved_by, uses_of}
 use Rattle.rv_assembler.proofs.IndexLemmas.{fits_from, fits-index, uses_from, uses-index}
@@ -38,7 +38,7 @@ use Rattle.rv_assembler.specs.Declarations.{Declaration, label_by, named_by, dec
 use Rattle.rv_assembler.specs.Tables.{value_by, claim_by, value_at, claim_at, tables}
 use Rattle.rv_assembler.specs.Program.{program_of}
 use Rattle.rv_assembler.specs.Finishing as finishing
-use Rattle.rv_assembler.specs.Source.{good, sayings, line_fault, fault_at, faults, decided}
+use Rattle.rv_assembler.specs.Source.{good, sayings, line_fault, fault_at, faults, without_faults}
 use Rattle.rv_assembler.proofs.SoundLemmas.{not-false, first-none, within}
 use Rattle.rv_assembler.proofs.TableLemmas.{place, family-same, family-new}
 use Rattle.rv_assembler.proofs.DeclarationLemmas.{found-append, found-one}
@@ -52,9 +52,9 @@ use Rattle.rv_assembler.proofs.MemoryLemmas.{finished}
 record Inside (lo hi len : ℤ) : Type 0 where
   low : int_le (pos 0) lo ≡ true
   high : int_le (pos 0) hi ≡ true
-  order : count_of lo < count_of hi
-  first : count_of lo ≤ count_of len
-  last : count_of hi ≤ count_of len
+  order : natural_of lo < natural_of hi
+  first : natural_of lo ≤ natural_of len
+  last : natural_of hi ≤ natural_of len
 
 inside-interval : (lo hi len : ℤ) → is_interval lo hi len ≡ true → Inside lo hi len
 inside-interval lo hi len e =
@@ -71,13 +71,13 @@ inside-interval lo hi len e =
         let m : b ≤ c = leb-true b c z in
         record { low = le-leb 0 a (omega arith); high = le-leb 0 b (omega arith); order = l; first = omega arith; last = omega arith }
 
-moved-on : (start : ℕ) (z step : ℤ) (a : ℕ) → a ≡ start + count_of z → int_le (pos 0) z ≡ true → start + count_of z ≤ 65536 → int_le (pos 0) (z +ℤ step) ≡ true → start + count_of (z +ℤ step) ≤ 65536
-    → (a + wrapped step) % 2 ^ 32 ≡ start + count_of (z +ℤ step)
+moved-on : (start : ℕ) (z step : ℤ) (a : ℕ) → a ≡ start + natural_of z → int_le (pos 0) z ≡ true → start + natural_of z ≤ 65536 → int_le (pos 0) (z +ℤ step) ≡ true → start + natural_of (z +ℤ step) ≤ 65536
+    → (a + wrapped step) % 2 ^ 32 ≡ start + natural_of (z +ℤ step)
 moved-on start (negsuc k) step a e n l m b = let no : false ≡ true = n in absurd cc
 moved-on start (pos k) step a e n l m b = ap (λ (x : ℕ). (x + wrapped step) % 2 ^ 32) e ∙ moved start k step l m b
 
-module _ (start : ℕ) (len step : ℤ) (few : start + count_of len ≤ 65536) where
-  claimed-stepped : (n : ℕ) (c : Claim) (lo hi : ℤ) → c.lo ≡ start + count_of lo → c.hi ≡ start + count_of hi → c.core + n ≤ 16 → fits_from len step lo hi n ≡ true
+module _ (start : ℕ) (len step : ℤ) (few : start + natural_of len ≤ 65536) where
+  claimed-stepped : (n : ℕ) (c : Claim) (lo hi : ℤ) → c.lo ≡ start + natural_of lo → c.hi ≡ start + natural_of hi → c.core + n ≤ 16 → fits_from len step lo hi n ≡ true
       → claimed c (wrapped step) n ≡ uses_from c.phase c.core c.usage start lo hi step n
   claimed-stepped zero c lo hi a b k e = refl
   claimed-stepped (suc zero) c lo hi a b k e = λ i. record { phase = c.phase; core = c.core; usage = c.usage; lo = a i; hi = b i } ∷ []
@@ -109,17 +109,17 @@ claimed-flat (suc n) c start a b d e f g k =
 -- a region in the memory
 record IsRegion (words start : ℕ) (len : ℤ) : Type 0 where
   sized : is_length len ≡ true
-  reach : start + count_of len ≤ words
+  reach : start + natural_of len ≤ words
   few : words ≤ 65536
 
-flat-uses : (phase : ℕ) (family : Cores) (u : Usage) (start : ℕ) (len lo hi : ℤ) (first past : ℕ) → start + count_of len ≤ 65536 → family.first + family.count ≤ 16 → is_interval lo hi len ≡ true
-    → (int_le (pos 0) lo ≡ true → count_of lo ≤ 65536 → first ≡ start + count_of lo) → (int_le (pos 0) hi ≡ true → count_of hi ≤ 65536 → past ≡ start + count_of hi)
+flat-uses : (phase : ℕ) (family : Cores) (u : Usage) (start : ℕ) (len lo hi : ℤ) (first past : ℕ) → start + natural_of len ≤ 65536 → family.first + family.count ≤ 16 → is_interval lo hi len ≡ true
+    → (int_le (pos 0) lo ≡ true → natural_of lo ≤ 65536 → first ≡ start + natural_of lo) → (int_le (pos 0) hi ≡ true → natural_of hi ≤ 65536 → past ≡ start + natural_of hi)
     → claimed (record { phase = phase; core = family.first; usage = u; lo = first; hi = past }) 0 family.count ≡ uses_from phase family.first u start lo hi (pos 0) family.count
 flat-uses phase family u start len lo hi first past few k e a b =
     let here = inside-interval lo hi len e in
     by_signs lo hi here (a here.low (let x = here.first in omega arith)) (b here.high (let x = here.last in omega arith))
   where
-    by_signs : (lo hi : ℤ) → Inside lo hi len → first ≡ start + count_of lo → past ≡ start + count_of hi
+    by_signs : (lo hi : ℤ) → Inside lo hi len → first ≡ start + natural_of lo → past ≡ start + natural_of hi
         → claimed (record { phase = phase; core = family.first; usage = u; lo = first; hi = past }) 0 family.count ≡ uses_from phase family.first u start lo hi (pos 0) family.count
     by_signs (negsuc x) hi i a b = let no : false ≡ true = i.low in absurd cc
     by_signs (pos x) (negsuc y) i a b = let no : false ≡ true = i.high in absurd cc
@@ -128,7 +128,7 @@ flat-uses phase family u start len lo hi first past few k e a b =
         let g = i.last in
         claimed-flat family.count (record { phase = phase; core = family.first; usage = u; lo = first; hi = past }) start x y a b (omega arith) (omega arith) k
 
-counted-small : (start : ℕ) (z : ℤ) → start ≤ 65536 → int_le (pos 0) z ≡ true → count_of z ≤ 65536 → (start + wrapped z) % 2 ^ 32 ≡ start + count_of z
+counted-small : (start : ℕ) (z : ℤ) → start ≤ 65536 → int_le (pos 0) z ≡ true → natural_of z ≤ 65536 → (start + wrapped z) % 2 ^ 32 ≡ start + natural_of z
 counted-small start (pos n) l e f = omega arith
 counted-small start (negsuc n) l e f = let no : false ≡ true = e in absurd cc
 
@@ -184,7 +184,7 @@ word-same words p i v r e =
     let m = r.few in
     ap (λ (w : ℕ). value_row w v) (counted-small p.start i (omega arith) q.0 (let b = below i p.len q.0 q.1 in omega arith))
   where
-    below : (i len : ℤ) → int_le (pos 0) i ≡ true → int_lt i len ≡ true → count_of i ≤ count_of len
+    below : (i len : ℤ) → int_le (pos 0) i ≡ true → int_lt i len ≡ true → natural_of i ≤ natural_of len
     below (negsuc a) len x y = let no : false ≡ true = x in absurd cc
     below (pos a) (negsuc b) x y = let no : false ≡ true = y in absurd cc
     below (pos a) (pos b) x y = let l : a < b = ltb-true a b y in omega arith
@@ -208,7 +208,7 @@ abbrev IsPlaceInside : ℕ → Option Place → Type 0
 IsPlaceInside words None = Unit {0}
 IsPlaceInside words (Some p) = IsRegion words p.start p.len
 
-place-inside : (words : ℕ) (m : Option Meaning) → IsInside words m → IsPlaceInside words (region_place m)
+place-inside : (words : ℕ) (m : Option Meaning) → IsInside words m → IsPlaceInside words (region_span m)
 place-inside words None h = tt
 place-inside words (Some (meaning.TheVariants.Label line at)) h = tt
 place-inside words (Some (meaning.TheVariants.Region number start len)) h = record { sized = h.sized; reach = h.reach; few = h.few }
@@ -225,7 +225,7 @@ flat-held words phase start u zero core a b l m = All-nil (IsInMemory words)
 flat-held words phase start u (suc n) core a b l m =
     All-cons (IsInMemory words) _ (uses_from phase (core + 1) u start (pos (a + 0)) (pos (b + 0)) (pos 0) n) (omega arith, omega arith) (flat-held words phase start u n (core + 1) (a + 0) (b + 0) (omega arith) (omega arith))
 
-plain-held : (words phase start : ℕ) (u : Usage) (n core : ℕ) (lo hi len : ℤ) → is_interval lo hi len ≡ true → start + count_of len ≤ words → All (IsInMemory words) (uses_from phase core u start lo hi (pos 0) n)
+plain-held : (words phase start : ℕ) (u : Usage) (n core : ℕ) (lo hi len : ℤ) → is_interval lo hi len ≡ true → start + natural_of len ≤ words → All (IsInMemory words) (uses_from phase core u start lo hi (pos 0) n)
 plain-held words phase start u n core lo hi len e m = by_signs lo hi (inside-interval lo hi len e)
   where
     by_signs : (lo hi : ℤ) → Inside lo hi len → All (IsInMemory words) (uses_from phase core u start lo hi (pos 0) n)
@@ -233,7 +233,7 @@ plain-held words phase start u n core lo hi len e m = by_signs lo hi (inside-int
     by_signs (pos x) (negsuc y) i = let no : false ≡ true = i.high in absurd cc
     by_signs (pos x) (pos y) i = let l = i.order in let g = i.last in flat-held words phase start u n core x y (omega arith) (omega arith)
 
-stepped-held : (words phase start : ℕ) (u : Usage) (len step : ℤ) → start + count_of len ≤ words → (n core : ℕ) (lo hi : ℤ) → fits_from len step lo hi n ≡ true → All (IsInMemory words) (uses_from phase core u start lo hi step n)
+stepped-held : (words phase start : ℕ) (u : Usage) (len step : ℤ) → start + natural_of len ≤ words → (n core : ℕ) (lo hi : ℤ) → fits_from len step lo hi n ≡ true → All (IsInMemory words) (uses_from phase core u start lo hi step n)
 stepped-held words phase start u len step m zero core lo hi e = All-nil (IsInMemory words)
 stepped-held words phase start u len step m (suc n) core lo hi e =
     let p = and_parts (is_interval lo hi len) (fits_from len step (lo +ℤ step) (hi +ℤ step) n) e in
@@ -267,7 +267,7 @@ module _ (text : List ℕ) (names : List ℕ → Option Meaning) (words : ℕ) (
   inside-name before (statement.TheVariants.Instruction k) q e l = tt
   inside-name before (statement.TheVariants.Region name len) q e l =
       let is : is_length len ≡ true = not-false (is_length len) e in
-      let size : region_words len ≡ count_of len = ap (λ (b : Bool). cond b (count_of len) 0) is in
+      let size : region_words len ≡ natural_of len = ap (λ (b : Bool). cond b (natural_of len) 0) is in
       let d : Declaration = record { name = bytes_of text name; meaning = meaning.TheVariants.Region (regions_in before) (data_words before) len } in
       subst (IsInside words) (sym (found-one d q)) (cond_both (bytes_eq d.name q) (Some d.meaning) None (IsInside words) (λ e. record { sized = is; reach = omega arith; few = few }) (λ e. tt))
   inside-name before (statement.TheVariants.Word region index value) q e l = tt
@@ -302,7 +302,7 @@ module _ (text : List ℕ) (names : List ℕ → Option Meaning) (words : ℕ) (
     claim-here statement.TheVariants.Phase phase family d k c e = refl
     claim-here (statement.TheVariants.Tasks f) phase family d k c e = refl
     claim-here (statement.TheVariants.Uses u) phase family d k c e =
-        by_place (region_place (names (bytes_of text u.region))) (usage_of text names u) (place-inside words (names (bytes_of text u.region)) (inside (bytes_of text u.region))) (ap (λ (n : ℕ). extent_far (region_place (names (bytes_of text u.region))) u.extent n) c ∙ e)
+        by_place (region_span (names (bytes_of text u.region))) (usage_of text names u) (place-inside words (names (bytes_of text u.region)) (inside (bytes_of text u.region))) (ap (λ (n : ℕ). extent_far (region_span (names (bytes_of text u.region))) u.extent n) c ∙ e)
       where
         by_place : (o : Option Place) (w : Option Usage) → IsPlaceInside words o → extent_far o u.extent family.count ≡ false → claims_for phase family o w u.extent ≡ uses_of phase family o w u.extent
         by_place None w h f = refl
@@ -318,7 +318,7 @@ module _ (text : List ℕ) (names : List ℕ → Option Meaning) (words : ℕ) (
     claim-held statement.TheVariants.Phase phase family d c e = All-nil (IsInMemory words)
     claim-held (statement.TheVariants.Tasks f) phase family d c e = All-nil (IsInMemory words)
     claim-held (statement.TheVariants.Uses u) phase family d c e =
-        by_place (region_place (names (bytes_of text u.region))) (usage_of text names u) (place-inside words (names (bytes_of text u.region)) (inside (bytes_of text u.region))) (ap (λ (n : ℕ). extent_far (region_place (names (bytes_of text u.region))) u.extent n) c ∙ e)
+        by_place (region_span (names (bytes_of text u.region))) (usage_of text names u) (place-inside words (names (bytes_of text u.region)) (inside (bytes_of text u.region))) (ap (λ (n : ℕ). extent_far (region_span (names (bytes_of text u.region))) u.extent n) c ∙ e)
       where
         by_place : (o : Option Place) (w : Option Usage) → IsPlaceInside words o → extent_far o u.extent family.count ≡ false → All (IsInMemory words) (uses_of phase family o w u.extent)
         by_place None w h f = All-nil (IsInMemory words)
@@ -336,7 +336,7 @@ module _ (text : List ℕ) (names : List ℕ → Option Meaning) (words : ℕ) (
     value-here (statement.TheVariants.Instruction i) d e = refl
     value-here (statement.TheVariants.Region name len) d e = refl
     value-here (statement.TheVariants.Word region index value) d e =
-        by_place (region_place (names (bytes_of text region))) (place-inside words (names (bytes_of text region)) (inside (bytes_of text region))) e
+        by_place (region_span (names (bytes_of text region))) (place-inside words (names (bytes_of text region)) (inside (bytes_of text region))) e
       where
         by_place : (o : Option Place) → IsPlaceInside words o → word_far o index ≡ false → values_for o index value ≡ first_values o index value
         by_place None h f = refl
@@ -358,7 +358,7 @@ module _ (text : List ℕ) (names : List ℕ → Option Meaning) (words : ℕ) (
         let a = few.core in
         let b = few.count in
         let c = few.few in
-        subst Few (sym (family-new before (saying line label (statement.TheVariants.Tasks f)) (record { first = count_of f.core; count = count_of f.count }) refl)) (omega arith)
+        subst Few (sym (family-new before (saying line label (statement.TheVariants.Tasks f)) (record { first = natural_of f.core; count = natural_of f.count }) refl)) (omega arith)
     few-more before line label d k (statement.TheVariants.Uses u) e = subst Few (sym (family-same before (saying line label (statement.TheVariants.Uses u)) refl)) k
 
     claims-same : (ss before : List Saying) → AreClean text names before ss → Few (family_in before)
@@ -414,7 +414,7 @@ clean-from v text names (Good s ∷ rs) done before same small e =
     ((in-range (doubled text before s) text names (tables text names before) s none.0, rest.0), omega arith)
 
 clean-program : (v : Bool) (text : List ℕ) (rs : List Reading) → faults v text (meaning_of text (sayings rs)) rs ≡ []
-    → finishing.program_of (wrapped_tables text (meaning_of text (sayings rs)) (sayings rs)) ≡ program_of (tables text (meaning_of text (sayings rs)) (sayings rs))
+    → finishing.finished_program (wrapped_tables text (meaning_of text (sayings rs)) (sayings rs)) ≡ program_of (tables text (meaning_of text (sayings rs)) (sayings rs))
 clean-program v text rs e =
     let names : List ℕ → Option Meaning = meaning_of text (sayings rs) in
     let words = data_words (sayings rs) in
@@ -422,15 +422,15 @@ clean-program v text rs e =
     let inside : (q : List ℕ) → IsInside words (names q) = λ q. inside-all text names words clean.1 (sayings rs) [] q clean.0 (omega arith) in
     let values = values-same text names words clean.1 inside (sayings rs) [] clean.0 in
     let claims = claims-same text names words clean.1 inside (sayings rs) [] clean.0 (omega arith) in
-    (λ i. finishing.program_of (record (tables text names (sayings rs)) { values = values i; claims = claims i }))
+    (λ i. finishing.finished_program (record (tables text names (sayings rs)) { values = values i; claims = claims i }))
     ∙ finished (tables text names (sayings rs)) (claims-held text names words clean.1 inside (sayings rs) [] clean.0)
 
 pub same-program : (v : Bool) (text : List ℕ) (rs : List Reading)
-    → decided (faults v text (meaning_of text (sayings rs)) rs) (finishing.program_of (wrapped_tables text (meaning_of text (sayings rs)) (sayings rs)))
-    ≡ decided (faults v text (meaning_of text (sayings rs)) rs) (program_of (tables text (meaning_of text (sayings rs)) (sayings rs)))
+    → without_faults (faults v text (meaning_of text (sayings rs)) rs) (finishing.finished_program (wrapped_tables text (meaning_of text (sayings rs)) (sayings rs)))
+    ≡ without_faults (faults v text (meaning_of text (sayings rs)) rs) (program_of (tables text (meaning_of text (sayings rs)) (sayings rs)))
 same-program v text rs = by_faults (faults v text (meaning_of text (sayings rs)) rs) refl
   where
     by_faults : (fs : List SourceFault) → faults v text (meaning_of text (sayings rs)) rs ≡ fs
-        → decided fs (finishing.program_of (wrapped_tables text (meaning_of text (sayings rs)) (sayings rs))) ≡ decided fs (program_of (tables text (meaning_of text (sayings rs)) (sayings rs)))
+        → without_faults fs (finishing.finished_program (wrapped_tables text (meaning_of text (sayings rs)) (sayings rs))) ≡ without_faults fs (program_of (tables text (meaning_of text (sayings rs)) (sayings rs)))
     by_faults [] e = ap (λ (p : ProgramParts). Ok p) (clean-program v text rs e)
     by_faults (f ∷ fs) e = refl

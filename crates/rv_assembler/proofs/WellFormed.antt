@@ -15,9 +15,9 @@ use Rattle.rv_assembler.specs.declared.draft.Draft.{Draft}
 use Rattle.rv_assembler.specs.Reading.{version_line, reading_of}
 use Rattle.rv_assembler.specs.Fault.{limit_fault}
 use Rattle.rv_assembler.specs.Testing.{draft_fault}
-use Rattle.rv_assembler.specs.Adding.{no_draft, after, fault_of, unless_fault, total, program_in, draft_of}
+use Rattle.rv_assembler.specs.Adding.{no_draft, draft_after, fault_on_line, unless_fault, total, program_in, draft_of}
 use Rattle.rv_assembler.specs.Adding as adding
-use Rattle.rv_assembler.specs.Finishing.{program_of}
+use Rattle.rv_assembler.specs.Finishing.{finished_program}
 use Rattle.rv_assembler.specs.Placed.{placed_behind}
 use Rattle.rv_assembler.specs.Counts.{is_region, is_lock, is_phase, regions_in, locks_in, phases_in, HasFewBefore}
 use Rattle.rv_assembler.specs.Source.{source}
@@ -51,22 +51,22 @@ total-sound : (v : Bool) (text : List ℕ) (names : List ℕ → Option Meaning)
 total-sound v text names d e [] h is = let same : d ≡ e = cc in subst (IsSound names) same h
 total-sound v text names d e (Bad f ∷ rs) h is = absurd cc
 total-sound v text names d e (Good s ∷ rs) h is =
-    by_fault (fault_of v text names d s) refl is (total-sound v text names (after text names d s.statement) e rs)
+    by_fault (fault_on_line v text names d s) refl is (total-sound v text names (draft_after text names d s.statement) e rs)
   where
     adds : Draft
-    adds = after text names d s.statement
+    adds = draft_after text names d s.statement
 
-    by_fault : (o : Option SourceFault) → fault_of v text names d s ≡ o → unless_fault o (total v text names adds rs) ≡ Ok e → (IsSound names adds → total v text names adds rs ≡ Ok e → IsSound names e) → IsSound names e
+    by_fault : (o : Option SourceFault) → fault_on_line v text names d s ≡ o → unless_fault o (total v text names adds rs) ≡ Ok e → (IsSound names adds → total v text names adds rs ≡ Ok e → IsSound names e) → IsSound names e
     by_fault (Some f) o is rest = absurd cc
     by_fault None o is rest =
         let none = both-none (draft_fault text names d s) (limit_fault v adds s.line) o in
         rest (record { sound = sound-after text names d s h.sound h.within none.0; within = within v adds (within-limits v adds s.line none.1) }) is
 
-draft-sound : (text : List ℕ) (d : Draft) → draft_of text ≡ Ok d → IsProgram (program_of d)
+draft-sound : (text : List ℕ) (d : Draft) → draft_of text ≡ Ok d → IsProgram (finished_program d)
 draft-sound text d is =
     let ls = lines_of text in
     let version = version_line text ls in
-    let names = adding.names_of text in
+    let names = adding.gathered_names text in
     let sound = total-sound (nat_lt 0 version) text names no_draft d (map (reading_of version text) ls) (record { sound = sound-none names; within = within-none }) is in
     (whole names d sound.sound sound.within).program
 
@@ -75,7 +75,7 @@ pub source-well-formed : (text : List ℕ) (P : ProgramParts) → source text �
 source-well-formed text P is = by_size (nat_lt 1048576 (length text)) (sym (source-added text) ∙ is)
   where
     by_draft : (r : Result Draft SourceFault) → draft_of text ≡ r → program_in r ≡ Ok P → IsProgram P
-    by_draft (Ok d) e f = let same : program_of d ≡ P = cc in subst IsProgram same (draft-sound text d e)
+    by_draft (Ok d) e f = let same : finished_program d ≡ P = cc in subst IsProgram same (draft-sound text d e)
     by_draft (Err g) e f = absurd cc
 
     by_size : (c : Bool) → cond c (Err fault.TheVariants.TooLarge) (program_in (draft_of text)) ≡ Ok P → IsProgram P

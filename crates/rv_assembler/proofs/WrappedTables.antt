@@ -9,14 +9,14 @@ use Rattle.rv_assembler.specs.declared.draft.Claim.{Claim}
 use Rattle.rv_assembler.specs.declared.draft.Cores.{Cores}
 use Rattle.rv_assembler.specs.declared.draft.Draft.{Draft}
 use Rattle.rv_assembler.specs.Operand.{bytes_of}
-use Rattle.rv_assembler.specs.Named.{region_place, usage_of}
+use Rattle.rv_assembler.specs.Named.{region_span, usage_of}
 use Rattle.rv_assembler.specs.Drafting.{claims_for, values_for}
 use Rattle.rv_assembler.specs.Placed.{Placed, placed}
 use Rattle.rv_assembler.specs.Counts.{phases_in, family_in}
 use Rattle.rv_assembler.specs.Tables.{tables}
 
 abbrev pub wrapped_value_by : List ℕ → (List ℕ → Option Meaning) → Statement → List FirstValue
-wrapped_value_by text names (statement.TheVariants.Word region index value) = values_for (region_place (names (bytes_of text region))) index value
+wrapped_value_by text names (statement.TheVariants.Word region index value) = values_for (region_span (names (bytes_of text region))) index value
 wrapped_value_by text names _ = []
 
 abbrev pub wrapped_value_at : List ℕ → (List ℕ → Option Meaning) → Placed Saying → List FirstValue
@@ -24,7 +24,7 @@ wrapped_value_at text names p = wrapped_value_by text names p.here.statement
 
 abbrev pub wrapped_claim_by : List ℕ → (List ℕ → Option Meaning) → ℕ → Cores → Statement → List Claim
 wrapped_claim_by text names phase family (statement.TheVariants.Uses e) =
-    claims_for phase family (region_place (names (bytes_of text e.region))) (usage_of text names e) e.extent
+    claims_for phase family (region_span (names (bytes_of text e.region))) (usage_of text names e) e.extent
 wrapped_claim_by text names phase family _ = []
 
 abbrev pub wrapped_claim_at : List ℕ → (List ℕ → Option Meaning) → Placed Saying → List Claim

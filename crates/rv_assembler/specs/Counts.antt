@@ -6,18 +6,18 @@ use Rattle.rv_assembler.specs.declared.statement.Statement as statement
 use Rattle.rv_assembler.specs.declared.reading.Saying.{Saying}
 use Rattle.rv_assembler.specs.declared.names.Count.{Count}
 use Rattle.rv_assembler.specs.declared.draft.Cores.{Cores}
-use Rattle.rv_assembler.specs.Number.{count_of, is_length}
-use Rattle.rv_assembler.specs.Size.{size_of}
+use Rattle.rv_assembler.specs.Number.{natural_of, is_length}
+use Rattle.rv_assembler.specs.Size.{code_word_count}
 use Rattle.rv_assembler.specs.Named.{no_cores}
 use Rattle.rv_assembler.specs.Placed.{Placed}
 
 -- how many words a region has; none where its number is out of its range
 abbrev pub region_words : ℤ → ℕ
-region_words len = if is_length len then count_of len else 0
+region_words len = if is_length len then natural_of len else 0
 
 -- how many code words and data words a statement is
 abbrev pub code_size : Statement → ℕ
-code_size (statement.TheVariants.Instruction k) = size_of k
+code_size (statement.TheVariants.Instruction k) = code_word_count k
 code_size _ = 0
 
 abbrev pub data_size : Statement → ℕ
@@ -57,14 +57,14 @@ abbrev pub counts_in : List Saying → Count
 counts_in ss = record { code = code_words ss; words = data_words ss; regions = regions_in ss; locks = locks_in ss }
 
 -- the cores of the tasks that a statement makes the current ones: a phase begins with none
-abbrev pub opened : Statement → Option Cores
-opened statement.TheVariants.Phase = Some no_cores
-opened (statement.TheVariants.Tasks f) = Some (record { first = count_of f.core; count = count_of f.count })
-opened _ = None
+abbrev pub current_family : Statement → Option Cores
+current_family statement.TheVariants.Phase = Some no_cores
+current_family (statement.TheVariants.Tasks f) = Some (record { first = natural_of f.core; count = natural_of f.count })
+current_family _ = None
 
 -- the cores of the current tasks behind some lines: those of the last `.task` or `.forall` of the last phase
 abbrev pub family_in : List Saying → Cores
-family_in ss = unwrap_or (last_or None (filter_map (λ (s : Saying). opened s.statement) ss)) no_cores
+family_in ss = unwrap_or (last_or None (filter_map (λ (s : Saying). current_family s.statement) ss)) no_cores
 
 -- What stands before a line of good form has 32 bits: where its label points, where its region begins, and the numbers of its
 -- region, its lock and its phase.

@@ -15,7 +15,7 @@ use Rattle.rv_assembler.specs.declared.draft.Cores.{Cores}
 use Rattle.rv_assembler.specs.declared.draft.Place.{Place}
 use Rattle.rv_assembler.specs.Number.{wrapped}
 use Rattle.rv_assembler.specs.Operand.{bytes_of}
-use Rattle.rv_assembler.specs.Emission.{label_address, label_place}
+use Rattle.rv_assembler.specs.Emission.{label_address, label_index}
 use Rattle.rv_assembler.specs.Gathering.{more}
 
 -- the address of a task's entry, modulo 2^32
@@ -25,7 +25,7 @@ wrapped_entry_at None = 0
 
 abbrev pub wrapped_entry_by : (List ℕ → Option Meaning) → List ℕ → TokenKind → ℕ
 wrapped_entry_by names name (token.TheVariants.Number n) = wrapped n
-wrapped_entry_by names name _ = wrapped_entry_at (label_place (names name))
+wrapped_entry_by names name _ = wrapped_entry_at (label_index (names name))
 
 abbrev pub wrapped_entry : List ℕ → (List ℕ → Option Meaning) → Token → ℕ
 wrapped_entry text names t = wrapped_entry_by names (bytes_of text t) t.kind
@@ -39,10 +39,10 @@ members t step zero = []
 members t step (suc n) = t ∷ members (next_task t step) step n
 
 -- the words of an effect on the first of the current tasks, and how much further the next one has them
-abbrev pub first_word : Place → Extent → ℕ
-first_word p extent.TheVariants.Whole = p.start
-first_word p (extent.TheVariants.Part lo hi) = (p.start + wrapped lo) % 2 ^ 32
-first_word p (extent.TheVariants.Stepped lo hi step) = (p.start + wrapped lo) % 2 ^ 32
+abbrev pub extent_start : Place → Extent → ℕ
+extent_start p extent.TheVariants.Whole = p.start
+extent_start p (extent.TheVariants.Part lo hi) = (p.start + wrapped lo) % 2 ^ 32
+extent_start p (extent.TheVariants.Stepped lo hi step) = (p.start + wrapped lo) % 2 ^ 32
 
 abbrev pub past_word : Place → Extent → ℕ
 past_word p extent.TheVariants.Whole = (p.start + wrapped p.len) % 2 ^ 32
@@ -63,7 +63,7 @@ claimed c step (suc n) = c ∷ claimed (next_claim c step) step n
 
 abbrev pub claims_for : ℕ → Cores → Option Place → Option Usage → Extent → List Claim
 claims_for phase family (Some p) (Some u) e =
-    claimed (record { phase = phase; core = family.first; usage = u; lo = first_word p e; hi = past_word p e }) (step_of e) family.count
+    claimed (record { phase = phase; core = family.first; usage = u; lo = extent_start p e; hi = past_word p e }) (step_of e) family.count
 claims_for phase family (Some p) None e = []
 claims_for phase family None u e = []
 

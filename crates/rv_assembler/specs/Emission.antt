@@ -16,7 +16,7 @@ use Rattle.rv_assembler.specs.declared.emission.Emission.{Emission}
 use Rattle.rv_assembler.specs.declared.emission.Emission.TheVariants.{One, Two, OutOfRange, Unknown}
 use Rattle.rv_assembler.specs.declared.names.Meaning.{Meaning}
 use Rattle.rv_assembler.specs.declared.names.Meaning as meaning
-use Rattle.rv_assembler.specs.Number.{count_of, wrapped, is_upper, is_immediate, is_jump, is_branch, is_operand}
+use Rattle.rv_assembler.specs.Number.{natural_of, wrapped, is_upper, is_immediate, is_jump, is_branch, is_operand}
 use Rattle.rv_assembler.specs.Operand.{bytes_of}
 
 -- the word of an instruction, if its numbers are in the ranges of its row
@@ -29,7 +29,7 @@ upper_instr true rd n = instr.TheVariants.Auipc rd n
 upper_instr false rd n = instr.TheVariants.Lui rd n
 
 abbrev pub upper : Bool → ℕ → ℤ → Emission
-upper adds_pc rd z = one_if (is_upper z) (upper_instr adds_pc rd (count_of z))
+upper adds_pc rd z = one_if (is_upper z) (upper_instr adds_pc rd (natural_of z))
 
 abbrev pub jump : ℕ → Option ℤ → Emission
 jump rd None = Unknown
@@ -66,9 +66,9 @@ loaded_address rd (Some (meaning.TheVariants.Region number start len)) = loaded 
 loaded_address rd _ = Unknown
 
 -- the place of a label
-abbrev pub label_place : Option Meaning → Option ℕ
-label_place (Some (meaning.TheVariants.Label line place)) = Some place
-label_place _ = None
+abbrev pub label_index : Option Meaning → Option ℕ
+label_index (Some (meaning.TheVariants.Label line place)) = Some place
+label_index _ = None
 
 -- how far a code word is from another, in bytes
 abbrev pub distance : ℕ → ℕ → ℤ
@@ -77,7 +77,7 @@ distance here place = (pos place -ℤ pos here) *ℤ pos 4
 -- the offset of a target: a number, or how far a label is
 abbrev pub offset_by : (List ℕ → Option Meaning) → ℕ → List ℕ → TokenKind → Option ℤ
 offset_by names here name (token.TheVariants.Number n) = Some n
-offset_by names here name _ = option_map (distance here) (label_place (names name))
+offset_by names here name _ = option_map (distance here) (label_index (names name))
 
 abbrev pub offset_of : List ℕ → (List ℕ → Option Meaning) → ℕ → Token → Option ℤ
 offset_of text names here t = offset_by names here (bytes_of text t) t.kind

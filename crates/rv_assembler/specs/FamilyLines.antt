@@ -9,10 +9,10 @@ use Rattle.rv_assembler.specs.declared.statement.Extent.TheVariants.{Whole, Part
 use Rattle.rv_assembler.specs.declared.statement.Statement.TheVariants.{Uses}
 use Rattle.rv_assembler.specs.declared.names.Meaning.{Meaning}
 use Rattle.rv_assembler.specs.declared.draft.Cores.{Cores}
-use Rattle.rv_assembler.specs.Number.{count_of, wrapped}
+use Rattle.rv_assembler.specs.Number.{natural_of, wrapped}
 use Rattle.rv_assembler.specs.Operand.{token_at, number_at}
 use Rattle.rv_assembler.specs.Reading.{directive_for}
-use Rattle.rv_assembler.specs.Counts.{opened}
+use Rattle.rv_assembler.specs.Counts.{current_family}
 use Rattle.rv_assembler.specs.Tables.{tasks_by, claim_by}
 use Rattle.rv_assembler.specs.BaseLine.{IsAlike}
 
@@ -31,8 +31,8 @@ one_of family i = record { first = family.first + i; count = 1 }
 -- the current one
 pub record HasTaskLines (text : List ℕ) (ts : List Token) (lines : ℕ → List Token) : Type 0 where
   pub tasks : (names : List ℕ → Option Meaning) (phase : ℕ)
-      → tasks_by text names phase (directive_for ts Forall) ≡ flat_map (λ i. tasks_by text names phase (directive_for (lines i) Task)) (range_with_len 0 (count_of (number_at ts 2)))
-  pub cores : (family : Cores) (i : ℕ) → opened (directive_for ts Forall) ≡ Some family → i < family.count → opened (directive_for (lines i) Task) ≡ Some (one_of family i)
+      → tasks_by text names phase (directive_for ts Forall) ≡ flat_map (λ i. tasks_by text names phase (directive_for (lines i) Task)) (range_with_len 0 (natural_of (number_at ts 2)))
+  pub cores : (family : Cores) (i : ℕ) → current_family (directive_for ts Forall) ≡ Some family → i < family.count → current_family (directive_for (lines i) Task) ≡ Some (one_of family i)
 
 -- the interval that an effect has for task i, written without a step
 abbrev pub interval_at : Extent → ℕ → Extent

@@ -21,10 +21,10 @@ use Rattle.rv_assembler.specs.declared.emission.Emission.TheVariants.{OutOfRange
 use Rattle.rv_assembler.specs.declared.draft.Start.{Start}
 use Rattle.rv_assembler.specs.declared.draft.Draft.{Draft}
 use Rattle.rv_assembler.specs.declared.draft.Place.{Place}
-use Rattle.rv_assembler.specs.Number.{count_of, is_within, is_length, is_interval}
+use Rattle.rv_assembler.specs.Number.{natural_of, is_within, is_length, is_interval}
 use Rattle.rv_assembler.specs.Operand.{bytes_of}
-use Rattle.rv_assembler.specs.Emission.{emission, label_place}
-use Rattle.rv_assembler.specs.Named.{region_place, lock_number}
+use Rattle.rv_assembler.specs.Emission.{emission, label_index}
+use Rattle.rv_assembler.specs.Named.{region_span, lock_number}
 use Rattle.rv_assembler.specs.Declarations.{declarations, declared_at, declare_again}
 use Rattle.rv_assembler.specs.Tables.{tables}
 
@@ -57,7 +57,7 @@ word_far (Some p) i = not (int_le (pos 0) i && int_lt i p.len)
 
 -- the address of an entry has 32 bits, and is a multiple of 4
 abbrev pub is_address : ℤ → Bool
-is_address n = is_within (pos 0) (pos 0x1_0000_0000) n && count_of n % 4 == 0
+is_address n = is_within (pos 0) (pos 0x1_0000_0000) n && natural_of n % 4 == 0
 
 abbrev pub entry_far : TokenKind → Bool
 entry_far (token.TheVariants.Number n) = not (is_address n)
@@ -74,9 +74,9 @@ family_far f = not (are_cores f) || entry_far f.entry.kind
 abbrev pub out_of_range : List ℕ → (List ℕ → Option Meaning) → Draft → Statement → Bool
 out_of_range text names d (statement.TheVariants.Instruction k) = is_far (emission text names d.count.code k)
 out_of_range text names d (statement.TheVariants.Region name len) = not (is_length len)
-out_of_range text names d (statement.TheVariants.Word region index value) = word_far (region_place (names (bytes_of text region))) index
+out_of_range text names d (statement.TheVariants.Word region index value) = word_far (region_span (names (bytes_of text region))) index
 out_of_range text names d (statement.TheVariants.Tasks f) = family_far f
-out_of_range text names d (statement.TheVariants.Uses e) = extent_far (region_place (names (bytes_of text e.region))) e.extent d.family.count
+out_of_range text names d (statement.TheVariants.Uses e) = extent_far (region_span (names (bytes_of text e.region))) e.extent d.family.count
 out_of_range text names d _ = false
 
 -- DoubleName: the line declares a name that an earlier line of good form declares, or one name twice
@@ -85,7 +85,7 @@ doubled text before s = declare_again (declarations text before) (declared_at te
 
 abbrev pub entry_kind_lost : TokenKind → Option Meaning → Bool
 entry_kind_lost (token.TheVariants.Number n) m = false
-entry_kind_lost _ m = is_none (label_place m)
+entry_kind_lost _ m = is_none (label_index m)
 
 abbrev pub entry_lost : List ℕ → (List ℕ → Option Meaning) → Token → Bool
 entry_lost text names t = entry_kind_lost t.kind (names (bytes_of text t))
@@ -95,12 +95,12 @@ lock_lost text names None = false
 lock_lost text names (Some t) = is_none (lock_number (names (bytes_of text t)))
 
 abbrev pub effect_lost : List ℕ → (List ℕ → Option Meaning) → Effect → Bool
-effect_lost text names e = is_none (region_place (names (bytes_of text e.region))) || lock_lost text names e.lock
+effect_lost text names e = is_none (region_span (names (bytes_of text e.region))) || lock_lost text names e.lock
 
 -- UnknownName: a name isn't declared as what is wanted
 abbrev pub unknown : List ℕ → (List ℕ → Option Meaning) → ℕ → Statement → Bool
 unknown text names here (statement.TheVariants.Instruction k) = is_lost (emission text names here k)
-unknown text names here (statement.TheVariants.Word region index value) = is_none (region_place (names (bytes_of text region)))
+unknown text names here (statement.TheVariants.Word region index value) = is_none (region_span (names (bytes_of text region)))
 unknown text names here (statement.TheVariants.Tasks f) = entry_lost text names f.entry
 unknown text names here (statement.TheVariants.Uses e) = effect_lost text names e
 unknown text names here _ = false
@@ -109,12 +109,12 @@ unknown text names here _ = false
 abbrev pub is_on : ℕ → Family → Start → Bool
 is_on phase f t = t.phase == phase && is_within f.core (f.core +ℤ f.count) (pos t.core)
 
-abbrev pub taken : List Start → ℕ → Family → Bool
-taken tasks phase f = list_any (is_on phase f) tasks
+abbrev pub core_in_use : List Start → ℕ → Family → Bool
+core_in_use tasks phase f = list_any (is_on phase f) tasks
 
 -- Misplaced: tasks before any phase or on a core that has one in this phase, or an effect without a current task
 abbrev pub misplaced : Draft → Statement → Bool
-misplaced d (statement.TheVariants.Tasks f) = d.phases == 0 || taken d.tasks d.phases f
+misplaced d (statement.TheVariants.Tasks f) = d.phases == 0 || core_in_use d.tasks d.phases f
 misplaced d (statement.TheVariants.Uses e) = d.family.count == 0
 misplaced d _ = false
 

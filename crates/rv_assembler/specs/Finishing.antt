@@ -17,54 +17,54 @@ use Rattle.rv_assembler.specs.Union.{united}
 use Rattle.rv_assembler.specs.Program.{same_usage, is_claim_of, is_task}
 
 -- the memory with its first values; a later one wins
-abbrev pub stored : List ℕ → List FirstValue → List ℕ
-stored memory [] = memory
-stored memory (v ∷ vs) = stored (slice_set memory v.word v.value) vs
+abbrev pub with_first_values : List ℕ → List FirstValue → List ℕ
+with_first_values memory [] = memory
+with_first_values memory (v ∷ vs) = with_first_values (slice_set memory v.word v.value) vs
 
 -- the words of a claim of this usage, if they are words of the memory
-abbrev pub interval_of : ℕ → Usage → Claim → Option Interval
-interval_of words usage c =
+abbrev pub interval_within : ℕ → Usage → Claim → Option Interval
+interval_within words usage c =
     if same_usage c.usage usage && (nat_lt c.lo c.hi && nat_le c.hi words) then Some (record { lo = c.lo; hi = c.hi }) else None
 
 -- the words that claims of this usage have
-abbrev pub words_of : ℕ → List Claim → Usage → List Interval
-words_of words claims usage = united (filter_map (interval_of words usage) claims)
+abbrev pub words_within : ℕ → List Claim → Usage → List Interval
+words_within words claims usage = united (filter_map (interval_within words usage) claims)
 
 -- the words that claims have while their tasks hold a lock
-abbrev pub read_under : ℕ → List Claim → ℕ → List Interval
-read_under words claims lock = words_of words claims (GuardedReads lock)
+abbrev pub guarded_reads_within : ℕ → List Claim → ℕ → List Interval
+guarded_reads_within words claims lock = words_within words claims (GuardedReads lock)
 
-abbrev pub written_under : ℕ → List Claim → ℕ → List Interval
-written_under words claims lock = words_of words claims (GuardedWrites lock)
+abbrev pub guarded_writes_within : ℕ → List Claim → ℕ → List Interval
+guarded_writes_within words claims lock = words_within words claims (GuardedWrites lock)
 
 -- the effects of a task by its claims
-abbrev pub effects_of : ℕ → ℕ → List Claim → Effects
-effects_of words locks claims =
+abbrev pub effects_within : ℕ → ℕ → List Claim → Effects
+effects_within words locks claims =
     record {
-      reads = words_of words claims Reads;
-      writes = words_of words claims Writes;
-      guarded_reads = map (read_under words claims) (range_with_len 0 locks);
-      guarded_writes = map (written_under words claims) (range_with_len 0 locks);
+      reads = words_within words claims Reads;
+      writes = words_within words claims Writes;
+      guarded_reads = map (guarded_reads_within words claims) (range_with_len 0 locks);
+      guarded_writes = map (guarded_writes_within words claims) (range_with_len 0 locks);
     }
 
-abbrev pub task_of : ℕ → ℕ → List Claim → Start → TaskDecl
-task_of words locks claims t =
-    record { core = record { 0 = t.core }; entry = t.entry; arg = t.arg; effects = effects_of words locks (filter (is_claim_of t) claims) }
+abbrev pub task_within : ℕ → ℕ → List Claim → Start → TaskDecl
+task_within words locks claims t =
+    record { core = record { 0 = t.core }; entry = t.entry; arg = t.arg; effects = effects_within words locks (filter (is_claim_of t) claims) }
 
 -- the task of a core in a phase, if there is one
-abbrev pub task_at : ℕ → ℕ → List Claim → List Start → ℕ → ℕ → Option TaskDecl
-task_at words locks claims tasks phase core = option_map (task_of words locks claims) (find (is_task phase core) tasks)
+abbrev pub core_task_within : ℕ → ℕ → List Claim → List Start → ℕ → ℕ → Option TaskDecl
+core_task_within words locks claims tasks phase core = option_map (task_within words locks claims) (find (is_task phase core) tasks)
 
 -- the tasks of a phase, by their cores
-abbrev pub phase_of : ℕ → ℕ → List Claim → List Start → ℕ → Phase
-phase_of words locks claims tasks phase = record { tasks = filter_map (task_at words locks claims tasks phase) (range_with_len 0 16) }
+abbrev pub phase_within : ℕ → ℕ → List Claim → List Start → ℕ → Phase
+phase_within words locks claims tasks phase = record { tasks = filter_map (core_task_within words locks claims tasks phase) (range_with_len 0 16) }
 
-abbrev pub program_of : Draft → ProgramParts
-program_of d =
+abbrev pub finished_program : Draft → ProgramParts
+finished_program d =
     record {
       code = d.code;
-      memory = stored (replicate d.count.words 0) d.values;
+      memory = with_first_values (replicate d.count.words 0) d.values;
       regions = d.regions;
       locks = d.locks;
-      phases = map (phase_of d.count.words (length d.locks) d.claims d.tasks) (range_with_len 1 d.phases);
+      phases = map (phase_within d.count.words (length d.locks) d.claims d.tasks) (range_with_len 1 d.phases);
     }

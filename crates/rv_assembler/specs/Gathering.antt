@@ -12,7 +12,7 @@ use Rattle.rv_assembler.specs.declared.names.Meaning as meaning
 use Rattle.rv_assembler.specs.declared.names.Count.{Count}
 use Rattle.rv_assembler.specs.Operand.{bytes_of}
 use Rattle.rv_assembler.specs.First.{first_of}
-use Rattle.rv_assembler.specs.Size.{size_of}
+use Rattle.rv_assembler.specs.Size.{code_word_count}
 use Rattle.rv_assembler.specs.Counts.{region_words}
 
 -- a count after some more; counts stand still at the greatest number of 32 bits, far above every limit
@@ -23,16 +23,16 @@ abbrev pub no_count : Count
 no_count = record { code = 0; words = 0; regions = 0; locks = 0 }
 
 -- how much is declared behind a statement
-abbrev pub counted : Count → Statement → Count
-counted c (statement.TheVariants.Instruction k) = record { code = more c.code (size_of k); words = c.words; regions = c.regions; locks = c.locks }
-counted c (statement.TheVariants.Region name len) = record { code = c.code; words = more c.words (region_words len); regions = more c.regions 1; locks = c.locks }
-counted c (statement.TheVariants.Lock name) = record { code = c.code; words = c.words; regions = c.regions; locks = more c.locks 1 }
-counted c _ = c
+abbrev pub count_behind : Count → Statement → Count
+count_behind c (statement.TheVariants.Instruction k) = record { code = more c.code (code_word_count k); words = c.words; regions = c.regions; locks = c.locks }
+count_behind c (statement.TheVariants.Region name len) = record { code = c.code; words = more c.words (region_words len); regions = more c.regions 1; locks = c.locks }
+count_behind c (statement.TheVariants.Lock name) = record { code = c.code; words = c.words; regions = c.regions; locks = more c.locks 1 }
+count_behind c _ = c
 
 -- lines of bad form declare nothing
 abbrev pub count_after : Count → Reading → Count
 count_after c (Bad f) = c
-count_after c (Good s) = counted c s.statement
+count_after c (Good s) = count_behind c s.statement
 
 -- a token gives its bytes a meaning
 abbrev pub means : List ℕ → Token → Meaning → List ℕ → Option Meaning

@@ -6,5 +6,5 @@ use Rattle.std.specs.Ordering.{nat_cmp}
 use Rattle.rv_assembler.specs.declared.names.Names.{Names}
 use Rattle.rv_assembler.specs.declared.names.Meaning.{Meaning}
 
-abbrev pub looked : Names → List ℕ → Option Meaning
-looked names q = get_by (λ k. slice_cmp nat_cmp q k.now) names.index
+abbrev pub name_lookup : Names → List ℕ → Option Meaning
+name_lookup names q = get_by (λ k. slice_cmp nat_cmp q k.now) names.index

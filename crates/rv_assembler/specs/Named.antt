@@ -10,33 +10,33 @@ use Rattle.rv_assembler.specs.declared.draft.Usage.{Usage}
 use Rattle.rv_assembler.specs.declared.draft.Usage.TheVariants.{Reads, Writes, GuardedReads, GuardedWrites}
 use Rattle.rv_assembler.specs.declared.draft.Cores.{Cores}
 use Rattle.rv_assembler.specs.declared.draft.Place.{Place}
-use Rattle.rv_assembler.specs.Number.{count_of}
+use Rattle.rv_assembler.specs.Number.{natural_of}
 use Rattle.rv_assembler.specs.Operand.{bytes_of}
-use Rattle.rv_assembler.specs.Emission.{label_address, label_place}
+use Rattle.rv_assembler.specs.Emission.{label_address, label_index}
 
 abbrev pub no_cores : Cores
 no_cores = record { first = 0; count = 0 }
 
 -- the region and the lock that a name means
-abbrev pub region_place : Option Meaning → Option Place
-region_place (Some (meaning.TheVariants.Region number start len)) = Some (record { start = start; len = len })
-region_place _ = None
+abbrev pub region_span : Option Meaning → Option Place
+region_span (Some (meaning.TheVariants.Region number start len)) = Some (record { start = start; len = len })
+region_span _ = None
 
 abbrev pub lock_number : Option Meaning → Option ℕ
 lock_number (Some (meaning.TheVariants.Lock number)) = Some number
 lock_number _ = None
 
 -- the address of a task's entry: a number itself, or where a label points
-abbrev pub entry_at : Option ℕ → ℕ
-entry_at (Some place) = label_address place
-entry_at None = 0
+abbrev pub entry_address : Option ℕ → ℕ
+entry_address (Some place) = label_address place
+entry_address None = 0
 
-abbrev pub entry_by : (List ℕ → Option Meaning) → List ℕ → TokenKind → ℕ
-entry_by names name (token.TheVariants.Number n) = count_of n
-entry_by names name _ = entry_at (label_place (names name))
+abbrev pub entry_value : (List ℕ → Option Meaning) → List ℕ → TokenKind → ℕ
+entry_value names name (token.TheVariants.Number n) = natural_of n
+entry_value names name _ = entry_address (label_index (names name))
 
-abbrev pub entry_of : List ℕ → (List ℕ → Option Meaning) → Token → ℕ
-entry_of text names t = entry_by names (bytes_of text t) t.kind
+abbrev pub task_entry : List ℕ → (List ℕ → Option Meaning) → Token → ℕ
+task_entry text names t = entry_value names (bytes_of text t) t.kind
 
 abbrev pub plain_usage : Bool → Usage
 plain_usage writes = if writes then Writes else Reads

@@ -10,9 +10,9 @@ wrapped (pos n) = n % 2 ^ 32
 wrapped (negsuc n) = 2 ^ 32 - 1 - n % 2 ^ 32
 
 -- a number that isn't below 0, as a count
-abbrev pub count_of : ℤ → ℕ
-count_of (pos n) = n
-count_of (negsuc n) = 0
+abbrev pub natural_of : ℤ → ℕ
+natural_of (pos n) = n
+natural_of (negsuc n) = 0
 
 abbrev pub is_within : ℤ → ℤ → ℤ → Bool
 is_within low below z = int_le low z && int_lt z below

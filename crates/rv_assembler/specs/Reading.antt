@@ -135,10 +135,10 @@ abbrev pub is_version : List ℕ → Line → Bool
 is_version text l = is_version_of text l.tokens
 
 -- whether a line has only blanks and a comment, and no fault
-abbrev pub is_blank : Line → Bool
-is_blank l = is_none l.fault && length l.tokens == 0
+abbrev pub is_blank_line : Line → Bool
+is_blank_line l = is_none l.fault && length l.tokens == 0
 
 -- the first line that isn't blank decides the version: the number of the version line, or 0, which is no line's number, for version 1
 abbrev pub version_line : List ℕ → List Line → ℕ
 version_line text [] = 0
-version_line text (l ∷ ls) = if is_blank l then version_line text ls else (if is_version text l then l.number else 0)
+version_line text (l ∷ ls) = if is_blank_line l then version_line text ls else (if is_version text l then l.number else 0)

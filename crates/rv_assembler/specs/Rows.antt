@@ -9,12 +9,12 @@ use Rattle.rv_assembler.specs.declared.draft.Usage.{Usage}
 use Rattle.rv_assembler.specs.declared.draft.Claim.{Claim}
 use Rattle.rv_assembler.specs.declared.draft.Cores.{Cores}
 use Rattle.rv_assembler.specs.declared.draft.Place.{Place}
-use Rattle.rv_assembler.specs.Number.{count_of}
+use Rattle.rv_assembler.specs.Number.{natural_of}
 
 -- the first value of the region's word with this index
 abbrev pub first_values : Option Place → ℤ → ℕ → List FirstValue
 first_values None index value = []
-first_values (Some p) index value = record { word = p.start + count_of index; value = value } ∷ []
+first_values (Some p) index value = record { word = p.start + natural_of index; value = value } ∷ []
 
 -- the tasks of a family: task i is on core f + i, and has the argument a + i s modulo 2^32
 abbrev pub start_at : Start → ℕ → ℕ → Start
@@ -45,8 +45,8 @@ use_at phase family u p e i =
       phase = phase;
       core = family.first + i;
       usage = u;
-      lo = p.start + count_of (from_index e +ℤ pos i *ℤ moved_by e);
-      hi = p.start + count_of (to_index p.len e +ℤ pos i *ℤ moved_by e);
+      lo = p.start + natural_of (from_index e +ℤ pos i *ℤ moved_by e);
+      hi = p.start + natural_of (to_index p.len e +ℤ pos i *ℤ moved_by e);
     }
 
 -- the words that an effect gives each of the current tasks

@@ -238,18 +238,18 @@ fits text (p ∷ ps) [] = false
 fits text (p ∷ ps) (t ∷ ts) = piece_fits text p t && fits text ps ts
 
 -- the row is one of this version, and has this word
-abbrev pub has_word : Bool → List ℕ → Shape → Bool
-has_word version_2 w s = bytes_eq s.word w && (version_2 || not s.later)
+abbrev pub shape_has_word : Bool → List ℕ → Shape → Bool
+shape_has_word version_2 w s = bytes_eq s.word w && (version_2 || not s.later)
 
 abbrev pub knows : Bool → List ℕ → List Shape → Bool
-knows version_2 w shapes = list_any (has_word version_2 w) shapes
+knows version_2 w shapes = list_any (shape_has_word version_2 w) shapes
 
 -- the kind of the first row of the word whose operands fit
 abbrev pub is_row : Bool → List ℕ → List ℕ → List Token → Shape → Bool
-is_row version_2 text w ts s = has_word version_2 w s && fits text s.operands ts
+is_row version_2 text w ts s = shape_has_word version_2 w s && fits text s.operands ts
 
-abbrev pub kind_in : Bool → List ℕ → List ℕ → List Token → List Shape → Option Kind
-kind_in version_2 text w ts shapes = option_map (λ s. s.kind) (find (is_row version_2 text w ts) shapes)
+abbrev pub kind_in_rows : Bool → List ℕ → List ℕ → List Token → List Shape → Option Kind
+kind_in_rows version_2 text w ts shapes = option_map (λ s. s.kind) (find (is_row version_2 text w ts) shapes)
 
 -- whether some row of the table has the word
 abbrev pub knows_word : Bool → List ℕ → Bool
@@ -260,5 +260,5 @@ knows_word version_2 w =
 -- the kind of the first row of the table that fits
 abbrev pub kind_for : Bool → List ℕ → List ℕ → List Token → Option Kind
 kind_for version_2 text w ts =
-    first_of (kind_in version_2 text w ts memory_rows) (first_of (kind_in version_2 text w ts operation_rows) (first_of (kind_in version_2 text w ts short_rows)
-    (first_of (kind_in version_2 text w ts directive_rows) (kind_in version_2 text w ts later_rows))))
+    first_of (kind_in_rows version_2 text w ts memory_rows) (first_of (kind_in_rows version_2 text w ts operation_rows) (first_of (kind_in_rows version_2 text w ts short_rows)
+    (first_of (kind_in_rows version_2 text w ts directive_rows) (kind_in_rows version_2 text w ts later_rows))))

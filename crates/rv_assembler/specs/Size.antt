@@ -4,7 +4,7 @@ use Rattle.rv_assembler.specs.declared.statement.Code.{Code}
 use Rattle.rv_assembler.specs.declared.statement.Code.TheVariants.{LoadNumber, LoadAddress}
 
 -- `li` and `la` give two code words
-abbrev pub size_of : Code → ℕ
-size_of (LoadNumber rd n) = 2
-size_of (LoadAddress rd n) = 2
-size_of _ = 1
+abbrev pub code_word_count : Code → ℕ
+code_word_count (LoadNumber rd n) = 2
+code_word_count (LoadAddress rd n) = 2
+code_word_count _ = 1

@@ -42,14 +42,14 @@ abbrev pub faults : Bool → List ℕ → (List ℕ → Option Meaning) → List
 faults version_2 text names rs = filter_map (fault_at version_2 text names) (placed rs)
 
 -- the first fault, or else the program
-abbrev pub decided : List SourceFault → ProgramParts → Result ProgramParts SourceFault
-decided [] p = Ok p
-decided (f ∷ fs) p = Err f
+abbrev pub without_faults : List SourceFault → ProgramParts → Result ProgramParts SourceFault
+without_faults [] p = Ok p
+without_faults (f ∷ fs) p = Err f
 
 -- what the lines of a text say, where names mean what the first line that declares them says
 abbrev pub said_by : Bool → List ℕ → List Reading → Result ProgramParts SourceFault
 said_by version_2 text rs =
-    let names = meaning_of text (sayings rs) in decided (faults version_2 text names rs) (program_of (tables text names (sayings rs)))
+    let names = meaning_of text (sayings rs) in without_faults (faults version_2 text names rs) (program_of (tables text names (sayings rs)))
 
 -- what the lines of a text say
 abbrev pub readings : List ℕ → List Reading

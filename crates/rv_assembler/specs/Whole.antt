@@ -2,11 +2,11 @@
 use Rattle.std.specs.Prelude.{◌≤◌, length}
 use Rattle.region_table.specs.Program.{IsProgram}
 use Rattle.rv_assembler.specs.declared.draft.Draft.{Draft}
-use Rattle.rv_assembler.specs.Finishing.{program_of}
+use Rattle.rv_assembler.specs.Finishing.{finished_program}
 
 -- the lines are within the limits, and add up to a well-formed program
-pub record IsWhole (d : Draft) : Type 0 where
+pub record IsWholeDraft (d : Draft) : Type 0 where
   pub words : d.count.words ≤ 65536
   pub locks : length d.locks ≤ 32
   pub phases : d.phases ≤ 64
-  pub program : IsProgram (program_of d)
+  pub program : IsProgram (finished_program d)

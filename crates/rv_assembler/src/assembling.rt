@@ -1,11 +1,11 @@
 //! From a text to its program.
 ghost use Rattle.std.specs.Prelude.{◌≡◌, ◌≢◌, ◌↔◌, ◌<◌, ◌≤◌, ℕ, List, Option, length, Ok, Err, IfOk, IfErr};
 ghost use Rattle.region_table.specs.Program.{IsProgram};
-ghost use Rattle.rv_assembler.specs.Lookup.{looked};
+ghost use Rattle.rv_assembler.specs.Lookup.{name_lookup};
 ghost use Rattle.rv_assembler.specs.declared.fault.SourceFault as fault;
 ghost use Rattle.rv_assembler.specs.declared.fault.SourceFault.TheVariants.{TooLarge, Memory as NoMemory};
-ghost use Rattle.rv_assembler.specs.Adding.{no_draft, total_of, draft_of, added};
-ghost use Rattle.rv_assembler.specs.Whole.{IsWhole};
+ghost use Rattle.rv_assembler.specs.Adding.{no_draft, total_of, draft_of, added_program};
+ghost use Rattle.rv_assembler.specs.Whole.{IsWholeDraft};
 ghost use Rattle.rv_assembler.specs.Source.{source};
 
 use crate::draft::Draft;
@@ -27,9 +27,9 @@ fn add_up<'a>(
     names: &Names<'a>,
     lines: &[Line],
 ) -> Result<Draft, SourceFault>
-    ensures ok { IfOk result (λ draft. total_of version text.now (looked names.now) no_draft lines.now ≡ Ok draft) }
-    ensures err { IfErr result (λ f. f ≢ NoMemory → total_of version text.now (looked names.now) no_draft lines.now ≡ Err f) }
-    ensures whole { IfOk result IsWhole }
+    ensures ok { IfOk result (λ draft. total_of version text.now (name_lookup names.now) no_draft lines.now ≡ Ok draft) }
+    ensures err { IfErr result (λ f. f ≢ NoMemory → total_of version text.now (name_lookup names.now) no_draft lines.now ≡ Err f) }
+    ensures whole { IfOk result IsWholeDraft }
 {
     let mut draft = Draft::new(alloc);
     for line in lines {
@@ -54,7 +54,7 @@ fn draft_in(alloc: Global, text: &[u8]) -> Result<Draft, SourceFault>
     requires { length text.now ≤ 1048576 }
     ensures ok { IfOk result (λ draft. draft_of text.now ≡ Ok draft) }
     ensures err { IfErr result (λ f. f ≢ NoMemory → draft_of text.now ≡ Err f) }
-    ensures whole { IfOk result IsWhole }
+    ensures whole { IfOk result IsWholeDraft }
 {
     let tokenized = tokens(alloc, text)?;
     let lines = tokenized.as_slice();
@@ -65,8 +65,8 @@ fn draft_in(alloc: Global, text: &[u8]) -> Result<Draft, SourceFault>
 
 /// The program that the lines of a text add up to, or else the text's first fault.
 fn program_by_lines(alloc: Global, text: &[u8]) -> Result<Program, SourceFault>
-    ensures ok { IfOk result (λ program. added text.now ≡ Ok program) }
-    ensures err { IfErr result (λ f. f ≢ NoMemory → added text.now ≡ Err f) }
+    ensures ok { IfOk result (λ program. added_program text.now ≡ Ok program) }
+    ensures err { IfErr result (λ f. f ≢ NoMemory → added_program text.now ≡ Err f) }
     ensures large { 1048576 < length text.now → result ≡ Err TooLarge }
 {
     if MOST_OF_TEXT < text.len() {

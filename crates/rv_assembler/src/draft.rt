@@ -1,13 +1,13 @@
 //! What the lines of a text add up to, before it is a program.
 ghost use Rattle.std.specs.Prelude.{◌≡◌, ℕ, ◌-◌, ◌++◌, ◌∷◌, [], Some, None, OnOk};
-ghost use Rattle.rv_assembler.specs.Lookup.{looked};
+ghost use Rattle.rv_assembler.specs.Lookup.{name_lookup};
 ghost use Rattle.rv_assembler.specs.Emission.{words_in, emission};
 ghost use Rattle.rv_assembler.specs.Operand.{bytes_of};
 ghost use Rattle.rv_assembler.specs.Number.{wrapped};
 ghost use Rattle.rv_assembler.specs.Gathering.{more};
-ghost use Rattle.rv_assembler.specs.Adding.{no_draft, with_tasks, extended, after};
-ghost use Rattle.rv_assembler.specs.Named.{region_place, lock_number, usage_of};
-ghost use Rattle.rv_assembler.specs.Drafting.{wrapped_entry, members, first_word, past_word, step_of, claimed, claims_for, values_for};
+ghost use Rattle.rv_assembler.specs.Adding.{no_draft, with_tasks, draft_with, draft_after};
+ghost use Rattle.rv_assembler.specs.Named.{region_span, lock_number, usage_of};
+ghost use Rattle.rv_assembler.specs.Drafting.{wrapped_entry, members, extent_start, past_word, step_of, claimed, claims_for, values_for};
 
 use crate::emission::{Emission, emit, label_address};
 use crate::names::{Count, Meaning, NO_COUNT, Names, counted, meaning_of};
@@ -86,7 +86,7 @@ pub struct Place {
 }
 
 pub(crate) fn region_place(meaning: Option<Meaning>) -> Option<Place>
-    ensures { result ≡ region_place meaning }
+    ensures { result ≡ region_span meaning }
 {
     match meaning {
         Some(Meaning::Region { start, len, .. }) => Some(Place { start, len }),
@@ -106,21 +106,21 @@ pub(crate) fn lock_number(meaning: Option<Meaning>) -> Option<u32>
 
 /// The region of a name.
 pub(crate) fn region_named<'a>(text: &'a [u8], names: &Names<'a>, name: Token) -> Option<Place>
-    ensures { result ≡ region_place (looked names.now (bytes_of text.now name)) }
+    ensures { result ≡ region_span (name_lookup names.now (bytes_of text.now name)) }
 {
     region_place(meaning_of(text, names, name))
 }
 
 /// The number of the lock of a name.
 pub(crate) fn lock_named<'a>(text: &'a [u8], names: &Names<'a>, name: Token) -> Option<u32>
-    ensures { result ≡ lock_number (looked names.now (bytes_of text.now name)) }
+    ensures { result ≡ lock_number (name_lookup names.now (bytes_of text.now name)) }
 {
     lock_number(meaning_of(text, names, name))
 }
 
 /// The address of a task's entry, modulo 2^32; 0 where the label isn't declared.
 fn entry<'a>(text: &'a [u8], names: &Names<'a>, target: Token) -> u32
-    ensures { result ≡ wrapped_entry text.now (looked names.now) target }
+    ensures { result ≡ wrapped_entry text.now (name_lookup names.now) target }
 {
     if let TokenKind::Number(number) = target.kind {
         return wrapped(number);
@@ -133,7 +133,7 @@ fn entry<'a>(text: &'a [u8], names: &Names<'a>, target: Token) -> u32
 
 /// How a task uses the words of an effect; None where the lock isn't declared.
 fn usage_in<'a>(text: &'a [u8], names: &Names<'a>, effect: Effect) -> Option<Usage>
-    ensures { result ≡ usage_of text.now (looked names.now) effect }
+    ensures { result ≡ usage_of text.now (name_lookup names.now) effect }
 {
     match effect.lock {
         None => Some(if effect.writes {
@@ -154,7 +154,7 @@ fn usage_in<'a>(text: &'a [u8], names: &Names<'a>, effect: Effect) -> Option<Usa
 
 /// The first word of an effect, modulo 2^32.
 fn first_word(place: Place, extent: Extent) -> u32
-    ensures { result ≡ first_word place extent }
+    ensures { result ≡ extent_start place extent }
 {
     match extent {
         Extent::Whole => place.start,
@@ -343,7 +343,7 @@ impl Draft {
         names: &Names<'a>,
         statement: &Statement,
     ) -> Result<(), Memory>
-        ensures { OnOk result (self.new ≡ extended text.now (looked names.now) self.old statement.now) }
+        ensures { OnOk result (self.new ≡ draft_with text.now (name_lookup names.now) self.old statement.now) }
     {
         match *statement {
             Statement::Nothing => Ok(()),
@@ -381,7 +381,7 @@ impl Draft {
         names: &Names<'a>,
         statement: &Statement,
     ) -> Result<(), Memory>
-        ensures { OnOk result (self.new ≡ after text.now (looked names.now) self.old statement.now) }
+        ensures { OnOk result (self.new ≡ draft_after text.now (name_lookup names.now) self.old statement.now) }
     {
         let count = counted(&self.count, statement);
         self.extend(alloc, text, names, statement)?;

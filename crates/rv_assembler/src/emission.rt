@@ -1,8 +1,8 @@
 //! The code words of a statement.
 ghost use Rattle.std.specs.Prelude.{◌≡◌, ◌+◌, ◌*◌, ◌%◌, ◌^◌, ◌<◌, ◌≤◌, pos, Some, None, Option, IsTrue};
-ghost use Rattle.rv_isa.specs.Range.{Fits, IsSigned};
+ghost use Rattle.rv_isa.specs.Range.{IsEncodable, IsSigned};
 ghost use Rattle.rv_isa.specs.Table.{is_stored};
-ghost use Rattle.rv_assembler.specs.Lookup.{looked};
+ghost use Rattle.rv_assembler.specs.Lookup.{name_lookup};
 ghost use Rattle.rv_assembler.specs.Number.{is_upper, is_jump, is_branch, is_immediate, is_operand};
 ghost use Rattle.rv_assembler.specs.Operand.{bytes_of};
 ghost use Rattle.rv_assembler.specs.Emission.{one_if, upper, jump, branch, store, high, low, loaded, region_address, label_address, offset_of, loaded_address, emission};
@@ -179,7 +179,7 @@ fn region_address(word: u32) -> u32
 
 /// How far a target is from the code word of the number `here`, in bytes; None where it is no label.
 fn offset<'a>(text: &'a [u8], names: &Names<'a>, here: u32, target: Token) -> Option<i64>
-    ensures { result ≡ offset_of text.now (looked names.now) here target }
+    ensures { result ≡ offset_of text.now (name_lookup names.now) here target }
 {
     if let TokenKind::Number(number) = target.kind {
         return Some(number);
@@ -192,7 +192,7 @@ fn offset<'a>(text: &'a [u8], names: &Names<'a>, here: u32, target: Token) -> Op
 
 /// The words that load the address of a name.
 fn loaded_address<'a>(text: &'a [u8], names: &Names<'a>, rd: Reg, name: Token) -> Emission
-    ensures { result ≡ loaded_address rd (looked names.now (bytes_of text.now name)) }
+    ensures { result ≡ loaded_address rd (name_lookup names.now (bytes_of text.now name)) }
 {
     match names.meaning(bytes(text, name)) {
         Some(Meaning::Label { place, .. }) => loaded(rd, label_address(place)),
@@ -203,7 +203,7 @@ fn loaded_address<'a>(text: &'a [u8], names: &Names<'a>, rd: Reg, name: Token) -
 
 /// The code words of a statement that stands at the code word of the number `here`.
 pub(crate) fn emit<'a>(text: &'a [u8], names: &Names<'a>, here: u32, code: Code) -> Emission
-    ensures { result ≡ emission text.now (looked names.now) here code }
+    ensures { result ≡ emission text.now (name_lookup names.now) here code }
 {
     match code {
         Code::Upper {

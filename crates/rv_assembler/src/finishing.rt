@@ -5,7 +5,7 @@ ghost use Rattle.std.specs.List.{All, range_with_len};
 ghost use Rattle.region_table.specs.declared.interval.Interval.{Interval};
 ghost use Rattle.region_table.specs.Program.{IsProgram};
 ghost use Rattle.rv_assembler.specs.Program.{same_usage, is_claim_of, is_task};
-ghost use Rattle.rv_assembler.specs.Finishing.{interval_of, words_of, read_under, written_under, effects_of, task_of, task_at, phase_of, stored, program_of};
+ghost use Rattle.rv_assembler.specs.Finishing.{interval_within, words_within, guarded_reads_within, guarded_writes_within, effects_within, task_within, core_task_within, phase_within, with_first_values, finished_program};
 
 use crate::draft::{Claim, Draft, FirstValue, Start, Usage};
 use crate::uniting::united;
@@ -25,7 +25,7 @@ fn store(memory: &mut Vec<u32>, value: FirstValue)
 
 /// The first values of the memory.
 fn first_memory(alloc: Global, words: u32, values: &[FirstValue]) -> Result<Vec<u32>, Memory>
-    ensures { IfOk result (λ memory. memory.items ≡ stored (replicate words 0) values.now) }
+    ensures { IfOk result (λ memory. memory.items ≡ with_first_values (replicate words 0) values.now) }
 {
     let mut memory = vec![in alloc; 0u32; words as usize]?;
     for value in values {
@@ -47,7 +47,7 @@ fn same_usage(a: Usage, b: Usage) -> bool
 
 /// The words of a claim of this usage, if they are words of the memory.
 fn interval_in(words: u32, usage: Usage, claim: Claim) -> Option<Interval>
-    ensures { result ≡ interval_of words usage claim }
+    ensures { result ≡ interval_within words usage claim }
 {
     if same_usage(claim.usage, usage) && claim.lo < claim.hi && claim.hi <= words {
         Some(Interval {
@@ -76,7 +76,7 @@ fn intervals(
     claims: &[Claim],
     usage: Usage,
 ) -> Result<Vec<Interval>, Memory>
-    ensures { IfOk result (λ found. found.items ≡ filter_map (interval_of words usage) claims.now) }
+    ensures { IfOk result (λ found. found.items ≡ filter_map (interval_within words usage) claims.now) }
 {
     let mut found = Vec::new(alloc);
     for claim in claims {
@@ -88,7 +88,7 @@ fn intervals(
 /// The words that claims of this usage have.
 fn words_of(alloc: Global, words: u32, claims: &[Claim], usage: Usage) -> Result<WordSet, Memory>
     requires { words ≤ 65536 }
-    ensures { IfOk result (λ set. set ≡ words_of words claims.now usage) }
+    ensures { IfOk result (λ set. set ≡ words_within words claims.now usage) }
 {
     let intervals = intervals(alloc, words, claims, usage)?;
     united(alloc, intervals.as_slice())
@@ -102,7 +102,7 @@ fn guarded_reads(
     claims: &[Claim],
 ) -> Result<Sequence<WordSet>, Memory>
     requires { words ≤ 65536 }
-    ensures { IfOk result (λ sets. sets ≡ map (read_under words claims.now) (range_with_len 0 locks)) }
+    ensures { IfOk result (λ sets. sets ≡ map (guarded_reads_within words claims.now) (range_with_len 0 locks)) }
 {
     let mut sets = Sequence::new(alloc);
     for lock in 0..locks {
@@ -119,7 +119,7 @@ fn guarded_writes(
     claims: &[Claim],
 ) -> Result<Sequence<WordSet>, Memory>
     requires { words ≤ 65536 }
-    ensures { IfOk result (λ sets. sets ≡ map (written_under words claims.now) (range_with_len 0 locks)) }
+    ensures { IfOk result (λ sets. sets ≡ map (guarded_writes_within words claims.now) (range_with_len 0 locks)) }
 {
     let mut sets = Sequence::new(alloc);
     for lock in 0..locks {
@@ -144,7 +144,7 @@ fn claims_of(alloc: Global, claims: &[Claim], task: Start) -> Result<Vec<Claim>,
 /// The effects of a task by its claims.
 fn effects_in(alloc: Global, words: u32, locks: u32, claims: &[Claim]) -> Result<Effects, Memory>
     requires { words ≤ 65536 }
-    ensures { IfOk result (λ effects. effects ≡ effects_of words locks claims.now) }
+    ensures { IfOk result (λ effects. effects ≡ effects_within words locks claims.now) }
 {
     Ok(Effects {
         reads: words_of(alloc, words, claims, Usage::Reads)?,
@@ -162,7 +162,7 @@ fn declared(
     task: Start,
 ) -> Result<TaskDecl, Memory>
     requires { words ≤ 65536 }
-    ensures { IfOk result (λ declared. declared ≡ task_of words locks claims.now task) }
+    ensures { IfOk result (λ declared. declared ≡ task_within words locks claims.now task) }
 {
     let own = claims_of(alloc, claims, task)?;
     Ok(TaskDecl {
@@ -195,7 +195,7 @@ fn push_task(
     task: Option<Start>,
 ) -> Result<(), Memory>
     requires { words ≤ 65536 }
-    ensures { OnOk result (tasks.new ≡ tasks.old ++ option_to_list (option_map (task_of words locks claims.now) task)) }
+    ensures { OnOk result (tasks.new ≡ tasks.old ++ option_to_list (option_map (task_within words locks claims.now) task)) }
 {
     match task {
         None => Ok(()),
@@ -213,7 +213,7 @@ fn phase_of(
     number: u32,
 ) -> Result<Phase, Memory>
     requires { words ≤ 65536 }
-    ensures { IfOk result (λ phase. phase ≡ phase_of words locks claims.now tasks.now number) }
+    ensures { IfOk result (λ phase. phase ≡ phase_within words locks claims.now tasks.now number) }
 {
     let mut found = Sequence::new(alloc);
     for core in 0..16 {
@@ -240,7 +240,7 @@ fn phases_of(
 ) -> Result<Sequence<Phase>, Memory>
     requires words { words ≤ 65536 }
     requires count { count ≤ 64 }
-    ensures { IfOk result (λ phases. phases ≡ map (phase_of words locks claims.now tasks.now) (range_with_len 1 count)) }
+    ensures { IfOk result (λ phases. phases ≡ map (phase_within words locks claims.now tasks.now) (range_with_len 1 count)) }
 {
     let mut phases = Sequence::new(alloc);
     for number in 0..count {
@@ -254,8 +254,8 @@ pub(crate) fn finish(alloc: Global, draft: Draft) -> Result<Program, Memory>
     requires words { draft.count.words ≤ 65536 }
     requires phases { draft.phases ≤ 64 }
     requires locks { length draft.locks ≤ 32 }
-    requires program { IsProgram (program_of draft) }
-    ensures { IfOk result (λ program. program ≡ program_of draft) }
+    requires program { IsProgram (finished_program draft) }
+    ensures { IfOk result (λ program. program ≡ finished_program draft) }
 {
     let words = draft.count.words;
     let locks = draft.locks.len() as u32;

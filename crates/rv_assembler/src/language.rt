@@ -7,7 +7,7 @@ ghost use Rattle.rv_assembler.specs.declared.names.Meaning.{Meaning};
 ghost use Rattle.rv_assembler.specs.declared.names.Meaning.TheVariants.{Label, Region};
 ghost use Rattle.rv_assembler.specs.declared.statement.Effect.{Effect};
 ghost use Rattle.rv_assembler.specs.declared.draft.Cores.{Cores};
-ghost use Rattle.rv_assembler.specs.Number.{count_of, wrapped};
+ghost use Rattle.rv_assembler.specs.Number.{natural_of, wrapped};
 ghost use Rattle.rv_assembler.specs.Operand.{bytes_of, token_at, number_at, register_at};
 ghost use Rattle.rv_assembler.specs.Reading.{code_for};
 ghost use Rattle.rv_assembler.specs.Emission.{label_address, region_address, emission};
@@ -33,6 +33,6 @@ pub fn a_pseudo_instruction_has_its_base_line()
 /// The tasks of a line of `.forall` are those of its lines of `.task`, in their order, whose cores go on from its first one. An
 /// effect gives a family of tasks the words that it gives each of them by its own interval.
 pub fn a_family_has_the_rows_of_its_lines()
-    ensures tasks { (text : List ℕ) (ts : List Token) (core : ℕ) (lines : ℕ → List Token) → number_at ts 0 ≡ pos core → ((i : ℕ) → i < count_of (number_at ts 2) → IsTaskLine text ts i (lines i)) → HasTaskLines text ts lines }
+    ensures tasks { (text : List ℕ) (ts : List Token) (core : ℕ) (lines : ℕ → List Token) → number_at ts 0 ≡ pos core → ((i : ℕ) → i < natural_of (number_at ts 2) → IsTaskLine text ts i (lines i)) → HasTaskLines text ts lines }
     ensures uses { (text : List ℕ) (phase : ℕ) (family : Cores) (e : Effect) → HasUseLines text phase family e }
 {}

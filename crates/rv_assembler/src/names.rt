@@ -1,12 +1,12 @@
 //! The names of a text: labels, regions and locks, and what each means.
 ghost use Rattle.std.specs.Prelude.{◌≡◌, ℕ, List, Option, Some, None, bytes_eq, if◌then◌else◌, OnOk, IfOk, map};
-ghost use Rattle.rv_assembler.specs.Lookup.{looked};
+ghost use Rattle.rv_assembler.specs.Lookup.{name_lookup};
 ghost use Rattle.rv_assembler.specs.Operand.{bytes_of};
 ghost use Rattle.rv_assembler.specs.Reading.{reading_of};
 ghost use Rattle.rv_assembler.specs.First.{first_of};
-ghost use Rattle.rv_assembler.specs.Size.{size_of};
+ghost use Rattle.rv_assembler.specs.Size.{code_word_count};
 ghost use Rattle.rv_assembler.specs.Counts.{region_words};
-ghost use Rattle.rv_assembler.specs.Gathering.{no_count, counted, count_after, label_means, name_means, declared_by, meaning_in};
+ghost use Rattle.rv_assembler.specs.Gathering.{no_count, count_behind, count_after, label_means, name_means, declared_by, meaning_in};
 
 use crate::number::{is_length, more, wrapped};
 use crate::operand::bytes;
@@ -47,7 +47,7 @@ pub(crate) const NO_COUNT: Count = Count {
 
 /// How many code words a statement gives.
 fn size(code: Code) -> u32
-    ensures { result ≡ size_of code }
+    ensures { result ≡ code_word_count code }
 {
     match code {
         Code::LoadNumber { .. } | Code::LoadAddress { .. } => 2,
@@ -64,7 +64,7 @@ fn length(len: i64) -> u32
 
 /// The count behind a statement.
 pub(crate) fn counted(count: &Count, statement: &Statement) -> Count
-    ensures { result ≡ counted count.now statement.now }
+    ensures { result ≡ count_behind count.now statement.now }
 {
     match *statement {
         Statement::Instruction(code) => Count {
@@ -108,7 +108,7 @@ pub(crate) struct Names<'a> {
 
 impl<'a> Names<'a> {
     fn new(alloc: Global) -> Names<'a>
-        ensures { (q : List ℕ) → looked result q ≡ None }
+        ensures { (q : List ℕ) → name_lookup result q ≡ None }
     {
         Names {
             index: BTreeMap::new(alloc),
@@ -117,14 +117,14 @@ impl<'a> Names<'a> {
 
     /// What a name means, if it is declared.
     pub fn meaning(&self, name: &'a [u8]) -> Option<Meaning>
-        ensures { result ≡ looked self.now name.now }
+        ensures { result ≡ name_lookup self.now name.now }
     {
         self.index.get(&name).copied()
     }
 
     /// Gives a name a meaning, unless it has one.
     fn declare(&mut self, name: &'a [u8], meaning: Meaning) -> Result<(), Memory>
-        ensures { OnOk result ((q : List ℕ) → looked self.new q ≡ first_of (looked self.old q) (if bytes_eq name.now q then Some meaning else None)) }
+        ensures { OnOk result ((q : List ℕ) → name_lookup self.new q ≡ first_of (name_lookup self.old q) (if bytes_eq name.now q then Some meaning else None)) }
     {
         if self.index.contains_key(&name) {
             return Ok(());
@@ -140,7 +140,7 @@ impl<'a> Names<'a> {
         count: &Count,
         saying: &Saying,
     ) -> Result<(), Memory>
-        ensures { OnOk result ((q : List ℕ) → looked self.new q ≡ first_of (looked self.old q) (label_means text.now count.now saying.now q)) }
+        ensures { OnOk result ((q : List ℕ) → name_lookup self.new q ≡ first_of (name_lookup self.old q) (label_means text.now count.now saying.now q)) }
     {
         match saying.label {
             None => Ok(()),
@@ -161,7 +161,7 @@ impl<'a> Names<'a> {
         count: &Count,
         statement: &Statement,
     ) -> Result<(), Memory>
-        ensures { OnOk result ((q : List ℕ) → looked self.new q ≡ first_of (looked self.old q) (name_means text.now count.now statement.now q)) }
+        ensures { OnOk result ((q : List ℕ) → name_lookup self.new q ≡ first_of (name_lookup self.old q) (name_means text.now count.now statement.now q)) }
     {
         match *statement {
             Statement::Region { name, len } => self.declare(
@@ -184,7 +184,7 @@ impl<'a> Names<'a> {
 
     /// Declares the names of a line of good form.
     fn declare_good(&mut self, text: &'a [u8], count: &Count, saying: &Saying) -> Result<(), Memory>
-        ensures { OnOk result ((q : List ℕ) → looked self.new q ≡ first_of (looked self.old q) (first_of (label_means text.now count.now saying.now q) (name_means text.now count.now saying.now.statement q))) }
+        ensures { OnOk result ((q : List ℕ) → name_lookup self.new q ≡ first_of (name_lookup self.old q) (first_of (label_means text.now count.now saying.now q) (name_means text.now count.now saying.now.statement q))) }
     {
         self.declare_label(text, count, saying)?;
         self.declare_name(text, count, &saying.statement)
@@ -197,7 +197,7 @@ impl<'a> Names<'a> {
         count: &Count,
         reading: &Reading,
     ) -> Result<(), Memory>
-        ensures { OnOk result ((q : List ℕ) → looked self.new q ≡ first_of (looked self.old q) (declared_by text.now count.now reading.now q)) }
+        ensures { OnOk result ((q : List ℕ) → name_lookup self.new q ≡ first_of (name_lookup self.old q) (declared_by text.now count.now reading.now q)) }
     {
         match reading {
             Reading::Bad(_) => Ok(()),
@@ -208,7 +208,7 @@ impl<'a> Names<'a> {
 
 /// What the name of a token means, if it is declared.
 pub(crate) fn meaning_of<'a>(text: &'a [u8], names: &Names<'a>, token: Token) -> Option<Meaning>
-    ensures { result ≡ looked names.now (bytes_of text.now token) }
+    ensures { result ≡ name_lookup names.now (bytes_of text.now token) }
 {
     names.meaning(bytes(text, token))
 }
@@ -220,7 +220,7 @@ pub(crate) fn survey<'a>(
     text: &'a [u8],
     lines: &[Line],
 ) -> Result<Names<'a>, Memory>
-    ensures { IfOk result (λ names. (q : List ℕ) → looked names q ≡ meaning_in text.now no_count (map (reading_of version text.now) lines.now) q) }
+    ensures { IfOk result (λ names. (q : List ℕ) → name_lookup names q ≡ meaning_in text.now no_count (map (reading_of version text.now) lines.now) q) }
 {
     let mut names = Names::new(alloc);
     let mut count = NO_COUNT;

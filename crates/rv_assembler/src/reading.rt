@@ -1,6 +1,6 @@
 //! What a line says: its label and its statement.
 ghost use Rattle.std.specs.Prelude.{◌≡◌, ◌≤◌};
-ghost use Rattle.rv_assembler.specs.Reading.{extent_for, directive_for, statement_for, statement_in, said, labelled, read_tokens, fault_of_line, reading_of, is_version, is_blank, version_line};
+ghost use Rattle.rv_assembler.specs.Reading.{extent_for, directive_for, statement_for, statement_in, said, labelled, read_tokens, fault_of_line, reading_of, is_version, is_blank_line, version_line};
 
 use crate::coding::code_for;
 use crate::fault::SourceFault;
@@ -220,7 +220,7 @@ fn is_version(text: &[u8], line: &Line) -> bool
 
 /// Whether nothing stands on the line but blanks and a comment.
 fn is_blank(line: &Line) -> bool
-    ensures { result ≡ is_blank line.now }
+    ensures { result ≡ is_blank_line line.now }
 {
     line.fault.is_none() && line.tokens.len() == 0
 }

@@ -1,6 +1,6 @@
 //! The table of statements: their words, the shapes of their operands, and the row that a statement fits.
 ghost use Rattle.std.specs.Prelude.{◌≡◌, map, option_map, find};
-ghost use Rattle.rv_assembler.specs.Shape.{memory_rows, operation_rows, short_rows, directive_rows, later_rows, knows_word, kind_for, is_name, is_number, is_comma, is_left, is_right, is_plain, piece_fits, fits, has_word, knows, is_row, kind_in};
+ghost use Rattle.rv_assembler.specs.Shape.{memory_rows, operation_rows, short_rows, directive_rows, later_rows, knows_word, kind_for, is_name, is_number, is_comma, is_left, is_right, is_plain, piece_fits, fits, shape_has_word, knows, is_row, kind_in_rows};
 ghost use Rattle.rv_assembler.specs.ShapeRow.{shape_of};
 
 use crate::kind::Piece::{Comma, Left, Name, Number, Register, Right, Target};
@@ -388,7 +388,7 @@ fn fits(text: &[u8], pieces: &[Piece], tokens: &[Token]) -> bool
 
 /// Whether the row is one of this version, and has this word.
 fn has_word(version_2: bool, word: &[u8], row: &Row) -> bool
-    ensures { result ≡ has_word version_2 word.now (shape_of row.now) }
+    ensures { result ≡ shape_has_word version_2 word.now (shape_of row.now) }
 {
     row.0 == word && (version_2 || !row.3)
 }
@@ -424,7 +424,7 @@ fn kind_in(
     operands: &[Token],
     rows: &[Row],
 ) -> Option<Kind>
-    ensures { result ≡ kind_in version_2 text.now word.now operands.now (map shape_of rows.now) }
+    ensures { result ≡ kind_in_rows version_2 text.now word.now operands.now (map shape_of rows.now) }
 {
     for row in rows {
         if has_word(version_2, word, row) && fits(text, row.1, operands) {

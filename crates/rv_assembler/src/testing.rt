@@ -1,12 +1,12 @@
 //! The faults of a line that has none by its form.
 ghost use Rattle.std.specs.Prelude.{◌≡◌, ℕ, ◌-◌, ◌+◌, ◌<◌, ◌≤◌, List, Option, is_none, IsTrue, ℤ, pos, neg_ℤ, ◌+ℤ◌, ◌≤ℤ◌};
-ghost use Rattle.rv_assembler.specs.Lookup.{looked};
+ghost use Rattle.rv_assembler.specs.Lookup.{name_lookup};
 ghost use Rattle.rv_assembler.specs.Number.{is_within};
-ghost use Rattle.rv_assembler.specs.Fault.{is_far, is_lost, stepped_fits, extent_far, family_far, is_address, entry_far, are_cores, word_far, out_of_range, entry_lost, effect_lost, unknown, is_on, taken, misplaced, most_regions, over_limit};
+ghost use Rattle.rv_assembler.specs.Fault.{is_far, is_lost, stepped_fits, extent_far, family_far, is_address, entry_far, are_cores, word_far, out_of_range, entry_lost, effect_lost, unknown, is_on, core_in_use, misplaced, most_regions, over_limit};
 ghost use Rattle.rv_assembler.specs.Testing.{label_doubled, region_doubled, lock_doubled, name_doubled, doubled_by_meaning, draft_fault};
 ghost use Rattle.rv_assembler.specs.Operand.{bytes_of};
-ghost use Rattle.rv_assembler.specs.Emission.{emission, label_place};
-ghost use Rattle.rv_assembler.specs.Named.{region_place, lock_number};
+ghost use Rattle.rv_assembler.specs.Emission.{emission, label_index};
+ghost use Rattle.rv_assembler.specs.Named.{region_span, lock_number};
 
 use crate::draft::{Draft, Place, Start, lock_named, region_named};
 use crate::emission::{Emission, emit};
@@ -114,7 +114,7 @@ fn family_far(family: Family) -> bool
 
 /// Whether a number is outside its range, or a label too far.
 fn out_of_range<'a>(text: &'a [u8], names: &Names<'a>, draft: &Draft, statement: &Statement) -> bool
-    ensures { result ≡ out_of_range text.now (looked names.now) draft.now statement.now }
+    ensures { result ≡ out_of_range text.now (name_lookup names.now) draft.now statement.now }
 {
     match *statement {
         Statement::Instruction(code) => is_far(emit(text, names, draft.count.code, code)),
@@ -166,7 +166,7 @@ fn lock_doubled(meaning: Option<Meaning>, number: u32) -> bool
 
 /// Whether the name of a region or a lock that a statement declares means something else.
 fn name_doubled<'a>(text: &'a [u8], names: &Names<'a>, count: &Count, statement: &Statement) -> bool
-    ensures { result ≡ name_doubled text.now (looked names.now) count.now statement.now }
+    ensures { result ≡ name_doubled text.now (name_lookup names.now) count.now statement.now }
 {
     match *statement {
         Statement::Region { name, len: _len } => region_doubled(
@@ -180,7 +180,7 @@ fn name_doubled<'a>(text: &'a [u8], names: &Names<'a>, count: &Count, statement:
 
 /// Whether a name that the line declares is declared before.
 fn doubled<'a>(text: &'a [u8], names: &Names<'a>, count: &Count, saying: &Saying) -> bool
-    ensures { result ≡ doubled_by_meaning text.now (looked names.now) count.now saying.now }
+    ensures { result ≡ doubled_by_meaning text.now (name_lookup names.now) count.now saying.now }
 {
     if let Some(label) = saying.label {
         if label_doubled(meaning_of(text, names, label), saying.line) {
@@ -192,7 +192,7 @@ fn doubled<'a>(text: &'a [u8], names: &Names<'a>, count: &Count, saying: &Saying
 
 /// Whether an entry is a name and no label.
 fn entry_lost<'a>(text: &'a [u8], names: &Names<'a>, entry: Token) -> bool
-    ensures { result ≡ entry_lost text.now (looked names.now) entry }
+    ensures { result ≡ entry_lost text.now (name_lookup names.now) entry }
 {
     if let TokenKind::Number(_) = entry.kind {
         return false;
@@ -202,7 +202,7 @@ fn entry_lost<'a>(text: &'a [u8], names: &Names<'a>, entry: Token) -> bool
 
 /// Whether the region or the lock of an effect isn't declared.
 fn effect_lost<'a>(text: &'a [u8], names: &Names<'a>, effect: Effect) -> bool
-    ensures { result ≡ effect_lost text.now (looked names.now) effect }
+    ensures { result ≡ effect_lost text.now (name_lookup names.now) effect }
 {
     if no_region(text, names, effect.region) {
         return true;
@@ -215,7 +215,7 @@ fn effect_lost<'a>(text: &'a [u8], names: &Names<'a>, effect: Effect) -> bool
 
 /// Whether a name means no region.
 fn no_region<'a>(text: &'a [u8], names: &Names<'a>, name: Token) -> bool
-    ensures { result ≡ is_none (region_place (looked names.now (bytes_of text.now name))) }
+    ensures { result ≡ is_none (region_span (name_lookup names.now (bytes_of text.now name))) }
 {
     match region_named(text, names, name) {
         Some(_) => false,
@@ -225,7 +225,7 @@ fn no_region<'a>(text: &'a [u8], names: &Names<'a>, name: Token) -> bool
 
 /// Whether a name isn't declared, or is of another kind.
 fn unknown<'a>(text: &'a [u8], names: &Names<'a>, here: u32, statement: &Statement) -> bool
-    ensures { result ≡ unknown text.now (looked names.now) here statement.now }
+    ensures { result ≡ unknown text.now (name_lookup names.now) here statement.now }
 {
     match *statement {
         Statement::Instruction(code) => is_lost(emit(text, names, here, code)),
@@ -251,7 +251,7 @@ fn is_on(phase: u32, family: Family, task: Start) -> bool
 
 /// Whether one of the family's cores has a task in the phase.
 fn taken(tasks: &[Start], phase: u32, family: Family) -> bool
-    ensures { result ≡ taken tasks.now phase family }
+    ensures { result ≡ core_in_use tasks.now phase family }
 {
     tasks.iter().any(|task| is_on(phase, family, *task))
 }
@@ -295,7 +295,7 @@ pub(crate) fn early_fault<'a>(
     draft: &Draft,
     saying: &Saying,
 ) -> Option<SourceFault>
-    ensures { result ≡ draft_fault text.now (looked names.now) draft.now saying.now }
+    ensures { result ≡ draft_fault text.now (name_lookup names.now) draft.now saying.now }
 {
     let line = saying.line;
     if out_of_range(text, names, draft, &saying.statement) {

@@ -16,11 +16,11 @@ use Rattle.rv_core.specs.declared.need.Need.{Need}
 use Rattle.rv_core.specs.declared.need.Need.TheVariants.{Local, Load, Store, Acquire, Release, End}
 use Rattle.dn_base.specs.declared.ids.WordId.{WordId}
 use Rattle.dn_base.specs.declared.ids.LockId.{LockId}
-use Rattle.rv_core.specs.Access.{holds, may_load, may_store}
+use Rattle.rv_core.specs.Access.{is_held, may_load, may_store}
 use Rattle.rv_core.specs.Place.{code_at, data_at, size_of, is_whole, replaced}
 use Rattle.rv_core.specs.Registers.{value_in}
 use Rattle.rv_core.specs.Need.{need_of, fetch_need, word_need, instr_need, jump_need, load_need, store_need, call_need, address_of, jump_target, register_target}
-use Rattle.rv_core.specs.Step.{read_instr, instr_at, after, after_instr, after_load, after_store, after_call, with_locks, advanced, loaded_of, merged_of}
+use Rattle.rv_core.specs.Step.{read_instr, instr_at, after_fetch, after_instr, after_load, after_store, after_call, with_locks, advanced, loaded_of, merged_of}
 use Rattle.rv_core.specs.Task.{stopped, retires_at}
 use Rattle.rv_core.specs.Kinds.{IsLoad, IsAdvance, EndsByFuel, Allowed, held_after}
 use Rattle.rv_core.proofs.Needs.{fuelled, neither, first_taken, second_taken, no_jump, no_load, no_call, need-allowed, need-fuel, load-tells, advance-tells}
@@ -39,11 +39,11 @@ pub store-allowed : (P : ProgramParts) (d : TaskDecl) (fuel : ℕ) (t : TaskStat
 store-allowed P d fuel t word whole is = let a = allowed P d fuel t (Store word whole) is in (a.0, a.1)
 
 pub acquire-allowed : (P : ProgramParts) (d : TaskDecl) (fuel : ℕ) (t : TaskState) (lock : LockId) → need_of P d fuel t ≡ Acquire lock
-    → (lock.0 < length P.locks) × (holds t.held lock.0 ≡ false)
+    → (lock.0 < length P.locks) × (is_held t.held lock.0 ≡ false)
 acquire-allowed P d fuel t lock is = let a = allowed P d fuel t (Acquire lock) is in (a.0, a.1)
 
 pub release-allowed : (P : ProgramParts) (d : TaskDecl) (fuel : ℕ) (t : TaskState) (lock : LockId) → need_of P d fuel t ≡ Release lock
-    → (lock.0 < length P.locks) × (holds t.held lock.0 ≡ true)
+    → (lock.0 < length P.locks) × (is_held t.held lock.0 ≡ true)
 release-allowed P d fuel t lock is = let a = allowed P d fuel t (Release lock) is in (a.0, a.1)
 
 -- ---- what is held afterwards
@@ -116,7 +116,7 @@ pub advanced-end : (P : ProgramParts) (t : TaskState) → (advanced P t).end ≡
 unfolding advanced
 advanced-end P t = by_instr (instr_at P t)
   where
-    by_instr : (o : Option Instr) → (after t o).end ≡ t.end
+    by_instr : (o : Option Instr) → (after_fetch t o).end ≡ t.end
     by_instr None = refl
     by_instr (Some i) = after_instr-end t i
 
@@ -199,7 +199,7 @@ call_finishes P t number lock k =
     let known = second_taken Finishes (nat_lt 2 number) _ _ (λ x. x) k in
     let ends = first_taken Finishes (number == 0) _ _
     (neither Finishes (nat_le (length P.locks) lock) _ _ (λ x. x)
-    (neither Finishes (number == 1) _ _ (neither Finishes (holds t.held lock) _ _ (λ x. x) (λ x. x)) (neither Finishes (holds t.held lock) _ _ (λ x. x) (λ x. x)))) known.1 in
+    (neither Finishes (number == 1) _ _ (neither Finishes (is_held t.held lock) _ _ (λ x. x) (λ x. x)) (neither Finishes (is_held t.held lock) _ _ (λ x. x) (λ x. x)))) known.1 in
     let test = (first_taken Finishes (t.held == 0) _ _ (λ x. x) ends.1).0 in
     grind (arith, nat_tests)
 

@@ -15,17 +15,17 @@ use Rattle.rv_core.specs.Need.{need_of, instr_need, word_need, fetch_need}
 use Rattle.rv_core.specs.Place.{code_at}
 use Rattle.rv_core.specs.Step.{read_instr, instr_at}
 use Rattle.rv_core.specs.Next.{IsNextOf}
-use Rattle.rv_core.specs.Decoded.{entry_of, found_at, IsDecoded}
+use Rattle.rv_core.specs.Decoded.{decoded_entry, found_at, IsDecoded}
 
-entry-read : (o : Option ℕ) → entry_of (option_map decoded o) ≡ read_instr o
+entry-read : (o : Option ℕ) → decoded_entry (option_map decoded o) ≡ read_instr o
 entry-read None = refl
 entry-read (Some word) = refl
 
 found-read : (code : List ℕ) (pc : ℕ) → found_at (map decoded code) pc ≡ read_instr (code_at code pc)
 found-read code pc = by_test (nat_le 0x1000 pc && pc % 4 == 0)
   where
-    by_test : (b : Bool) → cond b (entry_of (slice_get (map decoded code) ((pc - 0x1000) / 4))) None ≡ read_instr (cond b (slice_get code ((pc - 0x1000) / 4)) None)
-    by_test true = ap entry_of (slice_get-map decoded code ((pc - 0x1000) / 4)) ∙ entry-read (slice_get code ((pc - 0x1000) / 4))
+    by_test : (b : Bool) → cond b (decoded_entry (slice_get (map decoded code) ((pc - 0x1000) / 4))) None ≡ read_instr (cond b (slice_get code ((pc - 0x1000) / 4)) None)
+    by_test true = ap decoded_entry (slice_get-map decoded code ((pc - 0x1000) / 4)) ∙ entry-read (slice_get code ((pc - 0x1000) / 4))
     by_test false = refl
 
 -- the entry at the program counter is the instruction there

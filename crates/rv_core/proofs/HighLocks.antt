@@ -4,14 +4,14 @@ use Rattle.std.specs.Int.Bits.{bit_and, and_shifted}
 use Rattle.std.proofs.lemmas.Nat.{pow-add, and_comm}
 use Rattle.std.proofs.lemmas.Bool.Decides.{nat_tests}
 use Rattle.region_table.specs.declared.interval.Interval.{Interval}
-use Rattle.rv_core.specs.Access.{holds, under}
+use Rattle.rv_core.specs.Access.{is_held, under}
 
 shifted : (lock : ℕ) → 32 ≤ lock → 2 ^ (lock - 32) * 2 ^ 32 ≡ 2 ^ lock
 shifted lock high =
     let e : lock ≡ lock - 32 + 32 = omega arith in
     sym (pow-add 2 (lock - 32) 32) ∙ ap (λ k. 2 ^ k) (sym e)
 
-pub holds-high : (held lock : ℕ) → held < 2 ^ 32 → 32 ≤ lock → holds held lock ≡ false
+pub holds-high : (held lock : ℕ) → held < 2 ^ 32 → 32 ≤ lock → is_held held lock ≡ false
 holds-high held lock fits high =
     let low : bit_and (2 ^ (lock - 32) * 2 ^ 32) held ≡ 0 = and_shifted (2 ^ (lock - 32)) 32 held fits in
     let same : bit_and (2 ^ lock) held ≡ 0 = rw (← shifted lock high) low in

@@ -12,11 +12,11 @@ use Rattle.rv_core.specs.declared.task.End as cause
 use Rattle.rv_core.specs.declared.task.TrapKind as kind
 use Rattle.rv_core.specs.declared.need.Need.{Need}
 use Rattle.rv_core.specs.declared.need.Need.TheVariants.{Local, Load, Store, Acquire, Release, End}
-use Rattle.rv_core.specs.Access.{holds, least_held, may_load, may_store}
+use Rattle.rv_core.specs.Access.{is_held, least_held, may_load, may_store}
 use Rattle.rv_core.specs.Place.{code_at, data_at, size_of, is_whole}
 use Rattle.rv_core.specs.Registers.{value_in}
 use Rattle.rv_core.specs.Need.{need_of, fetch_need, word_need, instr_need, jump_need, load_need, store_need, call_need, traps, address_of, jump_target, register_target}
-use Rattle.rv_core.specs.Step.{read_instr, instr_at, after, after_instr, after_load, after_call, with_locks, advanced}
+use Rattle.rv_core.specs.Step.{read_instr, instr_at, after_fetch, after_instr, after_load, after_call, with_locks, advanced}
 use Rattle.rv_core.specs.Kinds.{IsLoad, IsStore, IsAdvance, EndsByFuel, IsAligned, Tells, Allowed}
 
 -- a fact that holds of neither choice doesn't hold of the one that a test takes
@@ -66,7 +66,7 @@ no_call K P t number lock acquire release end =
     neither K (nat_lt 2 number) _ _ (end _)
     (neither K (number == 0) _ _ (neither K (t.held == 0) _ _ (end _) (end _))
     (neither K (nat_le (length P.locks) lock) _ _ (end _)
-    (neither K (number == 1) _ _ (neither K (holds t.held lock) _ _ (end _) (acquire _)) (neither K (holds t.held lock) _ _ (release _) (end _)))))
+    (neither K (number == 1) _ _ (neither K (is_held t.held lock) _ _ (end _) (acquire _)) (neither K (is_held t.held lock) _ _ (release _) (end _)))))
 
 -- a load's instruction is an aligned load, which retires once and keeps what is held
 pub record IsLoading (value : ℕ) (t : TaskState) (i : Option Instr) : Type 0 where
@@ -133,7 +133,7 @@ HasLock P t _ = Unit {0}
 
 -- an instruction that loads nothing and doesn't end the task retires once, and an ECALL among them has a lock of the program
 pub record IsAdvancing (P : ProgramParts) (t : TaskState) (i : Option Instr) : Type 0 where
-  pub retires : (after t i).retired ≡ t.retired + 1
+  pub retires : (after_fetch t i).retired ≡ t.retired + 1
   pub lock : HasLock P t i
 
 call_locks : (P : ProgramParts) (t : TaskState) (number lock : ℕ) → IsAdvance (call_need P t number lock) → lock < length P.locks
@@ -215,9 +215,9 @@ store_tells P d t next whole address (Some v) within same = by_test (may_store d
 -- the tests of an ECALL, each with what it comes to
 call_tells : (P : ProgramParts) (d : TaskDecl) (t : TaskState) (number lock : ℕ) → Tells P d t (after_call t number lock) (call_need P t number lock)
 call_tells P d t number lock =
-    by_tests (nat_lt 2 number) (number == 0) (t.held == 0) (nat_le (length P.locks) lock) (number == 1) (holds t.held lock) refl refl
+    by_tests (nat_lt 2 number) (number == 0) (t.held == 0) (nat_le (length P.locks) lock) (number == 1) (is_held t.held lock) refl refl
   where
-    by_tests : (unknown zero none outside one held : Bool) → nat_le (length P.locks) lock ≡ outside → holds t.held lock ≡ held
+    by_tests : (unknown zero none outside one held : Bool) → nat_le (length P.locks) lock ≡ outside → is_held t.held lock ≡ held
         → Tells P d t (cond one (with_locks t (bit_or t.held (2 ^ lock))) (with_locks t (bit_xor t.held (2 ^ lock))))
         (cond unknown (traps t kind.TheVariants.Call number)
         (cond zero (cond none (End cause.TheVariants.Finished) (traps t kind.TheVariants.HeldEnd (least_held t.held)))
@@ -262,11 +262,11 @@ instr_tells P d t instr.TheVariants.Fence = refl
 instr_tells P d t instr.TheVariants.Ecall = call_tells P d t (slice_index t.regs 17) (slice_index t.regs 10)
 instr_tells P d t instr.TheVariants.Ebreak = tt
 
-word_tells : (P : ProgramParts) (d : TaskDecl) (t : TaskState) (word : ℕ) (i : Option Instr) → Tells P d t (after t i) (word_need P d t word i)
+word_tells : (P : ProgramParts) (d : TaskDecl) (t : TaskState) (word : ℕ) (i : Option Instr) → Tells P d t (after_fetch t i) (word_need P d t word i)
 word_tells P d t word None = tt
 word_tells P d t word (Some i) = instr_tells P d t i
 
-fetch_tells : (P : ProgramParts) (d : TaskDecl) (t : TaskState) (word : Option ℕ) → Tells P d t (after t (read_instr word)) (fetch_need P d t word)
+fetch_tells : (P : ProgramParts) (d : TaskDecl) (t : TaskState) (word : Option ℕ) → Tells P d t (after_fetch t (read_instr word)) (fetch_need P d t word)
 fetch_tells P d t None = tt
 fetch_tells P d t (Some word) = word_tells P d t word (decoded word)
 
@@ -275,7 +275,7 @@ pub need-allowed : (P : ProgramParts) (d : TaskDecl) (fuel : ℕ) (t : TaskState
 unfolding need_of advanced
 need-allowed P d fuel t = by_test (t.retired == fuel)
   where
-    by_test : (b : Bool) → Tells P d t (after t (instr_at P t)) (cond b (End cause.TheVariants.Fuel) (fetch_need P d t (code_at P.code t.pc)))
+    by_test : (b : Bool) → Tells P d t (after_fetch t (instr_at P t)) (cond b (End cause.TheVariants.Fuel) (fetch_need P d t (code_at P.code t.pc)))
     by_test true = tt
     by_test false = fetch_tells P d t (code_at P.code t.pc)
 
@@ -290,7 +290,7 @@ advance_lock P d fuel t i k known call =
 pub advance_retires : (P : ProgramParts) (d : TaskDecl) (fuel : ℕ) (t : TaskState) (i : Instr) → IsAdvance (need_of P d fuel t) → instr_at P t ≡ Some i
     → (after_instr t i).retired ≡ t.retired + 1
 advance_retires P d fuel t i k known =
-    let F : Option Instr → Type 0 = λ o. (after t o).retired ≡ t.retired + 1 in
+    let F : Option Instr → Type 0 = λ o. (after_fetch t o).retired ≡ t.retired + 1 in
     subst F known (advance-tells P d fuel t k).retires
 
 pub load_retires : (P : ProgramParts) (d : TaskDecl) (fuel : ℕ) (t : TaskState) (value : ℕ) (i : Instr) → IsLoad (need_of P d fuel t) → instr_at P t ≡ Some i
@@ -309,7 +309,7 @@ load_some P d fuel t k known =
 
 pub advance_some : (P : ProgramParts) (d : TaskDecl) (fuel : ℕ) (t : TaskState) → IsAdvance (need_of P d fuel t) → instr_at P t ≡ None → ⊥
 advance_some P d fuel t k known =
-    let F : Option Instr → Type 0 = λ o. (after t o).retired ≡ t.retired + 1 in
+    let F : Option Instr → Type 0 = λ o. (after_fetch t o).retired ≡ t.retired + 1 in
     let kept : t.retired ≡ t.retired + 1 = subst F known (advance-tells P d fuel t k).retires in
     omega arith
 
@@ -332,7 +332,7 @@ call_unspent P t number lock =
     (neither EndsByFuel (number == 0) _ _ (neither EndsByFuel (t.held == 0) _ _ (λ x. x) (λ x. x))
     (neither EndsByFuel (nat_le (length P.locks) lock) _ _ (λ x. x)
     (neither EndsByFuel (number == 1) _ _
-    (neither EndsByFuel (holds t.held lock) _ _ (λ x. x) (λ x. x)) (neither EndsByFuel (holds t.held lock) _ _ (λ x. x) (λ x. x)))))
+    (neither EndsByFuel (is_held t.held lock) _ _ (λ x. x) (λ x. x)) (neither EndsByFuel (is_held t.held lock) _ _ (λ x. x) (λ x. x)))))
 
 instr_unspent : (P : ProgramParts) (d : TaskDecl) (t : TaskState) (i : Instr) → EndsByFuel (instr_need P d t i) → ⊥
 instr_unspent P d t (instr.TheVariants.Jal rd offset) k = jump_unspent t (jump_target t offset) k

@@ -6,8 +6,8 @@ use Rattle.region_table.specs.declared.declared.TaskDecl.{TaskDecl}
 use Rattle.region_table.specs.Words.{has}
 
 -- whether a lock is among those that are held, which are the bits of a number
-abbrev pub holds : ℕ → ℕ → Bool
-holds held lock = nat_lt 0 (bit_and held (2 ^ lock))
+abbrev pub is_held : ℕ → ℕ → Bool
+is_held held lock = nat_lt 0 (bit_and held (2 ^ lock))
 
 -- the least lock that is held, which is the place of the lowest bit that is set; 32 where none is
 abbrev pub least_held : ℕ → ℕ
@@ -16,7 +16,7 @@ least_held held = trailing_zeros w32 held
 -- whether the word is in the set of a lock that is held; the first set is that of lock `first`
 abbrev pub under : List (List Interval) → ℕ → ℕ → ℕ → Bool
 under [] first held w = false
-under (s ∷ ss) first held w = (holds held first && has s w) || under ss (first + 1) held w
+under (s ∷ ss) first held w = (is_held held first && has s w) || under ss (first + 1) held w
 
 -- what the task may load: the words that it reads or writes, and those that a lock in its hands guards for either
 abbrev pub may_load : TaskDecl → ℕ → ℕ → Bool

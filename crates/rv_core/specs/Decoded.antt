@@ -9,10 +9,10 @@ abbrev pub IsDecoded : ProgramParts → List (Option Instr) → Type 0
 IsDecoded P instrs = instrs ≡ map decoded P.code
 
 -- an entry of a list of instructions; None behind its end
-abbrev pub entry_of : Option (Option Instr) → Option Instr
-entry_of None = None
-entry_of (Some instr) = instr
+abbrev pub decoded_entry : Option (Option Instr) → Option Instr
+decoded_entry None = None
+decoded_entry (Some instr) = instr
 
 -- the instruction at an address
 abbrev pub found_at : List (Option Instr) → ℕ → Option Instr
-found_at instrs pc = if nat_le 0x1000 pc && pc % 4 == 0 then entry_of (slice_get instrs ((pc - 0x1000) / 4)) else None
+found_at instrs pc = if nat_le 0x1000 pc && pc % 4 == 0 then decoded_entry (slice_get instrs ((pc - 0x1000) / 4)) else None

@@ -8,7 +8,7 @@ use Rattle.rv_core.specs.declared.task.TaskState.{TaskState}
 use Rattle.rv_core.specs.declared.task.End as cause
 use Rattle.rv_core.specs.declared.need.Need.{Need}
 use Rattle.rv_core.specs.declared.need.Need.TheVariants.{Local, Load, Store, Acquire, Release, End}
-use Rattle.rv_core.specs.Access.{holds, may_load, may_store}
+use Rattle.rv_core.specs.Access.{is_held, may_load, may_store}
 use Rattle.rv_core.specs.Need.{address_of}
 use Rattle.rv_core.specs.Place.{size_of}
 use Rattle.rv_core.specs.Step.{advanced}
@@ -41,9 +41,9 @@ Tells P d t next (Load word) = (word.0 < length P.memory) × (may_load d t.held 
 Tells P d t next (Store word whole) =
     (word.0 < length P.memory) × (may_store d t.held word.0 ≡ true) × (next.held ≡ t.held)
 Tells P d t next (Acquire lock) =
-    (lock.0 < length P.locks) × (holds t.held lock.0 ≡ false) × (next.held ≡ bit_or t.held (2 ^ lock.0))
+    (lock.0 < length P.locks) × (is_held t.held lock.0 ≡ false) × (next.held ≡ bit_or t.held (2 ^ lock.0))
 Tells P d t next (Release lock) =
-    (lock.0 < length P.locks) × (holds t.held lock.0 ≡ true) × (next.held ≡ bit_xor t.held (2 ^ lock.0))
+    (lock.0 < length P.locks) × (is_held t.held lock.0 ≡ true) × (next.held ≡ bit_xor t.held (2 ^ lock.0))
 Tells P d t next (End cause) = Unit {0}
 
 -- the locks that are held once the instruction of a need has retired

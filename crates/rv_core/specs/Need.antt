@@ -14,7 +14,7 @@ use Rattle.rv_core.specs.declared.task.TrapKind as kind
 use Rattle.rv_core.specs.declared.task.TrapKind.{TrapKind}
 use Rattle.rv_core.specs.declared.need.Need.{Need}
 use Rattle.rv_core.specs.declared.need.Need.TheVariants.{Local, Load, Store, Acquire, Release, End}
-use Rattle.rv_core.specs.Access.{holds, least_held, may_load, may_store}
+use Rattle.rv_core.specs.Access.{is_held, least_held, may_load, may_store}
 use Rattle.rv_core.specs.Place.{code_at, data_at, size_of, is_whole}
 use Rattle.rv_core.specs.Registers.{value_in}
 
@@ -60,8 +60,8 @@ call_need P t number lock =
     if nat_lt 2 number then traps t kind.TheVariants.Call number
     else if number == 0 then (if t.held == 0 then End cause.TheVariants.Finished else traps t kind.TheVariants.HeldEnd (least_held t.held))
     else if nat_le (length P.locks) lock then traps t kind.TheVariants.NoLock lock
-    else if number == 1 then (if holds t.held lock then traps t kind.TheVariants.Held lock else Acquire (record { 0 = lock }))
-    else (if holds t.held lock then Release (record { 0 = lock }) else traps t kind.TheVariants.NotHeld lock)
+    else if number == 1 then (if is_held t.held lock then traps t kind.TheVariants.Held lock else Acquire (record { 0 = lock }))
+    else (if is_held t.held lock then Release (record { 0 = lock }) else traps t kind.TheVariants.NotHeld lock)
 
 -- what an instruction needs
 abbrev pub instr_need : ProgramParts → TaskDecl → TaskState → Instr → Need

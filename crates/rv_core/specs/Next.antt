@@ -13,9 +13,9 @@ abbrev pub instr_within : ProgramParts → ℕ → TaskState → Option Instr
 instr_within P fuel t = if t.retired == fuel then None else instr_at P t
 
 -- what the next instruction needs, and the instruction
-abbrev pub next_of : ProgramParts → TaskDecl → ℕ → TaskState → Next
-next_of P d fuel t = record { need = need_of P d fuel t; instr = instr_within P fuel t }
+abbrev pub next_found : ProgramParts → TaskDecl → ℕ → TaskState → Next
+next_found P d fuel t = record { need = need_of P d fuel t; instr = instr_within P fuel t }
 
 -- a look is the one at this state's next instruction
 abbrev pub IsNextOf : ProgramParts → TaskDecl → ℕ → TaskState → Next → Type 0
-IsNextOf P d fuel t next = next ≡ next_of P d fuel t
+IsNextOf P d fuel t next = next ≡ next_found P d fuel t

@@ -24,12 +24,12 @@ abbrev pub next_pc : TaskState → ℕ
 next_pc t = (t.pc + 4) % 2 ^ 32
 
 -- the instruction retires: a value goes to a register, and the task goes on at an address
-abbrev pub retires : TaskState → ℕ → ℕ → ℕ → TaskState
-retires t rd value pc = record t { regs = with_value t.regs rd value; pc = pc; retired = t.retired + 1 }
+abbrev pub with_result : TaskState → ℕ → ℕ → ℕ → TaskState
+with_result t rd value pc = record t { regs = with_value t.regs rd value; pc = pc; retired = t.retired + 1 }
 
 -- the instruction retires and writes no register
-abbrev pub goes_to : TaskState → ℕ → TaskState
-goes_to t pc = record t { pc = pc; retired = t.retired + 1 }
+abbrev pub jumped_to : TaskState → ℕ → TaskState
+jumped_to t pc = record t { pc = pc; retired = t.retired + 1 }
 
 -- the instruction retires, and these locks are held then
 abbrev pub with_locks : TaskState → ℕ → TaskState
@@ -42,32 +42,32 @@ after_call t number lock =
 
 -- what an instruction that loads nothing does
 abbrev pub after_instr : TaskState → Instr → TaskState
-after_instr t (Lui rd imm) = retires t rd (imm * 4096 % 2 ^ 32) (next_pc t)
-after_instr t (Auipc rd imm) = retires t rd ((t.pc + imm * 4096) % 2 ^ 32) (next_pc t)
-after_instr t (Jal rd offset) = retires t rd (next_pc t) (jump_target t offset)
-after_instr t (Jalr rd base offset) = retires t rd (next_pc t) (register_target t base offset)
+after_instr t (Lui rd imm) = with_result t rd (imm * 4096 % 2 ^ 32) (next_pc t)
+after_instr t (Auipc rd imm) = with_result t rd ((t.pc + imm * 4096) % 2 ^ 32) (next_pc t)
+after_instr t (Jal rd offset) = with_result t rd (next_pc t) (jump_target t offset)
+after_instr t (Jalr rd base offset) = with_result t rd (next_pc t) (register_target t base offset)
 after_instr t (Branch test a b offset) =
-    goes_to t (if taken_of test (value_in t.regs a) (value_in t.regs b) then jump_target t offset else next_pc t)
+    jumped_to t (if taken_of test (value_in t.regs a) (value_in t.regs b) then jump_target t offset else next_pc t)
 after_instr t (Load width rd base offset) = t
-after_instr t (Store width src base offset) = goes_to t (next_pc t)
-after_instr t (OpImm op rd a imm) = retires t rd (alu_of op (value_in t.regs a) (pattern imm)) (next_pc t)
-after_instr t (Op op rd a b) = retires t rd (alu_of op (value_in t.regs a) (value_in t.regs b)) (next_pc t)
-after_instr t Fence = goes_to t (next_pc t)
+after_instr t (Store width src base offset) = jumped_to t (next_pc t)
+after_instr t (OpImm op rd a imm) = with_result t rd (alu_of op (value_in t.regs a) (pattern imm)) (next_pc t)
+after_instr t (Op op rd a b) = with_result t rd (alu_of op (value_in t.regs a) (value_in t.regs b)) (next_pc t)
+after_instr t Fence = jumped_to t (next_pc t)
 after_instr t Ecall = after_call t (slice_index t.regs 17) (slice_index t.regs 10)
 after_instr t Ebreak = t
 
-abbrev pub after : TaskState → Option Instr → TaskState
-after t None = t
-after t (Some i) = after_instr t i
+abbrev pub after_fetch : TaskState → Option Instr → TaskState
+after_fetch t None = t
+after_fetch t (Some i) = after_instr t i
 
 -- the state once the next instruction, which loads nothing, has retired
 unfoldable pub advanced : ProgramParts → TaskState → TaskState
-advanced P t = after t (instr_at P t)
+advanced P t = after_fetch t (instr_at P t)
 
 -- a load puts its part of the word's value into its register
 abbrev pub after_load : TaskState → ℕ → Option Instr → TaskState
 after_load t value (Some (Load width rd base offset)) =
-    retires t rd (extended width value (address_of t base offset % 4)) (next_pc t)
+    with_result t rd (extended width value (address_of t base offset % 4)) (next_pc t)
 after_load t value _ = t
 
 -- the state once the next instruction, a load of a word with this value, has retired

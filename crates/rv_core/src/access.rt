@@ -1,5 +1,5 @@
 ghost use Rattle.std.specs.Prelude.{◌≡◌, ◌<◌, ◌≤◌, length};
-ghost use Rattle.rv_core.specs.Access.{holds, least_held, under, may_load, may_store};
+ghost use Rattle.rv_core.specs.Access.{is_held, least_held, under, may_load, may_store};
 
 use dn_base::WordId;
 use region_table::{TaskDecl, WordSet};
@@ -7,7 +7,7 @@ use region_table::{TaskDecl, WordSet};
 /// Whether a lock is among those that are held.
 pub(crate) fn is_held(held: u32, lock: u32) -> bool
     requires { lock < 32 }
-    ensures { result ≡ holds held lock }
+    ensures { result ≡ is_held held lock }
 {
     held & (1 << lock) != 0
 }

@@ -6,7 +6,7 @@ ghost use Rattle.region_table.specs.declared.declared.TaskDecl.{TaskDecl};
 ghost use Rattle.rv_core.specs.declared.task.TaskState.{TaskState};
 ghost use Rattle.rv_core.specs.declared.task.End.TheVariants.{Finished};
 ghost use Rattle.rv_core.specs.declared.need.Need.TheVariants.{Store, End as Ends};
-ghost use Rattle.rv_core.specs.Access.{holds};
+ghost use Rattle.rv_core.specs.Access.{is_held};
 ghost use Rattle.rv_core.specs.Need.{need_of};
 ghost use Rattle.rv_core.specs.Step.{merged_of};
 
@@ -19,8 +19,8 @@ pub fn a_whole_store_leaves_the_same_over_any_word()
 /// An acquired lock is held beside those that were; a released one, which was held, is held no longer, and each other one as
 /// it was.
 pub fn a_call_changes_one_lock()
-    ensures acquired { (held lock other : ℕ) → holds (bit_or held (2 ^ lock)) other ≡ ((other == lock) || holds held other) }
-    ensures released { (held lock other : ℕ) → holds held lock ≡ true → holds (bit_xor held (2 ^ lock)) other ≡ (not (other == lock) && holds held other) }
+    ensures acquired { (held lock other : ℕ) → is_held (bit_or held (2 ^ lock)) other ≡ ((other == lock) || is_held held other) }
+    ensures released { (held lock other : ℕ) → is_held held lock ≡ true → is_held (bit_xor held (2 ^ lock)) other ≡ (not (other == lock) && is_held held other) }
 {}
 
 /// A task that finishes holds no lock.

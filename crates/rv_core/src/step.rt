@@ -3,7 +3,7 @@ ghost use Rattle.rv_isa.specs.Meaning.{taken_of};
 ghost use Rattle.rv_isa.specs.declared.instr.Instr.TheVariants.{Ecall};
 ghost use Rattle.rv_core.specs.Registers.{value_in};
 ghost use Rattle.rv_core.specs.Need.{need_of, jump_target};
-ghost use Rattle.rv_core.specs.Step.{instr_at, next_pc, retires, goes_to, after_call, after_instr, after_load, after_store, advanced, loaded_of, merged_of};
+ghost use Rattle.rv_core.specs.Step.{instr_at, next_pc, with_result, jumped_to, after_call, after_instr, after_load, after_store, advanced, loaded_of, merged_of};
 ghost use Rattle.rv_core.specs.Kinds.{IsLoad, IsStore, IsAdvance, IsAligned, KeepsOthers};
 ghost use Rattle.rv_core.specs.Next.{IsNextOf};
 
@@ -36,7 +36,7 @@ impl TaskState {
     /// The instruction retires, and the task goes on at `pc`.
     fn go(&mut self, pc: u32)
         requires { self.old.retired < 4294967295 }
-        ensures { self.new ≡ goes_to self.old pc }
+        ensures { self.new ≡ jumped_to self.old pc }
     {
         self.pc = pc;
         self.retired += 1;
@@ -45,7 +45,7 @@ impl TaskState {
     /// The instruction retires: the value goes to the register, and the task goes on at `pc`.
     fn retire(&mut self, rd: Reg, value: u32, pc: u32)
         requires { self.old.retired < 4294967295 }
-        ensures { self.new ≡ retires self.old rd value pc }
+        ensures { self.new ≡ with_result self.old rd value pc }
     {
         write(&mut self.regs, rd, value);
         self.go(pc);

@@ -3,8 +3,8 @@ use Rattle.std.proofs.Common.{◌≡◌, ℕ, ◌^◌, ◌<◌, ℤ, Bool, true,
 use Rattle.std.specs.Prelude.{Some}
 use Rattle.rv_isa.specs.Word.{bits}
 use Rattle.rv_isa.specs.Table.{branch_funct3, width_funct3, alu_funct3, alu_funct7, is_shift}
-use Rattle.rv_isa.specs.Row.{IsImmediate, IsRow}
-use Rattle.rv_isa.specs.Range.{IsOperand, Fits, HasRegisters}
+use Rattle.rv_isa.specs.Row.{IsImmediate, IsWordOf}
+use Rattle.rv_isa.specs.Range.{IsOperand, IsEncodable, HasRegisters}
 use Rattle.rv_isa.specs.Encoding.{decoded, encoded}
 use Rattle.rv_isa.proofs.WordLemmas.{bits-below-5}
 use Rattle.rv_isa.proofs.RowLemmas.{row-decoded, decoded-row}
@@ -55,7 +55,7 @@ row-encoded_immediate true op d a imm shift hd ha fits =
 row-encoded_immediate false op d a imm shift hd ha fits =
     rw shift (i-made _ _ _ _ _ (omega arith) (alu_functs-below op).0 hd ha fits)
 
-pub row-encoded : (i : Instr) → HasRegisters i → Fits i → IsRow i (encoded i)
+pub row-encoded : (i : Instr) → HasRegisters i → IsEncodable i → IsWordOf i (encoded i)
 unfolding encoded
 row-encoded (Lui d imm) regs fits = u-made _ _ _ (omega arith) regs fits
 row-encoded (Auipc d imm) regs fits = u-made _ _ _ (omega arith) regs fits
@@ -82,7 +82,7 @@ unfolding encoded
 encoded-row_immediate true op d a imm w shift h r = rw shift (shift-makes _ _ _ _ _ _ _ h r)
 encoded-row_immediate false op d a imm w shift h r = rw shift (i-makes _ _ _ _ _ _ h r)
 
-pub encoded-row : (i : Instr) (w : ℕ) → w < 2 ^ 32 → IsRow i w → (i ≡ Fence) ⊎ (encoded i ≡ w)
+pub encoded-row : (i : Instr) (w : ℕ) → w < 2 ^ 32 → IsWordOf i w → (i ≡ Fence) ⊎ (encoded i ≡ w)
 unfolding encoded
 encoded-row (Lui d imm) w h r = inr (u-makes _ _ _ w h r)
 encoded-row (Auipc d imm) w h r = inr (u-makes _ _ _ w h r)
@@ -103,7 +103,7 @@ Fits-row_immediate : (b : Bool) (op : AluOp) (d a : ℕ) (imm : ℤ) (w : ℕ) �
 Fits-row_immediate true op d a imm w r = shift-fits _ _ _ _ _ _ w r
 Fits-row_immediate false op d a imm w r = i-fits _ _ _ _ _ w r
 
-pub Fits-row : (i : Instr) (w : ℕ) → IsRow i w → Fits i
+pub Fits-row : (i : Instr) (w : ℕ) → IsWordOf i w → IsEncodable i
 Fits-row (Lui d imm) w r = u-fits _ _ _ w r
 Fits-row (Auipc d imm) w r = u-fits _ _ _ w r
 Fits-row (Jal d offset) w r = j-fits _ _ _ w r
@@ -125,7 +125,7 @@ HasRegisters-row_immediate : (b : Bool) (op : AluOp) (d a : ℕ) (imm : ℤ) (w 
 HasRegisters-row_immediate true op d a imm w r = (at d w 7 r.has_rd, at a w 15 r.has_rs1)
 HasRegisters-row_immediate false op d a imm w r = (at d w 7 r.has_rd, at a w 15 r.has_rs1)
 
-pub HasRegisters-row : (i : Instr) (w : ℕ) → IsRow i w → HasRegisters i
+pub HasRegisters-row : (i : Instr) (w : ℕ) → IsWordOf i w → HasRegisters i
 HasRegisters-row (Lui d imm) w r = at d w 7 r.has_rd
 HasRegisters-row (Auipc d imm) w r = at d w 7 r.has_rd
 HasRegisters-row (Jal d offset) w r = at d w 7 r.has_rd
@@ -141,14 +141,14 @@ HasRegisters-row Ebreak w r = tt
 
 -- ---- the laws, over the functions alone
 
-pub decoded-encoded : (i : Instr) → HasRegisters i → Fits i → decoded (encoded i) ≡ Some i
+pub decoded-encoded : (i : Instr) → HasRegisters i → IsEncodable i → decoded (encoded i) ≡ Some i
 decoded-encoded i regs fits = row-decoded i (encoded i) (row-encoded i regs fits)
 
 pub encoded-decoded : (w : ℕ) (i : Instr) → w < 2 ^ 32 → decoded w ≡ Some i → (i ≡ Fence) ⊎ (encoded i ≡ w)
 encoded-decoded w i h e = encoded-row i w h (decoded-row w i e)
 
 -- two instructions with one word are equal
-pub encoded-unique : (i j : Instr) → HasRegisters i → Fits i → HasRegisters j → Fits j → encoded i ≡ encoded j → i ≡ j
+pub encoded-unique : (i j : Instr) → HasRegisters i → IsEncodable i → HasRegisters j → IsEncodable j → encoded i ≡ encoded j → i ≡ j
 encoded-unique i j ri fi rj fj e =
     let left = decoded-encoded i ri fi in
     let right = decoded-encoded j rj fj in

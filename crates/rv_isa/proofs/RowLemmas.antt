@@ -3,8 +3,8 @@ use Rattle.std.proofs.Common.{◌≡◌, ℕ, ℤ, Bool, true, false, cond, not,
 use Rattle.std.specs.Prelude.{Option, Some, None, option_map, find, IsTrue, ◌==◌}
 use Rattle.std.proofs.lemmas.Bool.{eqb-true, and_parts}
 use Rattle.rv_isa.specs.Word.{bits}
-use Rattle.rv_isa.specs.Table.{branch_funct3, width_funct3, alu_funct3, alu_funct7, is_shift, has_immediate, is_stored, conds, widths, alu_ops, cond_of, load_of, store_of, op_of, op_imm_of}
-use Rattle.rv_isa.specs.Row.{opcode, rd, funct3, rs1, funct7, IsImmediate, IsRow}
+use Rattle.rv_isa.specs.Table.{branch_funct3, width_funct3, alu_funct3, alu_funct7, is_shift, has_immediate, is_stored, conds, widths, alu_ops, cond_of, load_width, store_width, op_of, op_imm_of}
+use Rattle.rv_isa.specs.Row.{opcode, rd, funct3, rs1, funct7, IsImmediate, IsWordOf}
 use Rattle.rv_isa.specs.Encoding.{operation_imm, decoded}
 use Rattle.rv_isa.specs.declared.instr.AluOp.{AluOp}
 use Rattle.rv_isa.specs.declared.instr.AluOp.TheVariants.{Add, Sub, Sll, Slt, Sltu, Xor, Srl, Sra, Or, And}
@@ -24,14 +24,14 @@ cond_of-branch_funct3 Ge = refl
 cond_of-branch_funct3 Ltu = refl
 cond_of-branch_funct3 Geu = refl
 
-load_of-width_funct3 : (width : Width) → load_of (width_funct3 width) ≡ Some width
+load_of-width_funct3 : (width : Width) → load_width (width_funct3 width) ≡ Some width
 load_of-width_funct3 B = refl
 load_of-width_funct3 H = refl
 load_of-width_funct3 W = refl
 load_of-width_funct3 Bu = refl
 load_of-width_funct3 Hu = refl
 
-store_of-width_funct3 : (width : Width) → IsTrue (is_stored width) → store_of (width_funct3 width) ≡ Some width
+store_of-width_funct3 : (width : Width) → IsTrue (is_stored width) → store_width (width_funct3 width) ≡ Some width
 store_of-width_funct3 B h = refl
 store_of-width_funct3 H h = refl
 store_of-width_funct3 W h = refl
@@ -83,7 +83,7 @@ row-decoded_immediate true op d a imm w shift has r =
 row-decoded_immediate false op d a imm w shift has r =
     rw (r.has_opcode, r.has_funct3, op_imm_of-other op (funct7 w) has shift, shift, r.has_rd, r.has_rs1, r.has_imm) refl
 
-pub row-decoded : (i : Instr) (w : ℕ) → IsRow i w → decoded w ≡ Some i
+pub row-decoded : (i : Instr) (w : ℕ) → IsWordOf i w → decoded w ≡ Some i
 unfolding decoded
 row-decoded (Lui d imm) w r = rw (r.has_opcode, r.has_rd, r.has_imm) refl
 row-decoded (Auipc d imm) w r = rw (r.has_opcode, r.has_rd, r.has_imm) refl
@@ -125,10 +125,10 @@ find-passes test (y ∷ ys) x e =
 is_conditional : (w : ℕ) (c : Cond) → cond_of (funct3 w) ≡ Some c → funct3 w ≡ branch_funct3 c
 is_conditional w c e = sym (eqb-true _ _ (find-passes (λ d. branch_funct3 d == funct3 w) conds c e))
 
-is_load : (w : ℕ) (width : Width) → load_of (funct3 w) ≡ Some width → funct3 w ≡ width_funct3 width
+is_load : (w : ℕ) (width : Width) → load_width (funct3 w) ≡ Some width → funct3 w ≡ width_funct3 width
 is_load w width e = sym (eqb-true _ _ (find-passes (λ d. width_funct3 d == funct3 w) widths width e))
 
-is_store : (w : ℕ) (width : Width) → store_of (funct3 w) ≡ Some width → IsTrue (is_stored width) × (funct3 w ≡ width_funct3 width)
+is_store : (w : ℕ) (width : Width) → store_width (funct3 w) ≡ Some width → IsTrue (is_stored width) × (funct3 w ≡ width_funct3 width)
 is_store w width e =
     let both = and_parts (is_stored width) (width_funct3 width == funct3 w) (find-passes (λ d. is_stored d && width_funct3 d == funct3 w) widths width e) in
     (both.0, sym (eqb-true _ _ both.1))
@@ -155,7 +155,7 @@ is_immediate false op w shift code f3 f7 = record {
   has_imm = rw shift refl;
 }
 
-is_operation_imm : (w : ℕ) (op : AluOp) → opcode w ≡ 0b0010011 → op_imm_of (funct3 w) (funct7 w) ≡ Some op → IsRow (OpImm op (rd w) (rs1 w) (operation_imm op w)) w
+is_operation_imm : (w : ℕ) (op : AluOp) → opcode w ≡ 0b0010011 → op_imm_of (funct3 w) (funct7 w) ≡ Some op → IsWordOf (OpImm op (rd w) (rs1 w) (operation_imm op w)) w
 is_operation_imm w op code e =
     let all = and_parts (has_immediate op && alu_funct3 op == funct3 w) (not (is_shift op) || alu_funct7 op == funct7 w) (find-passes (λ o. has_immediate o && alu_funct3 o == funct3 w && (not (is_shift o) || alu_funct7 o == funct7 w)) alu_ops op e) in
     let both = and_parts (has_immediate op) (alu_funct3 op == funct3 w) all.0 in
@@ -165,23 +165,23 @@ is_operation_imm w op code e =
 decoded-at : {P : Type 0} (w code : ℕ) (x y : Option Instr) (i : Instr) → cond (opcode w == code) x y ≡ Some i → (opcode w ≡ code → x ≡ Some i → P) → (y ≡ Some i → P) → P
 decoded-at w code x y i e f g = from_cond (opcode w == code) x y i e (λ t. f (eqb-true _ _ t)) g
 
-decoded-row_system : (w : ℕ) (i : Instr) → cond (w == 0x00000073) (Some Ecall) (cond (w == 0x00100073) (Some Ebreak) None) ≡ Some i → IsRow i w
+decoded-row_system : (w : ℕ) (i : Instr) → cond (w == 0x00000073) (Some Ecall) (cond (w == 0x00100073) (Some Ebreak) None) ≡ Some i → IsWordOf i w
 decoded-row_system w i e =
-    let goal : Instr → Type 0 = λ j. IsRow j w in
+    let goal : Instr → Type 0 = λ j. IsWordOf j w in
     from_cond (w == 0x00000073) _ _ i e (λ t same. from_some goal Ecall i same (eqb-true _ _ t)) (λ e2.
     from_cond (w == 0x00100073) _ _ i e2 (λ t same. from_some goal Ebreak i same (eqb-true _ _ t)) (λ no. cc))
 
-pub decoded-row : (w : ℕ) (i : Instr) → decoded w ≡ Some i → IsRow i w
+pub decoded-row : (w : ℕ) (i : Instr) → decoded w ≡ Some i → IsWordOf i w
 unfolding decoded
 decoded-row w i e0 =
-    let goal : Instr → Type 0 = λ j. IsRow j w in
+    let goal : Instr → Type 0 = λ j. IsWordOf j w in
     decoded-at w 0b0110111 _ _ i e0 (λ code same. from_some goal _ i same (record { has_opcode = code; has_rd = refl; has_imm = refl })) (λ e1.
     decoded-at w 0b0010111 _ _ i e1 (λ code same. from_some goal _ i same (record { has_opcode = code; has_rd = refl; has_imm = refl })) (λ e2.
     decoded-at w 0b1101111 _ _ i e2 (λ code same. from_some goal _ i same (record { has_opcode = code; has_rd = refl; has_imm = refl })) (λ e3.
     decoded-at w 0b1100111 _ _ i e3 (λ code one. from_cond (funct3 w == 0b000) _ _ i one (λ t same. from_some goal _ i same (record { has_opcode = code; has_funct3 = eqb-true _ _ t; has_rd = refl; has_rs1 = refl; has_imm = refl })) (λ no. cc)) (λ e4.
     decoded-at w 0b1100011 _ _ i e4 (λ code some. from_map goal _ (cond_of (funct3 w)) i some (λ c is. record { has_opcode = code; has_funct3 = is_conditional w c is; has_rs1 = refl; has_rs2 = refl; has_imm = refl })) (λ e5.
-    decoded-at w 0b0000011 _ _ i e5 (λ code some. from_map goal _ (load_of (funct3 w)) i some (λ width is. record { has_opcode = code; has_funct3 = is_load w width is; has_rd = refl; has_rs1 = refl; has_imm = refl })) (λ e6.
-    decoded-at w 0b0100011 _ _ i e6 (λ code some. from_map goal _ (store_of (funct3 w)) i some (λ width is. ((is_store w width is).0, record { has_opcode = code; has_funct3 = (is_store w width is).1; has_rs1 = refl; has_rs2 = refl; has_imm = refl }))) (λ e7.
+    decoded-at w 0b0000011 _ _ i e5 (λ code some. from_map goal _ (load_width (funct3 w)) i some (λ width is. record { has_opcode = code; has_funct3 = is_load w width is; has_rd = refl; has_rs1 = refl; has_imm = refl })) (λ e6.
+    decoded-at w 0b0100011 _ _ i e6 (λ code some. from_map goal _ (store_width (funct3 w)) i some (λ width is. ((is_store w width is).0, record { has_opcode = code; has_funct3 = (is_store w width is).1; has_rs1 = refl; has_rs2 = refl; has_imm = refl }))) (λ e7.
     decoded-at w 0b0010011 _ _ i e7 (λ code some. from_map goal _ (op_imm_of (funct3 w) (funct7 w)) i some (λ op is. is_operation_imm w op code is)) (λ e8.
     decoded-at w 0b0110011 _ _ i e8 (λ code some. from_map goal _ (op_of (funct3 w) (funct7 w)) i some (λ op is. record { has_opcode = code; has_funct3 = (is_operation w op is).0; has_funct7 = (is_operation w op is).1; has_rd = refl; has_rs1 = refl; has_rs2 = refl })) (λ e9.
     decoded-at w 0b0001111 _ _ i e9 (λ code one. from_cond (funct3 w == 0b000) _ _ i one (λ t same. from_some goal Fence i same (code, eqb-true _ _ t)) (λ no. cc)) (λ e10. decoded-row_system w i e10))))))))))

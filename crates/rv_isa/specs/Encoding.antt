@@ -1,7 +1,7 @@
 -- The word of an instruction, and the instruction of a word, as functions.
 use Rattle.std.specs.Prelude.{ℕ, ◌+◌, ◌*◌, ◌^◌, ℤ, pos, Option, Some, None, option_map, ◌==◌, if◌then◌else◌}
 use Rattle.rv_isa.specs.Word.{bits, pattern, imm_i, imm_s, imm_b, imm_u, imm_j}
-use Rattle.rv_isa.specs.Table.{branch_funct3, width_funct3, alu_funct3, alu_funct7, is_shift, cond_of, load_of, store_of, op_of, op_imm_of}
+use Rattle.rv_isa.specs.Table.{branch_funct3, width_funct3, alu_funct3, alu_funct7, is_shift, cond_of, load_width, store_width, op_of, op_imm_of}
 use Rattle.rv_isa.specs.Row.{opcode, rd, funct3, rs1, rs2, funct7}
 use Rattle.rv_isa.specs.declared.instr.AluOp.{AluOp}
 use Rattle.rv_isa.specs.declared.instr.Instr.{Instr}
@@ -57,8 +57,8 @@ decoded w =
     else if opcode w == 0b1101111 then Some (Jal (rd w) (imm_j w))
     else if opcode w == 0b1100111 then (if funct3 w == 0b000 then Some (Jalr (rd w) (rs1 w) (imm_i w)) else None)
     else if opcode w == 0b1100011 then option_map (λ c. Branch c (rs1 w) (rs2 w) (imm_b w)) (cond_of (funct3 w))
-    else if opcode w == 0b0000011 then option_map (λ width. Load width (rd w) (rs1 w) (imm_i w)) (load_of (funct3 w))
-    else if opcode w == 0b0100011 then option_map (λ width. Store width (rs2 w) (rs1 w) (imm_s w)) (store_of (funct3 w))
+    else if opcode w == 0b0000011 then option_map (λ width. Load width (rd w) (rs1 w) (imm_i w)) (load_width (funct3 w))
+    else if opcode w == 0b0100011 then option_map (λ width. Store width (rs2 w) (rs1 w) (imm_s w)) (store_width (funct3 w))
     else if opcode w == 0b0010011 then option_map (λ op. OpImm op (rd w) (rs1 w) (operation_imm op w)) (op_imm_of (funct3 w) (funct7 w))
     else if opcode w == 0b0110011 then option_map (λ op. Op op (rd w) (rs1 w) (rs2 w)) (op_of (funct3 w) (funct7 w))
     else if opcode w == 0b0001111 then (if funct3 w == 0b000 then Some Fence else None)

@@ -26,19 +26,19 @@ IsOperand true z = IsAmount z
 IsOperand false z = IsSigned 12 z
 
 -- the instruction has an encoding
-abbrev pub Fits : Instr → Type 0
-Fits (Lui d imm) = imm < 2 ^ 20
-Fits (Auipc d imm) = imm < 2 ^ 20
-Fits (Jal d offset) = IsOffset 21 offset
-Fits (Jalr d base offset) = IsSigned 12 offset
-Fits (Branch c a b offset) = IsOffset 13 offset
-Fits (Load width d base offset) = IsSigned 12 offset
-Fits (Store width src base offset) = IsTrue (is_stored width) × IsSigned 12 offset
-Fits (OpImm op d a imm) = IsTrue (has_immediate op) × IsOperand (is_shift op) imm
-Fits (Op op d a b) = Unit {0}
-Fits Fence = Unit {0}
-Fits Ecall = Unit {0}
-Fits Ebreak = Unit {0}
+abbrev pub IsEncodable : Instr → Type 0
+IsEncodable (Lui d imm) = imm < 2 ^ 20
+IsEncodable (Auipc d imm) = imm < 2 ^ 20
+IsEncodable (Jal d offset) = IsOffset 21 offset
+IsEncodable (Jalr d base offset) = IsSigned 12 offset
+IsEncodable (Branch c a b offset) = IsOffset 13 offset
+IsEncodable (Load width d base offset) = IsSigned 12 offset
+IsEncodable (Store width src base offset) = IsTrue (is_stored width) × IsSigned 12 offset
+IsEncodable (OpImm op d a imm) = IsTrue (has_immediate op) × IsOperand (is_shift op) imm
+IsEncodable (Op op d a b) = Unit {0}
+IsEncodable Fence = Unit {0}
+IsEncodable Ecall = Unit {0}
+IsEncodable Ebreak = Unit {0}
 
 -- every register of the instruction is one of x0 to x31, as in each value of the type `Instr`
 abbrev pub HasRegisters : Instr → Type 0

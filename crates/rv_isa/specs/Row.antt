@@ -79,16 +79,16 @@ IsImmediate true op d a imm w = IsShift 0b0010011 (alu_funct3 op) (alu_funct7 op
 IsImmediate false op d a imm w = IsI 0b0010011 (alu_funct3 op) d a imm w
 
 -- w is a word of the instruction
-abbrev pub IsRow : Instr → ℕ → Type 0
-IsRow (Lui d imm) w = IsU 0b0110111 d imm w
-IsRow (Auipc d imm) w = IsU 0b0010111 d imm w
-IsRow (Jal d offset) w = IsJ 0b1101111 d offset w
-IsRow (Jalr d base offset) w = IsI 0b1100111 0b000 d base offset w
-IsRow (Branch c a b offset) w = IsB 0b1100011 (branch_funct3 c) a b offset w
-IsRow (Load width d base offset) w = IsI 0b0000011 (width_funct3 width) d base offset w
-IsRow (Store width src base offset) w = IsTrue (is_stored width) × IsS 0b0100011 (width_funct3 width) base src offset w
-IsRow (OpImm op d a imm) w = IsTrue (has_immediate op) × IsImmediate (is_shift op) op d a imm w
-IsRow (Op op d a b) w = IsR 0b0110011 (alu_funct3 op) (alu_funct7 op) d a b w
-IsRow Fence w = (opcode w ≡ 0b0001111) × (funct3 w ≡ 0b000)
-IsRow Ecall w = w ≡ 0x00000073
-IsRow Ebreak w = w ≡ 0x00100073
+abbrev pub IsWordOf : Instr → ℕ → Type 0
+IsWordOf (Lui d imm) w = IsU 0b0110111 d imm w
+IsWordOf (Auipc d imm) w = IsU 0b0010111 d imm w
+IsWordOf (Jal d offset) w = IsJ 0b1101111 d offset w
+IsWordOf (Jalr d base offset) w = IsI 0b1100111 0b000 d base offset w
+IsWordOf (Branch c a b offset) w = IsB 0b1100011 (branch_funct3 c) a b offset w
+IsWordOf (Load width d base offset) w = IsI 0b0000011 (width_funct3 width) d base offset w
+IsWordOf (Store width src base offset) w = IsTrue (is_stored width) × IsS 0b0100011 (width_funct3 width) base src offset w
+IsWordOf (OpImm op d a imm) w = IsTrue (has_immediate op) × IsImmediate (is_shift op) op d a imm w
+IsWordOf (Op op d a b) w = IsR 0b0110011 (alu_funct3 op) (alu_funct7 op) d a b w
+IsWordOf Fence w = (opcode w ≡ 0b0001111) × (funct3 w ≡ 0b000)
+IsWordOf Ecall w = w ≡ 0x00000073
+IsWordOf Ebreak w = w ≡ 0x00100073

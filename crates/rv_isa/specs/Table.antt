@@ -100,11 +100,11 @@ alu_ops =
 abbrev pub cond_of : ℕ → Option Cond
 cond_of funct3 = find (λ c. branch_funct3 c == funct3) conds
 
-abbrev pub load_of : ℕ → Option Width
-load_of funct3 = find (λ width. width_funct3 width == funct3) widths
+abbrev pub load_width : ℕ → Option Width
+load_width funct3 = find (λ width. width_funct3 width == funct3) widths
 
-abbrev pub store_of : ℕ → Option Width
-store_of funct3 = find (λ width. is_stored width && width_funct3 width == funct3) widths
+abbrev pub store_width : ℕ → Option Width
+store_width funct3 = find (λ width. is_stored width && width_funct3 width == funct3) widths
 
 abbrev pub op_of : ℕ → ℕ → Option AluOp
 op_of funct3 funct7 = find (λ op. alu_funct3 op == funct3 && alu_funct7 op == funct7) alu_ops

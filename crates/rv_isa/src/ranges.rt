@@ -1,6 +1,6 @@
 //! Which instructions have an encoding.
 ghost use Rattle.std.specs.Prelude.{◌≡◌, ◌↔◌, IsTrue, ℤ, pos, neg_ℤ, ◌≤ℤ◌, ◌<ℤ◌};
-ghost use Rattle.rv_isa.specs.Range.{Fits, IsSigned, IsOffset, IsAmount, IsOperand};
+ghost use Rattle.rv_isa.specs.Range.{IsEncodable, IsSigned, IsOffset, IsAmount, IsOperand};
 ghost use Rattle.rv_isa.specs.Table.{is_shift, has_immediate, is_stored};
 
 use crate::instr::{AluOp, Instr, Width};
@@ -11,7 +11,7 @@ use crate::instr::{AluOp, Instr, Width};
 /// 4094, that of JAL even and from -1048576 to 1048574, the number of LUI and AUIPC from 0 to 1048575, and the amount
 /// of a shift from 0 to 31; where a store has width B, H or W; and where an operation with an immediate is not Sub.
 pub fn fits(instr: &Instr) -> bool
-    ensures { IsTrue result ↔ Fits instr.now }
+    ensures { IsTrue result ↔ IsEncodable instr.now }
 {
     match *instr {
         Instr::Lui { imm, .. } | Instr::Auipc { imm, .. } => imm < 0x10_0000,

@@ -1,9 +1,9 @@
 //! From words to instructions.
 ghost use Rattle.std.specs.Prelude.{◌≡◌, ◌↔◌, ◌⊎◌, IfSome, ◌==◌, if◌then◌else◌};
-ghost use Rattle.rv_isa.specs.Row.{opcode, IsRow};
-ghost use Rattle.rv_isa.specs.Table.{cond_of, load_of, store_of, op_of, op_imm_of};
+ghost use Rattle.rv_isa.specs.Row.{opcode, IsWordOf};
+ghost use Rattle.rv_isa.specs.Table.{cond_of, load_width, store_width, op_of, op_imm_of};
 ghost use Rattle.rv_isa.specs.Encoding.{decoded, encoded, operation_imm};
-ghost use Rattle.rv_isa.specs.Range.{Fits, HasRegisters};
+ghost use Rattle.rv_isa.specs.Range.{IsEncodable, HasRegisters};
 ghost use Rattle.rv_isa.specs.declared.instr.Instr.{Instr};
 ghost use Rattle.rv_isa.specs.declared.instr.Instr.TheVariants.{Fence};
 
@@ -20,10 +20,10 @@ pub fn decode(word: u32) -> Option<Instr>
     ensures value { result ≡ decoded word }
 
     // an instruction is read exactly where the word is in its row
-    ensures row { (i : Instr) → (result ≡ Some i) ↔ IsRow i word }
+    ensures row { (i : Instr) → (result ≡ Some i) ↔ IsWordOf i word }
 
     // what is read fits, and it has this word, unless it is a FENCE
-    ensures fitting { IfSome result (λ i. HasRegisters i × Fits i) }
+    ensures fitting { IfSome result (λ i. HasRegisters i × IsEncodable i) }
     ensures same { IfSome result (λ i. (i ≡ Fence) ⊎ (encoded i ≡ word)) }
 {
     read(word)
@@ -101,7 +101,7 @@ fn branch(word: u32) -> Option<Instr>
 }
 
 fn load_width(funct3: u32) -> Option<Width>
-    ensures { result ≡ load_of funct3 }
+    ensures { result ≡ load_width funct3 }
 {
     match funct3 {
         0b000 => Some(Width::B),
@@ -128,7 +128,7 @@ fn load(word: u32) -> Option<Instr>
 }
 
 fn store_width(funct3: u32) -> Option<Width>
-    ensures { result ≡ store_of funct3 }
+    ensures { result ≡ store_width funct3 }
 {
     match funct3 {
         0b000 => Some(Width::B),

@@ -1,8 +1,8 @@
 //! From instructions to words.
 ghost use Rattle.std.specs.Prelude.{◌≡◌, ◌*◌, ◌+◌, ◌^◌, ◌<◌, if◌then◌else◌};
 ghost use Rattle.rv_isa.specs.Word.{bits, pattern};
-ghost use Rattle.rv_isa.specs.Range.{Fits, HasRegisters};
-ghost use Rattle.rv_isa.specs.Row.{IsRow};
+ghost use Rattle.rv_isa.specs.Range.{IsEncodable, HasRegisters};
+ghost use Rattle.rv_isa.specs.Row.{IsWordOf};
 ghost use Rattle.rv_isa.specs.Table.{branch_funct3, width_funct3, alu_funct3, alu_funct7, is_shift};
 ghost use Rattle.rv_isa.specs.Encoding.{word, word_i, word_s, word_b, word_u, word_j, encoded, decoded};
 ghost use Rattle.rv_isa.specs.declared.instr.Instr.{Instr};
@@ -15,9 +15,9 @@ use crate::reg::Reg;
 ///
 /// FENCE has the one word 0x0ff0000f, which orders all accesses.
 pub fn encode(instr: &Instr) -> u32
-    requires { Fits instr.now }
+    requires { IsEncodable instr.now }
     ensures value { result ≡ encoded instr.now }
-    ensures row { IsRow instr.now result }
+    ensures row { IsWordOf instr.now result }
 
     // to read the word gives the instruction again
     ensures again { decoded result ≡ Some instr.now }
@@ -27,7 +27,7 @@ pub fn encode(instr: &Instr) -> u32
 
 /// Two instructions that fit have one word only if they are equal.
 pub fn encoding_is_unique()
-    ensures { (i j : Instr) → HasRegisters i → Fits i → HasRegisters j → Fits j
+    ensures { (i j : Instr) → HasRegisters i → IsEncodable i → HasRegisters j → IsEncodable j
         → encoded i ≡ encoded j → i ≡ j }
 {}
 

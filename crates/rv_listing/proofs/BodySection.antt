@@ -16,7 +16,7 @@ use Rattle.rv_assembler.specs.Gathering.{no_count, meaning_in}
 use Rattle.rv_assembler.specs.Reading.{reading_of}
 use Rattle.rv_assembler.specs.Adding.{no_draft, total}
 use Rattle.rv_assembler.specs.Fault.{most_regions}
-use Rattle.rv_assembler.specs.Finishing.{phase_of, stored, program_of}
+use Rattle.rv_assembler.specs.Finishing.{phase_within, with_first_values, finished_program}
 use Rattle.rv_listing.specs.Instruction.{code_line}
 use Rattle.rv_listing.specs.Listing.{text_of, region_line, region_values, lock_line, phase_lines}
 use Rattle.rv_listing.specs.Law.{AreCodeWords}
@@ -95,7 +95,7 @@ abbrev pub phased_draft : ProgramParts → Draft
 phased_draft p = add_phases_of p.regions (length p.locks) (declared_draft p) p.phases
 
 -- the program of the last draft is the program
-pub program-again : (p : ProgramParts) → IsReadable p → program_of (add_words (phased_draft p) p.code) ≡ p
+pub program-again : (p : ProgramParts) → IsReadable p → finished_program (add_words (phased_draft p) p.code) ≡ p
 program-again p h =
     let d = phased_draft p in
     let rest = phases-leave p.regions (length p.locks) (declared_draft p) p.phases in
@@ -107,16 +107,16 @@ program-again p h =
     let phases : d.phases ≡ length p.phases = phases-counted p.regions (length p.locks) (declared_draft p) p.phases ∙ omega arith in
     let tasks : d.tasks ≡ starts_of_phases 1 p.phases = phases-started p.regions (length p.locks) (declared_draft p) p.phases in
     let claims : d.claims ≡ claims_of_phases p.regions (length p.locks) 1 p.phases = phases-claimed p.regions (length p.locks) (declared_draft p) p.phases in
-    let memory : stored (replicate d.count.words 0) d.values ≡ p.memory =
-    ap (λ (n : ℕ). stored (replicate n 0) d.values) words
-    ∙ ap (stored (replicate (length p.memory) 0)) (values ∙ values-by-region p.memory 0 p.regions h.tiled (omega arith))
+    let memory : with_first_values (replicate d.count.words 0) d.values ≡ p.memory =
+    ap (λ (n : ℕ). with_first_values (replicate n 0) d.values) words
+    ∙ ap (with_first_values (replicate (length p.memory) 0)) (values ∙ values-by-region p.memory 0 p.regions h.tiled (omega arith))
     ∙ stored-memory p.memory in
-    let all : map (phase_of d.count.words (length d.locks) d.claims d.tasks) (range_with_len 1 d.phases) ≡ p.phases =
-    ap (λ (n : ℕ). map (phase_of n (length d.locks) d.claims d.tasks) (range_with_len 1 d.phases)) words
-    ∙ ap (λ (ls : List (List ℕ)). map (phase_of (length p.memory) (length ls) d.claims d.tasks) (range_with_len 1 d.phases)) locks
-    ∙ ap (λ (cs : List Claim). map (phase_of (length p.memory) (length p.locks) cs d.tasks) (range_with_len 1 d.phases)) claims
-    ∙ ap (λ (ss : List Start). map (phase_of (length p.memory) (length p.locks) (claims_of_phases p.regions (length p.locks) 1 p.phases) ss) (range_with_len 1 d.phases)) tasks
-    ∙ ap (λ (n : ℕ). map (phase_of (length p.memory) (length p.locks) (claims_of_phases p.regions (length p.locks) 1 p.phases) (starts_of_phases 1 p.phases)) (range_with_len 1 n)) phases
+    let all : map (phase_within d.count.words (length d.locks) d.claims d.tasks) (range_with_len 1 d.phases) ≡ p.phases =
+    ap (λ (n : ℕ). map (phase_within n (length d.locks) d.claims d.tasks) (range_with_len 1 d.phases)) words
+    ∙ ap (λ (ls : List (List ℕ)). map (phase_within (length p.memory) (length ls) d.claims d.tasks) (range_with_len 1 d.phases)) locks
+    ∙ ap (λ (cs : List Claim). map (phase_within (length p.memory) (length p.locks) cs d.tasks) (range_with_len 1 d.phases)) claims
+    ∙ ap (λ (ss : List Start). map (phase_within (length p.memory) (length p.locks) (claims_of_phases p.regions (length p.locks) 1 p.phases) ss) (range_with_len 1 d.phases)) tasks
+    ∙ ap (λ (n : ℕ). map (phase_within (length p.memory) (length p.locks) (claims_of_phases p.regions (length p.locks) 1 p.phases) (starts_of_phases 1 p.phases)) (range_with_len 1 n)) phases
     ∙ phases-again p.regions (length p.memory) (length p.locks) h.tiled p.phases 1 [] [] (λ q l. tt) (λ s l. tt) h.effects in
     program-words d p.code
     ∙ ap (λ (x : ProgramParts). record x { code = d.code ++ p.code }) (program-parts d p.memory p.regions p.locks p.phases memory regions locks all)

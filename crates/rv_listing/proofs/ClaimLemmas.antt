@@ -13,7 +13,7 @@ use Rattle.rv_assembler.specs.declared.draft.Start.{Start}
 use Rattle.rv_assembler.specs.declared.draft.Claim.{Claim}
 use Rattle.rv_assembler.specs.declared.draft.Usage as in_usage
 use Rattle.rv_assembler.specs.Program.{is_task, is_claim_of}
-use Rattle.rv_assembler.specs.Finishing.{effects_of, task_of, task_at, phase_of}
+use Rattle.rv_assembler.specs.Finishing.{effects_within, task_within, core_task_within, phase_within}
 use Rattle.rv_listing.specs.Law.{AreCanonical}
 use Rattle.rv_listing.proofs.CutSetLemmas.{cut_set}
 use Rattle.rv_listing.proofs.EffectLemmas.{claims_with}
@@ -144,7 +144,7 @@ kept-same f g (x ∷ xs) h = ap (λ o. cons_option o (filter_map f xs)) (h x) �
 module _ (rs : List Region) (words locks : ℕ) (tiled : AreTiled 0 rs words) where
   tasks-again : (p : ℕ) (claims : List Claim) (ts : List TaskDecl) (a : ℕ) (before behind : List Claim) → claims ≡ before ++ (claims_of_tasks rs locks p ts ++ behind)
       → ((s : Start) → s.phase ≡ p → a ≤ s.core → Are false s before) → ((s : Start) → s.phase ≡ p → Are false s behind) → RiseFrom a 16 ts → AreTasks words locks ts
-      → map (task_of words locks claims) (starts_of p ts) ≡ ts
+      → map (task_within words locks claims) (starts_of p ts) ≡ ts
   tasks-again p claims [] a before behind e hb hh r h = refl
   tasks-again p claims (t ∷ ts) a before behind e hb hh r h =
       let own = task_claims rs p t.core.0 t.effects locks in
@@ -157,26 +157,26 @@ module _ (rs : List Region) (words locks : ℕ) (tiled : AreTiled 0 rs words) wh
       ∙ filter-own s own (others ++ behind) (task-are true s p t.core.0 (itself p t.core.0) rs t.effects locks)
       (Are-append false s others behind (later-tasks rs locks s p (t.core.0 + 1) 16 ts (omega arith) r.2) (hh s refl)) in
       let task : IsTask words locks t = h.0 in
-      let one : task_of words locks claims s ≡ t =
-      ap (λ (cs : List Claim). let q : TaskDecl = record { core = record { 0 = t.core.0 }; entry = t.entry; arg = t.arg; effects = effects_of words locks cs } in q) kept
+      let one : task_within words locks claims s ≡ t =
+      ap (λ (cs : List Claim). let q : TaskDecl = record { core = record { 0 = t.core.0 }; entry = t.entry; arg = t.arg; effects = effects_within words locks cs } in q) kept
       ∙ ap (λ (x : Effects). let q : TaskDecl = record { core = record { 0 = t.core.0 }; entry = t.entry; arg = t.arg; effects = x } in q) (effects-again rs words locks p t.core.0 t.effects tiled task.effects h.1) in
       let again : claims ≡ (before ++ own) ++ (others ++ behind) = e ∙ ap (λ (l : List Claim). before ++ l) (append_assoc own others behind) ∙ sym (append_assoc before own (others ++ behind)) in
       let next = tasks-again p claims ts (t.core.0 + 1) (before ++ own) behind again
       (λ z q l. Are-append false z before own (hb z q (omega (arith, r.0))) (task-are false z p t.core.0 (past-core p z.phase z.core t.core.0 (omega arith)) rs t.effects locks)) hh r.2 h.2 in
-      ap (λ (x : TaskDecl). x ∷ map (task_of words locks claims) (starts_of p ts)) one ∙ ap (λ (xs : List TaskDecl). t ∷ xs) next
+      ap (λ (x : TaskDecl). x ∷ map (task_within words locks claims) (starts_of p ts)) one ∙ ap (λ (xs : List TaskDecl). t ∷ xs) next
 
-  phase-again : (ph : Phase) (p : ℕ) (a b : List Start) (claims : List Claim) → NoStart p a → NoStart p b → RiseFrom 0 16 ph.tasks → map (task_of words locks claims) (starts_of p ph.tasks) ≡ ph.tasks
-      → phase_of words locks claims (a ++ (starts_of p ph.tasks ++ b)) p ≡ ph
+  phase-again : (ph : Phase) (p : ℕ) (a b : List Start) (claims : List Claim) → NoStart p a → NoStart p b → RiseFrom 0 16 ph.tasks → map (task_within words locks claims) (starts_of p ph.tasks) ≡ ph.tasks
+      → phase_within words locks claims (a ++ (starts_of p ph.tasks ++ b)) p ≡ ph
   phase-again ph p a b claims ha hb r m =
       let own = starts_of p ph.tasks in
       ap (λ (ts : List TaskDecl). let q : Phase = record { tasks = ts } in q)
-      (kept-same (task_at words locks claims (a ++ (own ++ b)) p) (λ (c : ℕ). option_map (task_of words locks claims) (find (is_task p c) own)) (range_with_len 0 16)
-      (λ c. ap (option_map (task_of words locks claims)) (find-past p c a (own ++ b) ha ∙ find-before p c own b hb))
-      ∙ tasks-by-core p (task_of words locks claims) 16 0 16 ph.tasks refl r ∙ m)
+      (kept-same (core_task_within words locks claims (a ++ (own ++ b)) p) (λ (c : ℕ). option_map (task_within words locks claims) (find (is_task p c) own)) (range_with_len 0 16)
+      (λ c. ap (option_map (task_within words locks claims)) (find-past p c a (own ++ b) ha ∙ find-before p c own b hb))
+      ∙ tasks-by-core p (task_within words locks claims) 16 0 16 ph.tasks refl r ∙ m)
 
   -- the phases are made of their tasks and claims again
   pub phases-again : (phs : List Phase) (p : ℕ) (a : List Start) (before : List Claim) → ((q : ℕ) → p ≤ q → NoStart q a) → ((s : Start) → p ≤ s.phase → Are false s before) → ArePhasesOf words locks phs
-      → map (phase_of words locks (before ++ claims_of_phases rs locks p phs) (a ++ starts_of_phases p phs)) (range_with_len p (length phs)) ≡ phs
+      → map (phase_within words locks (before ++ claims_of_phases rs locks p phs) (a ++ starts_of_phases p phs)) (range_with_len p (length phs)) ≡ phs
   phases-again [] p a before ha hb h = refl
   phases-again (ph ∷ phs) p a before ha hb h =
       let own = claims_of_tasks rs locks p ph.tasks in
@@ -189,7 +189,7 @@ module _ (rs : List Region) (words locks : ℕ) (tiled : AreTiled 0 rs words) wh
       let next = phases-again phs (p + 1) (a ++ starts) (before ++ own)
       (λ q l. NoStart-append q a starts (ha q (omega arith)) (starts-none q p ph.tasks (earlier-phase-only p q (omega arith))))
       (λ s l. Are-append false s before own (hb s (omega arith)) (tasks-earlier rs locks s p ph.tasks (omega arith))) h.2 in
-      ap (λ (x : Phase). x ∷ map (phase_of words locks claims (a ++ (starts ++ more))) (range_with_len (p + 1) (length phs))) here
-      ∙ ap (λ (cs : List Claim). ph ∷ map (phase_of words locks cs (a ++ (starts ++ more))) (range_with_len (p + 1) (length phs))) (sym (append_assoc before own others))
-      ∙ ap (λ (ss : List Start). ph ∷ map (phase_of words locks ((before ++ own) ++ others) ss) (range_with_len (p + 1) (length phs))) (sym (append_assoc a starts more))
+      ap (λ (x : Phase). x ∷ map (phase_within words locks claims (a ++ (starts ++ more))) (range_with_len (p + 1) (length phs))) here
+      ∙ ap (λ (cs : List Claim). ph ∷ map (phase_within words locks cs (a ++ (starts ++ more))) (range_with_len (p + 1) (length phs))) (sym (append_assoc before own others))
+      ∙ ap (λ (ss : List Start). ph ∷ map (phase_within words locks ((before ++ own) ++ others) ss) (range_with_len (p + 1) (length phs))) (sym (append_assoc a starts more))
       ∙ ap (λ (l : List Phase). ph ∷ l) next

@@ -6,7 +6,7 @@ use Rattle.std.specs.List.{filter_map}
 use Rattle.std.specs.Option.{is_some}
 use Rattle.std.proofs.lemmas.Int.{ints}
 use Rattle.rv_isa.specs.Word.{bits, pattern}
-use Rattle.rv_isa.specs.Range.{IsSigned, IsOffset, IsOperand, Fits, HasRegisters}
+use Rattle.rv_isa.specs.Range.{IsSigned, IsOffset, IsOperand, IsEncodable, HasRegisters}
 use Rattle.rv_isa.specs.Table.{is_shift, has_immediate, is_stored}
 use Rattle.rv_isa.specs.Encoding.{encoded, decoded}
 use Rattle.rv_isa.proofs.RowLemmas.{decoded-row}
@@ -32,7 +32,7 @@ use Rattle.rv_assembler.specs.Number.{wrapped, is_within, is_even, is_upper, is_
 use Rattle.rv_assembler.specs.Operand.{bytes_of, register_number}
 use Rattle.rv_assembler.specs.Shape.{is_colon, fits, none, n, r_n, r_t, r_r_t, r_r_n, r_r_r, r_at}
 use Rattle.rv_assembler.specs.Reading.{code_for, statement_for}
-use Rattle.rv_assembler.specs.Size.{size_of}
+use Rattle.rv_assembler.specs.Size.{code_word_count}
 use Rattle.rv_assembler.specs.Emission.{one_if, emission}
 use borrow.Author.Tests.{eqb-true}
 use Rattle.rv_listing.specs.Statement.{hexadecimal, register, address, statement}
@@ -132,7 +132,7 @@ pub record GivesWord (text : List ℕ) (ts : List Token) (w : ℕ) : Type 0 wher
   pub code : Code
   pub said : IsSaid text ts (in_statement.TheVariants.Instruction code)
   pub emits : (names : List ℕ → Option Meaning) (here : ℕ) → emission text names here code ≡ in_emission.TheVariants.One w
-  pub size : size_of code ≡ 1
+  pub size : code_word_count code ≡ 1
 
 some-1 : (x : Bool) → x ≡ true → (x && true) ≡ true
 some-1 x e = rw e refl
@@ -380,7 +380,7 @@ module _ (text before rest : List ℕ) (place : ℕ) (s : place ≡ length befor
       }
 
   -- the line of an instruction gives its word
-  pub instruction-gives : (i : Instr) → HasRegisters i → Fits i → Line (instruction_line i) (encoded i)
+  pub instruction-gives : (i : Instr) → HasRegisters i → IsEncodable i → Line (instruction_line i) (encoded i)
   unfolding instruction_line
   instruction-gives (instr.TheVariants.Lui d imm) r f e = lui-line d imm r f e
   instruction-gives (instr.TheVariants.Auipc d imm) r f e = auipc-line d imm r f e
@@ -395,7 +395,7 @@ module _ (text before rest : List ℕ) (place : ℕ) (s : place ≡ length befor
   instruction-gives instr.TheVariants.Ecall r f e = ecall-line e
   instruction-gives instr.TheVariants.Ebreak r f e = ebreak-line e
 
-  by-test : (w : ℕ) (i : Instr) (b : Bool) → eqb (encoded i) w ≡ b → HasRegisters i → Fits i → w < 2 ^ 32 → Line (cond b (instruction_line i) (raw_line w)) w
+  by-test : (w : ℕ) (i : Instr) (b : Bool) → eqb (encoded i) w ≡ b → HasRegisters i → IsEncodable i → w < 2 ^ 32 → Line (cond b (instruction_line i) (raw_line w)) w
   by-test w i true t r f l e = subst (GivesWord text (filter_map token_of (lexemes_after 32 place (instruction_line i)))) (eqb-true (encoded i) w t) (instruction-gives i r f e)
   by-test w i false t r f l e = raw-line w l e
 
@@ -414,7 +414,7 @@ module _ (text before rest : List ℕ) (place : ℕ) (s : place ≡ length befor
 abbrev word_op : List ℕ → Op
 word_op w = record { kind = Name; bytes = w }
 
-instruction-good : (i : Instr) → HasRegisters i → Fits i → IsGoodLine (instruction_line i)
+instruction-good : (i : Instr) → HasRegisters i → IsEncodable i → IsGoodLine (instruction_line i)
 unfolding instruction_line
 instruction-good (instr.TheVariants.Lui d imm) r f = statement-good (word_op (codes "lui")) (reg d ∷ num (pos imm) ∷ []) lui-kind.op (reg-op d r, (num-op (pos imm) (omega arith), tt))
 instruction-good (instr.TheVariants.Auipc d imm) r f = statement-good (word_op (codes "auipc")) (reg d ∷ num (pos imm) ∷ []) auipc-kind.op (reg-op d r, (num-op (pos imm) (omega arith), tt))
@@ -432,7 +432,7 @@ instruction-good instr.TheVariants.Ebreak r f = statement-good (word_op (codes "
 raw-good : (w : ℕ) → w < 2 ^ 32 → IsGoodLine (raw_line w)
 raw-good w l = statement-good (word_op (codes ".raw")) (hex w ∷ []) raw-kind.op (hex-op w l, tt)
 
-good-by-test : (w : ℕ) (i : Instr) (b : Bool) → HasRegisters i → Fits i → w < 2 ^ 32 → IsGoodLine (cond b (instruction_line i) (raw_line w))
+good-by-test : (w : ℕ) (i : Instr) (b : Bool) → HasRegisters i → IsEncodable i → w < 2 ^ 32 → IsGoodLine (cond b (instruction_line i) (raw_line w))
 good-by-test w i true r f l = instruction-good i r f
 good-by-test w i false r f l = raw-good w l
 

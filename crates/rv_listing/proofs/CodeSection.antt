@@ -14,16 +14,16 @@ use Rattle.rv_assembler.specs.declared.statement.Statement.{Statement}
 use Rattle.rv_assembler.specs.declared.emission.Emission as in_emission
 use Rattle.rv_assembler.specs.declared.statement.Statement as in_statement
 use Rattle.rv_assembler.specs.Gathering.{more}
-use Rattle.rv_assembler.specs.Size.{size_of}
+use Rattle.rv_assembler.specs.Size.{code_word_count}
 use Rattle.rv_assembler.specs.Emission.{emission, words_in}
-use Rattle.rv_assembler.specs.Adding.{after, total}
+use Rattle.rv_assembler.specs.Adding.{draft_after, total}
 use Rattle.rv_assembler.specs.Fault.{is_far, is_lost, most_regions, over_limit}
 use Rattle.rv_assembler.specs.Testing.{draft_fault}
-use Rattle.rv_assembler.specs.Finishing.{program_of}
+use Rattle.rv_assembler.specs.Finishing.{finished_program}
 use Rattle.rv_assembler.proofs.SourceLemmas.{total-more}
 use Rattle.rv_listing.specs.Instruction.{code_line}
 use Rattle.rv_listing.specs.Listing.{text_of}
-use Rattle.rv_listing.specs.Law.{AreCodeWords, IsWithinLimits}
+use Rattle.rv_listing.specs.Law.{AreCodeWords, FitsSourceLimits}
 use Rattle.rv_listing.proofs.CodeLemmas.{code-gives, code-good}
 use Rattle.rv_listing.proofs.ReadLemmas.{SaidFrom, sayings}
 
@@ -33,7 +33,7 @@ GiveWords text [] [] = Unit {0}
 GiveWords text [] (w ∷ ws) = ⊥
 GiveWords text (k ∷ ks) [] = ⊥
 GiveWords text (k ∷ ks) (w ∷ ws) =
-    ((names : List ℕ → Option Meaning) (here : ℕ) → emission text names here k ≡ in_emission.TheVariants.One w) × (size_of k ≡ 1) × GiveWords text ks ws
+    ((names : List ℕ → Option Meaning) (here : ℕ) → emission text names here k ≡ in_emission.TheVariants.One w) × (code_word_count k ≡ 1) × GiveWords text ks ws
 
 abbrev pub instructions : List Code → List Statement
 instructions ks = map (λ (k : Code). in_statement.TheVariants.Instruction k) ks
@@ -82,10 +82,10 @@ module _ (v : Bool) (text : List ℕ) (names : List ℕ → Option Meaning) wher
   word-fault d n k w e =
       ap (λ (x : Emission). cond (is_far x) (Some (fault.TheVariants.OutOfRange n)) (cond (is_lost x) (Some (fault.TheVariants.UnknownName n)) None)) e
 
-  after-word : (d : Draft) (k : Code) (w : ℕ) → emission text names d.count.code k ≡ in_emission.TheVariants.One w → size_of k ≡ 1 → d.count.code + 1 ≤ 16384 → after text names d (in_statement.TheVariants.Instruction k) ≡ add_word d w
+  after-word : (d : Draft) (k : Code) (w : ℕ) → emission text names d.count.code k ≡ in_emission.TheVariants.One w → code_word_count k ≡ 1 → d.count.code + 1 ≤ 16384 → draft_after text names d (in_statement.TheVariants.Instruction k) ≡ add_word d w
   after-word d k w e s l =
-      let n : more d.count.code (size_of k) ≡ d.count.code + 1 = ap (λ (x : ℕ). more d.count.code x) s ∙ (let m : min (d.count.code + 1) (2 ^ 32 - 1) ≡ d.count.code + 1 = omega arith in m) in
-      ap (λ (x : Emission). record d { code = d.code ++ words_in x; count = record { code = more d.count.code (size_of k); words = d.count.words; regions = d.count.regions; locks = d.count.locks } }) e
+      let n : more d.count.code (code_word_count k) ≡ d.count.code + 1 = ap (λ (x : ℕ). more d.count.code x) s ∙ (let m : min (d.count.code + 1) (2 ^ 32 - 1) ≡ d.count.code + 1 = omega arith in m) in
+      ap (λ (x : Emission). record d { code = d.code ++ words_in x; count = record { code = more d.count.code (code_word_count k); words = d.count.words; regions = d.count.regions; locks = d.count.locks } }) e
       ∙ ap (λ (x : ℕ). record d { code = d.code ++ w ∷ []; count = record { code = x; words = d.count.words; regions = d.count.regions; locks = d.count.locks } }) n
 
   pub total-code : (d : Draft) (n : ℕ) (ks : List Code) (ws : List ℕ) → GiveWords text ks ws → length d.code + length ws ≤ 16384 → d.count.code ≡ length d.code → other_limits v d ≡ false
@@ -97,7 +97,7 @@ module _ (v : Bool) (text : List ℕ) (names : List ℕ → Option Meaning) wher
       let s : Statement = in_statement.TheVariants.Instruction k in
       let e = g.0 names d.count.code in
       let long : length (d.code ++ w ∷ []) ≡ length d.code + 1 = length-append d.code (w ∷ []) in
-      let a : after text names d s ≡ add_word d w = after-word d k w e g.1 (omega arith) in
+      let a : draft_after text names d s ≡ add_word d w = after-word d k w e g.1 (omega arith) in
       let within : ltb 16384 (length (d.code ++ w ∷ [])) ≡ false = le-ltb 16384 (length (d.code ++ w ∷ [])) (omega arith) in
       let over : over_limit v (add_word d w) ≡ false = ap (λ (x : Bool). x || other_limits v d) within ∙ o in
       total-more v text names d (record { line = n; label = None; statement = s }) (sayings (n + 1) (instructions ks)) (word-fault d n k w e) (ap (over_limit v) a ∙ over)
@@ -105,14 +105,14 @@ module _ (v : Bool) (text : List ℕ) (names : List ℕ → Option Meaning) wher
       ∙ total-code (add_word d w) (n + 1) ks ws g.2 (omega arith) (omega arith) o
 
 -- only the code is another
-pub program-words : (d : Draft) (ws : List ℕ) → program_of (add_words d ws) ≡ record (program_of d) { code = d.code ++ ws }
-program-words d [] = ap (λ (c : List ℕ). record (program_of d) { code = c }) (sym (append-nil d.code))
+pub program-words : (d : Draft) (ws : List ℕ) → finished_program (add_words d ws) ≡ record (finished_program d) { code = d.code ++ ws }
+program-words d [] = ap (λ (c : List ℕ). record (finished_program d) { code = c }) (sym (append-nil d.code))
 program-words d (w ∷ ws) =
-    program-words (add_word d w) ws ∙ ap (λ (c : List ℕ). record (program_of d) { code = c }) (append_assoc d.code (w ∷ []) ws)
+    program-words (add_word d w) ws ∙ ap (λ (c : List ℕ). record (finished_program d) { code = c }) (append_assoc d.code (w ∷ []) ws)
 
 short-lines : (ls : List (List ℕ)) → All (λ (l : List ℕ). length l ≤ 1024) ls → AreShort ls
 short-lines [] h = tt
 short-lines (l ∷ ls) h = (All-head (λ (l : List ℕ). length l ≤ 1024) l ls h, short-lines ls (All-tail (λ (l : List ℕ). length l ≤ 1024) l ls h))
 
-pub all-short : (ls : List (List ℕ)) → IsWithinLimits ls → AreShort ls
+pub all-short : (ls : List (List ℕ)) → FitsSourceLimits ls → AreShort ls
 all-short ls h = short-lines ls h.line

@@ -14,7 +14,7 @@ use Rattle.rv_assembler.specs.declared.names.Meaning as in_meaning
 use Rattle.rv_assembler.specs.Gathering.{more}
 use Rattle.rv_assembler.specs.Operand.{bytes_of}
 use Rattle.rv_assembler.specs.Counts.{region_words}
-use Rattle.rv_assembler.specs.Gathering.{counted, meaning_in}
+use Rattle.rv_assembler.specs.Gathering.{count_behind, meaning_in}
 use Rattle.rv_assembler.specs.Fault.{most_regions}
 use Rattle.rv_assembler.specs.Adding.{total}
 use Rattle.rv_listing.proofs.ReadLemmas.{sayings}
@@ -84,7 +84,7 @@ know-same : (f g : List ℕ → Option Meaning) (first : List ℕ) (k : ℕ) (rs
 know-same f g first k [] h d w = tt
 know-same f g first k (r ∷ rs) h d w = (h r.name d.0 ∙ w.0, know-same f g first (k + 1) rs h d.1 w.1)
 
-count-region : (c : Count) (r : Region) (t : Token) → 0 < r.len → c.words + r.len ≤ 65536 → c.regions ≤ 4096 → counted c (region_statement t r) ≡ record { code = c.code; words = c.words + r.len; regions = c.regions + 1; locks = c.locks }
+count-region : (c : Count) (r : Region) (t : Token) → 0 < r.len → c.words + r.len ≤ 65536 → c.regions ≤ 4096 → count_behind c (region_statement t r) ≡ record { code = c.code; words = c.words + r.len; regions = c.regions + 1; locks = c.locks }
 count-region c r t l m few =
     let long : region_words (pos r.len) ≡ r.len = ap (λ (b : Bool). cond b r.len 0) (length-pos r.len l (omega arith)) in
     let words : more c.words (region_words (pos r.len)) ≡ c.words + r.len = ap (more c.words) long ∙ (let s : min (c.words + r.len) (2 ^ 32 - 1) ≡ c.words + r.len = omega arith in s) in
@@ -175,7 +175,7 @@ know-same-locks : (f g : List ℕ → Option Meaning) (first : List ℕ) (k : �
 know-same-locks f g first k [] h d w = tt
 know-same-locks f g first k (l ∷ ls) h d w = (h l d.0 ∙ w.0, know-same-locks f g first (k + 1) ls h d.1 w.1)
 
-count-lock : (c : Count) (t : Token) → c.locks ≤ 32 → counted c (in_statement.TheVariants.Lock t) ≡ record { code = c.code; words = c.words; regions = c.regions; locks = c.locks + 1 }
+count-lock : (c : Count) (t : Token) → c.locks ≤ 32 → count_behind c (in_statement.TheVariants.Lock t) ≡ record { code = c.code; words = c.words; regions = c.regions; locks = c.locks + 1 }
 count-lock c t few =
     let count : more c.locks 1 ≡ c.locks + 1 = (let s : min (c.locks + 1) (2 ^ 32 - 1) ≡ c.locks + 1 = omega arith in s) in
     ap (λ (x : ℕ). let q : Count = record { code = c.code; words = c.words; regions = c.regions; locks = x } in q) count

@@ -6,7 +6,7 @@ use Rattle.std.specs.List.{filter_map, list_all}
 use Rattle.std.proofs.lemmas.Bool.{and_parts}
 use Rattle.std.proofs.lemmas.Bool.Decides.{nat_tests}
 use Rattle.src_text.specs.Byte.{is_letter, is_digit, is_minus, is_word}
-use Rattle.src_text.specs.Lexeme.{lexemes_after, token_of, goes_on}
+use Rattle.src_text.specs.Lexeme.{lexemes_after, token_of, continues_token}
 use Rattle.src_text.specs.declared.token.Token.{Token}
 use Rattle.src_text.specs.declared.token.TokenKind.TheVariants.{Name, Number}
 use Rattle.region_table.specs.declared.declared.Region.{Region}
@@ -34,7 +34,7 @@ use Rattle.rv_listing.proofs.CodeLemmas.{num, hex, num-op, hex-op, simple}
 abbrev pub nm : List ℕ → Op
 nm n = record { kind = Name; bytes = n }
 
-first-byte : (b : ℕ) → (is_letter b || eqb b 95) ≡ true → (goes_on b ≡ true) × (eqb b 46 ≡ false) × (eqb b 44 ≡ false) × (eqb b 58 ≡ false) × (eqb b 40 ≡ false) × (eqb b 41 ≡ false) × ((is_digit b || is_minus b) ≡ false)
+first-byte : (b : ℕ) → (is_letter b || eqb b 95) ≡ true → (continues_token b ≡ true) × (eqb b 46 ≡ false) × (eqb b 44 ≡ false) × (eqb b 58 ≡ false) × (eqb b 40 ≡ false) × (eqb b 41 ≡ false) × ((is_digit b || is_minus b) ≡ false)
 first-byte b h = (grind (arith, nat_tests), grind (arith, nat_tests), grind (arith, nat_tests), grind (arith, nat_tests), grind (arith, nat_tests), grind (arith, nat_tests), grind (arith, nat_tests))
 
 pub name-op : (n : List ℕ) → is_declared_name n ≡ true → IsOp (nm n)

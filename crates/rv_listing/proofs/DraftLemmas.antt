@@ -11,7 +11,7 @@ use Rattle.rv_assembler.specs.declared.draft.Start.{Start}
 use Rattle.rv_assembler.specs.declared.draft.Claim.{Claim}
 use Rattle.rv_assembler.specs.Adding.{no_draft}
 use Rattle.rv_assembler.specs.Fault.{most_regions}
-use Rattle.rv_assembler.specs.Finishing.{phase_of, stored, program_of}
+use Rattle.rv_assembler.specs.Finishing.{phase_within, with_first_values, finished_program}
 use Rattle.rv_listing.proofs.RegionSection.{IsWithin, add_region, add_lock}
 use Rattle.rv_listing.proofs.CodeSection.{other_limits}
 use Rattle.rv_listing.proofs.DeclarationLemmas.{add_regions, add_locks}
@@ -120,11 +120,11 @@ tasks-counted (ph ∷ phs) =
     omega arith
 
 -- the program of a draft, part by part
-pub program-parts : (d : Draft) (memory : List ℕ) (regions : List Region) (locks : List (List ℕ)) (phases : List Phase) → stored (replicate d.count.words 0) d.values ≡ memory → d.regions ≡ regions → d.locks ≡ locks
-    → map (phase_of d.count.words (length d.locks) d.claims d.tasks) (range_with_len 1 d.phases) ≡ phases
-    → program_of d ≡ record { code = d.code; memory = memory; regions = regions; locks = locks; phases = phases }
+pub program-parts : (d : Draft) (memory : List ℕ) (regions : List Region) (locks : List (List ℕ)) (phases : List Phase) → with_first_values (replicate d.count.words 0) d.values ≡ memory → d.regions ≡ regions → d.locks ≡ locks
+    → map (phase_within d.count.words (length d.locks) d.claims d.tasks) (range_with_len 1 d.phases) ≡ phases
+    → finished_program d ≡ record { code = d.code; memory = memory; regions = regions; locks = locks; phases = phases }
 program-parts d memory regions locks phases e f g h =
-    let all = map (phase_of d.count.words (length d.locks) d.claims d.tasks) (range_with_len 1 d.phases) in
+    let all = map (phase_within d.count.words (length d.locks) d.claims d.tasks) (range_with_len 1 d.phases) in
     ap (λ (x : List ℕ). let q : ProgramParts = record { code = d.code; memory = x; regions = d.regions; locks = d.locks; phases = all } in q) e
     ∙ ap (λ (x : List Region). let q : ProgramParts = record { code = d.code; memory = memory; regions = x; locks = d.locks; phases = all } in q) f
     ∙ ap (λ (x : List (List ℕ)). let q : ProgramParts = record { code = d.code; memory = memory; regions = regions; locks = x; phases = all } in q) g

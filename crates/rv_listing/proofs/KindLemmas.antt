@@ -12,7 +12,7 @@ use Rattle.rv_isa.specs.declared.instr.Cond as cond
 use Rattle.rv_isa.specs.declared.instr.Width.{Width}
 use Rattle.rv_isa.specs.declared.instr.Width as width
 use Rattle.src_text.specs.Byte.{is_word}
-use Rattle.src_text.specs.Lexeme.{goes_on}
+use Rattle.src_text.specs.Lexeme.{continues_token}
 use Rattle.src_text.specs.declared.token.Token.{Token}
 use Rattle.src_text.specs.declared.token.TokenKind.TheVariants.{Name}
 use Rattle.rv_assembler.specs.declared.fault.SourceFault.{SourceFault}
@@ -34,7 +34,7 @@ use Rattle.rv_listing.proofs.TokenLemmas.{token, IsOp}
 
 abbrev pub is_word_token : List ℕ → Bool
 is_word_token [] = false
-is_word_token (b ∷ bs) = goes_on b && list_all is_word bs
+is_word_token (b ∷ bs) = continues_token b && list_all is_word bs
 
 words-tested : (bs : List ℕ) → list_all is_word bs ≡ true → AreWords bs
 words-tested [] h = tt
@@ -42,7 +42,7 @@ words-tested (b ∷ bs) h = let p = and_parts (is_word b) (list_all is_word bs) 
 
 pub token-tested : (bs : List ℕ) → is_word_token bs ≡ true → IsWordToken bs
 token-tested [] h = absurd cc
-token-tested (b ∷ bs) h = let p = and_parts (goes_on b) (list_all is_word bs) h in (p.0, words-tested bs p.1)
+token-tested (b ∷ bs) h = let p = and_parts (continues_token b) (list_all is_word bs) h in (p.0, words-tested bs p.1)
 
 -- the word begins a statement of this kind, in both versions, where the operands have this shape
 pub record HasKind (w : List ℕ) (ps : List Piece) (k : Kind) : Type 0 where

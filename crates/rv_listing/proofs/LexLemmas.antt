@@ -4,7 +4,7 @@ use Rattle.std.specs.List.{take_while, list_any}
 use Rattle.std.proofs.lemmas.Bool.Decides.{nat_tests}
 use Rattle.std.proofs.lemmas.List.Sums.{take_while-cons}
 use Rattle.src_text.specs.Byte.{is_newline, is_blank, is_hash, is_word, is_mark, is_minus, is_bad}
-use Rattle.src_text.specs.Lexeme.{Lexeme, goes_on, begins, front, code_of, lexemes_after}
+use Rattle.src_text.specs.Lexeme.{Lexeme, continues_token, begins_token, front, before_comment, lexemes_after}
 use Rattle.src_text.specs.Line.{cut, onto_first}
 use Rattle.src_text.proofs.ByteLemmas.{no_mark, no_minus}
 use Rattle.rv_listing.specs.Listing.{text_of}
@@ -17,7 +17,7 @@ AreWords (b ∷ bs) = (is_word b ≡ true) × AreWords bs
 -- the bytes are a name or a number, one token
 abbrev pub IsWordToken : List ℕ → Type 0
 IsWordToken [] = ⊥
-IsWordToken (b ∷ bs) = (goes_on b ≡ true) × AreWords bs
+IsWordToken (b ∷ bs) = (continues_token b ≡ true) × AreWords bs
 
 -- no word and no number goes on with what follows
 abbrev pub Stops : List ℕ → Type 0
@@ -28,7 +28,7 @@ pub AreWords-append : (a b : List ℕ) → AreWords a → AreWords b → AreWord
 AreWords-append [] b h k = k
 AreWords-append (x ∷ a) b h k = (h.0, AreWords-append a b h.1 k)
 
-pub word_goes_on : (b : ℕ) → is_word b ≡ true → goes_on b ≡ true
+pub word_goes_on : (b : ℕ) → is_word b ≡ true → continues_token b ≡ true
 word_goes_on b h = ap (λ (w : Bool). w || is_minus b) h
 
 minus_no_mark : (b : ℕ) → is_minus b ≡ true → is_mark b ≡ false
@@ -38,27 +38,27 @@ either_no_mark : (w n m : Bool) → (w ≡ true → m ≡ false) → (n ≡ true
 either_no_mark true n m f g h = f refl
 either_no_mark false n m f g h = g h
 
-no_mark_goes_on : (b : ℕ) → goes_on b ≡ true → is_mark b ≡ false
+no_mark_goes_on : (b : ℕ) → continues_token b ≡ true → is_mark b ≡ false
 no_mark_goes_on b h = either_no_mark (is_word b) (is_minus b) (is_mark b) (no_mark b) (minus_no_mark b) h
 
 -- where nothing goes on it doesn't matter what stands before
 abbrev pub lexeme_here : ℕ → ℕ → List ℕ → Bool → List Lexeme
 lexeme_here place b bs c = cond c (record { start = place; bytes = front (b ∷ bs) } ∷ []) []
 
-begins-stop : (before b : ℕ) → is_word b ≡ false → begins before b ≡ begins 32 b
+begins-stop : (before b : ℕ) → is_word b ≡ false → begins_token before b ≡ begins_token 32 b
 begins-stop before b h =
-    ap (λ (w : Bool). is_mark b || is_minus b || (w && not (goes_on before))) h
-    ∙ sym (ap (λ (w : Bool). is_mark b || is_minus b || (w && not (goes_on 32))) h)
+    ap (λ (w : Bool). is_mark b || is_minus b || (w && not (continues_token before))) h
+    ∙ sym (ap (λ (w : Bool). is_mark b || is_minus b || (w && not (continues_token 32))) h)
 
 pub lexemes-stop : (before place : ℕ) (bs : List ℕ) → Stops bs → lexemes_after before place bs ≡ lexemes_after 32 place bs
 lexemes-stop before place [] h = refl
 lexemes-stop before place (b ∷ bs) h =
     ap (λ (c : Bool). lexeme_here place b bs c ++ lexemes_after b (place + 1) bs) (begins-stop before b h.0)
 
-begins-apart : (before b : ℕ) → goes_on before ≡ false → begins before b ≡ begins 32 b
+begins-apart : (before b : ℕ) → continues_token before ≡ false → begins_token before b ≡ begins_token 32 b
 begins-apart before b h = ap (λ (g : Bool). is_mark b || is_minus b || (is_word b && not g)) h
 
-pub lexemes-apart : (before place : ℕ) (bs : List ℕ) → goes_on before ≡ false → lexemes_after before place bs ≡ lexemes_after 32 place bs
+pub lexemes-apart : (before place : ℕ) (bs : List ℕ) → continues_token before ≡ false → lexemes_after before place bs ≡ lexemes_after 32 place bs
 lexemes-apart before place [] h = refl
 lexemes-apart before place (b ∷ bs) h =
     ap (λ (c : Bool). lexeme_here place b bs c ++ lexemes_after b (place + 1) bs) (begins-apart before b h)
@@ -67,11 +67,11 @@ none-begins : (m n w g : Bool) → m ≡ false → n ≡ false → g ≡ true �
 none-begins m n true g a b c = rw (a, b, c) refl
 none-begins m n false g a b c = rw (a, b) refl
 
-within-word : (before b : ℕ) → goes_on before ≡ true → is_word b ≡ true → begins before b ≡ false
-within-word before b g h = none-begins (is_mark b) (is_minus b) (is_word b) (goes_on before) (no_mark b h) (no_minus b h) g
+within-word : (before b : ℕ) → continues_token before ≡ true → is_word b ≡ true → begins_token before b ≡ false
+within-word before b g h = none-begins (is_mark b) (is_minus b) (is_word b) (continues_token before) (no_mark b h) (no_minus b h) g
 
 -- the bytes of a word behind its first have no lexeme of their own
-pub lexemes-word : (before place : ℕ) (word rest : List ℕ) → goes_on before ≡ true → AreWords word → Stops rest
+pub lexemes-word : (before place : ℕ) (word rest : List ℕ) → continues_token before ≡ true → AreWords word → Stops rest
     → lexemes_after before place (word ++ rest) ≡ lexemes_after 32 (place + length word) rest
 lexemes-word before place [] rest g h s =
     let e : place ≡ place + 0 = omega arith in
@@ -93,7 +93,7 @@ take-word (b ∷ word) rest h s =
     ∙ ap (λ (c : Bool). cond c (b ∷ take_while is_word (word ++ rest)) []) h.0
     ∙ ap (λ (w : List ℕ). b ∷ w) (take-word word rest h.1 s)
 
-front-word : (b : ℕ) (word rest : List ℕ) → goes_on b ≡ true → AreWords word → Stops rest → front (b ∷ (word ++ rest)) ≡ b ∷ word
+front-word : (b : ℕ) (word rest : List ℕ) → continues_token b ≡ true → AreWords word → Stops rest → front (b ∷ (word ++ rest)) ≡ b ∷ word
 front-word b word rest g h s =
     ap (λ (c : Bool). cond c (b ∷ []) (b ∷ take_while is_word (word ++ rest))) (no_mark_goes_on b g)
     ∙ ap (λ (w : List ℕ). b ∷ w) (take-word word rest h s)
@@ -110,7 +110,7 @@ pub lexemes-token : (place : ℕ) (token rest : List ℕ) → IsWordToken token 
 lexemes-token place [] rest h s = absurd h
 lexemes-token place (b ∷ word) rest h s =
     let e : place + 1 + length word ≡ place + length (b ∷ word) = omega arith in
-    let one : begins 32 b ≡ true = some-begins (is_mark b) (is_minus b) (is_word b) h.0 in
+    let one : begins_token 32 b ≡ true = some-begins (is_mark b) (is_minus b) (is_word b) h.0 in
     ap (λ (c : Bool). lexeme_here place b (word ++ rest) c ++ lexemes_after b (place + 1) (word ++ rest)) one
     ∙ ap (λ (w : List ℕ). record { start = place; bytes = w } ∷ lexemes_after b (place + 1) (word ++ rest)) (front-word b word rest h.0 h.1 s)
     ∙ ap (λ (ls : List Lexeme). record { start = place; bytes = b ∷ word } ∷ ls)
@@ -157,11 +157,11 @@ ArePlain-token (b ∷ bs) h =
     (f.0, f.1, f.2, ArePlain-words bs h.1)
 
 -- a listed line has no comment
-pub code-plain : (line : List ℕ) → ArePlain line → code_of line ≡ line
+pub code-plain : (line : List ℕ) → ArePlain line → before_comment line ≡ line
 code-plain [] h = refl
 code-plain (b ∷ bs) h =
     take_while-cons (λ (x : ℕ). not (is_hash x)) b bs
-    ∙ ap (λ (c : Bool). cond (not c) (b ∷ code_of bs) []) h.1
+    ∙ ap (λ (c : Bool). cond (not c) (b ∷ before_comment bs) []) h.1
     ∙ ap (λ (w : List ℕ). b ∷ w) (code-plain bs h.3)
 
 pub none-bad : (line : List ℕ) → ArePlain line → list_any is_bad line ≡ false

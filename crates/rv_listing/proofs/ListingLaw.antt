@@ -16,12 +16,12 @@ use Rattle.rv_assembler.specs.Operand.{bytes_of}
 use Rattle.rv_assembler.specs.Gathering.{no_count, meaning_in}
 use Rattle.rv_assembler.specs.Reading.{reading_of, is_version_of, version_line}
 use Rattle.rv_assembler.specs.Adding.{no_draft, total, program_in, draft_of}
-use Rattle.rv_assembler.specs.Finishing.{program_of}
+use Rattle.rv_assembler.specs.Finishing.{finished_program}
 use Rattle.rv_assembler.specs.Source.{source}
 use Rattle.rv_assembler.proofs.AgreeLemmas.{source-added}
 use Rattle.rv_listing.specs.Statement.{statement}
-use Rattle.rv_listing.specs.Listing.{text_of, listed_lines, listed}
-use Rattle.rv_listing.specs.Law.{IsWithinLimits, AreDeclaredNames, HasWords}
+use Rattle.rv_listing.specs.Listing.{text_of, listed_lines, listing_of}
+use Rattle.rv_listing.specs.Law.{FitsSourceLimits, AreDeclaredNames, HasWords}
 use Rattle.rv_listing.proofs.LexLemmas.{AllPlain, cut-text}
 use Rattle.rv_listing.proofs.TokenLemmas.{token, Op, IsOp, statement-lexed, statement-read, IsGoodLine, statement-good}
 use Rattle.rv_listing.proofs.KindLemmas.{token-tested}
@@ -43,7 +43,7 @@ draft_by text version ls = total (ltb 0 version) text (meaning_in text no_count 
 draft-lines : (lines : List (List ℕ)) → AllPlain lines → draft_of (text_of lines) ≡ draft_by (text_of lines) (version_line (text_of lines) (numbered 1 0 lines)) (numbered 1 0 lines)
 draft-lines lines plain = ap (λ (ls : List (List ℕ)). draft_by (text_of lines) (version_line (text_of lines) (numbered 1 0 ls)) (numbered 1 0 ls)) (cut-text lines plain)
 
-source-by : (lines : List (List ℕ)) (d : Draft) (p : ProgramParts) → length (text_of lines) ≤ 1048576 → draft_of (text_of lines) ≡ Ok d → program_of d ≡ p → source (text_of lines) ≡ Ok p
+source-by : (lines : List (List ℕ)) (d : Draft) (p : ProgramParts) → length (text_of lines) ≤ 1048576 → draft_of (text_of lines) ≡ Ok d → finished_program d ≡ p → source (text_of lines) ≡ Ok p
 source-by lines d p l e f =
     let text = text_of lines in
     let small : ltb 1048576 (length text) ≡ false = le-ltb 1048576 (length text) l in
@@ -53,7 +53,7 @@ source-by lines d p l e f =
     ∙ ap (λ (x : ProgramParts). Ok x) f
 
 -- at most 256 regions: version 1
-version-1 : (p : ProgramParts) → IsReadable p → length p.regions ≤ 256 → IsWithinLimits (body_lines p) → source (text_of (body_lines p)) ≡ Ok p
+version-1 : (p : ProgramParts) → IsReadable p → length p.regions ≤ 256 → FitsSourceLimits (body_lines p) → source (text_of (body_lines p)) ≡ Ok p
 version-1 p h few w =
     let lines = body_lines p in
     let text = text_of lines in
@@ -102,7 +102,7 @@ version-found text rest e =
     ap (λ (x : List ℕ). bytes_eq x (codes ".version") && bytes_eq (bytes_of text (token (Number (pos 2)) 9 (codes "2"))) (codes "2")) read.0
     ∙ ap (λ (x : List ℕ). bytes_eq x (codes "2")) read.1.0
 
-version-2 : (p : ProgramParts) → IsReadable p → IsWithinLimits (version_text ∷ body_lines p) → source (text_of (version_text ∷ body_lines p)) ≡ Ok p
+version-2 : (p : ProgramParts) → IsReadable p → FitsSourceLimits (version_text ∷ body_lines p) → source (text_of (version_text ∷ body_lines p)) ≡ Ok p
 version-2 p h w =
     let body = body_lines p in
     let lines = version_text ∷ body in
@@ -120,11 +120,11 @@ version-2 p h w =
     ∙ total-body p h 1 2 front text 11 refl whole (omega arith) (omega arith) short.1 h.regions in
     source-by lines (add_words (phased_draft p) p.code) p w.bytes draft (program-again p h)
 
-by-version : (p : ProgramParts) (b : Bool) → ltb 256 (length p.regions) ≡ b → IsReadable p → IsWithinLimits (cond b (version_text ∷ []) [] ++ body_lines p) → source (text_of (cond b (version_text ∷ []) [] ++ body_lines p)) ≡ Ok p
+by-version : (p : ProgramParts) (b : Bool) → ltb 256 (length p.regions) ≡ b → IsReadable p → FitsSourceLimits (cond b (version_text ∷ []) [] ++ body_lines p) → source (text_of (cond b (version_text ∷ []) [] ++ body_lines p)) ≡ Ok p
 by-version p true e h w = version-2 p h w
 by-version p false e h w = version-1 p h (grind (arith, nat_tests)) w
 
 -- a program that is listed is assembled to itself
-pub listing-again : (p : ProgramParts) → IsProgram p → HasWords p → AreDeclaredNames (names_of p) → IsWithinLimits (listed_lines p) → source (listed p) ≡ Ok p
+pub listing-again : (p : ProgramParts) → IsProgram p → HasWords p → AreDeclaredNames (names_of p) → FitsSourceLimits (listed_lines p) → source (listing_of p) ≡ Ok p
 unfolding listed_lines
 listing-again p h w n l = by-version p (ltb 256 (length p.regions)) refl (readable p h w n) l

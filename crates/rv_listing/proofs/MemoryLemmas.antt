@@ -7,7 +7,7 @@ use Rattle.std.proofs.lemmas.List.{length-drop}
 use Rattle.region_table.specs.declared.declared.Region.{Region}
 use Rattle.region_table.specs.Program.{AreTiled}
 use Rattle.rv_assembler.specs.declared.draft.FirstValue.{FirstValue}
-use Rattle.rv_assembler.specs.Finishing.{stored}
+use Rattle.rv_assembler.specs.Finishing.{with_first_values}
 
 abbrev pub first_value : ℕ → ℕ → FirstValue
 first_value w x = record { word = w; value = x }
@@ -21,30 +21,30 @@ set-behind : (done rest : List ℕ) (y x : ℕ) → slice_set (done ++ y ∷ res
 set-behind [] rest y x = refl
 set-behind (d ∷ done) rest y x = ap (λ (l : List ℕ). d ∷ l) (set-behind done rest y x)
 
-stored-step : (done xs : List ℕ) (x : ℕ) (b : Bool) → eqb x 0 ≡ b → ((e : List ℕ) → stored (e ++ replicate (length xs) 0) (values_from (length e) xs) ≡ e ++ xs)
-    → stored (done ++ 0 ∷ replicate (length xs) 0) (cond b [] (first_value (length done) x ∷ []) ++ values_from (length done + 1) xs) ≡ done ++ x ∷ xs
+stored-step : (done xs : List ℕ) (x : ℕ) (b : Bool) → eqb x 0 ≡ b → ((e : List ℕ) → with_first_values (e ++ replicate (length xs) 0) (values_from (length e) xs) ≡ e ++ xs)
+    → with_first_values (done ++ 0 ∷ replicate (length xs) 0) (cond b [] (first_value (length done) x ∷ []) ++ values_from (length done + 1) xs) ≡ done ++ x ∷ xs
 stored-step done xs x true z next =
     let zero-is : x ≡ 0 = eqb-true x 0 z in
     let long : length (done ++ 0 ∷ []) ≡ length done + 1 = length-append done (0 ∷ []) in
-    ap (λ (m : List ℕ). stored m (values_from (length done + 1) xs)) (sym (append_assoc done (0 ∷ []) (replicate (length xs) 0)))
-    ∙ ap (λ (n : ℕ). stored ((done ++ 0 ∷ []) ++ replicate (length xs) 0) (values_from n xs)) (sym long)
+    ap (λ (m : List ℕ). with_first_values m (values_from (length done + 1) xs)) (sym (append_assoc done (0 ∷ []) (replicate (length xs) 0)))
+    ∙ ap (λ (n : ℕ). with_first_values ((done ++ 0 ∷ []) ++ replicate (length xs) 0) (values_from n xs)) (sym long)
     ∙ next (done ++ 0 ∷ [])
     ∙ append_assoc done (0 ∷ []) xs
     ∙ ap (λ (n : ℕ). done ++ n ∷ xs) (sym zero-is)
 stored-step done xs x false z next =
     let long : length (done ++ x ∷ []) ≡ length done + 1 = length-append done (x ∷ []) in
-    ap (λ (m : List ℕ). stored m (values_from (length done + 1) xs)) (set-behind done (replicate (length xs) 0) 0 x ∙ sym (append_assoc done (x ∷ []) (replicate (length xs) 0)))
-    ∙ ap (λ (n : ℕ). stored ((done ++ x ∷ []) ++ replicate (length xs) 0) (values_from n xs)) (sym long)
+    ap (λ (m : List ℕ). with_first_values m (values_from (length done + 1) xs)) (set-behind done (replicate (length xs) 0) 0 x ∙ sym (append_assoc done (x ∷ []) (replicate (length xs) 0)))
+    ∙ ap (λ (n : ℕ). with_first_values ((done ++ x ∷ []) ++ replicate (length xs) 0) (values_from n xs)) (sym long)
     ∙ next (done ++ x ∷ [])
     ∙ append_assoc done (x ∷ []) xs
 
 -- behind words that are done, the values of the rest stored in zeros are the rest
-pub stored-values : (xs done : List ℕ) → stored (done ++ replicate (length xs) 0) (values_from (length done) xs) ≡ done ++ xs
+pub stored-values : (xs done : List ℕ) → with_first_values (done ++ replicate (length xs) 0) (values_from (length done) xs) ≡ done ++ xs
 stored-values [] done = refl
 stored-values (x ∷ xs) done = stored-step done xs x (eqb x 0) refl (λ e. stored-values xs e)
 
 -- the memory of a listing: its values stored in as many zeros
-pub stored-memory : (memory : List ℕ) → stored (replicate (length memory) 0) (values_from 0 memory) ≡ memory
+pub stored-memory : (memory : List ℕ) → with_first_values (replicate (length memory) 0) (values_from 0 memory) ≡ memory
 stored-memory memory = stored-values memory []
 
 values-append : (w : ℕ) (xs ys : List ℕ) → values_from w (xs ++ ys) ≡ values_from w xs ++ values_from (w + length xs) ys

@@ -8,10 +8,10 @@ use Rattle.std.proofs.lemmas.Int.{ints}
 use Rattle.std.proofs.lemmas.Bool.Decides.{nat_tests}
 use Rattle.std.proofs.lemmas.Fmt.{decimal_by_steps}
 use Rattle.src_text.specs.Byte.{is_word, is_digit, is_minus}
-use Rattle.src_text.specs.Lexeme.{kind_of}
-use Rattle.src_text.specs.Number.{digit_of, value_after, value_of, has_prefix, magnitude_of, at_most, negated, number_of}
+use Rattle.src_text.specs.Lexeme.{token_kind_of}
+use Rattle.src_text.specs.Number.{digit_of, value_after, value_of, has_prefix, magnitude_of, if_at_most, negated, number_of}
 use Rattle.src_text.specs.declared.token.TokenKind.TheVariants.{Name, Number}
-use Rattle.src_text.specs.Register.{register_of, registers}
+use Rattle.src_text.specs.Register.{register_of, register_rows}
 use Rattle.text_pieces.specs.Pieces.{hex_digit, hex_at, hexadecimal}
 use Rattle.rv_listing.specs.Statement.{register}
 use Rattle.rv_listing.proofs.LexLemmas.{AreWords, AreWords-append, IsWordToken, word_goes_on}
@@ -98,8 +98,8 @@ pub decimal-number : (n : ℕ) → n < 2 ^ 32 → number_of (decimal n) ≡ Some
 decimal-number n l =
     let d = IsDecimal-decimal n (omega arith) in
     let minus : is_minus (get_or (decimal n) 0 0) ≡ false = digit_no_minus (get_or (decimal n) 0 0) d.first in
-    ap (λ (c : Bool). cond c (option_map negated (at_most 2147483648 (magnitude_of (drop 1 (decimal n))))) (option_map pos (at_most 4294967295 (magnitude_of (decimal n))))) minus
-    ∙ ap (λ (o : Option ℕ). option_map pos (at_most 4294967295 o)) (decimal-magnitude n (decimal n) d)
+    ap (λ (c : Bool). cond c (option_map negated (if_at_most 2147483648 (magnitude_of (drop 1 (decimal n))))) (option_map pos (if_at_most 4294967295 (magnitude_of (decimal n))))) minus
+    ∙ ap (λ (o : Option ℕ). option_map pos (if_at_most 4294967295 o)) (decimal-magnitude n (decimal n) d)
     ∙ ap (λ (c : Bool). option_map pos (cond c (Some n) None)) (le-leb n 4294967295 (omega arith))
 
 -- the numbers with sign
@@ -119,12 +119,12 @@ pub signed-number : (z : ℤ) → IsHeld z → number_of (signed_decimal z) ≡ 
 signed-number (pos n) l = decimal-number n l
 signed-number (negsuc n) l =
     let d = IsDecimal-decimal (suc n) (omega arith) in
-    ap (λ (o : Option ℕ). option_map negated (at_most 2147483648 o)) (decimal-magnitude (suc n) (decimal (suc n)) d)
+    ap (λ (o : Option ℕ). option_map negated (if_at_most 2147483648 o)) (decimal-magnitude (suc n) (decimal (suc n)) d)
     ∙ ap (λ (c : Bool). option_map negated (cond c (Some (suc n)) None)) (le-leb (suc n) 2147483648 l)
     ∙ ap (λ (z : ℤ). Some z) (negated-suc n)
 
 -- a token that begins as a number is of the number's kind
-pub number-kind : (bs : List ℕ) (z : ℤ) → (is_digit (get_or bs 0 0) || is_minus (get_or bs 0 0)) ≡ true → number_of bs ≡ Some z → kind_of bs ≡ Some (Number z)
+pub number-kind : (bs : List ℕ) (z : ℤ) → (is_digit (get_or bs 0 0) || is_minus (get_or bs 0 0)) ≡ true → number_of bs ≡ Some z → token_kind_of bs ≡ Some (Number z)
 number-kind bs z h e =
     let c1 : eqb (get_or bs 0 0) 44 ≡ false = grind (arith, nat_tests) in
     let c2 : eqb (get_or bs 0 0) 58 ≡ false = grind (arith, nat_tests) in
@@ -135,12 +135,12 @@ number-kind bs z h e =
 or-first : (a b : Bool) → a ≡ true → (a || b) ≡ true
 or-first a b e = ap (λ (x : Bool). x || b) e
 
-pub decimal-kind : (n : ℕ) → n < 2 ^ 32 → kind_of (decimal n) ≡ Some (Number (pos n))
+pub decimal-kind : (n : ℕ) → n < 2 ^ 32 → token_kind_of (decimal n) ≡ Some (Number (pos n))
 decimal-kind n l =
     let d = IsDecimal-decimal n (omega arith) in
     number-kind (decimal n) (pos n) (or-first (is_digit (get_or (decimal n) 0 0)) (is_minus (get_or (decimal n) 0 0)) d.first) (decimal-number n l)
 
-pub signed-kind : (z : ℤ) → IsHeld z → kind_of (signed_decimal z) ≡ Some (Number z)
+pub signed-kind : (z : ℤ) → IsHeld z → token_kind_of (signed_decimal z) ≡ Some (Number z)
 signed-kind (pos n) l = decimal-kind n l
 signed-kind (negsuc n) l = number-kind (45 ∷ decimal (suc n)) (negsuc n) refl (signed-number (negsuc n) l)
 
@@ -187,7 +187,7 @@ module _ (n : ℕ) (small : n < 2 ^ 32) where
   pub hexadecimal-number : number_of (hexadecimal n) ≡ Some (pos n)
   unfolding hexadecimal
   hexadecimal-number =
-      ap (λ (o : Option ℕ). option_map pos (at_most 4294967295 o)) hex-value
+      ap (λ (o : Option ℕ). option_map pos (if_at_most 4294967295 o)) hex-value
       ∙ ap (λ (c : Bool). option_map pos (cond c (Some n) None)) (le-leb n 4294967295 (omega arith))
 
   pub hexadecimal-token : IsWordToken (hexadecimal n)
@@ -221,13 +221,13 @@ module _ (n : ℕ) (small : n < 2 ^ 32) where
     ),
   )
 
-  pub hexadecimal-kind : kind_of (hexadecimal n) ≡ Some (Number (pos n))
+  pub hexadecimal-kind : token_kind_of (hexadecimal n) ≡ Some (Number (pos n))
   unfolding hexadecimal
   hexadecimal-kind = ap (option_map Number) hexadecimal-number
 
 -- the names of registers
 pub register-found : (n : ℕ) → n < 32 → register_of (register n) ≡ Some n
-unfolding registers digits
+unfolding register_rows digits
 register-found zero l = refl
 register-found (suc zero) l = refl
 register-found (suc (suc zero)) l = refl
@@ -265,5 +265,5 @@ register-found (suc (suc (suc (suc (suc (suc (suc (suc (suc (suc (suc (suc (suc 
 pub register-token : (n : ℕ) → n < 32 → IsWordToken (register n)
 register-token n l = let d = IsDecimal-decimal n (omega arith) in (refl, d.words)
 
-pub register-kind : (n : ℕ) → kind_of (register n) ≡ Some Name
+pub register-kind : (n : ℕ) → token_kind_of (register n) ≡ Some Name
 register-kind n = refl

@@ -18,7 +18,7 @@ use Rattle.rv_assembler.specs.Number.{wrapped, is_length}
 use Rattle.rv_assembler.specs.Gathering.{more}
 use Rattle.rv_assembler.specs.Operand.{bytes_of}
 use Rattle.rv_assembler.specs.Counts.{region_words}
-use Rattle.rv_assembler.specs.Adding.{after, total}
+use Rattle.rv_assembler.specs.Adding.{draft_after, total}
 use Rattle.rv_assembler.specs.Fault.{most_regions, over_limit}
 use Rattle.rv_assembler.specs.Testing.{region_doubled, lock_doubled, draft_fault}
 use Rattle.rv_assembler.proofs.SourceLemmas.{total-more}
@@ -72,7 +72,7 @@ module _ (v : Bool) (text : List ℕ) (names : List ℕ → Option Meaning) wher
       ∙ ap (λ (o : Option Meaning). cond (region_doubled o d.count.regions) (Some (fault.TheVariants.DoubleName n)) None) e
       ∙ ap (λ (b : Bool). cond (not b) (Some (fault.TheVariants.DoubleName n)) None) (same-number d.count.regions)
 
-  after-region : (d : Draft) (t : Token) (r : Region) → bytes_of text t ≡ r.name → d.count.words ≡ r.start → 0 < r.len → r.start + r.len ≤ 65536 → d.count.regions ≤ 4096 → after text names d (region_statement t r) ≡ add_region d r
+  after-region : (d : Draft) (t : Token) (r : Region) → bytes_of text t ≡ r.name → d.count.words ≡ r.start → 0 < r.len → r.start + r.len ≤ 65536 → d.count.regions ≤ 4096 → draft_after text names d (region_statement t r) ≡ add_region d r
   after-region d t r e f l m few =
       let w : wrapped (pos r.len) ≡ r.len = wrapped-pos r.len (omega arith) in
       let long : region_words (pos r.len) ≡ r.len = ap (λ (b : Bool). cond b r.len 0) (length-pos r.len l (omega arith)) in
@@ -98,7 +98,7 @@ module _ (v : Bool) (text : List ℕ) (names : List ℕ → Option Meaning) wher
       ap (λ (o : Option Meaning). cond (lock_doubled o d.count.locks) (Some (fault.TheVariants.DoubleName n)) None) e
       ∙ ap (λ (b : Bool). cond (not b) (Some (fault.TheVariants.DoubleName n)) None) (same-number d.count.locks)
 
-  after-lock : (d : Draft) (t : Token) (l : List ℕ) → bytes_of text t ≡ l → d.count.locks ≤ 32 → after text names d (in_statement.TheVariants.Lock t) ≡ add_lock d l
+  after-lock : (d : Draft) (t : Token) (l : List ℕ) → bytes_of text t ≡ l → d.count.locks ≤ 32 → draft_after text names d (in_statement.TheVariants.Lock t) ≡ add_lock d l
   after-lock d t l e few =
       let count : more d.count.locks 1 ≡ d.count.locks + 1 = (let s : min (d.count.locks + 1) (2 ^ 32 - 1) ≡ d.count.locks + 1 = omega arith in s) in
       ap (λ (x : List ℕ). record d { locks = d.locks ++ x ∷ []; count = record { code = d.count.code; words = d.count.words; regions = d.count.regions; locks = more d.count.locks 1 } }) e

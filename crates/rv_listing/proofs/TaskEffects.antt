@@ -12,7 +12,7 @@ use Rattle.rv_assembler.specs.declared.draft.Claim.{Claim}
 use Rattle.rv_assembler.specs.declared.draft.Usage as in_usage
 use Rattle.rv_assembler.specs.Union.{united}
 use Rattle.rv_assembler.specs.Program.{same_usage}
-use Rattle.rv_assembler.specs.Finishing.{interval_of, words_of, read_under, written_under, effects_of}
+use Rattle.rv_assembler.specs.Finishing.{interval_within, words_within, guarded_reads_within, guarded_writes_within, effects_within}
 use Rattle.rv_listing.specs.Law.{AreCanonical}
 use Rattle.rv_listing.proofs.CutSetLemmas.{cut_set, set-some, cut-united}
 use Rattle.rv_listing.proofs.EffectLemmas.{claims_with, kept-append, own-claims, other-claims}
@@ -33,13 +33,13 @@ task_claims rs p core e locks =
     claims_with p core in_usage.TheVariants.Reads (cut_set rs e.reads) ++ (claims_with p core in_usage.TheVariants.Writes (cut_set rs e.writes) ++ guarded_claims rs p core e 0 locks)
 
 abbrev kept : ℕ → Usage → List Claim → List Interval
-kept words u cs = filter_map (interval_of words u) cs
+kept words u cs = filter_map (interval_within words u) cs
 
 two : (words : ℕ) (u : Usage) (a b c : List Claim) (x y z : List Interval) → kept words u a ≡ x → kept words u b ≡ y → kept words u c ≡ z → kept words u (a ++ (b ++ c)) ≡ x ++ (y ++ z)
 two words u a b c x y z e f g =
-    kept-append (interval_of words u) a (b ++ c)
+    kept-append (interval_within words u) a (b ++ c)
     ∙ ap (λ (l : List Interval). l ++ kept words u (b ++ c)) e
-    ∙ ap (λ (l : List Interval). x ++ l) (kept-append (interval_of words u) b c ∙ ap (λ (l : List Interval). l ++ kept words u c) f ∙ ap (λ (l : List Interval). y ++ l) g)
+    ∙ ap (λ (l : List Interval). x ++ l) (kept-append (interval_within words u) b c ∙ ap (λ (l : List Interval). l ++ kept words u c) f ∙ ap (λ (l : List Interval). y ++ l) g)
 
 module _ (rs : List Region) (words p core : ℕ) (e : Effects) (tiled : AreTiled 0 rs words) where
   no-plain : (writes : Bool) (k n : ℕ) → kept words (cond writes in_usage.TheVariants.Writes in_usage.TheVariants.Reads) (guarded_claims rs p core e k n) ≡ []
@@ -142,20 +142,20 @@ by-places f a (x ∷ xs) d h =
     ap (λ y. y ∷ map f (range_with_len (a + 1) (length xs))) first ∙ ap (λ ys. x ∷ ys) rest
 
 -- what a task of a listing claims gives its effects
-pub effects-again : (rs : List Region) (words locks p core : ℕ) (e : Effects) → AreTiled 0 rs words → AreEffects words locks e → AreCanonical e → effects_of words locks (task_claims rs p core e locks) ≡ e
+pub effects-again : (rs : List Region) (words locks p core : ℕ) (e : Effects) → AreTiled 0 rs words → AreEffects words locks e → AreCanonical e → effects_within words locks (task_claims rs p core e locks) ≡ e
 effects-again rs words locks p core e tiled h c =
     let claims = task_claims rs p core e locks in
-    let r : words_of words claims in_usage.TheVariants.Reads ≡ e.reads = ap united (reads-kept rs words p core e tiled locks) ∙ cut-united rs words e.reads tiled h.reads c.reads in
-    let w : words_of words claims in_usage.TheVariants.Writes ≡ e.writes = ap united (writes-kept rs words p core e tiled locks) ∙ cut-united rs words e.writes tiled h.writes c.writes in
-    let gr : map (read_under words claims) (range_with_len 0 locks) ≡ e.guarded_reads =
-    ap (λ (n : ℕ). map (read_under words claims) (range_with_len 0 n)) (sym h.reads_by_lock)
-    ∙ by-places (read_under words claims) 0 e.guarded_reads []
-    (λ j l. let s : 0 + j ≡ j = omega arith in ap (read_under words claims) s ∙ ap united (guarded-reads-kept rs words p core e tiled j locks (omega (arith, h.reads_by_lock))) ∙ cut-united rs words (set_at e.guarded_reads j) tiled (h.guarded_reads j [] l) (c.guarded_reads j [] l)) in
-    let gw : map (written_under words claims) (range_with_len 0 locks) ≡ e.guarded_writes =
-    ap (λ (n : ℕ). map (written_under words claims) (range_with_len 0 n)) (sym h.writes_by_lock)
-    ∙ by-places (written_under words claims) 0 e.guarded_writes []
-    (λ j l. let s : 0 + j ≡ j = omega arith in ap (written_under words claims) s ∙ ap united (guarded-writes-kept rs words p core e tiled j locks (omega (arith, h.writes_by_lock))) ∙ cut-united rs words (set_at e.guarded_writes j) tiled (h.guarded_writes j [] l) (c.guarded_writes j [] l)) in
-    ap (λ x. let q : Effects = record { reads = x; writes = words_of words claims in_usage.TheVariants.Writes; guarded_reads = map (read_under words claims) (range_with_len 0 locks); guarded_writes = map (written_under words claims) (range_with_len 0 locks) } in q) r
-    ∙ ap (λ x. let q : Effects = record { reads = e.reads; writes = x; guarded_reads = map (read_under words claims) (range_with_len 0 locks); guarded_writes = map (written_under words claims) (range_with_len 0 locks) } in q) w
-    ∙ ap (λ x. let q : Effects = record { reads = e.reads; writes = e.writes; guarded_reads = x; guarded_writes = map (written_under words claims) (range_with_len 0 locks) } in q) gr
+    let r : words_within words claims in_usage.TheVariants.Reads ≡ e.reads = ap united (reads-kept rs words p core e tiled locks) ∙ cut-united rs words e.reads tiled h.reads c.reads in
+    let w : words_within words claims in_usage.TheVariants.Writes ≡ e.writes = ap united (writes-kept rs words p core e tiled locks) ∙ cut-united rs words e.writes tiled h.writes c.writes in
+    let gr : map (guarded_reads_within words claims) (range_with_len 0 locks) ≡ e.guarded_reads =
+    ap (λ (n : ℕ). map (guarded_reads_within words claims) (range_with_len 0 n)) (sym h.reads_by_lock)
+    ∙ by-places (guarded_reads_within words claims) 0 e.guarded_reads []
+    (λ j l. let s : 0 + j ≡ j = omega arith in ap (guarded_reads_within words claims) s ∙ ap united (guarded-reads-kept rs words p core e tiled j locks (omega (arith, h.reads_by_lock))) ∙ cut-united rs words (set_at e.guarded_reads j) tiled (h.guarded_reads j [] l) (c.guarded_reads j [] l)) in
+    let gw : map (guarded_writes_within words claims) (range_with_len 0 locks) ≡ e.guarded_writes =
+    ap (λ (n : ℕ). map (guarded_writes_within words claims) (range_with_len 0 n)) (sym h.writes_by_lock)
+    ∙ by-places (guarded_writes_within words claims) 0 e.guarded_writes []
+    (λ j l. let s : 0 + j ≡ j = omega arith in ap (guarded_writes_within words claims) s ∙ ap united (guarded-writes-kept rs words p core e tiled j locks (omega (arith, h.writes_by_lock))) ∙ cut-united rs words (set_at e.guarded_writes j) tiled (h.guarded_writes j [] l) (c.guarded_writes j [] l)) in
+    ap (λ x. let q : Effects = record { reads = x; writes = words_within words claims in_usage.TheVariants.Writes; guarded_reads = map (guarded_reads_within words claims) (range_with_len 0 locks); guarded_writes = map (guarded_writes_within words claims) (range_with_len 0 locks) } in q) r
+    ∙ ap (λ x. let q : Effects = record { reads = e.reads; writes = x; guarded_reads = map (guarded_reads_within words claims) (range_with_len 0 locks); guarded_writes = map (guarded_writes_within words claims) (range_with_len 0 locks) } in q) w
+    ∙ ap (λ x. let q : Effects = record { reads = e.reads; writes = e.writes; guarded_reads = x; guarded_writes = map (guarded_writes_within words claims) (range_with_len 0 locks) } in q) gr
     ∙ ap (λ x. let q : Effects = record { reads = e.reads; writes = e.writes; guarded_reads = e.guarded_reads; guarded_writes = x } in q) gw

@@ -16,8 +16,8 @@ use Rattle.rv_assembler.specs.declared.statement.Family.{Family}
 use Rattle.rv_assembler.specs.declared.statement.Statement as in_statement
 use Rattle.rv_assembler.specs.Number.{wrapped, is_within}
 use Rattle.rv_assembler.specs.Drafting.{members}
-use Rattle.rv_assembler.specs.Adding.{after, total}
-use Rattle.rv_assembler.specs.Fault.{entry_far, are_cores, is_on, taken, over_limit}
+use Rattle.rv_assembler.specs.Adding.{draft_after, total}
+use Rattle.rv_assembler.specs.Fault.{entry_far, are_cores, is_on, core_in_use, over_limit}
 use Rattle.rv_assembler.specs.Testing.{draft_fault}
 use Rattle.rv_assembler.specs.Program.{is_task}
 use Rattle.rv_assembler.proofs.SourceLemmas.{total-more}
@@ -65,23 +65,23 @@ one-core p c f s d e = ap (λ (z : ℤ). eqb s.phase p && is_within z (z +ℤ f.
     same : (a b : Bool) → (leb c s.core && ltb s.core (c + 1)) ≡ a → eqb s.core c ≡ b → a ≡ b
     same a b g h = grind (arith, nat_tests)
 
-one-taken : (p c : ℕ) (f : Family) (ss : List Start) → f.core ≡ pos c → f.count ≡ pos 1 → taken ss p f ≡ has_task p c ss
+one-taken : (p c : ℕ) (f : Family) (ss : List Start) → f.core ≡ pos c → f.count ≡ pos 1 → core_in_use ss p f ≡ has_task p c ss
 one-taken p c f [] d e = refl
-one-taken p c f (s ∷ ss) d e = ap (λ (b : Bool). b || taken ss p f) (one-core p c f s d e) ∙ ap (λ (b : Bool). is_task p c s || b) (one-taken p c f ss d e)
+one-taken p c f (s ∷ ss) d e = ap (λ (b : Bool). b || core_in_use ss p f) (one-core p c f s d e) ∙ ap (λ (b : Bool). is_task p c s || b) (one-taken p c f ss d e)
 
 module _ (v : Bool) (text : List ℕ) (names : List ℕ → Option Meaning) (d : Draft) (c e a start : ℕ) (core : c < 16) (whole : e % 4 ≡ 0) (entry : e < 2 ^ 32) (arg : a < 2 ^ 32) (phase : eqb d.phases 0 ≡ false) (free : has_task d.phases c d.tasks ≡ false) where
-  not-taken : taken d.tasks d.phases (task_family c e a start) ≡ false
+  not-taken : core_in_use d.tasks d.phases (task_family c e a start) ≡ false
   not-taken = one-taken d.phases c (task_family c e a start) d.tasks refl refl ∙ free
 
   task-fault : (n : ℕ) → draft_fault text names d (record { line = n; label = None; statement = in_statement.TheVariants.Tasks (task_family c e a start) }) ≡ None
   task-fault n =
-      let rest = cond (eqb d.phases 0 || taken d.tasks d.phases (task_family c e a start)) (Some (fault.TheVariants.Misplaced n)) None in
+      let rest = cond (eqb d.phases 0 || core_in_use d.tasks d.phases (task_family c e a start)) (Some (fault.TheVariants.Misplaced n)) None in
       ap (λ (b : Bool). cond (not b || entry_far (Number (pos e))) (Some (fault.TheVariants.OutOfRange n)) rest) (cores-true c e a start core)
       ∙ ap (λ (b : Bool). cond b (Some (fault.TheVariants.OutOfRange n)) rest) (entry-near e whole entry)
-      ∙ ap (λ (b : Bool). cond (b || taken d.tasks d.phases (task_family c e a start)) (Some (fault.TheVariants.Misplaced n)) None) phase
+      ∙ ap (λ (b : Bool). cond (b || core_in_use d.tasks d.phases (task_family c e a start)) (Some (fault.TheVariants.Misplaced n)) None) phase
       ∙ ap (λ (b : Bool). cond b (Some (fault.TheVariants.Misplaced n)) None) not-taken
 
-  after-task : after text names d (in_statement.TheVariants.Tasks (task_family c e a start)) ≡ add_task d c e a
+  after-task : draft_after text names d (in_statement.TheVariants.Tasks (task_family c e a start)) ≡ add_task d c e a
   after-task =
       let first : ℕ → ℕ → ℕ → Start = λ x y z. record { phase = d.phases; core = x; entry = y; arg = z } in
       let same : wrapped (pos a) % 2 ^ 32 ≡ a = omega arith in

@@ -3,7 +3,7 @@ use Rattle.std.proofs.Common.{◌≡◌, ℕ, ◌+◌, ◌-◌, false, ◌||◌,
 use Rattle.std.specs.List.{filter_map, cons_option, list_any}
 use Rattle.std.specs.Option.{option_map, is_none}
 use Rattle.std.proofs.lemmas.Bool.{le-leb}
-use Rattle.src_text.specs.Lexeme.{Lexeme, lexemes_after, kind_of, token_of, is_bad_number}
+use Rattle.src_text.specs.Lexeme.{Lexeme, lexemes_after, token_kind_of, token_of, is_bad_number}
 use Rattle.src_text.specs.declared.token.Token.{Token}
 use Rattle.src_text.specs.declared.token.TokenKind.{TokenKind}
 use Rattle.src_text.specs.declared.token.TokenKind.TheVariants.{Comma, Left, Right}
@@ -22,7 +22,7 @@ pub record Op : Type 0 where
 
 pub record IsOp (o : Op) : Type 0 where
   pub word : IsWordToken o.bytes
-  pub kind : kind_of o.bytes ≡ Some o.kind
+  pub kind : token_kind_of o.bytes ≡ Some o.kind
 
 abbrev pub AreOps : List Op → Type 0
 AreOps [] = Unit {0}
@@ -41,7 +41,7 @@ abbrev pub op_tokens : ℕ → List Op → List Token
 op_tokens place [] = []
 op_tokens place (o ∷ os) = token o.kind (place + 1) o.bytes ∷ more_tokens (place + 1 + length o.bytes) os
 
-pub token-some : (k : TokenKind) (start : ℕ) (bytes : List ℕ) (ls : List Lexeme) → kind_of bytes ≡ Some k
+pub token-some : (k : TokenKind) (start : ℕ) (bytes : List ℕ) (ls : List Lexeme) → token_kind_of bytes ≡ Some k
     → filter_map token_of (record { start = start; bytes = bytes } ∷ ls) ≡ token k start bytes ∷ filter_map token_of ls
 token-some k start bytes ls e =
     ap (λ (o : Option TokenKind). cons_option (option_map (λ (x : TokenKind). token x start bytes) o) (filter_map token_of ls)) e
@@ -178,7 +178,7 @@ statement-read text before word os rest place e s =
 
 -- ---- no number of such a line is a bad one
 
-good-some : (k : TokenKind) (start : ℕ) (bytes : List ℕ) (ls : List Lexeme) → kind_of bytes ≡ Some k → list_any is_bad_number (record { start = start; bytes = bytes } ∷ ls) ≡ list_any is_bad_number ls
+good-some : (k : TokenKind) (start : ℕ) (bytes : List ℕ) (ls : List Lexeme) → token_kind_of bytes ≡ Some k → list_any is_bad_number (record { start = start; bytes = bytes } ∷ ls) ≡ list_any is_bad_number ls
 good-some k start bytes ls e = ap (λ (o : Option TokenKind). is_none o || list_any is_bad_number ls) e
 
 more-good : (place : ℕ) (os : List Op) → AreOps os → list_any is_bad_number (lexemes_after 32 place (more_operands (texts os))) ≡ false

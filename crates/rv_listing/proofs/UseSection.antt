@@ -18,9 +18,9 @@ use Rattle.rv_assembler.specs.declared.names.Meaning as in_meaning
 use Rattle.rv_assembler.specs.Number.{wrapped, is_interval}
 use Rattle.rv_assembler.specs.Gathering.{more}
 use Rattle.rv_assembler.specs.Operand.{bytes_of}
-use Rattle.rv_assembler.specs.Named.{no_cores, region_place, usage_of}
+use Rattle.rv_assembler.specs.Named.{no_cores, region_span, usage_of}
 use Rattle.rv_assembler.specs.Drafting.{claims_for}
-use Rattle.rv_assembler.specs.Adding.{after, total}
+use Rattle.rv_assembler.specs.Adding.{draft_after, total}
 use Rattle.rv_assembler.specs.Fault.{lock_lost, extent_far, over_limit}
 use Rattle.rv_assembler.specs.Testing.{draft_fault}
 use Rattle.rv_assembler.proofs.SourceLemmas.{total-more}
@@ -49,7 +49,7 @@ module _ (v : Bool) (text : List ℕ) (names : List ℕ → Option Meaning) (d :
   pub total-phase : (n : ℕ) (rs : List Reading) → d.phases ≤ 64 → IsWithin v (add_phase d) → total v text names d (sayings n (in_statement.TheVariants.Phase ∷ []) ++ rs) ≡ total v text names (add_phase d) rs
   total-phase n rs few w =
       let count : more d.phases 1 ≡ d.phases + 1 = (let s : min (d.phases + 1) (2 ^ 32 - 1) ≡ d.phases + 1 = omega arith in s) in
-      let a : after text names d in_statement.TheVariants.Phase ≡ add_phase d = ap (λ (x : ℕ). record d { phases = x; family = no_cores }) count in
+      let a : draft_after text names d in_statement.TheVariants.Phase ≡ add_phase d = ap (λ (x : ℕ). record d { phases = x; family = no_cores }) count in
       total-more v text names d (record { line = n; label = None; statement = in_statement.TheVariants.Phase }) rs refl (ap (over_limit v) a ∙ within-limits v (add_phase d) w)
       ∙ ap (λ (x : Draft). total v text names x rs) a
 
@@ -57,7 +57,7 @@ module _ (v : Bool) (text : List ℕ) (names : List ℕ → Option Meaning) (d :
       (usage : usage_of text names e ≡ Some u) (lock : lock_lost text names e.lock ≡ false) (some : lo < hi) (within : hi ≤ r.len) (ends : r.start + r.len ≤ 65536) (one : d.family.count ≡ 1) where
     use-fault : (n : ℕ) → draft_fault text names d (record { line = n; label = None; statement = in_statement.TheVariants.Uses e }) ≡ None
     use-fault n =
-        ap (λ (o : Option Meaning). cond (extent_far (region_place o) e.extent d.family.count) (Some (fault.TheVariants.OutOfRange n)) (cond (is_none (region_place o) || lock_lost text names e.lock) (Some (fault.TheVariants.UnknownName n)) (cond (eqb d.family.count 0) (Some (fault.TheVariants.Misplaced n)) None))) found
+        ap (λ (o : Option Meaning). cond (extent_far (region_span o) e.extent d.family.count) (Some (fault.TheVariants.OutOfRange n)) (cond (is_none (region_span o) || lock_lost text names e.lock) (Some (fault.TheVariants.UnknownName n)) (cond (eqb d.family.count 0) (Some (fault.TheVariants.Misplaced n)) None))) found
         ∙ ap (λ x. cond (extent_far (Some (record { start = r.start; len = pos r.len })) x d.family.count) (Some (fault.TheVariants.OutOfRange n)) (cond (lock_lost text names e.lock) (Some (fault.TheVariants.UnknownName n)) (cond (eqb d.family.count 0) (Some (fault.TheVariants.Misplaced n)) None))) extent
         ∙ ap (λ (b : Bool). cond (not b) (Some (fault.TheVariants.OutOfRange n)) (cond (lock_lost text names e.lock) (Some (fault.TheVariants.UnknownName n)) (cond (eqb d.family.count 0) (Some (fault.TheVariants.Misplaced n)) None))) (interval-true lo hi r.len some within)
         ∙ ap (λ (b : Bool). cond b (Some (fault.TheVariants.UnknownName n)) (cond (eqb d.family.count 0) (Some (fault.TheVariants.Misplaced n)) None)) lock
@@ -68,9 +68,9 @@ module _ (v : Bool) (text : List ℕ) (names : List ℕ → Option Meaning) (d :
         let w : wrapped (pos i) ≡ i = wrapped-pos i (omega arith) in
         ap (λ (y : ℕ). (r.start + y) % 2 ^ 32) w ∙ (let s : (r.start + i) % 2 ^ 32 ≡ r.start + i = omega arith in s)
 
-    after-use : after text names d (in_statement.TheVariants.Uses e) ≡ add_claim d u (r.start + lo) (r.start + hi)
+    after-use : draft_after text names d (in_statement.TheVariants.Uses e) ≡ add_claim d u (r.start + lo) (r.start + hi)
     after-use =
-        ap (λ (o : Option Meaning). record d { claims = d.claims ++ claims_for d.phases d.family (region_place o) (usage_of text names e) e.extent }) found
+        ap (λ (o : Option Meaning). record d { claims = d.claims ++ claims_for d.phases d.family (region_span o) (usage_of text names e) e.extent }) found
         ∙ ap (λ (o : Option Usage). record d { claims = d.claims ++ claims_for d.phases d.family (Some (record { start = r.start; len = pos r.len })) o e.extent }) usage
         ∙ ap (λ x. record d { claims = d.claims ++ claims_for d.phases d.family (Some (record { start = r.start; len = pos r.len })) (Some u) x }) extent
         ∙ ap (λ (c : ℕ). record d { claims = d.claims ++ claims_for d.phases (let f : Cores = record { first = d.family.first; count = c } in f) (Some (record { start = r.start; len = pos r.len })) (Some u) (in_extent.TheVariants.Part (pos lo) (pos hi)) }) one

@@ -14,9 +14,9 @@ use Rattle.rv_assembler.specs.declared.statement.Statement as in_statement
 use Rattle.rv_assembler.specs.declared.names.Meaning as in_meaning
 use Rattle.rv_assembler.specs.Number.{wrapped}
 use Rattle.rv_assembler.specs.Operand.{bytes_of}
-use Rattle.rv_assembler.specs.Named.{region_place}
+use Rattle.rv_assembler.specs.Named.{region_span}
 use Rattle.rv_assembler.specs.Drafting.{values_for}
-use Rattle.rv_assembler.specs.Adding.{after, total}
+use Rattle.rv_assembler.specs.Adding.{draft_after, total}
 use Rattle.rv_assembler.specs.Fault.{word_far, over_limit}
 use Rattle.rv_assembler.specs.Testing.{draft_fault}
 use Rattle.rv_assembler.proofs.SourceLemmas.{total-more}
@@ -40,14 +40,14 @@ index-within i len l =
 module _ (v : Bool) (text : List ℕ) (names : List ℕ → Option Meaning) (d : Draft) (t : Token) (r : Region) (k i x : ℕ) (found : names (bytes_of text t) ≡ Some (in_meaning.TheVariants.Region k r.start (pos r.len))) (within : i < r.len) (ends : r.start + r.len ≤ 65536) (small : x < 2 ^ 32) where
   value-fault : (n : ℕ) → draft_fault text names d (record { line = n; label = None; statement = value_statement t i x }) ≡ None
   value-fault n =
-      ap (λ (o : Option Meaning). cond (word_far (region_place o) (pos i)) (Some (fault.TheVariants.OutOfRange n)) (cond (is_none (region_place o)) (Some (fault.TheVariants.UnknownName n)) None)) found
+      ap (λ (o : Option Meaning). cond (word_far (region_span o) (pos i)) (Some (fault.TheVariants.OutOfRange n)) (cond (is_none (region_span o)) (Some (fault.TheVariants.UnknownName n)) None)) found
       ∙ ap (λ (b : Bool). cond (not b) (Some (fault.TheVariants.OutOfRange n)) None) (index-within i r.len within)
 
-  after-value : after text names d (value_statement t i x) ≡ add_value d (r.start + i) x
+  after-value : draft_after text names d (value_statement t i x) ≡ add_value d (r.start + i) x
   after-value =
       let w : wrapped (pos i) ≡ i = wrapped-pos i (omega arith) in
       let place : (r.start + wrapped (pos i)) % 2 ^ 32 ≡ r.start + i = ap (λ (y : ℕ). (r.start + y) % 2 ^ 32) w ∙ (let s : (r.start + i) % 2 ^ 32 ≡ r.start + i = omega arith in s) in
-      ap (λ (o : Option Meaning). record d { values = d.values ++ values_for (region_place o) (pos i) (wrapped (pos x)) }) found
+      ap (λ (o : Option Meaning). record d { values = d.values ++ values_for (region_span o) (pos i) (wrapped (pos x)) }) found
       ∙ ap (λ (y : ℕ). record d { values = d.values ++ first_value y (wrapped (pos x)) ∷ [] }) place
       ∙ ap (λ (y : ℕ). record d { values = d.values ++ first_value (r.start + i) y ∷ [] }) (wrapped-pos x small)
 

@@ -6,7 +6,7 @@ pub use Rattle.rv_assembler.specs.Names.{is_declared_name, AreDeclaredNames}
 use Rattle.rv_listing.specs.Listing.{text_of}
 
 -- the lines are within the limits of a source text
-pub record IsWithinLimits (ls : List (List ℕ)) : Type 0 where
+pub record FitsSourceLimits (ls : List (List ℕ)) : Type 0 where
   pub bytes : length (text_of ls) ≤ 1048576
   pub lines : length ls ≤ 65536
   pub line : All (λ (l : List ℕ). length l ≤ 1024) ls

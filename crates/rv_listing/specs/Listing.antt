@@ -90,5 +90,5 @@ listed_lines p =
     ++ (map lock_line p.locks ++ (flat_map (phase_lines p.regions p.locks) p.phases ++ map code_line p.code))))
 
 -- the listing of a program
-abbrev pub listed : ProgramParts → List ℕ
-listed p = text_of (listed_lines p)
+abbrev pub listing_of : ProgramParts → List ℕ
+listing_of p = text_of (listed_lines p)

@@ -7,8 +7,8 @@ ghost use Rattle.region_table.specs.Program.{AreTiled, IsTask, IsPhase, IsProgra
 ghost use Rattle.rv_assembler.specs.Source.{source};
 ghost use Rattle.rv_listing.specs.Statement.{hexadecimal, statement};
 ghost use Rattle.rv_listing.specs.Instruction.{code_line};
-ghost use Rattle.rv_listing.specs.Law.{AreCodeWords, AreDeclaredNames, HasWords, IsOfWords, IsWithinLimits};
-ghost use Rattle.rv_listing.specs.Listing.{text_of, version_lines, region_line, value_line, value_lines, region_values, lock_line, task_line, task_lines, phase_lines, listed_lines, listed};
+ghost use Rattle.rv_listing.specs.Law.{AreCodeWords, AreDeclaredNames, HasWords, IsOfWords, FitsSourceLimits};
+ghost use Rattle.rv_listing.specs.Listing.{text_of, version_lines, region_line, value_line, value_lines, region_values, lock_line, task_line, task_lines, phase_lines, listed_lines, listing_of};
 
 use crate::effects::push_effects;
 use crate::instruction::push_code;
@@ -207,7 +207,7 @@ fn push_words(out: &mut Vec<u8>, code: &[u32]) -> Result<(), Memory>
 /// The text of a program, which is well formed, whose numbers have 32 bits and whose sets of words are canonical.
 #[tactic(auto, unfolding(crate::specs::Listing::listed_lines))]
 fn written(alloc: Global, program: &Program) -> Result<Vec<u8>, Memory>
-    ensures text { IfOk result (λ text. text.items ≡ listed program.now) }
+    ensures text { IfOk result (λ text. text.items ≡ listing_of program.now) }
     ensures well_formed { IfOk result (λ _. IsProgram program.now) }
     ensures words { IfOk result (λ _. HasWords program.now) }
 {
@@ -236,8 +236,8 @@ fn written(alloc: Global, program: &Program) -> Result<Vec<u8>, Memory>
 /// # Errors
 /// `Memory` where there is no room for the text.
 pub fn listing(alloc: Global, program: &Program) -> Result<Vec<u8>, Memory>
-    ensures text { IfOk result (λ text. text.items ≡ listed program.now) }
-    ensures again { AreDeclaredNames (names_of program.now) → IsWithinLimits (listed_lines program.now) → IfOk result (λ text. source text.items ≡ Ok program.now) }
+    ensures text { IfOk result (λ text. text.items ≡ listing_of program.now) }
+    ensures again { AreDeclaredNames (names_of program.now) → FitsSourceLimits (listed_lines program.now) → IfOk result (λ text. source text.items ≡ Ok program.now) }
 {
     let text = written(alloc, program)?;
     Ok(text)

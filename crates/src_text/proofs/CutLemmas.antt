@@ -7,7 +7,7 @@ use Rattle.std.proofs.lemmas.List.Sums.{sum_by-cons}
 use Rattle.std.proofs.lemmas.List.Elements.{All-nil, All-cons, All-head, All-tail}
 use Rattle.src_text.specs.Byte.{is_newline}
 use Rattle.src_text.specs.Line.{cut, onto_first, numbered, line_of}
-use Rattle.src_text.specs.Laws.{ended, is_open, AreLinesOf, place_of, AreNumbered}
+use Rattle.src_text.specs.Laws.{ended, is_open, AreLinesOf, line_start, AreNumbered}
 use Rattle.src_text.proofs.LineLemmas.{cut-first}
 
 -- the newline that a text may lack
@@ -61,26 +61,26 @@ length-numbered number place (l ∷ ls) = ap (λ (n : ℕ). suc n) (length-numbe
 same_line : (n n' p p' : ℕ) (line : List ℕ) → n ≡ n' → p ≡ p' → Some (line_of n p line) ≡ Some (line_of n' p' line)
 same_line n n' p p' line same_number same_place = ap (λ (w : ℕ). Some (line_of w p line)) same_number ∙ ap (λ (w : ℕ). Some (line_of n' w line)) same_place
 
-place_next : (k : ℕ) (l : List ℕ) (ls : List (List ℕ)) → place_of (suc k) (l ∷ ls) ≡ length l + 1 + place_of k ls
+place_next : (k : ℕ) (l : List ℕ) (ls : List (List ℕ)) → line_start (suc k) (l ∷ ls) ≡ length l + 1 + line_start k ls
 place_next k l ls = sum_by-cons (λ (line : List ℕ). length line + 1) l (take k ls)
 
-at_index : (number place : ℕ) (lines : List (List ℕ)) (k : ℕ) → k < length lines → slice_get (numbered number place lines) k ≡ Some (line_of (number + k) (place + place_of k lines) (get_or lines k []))
+at_index : (number place : ℕ) (lines : List (List ℕ)) (k : ℕ) → k < length lines → slice_get (numbered number place lines) k ≡ Some (line_of (number + k) (place + line_start k lines) (get_or lines k []))
 at_index number place [] k short = absurd (omega arith)
 at_index number place (l ∷ ls) zero short = same_line number (number + 0) place (place + 0) l (omega arith) (omega arith)
 at_index number place (l ∷ ls) (suc k) short =
     at_index (number + 1) (place + (length l + 1)) ls k (omega arith)
-    ∙ same_line (number + 1 + k) (number + suc k) (place + (length l + 1) + place_of k ls) (place + place_of (suc k) (l ∷ ls)) (get_or ls k []) (omega arith) (omega (arith, place_next k l ls))
+    ∙ same_line (number + 1 + k) (number + suc k) (place + (length l + 1) + line_start k ls) (place + line_start (suc k) (l ∷ ls)) (get_or ls k []) (omega arith) (omega (arith, place_next k l ls))
 
 -- the lines from an index on, with their newlines, begin at that line's place
-from_place : (lines : List (List ℕ)) (k : ℕ) → k < length lines → drop (place_of k lines) (flat_map ended lines) ≡ get_or lines k [] ++ (10 ∷ flat_map ended (drop (suc k) lines))
+from_place : (lines : List (List ℕ)) (k : ℕ) → k < length lines → drop (line_start k lines) (flat_map ended lines) ≡ get_or lines k [] ++ (10 ∷ flat_map ended (drop (suc k) lines))
 from_place [] k short = absurd (omega arith)
 from_place (l ∷ ls) zero short = append_assoc l (10 ∷ []) (flat_map ended ls)
 from_place (l ∷ ls) (suc k) short =
-    let next : place_of (suc k) (l ∷ ls) ≡ length (ended l) + place_of k ls = place_next k l ls ∙ ap (λ (n : ℕ). n + place_of k ls) (sym (length-append l (10 ∷ []))) in
+    let next : line_start (suc k) (l ∷ ls) ≡ length (ended l) + line_start k ls = place_next k l ls ∙ ap (λ (n : ℕ). n + line_start k ls) (sym (length-append l (10 ∷ []))) in
     let behind : drop (length (ended l)) (ended l ++ flat_map ended ls) ≡ flat_map ended ls = drop_at (ended l) (flat_map ended ls) (length (ended l)) refl in
     ap (λ (n : ℕ). drop n (ended l ++ flat_map ended ls)) next
-    ∙ sym (drop-drop (place_of k ls) (length (ended l)) (ended l ++ flat_map ended ls))
-    ∙ ap (drop (place_of k ls)) behind
+    ∙ sym (drop-drop (line_start k ls) (length (ended l)) (ended l ++ flat_map ended ls))
+    ∙ ap (drop (line_start k ls)) behind
     ∙ from_place ls k (omega arith)
 
 length-lacking : (c : Bool) → length {A = ℕ} (cond c (10 ∷ []) []) ≤ 1
@@ -104,6 +104,6 @@ part text more whole line rest place short is found =
 pub AreNumbered-lines_of : (text : List ℕ) → AreNumbered text
 AreNumbered-lines_of text = record {
   count = length-numbered 1 0 (cut text);
-  each = λ k short. at_index 1 0 (cut text) k short ∙ same_line (1 + k) (k + 1) (0 + place_of k (cut text)) (place_of k (cut text)) (get_or (cut text) k []) (omega arith) (omega arith);
-  bytes = λ k short. part text (lacking text) (flat_map ended (cut text)) (get_or (cut text) k []) (flat_map ended (drop (suc k) (cut text))) (place_of k (cut text)) (length-lacking (is_open text)) (joins text) (from_place (cut text) k short);
+  each = λ k short. at_index 1 0 (cut text) k short ∙ same_line (1 + k) (k + 1) (0 + line_start k (cut text)) (line_start k (cut text)) (get_or (cut text) k []) (omega arith) (omega arith);
+  bytes = λ k short. part text (lacking text) (flat_map ended (cut text)) (get_or (cut text) k []) (flat_map ended (drop (suc k) (cut text))) (line_start k (cut text)) (length-lacking (is_open text)) (joins text) (from_place (cut text) k short);
 }

@@ -2,7 +2,7 @@
 use Rattle.std.proofs.Common.{◌≡◌, ℕ, suc, ◌+◌, ◌<◌, Bool, true, false, not, cond, List, [], ◌∷◌, length, drop, take, Some, None, refl, ◌∙◌, ap, arith}
 use Rattle.std.specs.List.{before_first, position_or_len, list_any}
 use Rattle.src_text.specs.Byte.{is_newline, is_bad}
-use Rattle.src_text.specs.Lexeme.{code_of, lexemes_of, is_bad_number}
+use Rattle.src_text.specs.Lexeme.{before_comment, lexemes_of, is_bad_number}
 use Rattle.std.proofs.lemmas.List.{drop-drop, length-drop}
 use Rattle.src_text.specs.Line.{cut, numbered, onto_first, fault_of, line_of, is_over_limit}
 use Rattle.src_text.specs.declared.line.LineFault.TheVariants.{BadNumber, LineLimit}
@@ -30,14 +30,14 @@ cut-first (b ∷ []) some = cut_one b (is_newline b)
 cut-first (b ∷ c ∷ bs) some = cut_more b (is_newline b) (c ∷ bs) (position_or_len is_newline (c ∷ bs)) (cut-first (c ∷ bs) (omega arith))
 
 -- the three faults, each where none before it is
-pub fault-bad_number : (number place : ℕ) (line : List ℕ) → list_any is_bad (code_of line) ≡ false → list_any is_bad_number (lexemes_of place line) ≡ true → fault_of number line ≡ Some BadNumber
-fault-bad_number number place line bytes numbers = let here = bad_number_anywhere 32 0 place (code_of line) ∙ numbers in rw bytes (rw here refl)
+pub fault-bad_number : (number place : ℕ) (line : List ℕ) → list_any is_bad (before_comment line) ≡ false → list_any is_bad_number (lexemes_of place line) ≡ true → fault_of number line ≡ Some BadNumber
+fault-bad_number number place line bytes numbers = let here = bad_number_anywhere 32 0 place (before_comment line) ∙ numbers in rw bytes (rw here refl)
 
-pub fault-limit : (number place : ℕ) (line : List ℕ) → list_any is_bad (code_of line) ≡ false → list_any is_bad_number (lexemes_of place line) ≡ false → is_over_limit number line ≡ true → fault_of number line ≡ Some LineLimit
-fault-limit number place line bytes numbers limit = let here = bad_number_anywhere 32 0 place (code_of line) ∙ numbers in rw bytes (rw here (rw limit refl))
+pub fault-limit : (number place : ℕ) (line : List ℕ) → list_any is_bad (before_comment line) ≡ false → list_any is_bad_number (lexemes_of place line) ≡ false → is_over_limit number line ≡ true → fault_of number line ≡ Some LineLimit
+fault-limit number place line bytes numbers limit = let here = bad_number_anywhere 32 0 place (before_comment line) ∙ numbers in rw bytes (rw here (rw limit refl))
 
-pub no_fault : (number place : ℕ) (line : List ℕ) → list_any is_bad (code_of line) ≡ false → list_any is_bad_number (lexemes_of place line) ≡ false → is_over_limit number line ≡ false → fault_of number line ≡ None
-no_fault number place line bytes numbers limit = let here = bad_number_anywhere 32 0 place (code_of line) ∙ numbers in rw bytes (rw here (rw limit refl))
+pub no_fault : (number place : ℕ) (line : List ℕ) → list_any is_bad (before_comment line) ≡ false → list_any is_bad_number (lexemes_of place line) ≡ false → is_over_limit number line ≡ false → fault_of number line ≡ None
+no_fault number place line bytes numbers limit = let here = bad_number_anywhere 32 0 place (before_comment line) ∙ numbers in rw bytes (rw here (rw limit refl))
 
 -- the lines from the start of one on
 pub numbered_more : (number start : ℕ) (text line : List ℕ) → start < length text → line ≡ before_first is_newline (drop start text) → numbered number start (cut (drop start text)) ≡ line_of number start line ∷ numbered (number + 1) (start + (length line + 1)) (cut (drop (start + (length line + 1)) text))

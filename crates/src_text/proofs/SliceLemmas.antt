@@ -6,9 +6,9 @@ use Rattle.std.proofs.lemmas.Option.{same_Some, slice_get-get_or}
 use Rattle.std.proofs.lemmas.List.{take-append-drop, length-drop, drop-append-le, drop-drop, get_or_past, take_at}
 use Rattle.std.proofs.lemmas.List.Elements.{All-nil, All-cons, All-head, All-tail, All-weaker}
 use Rattle.src_text.specs.Byte.{is_hash}
-use Rattle.src_text.specs.Lexeme.{Lexeme, begins, front, lexemes_of, code_of, kind_of, token_of}
+use Rattle.src_text.specs.Lexeme.{Lexeme, begins_token, front, lexemes_of, before_comment, token_kind_of, token_of}
 use Rattle.src_text.specs.Line.{cut, line_of, line_with, lines_of, fault_of}
-use Rattle.src_text.specs.Laws.{place_of, StandsAt, IsTokenOf, IsSliceOf}
+use Rattle.src_text.specs.Laws.{line_start, StandsAt, IsTokenOf, IsSliceOf}
 use Rattle.src_text.specs.declared.token.Token.{Token}
 use Rattle.src_text.specs.declared.line.Line.{Line}
 use Rattle.src_text.specs.declared.line.LineFault.{LineFault}
@@ -26,14 +26,14 @@ front_of_more (b ∷ bs) more some =
     ∙ take_at (front (b ∷ bs)) (drop (length (front (b ∷ bs))) (b ∷ bs) ++ more) (length (front (b ∷ bs))) refl
 
 -- a place where a token begins is within the code
-pub within_code : (p : ℕ) (code : List ℕ) → begins (get_or (32 ∷ code) p 0) (get_or code p 0) ≡ true → p < length code
+pub within_code : (p : ℕ) (code : List ℕ) → begins_token (get_or (32 ∷ code) p 0) (get_or code p 0) ≡ true → p < length code
 within_code p code begun = elim (cases_lt p (length code)) [
   | inl within ↦ within
   | inr past ↦ absurd (nothing (get_or (32 ∷ code) p 0) (get_or code p 0) (get_or_past code p 0 past) begun)
 ]
   where
-    nothing : (before b : ℕ) → b ≡ 0 → begins before b ≡ true → ⊥
-    nothing before b none begun = let zeroed = ap (begins before) none in cc
+    nothing : (before b : ℕ) → b ≡ 0 → begins_token before b ≡ true → ⊥
+    nothing before b none begun = let zeroed = ap (begins_token before) none in cc
 
 drop_some : (p : ℕ) (code : List ℕ) → p < length code → 0 < length (drop p code)
 drop_some p code within = omega (arith, length-drop p code)
@@ -56,7 +56,7 @@ slice_of_lexeme text line code more rest place p l in_line in_text stands =
 
 slice_of_token : (text : List ℕ) (l : Lexeme) (t : Token) → slice_range text l.start (l.start + length l.bytes) ≡ l.bytes → IsTokenOf l t → IsSliceOf text t
 slice_of_token text l t slice is =
-    ap kind_of (ap (λ (n : ℕ). slice_range text n t.end) is.start ∙ ap (slice_range text l.start) is.end ∙ slice) ∙ is.kind
+    ap token_kind_of (ap (λ (n : ℕ). slice_range text n t.end) is.start ∙ ap (slice_range text l.start) is.end ∙ slice) ∙ is.kind
 
 slices : (text : List ℕ) (ls : List Lexeme) (ts : List Token) → All (λ l. slice_range text l.start (l.start + length l.bytes) ≡ l.bytes) ls → AllZip IsTokenOf ls ts → All (IsSliceOf text) ts
 slices text [] [] all zip = All-nil (IsSliceOf text)
@@ -77,8 +77,8 @@ same_tokens number ts f none = ap (λ (g : Option LineFault). (line_with number 
 slices_of_line : (text line rest : List ℕ) (number place : ℕ) → drop place text ≡ line ++ rest → All (IsSliceOf text) (line_of number place line).tokens
 slices_of_line text line rest number place in_text =
     let ls = lexemes_of place line in
-    let stand = All-weaker (λ (l : Lexeme). (p : ℕ) × StandsAt place p (code_of line) l) (λ (l : Lexeme). slice_range text l.start (l.start + length l.bytes) ≡ l.bytes)
-    (λ l s. slice_of_lexeme text line (code_of line) (drop (position_or_len is_hash line) line) rest place s.0 l (sym (take-append-drop (position_or_len is_hash line) line)) in_text s.1) ls (AreLexemesOf-lexemes_of place line).stand in
+    let stand = All-weaker (λ (l : Lexeme). (p : ℕ) × StandsAt place p (before_comment line) l) (λ (l : Lexeme). slice_range text l.start (l.start + length l.bytes) ≡ l.bytes)
+    (λ l s. slice_of_lexeme text line (before_comment line) (drop (position_or_len is_hash line) line) rest place s.0 l (sym (take-append-drop (position_or_len is_hash line) line)) in_text s.1) ls (AreLexemesOf-lexemes_of place line).stand in
     by_fault text number (filter_map token_of ls) (fault_of number line)
     (λ none. slices text ls (filter_map token_of ls) stand
     (subst (AllZip IsTokenOf ls) (sym (same_tokens number (filter_map token_of ls) (fault_of number line) none)) (AreTokensOf-line_of number place line none)))
@@ -94,7 +94,7 @@ pub AreSlices-lines_of : (text : List ℕ) → All (λ line. All (IsSliceOf text
 AreSlices-lines_of text = λ k d short.
     let numbered = AreNumbered-lines_of text in
     let line = get_or (cut text) k [] in
-    let place = place_of k (cut text) in
+    let place = line_start k (cut text) in
     let within : k < length (cut text) = omega (arith, numbered.count) in
     let is : get_or (lines_of text) k d ≡ line_of (k + 1) place line = same_Some _ _ (sym (slice_get-get_or (lines_of text) k d short) ∙ numbered.each k within) in
     subst (λ (l : Line). All (IsSliceOf text) l.tokens) (sym is) (slices_of_line text line (drop (length line) (drop place text)) (k + 1) place (in_the_text text line place (numbered.bytes k within)))

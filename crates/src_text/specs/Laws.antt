@@ -2,7 +2,7 @@
 use Rattle.std.specs.Prelude.{◌≡◌, ℕ, ◌+◌, ◌<◌, ◌≤◌, ◌==◌, Bool, false, not, ◌&&◌, ◌||◌, List, [], ◌∷◌, ◌++◌, length, take, drop, get_or, slice_get, slice_index, slice_range, nat_le, nat_lt, if◌then◌else◌, IsTrue, IsFalse, Some, All, sum_by, flat_map}
 use Rattle.std.specs.List.{list_any, list_all, AllZip}
 use Rattle.src_text.specs.Byte.{is_newline, is_blank, is_letter, is_word, is_mark, is_token_byte}
-use Rattle.src_text.specs.Lexeme.{Lexeme, begins, front, code_of, kind_of}
+use Rattle.src_text.specs.Lexeme.{Lexeme, begins_token, front, before_comment, token_kind_of}
 use Rattle.src_text.specs.Line.{cut, line_of, lines_of}
 use Rattle.src_text.specs.declared.token.Token.{Token}
 use Rattle.src_text.specs.declared.token.TokenKind.TheVariants.{Name}
@@ -23,17 +23,17 @@ pub record AreLinesOf (text : List ℕ) (lines : List (List ℕ)) : Type 0 where
   pub single : All (λ line. list_any is_newline line ≡ false) lines
 
 -- where a line begins: behind the lines before it and their newlines
-abbrev pub place_of : ℕ → List (List ℕ) → ℕ
-place_of k lines = sum_by (λ line. length line + 1) (take k lines)
+abbrev pub line_start : ℕ → List (List ℕ) → ℕ
+line_start k lines = sum_by (λ line. length line + 1) (take k lines)
 
 -- the line of an index has the next number, and its bytes stand at its place of the text
 pub record AreNumbered (text : List ℕ) : Type 0 where
   pub count : length (lines_of text) ≡ length (cut text)
-  pub each : (k : ℕ) → k < length (cut text) → slice_get (lines_of text) k ≡ Some (line_of (k + 1) (place_of k (cut text)) (get_or (cut text) k []))
-  pub bytes : (k : ℕ) → k < length (cut text) → slice_range text (place_of k (cut text)) (place_of k (cut text) + length (get_or (cut text) k [])) ≡ get_or (cut text) k []
+  pub each : (k : ℕ) → k < length (cut text) → slice_get (lines_of text) k ≡ Some (line_of (k + 1) (line_start k (cut text)) (get_or (cut text) k []))
+  pub bytes : (k : ℕ) → k < length (cut text) → slice_range text (line_start k (cut text)) (line_start k (cut text) + length (get_or (cut text) k [])) ≡ get_or (cut text) k []
 
 -- the front of some bytes is as long as it can be: a mark alone, or a byte and all bytes of a word behind it
-pub record IsLongest (bytes front : List ℕ) : Type 0 where
+pub record IsLongestToken (bytes front : List ℕ) : Type 0 where
   pub first : take (length front) bytes ≡ front
   pub some : 0 < length front
   pub mark : IsTrue (is_mark (slice_index bytes 0)) → length front ≡ 1
@@ -44,12 +44,12 @@ pub record IsLongest (bytes front : List ℕ) : Type 0 where
 pub record StandsAt (place p : ℕ) (code : List ℕ) (l : Lexeme) : Type 0 where
   pub start : l.start ≡ place + p
   pub bytes : l.bytes ≡ front (drop p code)
-  pub begun : IsTrue (begins (slice_index (32 ∷ code) p) (slice_index code p))
+  pub begun : IsTrue (begins_token (slice_index (32 ∷ code) p) (slice_index code p))
 
 -- each lexeme begins at or behind the end of the one before it, and none before a place
-abbrev pub AreApart : ℕ → List Lexeme → Type 0
-AreApart from [] = Unit {0}
-AreApart from (l ∷ ls) = (from ≤ l.start) × AreApart (l.start + length l.bytes) ls
+abbrev pub AreBehindEachOther : ℕ → List Lexeme → Type 0
+AreBehindEachOther from [] = Unit {0}
+AreBehindEachOther from (l ∷ ls) = (from ≤ l.start) × AreBehindEachOther (l.start + length l.bytes) ls
 
 -- whether a place is in a lexeme
 abbrev pub covers : ℕ → Lexeme → Bool
@@ -57,13 +57,13 @@ covers place l = nat_le l.start place && nat_lt place (l.start + length l.bytes)
 
 -- the lexemes of a line stand where tokens begin, one behind the other, and leave out no byte of a token
 pub record AreLexemesOf (place : ℕ) (line : List ℕ) (ls : List Lexeme) : Type 0 where
-  pub stand : All (λ l. (p : ℕ) × StandsAt place p (code_of line) l) ls
-  pub apart : AreApart place ls
-  pub whole : (p : ℕ) → p < length (code_of line) → IsTrue (is_token_byte (slice_index (code_of line) p)) → IsTrue (list_any (covers (place + p)) ls)
+  pub stand : All (λ l. (p : ℕ) × StandsAt place p (before_comment line) l) ls
+  pub apart : AreBehindEachOther place ls
+  pub whole : (p : ℕ) → p < length (before_comment line) → IsTrue (is_token_byte (slice_index (before_comment line) p)) → IsTrue (list_any (covers (place + p)) ls)
 
 -- the token says what the lexeme's bytes are and where they stand
 pub record IsTokenOf (l : Lexeme) (t : Token) : Type 0 where
-  pub kind : kind_of l.bytes ≡ Some t.kind
+  pub kind : token_kind_of l.bytes ≡ Some t.kind
   pub start : t.start ≡ l.start
   pub end : t.end ≡ l.start + length l.bytes
 
@@ -73,11 +73,11 @@ AreTokensOf ls ts = AllZip IsTokenOf ls ts
 
 -- the bytes from the token's start to its end are a token of its kind
 abbrev pub IsSliceOf : List ℕ → Token → Type 0
-IsSliceOf text t = kind_of (slice_range text t.start t.end) ≡ Some t.kind
+IsSliceOf text t = token_kind_of (slice_range text t.start t.end) ≡ Some t.kind
 
 -- whether a place is in a token
-abbrev pub holds : ℕ → Token → Bool
-holds place t = nat_le t.start place && nat_lt place t.end
+abbrev pub takes_byte : ℕ → Token → Bool
+takes_byte place t = nat_le t.start place && nat_lt place t.end
 
 -- each token begins at or behind the end of the one before it, and none before a place
 abbrev pub AreInOrder : ℕ → List Token → Type 0
@@ -86,17 +86,17 @@ AreInOrder from (t ∷ ts) = (from ≤ t.start) × AreInOrder t.end ts
 
 -- no byte of the code is left out but blanks
 abbrev pub LeavesBlanks : ℕ → List ℕ → List Token → Type 0
-LeavesBlanks place line ts = (p : ℕ) → p < length (code_of line) → IsFalse (is_blank (slice_index (code_of line) p)) → IsTrue (list_any (holds (place + p)) ts)
+LeavesBlanks place line ts = (p : ℕ) → p < length (before_comment line) → IsFalse (is_blank (slice_index (before_comment line) p)) → IsTrue (list_any (takes_byte (place + p)) ts)
 
 -- whether bytes are a name: a letter, `_` or `.`, and then letters, digits, `_` and `.`
-abbrev pub is_name : List ℕ → Bool
-is_name [] = false
-is_name (b ∷ bs) = (is_letter b || b == 95 || b == 46) && list_all is_word bs
+abbrev pub are_name_bytes : List ℕ → Bool
+are_name_bytes [] = false
+are_name_bytes (b ∷ bs) = (is_letter b || b == 95 || b == 46) && list_all is_word bs
 
 -- the token's place is one of the text
 abbrev pub IsPlaced : List ℕ → Token → Type 0
 IsPlaced text t = (t.start ≤ t.end) × (t.end ≤ length text)
 
 -- the bytes from a name token's start to its end are a name
-abbrev pub IsNamed : List ℕ → Token → Type 0
-IsNamed text t = t.kind ≡ Name → IsTrue (is_name (slice_range text t.start t.end))
+abbrev pub HasNameBytes : List ℕ → Token → Type 0
+HasNameBytes text t = t.kind ≡ Name → IsTrue (are_name_bytes (slice_range text t.start t.end))

@@ -12,13 +12,13 @@ pub record Lexeme : Type 0 where
   pub bytes : List ℕ
 
 -- behind such a byte a word or a number goes on
-abbrev pub goes_on : ℕ → Bool
-goes_on before = is_word before || is_minus before
+abbrev pub continues_token : ℕ → Bool
+continues_token before = is_word before || is_minus before
 
 -- whether a token begins at a byte: a mark and a minus always begin one, and a byte of a word does where it doesn't
 -- go on with the word or the number before it
-abbrev pub begins : ℕ → ℕ → Bool
-begins before b = is_mark b || is_minus b || (is_word b && not (goes_on before))
+abbrev pub begins_token : ℕ → ℕ → Bool
+begins_token before b = is_mark b || is_minus b || (is_word b && not (continues_token before))
 
 -- the bytes of the token at the front: a mark alone, and else as many bytes as a word goes on
 abbrev pub front : List ℕ → List ℕ
@@ -29,19 +29,19 @@ front (b ∷ bs) = if is_mark b then b ∷ [] else b ∷ take_while is_word bs
 abbrev pub lexemes_after : ℕ → ℕ → List ℕ → List Lexeme
 lexemes_after before place [] = []
 lexemes_after before place (b ∷ bs) =
-    (if begins before b then record { start = place; bytes = front (b ∷ bs) } ∷ [] else []) ++ lexemes_after b (place + 1) bs
+    (if begins_token before b then record { start = place; bytes = front (b ∷ bs) } ∷ [] else []) ++ lexemes_after b (place + 1) bs
 
 -- what stands before the comment, which `#` begins
-abbrev pub code_of : List ℕ → List ℕ
-code_of line = before_first is_hash line
+abbrev pub before_comment : List ℕ → List ℕ
+before_comment line = before_first is_hash line
 
 -- the lexemes of a line that begins at this place; a line begins as if behind a blank
 abbrev pub lexemes_of : ℕ → List ℕ → List Lexeme
-lexemes_of place line = lexemes_after 32 place (code_of line)
+lexemes_of place line = lexemes_after 32 place (before_comment line)
 
 -- what kind of token the bytes are; none where they begin as a number and aren't one
-abbrev pub kind_of : List ℕ → Option TokenKind
-kind_of bs =
+abbrev pub token_kind_of : List ℕ → Option TokenKind
+token_kind_of bs =
     let b = slice_index bs 0 in
     if b == 44 then Some Comma
     else (if b == 58 then Some Colon
@@ -51,8 +51,8 @@ kind_of bs =
     else Some Name))))
 
 abbrev pub is_bad_number : Lexeme → Bool
-is_bad_number l = is_none (kind_of l.bytes)
+is_bad_number l = is_none (token_kind_of l.bytes)
 
 -- the token of a lexeme, from its first byte's place to the place behind its last
 abbrev pub token_of : Lexeme → Option Token
-token_of l = option_map (λ k. record { kind = k; start = l.start; end = l.start + length l.bytes }) (kind_of l.bytes)
+token_of l = option_map (λ k. record { kind = k; start = l.start; end = l.start + length l.bytes }) (token_kind_of l.bytes)

@@ -2,7 +2,7 @@
 use Rattle.std.specs.Prelude.{ℕ, ◌+◌, Bool, ◌||◌, List, [], ◌∷◌, length, nat_lt, if◌then◌else◌, Option, Some, None, filter_map}
 use Rattle.std.specs.List.{list_any}
 use Rattle.src_text.specs.Byte.{is_newline, is_bad}
-use Rattle.src_text.specs.Lexeme.{code_of, lexemes_of, is_bad_number, token_of}
+use Rattle.src_text.specs.Lexeme.{before_comment, lexemes_of, is_bad_number, token_of}
 use Rattle.src_text.specs.declared.line.Line.{Line}
 use Rattle.src_text.specs.declared.token.Token.{Token}
 use Rattle.src_text.specs.declared.line.LineFault.{LineFault}
@@ -25,7 +25,7 @@ is_over_limit number line = nat_lt 1024 (length line) || nat_lt 65536 number
 -- what is wrong with a line: the first of these three that is
 abbrev pub fault_of : ℕ → List ℕ → Option LineFault
 fault_of number line =
-    if list_any is_bad (code_of line) then Some BadByte
+    if list_any is_bad (before_comment line) then Some BadByte
     else (if list_any is_bad_number (lexemes_of 0 line) then Some BadNumber
     else (if is_over_limit number line then Some LineLimit
     else None))

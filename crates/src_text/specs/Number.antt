@@ -29,9 +29,9 @@ abbrev pub magnitude_of : List ℕ → Option ℕ
 magnitude_of bs = if has_prefix bs then value_of 16 (drop 2 bs) else value_of 10 bs
 
 -- the value, if it isn't above the greatest one
-abbrev pub at_most : ℕ → Option ℕ → Option ℕ
-at_most most None = None
-at_most most (Some v) = if nat_le v most then Some v else None
+abbrev pub if_at_most : ℕ → Option ℕ → Option ℕ
+if_at_most most None = None
+if_at_most most (Some v) = if nat_le v most then Some v else None
 
 abbrev pub negated : ℕ → ℤ
 negated v = pos 0 -ℤ pos v
@@ -39,5 +39,5 @@ negated v = pos 0 -ℤ pos v
 -- the value of a number token, from -2147483648 to 4294967295; none where the bytes aren't such a number
 abbrev pub number_of : List ℕ → Option ℤ
 number_of bs =
-    if is_minus (slice_index bs 0) then option_map negated (at_most 2147483648 (magnitude_of (drop 1 bs)))
-    else option_map pos (at_most 4294967295 (magnitude_of bs))
+    if is_minus (slice_index bs 0) then option_map negated (if_at_most 2147483648 (magnitude_of (drop 1 bs)))
+    else option_map pos (if_at_most 4294967295 (magnitude_of bs))

@@ -1,7 +1,7 @@
 //! What holds of the lines and the tokens of every text, as laws: functions that do nothing, whose contracts say it.
 
 ghost use Rattle.std.specs.Prelude.{◌≡◌, ◌≢◌, ℕ, List, [], ◌∷◌, None, All};
-ghost use Rattle.src_text.specs.Laws.{AreInOrder, AreLexemesOf, AreLinesOf, AreNumbered, AreTokensOf, IsLongest, IsNamed, IsPlaced, IsSliceOf, LeavesBlanks};
+ghost use Rattle.src_text.specs.Laws.{AreInOrder, AreLexemesOf, AreLinesOf, AreNumbered, AreTokensOf, IsLongestToken, HasNameBytes, IsPlaced, IsSliceOf, LeavesBlanks};
 ghost use Rattle.src_text.specs.Lexeme.{front, lexemes_of};
 ghost use Rattle.src_text.specs.Line.{cut, fault_of, line_of, lines_of};
 
@@ -17,7 +17,7 @@ pub fn lines_are_numbered()
 
 /// No token could be longer.
 pub fn tokens_are_longest()
-    ensures { (b : ℕ) (bs : List ℕ) → IsLongest (b ∷ bs) (front (b ∷ bs)) }
+    ensures { (b : ℕ) (bs : List ℕ) → IsLongestToken (b ∷ bs) (front (b ∷ bs)) }
 {}
 
 /// The lexemes of a line stand one behind the other, each where one begins, and leave out no byte of a token.
@@ -42,5 +42,5 @@ pub fn lines_have_their_tokens()
 pub fn tokens_are_slices_of_the_text()
     ensures places { (text : List ℕ) → All (λ line. All (IsPlaced text) line.tokens) (lines_of text) }
     ensures kinds { (text : List ℕ) → All (λ line. All (IsSliceOf text) line.tokens) (lines_of text) }
-    ensures names { (text : List ℕ) → All (λ line. All (IsNamed text) line.tokens) (lines_of text) }
+    ensures names { (text : List ℕ) → All (λ line. All (HasNameBytes text) line.tokens) (lines_of text) }
 {}

@@ -1,7 +1,7 @@
 ghost use Rattle.std.specs.Prelude.{◌≡◌, ◌<◌, ◌≤◌, ◌+◌, ◌^◌, [], length, IfOk, Some};
 ghost use Rattle.std.specs.List.{before_first, list_any};
 ghost use Rattle.src_text.specs.Byte.{is_bad, is_newline};
-ghost use Rattle.src_text.specs.Lexeme.{code_of};
+ghost use Rattle.src_text.specs.Lexeme.{before_comment};
 ghost use Rattle.src_text.specs.Line.{is_over_limit, line_of, lines_of};
 
 use crate::byte::is_bad;
@@ -49,7 +49,7 @@ fn first_line(text: &[u8]) -> &[u8]
 
 /// The bytes before the comment, or all where there is none.
 fn code(line: &[u8]) -> &[u8]
-    ensures value { result.now ≡ code_of line.now }
+    ensures value { result.now ≡ before_comment line.now }
     ensures within { length result.now ≤ length line.now }
 {
     let mut length = 0;

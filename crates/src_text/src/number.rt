@@ -1,5 +1,5 @@
 ghost use Rattle.std.specs.Prelude.{◌≡◌, ◌≤◌, IfSome};
-ghost use Rattle.src_text.specs.Number.{at_most, digit_of, magnitude_of, number_of, value_after, value_of};
+ghost use Rattle.src_text.specs.Number.{if_at_most, digit_of, magnitude_of, number_of, value_after, value_of};
 
 /// The greatest number that a text may hold: a word of 32 bits without sign.
 const GREATEST: u64 = 4294967295;
@@ -24,7 +24,7 @@ fn digits(bytes: &[u8], base: u64, most: u64) -> Option<u64>
     requires some { 1 ≤ base }
     requires base { base ≤ 16 }
     requires most { most ≤ 4294967295 }
-    ensures value { result ≡ at_most most (value_of base bytes.now) }
+    ensures value { result ≡ if_at_most most (value_of base bytes.now) }
     ensures within { IfSome result (λ value. value ≤ most) }
 {
     if bytes.is_empty() {
@@ -47,7 +47,7 @@ fn digits(bytes: &[u8], base: u64, most: u64) -> Option<u64>
 /// The value of decimal digits, or of `0x` and hexadecimal digits, if it isn't above `most`.
 fn magnitude(bytes: &[u8], most: u64) -> Option<u64>
     requires { most ≤ 4294967295 }
-    ensures value { result ≡ at_most most (magnitude_of bytes.now) }
+    ensures value { result ≡ if_at_most most (magnitude_of bytes.now) }
     ensures within { IfSome result (λ value. value ≤ most) }
 {
     match bytes {

@@ -1,6 +1,6 @@
 ghost use Rattle.std.specs.Prelude.{◌≡◌, map};
-ghost use Rattle.src_text.specs.Register.{register_of, registers};
-ghost use Rattle.src_text.specs.RegisterName.{row_of};
+ghost use Rattle.src_text.specs.Register.{register_of, register_rows};
+ghost use Rattle.src_text.specs.RegisterName.{register_row_of};
 
 /// A name of a register, and the register's number.
 type RegisterName = (&'static [u8], u8);
@@ -74,7 +74,7 @@ const NAMES: [RegisterName; 65] = [
 ];
 
 fn names() -> [RegisterName; 65]
-    ensures { map row_of result ≡ registers }
+    ensures { map register_row_of result ≡ register_rows }
 {
     NAMES
 }

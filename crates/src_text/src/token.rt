@@ -1,7 +1,7 @@
 ghost use Rattle.std.specs.Prelude.{◌≡◌, ◌<◌, ◌≤◌, ◌+◌, ◌^◌, length, IfOk, MatchOption, filter_map, true, false};
 ghost use Rattle.std.specs.List.{list_any, prefix_len};
 ghost use Rattle.src_text.specs.Byte.{is_word};
-ghost use Rattle.src_text.specs.Lexeme.{begins, front, is_bad_number, kind_of, lexemes_after, token_of};
+ghost use Rattle.src_text.specs.Lexeme.{begins_token, front, is_bad_number, token_kind_of, lexemes_after, token_of};
 
 use crate::byte::{is_mark, is_word};
 use crate::number::number;
@@ -29,7 +29,7 @@ pub struct Token {
 
 /// Whether a token begins at a byte that stands behind `before`.
 fn begins(before: u8, byte: u8) -> bool
-    ensures { result ≡ begins before byte }
+    ensures { result ≡ begins_token before byte }
 {
     is_mark(byte) || byte == b'-' || (is_word(byte) && !is_word(before) && before != b'-')
 }
@@ -63,7 +63,7 @@ fn front(bytes: &[u8]) -> &[u8]
 /// What kind of token the bytes are. None where they begin as a number and aren't one.
 fn kind(bytes: &[u8]) -> Option<TokenKind>
     requires { 0 < length bytes.now }
-    ensures { result ≡ kind_of bytes.now }
+    ensures { result ≡ token_kind_of bytes.now }
 {
     match bytes[0] {
         b',' => Some(TokenKind::Comma),

@@ -6,5 +6,5 @@ use Rattle.dn_base.specs.declared.ids.PhaseId.{PhaseId}
 use Rattle.stepped_runs.specs.declared.replay.TaskLoad.{TaskLoad}
 
 -- the load, where it is of the task of a core in a phase
-abbrev pub load_of : PhaseId → CoreId → TaskLoad → Option LoadSeen
-load_of phase core load = if load.phase.0 == phase.0 && load.core.0 == core.0 then Some load.seen else None
+abbrev pub load_of_task : PhaseId → CoreId → TaskLoad → Option LoadSeen
+load_of_task phase core load = if load.phase.0 == phase.0 && load.core.0 == core.0 then Some load.seen else None

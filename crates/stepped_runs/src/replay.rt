@@ -1,5 +1,5 @@
 ghost use Rattle.std.specs.Prelude.{◌≡◌};
-ghost use Rattle.stepped_runs.specs.Compared.{load_of};
+ghost use Rattle.stepped_runs.specs.Compared.{load_of_task};
 
 use crate::event_machine::EventMachine;
 use case_files::Trouble;
@@ -74,7 +74,7 @@ pub fn is_same(a: &Ending, b: &Ending) -> bool {
 
 /// The load, where it is of the task of this core in this phase.
 fn load_of(load: &TaskLoad, phase: PhaseId, core: CoreId) -> Option<LoadSeen>
-    ensures { result ≡ load_of phase core load.now }
+    ensures { result ≡ load_of_task phase core load.now }
 {
     if load.phase == phase && load.core == core {
         Some(load.seen)

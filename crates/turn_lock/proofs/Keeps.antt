@@ -15,7 +15,7 @@ use Rattle.turn_lock.specs.declared.view.Stage.TheVariants.{Idle, Waiting, Insid
 use Rattle.turn_lock.specs.declared.view.View.{View}
 use Rattle.turn_lock.specs.History.{BeginsWith}
 use Rattle.turn_lock.specs.Standing.{ticket, in_line, passes_at, weight, standing, dealer, dealt, newcomer, gathered, spent}
-use Rattle.turn_lock.specs.Turns.{IsClaim, Lives, Stands, HasTicket, IsOut, HasSeen, IsSeen, Turns}
+use Rattle.turn_lock.specs.Turns.{IsClaim, Lives, StandsInLine, HasTicket, IsOut, HasSeen, IsSeen, Turns}
 use Rattle.turn_lock.proofs.Lists.{at_less, at_same, sum_set, sum_two, at_snoc_place, at_behind, tail, at_tail, length-tail, all_but, begins_longer, others_same, none_of}
 
 in_line_le : {E : Type 0} (s : Stage E) (n : ℕ) → in_line s ≤ passes_at s n
@@ -92,21 +92,21 @@ module _ {X E : Type 0} where
       (λ else. record { seat = s.seat; view = s.view; here = set_else (set views id z) other s.seat spent apart ∙ (set_else views id s.seat z else ∙ s.here); lives = s.lives; seen = s.seen }))
 
 module _ {S E : Type 0} where
-  stands_longer : (served : ℕ) (line more : List ℕ) (log : List E) (homes : List (Option S)) (seat : ℕ) (s : Stage E) → Stands served line log homes seat s → Stands served (line ++ more) log homes seat s
+  stands_longer : (served : ℕ) (line more : List ℕ) (log : List E) (homes : List (Option S)) (seat : ℕ) (s : Stage E) → StandsInLine served line log homes seat s → StandsInLine served (line ++ more) log homes seat s
   stands_longer served line more log homes seat Idle h = tt
   stands_longer served line more log homes seat (Waiting t) (i, at, is) = (i, at_longer line more i seat at, is)
   stands_longer served line more log homes seat (Inside t known) (first, is, knows, out) = (at_longer line more 0 seat first, is, knows, out)
   stands_longer served line more log homes seat Gone h = tt
 
   -- a seat that isn't the first in line doesn't have the slot
-  stands_other : (served : ℕ) (line : List ℕ) (log : List E) (homes homes' : List (Option S)) (id seat : ℕ) (s : Stage E) → get_elem? line 0 ≡ some id → seat ≢ id → Stands served line log homes seat s → Stands served line log homes' seat s
+  stands_other : (served : ℕ) (line : List ℕ) (log : List E) (homes homes' : List (Option S)) (id seat : ℕ) (s : Stage E) → get_elem? line 0 ≡ some id → seat ≢ id → StandsInLine served line log homes seat s → StandsInLine served line log homes' seat s
   stands_other served line log homes homes' id seat Idle first ne h = tt
   stands_other served line log homes homes' id seat (Waiting t) first ne h = h
   stands_other served line log homes homes' id seat (Inside t known) first ne h = absurd (ne (at_same line 0 seat id h.0 first))
   stands_other served line log homes homes' id seat Gone first ne h = tt
 
   -- the first in line has gone
-  stands_next : (served : ℕ) (line : List ℕ) (log log' : List E) (homes homes' : List (Option S)) (id seat : ℕ) (s : Stage E) → get_elem? line 0 ≡ some id → seat ≢ id → Stands served line log homes seat s → Stands ((served + 1) % 2 ^ 64) (tail line) log' homes' seat s
+  stands_next : (served : ℕ) (line : List ℕ) (log log' : List E) (homes homes' : List (Option S)) (id seat : ℕ) (s : Stage E) → get_elem? line 0 ≡ some id → seat ≢ id → StandsInLine served line log homes seat s → StandsInLine ((served + 1) % 2 ^ 64) (tail line) log' homes' seat s
   stands_next served line log log' homes homes' id seat Idle first ne h = tt
   stands_next served line log log' homes homes' id seat (Waiting t) first ne (zero, at, is) = absurd (ne (at_same line 0 seat id at first))
   stands_next served line log log' homes homes' id seat (Waiting t) first ne (suc i, at, is) = (i, at_tail line i ∙ at, omega arith)
@@ -120,7 +120,7 @@ module _ {S X E : Type 0} (by : E → ℕ) (Good : X → List E → S → Type 0
       omega (arith, t.few, t.waiting, t.parts)
 
   -- a seat with a stage lives
-  lives : (drawn served : ℕ) (homes : List (Option S)) (views : List (View X E)) (t : Turns by Good x passes drawn served homes views) (id : ℕ) (v : View X E) → get_elem? views id ≡ some v → v.stage ≢ Gone → Lives by x passes t.owners t.log id v × Stands served t.line t.log homes id v.stage
+  lives : (drawn served : ℕ) (homes : List (Option S)) (views : List (View X E)) (t : Turns by Good x passes drawn served homes views) (id : ℕ) (v : View X E) → get_elem? views id ≡ some v → v.stage ≢ Gone → Lives by x passes t.owners t.log id v × StandsInLine served t.line t.log homes id v.stage
   lives drawn served homes views t id v at here = ⊎_elim (λ gone. absurd (here gone)) (λ l. l) (t.seats id v at)
 
   pub draws : (id : ℕ) (c : Claim E) (n drawn served : ℕ) (homes : List (Option S)) (views : List (View X E)) → Turns by Good x passes drawn served homes views → get_elem? views id ≡ some (standing x c n Idle)
@@ -149,7 +149,7 @@ module _ {S X E : Type 0} (by : E → ℕ) (Good : X → List E → S → Type 0
             (λ out. inr (out.0, (let o = out_idle t.line t.log views id v w at refl out.1 in (o.0, o.1, o.2, at_longer t.line (id ∷ []) 0 o.0 o.3, o.4, o.5))))
             t.slot;
         seats = all_but
-            (λ seat u. (u.stage ≡ Gone) ⊎ (Lives by x passes t.owners t.log seat u × Stands served (t.line ++ id ∷ []) t.log homes seat u.stage))
+            (λ seat u. (u.stage ≡ Gone) ⊎ (Lives by x passes t.owners t.log seat u × StandsInLine served (t.line ++ id ∷ []) t.log homes seat u.stage))
             views
             id
             w
@@ -161,7 +161,7 @@ module _ {S X E : Type 0} (by : E → ℕ) (Good : X → List E → S → Type 0
       }
 
   -- the seat whose ticket is the serving word is the first in line
-  first_in_line : (id t drawn served : ℕ) (homes : List (Option S)) (views : List (View X E)) (r : Turns by Good x passes drawn served homes views) → served < 2 ^ 64 → t ≡ served → Stands served r.line r.log homes id (Waiting t) → get_elem? r.line 0 ≡ some id
+  first_in_line : (id t drawn served : ℕ) (homes : List (Option S)) (views : List (View X E)) (r : Turns by Good x passes drawn served homes views) → served < 2 ^ 64 → t ≡ served → StandsInLine served r.line r.log homes id (Waiting t) → get_elem? r.line 0 ≡ some id
   first_in_line id t drawn served homes views r fits own (i, at, is) =
       let short = line_short drawn served homes views r in
       let below = at_less r.line i id at in
@@ -198,7 +198,7 @@ module _ {S X E : Type 0} (by : E → ℕ) (Good : X → List E → S → Type 0
         lined = λ i seat e. lined_same views id v w seat _ at refl (r.lined i seat e);
         slot = inr (refl, (id, w, t, first, here, refl));
         seats = all_but
-            (λ seat u. (u.stage ≡ Gone) ⊎ (Lives by x passes r.owners r.log seat u × Stands served r.line r.log (none ∷ []) seat u.stage))
+            (λ seat u. (u.stage ≡ Gone) ⊎ (Lives by x passes r.owners r.log seat u × StandsInLine served r.line r.log (none ∷ []) seat u.stage))
             views
             id
             w
@@ -262,7 +262,7 @@ module _ {S X E : Type 0} (by : E → ℕ) (Good : X → List E → S → Type 0
               (had.0, set_else views id seat w ne ∙ had.1, had.2 ∙ ap some next);
           slot = inl (y, refl, subst (λ k. Good x (k ++ more) y) knows good);
           seats = all_but
-              (λ seat u. (u.stage ≡ Gone) ⊎ (Lives by x passes r.owners (r.log ++ more) seat u × Stands ((served + 1) % 2 ^ 64) (tail r.line) (r.log ++ more) (some y ∷ []) seat u.stage))
+              (λ seat u. (u.stage ≡ Gone) ⊎ (Lives by x passes r.owners (r.log ++ more) seat u × StandsInLine ((served + 1) % 2 ^ 64) (tail r.line) (r.log ++ more) (some y ∷ []) seat u.stage))
               views
               id
               w
@@ -342,7 +342,7 @@ module _ {S X E : Type 0} (by : E → ℕ) (Good : X → List E → S → Type 0
             r.slot;
         seats = λ seat u e. ⊎_elim
             (λ old. all_but
-            (λ j d. (d.stage ≡ Gone) ⊎ (Lives by x passes (r.owners ++ length views ∷ []) r.log j d × Stands served r.line r.log homes j d.stage))
+            (λ j d. (d.stage ≡ Gone) ⊎ (Lives by x passes (r.owners ++ length views ∷ []) r.log j d × StandsInLine served r.line r.log homes j d.stage))
             views
             id
             w
@@ -371,7 +371,7 @@ module _ {S X E : Type 0} (by : E → ℕ) (Good : X → List E → S → Type 0
             u
             old)
             (λ last. subst
-            (λ d. (d.stage ≡ Gone) ⊎ (Lives by x passes (r.owners ++ length views ∷ []) r.log seat d × Stands served r.line r.log homes seat d.stage))
+            (λ d. (d.stage ≡ Gone) ⊎ (Lives by x passes (r.owners ++ length views ∷ []) r.log seat d × StandsInLine served r.line r.log homes seat d.stage))
             last.1
             (inr (
               record {
@@ -442,17 +442,17 @@ module _ {S X E : Type 0} (by : E → ℕ) (Good : X → List E → S → Type 0
             (λ out. inr (out.0, out_idle r.line r.log (set views id z) other w gone there idle' (out_idle r.line r.log views id v z at idle out.1)))
             r.slot;
         seats = all_but
-            (λ j d. (d.stage ≡ Gone) ⊎ (Lives by x passes owners' r.log j d × Stands served r.line r.log homes j d.stage))
+            (λ j d. (d.stage ≡ Gone) ⊎ (Lives by x passes owners' r.log j d × StandsInLine served r.line r.log homes j d.stage))
             (set views id z)
             other
             gone
             (inl refl)
             (λ j d apart e. ⊎_elim
             (λ here. subst
-            (λ k. (k.stage ≡ Gone) ⊎ (Lives by x passes owners' r.log j k × Stands served r.line r.log homes j k.stage))
+            (λ k. (k.stage ≡ Gone) ⊎ (Lives by x passes owners' r.log j k × StandsInLine served r.line r.log homes j k.stage))
             here.1
             (subst
-            (λ k. (z.stage ≡ Gone) ⊎ (Lives by x passes owners' r.log k z × Stands served r.line r.log homes k z.stage))
+            (λ k. (z.stage ≡ Gone) ⊎ (Lives by x passes owners' r.log k z × StandsInLine served r.line r.log homes k z.stage))
             (sym here.0)
             (inr (
               record {
@@ -509,9 +509,9 @@ module _ {S X E : Type 0} (by : E → ℕ) (Good : X → List E → S → Type 0
         parts = omega arith;
       }
     where
-      one_seat : (d : View X E) → (seat : ℕ) (v : View X E) → get_elem? (dealer x 1 (passes - 1) ∷ []) seat ≡ some v → (v.stage ≡ Gone) ⊎ (Lives by x passes (0 ∷ []) [] seat v × Stands 0 [] [] (some y ∷ []) seat v.stage)
+      one_seat : (d : View X E) → (seat : ℕ) (v : View X E) → get_elem? (dealer x 1 (passes - 1) ∷ []) seat ≡ some v → (v.stage ≡ Gone) ⊎ (Lives by x passes (0 ∷ []) [] seat v × StandsInLine 0 [] [] (some y ∷ []) seat v.stage)
       one_seat d zero v e = subst
-          (λ k. (k.stage ≡ Gone) ⊎ (Lives by x passes (0 ∷ []) [] 0 k × Stands 0 [] [] (some y ∷ []) 0 k.stage))
+          (λ k. (k.stage ≡ Gone) ⊎ (Lives by x passes (0 ∷ []) [] 0 k × StandsInLine 0 [] [] (some y ∷ []) 0 k.stage))
           (some-injective _ v e)
           (inr (record { opening = refl; own = record { owner = refl; seen = ([], refl); mine = refl }; joined = All-nil _; deals = λ more. (refl, refl, omega arith) }, tt))
       one_seat d (suc k) v e = absurd (some-ne-none v (sym e))

@@ -26,11 +26,11 @@ pub record Lives {X E : Type 0} (by : E → ℕ) (x : X) (passes : ℕ) (owners 
   pub deals : 0 < v.spare → (v.own.number ≡ 0) × (v.next ≡ length owners) × (length owners + v.spare ≡ passes)
 
 -- A seat that waits stands in line at its ticket. One that is served is the first, knows the whole history, and has the slot
-abbrev pub Stands : {S E : Type 0} → ℕ → List ℕ → List E → List (Option S) → ℕ → Stage E → Type 0
-Stands served line log homes seat Idle = Unit {0}
-Stands served line log homes seat (Waiting t) = (i : ℕ) × (get_elem? line i ≡ some seat) × (t ≡ (served + i) % 2 ^ 64)
-Stands served line log homes seat (Inside t known) = (get_elem? line 0 ≡ some seat) × (t ≡ served) × (known ≡ log) × (homes ≡ none ∷ [])
-Stands served line log homes seat Gone = Unit {0}
+abbrev pub StandsInLine : {S E : Type 0} → ℕ → List ℕ → List E → List (Option S) → ℕ → Stage E → Type 0
+StandsInLine served line log homes seat Idle = Unit {0}
+StandsInLine served line log homes seat (Waiting t) = (i : ℕ) × (get_elem? line i ≡ some seat) × (t ≡ (served + i) % 2 ^ 64)
+StandsInLine served line log homes seat (Inside t known) = (get_elem? line 0 ≡ some seat) × (t ≡ served) × (known ≡ log) × (homes ≡ none ∷ [])
+StandsInLine served line log homes seat Gone = Unit {0}
 
 abbrev pub HasTicket : {X E : Type 0} → List (View X E) → ℕ → ℕ → Type 0
 HasTicket {X} {E} views seat t = (v : View X E) × (get_elem? views seat ≡ some v) × (ticket v.stage ≡ some t)
@@ -66,7 +66,7 @@ pub record Turns {S X E : Type 0} (by : E → ℕ) (Good : X → List E → S �
   -- the object is at home, or with the seat that is being served
   pub slot : ((y : S) × (homes ≡ some y ∷ []) × Good x log y) ⊎ ((homes ≡ none ∷ []) × IsOut line log views)
   -- a seat is live, or it was taken in by another
-  pub seats : (seat : ℕ) (v : View X E) → get_elem? views seat ≡ some v → (v.stage ≡ Gone) ⊎ (Lives by x passes owners log seat v × Stands served line log homes seat v.stage)
+  pub seats : (seat : ℕ) (v : View X E) → get_elem? views seat ≡ some v → (v.stage ≡ Gone) ⊎ (Lives by x passes owners log seat v × StandsInLine served line log homes seat v.stage)
   -- no history is longer than what some pass has seen
   pub longest : IsSeen log views
   -- each call is of a number that was given, and the live seats stand for all passes

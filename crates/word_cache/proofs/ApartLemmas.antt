@@ -4,7 +4,7 @@ use Rattle.std.specs.List.{cons_option}
 use Rattle.std.proofs.lemmas.Bool.Decides.{nat_tests}
 use Rattle.word_cache.specs.declared.row.Place.{Place}
 use Rattle.word_cache.specs.Cache.{Pair, AreDifferent, set_count}
-use Rattle.word_cache.specs.Row.{put_in, by_use, pairs_of, pairs_by_use, pair_is_of, AreOfOthers, IsRow}
+use Rattle.word_cache.specs.Row.{put_by_use, by_use, pairs_of, pairs_by_use, pair_is_of, AreOfOthers, IsPlaceRow}
 use Rattle.word_cache.proofs.OrderLemmas.{Each, Each-get, Each-put, Each-by_use, Lacks, lookup-none}
 use Rattle.word_cache.proofs.CountLemmas.{is_in_set, count-most, counted, set_count-places}
 
@@ -19,13 +19,13 @@ swapped None (Some b) h = tt
 swapped (Some a) None h = tt
 swapped (Some a) (Some b) h = λ e. h (sym e)
 
-Apart-put : (p : Place) (ps : List Place) → Each (λ (q : Place). AreOfOthers p.pair q.pair) ps → Apart ps → Apart (put_in p ps)
+Apart-put : (p : Place) (ps : List Place) → Each (λ (q : Place). AreOfOthers p.pair q.pair) ps → Apart ps → Apart (put_by_use p ps)
 Apart-put p [] others apart = (tt, tt)
 Apart-put p (q ∷ qs) others apart = by_test (nat_lt p.used q.used) (Apart-put p qs others.1 apart.1) where
-  behind : Each (λ (r : Place). AreOfOthers q.pair r.pair) (put_in p qs)
+  behind : Each (λ (r : Place). AreOfOthers q.pair r.pair) (put_by_use p qs)
   behind = Each-put (λ (r : Place). AreOfOthers q.pair r.pair) p qs (swapped p.pair q.pair others.0) apart.0
 
-  by_test : (t : Bool) → Apart (put_in p qs) → Apart (cond t (p ∷ q ∷ qs) (q ∷ put_in p qs))
+  by_test : (t : Bool) → Apart (put_by_use p qs) → Apart (cond t (p ∷ q ∷ qs) (q ∷ put_by_use p qs))
   by_test true rest = (others, apart)
   by_test false rest = (behind, rest)
 
@@ -57,10 +57,10 @@ different : (ps : List Place) → Apart ps → AreDifferent (pairs_of ps)
 different [] apart = tt
 different (p ∷ ps) apart = different-cons p.pair ps apart.0 (different ps apart.1)
 
-pub words_differ : (sets ways : ℕ) (row : List Place) → IsRow sets ways row → AreDifferent (pairs_by_use row)
+pub words_differ : (sets ways : ℕ) (row : List Place) → IsPlaceRow sets ways row → AreDifferent (pairs_by_use row)
 words_differ sets ways row good = different (by_use row) (Apart-by_use row (Apart-row row good.words))
 
-pub sets_fit : (sets ways w : ℕ) (row : List Place) → IsRow sets ways row → set_count sets w (pairs_by_use row) ≤ ways
+pub sets_fit : (sets ways w : ℕ) (row : List Place) → IsPlaceRow sets ways row → set_count sets w (pairs_by_use row) ≤ ways
 sets_fit sets ways w row good =
     let whole = counted sets ways w row good in
     let most = count-most (is_in_set sets w) (take ways (drop (w % sets * ways) row)) in

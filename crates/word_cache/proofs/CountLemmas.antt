@@ -9,7 +9,7 @@ use Rattle.word_cache.specs.declared.row.Place.{Place}
 use Rattle.std.specs.Option.{is_some, IfNone}
 use Rattle.word_cache.specs.Cache.{Pair, shares_set, set_count, lookup}
 use Rattle.word_cache.proofs.RowLemmas.{get_none}
-use Rattle.word_cache.specs.Row.{pairs_by_use, has_word, IsOfSet, IsRow}
+use Rattle.word_cache.specs.Row.{pairs_by_use, has_word, IsOfSet, IsPlaceRow}
 use Rattle.word_cache.proofs.OrderLemmas.{passes, count-by_use}
 use Rattle.word_cache.proofs.SetLemmas.{in_set, from_start}
 
@@ -69,7 +69,7 @@ inside sets w set None of_set same some = absurd (some refl)
 inside sets w set (Some a) of_set same some = grind (arith, nat_tests)
 
 -- the row's count is that of the set's places
-pub counted : (sets ways w : ℕ) (row : List Place) → IsRow sets ways row → (count_by (is_in_set sets w) row ≡ count_by (is_in_set sets w) (take ways (drop (w % sets * ways) row))) × (w % sets * ways + ways ≤ length row)
+pub counted : (sets ways w : ℕ) (row : List Place) → IsPlaceRow sets ways row → (count_by (is_in_set sets w) row ≡ count_by (is_in_set sets w) (take ways (drop (w % sets * ways) row))) × (w % sets * ways + ways ≤ length row)
 counted sets ways w row good =
     let set_below : w % sets + 1 ≤ sets = omega (arith, good.some_sets) in
     let room = mul-le (w % sets + 1) ways sets ways set_below (omega arith) in
@@ -90,7 +90,7 @@ counted sets ways w row good =
           (λ same. omega (arith, (from_start (w % sets) ways (w % sets * ways + (ways + i)) good.some_ways same).1)))
 
 -- a set whose places all have a pair has as many as it may have
-pub is_full : (sets ways w : ℕ) (row : List Place) → IsRow sets ways row → ((k : ℕ) (d : Place) → k < length row → k / ways ≡ w % sets → (get_or row k d).pair ≢ None) → set_count sets w (pairs_by_use row) ≡ ways
+pub is_full : (sets ways w : ℕ) (row : List Place) → IsPlaceRow sets ways row → ((k : ℕ) (d : Place) → k < length row → k / ways ≡ w % sets → (get_or row k d).pair ≢ None) → set_count sets w (pairs_by_use row) ≡ ways
 is_full sets ways w row good filled =
     let whole = counted sets ways w row good in
     let long : length (take ways (drop (w % sets * ways) row)) ≡ ways = omega (arith, whole.1, length-take ways (drop (w % sets * ways) row), length-drop (w % sets * ways) row) in
@@ -103,7 +103,7 @@ is_full sets ways w row good filled =
           (inside sets w ((w % sets * ways + i) / ways) (get_or row (w % sets * ways + i) d).pair (good.placed (w % sets * ways + i) d within) at (filled (w % sets * ways + i) d within at))
 
 -- a set with a place that has no pair has room
-pub is_short : (sets ways w k : ℕ) (d : Place) (row : List Place) → IsRow sets ways row → k < length row → k / ways ≡ w % sets → (get_or row k d).pair ≡ None → set_count sets w (pairs_by_use row) < ways
+pub is_short : (sets ways w k : ℕ) (d : Place) (row : List Place) → IsPlaceRow sets ways row → k < length row → k / ways ≡ w % sets → (get_or row k d).pair ≡ None → set_count sets w (pairs_by_use row) < ways
 is_short sets ways w k d row good within at none =
     let whole = counted sets ways w row good in
     let long : length (take ways (drop (w % sets * ways) row)) ≡ ways = omega (arith, whole.1, length-take ways (drop (w % sets * ways) row), length-drop (w % sets * ways) row) in
@@ -115,7 +115,7 @@ is_short sets ways w k d row good within at none =
     omega (arith, set_count-places sets w row, whole.0, fewer, long)
 
 -- a set with room has a place without a pair
-pub has_free : (sets ways w : ℕ) (row : List Place) (o : Option ℕ) → IsRow sets ways row → ((k : ℕ) (d : Place) → k < length row → has_word w (get_or row k d) ≡ false) → (is_some (lookup w (pairs_by_use row)) || nat_lt (set_count sets w (pairs_by_use row)) ways) ≡ true → IfNone o ((k : ℕ) (d : Place) → k < length row → k / ways ≡ w % sets → (get_or row k d).pair ≢ None) → (k : ℕ) × (o ≡ Some k)
+pub has_free : (sets ways w : ℕ) (row : List Place) (o : Option ℕ) → IsPlaceRow sets ways row → ((k : ℕ) (d : Place) → k < length row → has_word w (get_or row k d) ≡ false) → (is_some (lookup w (pairs_by_use row)) || nat_lt (set_count sets w (pairs_by_use row)) ways) ≡ true → IfNone o ((k : ℕ) (d : Place) → k < length row → k / ways ≡ w % sets → (get_or row k d).pair ≢ None) → (k : ℕ) × (o ≡ Some k)
 has_free sets ways w row (Some k) good absent room none = (k, refl)
 has_free sets ways w row None good absent room none =
     let full = is_full sets ways w row good none in

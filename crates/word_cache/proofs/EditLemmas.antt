@@ -10,7 +10,7 @@ use Rattle.dn_base.specs.declared.ids.WordId.{WordId}
 use Rattle.word_cache.specs.declared.row.Entry.{Entry}
 use Rattle.word_cache.specs.declared.row.Place.{Place}
 use Rattle.word_cache.specs.Cache.{Pair, lookup, put, touched, shares_set, is_pending, pending_count, gives_way}
-use Rattle.word_cache.specs.Row.{by_use, pairs_of, pairs_by_use, has_word, pair_is_of, IsOfSet, MayHold, IsRow, AreBefore, IsCacheRow, IsFirst, pair_gives_way, place_gives_way, pair_may_go, place_may_go}
+use Rattle.word_cache.specs.Row.{by_use, pairs_of, pairs_by_use, has_word, pair_is_of, IsOfSet, MayHold, IsPlaceRow, AreBefore, IsCacheRow, IsLeastUsed, pair_gives_way, place_gives_way, pair_may_go, place_may_go}
 use Rattle.word_cache.proofs.OrderLemmas.{Each, Each-get, Each-by_use, Each-others, passes, count-by_use}
 use Rattle.word_cache.proofs.SetLemmas.{from_start}
 use Rattle.word_cache.proofs.CountLemmas.{counted, count-most}
@@ -64,13 +64,13 @@ new_place row n long each i d below = by_test (nat_lt i n) refl where
       rw (last, ← long) (push_last row (record { pair = None; used = length row + 1 }) d)
 
 -- the entry at the word's place
-pub entry_found : (sets ways k : ℕ) (d : Place) (word : WordId) (row : List Place) → IsRow sets ways row → k < length row → has_word word.0 (get_or row k d) ≡ true → option_map (λ (p : Pair). p.1) (get_or row k d).pair ≡ lookup word.0 (pairs_by_use row)
+pub entry_found : (sets ways k : ℕ) (d : Place) (word : WordId) (row : List Place) → IsPlaceRow sets ways row → k < length row → has_word word.0 (get_or row k d) ≡ true → option_map (λ (p : Pair). p.1) (get_or row k d).pair ≡ lookup word.0 (pairs_by_use row)
 entry_found sets ways k d word row good within here =
     let mine = pair_there word (get_or row k d).pair here in
     ap (option_map (λ (p : Pair). p.1)) mine.1 ∙ sym (get_some sets ways k d word mine.0 row good within mine.1)
 
 -- the entry at a place that may get the word's pair
-pub entry_held : (sets ways k : ℕ) (d : Place) (word : WordId) (row : List Place) → IsRow sets ways row → k < length row → MayHold word.0 (get_or row k d).pair → ((j : ℕ) (f : Place) → j < length row → j ≢ k → has_word word.0 (get_or row j f) ≡ false) → option_map (λ (p : Pair). p.1) (get_or row k d).pair ≡ lookup word.0 (pairs_by_use row)
+pub entry_held : (sets ways k : ℕ) (d : Place) (word : WordId) (row : List Place) → IsPlaceRow sets ways row → k < length row → MayHold word.0 (get_or row k d).pair → ((j : ℕ) (f : Place) → j < length row → j ≢ k → has_word word.0 (get_or row j f) ≡ false) → option_map (λ (p : Pair). p.1) (get_or row k d).pair ≡ lookup word.0 (pairs_by_use row)
 entry_held sets ways k d word row good within may absent = by_pair (get_or row k d).pair refl may where
   lacking : (get_or row k d).pair ≡ None → (j : ℕ) (f : Place) → j < length row → has_word word.0 (get_or row j f) ≡ false
   lacking none j f below = by_test (j == k) refl where
@@ -84,7 +84,7 @@ entry_held sets ways k d word row good within may absent = by_pair (get_or row k
       ap (option_map (λ (p : Pair). p.1)) (sym is) ∙ entry_found sets ways k d word row good within (ap (pair_is_of word.0) is ∙ may)
 
 -- the word's pair is written, and is the one used last
-pub wrote : (sets ways k time : ℕ) (d : Place) (word : WordId) (e : Entry) (row : List Place) → IsRow sets ways row → k < length row → AreBefore time row → k / ways ≡ word.0 % sets → MayHold word.0 (get_or row k d).pair → ((j : ℕ) (f : Place) → j < length row → j ≢ k → has_word word.0 (get_or row j f) ≡ false) → IsCacheRow sets ways (time + 1) (set row k (record { pair = Some (word, e); used = time })) × (pairs_by_use (set row k (record { pair = Some (word, e); used = time })) ≡ put word e (pairs_by_use row))
+pub wrote : (sets ways k time : ℕ) (d : Place) (word : WordId) (e : Entry) (row : List Place) → IsPlaceRow sets ways row → k < length row → AreBefore time row → k / ways ≡ word.0 % sets → MayHold word.0 (get_or row k d).pair → ((j : ℕ) (f : Place) → j < length row → j ≢ k → has_word word.0 (get_or row j f) ≡ false) → IsCacheRow sets ways (time + 1) (set row k (record { pair = Some (word, e); used = time })) × (pairs_by_use (set row k (record { pair = Some (word, e); used = time })) ≡ put word e (pairs_by_use row))
 wrote sets ways k time d word e row good within before place may absent = (
   record {
     row_is = IsRow-set sets ways k (record { pair = Some (word, e); used = time }) row good within (omega (arith, before k d within)) (λ j f below other same. omega (arith, before j f below, same)) (λ j f below other. of_other word e (get_or row j f).pair (absent j f below other)) (sym place);
@@ -111,7 +111,7 @@ kept_row sets ways k clock d y row good within time keeps =
       itself (Some a) = refl
 
 -- at most as many entries are pending as there are places
-pub pending_limit : (sets ways : ℕ) (row : List Place) → IsRow sets ways row → pending_count (pairs_by_use row) ≤ 4096
+pub pending_limit : (sets ways : ℕ) (row : List Place) → IsPlaceRow sets ways row → pending_count (pairs_by_use row) ≤ 4096
 pending_limit sets ways row good =
     let counts : pending_count (pairs_by_use row) ≡ count_by (λ (q : Place). passes (λ (p : Pair). is_pending p.1) q.pair) row = count-by_use (λ (p : Pair). is_pending p.1) row in
     let most = count-most (λ (q : Place). passes (λ (p : Pair). is_pending p.1) q.pair) row in
@@ -134,7 +134,7 @@ of_set : (sets w at : ℕ) (o : Option Pair) → IsOfSet sets at o → passes (g
 of_set sets w at None is passing = absurd (cc)
 of_set sets w at (Some a) is passing = grind (arith, nat_tests)
 
-pub victim_found : (sets ways w k : ℕ) (d : Place) (row : List Place) → IsRow sets ways row → IsFirst (place_gives_way sets w) row (w % sets * ways) (w % sets * ways + ways) (Some k) → option_map (λ (p : Pair). p.0) (get_or row k d).pair ≡ option_map (λ (p : Pair). p.0) (find (gives_way sets w) (pairs_by_use row))
+pub victim_found : (sets ways w k : ℕ) (d : Place) (row : List Place) → IsPlaceRow sets ways row → IsLeastUsed (place_gives_way sets w) row (w % sets * ways) (w % sets * ways + ways) (Some k) → option_map (λ (p : Pair). p.0) (get_or row k d).pair ≡ option_map (λ (p : Pair). p.0) (find (gives_way sets w) (pairs_by_use row))
 victim_found sets ways w k d row good first = by_pair (get_or row k d).pair refl (first.2 d) where
   least : (j : ℕ) (e : Place) → j < length row → passes (gives_way sets w) (get_or row j e).pair ≡ true → (get_or row k d).used ≤ (get_or row j e).used
   least j e below passing =
@@ -147,7 +147,7 @@ victim_found sets ways w k d row good first = by_pair (get_or row k d).pair refl
       let within : k < length row = omega (arith, first.1, (counted sets ways w row good).1) in
       ap (option_map (λ (p : Pair). p.0)) (sym (find_first sets ways k d (gives_way sets w) a row good within e passing least))
 
-pub victim_none : (sets ways w : ℕ) (row : List Place) → IsRow sets ways row → IsFirst (place_gives_way sets w) row (w % sets * ways) (w % sets * ways + ways) None → find (gives_way sets w) (pairs_by_use row) ≡ None
+pub victim_none : (sets ways w : ℕ) (row : List Place) → IsPlaceRow sets ways row → IsLeastUsed (place_gives_way sets w) row (w % sets * ways) (w % sets * ways + ways) None → find (gives_way sets w) (pairs_by_use row) ≡ None
 victim_none sets ways w row good none = find_no (gives_way sets w) row (λ j e below. by_test j e below (passes (gives_way sets w) (get_or row j e).pair) refl) where
   by_test : (j : ℕ) (e : Place) → j < length row → (t : Bool) → passes (gives_way sets w) (get_or row j e).pair ≡ t → t ≡ false
   by_test j e below false f = refl

@@ -6,10 +6,10 @@ use Rattle.std.proofs.lemmas.Bool.Decides.{nat_tests}
 use Rattle.region_table.specs.declared.interval.Interval.{Interval}
 use Rattle.region_table.specs.Words.{has, in_interval, AreApart}
 use Rattle.write_signature.specs.declared.signature.Signature.{Signature}
-use Rattle.write_signature.specs.Signature.{holds}
+use Rattle.write_signature.specs.Signature.{may_hold}
 use Rattle.word_cache.specs.Cache.{Pair, AreDifferent, lookup, without, is_valid, is_fresh, dropped_signed}
 use Rattle.word_cache.specs.declared.row.Place.{Place}
-use Rattle.word_cache.specs.Row.{IsRow, IsCacheRow, AreBefore, is_copy}
+use Rattle.word_cache.specs.Row.{IsPlaceRow, IsCacheRow, AreBefore, is_copy}
 use Rattle.word_cache.proofs.LookLemmas.{same_word}
 use Rattle.word_cache.proofs.WeightLemmas.{without-absent}
 
@@ -40,14 +40,14 @@ split false first second held = refl
 -- the words of one set, and then those of another
 pub dropped-both : (s : Signature) (phase : ℕ) (a b all : List Interval) → ((w : ℕ) → has all w ≡ (has a w || has b w)) → (ps : List Pair) → dropped_signed s phase b (dropped_signed s phase a ps) ≡ dropped_signed s phase all ps
 dropped-both s phase a b all union ps =
-    filter-filter (is_fresh s phase a) (is_fresh s phase b) (is_fresh s phase all) (λ p. rw (union p.0.0) (split (is_valid p.1) (has a p.0.0) (has b p.0.0) (holds s p.0.0 phase))) ps
+    filter-filter (is_fresh s phase a) (is_fresh s phase b) (is_fresh s phase all) (λ p. rw (union p.0.0) (split (is_valid p.1) (has a p.0.0) (has b p.0.0) (may_hold s p.0.0 phase))) ps
 
 other-word : (valid held : Bool) → not (valid && false && held) ≡ true
 other-word true held = refl
 other-word false held = refl
 
 pub dropped-none : (s : Signature) (phase : ℕ) (words : List Interval) → ((w : ℕ) → has words w ≡ false) → (ps : List Pair) → dropped_signed s phase words ps ≡ ps
-dropped-none s phase words none ps = filter-all (is_fresh s phase words) (λ p. rw (none p.0.0) (other-word (is_valid p.1) (holds s p.0.0 phase))) ps
+dropped-none s phase words none ps = filter-all (is_fresh s phase words) (λ p. rw (none p.0.0) (other-word (is_valid p.1) (may_hold s p.0.0 phase))) ps
 
 -- one word
 abbrev pub only : ℕ → List Interval
@@ -63,18 +63,18 @@ only-has w v = by_tests (nat_le w v) (nat_lt v (w + 1)) (v == w) refl refl refl 
   by_tests false b true e f g = absurd (grind (arith, nat_tests))
   by_tests false b false e f g = refl
 
-only-fresh : (s : Signature) (phase w : ℕ) (p : Pair) → is_fresh s phase (only w) p ≡ not (is_valid p.1 && (p.0.0 == w) && holds s p.0.0 phase)
-only-fresh s phase w p = ap (λ (t : Bool). not (is_valid p.1 && t && holds s p.0.0 phase)) (only-has w p.0.0)
+only-fresh : (s : Signature) (phase w : ℕ) (p : Pair) → is_fresh s phase (only w) p ≡ not (is_valid p.1 && (p.0.0 == w) && may_hold s p.0.0 phase)
+only-fresh s phase w p = ap (λ (t : Bool). not (is_valid p.1 && t && may_hold s p.0.0 phase)) (only-has w p.0.0)
 
 -- a pair of another word is left
 left-other : (s : Signature) (phase w : ℕ) (p : Pair) → (p.0.0 == w) ≡ false → is_fresh s phase (only w) p ≡ true
 left-other s phase w p other =
-    only-fresh s phase w p ∙ rw other (other-word (is_valid p.1) (holds s p.0.0 phase))
+    only-fresh s phase w p ∙ rw other (other-word (is_valid p.1) (may_hold s p.0.0 phase))
 
 -- whether the word's own pair is left
-left-own : (s : Signature) (phase w : ℕ) (p : Pair) → (p.0.0 == w) ≡ true → is_fresh s phase (only w) p ≡ not (holds s w phase && is_valid p.1)
+left-own : (s : Signature) (phase w : ℕ) (p : Pair) → (p.0.0 == w) ≡ true → is_fresh s phase (only w) p ≡ not (may_hold s w phase && is_valid p.1)
 left-own s phase w p own =
-    only-fresh s phase w p ∙ rw own (rw (eqb-true p.0.0 w own) (turned (is_valid p.1) (holds s w phase))) where
+    only-fresh s phase w p ∙ rw own (rw (eqb-true p.0.0 w own) (turned (is_valid p.1) (may_hold s w phase))) where
       turned : (valid held : Bool) → not (valid && true && held) ≡ not (held && valid)
       turned true true = refl
       turned true false = refl
@@ -89,13 +89,13 @@ left-absent s phase w (p ∷ ps) none = by_test (p.0.0 == w) refl none (left-abs
   by_test false a none rest = rw (left-other s phase w p a) (ap (λ (qs : List Pair). p ∷ qs) (rest none))
 
 -- a word's copy goes where the signature may hold the word, and else nothing does
-pub dropped-word : (s : Signature) (phase w : ℕ) (ps : List Pair) → AreDifferent ps → dropped_signed s phase (only w) ps ≡ cond (holds s w phase && is_copy (lookup w ps)) (without w ps) ps
-dropped-word s phase w [] apart = by_test (holds s w phase && false) [] where
+pub dropped-word : (s : Signature) (phase w : ℕ) (ps : List Pair) → AreDifferent ps → dropped_signed s phase (only w) ps ≡ cond (may_hold s w phase && is_copy (lookup w ps)) (without w ps) ps
+dropped-word s phase w [] apart = by_test (may_hold s w phase && false) [] where
   by_test : (t : Bool) (qs : List Pair) → qs ≡ cond t qs qs
   by_test true qs = refl
   by_test false qs = refl
 dropped-word s phase w (p ∷ ps) apart = by_test (p.0.0 == w) refl (dropped-word s phase w ps apart.1) where
-  by_stale : (stale : Bool) → (p.0.0 == w) ≡ true → (holds s w phase && is_valid p.1) ≡ stale → lookup w ps ≡ None → cond (not stale) (p ∷ dropped_signed s phase (only w) ps) (dropped_signed s phase (only w) ps) ≡ cond stale (without w ps) (p ∷ ps)
+  by_stale : (stale : Bool) → (p.0.0 == w) ≡ true → (may_hold s w phase && is_valid p.1) ≡ stale → lookup w ps ≡ None → cond (not stale) (p ∷ dropped_signed s phase (only w) ps) (dropped_signed s phase (only w) ps) ≡ cond stale (without w ps) (p ∷ ps)
   by_stale true a stale none = left-absent s phase w ps none ∙ sym (without-absent w ps none)
   by_stale false a stale none = ap (λ (qs : List Pair). p ∷ qs) (left-absent s phase w ps none)
 
@@ -103,12 +103,12 @@ dropped-word s phase w (p ∷ ps) apart = by_test (p.0.0 == w) refl (dropped-wor
   moved true = refl
   moved false = refl
 
-  by_test : (t : Bool) → (p.0.0 == w) ≡ t → dropped_signed s phase (only w) ps ≡ cond (holds s w phase && is_copy (lookup w ps)) (without w ps) ps
-      → dropped_signed s phase (only w) (p ∷ ps) ≡ cond (holds s w phase && is_copy (cond t (Some p.1) (lookup w ps))) (cond (not t) (p ∷ without w ps) (without w ps)) (p ∷ ps)
+  by_test : (t : Bool) → (p.0.0 == w) ≡ t → dropped_signed s phase (only w) ps ≡ cond (may_hold s w phase && is_copy (lookup w ps)) (without w ps) ps
+      → dropped_signed s phase (only w) (p ∷ ps) ≡ cond (may_hold s w phase && is_copy (cond t (Some p.1) (lookup w ps))) (cond (not t) (p ∷ without w ps) (without w ps)) (p ∷ ps)
   by_test true a rest =
-      rw (left-own s phase w p a) (by_stale (holds s w phase && is_valid p.1) a refl (sym (same_word p.0.0 w ps a) ∙ apart.0))
+      rw (left-own s phase w p a) (by_stale (may_hold s w phase && is_valid p.1) a refl (sym (same_word p.0.0 w ps a) ∙ apart.0))
   by_test false a rest =
-      rw (left-other s phase w p a) (ap (λ (qs : List Pair). p ∷ qs) rest ∙ moved (holds s w phase && is_copy (lookup w ps)))
+      rw (left-other s phase w p a) (ap (λ (qs : List Pair). p ∷ qs) rest ∙ moved (may_hold s w phase && is_copy (lookup w ps)))
 
 -- one word more of an interval, and one interval more
 pub interval-more : (lo number v : ℕ) → lo ≤ number → has (record { lo = lo; hi = number + 1 } ∷ []) v ≡ (has (record { lo = lo; hi = number } ∷ []) v || has (only number) v)
@@ -157,7 +157,7 @@ some-clock : (row : List Place) → (clock : ℕ) × AreBefore clock row
 some-clock [] = (0, λ i d below. absurd (omega (arith, below)))
 some-clock (q ∷ qs) = let rest = some-clock qs in (q.used + 1 + rest.0, before-cons q qs rest.0 rest.1)
 
-pub row-stays : (sets ways : ℕ) (old new : List Place) → IsRow sets ways old → ((clock : ℕ) → IsCacheRow sets ways clock old → IsCacheRow sets ways clock new) → IsRow sets ways new
+pub row-stays : (sets ways : ℕ) (old new : List Place) → IsPlaceRow sets ways old → ((clock : ℕ) → IsCacheRow sets ways clock old → IsCacheRow sets ways clock new) → IsPlaceRow sets ways new
 row-stays sets ways old new good keeps =
     let clock = some-clock old in
     (keeps clock.0 (record { row_is = good; before = clock.1 })).row_is

@@ -10,7 +10,7 @@ use Rattle.word_cache.specs.declared.row.Entry.{Entry}
 use Rattle.region_table.specs.declared.interval.Interval.{Interval}
 use Rattle.region_table.specs.Words.{has}
 use Rattle.write_signature.specs.declared.signature.Signature.{Signature}
-use Rattle.write_signature.specs.Signature.{holds}
+use Rattle.write_signature.specs.Signature.{may_hold}
 use Rattle.word_cache.specs.Cache.{Pair, AreDifferent, in_set, lookup, without, put, changed, used, touched, stays, is_kept, is_valid, unmarked, is_fresh, dropped_written, dropped_signed, entry_after_phase, entry_after_grant}
 
 pub lookup-without : (w v : ℕ) (ps : List Pair) → lookup v (without w ps) ≡ cond (w == v) None (lookup v ps)
@@ -117,7 +117,7 @@ lookup-dropped_signed s phase words v ps apart = lookup-filter (is_fresh s phase
 
   by_entry : (o : Option Entry) → passing (is_fresh s phase words) v o ≡ entry_after_grant s phase words v o
   by_entry None = refl
-  by_entry (Some e) = by_test (is_valid e && has words v && holds s v phase) e
+  by_entry (Some e) = by_test (is_valid e && has words v && may_hold s v phase) e
 
 -- the pairs of one set have the words of that set
 pub lookup-in_set : (sets set v : ℕ) (ps : List Pair) → lookup v (filter (in_set sets set) ps) ≡ cond (v % sets == set) (lookup v ps) None

@@ -7,7 +7,7 @@ use Rattle.dn_base.specs.declared.ids.WordId.{WordId}
 use Rattle.word_cache.specs.declared.row.Entry.{Entry}
 use Rattle.word_cache.specs.declared.row.Place.{Place}
 use Rattle.word_cache.specs.Cache.{Pair, lookup, without, put, changed}
-use Rattle.word_cache.specs.Row.{by_use, pairs_of, pairs_by_use, has_word, pair_is_of, AreOfOthers, IsOfSet, MayHold, IsRow, AreFrom, AreBefore}
+use Rattle.word_cache.specs.Row.{by_use, pairs_of, pairs_by_use, has_word, pair_is_of, AreOfOthers, IsOfSet, MayHold, IsPlaceRow, AreFrom, AreBefore}
 use Rattle.word_cache.proofs.OrderLemmas.{Each, Each-get, Each-by_use, Each-others, others, by_use-set, by_use-at, Lacks, pairs-empty, pairs-last, lookup-none, lookup-put, without-none, without-put, changed-put}
 
 -- pairs of other words
@@ -42,12 +42,12 @@ pub may_hold : (w : ℕ) (o : Option Pair) → pair_is_of w o ≡ true → MayHo
 may_hold w None here = tt
 may_hold w (Some a) here = here
 
-pub others_lack : (sets ways k : ℕ) (d : Place) (w : ℕ) (row : List Place) → IsRow sets ways row → k < length row → has_word w (get_or row k d) ≡ true → Lacks w (others row k)
+pub others_lack : (sets ways k : ℕ) (d : Place) (w : ℕ) (row : List Place) → IsPlaceRow sets ways row → k < length row → has_word w (get_or row k d) ≡ true → Lacks w (others row k)
 others_lack sets ways k d w row good within here =
     Each-others (λ (q : Place). has_word w q ≡ false) row k
     (λ j e below other. other_word w (get_or row j e).pair (get_or row k d).pair (good.words j k e d below within other) here)
 
-pub others_apart : (sets ways k : ℕ) (d : Place) (row : List Place) → IsRow sets ways row → k < length row → Each (λ (q : Place). q.used ≢ (get_or row k d).used) (others row k)
+pub others_apart : (sets ways k : ℕ) (d : Place) (row : List Place) → IsPlaceRow sets ways row → k < length row → Each (λ (q : Place). q.used ≢ (get_or row k d).used) (others row k)
 others_apart sets ways k d row good within =
     Each-others (λ (q : Place). q.used ≢ (get_or row k d).used) row k (λ j e below other. good.times j k e d below within other)
 
@@ -55,7 +55,7 @@ pub all_lack : (w : ℕ) (row : List Place) → ((k : ℕ) (d : Place) → k < l
 all_lack w row none = Each-get (λ (q : Place). has_word w q ≡ false) row none
 
 -- a look-up
-pub get_some : (sets ways k : ℕ) (d : Place) (word : WordId) (e : Entry) (row : List Place) → IsRow sets ways row → k < length row → (get_or row k d).pair ≡ Some (word, e) → lookup word.0 (pairs_by_use row) ≡ Some e
+pub get_some : (sets ways k : ℕ) (d : Place) (word : WordId) (e : Entry) (row : List Place) → IsPlaceRow sets ways row → k < length row → (get_or row k d).pair ≡ Some (word, e) → lookup word.0 (pairs_by_use row) ≡ Some e
 get_some sets ways k d word e row good within here =
     let mine : has_word word.0 (get_or row k d) ≡ true = ap (pair_is_of word.0) here ∙ grind (arith, nat_tests) in
     let lacks = Each-by_use (λ (q : Place). has_word word.0 q ≡ false) (others row k) (others_lack sets ways k d word.0 row good within mine) in
@@ -71,7 +71,7 @@ beside : (w : ℕ) (row : List Place) (k : ℕ) → Lacks w (others row k) → L
 beside w row k lacks = Each-by_use (λ (q : Place). has_word w q ≡ false) (others row k) lacks
 
 -- without the word of a place, the pairs are those of the other places
-gone : (sets ways k : ℕ) (d : Place) (word : WordId) (row : List Place) → IsRow sets ways row → k < length row → MayHold word.0 (get_or row k d).pair → Lacks word.0 (others row k) → without word.0 (pairs_by_use row) ≡ pairs_of (by_use (others row k))
+gone : (sets ways k : ℕ) (d : Place) (word : WordId) (row : List Place) → IsPlaceRow sets ways row → k < length row → MayHold word.0 (get_or row k d).pair → Lacks word.0 (others row k) → without word.0 (pairs_by_use row) ≡ pairs_of (by_use (others row k))
 gone sets ways k d word row good within may lacks = by_pair (get_or row k d).pair refl may where
   by_pair : (o : Option Pair) → (get_or row k d).pair ≡ o → MayHold word.0 o → without word.0 (pairs_by_use row) ≡ pairs_of (by_use (others row k))
   by_pair None e may =
@@ -84,24 +84,24 @@ gone sets ways k d word row good within may lacks = by_pair (get_or row k d).pai
       ∙ without-put word mine.0 (get_or row k d) (by_use (others row k)) (e ∙ mine.1) (beside word.0 row k lacks)
 
 -- the word's pair is written at its place, or at one without a pair, and is the one used last
-pub written_last : (sets ways k : ℕ) (d : Place) (word : WordId) (e : Entry) (y : Place) (row : List Place) → IsRow sets ways row → k < length row → AreBefore y.used row → y.pair ≡ Some (word, e) → Lacks word.0 (others row k) → MayHold word.0 (get_or row k d).pair → pairs_by_use (set row k y) ≡ put word e (pairs_by_use row)
+pub written_last : (sets ways k : ℕ) (d : Place) (word : WordId) (e : Entry) (y : Place) (row : List Place) → IsPlaceRow sets ways row → k < length row → AreBefore y.used row → y.pair ≡ Some (word, e) → Lacks word.0 (others row k) → MayHold word.0 (get_or row k d).pair → pairs_by_use (set row k y) ≡ put word e (pairs_by_use row)
 written_last sets ways k d word e y row good within before mine lacks may =
     ap pairs_of (by_use-set row k y within (Each-others (λ (q : Place). q.used ≢ y.used) row k (λ j f below other same. omega (arith, before j f below, same))))
     ∙ pairs-last y word e (by_use (others row k)) mine (Each-by_use (λ (q : Place). q.used < y.used) (others row k) (Each-others (λ (q : Place). q.used < y.used) row k (λ j f below other. before j f below)))
     ∙ ap (λ (ps : List Pair). ps ++ (word, e) ∷ []) (sym (gone sets ways k d word row good within may lacks))
 
 -- a place is written, and its time stays
-still_apart : (sets ways k : ℕ) (d y : Place) (row : List Place) → IsRow sets ways row → k < length row → y.used ≡ (get_or row k d).used → Each (λ (q : Place). q.used ≢ y.used) (others row k)
+still_apart : (sets ways k : ℕ) (d y : Place) (row : List Place) → IsPlaceRow sets ways row → k < length row → y.used ≡ (get_or row k d).used → Each (λ (q : Place). q.used ≢ y.used) (others row k)
 still_apart sets ways k d y row good within time =
     Each-others (λ (q : Place). q.used ≢ y.used) row k (λ j f below other same. good.times j k f d below within other (same ∙ time))
 
-pub changed_there : (sets ways k : ℕ) (d : Place) (word : WordId) (e new : Entry) (y : Place) (row : List Place) → IsRow sets ways row → k < length row → (get_or row k d).pair ≡ Some (word, e) → y.pair ≡ Some (word, new) → y.used ≡ (get_or row k d).used → Lacks word.0 (others row k) → pairs_by_use (set row k y) ≡ changed word.0 new (pairs_by_use row)
+pub changed_there : (sets ways k : ℕ) (d : Place) (word : WordId) (e new : Entry) (y : Place) (row : List Place) → IsPlaceRow sets ways row → k < length row → (get_or row k d).pair ≡ Some (word, e) → y.pair ≡ Some (word, new) → y.used ≡ (get_or row k d).used → Lacks word.0 (others row k) → pairs_by_use (set row k y) ≡ changed word.0 new (pairs_by_use row)
 changed_there sets ways k d word e new y row good within here mine time lacks =
     ap pairs_of (by_use-set row k y within (still_apart sets ways k d y row good within time))
     ∙ changed-put word e new (get_or row k d) y (by_use (others row k)) here mine time (beside word.0 row k lacks)
     ∙ ap (λ (ps : List Place). changed word.0 new (pairs_of ps)) (sym (by_use-at row k d within (others_apart sets ways k d row good within)))
 
-pub removed_there : (sets ways k : ℕ) (d : Place) (word : WordId) (y : Place) (row : List Place) → IsRow sets ways row → k < length row → has_word word.0 (get_or row k d) ≡ true → y.pair ≡ None → y.used ≡ (get_or row k d).used → pairs_by_use (set row k y) ≡ without word.0 (pairs_by_use row)
+pub removed_there : (sets ways k : ℕ) (d : Place) (word : WordId) (y : Place) (row : List Place) → IsPlaceRow sets ways row → k < length row → has_word word.0 (get_or row k d) ≡ true → y.pair ≡ None → y.used ≡ (get_or row k d).used → pairs_by_use (set row k y) ≡ without word.0 (pairs_by_use row)
 removed_there sets ways k d word y row good within here none time =
     ap pairs_of (by_use-set row k y within (still_apart sets ways k d y row good within time))
     ∙ pairs-empty y (by_use (others row k)) none
@@ -139,7 +139,7 @@ AreFrom-set time k y row from within later i d below = by_test (i == k) refl whe
       let low : i < length row = omega (arith, below, length-set row k y) in
       rw (get_or-set_other row k i y d (eqb-false i k e)) (from i d low)
 
-pub IsRow-set : (sets ways k : ℕ) (y : Place) (row : List Place) → IsRow sets ways row → k < length row → 1 ≤ y.used → ((j : ℕ) (d : Place) → j < length row → j ≢ k → (get_or row j d).used ≢ y.used) → ((j : ℕ) (d : Place) → j < length row → j ≢ k → AreOfOthers (get_or row j d).pair y.pair) → IsOfSet sets (k / ways) y.pair → IsRow sets ways (set row k y)
+pub IsRow-set : (sets ways k : ℕ) (y : Place) (row : List Place) → IsPlaceRow sets ways row → k < length row → 1 ≤ y.used → ((j : ℕ) (d : Place) → j < length row → j ≢ k → (get_or row j d).used ≢ y.used) → ((j : ℕ) (d : Place) → j < length row → j ≢ k → AreOfOthers (get_or row j d).pair y.pair) → IsOfSet sets (k / ways) y.pair → IsPlaceRow sets ways (set row k y)
 IsRow-set sets ways k y row good within numbered time words place =
     record {
       some_sets = good.some_sets;
@@ -173,12 +173,12 @@ AreBefore-set clock k y row before within earlier i d below = by_test (i == k) r
       rw (get_or-set_other row k i y d (eqb-false i k e)) (before i d low)
 
 -- where a word stands: in its set, and nowhere else
-pub place_of_word : (sets ways w k : ℕ) (d : Place) (row : List Place) → IsRow sets ways row → k < length row → has_word w (get_or row k d) ≡ true → k / ways ≡ w % sets
+pub place_of_word : (sets ways w k : ℕ) (d : Place) (row : List Place) → IsPlaceRow sets ways row → k < length row → has_word w (get_or row k d) ≡ true → k / ways ≡ w % sets
 place_of_word sets ways w k d row good within here = by_pair (get_or row k d).pair (good.placed k d within) here where
   by_pair : (o : Option Pair) → IsOfSet sets (k / ways) o → pair_is_of w o ≡ true → k / ways ≡ w % sets
   by_pair None of_set here = absurd (cc)
   by_pair (Some a) of_set here = let same : a.0.0 ≡ w = eqb-true a.0.0 w here in rw (← same) (sym of_set)
 
-pub nowhere_else : (sets ways w k : ℕ) (d : Place) (row : List Place) → IsRow sets ways row → k < length row → has_word w (get_or row k d) ≡ true → (j : ℕ) (e : Place) → j < length row → j ≢ k → has_word w (get_or row j e) ≡ false
+pub nowhere_else : (sets ways w k : ℕ) (d : Place) (row : List Place) → IsPlaceRow sets ways row → k < length row → has_word w (get_or row k d) ≡ true → (j : ℕ) (e : Place) → j < length row → j ≢ k → has_word w (get_or row j e) ≡ false
 nowhere_else sets ways w k d row good within here j e below other =
     other_word w (get_or row j e).pair (get_or row k d).pair (good.words j k e d below within other) here

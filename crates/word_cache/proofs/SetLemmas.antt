@@ -4,7 +4,7 @@ use Rattle.std.proofs.lemmas.Bool.{eqb-true}
 use Rattle.std.proofs.lemmas.Bool.Decides.{nat_tests}
 use Rattle.word_cache.specs.declared.row.Place.{Place}
 use Rattle.word_cache.specs.Cache.{Pair}
-use Rattle.word_cache.specs.Row.{IsRow, IsOfSet, has_word, pair_is_of}
+use Rattle.word_cache.specs.Row.{IsPlaceRow, IsOfSet, has_word, pair_is_of}
 
 -- the places of set s are those from `s * ways` on
 pub from_start : (s ways k : ℕ) → 0 < ways → k / ways ≡ s → (s * ways ≤ k) × (k < s * ways + ways)
@@ -30,7 +30,7 @@ elsewhere sets ways w k p some of_set out = by_pair p.pair of_set where
         absurd (out bounds.0 bounds.1)
 
 -- a word that no place of its set has is in no place
-pub not_found : (sets ways w start index : ℕ) (row : List Place) → IsRow sets ways row → start ≡ w % sets * ways → start + ways ≤ index → ((k : ℕ) (d : Place) → start ≤ k → k < index → has_word w (get_or row k d) ≡ false) → (k : ℕ) (d : Place) → k < length row → has_word w (get_or row k d) ≡ false
+pub not_found : (sets ways w start index : ℕ) (row : List Place) → IsPlaceRow sets ways row → start ≡ w % sets * ways → start + ways ≤ index → ((k : ℕ) (d : Place) → start ≤ k → k < index → has_word w (get_or row k d) ≡ false) → (k : ℕ) (d : Place) → k < length row → has_word w (get_or row k d) ≡ false
 not_found sets ways w start index row good begin whole seen k d within = by_test (nat_le start k) (nat_lt k index) refl refl where
   by_test : (t u : Bool) → nat_le start k ≡ t → nat_lt k index ≡ u → has_word w (get_or row k d) ≡ false
   by_test true true e f =

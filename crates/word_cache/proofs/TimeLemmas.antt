@@ -6,12 +6,12 @@ use Rattle.std.proofs.lemmas.List.Sums.{sum_by-cons}
 use Rattle.std.proofs.lemmas.Bool.Decides.{nat_tests}
 use Rattle.word_cache.specs.declared.row.Place.{Place}
 use Rattle.word_cache.specs.Cache.{Pair}
-use Rattle.word_cache.specs.Row.{by_use, pairs_of, pairs_by_use, IsRow, AreFrom, IsFirst, earlier, is_from}
+use Rattle.word_cache.specs.Row.{by_use, pairs_of, pairs_by_use, IsPlaceRow, AreFrom, IsLeastUsed, earlier, is_from}
 use Rattle.word_cache.proofs.OrderLemmas.{Each-get, Each-by_use, Each-others, others, by_use-set, by_use-at, passes, find-none, find-put, renumbered}
 use Rattle.word_cache.proofs.RowLemmas.{IsRow-set, others_apart}
 
 -- the next place of a row does not pass, or it does
-pub first_more : (test : Place → Bool) (row : List Place) (lo hi : ℕ) (best : Option ℕ) → IsFirst test row lo hi best → ((d : Place) → test (get_or row hi d) ≡ false) → IsFirst test row lo (hi + 1) best
+pub first_more : (test : Place → Bool) (row : List Place) (lo hi : ℕ) (best : Option ℕ) → IsLeastUsed test row lo hi best → ((d : Place) → test (get_or row hi d) ≡ false) → IsLeastUsed test row lo (hi + 1) best
 first_more test row lo hi None good missing = more where
   more : (j : ℕ) (d : Place) → lo ≤ j → j < hi + 1 → test (get_or row j d) ≡ false
   more j d low high = by_test (nat_lt j hi) refl where
@@ -35,7 +35,7 @@ same_read [] i d e within = absurd (omega arith)
 same_read (p ∷ ps) zero d e within = refl
 same_read (p ∷ ps) (suc i) d e within = same_read ps i d e (omega (arith, within))
 
-pub first_pass : (test : Place → Bool) (row : List Place) (lo hi : ℕ) (best : Option ℕ) (f : Place) → IsFirst test row lo hi best → lo ≤ hi → hi < length row → ((d : Place) → test (get_or row hi d) ≡ true) → IsFirst test row lo (hi + 1) (Some (earlier row best hi f))
+pub first_pass : (test : Place → Bool) (row : List Place) (lo hi : ℕ) (best : Option ℕ) (f : Place) → IsLeastUsed test row lo hi best → lo ≤ hi → hi < length row → ((d : Place) → test (get_or row hi d) ≡ true) → IsLeastUsed test row lo (hi + 1) (Some (earlier row best hi f))
 first_pass test row lo hi None f good low within passing =
     (low, omega arith, passing, later) where
       later : (j : ℕ) (d e : Place) → lo ≤ j → j < hi + 1 → test (get_or row j d) ≡ true → (get_or row hi e).used ≤ (get_or row j d).used
@@ -48,7 +48,7 @@ first_pass test row lo hi None f good low within passing =
             let same : j ≡ hi = grind (arith, nat_tests) in
             rw (same, same_read row hi d e within) (omega arith)
 first_pass test row lo hi (Some k) f good low within passing = by_test (nat_lt (get_or row hi f).used (get_or row k f).used) refl where
-  by_test : (t : Bool) → nat_lt (get_or row hi f).used (get_or row k f).used ≡ t → IsFirst test row lo (hi + 1) (Some (cond t hi k))
+  by_test : (t : Bool) → nat_lt (get_or row hi f).used (get_or row k f).used ≡ t → IsLeastUsed test row lo (hi + 1) (Some (cond t hi k))
   by_test true less = (low, omega arith, passing, later) where
     later : (j : ℕ) (d e : Place) → lo ≤ j → j < hi + 1 → test (get_or row j d) ≡ true → (get_or row hi e).used ≤ (get_or row j d).used
     later j d e low' high pass = by_last (nat_lt j hi) refl where
@@ -69,7 +69,7 @@ first_pass test row lo hi (Some k) f good low within passing = by_test (nat_lt (
           rw (same, same_read row hi d f within, same_read row k e f (omega (arith, good.1, within))) (grind (arith, nat_tests, more))
 
 -- the first pair that passes is that of the place with the least time
-pub find_first : (sets ways k : ℕ) (d : Place) (p : Pair → Bool) (a : Pair) (row : List Place) → IsRow sets ways row → k < length row → (get_or row k d).pair ≡ Some a → p a ≡ true → ((j : ℕ) (e : Place) → j < length row → passes p (get_or row j e).pair ≡ true → (get_or row k d).used ≤ (get_or row j e).used) → find p (pairs_by_use row) ≡ Some a
+pub find_first : (sets ways k : ℕ) (d : Place) (p : Pair → Bool) (a : Pair) (row : List Place) → IsPlaceRow sets ways row → k < length row → (get_or row k d).pair ≡ Some a → p a ≡ true → ((j : ℕ) (e : Place) → j < length row → passes p (get_or row j e).pair ≡ true → (get_or row k d).used ≤ (get_or row j e).used) → find p (pairs_by_use row) ≡ Some a
 find_first sets ways k d p a row good within here pass first =
     ap (λ (ps : List Place). find p (pairs_of ps)) (by_use-at row k d within (others_apart sets ways k d row good within))
     ∙ find-put p a (get_or row k d) (by_use (others row k)) here pass
@@ -86,14 +86,14 @@ find_no p row none =
     find-none p (by_use row) (Each-by_use (λ (q : Place). passes p q.pair ≡ false) row (Each-get (λ (q : Place). passes p q.pair ≡ false) row none))
 
 -- beside the place with the least time from `time` on none was used at that time
-pub elsewhere_used : (sets ways k time : ℕ) (d : Place) (row : List Place) → IsRow sets ways row → k < length row → time ≤ (get_or row k d).used → ((j : ℕ) (e : Place) → j < length row → time ≤ (get_or row j e).used → (get_or row k d).used ≤ (get_or row j e).used) → (j : ℕ) (e : Place) → j < length row → j ≢ k → (get_or row j e).used ≢ time
+pub elsewhere_used : (sets ways k time : ℕ) (d : Place) (row : List Place) → IsPlaceRow sets ways row → k < length row → time ≤ (get_or row k d).used → ((j : ℕ) (e : Place) → j < length row → time ≤ (get_or row j e).used → (get_or row k d).used ≤ (get_or row j e).used) → (j : ℕ) (e : Place) → j < length row → j ≢ k → (get_or row j e).used ≢ time
 elsewhere_used sets ways k time d row good within from first j e below other equal =
     let least = first j e below (omega (arith, equal)) in
     let apart = good.times j k e d below within other in
     apart (omega (arith, least, from, equal))
 
 -- the place with the least time from `time` on may get that time
-pub new_time : (sets ways k time : ℕ) (d y : Place) (row : List Place) → IsRow sets ways row → k < length row → y.pair ≡ (get_or row k d).pair → y.used ≡ time → 1 ≤ time → time ≤ (get_or row k d).used → ((j : ℕ) (e : Place) → j < length row → time ≤ (get_or row j e).used → (get_or row k d).used ≤ (get_or row j e).used) → (pairs_by_use (set row k y) ≡ pairs_by_use row) × IsRow sets ways (set row k y)
+pub new_time : (sets ways k time : ℕ) (d y : Place) (row : List Place) → IsPlaceRow sets ways row → k < length row → y.pair ≡ (get_or row k d).pair → y.used ≡ time → 1 ≤ time → time ≤ (get_or row k d).used → ((j : ℕ) (e : Place) → j < length row → time ≤ (get_or row j e).used → (get_or row k d).used ≤ (get_or row j e).used) → (pairs_by_use (set row k y) ≡ pairs_by_use row) × IsPlaceRow sets ways (set row k y)
 new_time sets ways k time d y row good within same at numbered from first = (
   ap pairs_of (by_use-set row k y within (Each-others (λ (q : Place). q.used ≢ y.used) row k differs))
       ∙ renumbered (get_or row k d) y (by_use (others row k)) same (Each-by_use (λ (q : Place). nat_lt y.used q.used ≡ nat_lt (get_or row k d).used q.used) (others row k) (Each-others (λ (q : Place). nat_lt y.used q.used ≡ nat_lt (get_or row k d).used q.used) row k alike))
@@ -152,7 +152,7 @@ all_from time (q ∷ qs) from =
     omega (arith, here, all_from time qs (λ i d below. from (suc i) d (omega (arith, below))), sum_by-cons (λ (p : Place). bit (is_from time p)) q qs)
 
 -- and none where none was used from a time on
-pub none_from : (time : ℕ) (places : List Place) → IsFirst (is_from time) places 0 (length places) None → count_by (is_from time) places ≡ 0
+pub none_from : (time : ℕ) (places : List Place) → IsLeastUsed (is_from time) places 0 (length places) None → count_by (is_from time) places ≡ 0
 none_from time [] none = refl
 none_from time (q ∷ qs) none =
     let here : bit (is_from time q) ≡ 0 = rw (none 0 q (omega arith) (omega arith)) refl in

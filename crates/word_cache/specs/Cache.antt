@@ -6,7 +6,7 @@ use Rattle.dn_base.specs.declared.ids.WordId.{WordId}
 use Rattle.region_table.specs.declared.interval.Interval.{Interval}
 use Rattle.region_table.specs.Words.{has}
 use Rattle.write_signature.specs.declared.signature.Signature.{Signature}
-use Rattle.write_signature.specs.Signature.{holds}
+use Rattle.write_signature.specs.Signature.{may_hold}
 use Rattle.word_cache.specs.declared.row.Entry.{Entry}
 use Rattle.word_cache.specs.declared.row.Entry.TheVariants.{Valid, Registered, Leaving}
 
@@ -140,7 +140,7 @@ is_valid (Valid value marked) = true
 is_valid _ = false
 
 abbrev pub is_fresh : Signature → ℕ → List Interval → Pair → Bool
-is_fresh signature phase words p = not (is_valid p.1 && has words p.0.0 && holds signature p.0.0 phase)
+is_fresh signature phase words p = not (is_valid p.1 && has words p.0.0 && may_hold signature p.0.0 phase)
 
 abbrev pub dropped_signed : Signature → ℕ → List Interval → List Pair → List Pair
 dropped_signed signature phase words ps = filter (is_fresh signature phase words) ps
@@ -153,4 +153,4 @@ entry_after_phase words w (Some e) = if is_kept e || not (has words w) then Some
 abbrev pub entry_after_grant : Signature → ℕ → List Interval → ℕ → Option Entry → Option Entry
 entry_after_grant signature phase words w None = None
 entry_after_grant signature phase words w (Some e) =
-    if is_valid e && has words w && holds signature w phase then None else Some e
+    if is_valid e && has words w && may_hold signature w phase then None else Some e

@@ -3,7 +3,7 @@ ghost use Rattle.std.specs.Option.{is_some};
 ghost use Rattle.std.specs.Prelude.{length};
 ghost use Rattle.std.specs.List.{filter};
 ghost use Rattle.word_cache.specs.Cache.{Cache, IsCache, in_set, lookup, put, changed, without, touched, has_room, victim_of, may_go, pending_count, dropped_written, dropped_signed};
-ghost use Rattle.word_cache.specs.Row.{IsCacheRow, AreApart, pairs_by_use};
+ghost use Rattle.word_cache.specs.Row.{IsCacheRow, HaveDistinctTimes, pairs_by_use};
 
 use crate::edits::{change_entry, recount, take_out, use_again, write_last};
 use crate::grant::drop_stale;
@@ -30,13 +30,13 @@ pub struct WordCache {
 
 impl Model for WordCache {
     ghost use Rattle.word_cache.specs.Cache.{Cache};
-    ghost use Rattle.word_cache.specs.Row.{IsKept, pairs_by_use};
+    ghost use Rattle.word_cache.specs.Row.{IsCacheState, pairs_by_use};
 
     ghost Value = { Cache };
 
     ghost view = { λ c. record { sets = c.sets; ways = c.ways; pairs = pairs_by_use c.places.items } };
 
-    ghost invariant = { λ c. IsKept c.sets c.ways c.clock c.pending c.places.items };
+    ghost invariant = { λ c. IsCacheState c.sets c.ways c.clock c.pending c.places.items };
 }
 
 /// The places of an empty cache, numbered from 1.
@@ -108,7 +108,7 @@ impl WordCache {
         requires { set < self.now.sets }
         ensures count { length result.now ≡ self.now.ways }
         ensures pairs { pairs_by_use result.now ≡ filter (in_set self.now.sets set) self.now.pairs }
-        ensures times { AreApart result.now }
+        ensures times { HaveDistinctTimes result.now }
     {
         set_of(self.places.as_slice(), self.sets, self.ways, set)
     }

@@ -1,7 +1,7 @@
 ghost use Rattle.std.specs.Prelude.{◌≡◌, ◌≢◌, ◌≤◌, ◌+◌, ◌||◌, ℕ, true, None, nat_lt};
 ghost use Rattle.std.specs.Option.{is_some};
 ghost use Rattle.word_cache.specs.Cache.{lookup, set_count, put, touched, changed, without, pending_bit};
-ghost use Rattle.word_cache.specs.Row.{IsRow, IsCacheRow, pairs_by_use};
+ghost use Rattle.word_cache.specs.Row.{IsPlaceRow, IsCacheRow, pairs_by_use};
 
 use crate::row::{Entry, Place, choose, entry_at, place_of};
 use crate::times::tick;
@@ -59,7 +59,7 @@ pub(crate) fn change_entry(
     word: WordId,
     entry: Entry,
 ) -> Option<Entry>
-    requires row { IsRow sets ways places.old.items }
+    requires row { IsPlaceRow sets ways places.old.items }
     requires there { lookup word.0 (pairs_by_use places.old.items) ≢ None }
     ensures row { (clock : ℕ) → IsCacheRow sets ways clock places.old.items → IsCacheRow sets ways clock places.new.items }
     ensures pairs { pairs_by_use places.new.items ≡ changed word.0 entry (pairs_by_use places.old.items) }
@@ -97,7 +97,7 @@ pub(crate) fn use_again(
 
 /// Takes the word's pair out, if it has one, and hands back the entry that it had.
 pub(crate) fn take_out(places: &mut Vec<Place>, sets: u32, ways: u32, word: WordId) -> Option<Entry>
-    requires row { IsRow sets ways places.old.items }
+    requires row { IsPlaceRow sets ways places.old.items }
     ensures row { (clock : ℕ) → IsCacheRow sets ways clock places.old.items → IsCacheRow sets ways clock places.new.items }
     ensures pairs { pairs_by_use places.new.items ≡ without word.0 (pairs_by_use places.old.items) }
     ensures had { result ≡ lookup word.0 (pairs_by_use places.old.items) }

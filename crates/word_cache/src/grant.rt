@@ -1,8 +1,8 @@
 ghost use Rattle.std.specs.Prelude.{◌≡◌, ℕ, ◌+◌, ◌≤◌, ◌&&◌, nat_le, [], ◌∷◌, All};
-ghost use Rattle.write_signature.specs.Signature.{holds};
+ghost use Rattle.write_signature.specs.Signature.{may_hold};
 ghost use Rattle.region_table.specs.declared.interval.Interval.{Interval};
 ghost use Rattle.word_cache.specs.Cache.{lookup, dropped_signed};
-ghost use Rattle.word_cache.specs.Row.{IsRow, IsCacheRow, pairs_by_use, is_copy, size_of};
+ghost use Rattle.word_cache.specs.Row.{IsPlaceRow, IsCacheRow, pairs_by_use, is_copy, interval_words};
 
 use crate::edits::take_out;
 use crate::looks::entry_of;
@@ -31,8 +31,8 @@ fn is_stale(
     phase: PhaseId,
     word: WordId,
 ) -> bool
-    requires { IsRow sets ways row.now }
-    ensures { result ≡ (holds signature.now word.0 phase.0 && is_copy (lookup word.0 (pairs_by_use row.now))) }
+    requires { IsPlaceRow sets ways row.now }
+    ensures { result ≡ (may_hold signature.now word.0 phase.0 && is_copy (lookup word.0 (pairs_by_use row.now))) }
 {
     signature.may_hold(word, phase) && is_copy(entry_of(row, sets, ways, word))
 }
@@ -46,7 +46,7 @@ fn drop_word(
     phase: PhaseId,
     word: WordId,
 )
-    requires row { IsRow sets ways places.old.items }
+    requires row { IsPlaceRow sets ways places.old.items }
     ensures row { (clock : ℕ) → IsCacheRow sets ways clock places.old.items → IsCacheRow sets ways clock places.new.items }
     ensures pairs { pairs_by_use places.new.items ≡ dropped_signed signature.now phase.0 (record { lo = word.0; hi = word.0 + 1 } ∷ []) (pairs_by_use places.old.items) }
 {
@@ -64,7 +64,7 @@ fn drop_interval(
     phase: PhaseId,
     interval: Interval,
 )
-    requires row { IsRow sets ways places.old.items }
+    requires row { IsPlaceRow sets ways places.old.items }
     requires order { interval.lo ≤ interval.hi }
     ensures row { (clock : ℕ) → IsCacheRow sets ways clock places.old.items → IsCacheRow sets ways clock places.new.items }
     ensures pairs { pairs_by_use places.new.items ≡ dropped_signed signature.now phase.0 (interval ∷ []) (pairs_by_use places.old.items) }
@@ -83,7 +83,7 @@ fn drop_each(
     phase: PhaseId,
     intervals: &[Interval],
 )
-    requires row { IsRow sets ways places.old.items }
+    requires row { IsPlaceRow sets ways places.old.items }
     requires order { All (λ (i : Interval). i.lo ≤ i.hi) intervals.now }
     ensures row { (clock : ℕ) → IsCacheRow sets ways clock places.old.items → IsCacheRow sets ways clock places.new.items }
     ensures pairs { pairs_by_use places.new.items ≡ dropped_signed signature.now phase.0 intervals.now (pairs_by_use places.old.items) }
@@ -95,7 +95,7 @@ fn drop_each(
 
 /// Whether intervals have so many words at the most.
 fn are_within(intervals: &[Interval], most: usize) -> bool
-    ensures { result ≡ nat_le (size_of intervals.now) most }
+    ensures { result ≡ nat_le (interval_words intervals.now) most }
 {
     let mut left = most;
     for interval in intervals {
@@ -117,7 +117,7 @@ pub(crate) fn drop_stale(
     phase: PhaseId,
     words: &WordSet,
 )
-    requires row { IsRow sets ways places.old.items }
+    requires row { IsPlaceRow sets ways places.old.items }
     ensures row { (clock : ℕ) → IsCacheRow sets ways clock places.old.items → IsCacheRow sets ways clock places.new.items }
     ensures pairs { pairs_by_use places.new.items ≡ dropped_signed signature.now phase.0 words.now (pairs_by_use places.old.items) }
 {

@@ -3,14 +3,14 @@ ghost use Rattle.std.specs.List.{find, filter};
 ghost use Rattle.std.specs.Option.{option_map};
 ghost use Rattle.word_cache.specs.declared.row.Place.{Place};
 ghost use Rattle.word_cache.specs.Cache.{Pair, in_set, lookup, set_count, gives_way, may_go};
-ghost use Rattle.word_cache.specs.Row.{IsRow, AreApart, pairs_by_use};
+ghost use Rattle.word_cache.specs.Row.{IsPlaceRow, HaveDistinctTimes, pairs_by_use};
 
 use crate::row::{Entry, Place, entry_at, free_place, place_of, victim_place};
 use dn_base::WordId;
 
 /// The word's entry, if it has a pair. It looks at the word's set alone.
 pub(crate) fn entry_of(row: &[Place], sets: u32, ways: u32, word: WordId) -> Option<Entry>
-    requires { IsRow sets ways row.now }
+    requires { IsPlaceRow sets ways row.now }
     ensures { result ≡ lookup word.0 (pairs_by_use row.now) }
 {
     match place_of(row, sets, ways, word) {
@@ -21,7 +21,7 @@ pub(crate) fn entry_of(row: &[Place], sets: u32, ways: u32, word: WordId) -> Opt
 
 /// Whether the word's set has a place without a pair.
 pub(crate) fn has_free(row: &[Place], sets: u32, ways: u32, word: WordId) -> bool
-    requires { IsRow sets ways row.now }
+    requires { IsPlaceRow sets ways row.now }
     ensures { result ≡ nat_lt (set_count sets word.0 (pairs_by_use row.now)) ways }
 {
     match free_place(row, sets, ways, word) {
@@ -43,7 +43,7 @@ fn word_at(row: &[Place], place: usize) -> Option<WordId>
 
 /// The word that was used least recently among those of the word's set that may be evicted.
 pub(crate) fn victim_in(row: &[Place], sets: u32, ways: u32, word: WordId) -> Option<WordId>
-    requires { IsRow sets ways row.now }
+    requires { IsPlaceRow sets ways row.now }
     ensures value { result ≡ option_map (λ (p : Pair). p.0) (find (gives_way sets word.0) (pairs_by_use row.now)) }
     ensures evictable { IfSome result (λ w. may_go (lookup w.0 (pairs_by_use row.now)) ≡ true) }
 {
@@ -55,11 +55,11 @@ pub(crate) fn victim_in(row: &[Place], sets: u32, ways: u32, word: WordId) -> Op
 
 /// The places of a set.
 pub(crate) fn set_of(row: &[Place], sets: u32, ways: u32, set: u32) -> &[Place]
-    requires row { IsRow sets ways row.now }
+    requires row { IsPlaceRow sets ways row.now }
     requires set { set < sets }
     ensures count { length result.now ≡ ways }
     ensures pairs { pairs_by_use result.now ≡ filter (in_set sets set) (pairs_by_use row.now) }
-    ensures times { AreApart result.now }
+    ensures times { HaveDistinctTimes result.now }
 {
     let start = (set * ways) as usize;
     &row[start..start + ways as usize]

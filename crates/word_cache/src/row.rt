@@ -1,11 +1,11 @@
 ghost use Rattle.std.specs.Prelude.{◌≡◌, ℕ, ◌+◌, ◌*◌, ◌/◌, ◌%◌, ◌<◌, ◌≤◌, ◌≢◌, true, false, Some, None, IfSome, IfNone, length, slice_index_or};
 ghost use Rattle.word_cache.specs.declared.row.Place.{Place};
 ghost use Rattle.word_cache.specs.Cache.{is_pending, is_evictable};
-ghost use Rattle.word_cache.specs.Row.{IsRow, has_word};
+ghost use Rattle.word_cache.specs.Row.{IsPlaceRow, has_word};
 ghost use Rattle.std.specs.Prelude.{◌||◌, nat_lt};
 ghost use Rattle.std.specs.Option.{is_some, option_map};
 ghost use Rattle.word_cache.specs.Cache.{Pair, lookup, set_count};
-ghost use Rattle.word_cache.specs.Row.{pairs_by_use, MayHold, IsFirst, earlier, place_gives_way, place_may_go, is_from};
+ghost use Rattle.word_cache.specs.Row.{pairs_by_use, MayHold, IsLeastUsed, earlier, place_gives_way, place_may_go, is_from};
 
 use dn_base::WordId;
 
@@ -72,7 +72,7 @@ pub(crate) fn start_of(sets: u32, ways: u32, word: WordId) -> usize
 
 /// The place of the word's pair, if it has one. It looks at the word's set alone.
 pub(crate) fn place_of(row: &[Place], sets: u32, ways: u32, word: WordId) -> Option<usize>
-    requires { IsRow sets ways row.now }
+    requires { IsPlaceRow sets ways row.now }
     ensures within { IfSome result (λ k. k < length row.now) }
     ensures some { IfSome result (λ k. (d : Place) → has_word word.0 (slice_index_or row.now k d) ≡ true) }
     ensures none { IfNone result ((k : ℕ) (d : Place) → k < length row.now → has_word word.0 (slice_index_or row.now k d) ≡ false) }
@@ -88,7 +88,7 @@ pub(crate) fn place_of(row: &[Place], sets: u32, ways: u32, word: WordId) -> Opt
 
 /// A place of the word's set without a pair, if there is one.
 pub(crate) fn free_place(row: &[Place], sets: u32, ways: u32, word: WordId) -> Option<usize>
-    requires { IsRow sets ways row.now }
+    requires { IsPlaceRow sets ways row.now }
     ensures within { IfSome result (λ k. k < length row.now) }
     ensures some { IfSome result (λ k. (d : Place) → (slice_index_or row.now k d).pair ≡ None) }
     ensures set { IfSome result (λ k. k / ways ≡ word.0 % sets) }
@@ -116,7 +116,7 @@ pub(crate) fn entry_at(row: &[Place], place: usize) -> Option<Entry>
 
 /// The place for the word's pair: the one that it has, or a free one of its set. The word has a pair, or its set has room.
 pub(crate) fn choose(row: &[Place], sets: u32, ways: u32, word: WordId) -> usize
-    requires row { IsRow sets ways row.now }
+    requires row { IsPlaceRow sets ways row.now }
     requires room { (is_some (lookup word.0 (pairs_by_use row.now)) || nat_lt (set_count sets word.0 (pairs_by_use row.now)) ways) ≡ true }
     ensures within { result < length row.now }
     ensures set { result / ways ≡ word.0 % sets }
@@ -153,8 +153,8 @@ fn may_go(place: &Place) -> bool
 
 /// The place of the word's set that was used least recently among those with a pair that may be evicted.
 pub(crate) fn victim_place(row: &[Place], sets: u32, ways: u32, word: WordId) -> Option<usize>
-    requires { IsRow sets ways row.now }
-    ensures { IsFirst (place_gives_way sets word.0) row.now (word.0 % sets * ways) (word.0 % sets * ways + ways) result }
+    requires { IsPlaceRow sets ways row.now }
+    ensures { IsLeastUsed (place_gives_way sets word.0) row.now (word.0 % sets * ways) (word.0 % sets * ways + ways) result }
 {
     let start = start_of(sets, ways, word);
     let mut best: Option<usize> = None;
@@ -168,7 +168,7 @@ pub(crate) fn victim_place(row: &[Place], sets: u32, ways: u32, word: WordId) ->
 
 /// The place with the least time from this one on; None where every place was used before it.
 pub(crate) fn least_from(row: &[Place], time: u64) -> Option<usize>
-    ensures { IsFirst (is_from time) row.now 0 (length row.now) result }
+    ensures { IsLeastUsed (is_from time) row.now 0 (length row.now) result }
 {
     let mut best: Option<usize> = None;
     for index in 0..row.len() {

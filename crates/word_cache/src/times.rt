@@ -1,5 +1,5 @@
 ghost use Rattle.std.specs.Prelude.{◌≡◌, ℕ, ◌+◌, ◌*◌, ◌<◌, ◌≤◌, length};
-ghost use Rattle.word_cache.specs.Row.{pairs_by_use, IsRow, AreFrom, AreBefore, IsCacheRow, last_time};
+ghost use Rattle.word_cache.specs.Row.{pairs_by_use, IsPlaceRow, AreFrom, AreBefore, IsCacheRow, last_time};
 
 use crate::row::{Place, least_from};
 
@@ -9,8 +9,8 @@ pub(crate) const LAST: u64 = u64::MAX;
 /// Numbers the times of a row's places from 1 in their order, and gives the next time. Takes no memory: the place with the
 /// least time that isn't renumbered yet gets the next number, until none is left.
 fn renumber(places: &mut Vec<Place>, sets: u32, ways: u32) -> u64
-    requires { IsRow sets ways places.old.items }
-    ensures row { IsRow sets ways places.new.items }
+    requires { IsPlaceRow sets ways places.old.items }
+    ensures row { IsPlaceRow sets ways places.new.items }
     ensures pairs { pairs_by_use places.new.items ≡ pairs_by_use places.old.items }
     ensures first { AreFrom 1 places.new.items }
     ensures before { AreBefore result places.new.items }
@@ -29,7 +29,7 @@ fn renumber(places: &mut Vec<Place>, sets: u32, ways: u32) -> u64
 /// A time behind those of all places. Only where the clock stands at its last time, all are numbered from 1 again.
 fn free_time(places: &mut Vec<Place>, clock: u64, sets: u32, ways: u32) -> u64
     requires { IsCacheRow sets ways clock places.old.items }
-    ensures row { IsRow sets ways places.new.items }
+    ensures row { IsPlaceRow sets ways places.new.items }
     ensures pairs { pairs_by_use places.new.items ≡ pairs_by_use places.old.items }
     ensures before { AreBefore result places.new.items }
     ensures within { result < last_time }
@@ -46,7 +46,7 @@ fn free_time(places: &mut Vec<Place>, clock: u64, sets: u32, ways: u32) -> u64
 /// A time behind those of all places, and the clock behind it.
 pub(crate) fn tick(places: &mut Vec<Place>, clock: &mut u64, sets: u32, ways: u32) -> u64
     requires { IsCacheRow sets ways clock.old places.old.items }
-    ensures row { IsRow sets ways places.new.items }
+    ensures row { IsPlaceRow sets ways places.new.items }
     ensures pairs { pairs_by_use places.new.items ≡ pairs_by_use places.old.items }
     ensures before { AreBefore result places.new.items }
     ensures clock { clock.new ≡ result + 1 }

@@ -38,8 +38,8 @@ unfoldable pub adding_phase : List ℕ → List ℕ → List ℕ → ℕ → Lis
 adding_phase label from to part = line (codes ".phase") ++ flat_map (adding_task label from to part) (range_with_len 0 4)
 
 -- the three phases: a is filled, is added up into b, and b into a
-unfoldable pub declared : ℕ → ℕ → List ℕ
-declared part words =
+unfoldable pub declared_lines : ℕ → ℕ → List ℕ
+declared_lines part words =
     region_line (codes "a") words
     ++ region_line (codes "b") words
     ++ filling_phase part
@@ -116,7 +116,7 @@ adding_code part words = line (codes "body:") ++ number_line (codes "t2") part +
 
 -- the text on two regions of `words` words, of which each task has a part
 unfoldable pub text_for : ℕ → ℕ → List ℕ
-text_for part words = declared part words ++ filling_code part ++ starting_code ++ adding_code part words
+text_for part words = declared_lines part words ++ filling_code part ++ starting_code ++ adding_code part words
 
 -- the work of a size
 abbrev pub work_of : ℕ → List ℕ

@@ -1,6 +1,6 @@
 //! The regions, and the phases with their tasks.
 ghost use Rattle.std.specs.Prelude.{◌≡◌, ◌+◌, ◌*◌, ◌++◌, ◌<◌, ◌≤◌, OnOk};
-ghost use Rattle.work_gen.specs.Work.{region_line, task_line, reads_line, writes_line, filling_task, adding_task, filling_phase, adding_phase, declared};
+ghost use Rattle.work_gen.specs.Work.{region_line, task_line, reads_line, writes_line, filling_task, adding_task, filling_phase, adding_phase, declared_lines};
 
 use crate::pieces::push;
 use dn_base::Memory;
@@ -107,10 +107,10 @@ fn push_adding_phase(
 }
 
 /// The two regions and the three phases.
-#[tactic(auto, unfolding(crate::specs::Work::declared))]
+#[tactic(auto, unfolding(crate::specs::Work::declared_lines))]
 pub(crate) fn push_declared(out: &mut Vec<u8>, part: u32, words: u32) -> Result<(), Memory>
     requires { part ≤ 2048 }
-    ensures { OnOk result (out.new.items ≡ out.old.items ++ declared part words) }
+    ensures { OnOk result (out.new.items ≡ out.old.items ++ declared_lines part words) }
 {
     push_region(out, "a", words)?;
     push_region(out, "b", words)?;

@@ -33,8 +33,8 @@ abbrev pub in_phase : ℕ → Signature → Signature
 in_phase p s = if tag s == p then s else empty p
 
 -- whether word w may have been written in phase p: both of its bits are set
-unfoldable pub holds : Signature → ℕ → ℕ → Bool
-holds s w p = (tag s == p) && has_bit s (h1 w) && has_bit s (h2 w)
+unfoldable pub may_hold : Signature → ℕ → ℕ → Bool
+may_hold s w p = (tag s == p) && has_bit s (h1 w) && has_bit s (h2 w)
 
 -- word w was written in phase p
 unfoldable pub inserted : Signature → ℕ → ℕ → Signature

@@ -1,19 +1,19 @@
 //! What the definitions of insertion and join come to, for whoever reasons about signatures.
 ghost use Rattle.std.specs.Prelude.{◌≡◌, ◌≢◌, ℕ, ◌<◌, ◌≤◌, ◌||◌, max, false, IsTrue};
 ghost use Rattle.write_signature.specs.declared.signature.Signature.{Signature};
-ghost use Rattle.write_signature.specs.Signature.{tag, has_bit, in_phase, empty, holds, inserted, joined};
+ghost use Rattle.write_signature.specs.Signature.{tag, has_bit, in_phase, empty, may_hold, inserted, joined};
 
 /// Nothing is held by an empty signature, nor in another phase than a signature's own.
 pub fn nothing_is_held_at_first()
-    ensures empty { (w p q : ℕ) → holds (empty p) w q ≡ false }
-    ensures other_phase { (s : Signature) (w p : ℕ) → tag s ≢ p → holds s w p ≡ false }
-    ensures own_phase { (s : Signature) (w p : ℕ) → IsTrue (holds s w p) → tag s ≡ p }
+    ensures empty { (w p q : ℕ) → may_hold (empty p) w q ≡ false }
+    ensures other_phase { (s : Signature) (w p : ℕ) → tag s ≢ p → may_hold s w p ≡ false }
+    ensures own_phase { (s : Signature) (w p : ℕ) → IsTrue (may_hold s w p) → tag s ≡ p }
 {}
 
 /// A word that was inserted in a phase is held in it, and so is all that was held in it before.
 pub fn insert_covers()
-    ensures inserted { (s : Signature) (w p : ℕ) → IsTrue (holds (inserted s w p) w p) }
-    ensures kept { (s : Signature) (v w p : ℕ) → IsTrue (holds s v p) → IsTrue (holds (inserted s w p) v p) }
+    ensures inserted { (s : Signature) (w p : ℕ) → IsTrue (may_hold (inserted s w p) w p) }
+    ensures kept { (s : Signature) (v w p : ℕ) → IsTrue (may_hold s v p) → IsTrue (may_hold (inserted s w p) v p) }
 {}
 
 /// An insertion in another phase begins with the empty signature.
@@ -24,14 +24,14 @@ pub fn insert_empties()
 /// A signature that is taken over into a phase is of that phase, and holds in it what it held in it before.
 pub fn a_phase_takes_over_its_own_writes()
     ensures tag { (p : ℕ) (s : Signature) → tag (in_phase p s) ≡ p }
-    ensures held { (p : ℕ) (s : Signature) (w : ℕ) → holds (in_phase p s) w p ≡ holds s w p }
+    ensures held { (p : ℕ) (s : Signature) (w : ℕ) → may_hold (in_phase p s) w p ≡ may_hold s w p }
 {}
 
 /// A join of signatures of a phase or of earlier ones is of none that is later, and holds in it what either holds in it.
 pub fn join_covers()
     ensures tag { (a b : Signature) (p : ℕ) → tag a ≤ p → tag b ≤ p → tag (joined a b) ≤ p }
-    ensures first { (a b : Signature) (w p : ℕ) → tag b ≤ p → IsTrue (holds a w p) → IsTrue (holds (joined a b) w p) }
-    ensures second { (a b : Signature) (w p : ℕ) → tag a ≤ p → IsTrue (holds b w p) → IsTrue (holds (joined a b) w p) }
+    ensures first { (a b : Signature) (w p : ℕ) → tag b ≤ p → IsTrue (may_hold a w p) → IsTrue (may_hold (joined a b) w p) }
+    ensures second { (a b : Signature) (w p : ℕ) → tag a ≤ p → IsTrue (may_hold b w p) → IsTrue (may_hold (joined a b) w p) }
 {}
 
 /// A join of two signatures of a phase has the bits of either.

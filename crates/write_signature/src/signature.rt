@@ -1,5 +1,5 @@
 ghost use Rattle.std.specs.Prelude.{◌≡◌, ◌<◌};
-ghost use Rattle.write_signature.specs.Signature.{h1, h2, has_bit, with_bit, in_phase, empty, holds, inserted, joined};
+ghost use Rattle.write_signature.specs.Signature.{h1, h2, has_bit, with_bit, in_phase, empty, may_hold, inserted, joined};
 
 use dn_base::{PhaseId, WordId};
 
@@ -105,9 +105,9 @@ impl Signature {
     }
 
     /// Whether the word may have been written in this phase: never false of a word that was.
-    #[tactic(auto, unfolding(crate::specs::Signature::holds))]
+    #[tactic(auto, unfolding(crate::specs::Signature::may_hold))]
     pub fn may_hold(&self, word: WordId, phase: PhaseId) -> bool
-        ensures { result ≡ holds self.now word.0 phase.0 }
+        ensures { result ≡ may_hold self.now word.0 phase.0 }
     {
         self.phase == phase && self.has(first_bit(word)) && self.has(second_bit(word))
     }

@@ -1,12 +1,12 @@
 use Rattle.std.proofs.lemmas.List.FromFn.{length-map-range_with_len}
-use Rattle.registration_protocol.specs.Node.{opened}
+use Rattle.registration_protocol.specs.Node.{initial_node}
 use Rattle.registration_protocol.specs.Setting.{setting}
 use Rattle.dn_machine.proofs.Opened.{opened-from, opened-nodes-fit}
 use Rattle.dn_machine.proofs.starting.opened_content.Goals as goal
 
 pub own_events-own-requires-clause-most : goal.own_events-own-requires-clause-most
 own_events-own-requires-clause-most c =
-    rw (c.as_slice.ensures.value, c.in_ok-nodes.ensures, length-map-range_with_len (opened (setting c.args.context.now)) 0 (setting c.args.context.now).shape.cores) c.requires.most
+    rw (c.as_slice.ensures.value, c.in_ok-nodes.ensures, length-map-range_with_len (initial_node (setting c.args.context.now)) 0 (setting c.args.context.now).shape.cores) c.requires.most
 
 pub own_events-own-requires-clause-fits : goal.own_events-own-requires-clause-fits
 own_events-own-requires-clause-fits c = λ core n here.

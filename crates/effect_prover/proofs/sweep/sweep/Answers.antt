@@ -3,7 +3,7 @@ use Rattle.std.proofs.lemmas.List.{length-replicate}
 use Rattle.effect_prover.specs.declared.row.Row.{Row}
 use Rattle.effect_prover.specs.Row.{start_row, IsRow}
 use Rattle.effect_prover.specs.Table.{Table, Covers}
-use Rattle.effect_prover.specs.Sweep.{IsGiven, room}
+use Rattle.effect_prover.specs.Sweep.{IsRowGiven, table_room}
 use Rattle.effect_prover.proofs.RowLemmas.{start-row}
 use Rattle.effect_prover.proofs.TableLemmas.{covers-grows, swept-first, swept-least, sweep-falls}
 use Rattle.effect_prover.proofs.sweep.sweep.Goals as goal
@@ -21,10 +21,10 @@ loop-at-init c =
     let n = length P.code in
     let start : Row = c.start.result in
     let words : length c.args.rows.now ≡ n = counted c.args.rows.now n c.requires.rows in
-    let given : IsGiven P d (replicate n None) (replicate n false) (Some d.entry) (Some start) n c.give-at.new.rows c.give-at.new.pending c.give-at.result =
-    subst (λ (k : ℕ). IsGiven P d (replicate n None) (replicate n false) (Some d.entry) (Some start) k c.give-at.new.rows c.give-at.new.pending c.give-at.result) words
-    (subst (λ (p : List Bool). IsGiven P d (replicate n None) p (Some d.entry) (Some start) (length c.args.rows.now) c.give-at.new.rows c.give-at.new.pending c.give-at.result) c.requires.pending
-    (subst (λ (t : Table). IsGiven P d t c.args.pending.now (Some d.entry) (Some start) (length c.args.rows.now) c.give-at.new.rows c.give-at.new.pending c.give-at.result) c.requires.rows c.give-at.ensures)) in
+    let given : IsRowGiven P d (replicate n None) (replicate n false) (Some d.entry) (Some start) n c.give-at.new.rows c.give-at.new.pending c.give-at.result =
+    subst (λ (k : ℕ). IsRowGiven P d (replicate n None) (replicate n false) (Some d.entry) (Some start) k c.give-at.new.rows c.give-at.new.pending c.give-at.result) words
+    (subst (λ (p : List Bool). IsRowGiven P d (replicate n None) p (Some d.entry) (Some start) (length c.args.rows.now) c.give-at.new.rows c.give-at.new.pending c.give-at.result) c.requires.pending
+    (subst (λ (t : Table). IsRowGiven P d t c.args.pending.now (Some d.entry) (Some start) (length c.args.rows.now) c.give-at.new.rows c.give-at.new.pending c.give-at.result) c.requires.rows c.give-at.ensures)) in
     record {
       swept = swept-first P d n c.give-at.new.rows c.give-at.new.pending c.give-at.result start refl c.start.ensures given;
       entry = subst (λ (x : Row). Covers c.give-at.new.rows d.entry (Some x)) c.start.ensures (given.covers d.entry refl);
@@ -34,7 +34,7 @@ loop-at-init c =
 
 pub loop-at-smaller : goal.loop-at-smaller
 loop-at-smaller c =
-    sweep-falls (length c.args.rows.now) (room c.loop-at.rows) (room c.pass-at.new.rows) c.loop-at.at c.pass-at.result
+    sweep-falls (length c.args.rows.now) (table_room c.loop-at.rows) (table_room c.pass-at.new.rows) c.loop-at.at c.pass-at.result
     (let w = c.loop-at-test.true in let same = c.loop-at.invariant.words in let rows = c.loop-at.invariant.swept.shape.words in omega arith)
     c.pass-at.ensures.next c.pass-at.ensures.room_falls c.pass-at.ensures.room_less
 

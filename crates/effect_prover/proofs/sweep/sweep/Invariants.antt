@@ -1,7 +1,7 @@
 use Rattle.std.proofs.Common.{◌≡◌, ◌≤◌, ℕ, ◌+◌, ◌-◌, ◌*◌, length, Some}
 use Rattle.effect_prover.specs.Row.{start_row}
 use Rattle.effect_prover.specs.Table.{Covers}
-use Rattle.effect_prover.specs.Sweep.{IsSwept, room}
+use Rattle.effect_prover.specs.Sweep.{IsSwept, table_room}
 use Rattle.effect_prover.proofs.sweep.sweep.Given as goal
 
 abbrev pub invariant-loop-at : goal.invariant-loop-at
@@ -14,4 +14,4 @@ invariant-loop-at l =
     }
 
 abbrev pub decreases-loop-at : goal.decreases-loop-at
-decreases-loop-at l = room l.rows * (l.words + 1) + (l.words - l.at)
+decreases-loop-at l = table_room l.rows * (l.words + 1) + (l.words - l.at)

@@ -1,5 +1,5 @@
 use Rattle.std.proofs.Common.{Some}
-use Rattle.flat_machine.specs.Phases.{opened}
+use Rattle.flat_machine.specs.Phases.{initial_flat}
 use Rattle.flat_machine.proofs.LeastLaws.{least-exists}
 use Rattle.flat_machine.proofs.RunLemmas.{least-has_run, least-one}
 use Rattle.flat_machine.proofs.laws.the_least_list_has_a_run.Goals as goal
@@ -11,4 +11,4 @@ pub returns-clause-run : goal.returns-clause-run
 returns-clause-run c = least-has_run
 
 pub returns-clause-one : goal.returns-clause-one
-returns-clause-one c = λ P fuel gs hs h k. least-one P fuel (Some (opened P fuel)) gs hs h k
+returns-clause-one c = λ P fuel gs hs h k. least-one P fuel (Some (initial_flat P fuel)) gs hs h k

@@ -1,6 +1,6 @@
 use Rattle.std.proofs.Common.{IfSome, sym, refl, ◌∙◌, subst}
 use Rattle.std.specs.Option.{option_to_list}
-use Rattle.bank_hall.specs.Halls.{HasMadeCalls, number_of}
+use Rattle.bank_hall.specs.Halls.{HasMadeCalls, pass_number}
 use Rattle.round_rules.specs.Acts.{postings}
 use Rattle.host_workers.specs.Deeds.{IsEarly}
 use Rattle.host_workers.proofs.Calls.{made-none, letters-more}
@@ -14,7 +14,7 @@ pub loop-core-preserved : goal.loop-core-preserved
 loop-core-preserved g c =
     let had = c.loop-core.invariant in record {
       pass = (c.in_ok-emit.ensures.pass.0, c.in_ok-emit.ensures.pass.1 ∙ had.pass.1);
-      made = letters-more c.args.pass.now c.loop-core.pass c.emit.new.pass c.args.shape c.args.handled.now c.loop-core.core had.made had.pass.1 (subst (λ o. HasMadeCalls c.loop-core.pass c.emit.new.pass (postings c.args.shape (number_of c.loop-core.pass) (option_to_list o))) c.letter.ensures c.in_ok-emit.ensures.made);
+      made = letters-more c.args.pass.now c.loop-core.pass c.emit.new.pass c.args.shape c.args.handled.now c.loop-core.core had.made had.pass.1 (subst (λ o. HasMadeCalls c.loop-core.pass c.emit.new.pass (postings c.args.shape (pass_number c.loop-core.pass) (option_to_list o))) c.letter.ensures c.in_ok-emit.ensures.made);
     }
 
 pub emit-requires-clause-early : goal.emit-requires-clause-early

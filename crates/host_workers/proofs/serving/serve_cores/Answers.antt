@@ -3,7 +3,7 @@ use Rattle.std.proofs.lemmas.List.{length-set, get_or-set_other, take_all}
 use Rattle.registration_protocol.specs.Setting.{setting}
 use Rattle.host_workers.specs.declared.owned.Owned.{Owned}
 use Rattle.host_workers.specs.Crews.{IsOwned}
-use Rattle.host_workers.specs.Work.{IsServed, HasDone, HaveDone}
+use Rattle.host_workers.specs.Work.{IsCoreServed, HasDone, HaveDone}
 use Rattle.host_workers.proofs.Served.{done-none, done-next}
 use Rattle.host_workers.proofs.serving.serve_cores.Goals as goal
 
@@ -13,7 +13,7 @@ loop-place-init g c = record {
   long = refl;
   later = λ i d from. refl;
   few = omega arith;
-  done = done-none (IsServed (setting c.args.context.now)) (setting c.args.context.now) c.args.pass.now;
+  done = done-none (IsCoreServed (setting c.args.context.now)) (setting c.args.context.now) c.args.pass.now;
 }
 
 pub index_mut-requires : goal.index_mut-requires
@@ -44,13 +44,13 @@ loop-place-preserved g c =
     let few = had.few in
     let now = c.serve_core.new.owned in
     let was : get_or c.args.cores.now.items c.loop-place.place x ≡ x = sym (had.later c.loop-place.place x (omega arith)) ∙ sym c.index_mut.ensures.value in
-    let one = subst (λ (o : Owned). HasDone (IsServed C) C c.loop-place.pass c.serve_core.new.pass o now c.in_ok-events.events) (sym was) c.in_ok-events.ensures.served in
+    let one = subst (λ (o : Owned). HasDone (IsCoreServed C) C c.loop-place.pass c.serve_core.new.pass o now c.in_ok-events.events) (sym was) c.in_ok-events.ensures.served in
     record {
       pass = (c.in_ok-events.ensures.pass.0, c.in_ok-events.ensures.pass.1 ∙ had.pass.1);
       long = length-set c.loop-place.cores.items c.loop-place.place now ∙ had.long;
       later = λ i d from. get_or-set_other c.loop-place.cores.items c.loop-place.place i now d (λ e. absurd (omega (arith, from, e))) ∙ had.later i d (omega (arith, from));
       few = omega (arith, few, c.in_ok-events.ensures.few);
-      done = done-next (IsServed C) C c.args.pass.now c.loop-place.pass c.serve_core.new.pass c.args.cores.now.items c.loop-place.cores.items c.loop-place.place now c.loop-place.made c.in_ok-events.events had.done had.pass.1 (omega (arith, long)) had.long x one;
+      done = done-next (IsCoreServed C) C c.args.pass.now c.loop-place.pass c.serve_core.new.pass c.args.cores.now.items c.loop-place.cores.items c.loop-place.place now c.loop-place.made c.in_ok-events.events had.done had.pass.1 (omega (arith, long)) had.long x one;
     }
 
 pub returns-clause-served : goal.returns-clause-served
@@ -60,5 +60,5 @@ returns-clause-served g c =
     let long = had.long in
     let all : take c.loop-place.place c.args.cores.now.items ≡ c.args.cores.now.items = take_all c.loop-place.place c.args.cores.now.items (omega arith) in
     let now : take c.loop-place.place c.loop-place.cores.items ≡ c.loop-place.cores.items = take_all c.loop-place.place c.loop-place.cores.items (omega (arith, long)) in
-    subst (λ l. HaveDone (IsServed C) C c.args.pass.now c.loop-place.pass l c.loop-place.cores.items c.loop-place.made) all
-    (subst (λ l. HaveDone (IsServed C) C c.args.pass.now c.loop-place.pass (take c.loop-place.place c.args.cores.now.items) l c.loop-place.made) now had.done)
+    subst (λ l. HaveDone (IsCoreServed C) C c.args.pass.now c.loop-place.pass l c.loop-place.cores.items c.loop-place.made) all
+    (subst (λ l. HaveDone (IsCoreServed C) C c.args.pass.now c.loop-place.pass (take c.loop-place.place c.args.cores.now.items) l c.loop-place.made) now had.done)

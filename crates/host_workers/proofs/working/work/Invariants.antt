@@ -2,12 +2,12 @@ use Rattle.std.proofs.Common.{◌≡◌, ◌<◌}
 use Rattle.registration_protocol.specs.Setting.{setting}
 use Rattle.host_workers.specs.Crews.{IsCrew}
 use Rattle.host_workers.specs.Pass.{HasWorkedOn}
-use Rattle.host_workers.specs.Work.{IsStill}
+use Rattle.host_workers.specs.Work.{KeepsNumber}
 use Rattle.host_workers.proofs.working.work.Given as goal
 
 abbrev pub invariant-loop-passes : goal.invariant-loop-passes
 invariant-loop-passes g l = record {
-  pass : IsStill l.hall l.fn.job.pass l.pass;
+  pass : KeepsNumber l.hall l.fn.job.pass l.pass;
   crew : IsCrew (setting l.context) l.crew;
   idle : l.idle < 64;
   began : l.passes ≡ 0 → (l.pass ≡ l.fn.job.pass) × (l.crew ≡ l.fn.job.crew);

@@ -2,7 +2,7 @@ use Rattle.std.proofs.Common.{◌≡◌, ◌+◌, ℕ, List, [], length, replica
 use Rattle.std.proofs.lemmas.Option.{slice_get-get_or}
 use Rattle.message_net.specs.declared.event.Event.{Event}
 use Rattle.message_net.specs.declared.event.Event.TheVariants.{Instr}
-use Rattle.machine_rules.specs.State.{State, opened}
+use Rattle.machine_rules.specs.State.{State, initial_state}
 use Rattle.machine_rules.specs.Runs.{IsRun}
 use Rattle.machine_rules.specs.Sound.{IsReady}
 use Rattle.run_timing.specs.Rows.{finish_in}
@@ -19,7 +19,7 @@ actor-actor-requires c =
     let n = c.loop-event.event-index in
     let e : Event = get_or E n (Instr (record { 0 = 0 })) in
     let ready : IsReady C = ready-of c.args.machine.state c.args.machine.made c.a_machine_is_kept.ensures in
-    let run : IsRun (opened C) E = subst (λ (S : State). IsRun S E) c.requires.opened c.requires.run in
+    let run : IsRun (initial_state C) E = subst (λ (S : State). IsRun S E) c.requires.opened c.requires.run in
     let here : slice_get E n ≡ Some e = slice_get-get_or E n (Instr (record { 0 = 0 })) c.loop-event-test.true in
     let now = at-event c.args.ticks.now C E n c.loop-event.machine.state c.loop-event.machine.made c.loop-event.tracks.last c.loop-event.tracks.senders.items c.loop-event.rows e ready run c.loop-event.invariant.timed here in
     now.may
@@ -31,7 +31,7 @@ before-before-requires c =
     let n = c.loop-event.event-index in
     let e : Event = get_or E n (Instr (record { 0 = 0 })) in
     let ready : IsReady C = ready-of c.args.machine.state c.args.machine.made c.a_machine_is_kept.ensures in
-    let run : IsRun (opened C) E = subst (λ (S : State). IsRun S E) c.requires.opened c.requires.run in
+    let run : IsRun (initial_state C) E = subst (λ (S : State). IsRun S E) c.requires.opened c.requires.run in
     let here : slice_get E n ≡ Some e = slice_get-get_or E n (Instr (record { 0 = 0 })) c.loop-event-test.true in
     let can = can-note c.args.ticks.now C c.args.shape E n c.loop-event.machine.state c.loop-event.machine.made c.loop-event.tracks.last c.loop-event.tracks.senders.items c.loop-event.rows e c.actor-actor.result c.place-place.result c.requires.shape ready run c.requires.few c.loop-event.invariant.timed c.loop-event-test.true here c.actor-actor.ensures c.place-place.ensures in
     record { place = can.last_within; own = can.own; sender = can.sender }
@@ -43,7 +43,7 @@ make-requires c =
     let n = c.loop-event.event-index in
     let e : Event = get_or E n (Instr (record { 0 = 0 })) in
     let ready : IsReady C = ready-of c.args.machine.state c.args.machine.made c.a_machine_is_kept.ensures in
-    let run : IsRun (opened C) E = subst (λ (S : State). IsRun S E) c.requires.opened c.requires.run in
+    let run : IsRun (initial_state C) E = subst (λ (S : State). IsRun S E) c.requires.opened c.requires.run in
     let here : slice_get E n ≡ Some e = slice_get-get_or E n (Instr (record { 0 = 0 })) c.loop-event-test.true in
     let now = at-event c.args.ticks.now C E n c.loop-event.machine.state c.loop-event.machine.made c.loop-event.tracks.last c.loop-event.tracks.senders.items c.loop-event.rows e ready run c.loop-event.invariant.timed here in
     record {
@@ -61,7 +61,7 @@ note-requires c =
     let n = c.loop-event.event-index in
     let e : Event = get_or E n (Instr (record { 0 = 0 })) in
     let ready : IsReady C = ready-of c.args.machine.state c.args.machine.made c.a_machine_is_kept.ensures in
-    let run : IsRun (opened C) E = subst (λ (S : State). IsRun S E) c.requires.opened c.requires.run in
+    let run : IsRun (initial_state C) E = subst (λ (S : State). IsRun S E) c.requires.opened c.requires.run in
     let here : slice_get E n ≡ Some e = slice_get-get_or E n (Instr (record { 0 = 0 })) c.loop-event-test.true in
     let can = can-note c.args.ticks.now C c.args.shape E n c.loop-event.machine.state c.loop-event.machine.made c.loop-event.tracks.last c.loop-event.tracks.senders.items c.loop-event.rows e c.actor-actor.result c.place-place.result c.requires.shape ready run c.requires.few c.loop-event.invariant.timed c.loop-event-test.true here c.actor-actor.ensures c.place-place.ensures in
     record { last = can.last_within; senders = can.senders_within }
@@ -73,7 +73,7 @@ note_row-requires c =
     let n = c.loop-event.event-index in
     let e : Event = get_or E n (Instr (record { 0 = 0 })) in
     let ready : IsReady C = ready-of c.args.machine.state c.args.machine.made c.a_machine_is_kept.ensures in
-    let run : IsRun (opened C) E = subst (λ (S : State). IsRun S E) c.requires.opened c.requires.run in
+    let run : IsRun (initial_state C) E = subst (λ (S : State). IsRun S E) c.requires.opened c.requires.run in
     let here : slice_get E n ≡ Some e = slice_get-get_or E n (Instr (record { 0 = 0 })) c.loop-event-test.true in
     let can = can-note c.args.ticks.now C c.args.shape E n c.loop-event.machine.state c.loop-event.machine.made c.loop-event.tracks.last c.loop-event.tracks.senders.items c.loop-event.rows e c.actor-actor.result c.place-place.result c.requires.shape ready run c.requires.few c.loop-event.invariant.timed c.loop-event-test.true here c.actor-actor.ensures c.place-place.ensures in
     record {
@@ -106,7 +106,7 @@ loop-event-preserved c =
     let n = c.loop-event.event-index in
     let e : Event = get_or E n (Instr (record { 0 = 0 })) in
     let ready : IsReady C = ready-of c.args.machine.state c.args.machine.made c.a_machine_is_kept.ensures in
-    let run : IsRun (opened C) E = subst (λ (S : State). IsRun S E) c.requires.opened c.requires.run in
+    let run : IsRun (initial_state C) E = subst (λ (S : State). IsRun S E) c.requires.opened c.requires.run in
     let here : slice_get E n ≡ Some e = slice_get-get_or E n (Instr (record { 0 = 0 })) c.loop-event-test.true in
     record {
       timed =

@@ -1,7 +1,7 @@
 use Rattle.std.proofs.Common.{◌≡◌, ℕ, ◌<◌, true, List, length, get_or, Option, Some, None, IfSome, refl, ap, ◌∙◌, sym, arith}
 use Rattle.std.proofs.lemmas.Bool.{and_parts}
 use Rattle.word_cache.specs.Cache.{is_evictable, shares_set, lookup, may_go}
-use Rattle.word_cache.specs.Row.{IsRow, pair_gives_way, pairs_by_use}
+use Rattle.word_cache.specs.Row.{IsPlaceRow, pair_gives_way, pairs_by_use}
 use Rattle.word_cache.proofs.RowLemmas.{get_some}
 use Rattle.std.specs.Option.{option_map}
 use Rattle.word_cache.specs.declared.row.Place.{Place}
@@ -23,7 +23,7 @@ returns-in-None-clause-value c =
     sym (ap (option_map (λ (p : Pair). p.0)) (victim_none c.args.sets c.args.ways c.args.word.0 c.args.row.now c.requires c.in-None.ensures))
 
 -- a pair that gives way stands for its word's entry
-evictable : (sets ways w k : ℕ) (d : Place) (row : List Place) (o : Option Pair) → IsRow sets ways row → k < length row → (get_or row k d).pair ≡ o → pair_gives_way sets w o ≡ true
+evictable : (sets ways w k : ℕ) (d : Place) (row : List Place) (o : Option Pair) → IsPlaceRow sets ways row → k < length row → (get_or row k d).pair ≡ o → pair_gives_way sets w o ≡ true
     → IfSome (option_map (λ (p : Pair). p.0) o) (λ v. may_go (lookup v.0 (pairs_by_use row)) ≡ true)
 evictable sets ways w k d row None good within e passing = absurd (cc)
 evictable sets ways w k d row (Some a) good within e passing =

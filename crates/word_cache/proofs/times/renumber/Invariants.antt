@@ -1,11 +1,11 @@
 use Rattle.std.proofs.Common.{◌≡◌, ◌≤◌, ◌+◌, ◌*◌}
 use Rattle.std.specs.Prelude.{count_by}
-use Rattle.word_cache.specs.Row.{pairs_by_use, IsRow, is_from}
+use Rattle.word_cache.specs.Row.{pairs_by_use, IsPlaceRow, is_from}
 use Rattle.word_cache.proofs.times.renumber.Given as goal
 
 abbrev pub invariant-loop-place : goal.invariant-loop-place
 invariant-loop-place l = record {
-  row : IsRow l.sets l.ways l.places.items;
+  row : IsPlaceRow l.sets l.ways l.places.items;
   pairs : pairs_by_use l.places.items ≡ pairs_by_use l.fn.places.items;
   count : l.time + count_by (is_from l.time) l.places.items ≡ l.sets * l.ways + 1;
   first : 1 ≤ l.time;

@@ -2,7 +2,7 @@ use Rattle.std.proofs.Common.{[], ◌∷◌, map, sym, ap, ◌∙◌, subst}
 use Rattle.std.specs.List.{All}
 use Rattle.std.proofs.lemmas.List.{length-map}
 use Rattle.std.proofs.lemmas.List.Elements.{All-weaker}
-use Rattle.bank_hall.specs.Rows.{Fits, AreClosed}
+use Rattle.bank_hall.specs.Rows.{HasPassesOf, AreClosed}
 use Rattle.bank_hall.specs.Halls.{IsHallPass, bank_state, bank_answer, bank_next, port_inbox, port_answer, port_next, keeper_state, keeper_answer, keeper_next}
 use Rattle.bank_hall.proofs.EndLemmas.{row_callers, closed_counts, closed_row, RowTold, all_told}
 use Rattle.bank_hall.proofs.hall.Hall.close.Goals as goal
@@ -10,17 +10,17 @@ use Rattle.bank_hall.proofs.hall.Hall.close.Goals as goal
 pub close-requires : goal.close-requires
 close-requires c =
     let hall = c.args.self in
-    row_callers hall.banks _ (λ p. p.banks) c.args.passes.items _ (ap (λ h. h.banks) c.self.view_is) c.in_ok-callers.ensures.banks (All-weaker (IsHallPass hall) (λ p. Fits hall.banks p.banks) (λ p fits. fits.banks) c.args.passes.items c.requires.fit) c.requires.banks_shared
+    row_callers hall.banks _ (λ p. p.banks) c.args.passes.items _ (ap (λ h. h.banks) c.self.view_is) c.in_ok-callers.ensures.banks (All-weaker (IsHallPass hall) (λ p. HasPassesOf hall.banks p.banks) (λ p fits. fits.banks) c.args.passes.items c.requires.fit) c.requires.banks_shared
 
 pub close-requires-2 : goal.close-requires-2
 close-requires-2 c =
     let hall = c.args.self in
-    row_callers hall.ports _ (λ p. p.ports) c.args.passes.items _ (ap (λ h. h.ports) c.self.view_is) c.in_ok-callers.ensures.ports (All-weaker (IsHallPass hall) (λ p. Fits hall.ports p.ports) (λ p fits. fits.ports) c.args.passes.items c.requires.fit) c.requires.ports_shared
+    row_callers hall.ports _ (λ p. p.ports) c.args.passes.items _ (ap (λ h. h.ports) c.self.view_is) c.in_ok-callers.ensures.ports (All-weaker (IsHallPass hall) (λ p. HasPassesOf hall.ports p.ports) (λ p fits. fits.ports) c.args.passes.items c.requires.fit) c.requires.ports_shared
 
 pub close-requires-3 : goal.close-requires-3
 close-requires-3 c =
     let hall = c.args.self in
-    row_callers hall.keeper _ (λ p. p.keeper) c.args.passes.items _ (ap (λ h. h.keeper) c.self.view_is) c.in_ok-callers.ensures.keeper (All-weaker (IsHallPass hall) (λ p. Fits hall.keeper p.keeper) (λ p fits. fits.keeper) c.args.passes.items c.requires.fit) c.requires.keeper_shared
+    row_callers hall.keeper _ (λ p. p.keeper) c.args.passes.items _ (ap (λ h. h.keeper) c.self.view_is) c.in_ok-callers.ensures.keeper (All-weaker (IsHallPass hall) (λ p. HasPassesOf hall.keeper p.keeper) (λ p fits. fits.keeper) c.args.passes.items c.requires.fit) c.requires.keeper_shared
 
 pub only-keeper-requires-clause-one : goal.only-keeper-requires-clause-one
 only-keeper-requires-clause-one c = (closed_counts keeper_state keeper_answer keeper_next _ _ _ c.in_ok-keepers.ensures.closed).0 ∙ c.self.invariant

@@ -3,7 +3,7 @@ use Rattle.std.specs.List.{All}
 use Rattle.std.proofs.lemmas.Bool.{false≢true}
 use Rattle.std.proofs.lemmas.List.Elements.{All-pop}
 use Rattle.turn_lock.specs.Passes.{Sharing}
-use Rattle.bank_hall.specs.Rows.{Tokens, Fits, AreTold, AreClosed}
+use Rattle.bank_hall.specs.Rows.{Tokens, HasPassesOf, AreTold, AreClosed}
 use Rattle.bank_hall.proofs.RowLemmas.{nil_right}
 use Rattle.bank_hall.proofs.StartLemmas.{snoc-append, none_left}
 use Rattle.bank_hall.proofs.CloseLemmas.{length-joined, column_fits, column_told, told_none, some_pass}
@@ -13,7 +13,7 @@ pub loop-turn-init : goal.loop-turn-init
 loop-turn-init g c =
     let objects = c.new-objects.ensures.items in
     let histories = c.new-histories.ensures.items in record {
-      fit = subst (λ ts. All (Fits {O = g.row.O.Denot} ts) c.args.callers.items) (sym c.self.view_is) c.requires.fit;
+      fit = subst (λ ts. All (HasPassesOf {O = g.row.O.Denot} ts) c.args.callers.items) (sym c.self.view_is) c.requires.fit;
       shared = subst (All (λ (t : Sharing g.row.O.Denot). t.passes ≡ length c.args.callers.items)) (sym c.self.view_is) c.requires.shared;
       closed = (
         [],
@@ -27,14 +27,14 @@ pub loop-turn-smaller : goal.loop-turn-smaller
 loop-turn-smaller g c = omega (arith, ap length c.in-Some.ensures.items, length-append c.pop.new.self.items (c.in-Some.turn ∷ []))
 
 pub take_column-requires : goal.take_column-requires
-take_column-requires g c = some_pass c.pop.new.self.items c.in-Some.turn c.loop-turn.callers.items (subst (λ ts. All (Fits {O = g.row.O.Denot} ts) c.loop-turn.callers.items) c.in-Some.ensures.items c.loop-turn.invariant.fit)
+take_column-requires g c = some_pass c.pop.new.self.items c.in-Some.turn c.loop-turn.callers.items (subst (λ ts. All (HasPassesOf {O = g.row.O.Denot} ts) c.loop-turn.callers.items) c.in-Some.ensures.items c.loop-turn.invariant.fit)
 
 pub end-requires : goal.end-requires
 end-requires g c =
     let had = c.loop-turn.invariant in
     let split = c.in-Some.ensures.items in
     let told = c.in_ok-column.ensures in
-    let fit = subst (All (Fits (c.pop.new.self.items ++ c.in-Some.turn ∷ []))) told.joined (subst (λ ts. All (Fits {O = g.row.O.Denot} ts) c.loop-turn.callers.items) split had.fit) in
+    let fit = subst (All (HasPassesOf (c.pop.new.self.items ++ c.in-Some.turn ∷ []))) told.joined (subst (λ ts. All (HasPassesOf {O = g.row.O.Denot} ts) c.loop-turn.callers.items) split had.fit) in
     let lengths = ap length told.joined ∙ length-joined c.take_column.new.callers.items c.in_ok-column.column.items in
     let shared = All-pop (λ (t : Sharing g.row.O.Denot). t.passes ≡ length c.loop-turn.callers.items) _ _ (Some c.in-Some.turn) split had.shared in (
       told.count ∙ sym lengths ∙ sym shared.1,
@@ -46,7 +46,7 @@ loop-turn-preserved g c =
     let had = c.loop-turn.invariant in
     let split = c.in-Some.ensures.items in
     let told = c.in_ok-column.ensures in
-    let fit = subst (All (Fits (c.pop.new.self.items ++ c.in-Some.turn ∷ []))) told.joined (subst (λ ts. All (Fits {O = g.row.O.Denot} ts) c.loop-turn.callers.items) split had.fit) in
+    let fit = subst (All (HasPassesOf (c.pop.new.self.items ++ c.in-Some.turn ∷ []))) told.joined (subst (λ ts. All (HasPassesOf {O = g.row.O.Denot} ts) c.loop-turn.callers.items) split had.fit) in
     let lengths = ap length told.joined ∙ length-joined c.take_column.new.callers.items c.in_ok-column.column.items in
     let shared = All-pop (λ (t : Sharing g.row.O.Denot). t.passes ≡ length c.loop-turn.callers.items) _ _ (Some c.in-Some.turn) split had.shared in
     let objects = c.in_ok-insert.ensures.items in
@@ -76,4 +76,4 @@ pub returns-clause-told : goal.returns-clause-told
 returns-clause-told g c =
     let had = c.loop-turn.invariant in
     let empty = none_left c.loop-turn.turns.items (λ more. absurd (false≢true (c.in_default.ensures.variant.1 (omega (arith, c.loop-turn.turns.ok.0, more))))) in
-    had.told [] (told_none c.loop-turn.callers.items (subst (λ ts. All (Fits {O = g.row.O.Denot} ts) c.loop-turn.callers.items) empty had.fit))
+    had.told [] (told_none c.loop-turn.callers.items (subst (λ ts. All (HasPassesOf {O = g.row.O.Denot} ts) c.loop-turn.callers.items) empty had.fit))

@@ -1,7 +1,7 @@
 use Rattle.std.proofs.Common.{◌≡◌, List, [], ◌∷◌, ◌++◌, length, length-append, Option, Some, None, Ok, refl, sym, ap, ◌∙◌, arith}
 use Rattle.message_net.specs.declared.event.Event.{Event}
 use Rattle.registration_protocol.specs.Setting.{setting}
-use Rattle.machine_rules.specs.State.{opened}
+use Rattle.machine_rules.specs.State.{initial_state}
 use Rattle.dn_machine.specs.declared.log.Log.{Log}
 use Rattle.dn_machine.specs.declared.log.Happened.{Happened}
 use Rattle.dn_machine.specs.Content.{state_of}
@@ -27,7 +27,7 @@ note-requires c =
     let way = c.events.invariant.way in
     let few = way-few C c.args.seed c.events.words S c.events.log (ready-of S (length c.events.log.events) way.kept.sound) way in
     let kind = c.in-Some.happened.told.kind in
-    omega (arith, few, count-within (opened C) c.events.log.events c.events.log.counts kind way.logged.counted, ap (λ (es : List Event). length es) way.logged.events)
+    omega (arith, few, count-within (initial_state C) c.events.log.events c.events.log.counts kind way.logged.counted, ap (λ (es : List Event). length es) way.logged.events)
 
 pub events-smaller : goal.events-smaller
 events-smaller c =

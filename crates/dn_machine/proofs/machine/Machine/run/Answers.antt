@@ -1,7 +1,7 @@
 use Rattle.std.proofs.Common.{◌≡◌, IfOk, sym, ap, subst, ◌∙◌}
 use Rattle.registration_protocol.specs.Node.{Setting}
 use Rattle.registration_protocol.specs.Setting.{setting}
-use Rattle.machine_rules.specs.State.{State, opened}
+use Rattle.machine_rules.specs.State.{State, initial_state}
 use Rattle.dn_machine.specs.Kept.{Made}
 use Rattle.dn_machine.specs.Run.{IsSeedsRunOf}
 use Rattle.dn_machine.proofs.machine.Machine.run.Goals as goal
@@ -21,6 +21,6 @@ pub returns : goal.returns
 returns c =
     let P : Setting = record { program = c.self.inside.checked; plans = c.self.inside.plans.items; shape = c.self.inside.shape; fuel = c.self.inside.fuel } in
     let none : c.self.inside.made ≡ 0 = ap (λ (m : Made). m.made) c.self.view_is ∙ c.requires in
-    let same : opened (setting c.context_of-context.result) ≡ c.args.self.state =
-    ap opened c.context_of-context.ensures ∙ sym (c.self.invariant.0.first none) ∙ ap (λ (m : Made). m.state) c.self.view_is in
+    let same : initial_state (setting c.context_of-context.result) ≡ c.args.self.state =
+    ap initial_state c.context_of-context.ensures ∙ sym (c.self.invariant.0.first none) ∙ ap (λ (m : Made). m.state) c.self.view_is in
     subst (λ (S : State). IfOk c.run_opened.result (IsSeedsRunOf S c.args.seed)) same c.run_opened.ensures

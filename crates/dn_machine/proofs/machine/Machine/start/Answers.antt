@@ -3,7 +3,7 @@ use Rattle.region_table.specs.Program.{IsProgram, cores_of}
 use Rattle.registration_protocol.specs.Node.{Setting}
 use Rattle.registration_protocol.specs.Fit.{IsContext}
 use Rattle.registration_protocol.specs.Setting.{setting}
-use Rattle.machine_rules.specs.State.{opened}
+use Rattle.machine_rules.specs.State.{initial_state}
 use Rattle.dn_machine.specs.Content.{state_of}
 use Rattle.dn_machine.proofs.Opened.{kept-opened}
 use Rattle.dn_machine.proofs.machine.Machine.start.Goals as goal
@@ -29,5 +29,5 @@ invariant_of-result c =
     let some : 1 ≤ c.args.shape.cores = omega (arith, c.cores-cores.ensures.some, cores, c.requires.cores) in
     let most : c.args.shape.cores ≤ 16 = omega (arith, c.cores-cores.ensures.within, cores, c.requires.cores) in
     let program : IsProgram c.args.checked = rw same at c.a_program_is_well_formed.ensures in
-    let state : state_of P c.in_ok-content.content ≡ opened P = rw told at c.in_ok-content.ensures.state in
+    let state : state_of P c.in_ok-content.content ≡ initial_state P = rw told at c.in_ok-content.ensures.state in
     (kept-opened P _ context program c.program-program.ensures.checked some most state, rw told at c.in_ok-content.ensures.known)

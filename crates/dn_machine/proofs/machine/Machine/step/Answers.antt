@@ -2,7 +2,7 @@ use Rattle.std.proofs.Common.{◌≡◌, ◌<◌, true, map, refl, sym, ap, ◌�
 use Rattle.registration_protocol.specs.Node.{Setting}
 use Rattle.registration_protocol.specs.OwnEvents.{own_event}
 use Rattle.machine_rules.specs.State.{State}
-use Rattle.machine_rules.specs.Next.{next, enabled, told}
+use Rattle.machine_rules.specs.Next.{next, enabled, observed}
 use Rattle.dn_machine.specs.Kept.{Made}
 use Rattle.dn_machine.specs.Content.{state_of, in_row}
 use Rattle.dn_machine.proofs.KeptLemmas.{whole-kept, kept-next}
@@ -52,5 +52,5 @@ returns-clause-state c =
 pub returns-clause-told : goal.returns-clause-told
 returns-clause-told c =
     let P : Setting = record { program = c.self.inside.checked; plans = c.self.inside.plans.items; shape = c.self.inside.shape; fuel = c.self.inside.fuel } in
-    let is : c.act-stepped.result ≡ told (state_of P c.self.inside.content) c.args.event = rw (c.context_of-context.ensures, c.reserve.ensures.state P) at c.act-stepped.ensures.told in
+    let is : c.act-stepped.result ≡ observed (state_of P c.self.inside.content) c.args.event = rw (c.context_of-context.ensures, c.reserve.ensures.state P) at c.act-stepped.ensures.told in
     rw (← c.self.view_is) is

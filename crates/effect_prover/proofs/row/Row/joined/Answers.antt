@@ -4,7 +4,7 @@ use Rattle.std.proofs.lemmas.List.{length-set, get_or-set_same, get_or-set_other
 use Rattle.effect_prover.specs.declared.range.Range.{Range}
 use Rattle.effect_prover.specs.Range.{one}
 use Rattle.effect_prover.specs.Row.{range_of}
-use Rattle.effect_prover.specs.Sweep.{IsJoined}
+use Rattle.effect_prover.specs.Sweep.{IsJoinedRange}
 use Rattle.effect_prover.proofs.row.Row.joined.Goals as goal
 
 pub loop-number-preserved : goal.loop-number-preserved
@@ -16,16 +16,16 @@ loop-number-preserved c =
     let n = c.loop-number.number in
     let ranges = c.loop-number.ranges in
     let before = c.loop-number.invariant.count in
-    let here : IsJoined head argument (range_of old n) (range_of given n) c.joined.result = c.joined.ensures in
+    let here : IsJoinedRange head argument (range_of old n) (range_of given n) c.joined.result = c.joined.ensures in
     record {
       count = length-set ranges n c.joined.result ∙ before;
       done = λ r l.
           ⊎_elim
           (λ (same : r ≡ n).
-          subst (λ (k : ℕ). IsJoined head argument (range_of old k) (range_of given k) (slice_index_or (slice_set ranges n c.joined.result) k (one 0))) (sym same)
-          (subst (IsJoined head argument (range_of old n) (range_of given n)) (sym (get_or-set_same ranges n c.joined.result (one 0) (omega arith))) here))
+          subst (λ (k : ℕ). IsJoinedRange head argument (range_of old k) (range_of given k) (slice_index_or (slice_set ranges n c.joined.result) k (one 0))) (sym same)
+          (subst (IsJoinedRange head argument (range_of old n) (range_of given n)) (sym (get_or-set_same ranges n c.joined.result (one 0) (omega arith))) here))
           (λ (apart : r ≡ n → ⊥).
-          subst (IsJoined head argument (range_of old r) (range_of given r)) (sym (get_or-set_other ranges n r c.joined.result (one 0) apart))
+          subst (IsJoinedRange head argument (range_of old r) (range_of given r)) (sym (get_or-set_other ranges n r c.joined.result (one 0) apart))
           (c.loop-number.invariant.done r (omega arith)))
           (cases_eq r n);
     }

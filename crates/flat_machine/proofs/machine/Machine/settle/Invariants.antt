@@ -1,12 +1,12 @@
 use Rattle.std.proofs.Common.{◌≡◌, ◌≤◌, ◌-◌, length}
-use Rattle.flat_machine.specs.Phases.{settled, work, IsSound}
+use Rattle.flat_machine.specs.Phases.{settled, work, IsSoundFlat}
 use Rattle.flat_machine.proofs.machine.Machine.settle.Given as goal
 
 abbrev pub invariant-phases : goal.invariant-phases
 invariant-phases l =
     record {
       leads : settled l.program l.fuel l.self ≡ settled l.program l.fuel l.fn.self;
-      sound : IsSound l.program l.fuel l.self;
+      sound : IsSoundFlat l.program l.fuel l.self;
       work : work l.program l.fuel l.self ≤ work l.program l.fuel l.fn.self;
     }
 
