@@ -14,7 +14,7 @@ use Rattle.turn_lock.specs.History.{Legal}
 use Rattle.bank_hall.specs.declared.posted.Posted.{Posted}
 use Rattle.bank_hall.specs.Stamps.{stamp_after, handling_note}
 use Rattle.bank_hall.specs.Inbox.{picked_out_at}
-use Rattle.bank_hall.specs.Handlings.{Handling, AreStamped, Goes, handlings_of}
+use Rattle.bank_hall.specs.Handlings.{Handling, AreStamped, GoesByMails, handlings_of}
 
 pub plus_zero : (n : ℕ) → n + 0 ≡ n
 plus_zero n = omega arith
@@ -71,7 +71,7 @@ taken_none may inbox place None none = refl
 taken_none may inbox place (Some q) none = kept_by inbox place q (may q) none
 
 module _ {S O I U N : Type 0} (one : S → I → List (Handling N)) (answer : S → I → U) (next : S → I → S) where
-  pub goes_all : (may : S → Posted → Bool) (does : S → Posted → S × Option N) (alone : S → S) → ((s : S) (i : I) (hs : List (Handling N)) (end : S) → Goes may does (alone (next s i)) hs end → Goes may does (alone s) (one s i ++ hs) end) → (x y : S) (h : List (Entry O I U)) → Legal answer next x h y → Goes may does (alone x) (handlings_of one next x h) (alone y)
+  pub goes_all : (may : S → Posted → Bool) (does : S → Posted → S × Option N) (alone : S → S) → ((s : S) (i : I) (hs : List (Handling N)) (end : S) → GoesByMails may does (alone (next s i)) hs end → GoesByMails may does (alone s) (one s i ++ hs) end) → (x y : S) (h : List (Entry O I U)) → Legal answer next x h y → GoesByMails may does (alone x) (handlings_of one next x h) (alone y)
   goes_all may does alone step x y [] l = ap alone l
   goes_all may does alone step x y (e ∷ es) l = step x e.input (handlings_of one next (next x e.input) es) (alone y) (goes_all may does alone step (next x e.input) y es l.1)
 
@@ -108,7 +108,7 @@ module _ {S N : Type 0} (may : S → Posted → Bool) (does : S → Posted → S
   here : Stamps → (s : S) (h : Handling N) → (does s h.mail).1 ≡ Some h.told → stamp_of h ≡ stamp_after (clock s) h.mail
   here k s h told = ap (λ (x : Stamped). x.stamp) (k.stamp s h.mail h.told told)
 
-  later : Stamps → (c : ℕ) (s end : S) (hs : List (Handling N)) → c ≤ clock s → Goes may does s hs end → All (λ (h : Handling N). (c < stamp_of h) × (h.mail.stamp < stamp_of h)) hs
+  later : Stamps → (c : ℕ) (s end : S) (hs : List (Handling N)) → c ≤ clock s → GoesByMails may does s hs end → All (λ (h : Handling N). (c < stamp_of h) × (h.mail.stamp < stamp_of h)) hs
   later k c s end [] low goes = All-nil (λ (h : Handling N). (c < stamp_of h) × (h.mail.stamp < stamp_of h))
   later k c s end (h ∷ hs) low goes =
       let at : stamp_of h ≡ max (clock s) h.mail.stamp + 1 = here k s h goes.0.1 in
@@ -116,7 +116,7 @@ module _ {S N : Type 0} (may : S → Posted → Bool) (does : S → Posted → S
       let over = above (clock s) h.mail.stamp in
       All-cons (λ (g : Handling N). (c < stamp_of g) × (g.mail.stamp < stamp_of g)) h hs (omega (arith, low, at, over.0), omega (arith, at, over.1)) (later k c (does s h.mail).0 end hs (omega (arith, low, moved, over.0)) goes.1)
 
-  rising : Stamps → (s end : S) (hs : List (Handling N)) → Goes may does s hs end → AllPairs (λ (g h : Handling N). stamp_of g < stamp_of h) hs
+  rising : Stamps → (s end : S) (hs : List (Handling N)) → GoesByMails may does s hs end → AllPairs (λ (g h : Handling N). stamp_of g < stamp_of h) hs
   rising k s end [] goes = λ i j d i<j j<n. absurd (omega (arith, j<n))
   rising k s end (h ∷ hs) goes =
       let at : stamp_of h ≡ max (clock s) h.mail.stamp + 1 = here k s h goes.0.1 in
@@ -124,18 +124,18 @@ module _ {S N : Type 0} (may : S → Posted → Bool) (does : S → Posted → S
       let after = later k (stamp_of h) (does s h.mail).0 end hs (omega (arith, at, moved)) goes.1 in
       AllPairs-cons (λ (g i : Handling N). stamp_of g < stamp_of i) h hs (All-weaker (λ (g : Handling N). (stamp_of h < stamp_of g) × (g.mail.stamp < stamp_of g)) (λ (g : Handling N). stamp_of h < stamp_of g) (λ g both. both.0) hs after) (rising k (does s h.mail).0 end hs goes.1)
 
-  most : Stamps → (s end : S) (hs : List (Handling N)) → Goes may does s hs end → All (λ (h : Handling N). stamp_of h ≤ 2 ^ 63) hs
+  most : Stamps → (s end : S) (hs : List (Handling N)) → GoesByMails may does s hs end → All (λ (h : Handling N). stamp_of h ≤ 2 ^ 63) hs
   most k s end [] goes = All-nil (λ (h : Handling N). stamp_of h ≤ 2 ^ 63)
   most k s end (h ∷ hs) goes =
       let low = k.limit s h.mail goes.0.0 in
       let over = (above (clock s) h.mail.stamp).2 low.0 low.1 in
       All-cons (λ (g : Handling N). stamp_of g ≤ 2 ^ 63) h hs (subst (λ n. n ≤ 2 ^ 63) (sym (here k s h goes.0.1)) over) (most k (does s h.mail).0 end hs goes.1)
 
-  own : Stamps → (a : Actor) (s end : S) (hs : List (Handling N)) → actor s ≡ a → Goes may does s hs end → All (λ (h : Handling N). (stamped h.told).actor ≡ a) hs
+  own : Stamps → (a : Actor) (s end : S) (hs : List (Handling N)) → actor s ≡ a → GoesByMails may does s hs end → All (λ (h : Handling N). (stamped h.told).actor ≡ a) hs
   own k a s end [] is goes = All-nil (λ (h : Handling N). (stamped h.told).actor ≡ a)
   own k a s end (h ∷ hs) is goes = All-cons (λ (g : Handling N). (stamped g.told).actor ≡ a) h hs (ap (λ (x : Stamped). x.actor) (k.stamp s h.mail h.told goes.0.1) ∙ is) (own k a (does s h.mail).0 end hs (k.actors s h.mail ∙ is) goes.1)
 
-  pub stamps_rise : Stamps → (s end : S) (hs : List (Handling N)) → Goes may does s hs end → AreStamped stamped (actor s) (clock s) hs
+  pub stamps_rise : Stamps → (s end : S) (hs : List (Handling N)) → GoesByMails may does s hs end → AreStamped stamped (actor s) (clock s) hs
   stamps_rise k s end hs goes = record {
     rising = rising k s end hs goes;
     later = later k (clock s) s end hs (omega arith) goes;
@@ -143,6 +143,6 @@ module _ {S N : Type 0} (may : S → Posted → Bool) (does : S → Posted → S
     own = own k (actor s) s end hs refl goes;
   }
 
-  pub actor_stays : Stamps → (s end : S) (hs : List (Handling N)) → Goes may does s hs end → actor end ≡ actor s
+  pub actor_stays : Stamps → (s end : S) (hs : List (Handling N)) → GoesByMails may does s hs end → actor end ≡ actor s
   actor_stays k s end [] goes = ap actor (sym goes)
   actor_stays k s end (h ∷ hs) goes = actor_stays k (does s h.mail).0 end hs goes.1 ∙ k.actors s h.mail

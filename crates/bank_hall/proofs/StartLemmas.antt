@@ -1,7 +1,7 @@
 -- Sharing a row of objects among callers.
 use Rattle.std.proofs.Common.{◌≡◌, ℕ, zero, suc, ◌+◌, ◌<◌, List, [], ◌∷◌, ◌++◌, length, map, Option, Some, None, slice_get, slice_set, sym, refl, ap, ◌∙◌, subst, arith, length-append}
 use Rattle.std.proofs.lemmas.List.Elements.{All-nil, All-cons}
-use Rattle.turn_lock.specs.Passes.{Sharing, Token, IsPassOf, IsFresh, AreFresh}
+use Rattle.turn_lock.specs.Passes.{Sharing, Token, IsPassOf, IsUnusedPass, AreUnusedPasses}
 use Rattle.bank_hall.specs.Rows.{Tokens, IsNew, AreNew, handed}
 
 module _ {X : Type 0} where
@@ -43,7 +43,7 @@ module _ {O I U : Type 0} where
   AreNew-push turns number last (d ∷ ds) c all is new = (all.0, AreNew-push turns (number + 1) last ds c all.1 (omega arith) new)
 
   -- a new caller that is handed a fresh pass is new
-  one_more : (turn : Sharing O) (turns : List (Sharing O)) (number : ℕ) (c : Tokens O I U) (p : Token O I U) → IsNew turns number c → IsFresh turn number p → IsNew (turn ∷ turns) number (record c { passes = p ∷ c.passes })
+  one_more : (turn : Sharing O) (turns : List (Sharing O)) (number : ℕ) (c : Tokens O I U) (p : Token O I U) → IsNew turns number c → IsUnusedPass turn number p → IsNew (turn ∷ turns) number (record c { passes = p ∷ c.passes })
   one_more turn turns number c p new fresh = record {
     fits = record { count = ap suc new.fits.count; each = by_place };
     numbered = new.numbered;
@@ -53,7 +53,7 @@ module _ {O I U : Type 0} where
     by_place zero t k ti ki = subst (λ u. IsPassOf u k × (k.number ≡ c.number)) (ap (held turn) ti) (subst (λ q. IsPassOf turn q × (q.number ≡ c.number)) (ap (held p) ki) (fresh.0, fresh.1 ∙ sym new.numbered))
     by_place (suc i) t k ti ki = new.fits.each i t k ti ki
 
-  pub handed-new : (turn : Sharing O) (turns : List (Sharing O)) (number : ℕ) (cs : List (Tokens O I U)) (ps : List (Token O I U)) → length ps ≡ length cs → AreNew turns number cs → AreFresh turn number ps → AreNew (turn ∷ turns) number (handed cs ps)
+  pub handed-new : (turn : Sharing O) (turns : List (Sharing O)) (number : ℕ) (cs : List (Tokens O I U)) (ps : List (Token O I U)) → length ps ≡ length cs → AreNew turns number cs → AreUnusedPasses turn number ps → AreNew (turn ∷ turns) number (handed cs ps)
   handed-new turn turns number [] ps same new fresh = tt
   handed-new turn turns number (c ∷ cs) [] same new fresh = absurd (omega (arith, same))
   handed-new turn turns number (c ∷ cs) (p ∷ ps) same new fresh = (one_more turn turns number c p new.0 fresh.0, handed-new turn turns (number + 1) cs ps (omega (arith, same)) new.1 fresh.1)

@@ -46,9 +46,9 @@ module _ {N : Type 0} where
 
 module _ {S N : Type 0} where
   -- From one state to another the actor may handle each of these mails when its time comes, and tells just this of it
-  abbrev pub Goes : (S → Posted → Bool) → (S → Posted → S × Option N) → S → List (Handling N) → S → Type 0
-  Goes may does s [] end = s ≡ end
-  Goes may does s (h ∷ hs) end = ((may s h.mail ≡ true) × ((does s h.mail).1 ≡ Some h.told)) × Goes may does (does s h.mail).0 hs end
+  abbrev pub GoesByMails : (S → Posted → Bool) → (S → Posted → S × Option N) → S → List (Handling N) → S → Type 0
+  GoesByMails may does s [] end = s ≡ end
+  GoesByMails may does s (h ∷ hs) end = ((may s h.mail ≡ true) × ((does s h.mail).1 ≡ Some h.told)) × GoesByMails may does (does s h.mail).0 hs end
 
 module _ {S O I U N : Type 0} where
   -- the handlings of a history, by those of one call and by what a call leaves
@@ -68,7 +68,7 @@ abbrev pub bank_does : BankState → Posted → BankState × Option Handled
 bank_does s p = bank_handles s (Some p, s.inbox)
 
 abbrev pub BankGoes : BankState → List (Handling Handled) → BankState → Type 0
-BankGoes = Goes bank_may bank_does
+BankGoes = GoesByMails bank_may bank_does
 
 -- what one call of a bank handles
 abbrev pub bank_handling : BankState → BankIn → List (Handling Handled)
@@ -99,7 +99,7 @@ abbrev pub keeper_does : KeeperState → Posted → KeeperState × Option Keeper
 keeper_does s p = keeper_handles s (Some p, s.inbox)
 
 abbrev pub KeeperGoes : KeeperState → List (Handling KeeperNote) → KeeperState → Type 0
-KeeperGoes = Goes keeper_may keeper_does
+KeeperGoes = GoesByMails keeper_may keeper_does
 
 abbrev pub keeper_handling : KeeperState → KeeperIn → List (Handling KeeperNote)
 keeper_handling s (keeper_in.TheVariants.Post p) = []

@@ -77,10 +77,10 @@ module _ {O I U : Type 0} where
   handed (c ∷ cs) (p ∷ ps) = record c { passes = p ∷ c.passes } ∷ handed cs ps
 
   -- each caller has one pass more, behind its others
-  abbrev pub joined : List (Tokens O I U) → List (Token O I U) → List (Tokens O I U)
-  joined [] ps = []
-  joined (c ∷ cs) [] = c ∷ cs
-  joined (c ∷ cs) (p ∷ ps) = record c { passes = c.passes ++ p ∷ [] } ∷ joined cs ps
+  abbrev pub with_passes : List (Tokens O I U) → List (Token O I U) → List (Tokens O I U)
+  with_passes [] ps = []
+  with_passes (c ∷ cs) [] = c ∷ cs
+  with_passes (c ∷ cs) (p ∷ ps) = record c { passes = c.passes ++ p ∷ [] } ∷ with_passes cs ps
 
   -- of each object, the history begins with what the pass has seen, and has of the pass's calls just those that it made, in its order
   abbrev pub AreTold : List (List (Entry O I U)) → List (Token O I U) → Type 0

@@ -1,7 +1,7 @@
 ghost use Rattle.std.specs.Prelude.{◌≡◌};
 ghost use Rattle.bank_hall.specs.Banks.{bank_steps, bank_call, bank_actor, reply_of};
 
-use crate::posted::{Posted, crosses, goes_on, note, stamp_of, take_picked};
+use crate::posted::{Posted, crosses, has_numbers_left, note, stamp_of, take_picked};
 use dn_base::Memory;
 use grant_log::Stamped;
 use message_net::{Actor, Outgoing};
@@ -94,8 +94,8 @@ impl BankActor {
         ensures state { self.new.state ≡ (bank_steps self.old.state pick).0 }
         ensures handled { result ≡ (bank_steps self.old.state pick).1 }
     {
-        let goes_on = goes_on(self.clock, self.next);
-        let posted = take_picked(&mut self.inbox, pick, goes_on)?;
+        let has_numbers = has_numbers_left(self.clock, self.next);
+        let posted = take_picked(&mut self.inbox, pick, has_numbers)?;
         let stamp = stamp_of(self.clock, &posted);
         let actor = Actor::Bank(self.bank.number());
         let reply = reply(

@@ -3,7 +3,7 @@ ghost use Rattle.bank_hall.specs.Note.{letter_to};
 ghost use Rattle.bank_hall.specs.Keepers.{keeper_steps, keeper_call};
 ghost use Rattle.phase_barrier.specs.Letters.{letter_count};
 
-use crate::posted::{Posted, crosses, goes_on, note, stamp_of, take_picked};
+use crate::posted::{Posted, crosses, has_numbers_left, note, stamp_of, take_picked};
 use dn_base::{CoreId, Memory};
 use grant_log::Stamped;
 use message_net::{Actor, Outgoing};
@@ -127,8 +127,8 @@ impl KeeperActor {
         ensures state { self.new.state ≡ (keeper_steps self.old.state pick).0 }
         ensures handled { result ≡ (keeper_steps self.old.state pick).1 }
     {
-        let goes_on = goes_on(self.clock, self.next);
-        let posted = take_picked(&mut self.inbox, pick, goes_on)?;
+        let has_numbers = has_numbers_left(self.clock, self.next);
+        let posted = take_picked(&mut self.inbox, pick, has_numbers)?;
         let stamp = stamp_of(self.clock, &posted);
         let first = self.next;
         let cores = self.keeper.cores();

@@ -21,4 +21,4 @@ pub use laws::{
     a_port_loses_no_mail, the_keepers_stamps_rise,
 };
 pub use port::{Port, PortIn, PortOut};
-pub use posted::{Posted, goes_on, stamp_of};
+pub use posted::{Posted, has_numbers_left, stamp_of};

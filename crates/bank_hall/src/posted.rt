@@ -20,7 +20,7 @@ const LAST_NUMBER: u32 = 4_294_967_000;
 
 /// Whether an actor with this clock and this number for its next mail isn't spent (this project's profile): both are below the
 /// numbers from which on it does nothing more.
-pub fn goes_on(clock: u64, next: u32) -> bool
+pub fn has_numbers_left(clock: u64, next: u32) -> bool
     ensures { result ≡ has_numbers_left clock next }
 {
     clock < LAST_STAMP && next < LAST_NUMBER
@@ -37,15 +37,15 @@ fn place_of(inbox: &[Posted], pick: u32) -> Option<usize>
     Some(pick as usize % inbox.len())
 }
 
-/// Takes the mail that the pick names out of the inbox, where there is one with a stamp below 2^63, and its actor goes on. The
-/// last mail moves into the free place.
-pub(crate) fn take_picked(inbox: &mut Vec<Posted>, pick: u32, goes_on: bool) -> Option<Posted>
-    ensures mail { result ≡ (picked_out (may_take has_numbers_left) inbox.old.items pick).0 }
-    ensures rest { inbox.new.items ≡ (picked_out (may_take has_numbers_left) inbox.old.items pick).1 }
-    ensures room { IfSome result (λ posted. (has_numbers_left ≡ true) × (posted.stamp < 2 ^ 63)) }
+/// Takes the mail that the pick names out of the inbox, where there is one with a stamp below 2^63, and its actor has numbers left.
+/// The last mail moves into the free place.
+pub(crate) fn take_picked(inbox: &mut Vec<Posted>, pick: u32, has_numbers: bool) -> Option<Posted>
+    ensures mail { result ≡ (picked_out (may_take has_numbers) inbox.old.items pick).0 }
+    ensures rest { inbox.new.items ≡ (picked_out (may_take has_numbers) inbox.old.items pick).1 }
+    ensures room { IfSome result (λ posted. (has_numbers ≡ true) × (posted.stamp < 2 ^ 63)) }
 {
     let place = place_of(inbox.as_slice(), pick)?;
-    if !goes_on || inbox[place].stamp >= LAST_STAMP {
+    if !has_numbers || inbox[place].stamp >= LAST_STAMP {
         return None;
     }
     Some(inbox.swap_remove(place))

@@ -1,7 +1,7 @@
 ghost use Rattle.std.specs.Prelude.{◌≡◌, ◌<◌, ◌≤◌, [], ◌∷◌, ◌++◌, length, map, All, IfOk, IfErr, OnOk, OnErr};
 ghost use Rattle.turn_lock.specs.History.{entry, Legal};
-ghost use Rattle.bank_hall.specs.Rows.{HasPassesOf, HasMade, HasCalled, one_call, AreShared, AreNew, handed, joined, AreTold, AreClosed, AreAllCallers};
-ghost use Rattle.turn_lock.specs.Passes.{AreFresh, AreAllPasses, IsTold};
+ghost use Rattle.bank_hall.specs.Rows.{HasPassesOf, HasMade, HasCalled, one_call, AreShared, AreNew, handed, with_passes, AreTold, AreClosed, AreAllCallers};
+ghost use Rattle.turn_lock.specs.Passes.{AreUnusedPasses, AreAllPasses, IsTold};
 
 use dn_base::Memory;
 use std::alloc::Global;
@@ -66,7 +66,7 @@ fn take_column<O: Object>(
     callers: &mut Vec<RowPass<O>>,
 ) -> Result<Vec<TurnPass<O>>, Memory>
     requires { All (λ c. 0 < length c.passes) callers.old.items }
-    ensures joined { IfOk result (λ column. callers.old.items ≡ joined callers.new.items column.items) }
+    ensures joined { IfOk result (λ column. callers.old.items ≡ with_passes callers.new.items column.items) }
     ensures count { IfOk result (λ column. length column.items ≡ length callers.new.items) }
 {
     let mut column = Vec::new(alloc);

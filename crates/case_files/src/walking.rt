@@ -28,7 +28,7 @@ pub trait CaseRunner {
 
 /// Where a case stands: its file, the number of its first line, and its name.
 #[derive(Clone, Copy)]
-struct Place<'a> {
+struct CasePosition<'a> {
     file: &'a str,
     first: usize,
     name: &'a str,
@@ -103,11 +103,11 @@ impl<C: CaseRunner> Walk<'_, C> {
         if self.texts.find(name).is_some() {
             return self.refuse(file, first, BadForm::TakenName);
         }
-        self.run_rows(&Place { file, first, name }, lines)
+        self.run_rows(&CasePosition { file, first, name }, lines)
     }
 
     /// Runs a case once or for each of its rows. Its text is known from then on; of rows it is the last one's.
-    fn run_rows(&mut self, place: &Place<'_>, lines: &[&str]) -> Result<(), Memory>
+    fn run_rows(&mut self, position: &CasePosition<'_>, lines: &[&str]) -> Result<(), Memory>
         requires { C.can_run }
     {
         let each = lines
@@ -116,20 +116,20 @@ impl<C: CaseRunner> Walk<'_, C> {
             .unwrap_or(lines.len());
         let (lines, rest) = lines.split_at(each);
         let text = match rows(self.alloc, rest) {
-            Ok(rows) => self.run_each(place, lines, rows.as_slice())?,
+            Ok(rows) => self.run_each(position, lines, rows.as_slice())?,
             Err(why) => {
-                self.note(place, Stop { place: each, why })?;
+                self.note(position, Stop { place: each, why })?;
                 Vec::new(self.alloc)
             }
         };
-        self.texts.add(self.alloc, place.name, text.as_slice())?;
+        self.texts.add(self.alloc, position.name, text.as_slice())?;
         Ok(())
     }
 
     /// Runs a case for each of these rows, and gives the last one's text.
     fn run_each(
         &mut self,
-        place: &Place<'_>,
+        position: &CasePosition<'_>,
         lines: &[&str],
         rows: &[Vec<String>],
     ) -> Result<Vec<u8>, Memory>
@@ -137,7 +137,7 @@ impl<C: CaseRunner> Walk<'_, C> {
     {
         let mut text = Vec::new(self.alloc);
         for row in rows {
-            text = self.run_case(place, lines, row.as_slice())?;
+            text = self.run_case(position, lines, row.as_slice())?;
         }
         Ok(text)
     }
@@ -145,7 +145,7 @@ impl<C: CaseRunner> Walk<'_, C> {
     /// Runs a case with these columns, and gives its text.
     fn run_case(
         &mut self,
-        place: &Place<'_>,
+        position: &CasePosition<'_>,
         lines: &[&str],
         row: &[String],
     ) -> Result<Vec<u8>, Memory>
@@ -154,23 +154,23 @@ impl<C: CaseRunner> Walk<'_, C> {
         let case = match read_case(self.alloc, lines, row, &self.texts) {
             Ok(case) => case,
             Err(stop) => {
-                self.note(place, stop)?;
+                self.note(position, stop)?;
                 return Ok(Vec::new(self.alloc));
             }
         };
-        let label = label(self.alloc, place, row)?;
+        let label = label(self.alloc, position, row)?;
         if let Err(stop) = self.runner.run(self.alloc, label.as_str(), &case) {
-            self.note(place, stop)?;
+            self.note(position, stop)?;
         }
         Ok(case.text)
     }
 
     /// Notes that a case wasn't run to its end.
-    fn note(&mut self, place: &Place<'_>, stop: Stop) -> Result<(), Memory> {
+    fn note(&mut self, position: &CasePosition<'_>, stop: Stop) -> Result<(), Memory> {
         match stop.why {
             Trouble::Form(why) => {
-                let line = place.first.saturating_add(stop.place).saturating_add(1);
-                self.refuse(place.file, line, why)
+                let line = position.first.saturating_add(stop.place).saturating_add(1);
+                self.refuse(position.file, line, why)
             }
             Trouble::Memory => Err(Memory),
         }
@@ -210,8 +210,8 @@ fn take_filled(
 }
 
 /// What a case is called in the report: its file, its line and its name, and its columns.
-fn label(alloc: Global, place: &Place<'_>, row: &[String]) -> Result<String, Memory> {
-    let Place { file, first, name } = *place;
+fn label(alloc: Global, position: &CasePosition<'_>, row: &[String]) -> Result<String, Memory> {
+    let CasePosition { file, first, name } = *position;
     let mut out = format!(in alloc; "{file}:{first}: {name}")?;
     for column in row {
         out.push_str(" | ")?;

@@ -31,7 +31,7 @@ use Rattle.chart_top.specs.Answers.{IsCompleteTrace, IsPicture, range_for, chart
 -- the events of a replayed document are a run of its machine
 run-on : (P : ProgramParts) (t : Trace) (ending : Ending) → IsCompleteTrace P t ending → IsRunOn P (shape_told P t.shape) t.shape.fuel t.events
 run-on P t ending is C told =
-    let same : is.is.setting ≡ C = same-setting P (shape_told P t.shape) t.shape.fuel is.is.setting C is.is.told told in
+    let same : is.is.setting ≡ C = same-setting P (shape_told P t.shape) t.shape.fuel is.is.setting C is.is.setting_is told in
     subst (λ (D : Setting). IsRun (initial_state D) t.events) same is.is.is_true.run.complete.run
 
 module _ (P : ProgramParts) (t : Trace) (s : Shape) (events : List Event) where
@@ -50,11 +50,11 @@ module _ (P : ProgramParts) (t : Trace) (s : Shape) (events : List Event) where
       in
       subst (λ (p : ProgramParts). IsCompleteTrace p t ending) (sym same) (record { grants = grants; counts = counts; is = told })
 
-  pub picture-is : (Q : ProgramParts) (o : Options) (ending : Ending) (ticks : Ticks) (timing : Timing) (marks : List ℕ) (range : Range) (chart : Chart) (status : Status) (text : List ℕ) → Q ≡ P
-      → s ≡ shape_told P t.shape → events ≡ t.events → ticks ≡ chart_ticks o → range ≡ range_for o → marks ≡ numbers_in timing.links.items → IsCompleteTrace P t ending
-      → IsTimingOf P s t.shape.fuel events ticks timing → IsChartOf Q s t.shape.fuel events range marks chart → status ≡ status_of ending.outcome → text ≡ svg_of chart
+  pub picture-is : (Q : ProgramParts) (o : Options) (ending : Ending) (ticks : Ticks) (timing : Timing) (chain : List ℕ) (range : Range) (chart : Chart) (status : Status) (text : List ℕ) → Q ≡ P
+      → s ≡ shape_told P t.shape → events ≡ t.events → ticks ≡ chart_ticks o → range ≡ range_for o → chain ≡ numbers_in timing.links.items → IsCompleteTrace P t ending
+      → IsTimingOf P s t.shape.fuel events ticks timing → IsChartOf Q s t.shape.fuel events range chain chart → status ≡ status_of ending.outcome → text ≡ svg_of chart
       → IsPicture P t o (record { status = status; bytes = text })
-  picture-is Q o ending ticks timing marks range chart status text same shape are ticks_are range_is marks_are replayed times charted ends says =
+  picture-is Q o ending ticks timing chain range chart status text same shape are ticks_are range_is chain_is replayed times charted ends says =
       record {
         ending = ending;
         replayed = replayed;
@@ -64,9 +64,9 @@ module _ (P : ProgramParts) (t : Trace) (s : Shape) (events : List Event) where
             (subst (λ (es : List Event). IsTimingOf P (shape_told P t.shape) t.shape.fuel es ticks timing) are (subst (λ (x : Shape). IsTimingOf P x t.shape.fuel events ticks timing) shape times));
         chart = chart;
         is =
-            subst (λ (x : List ℕ). IsChartOf P (shape_told P t.shape) t.shape.fuel t.events (range_for o) x chart) marks_are
-            (subst (λ (x : Range). IsChartOf P (shape_told P t.shape) t.shape.fuel t.events x marks chart) range_is
-            (subst (λ (es : List Event). IsChartOf P (shape_told P t.shape) t.shape.fuel es range marks chart) are
-            (subst (λ (x : Shape). IsChartOf P x t.shape.fuel events range marks chart) shape (subst (λ (p : ProgramParts). IsChartOf p s t.shape.fuel events range marks chart) same charted))));
+            subst (λ (x : List ℕ). IsChartOf P (shape_told P t.shape) t.shape.fuel t.events (range_for o) x chart) chain_is
+            (subst (λ (x : Range). IsChartOf P (shape_told P t.shape) t.shape.fuel t.events x chain chart) range_is
+            (subst (λ (es : List Event). IsChartOf P (shape_told P t.shape) t.shape.fuel es range chain chart) are
+            (subst (λ (x : Shape). IsChartOf P x t.shape.fuel events range chain chart) shape (subst (λ (p : ProgramParts). IsChartOf p s t.shape.fuel events range chain chart) same charted))));
         answer = rw (ends, says) refl;
       }

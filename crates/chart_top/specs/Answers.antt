@@ -35,8 +35,8 @@ pub record IsCompleteTrace (P : ProgramParts) (t : Trace) (ending : Ending) : Ty
   pub counts : Counts
   pub is : IsReplayIn P t (Complete ending grants counts)
 
--- the document's events are a complete run of its machine; the output is the picture of that run's chart, in which the events of the
--- run's longest chain are marked, and its status is that of the run's outcome
+-- the document's events are a complete run of its machine; the output is the picture of that run's chart, with a line through the
+-- events of the run's longest chain, and its status is that of the run's outcome
 pub record IsPicture (P : ProgramParts) (t : Trace) (o : Options) (out : Output) : Type 0 where
   pub ending : Ending
   pub replayed : IsCompleteTrace P t ending

@@ -12,34 +12,34 @@ use Rattle.chart_top.specs.Answers.{IsAnswer}
 
 -- the sink took all of the output, whose status is told; or it failed and took a front of it
 abbrev pub IsWritten : Output → DeviceState → DeviceState → Status → Type 0
-IsWritten out before after told =
-    ((told ≡ out.status) × Took before after out.bytes)
-    ⊎ ((told ≡ status.TheVariants.WriteFault) × (Failed before after × TookFront before after out.bytes))
+IsWritten out before after end_status =
+    ((end_status ≡ out.status) × Took before after out.bytes)
+    ⊎ ((end_status ≡ status.TheVariants.WriteFault) × (Failed before after × TookFront before after out.bytes))
 
 -- there was no memory, and nothing was written
 abbrev pub IsStarved : DeviceState → DeviceState → Status → Type 0
-IsStarved before after told = (told ≡ status.TheVariants.Memory) × TookNothing before after
+IsStarved before after end_status = (end_status ≡ status.TheVariants.Memory) × TookNothing before after
 
 -- the source failed, and nothing was written
 abbrev pub IsUnread : Devices → Devices → Status → Type 0
-IsUnread before after told =
-    (told ≡ status.TheVariants.ReadFault) × (Failed before.source after.source × TookNothing before.sink after.sink)
+IsUnread before after end_status =
+    (end_status ≡ status.TheVariants.ReadFault) × (Failed before.source after.source × TookNothing before.sink after.sink)
 
 -- the answer to a document was written
-pub record IsGiven (o : Options) (document : List ℕ) (before after : DeviceState) (told : Status) : Type 0 where
+pub record IsGiven (o : Options) (document : List ℕ) (before after : DeviceState) (end_status : Status) : Type 0 where
   pub output : Output
   pub answer : IsAnswer o document output
-  pub written : IsWritten output before after told
+  pub written : IsWritten output before after end_status
 
 -- or there was no memory for it
 abbrev pub IsReplied : Options → List ℕ → DeviceState → DeviceState → Status → Type 0
-IsReplied o document before after told = IsGiven o document before after told ⊎ IsStarved before after told
+IsReplied o document before after end_status = IsGiven o document before after end_status ⊎ IsStarved before after end_status
 
 -- the document is what was read: to the source's end, or to one byte past the most that a document may have
-pub record IsDocumentServed (o : Options) (before after : Devices) (told : Status) : Type 0 where
+pub record IsDocumentServed (o : Options) (before after : Devices) (end_status : Status) : Type 0 where
   pub document : List ℕ
   pub read : IsRead before.source after.source 536870913 document
-  pub reply : IsReplied o document before.sink after.sink told
+  pub reply : IsReplied o document before.sink after.sink end_status
 
 -- what refuses the words
 abbrev pub usage : Output
@@ -48,14 +48,14 @@ usage = record { status = status.TheVariants.Usage; bytes = usage_line }
 -- how a call ends of which these options are wanted; None where the words aren't the command's. The source gives at most one byte past
 -- the most that a document may have
 abbrev pub Serves : Option Options → Devices → Devices → Status → Type 0
-Serves None before after told =
-    IsUntouched before.source after.source × (IsWritten usage before.sink after.sink told ⊎ IsStarved before.sink after.sink told)
-Serves (Some o) before after told =
+Serves None before after end_status =
+    IsUntouched before.source after.source × (IsWritten usage before.sink after.sink end_status ⊎ IsStarved before.sink after.sink end_status)
+Serves (Some o) before after end_status =
     GaveAtMost before.source after.source 536870913
-    × (IsDocumentServed o before after told ⊎ (IsUnread before after told ⊎ IsStarved before.sink after.sink told))
+    × (IsDocumentServed o before after end_status ⊎ (IsUnread before after end_status ⊎ IsStarved before.sink after.sink end_status))
 
--- such a call ended with the exit code of the status that it told
+-- such a call ended with the exit code of its end status
 pub record HasEnded (wanted : Option Options) (before after : Devices) (code : ExitCode) : Type 0 where
-  pub told : Status
-  pub serves : Serves wanted before after told
-  pub ends : IsCodeOf told code
+  pub end_status : Status
+  pub serves : Serves wanted before after end_status
+  pub ends : IsCodeOf end_status code

@@ -37,7 +37,7 @@ fn range_for(options: &Options) -> Range
 }
 
 /// The ticks that the options give to each kind of event.
-fn ticks_for(options: &Options) -> Ticks
+fn chart_ticks(options: &Options) -> Ticks
     requires { ViewOptionsInRange options.now }
     ensures value { result ≡ chart_ticks options.now }
     ensures limits { AreWithinLimits result }
@@ -75,10 +75,10 @@ fn picture(
 {
     let events = trace.events.as_slice();
     let fuel = trace.shape.fuel;
-    let timing = time_run(alloc, first, shape, fuel, events, &ticks_for(options))?;
-    let marks = numbers_in(alloc, timing.links.as_slice())?;
+    let timing = time_run(alloc, first, shape, fuel, events, &chart_ticks(options))?;
+    let chain = numbers_in(alloc, timing.links.as_slice())?;
     let range = range_for(options);
-    let chart = chart(alloc, second, shape, fuel, events, range, marks.as_slice())?;
+    let chart = chart(alloc, second, shape, fuel, events, range, chain.as_slice())?;
     Ok(Output {
         status: Status::from(ending.outcome),
         bytes: Sequence::from_vec(chart_text(alloc, &chart)?),
@@ -140,7 +140,7 @@ fn drawn(alloc: Global, options: &Options, document: &[u8]) -> Result<Output, St
 /// The answer to options and the document of a run: the run's message chart, as an SVG text, with the status of the run's outcome.
 ///
 /// A document is refused as its replay refuses it, with the same line and status. The events that have rows are those that the
-/// options ask for, and those of the run's longest chain of dependent events, by the options' ticks, are marked.
+/// options ask for, and those of the run's longest chain of dependent events, by the options' ticks, have a line through them.
 ///
 /// # Errors
 /// `Memory` where there is no room for the run, its chart or the text.

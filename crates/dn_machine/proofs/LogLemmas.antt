@@ -9,11 +9,11 @@ use Rattle.region_table.specs.declared.declared.TaskDecl.{TaskDecl}
 use Rattle.rv_core.specs.declared.ending.TaskEnd.{TaskEnd}
 use Rattle.message_net.specs.declared.event.Event.{Event}
 use Rattle.message_net.specs.declared.event.EventKind.{EventKind}
-use Rattle.message_net.specs.Kind.{kind_place}
+use Rattle.message_net.specs.Kind.{kind_index}
 use Rattle.grant_log.specs.declared.counts.Counts.{Counts}
 use Rattle.grant_log.specs.Counts.{same_kind, kind_count, no_counts, added, AreCounts}
 use Rattle.grant_log.proofs.CountLemmas.{place_within, AreCounts-added}
-use Rattle.registration_protocol.specs.Node.{NodeParts, Setting, initial_node as opened_node}
+use Rattle.registration_protocol.specs.Node.{NodeParts, Setting, initial_node}
 use Rattle.registration_protocol.specs.OwnEvents.{end_of}
 use Rattle.machine_rules.specs.State.{State, initial_state}
 use Rattle.machine_rules.specs.Next.{next, granted_in, kind_in}
@@ -64,17 +64,17 @@ count-within S events counts k are = omega (arith, are k, count-most (same_kind 
 
 pub log-more : (S T : State) (events : List Event) (log : Log) (h : Happened) → length log.counts.kinds ≡ 17 → AreInPlace T → HasCome (after S events) T h → IsLogOf S events log → IsLogOf S (events ++ h.event ∷ []) (with_event h log)
 log-more S T events log h all well come is =
-    let place : kind_place h.told.kind < length log.counts.kinds = rw all (place_within h.told.kind) in
-    let kind : h.told.kind ≡ kind_in (after S events) h.event = ap (λ t. t.kind) come.told in
-    let granted : h.told.granted ≡ granted_in (after S events) h.event = ap (λ t. t.granted) come.told in
+    let place : kind_index h.observed.kind < length log.counts.kinds = rw all (place_within h.observed.kind) in
+    let kind : h.observed.kind ≡ kind_in (after S events) h.event = ap (λ t. t.kind) come.observed in
+    let granted : h.observed.granted ≡ granted_in (after S events) h.event = ap (λ t. t.granted) come.observed in
     record {
       events = ap (λ (es : List Event). es ++ h.event ∷ []) is.events;
       granted =
-          ap (λ (gs : List Grant). gs ++ listed h.told.granted) is.granted ∙ ap (λ (o : Option Grant). grants_of S events ++ listed o) granted ∙ sym (grants-more S events h.event);
+          ap (λ (gs : List Grant). gs ++ listed h.observed.granted) is.granted ∙ ap (λ (o : Option Grant). grants_of S events ++ listed o) granted ∙ sym (grants-more S events h.event);
       counted =
-          subst (λ (ks : List EventKind). AreCounts ks (added h.told.kind log.counts))
+          subst (λ (ks : List EventKind). AreCounts ks (added h.observed.kind log.counts))
           (ap (λ (k : EventKind). kinds_of S events ++ k ∷ []) kind ∙ sym (kinds-more S events h.event))
-          (AreCounts-added (kinds_of S events) h.told.kind log.counts place is.counted);
+          (AreCounts-added (kinds_of S events) h.observed.kind log.counts place is.counted);
       ends =
           let there : AreInPlace (next (after S events) h.event) = subst AreInPlace come.next well in
           let all_ends = noted-ends S events log.ends h.event there is.ends in
@@ -83,21 +83,21 @@ log-more S T events log h all well come is =
 
 -- ---- as a run begins
 
-new-shows : (C : Setting) (core : ℕ) → end_of (opened_node C core) (opened_node C core).task ≡ None
+new-shows : (C : Setting) (core : ℕ) → end_of (initial_node C core) (initial_node C core).task ≡ None
 new-shows C core = by_decl (declared C.program 0 core) where
-  by_decl : (o : Option TaskDecl) → end_of (opened_node C core) (option_map started o) ≡ None
+  by_decl : (o : Option TaskDecl) → end_of (initial_node C core) (option_map started o) ≡ None
   by_decl None = refl
   by_decl (Some d) = refl
 
 no-end : (C : Setting) (phase core : ℕ) → end_in_phase phase (slice_get (initial_state C).nodes core) ≡ None
 no-end C phase core = by_node (slice_get (initial_state C).nodes core) refl where
-  by_test : (t : Bool) → cond t (end_of (opened_node C core) (opened_node C core).task) None ≡ None
+  by_test : (t : Bool) → cond t (end_of (initial_node C core) (initial_node C core).task) None ≡ None
   by_test true = new-shows C core
   by_test false = refl
 
   by_node : (o : Option NodeParts) → slice_get (initial_state C).nodes core ≡ o → end_in_phase phase o ≡ None
   by_node None there = refl
-  by_node (Some n) there = rw ((opened-node C core n there).is) (by_test ((opened_node C core).phase == phase))
+  by_node (Some n) there = rw ((opened-node C core n there).is) (by_test ((initial_node C core).phase == phase))
 
 no-item : {X : Type 0} (x : X) (k i : ℕ) → i < k → slice_get (replicate k x) i ≡ Some x
 no-item x zero i low = absurd (omega (arith, low))

@@ -1,5 +1,6 @@
 -- What a picked event comes to: a core's own, or the handling of the mail at a place.
 use Rattle.std.proofs.Common.{◌≡◌, ℕ, true, List, ◌++◌, slice_get, map, Option, Some, None, refl, sym, ap, ◌∙◌, Bool, cond, false}
+use Rattle.std.specs.Option.{option_or}
 use Rattle.std.proofs.lemmas.Option.{none-some, same_Some}
 use Rattle.dn_base.specs.declared.ids.CoreId.{CoreId}
 use Rattle.dn_base.specs.declared.ids.WordId.{WordId}
@@ -9,7 +10,7 @@ use Rattle.message_net.specs.declared.message.Mail.{Mail}
 use Rattle.message_net.specs.Pool.{AreDistinct, removed, without_mail_at}
 use Rattle.message_net.proofs.PoolLemmas.{taken-of_id}
 use Rattle.registration_protocol.specs.Node.{NodeParts, Setting, need_now}
-use Rattle.registration_protocol.specs.OwnEvents.{may_instr, may_evict, may_arrive, me, wanted_by, victim_for, eviction_of, eviction, arrival, first_of, own_event}
+use Rattle.registration_protocol.specs.OwnEvents.{may_instr, may_evict, may_arrive, me, wanted_by, victim_for, eviction_of, eviction, arrival, own_event}
 use Rattle.machine_rules.specs.State.{State}
 use Rattle.dn_machine.specs.declared.picking.Choice.{Choice}
 use Rattle.dn_machine.specs.Pick.{known_events, handlings, candidates, picked, pick, chosen}
@@ -36,15 +37,15 @@ own-is C n e is = by_instr (may_instr C n) is where
   by_arrive true is = rw (← same_Some (Arrive (me n)) e is) refl
   by_arrive false is = absurd (none-some e is)
 
-  by_evict : (v : WordId) (b : Bool) → first_of (cond b (Some (Evict (me n) v)) None) (arrival n) ≡ Some e → own_core e ≡ Some (me n)
+  by_evict : (v : WordId) (b : Bool) → option_or (cond b (Some (Evict (me n) v)) None) (arrival n) ≡ Some e → own_core e ≡ Some (me n)
   by_evict v true is = rw (← same_Some (Evict (me n) v) e is) refl
   by_evict v false is = by_arrive (may_arrive n) is
 
-  by_victim : (o : Option WordId) → first_of (eviction_of C n o) (arrival n) ≡ Some e → own_core e ≡ Some (me n)
+  by_victim : (o : Option WordId) → option_or (eviction_of C n o) (arrival n) ≡ Some e → own_core e ≡ Some (me n)
   by_victim None is = by_arrive (may_arrive n) is
   by_victim (Some v) is = by_evict v (may_evict C n v.0) is
 
-  by_instr : (b : Bool) → cond b (Some (Instr (me n))) (first_of (eviction C n) (arrival n)) ≡ Some e → own_core e ≡ Some (me n)
+  by_instr : (b : Bool) → cond b (Some (Instr (me n))) (option_or (eviction C n) (arrival n)) ≡ Some e → own_core e ≡ Some (me n)
   by_instr true is = rw (← same_Some (Instr (me n)) e is) refl
   by_instr false is = by_victim (victim_for n (wanted_by n (need_now C n))) is
 

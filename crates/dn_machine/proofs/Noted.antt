@@ -1,5 +1,6 @@
 -- How each task stood when its node last had it, by what is noted of each event.
 use Rattle.std.proofs.Common.{◌≡◌, ℕ, suc, ◌+◌, ◌≤◌, ◌*◌, ◌<◌, ◌==◌, Bool, true, false, cond, List, [], ◌∷◌, ◌++◌, length, slice_get, set, Option, Some, None, refl, sym, ap, ◌∙◌, arith}
+use Rattle.std.specs.Option.{option_or}
 use Rattle.std.specs.List.{filter_map, cons_option}
 use Rattle.std.proofs.lemmas.Bool.Decides.{nat_tests}
 use Rattle.std.proofs.lemmas.Option.{none-some, same_Some, slice_get_within}
@@ -21,7 +22,7 @@ use Rattle.rv_core.specs.declared.task.TaskState.{TaskState}
 use Rattle.rv_core.specs.declared.ending.EndShown.{EndShown}
 use Rattle.machine_rules.specs.State.{State}
 use Rattle.machine_rules.specs.Next.{next, does_instr, does_evict, does_arrive, core_gets, bank_handles, gets, handles}
-use Rattle.machine_rules.specs.Runs.{after, newer_or, end_in_phase, last_end, ends_from}
+use Rattle.machine_rules.specs.Runs.{after, end_in_phase, last_end, ends_from}
 use Rattle.dn_machine.specs.Actors.{receiver_of, actor_in}
 use Rattle.dn_machine.specs.Ends.{EndTable, end_index, with_end, AreLastEnds, end_at, end_in, noted_ends}
 use Rattle.dn_machine.specs.Log.{core_of, core_in, end_there}
@@ -29,27 +30,27 @@ use Rattle.dn_machine.proofs.ListItems.{get-set, get-put}
 
 -- ---- how a task stood last, with one event more
 
-later-twice : {X : Type 0} (a b c : Option X) → newer_or (newer_or a b) c ≡ newer_or a (newer_or b c)
+later-twice : {X : Type 0} (a b c : Option X) → option_or (option_or a b) c ≡ option_or a (option_or b c)
 later-twice None b c = refl
 later-twice (Some x) b c = refl
 
-later-same : {X : Type 0} (a : Option X) → a ≡ newer_or a a
+later-same : {X : Type 0} (a : Option X) → a ≡ option_or a a
 later-same None = refl
 later-same (Some x) = refl
 
 pub last-more : (phase core : ℕ) (S : State) (events : List Event) (e : Event)
-    → last_end phase core S (events ++ e ∷ []) ≡ newer_or (end_in_phase phase (slice_get (next (after S events) e).nodes core)) (last_end phase core S events)
+    → last_end phase core S (events ++ e ∷ []) ≡ option_or (end_in_phase phase (slice_get (next (after S events) e).nodes core)) (last_end phase core S events)
 last-more phase core S [] e = refl
 last-more phase core S (x ∷ xs) e =
-    ap (λ (o : Option TaskEnd). newer_or o (end_in_phase phase (slice_get S.nodes core))) (last-more phase core (next S x) xs e)
+    ap (λ (o : Option TaskEnd). option_or o (end_in_phase phase (slice_get S.nodes core))) (last-more phase core (next S x) xs e)
     ∙ later-twice (end_in_phase phase (slice_get (next (after (next S x) xs) e).nodes core)) (last_end phase core (next S x) xs) (end_in_phase phase (slice_get S.nodes core))
 
 -- what the last state shows of a task is in it
 last-shown : (phase core : ℕ) (S : State) (events : List Event)
-    → last_end phase core S events ≡ newer_or (end_in_phase phase (slice_get (after S events).nodes core)) (last_end phase core S events)
+    → last_end phase core S events ≡ option_or (end_in_phase phase (slice_get (after S events).nodes core)) (last_end phase core S events)
 last-shown phase core S [] = later-same (end_in_phase phase (slice_get S.nodes core))
 last-shown phase core S (x ∷ xs) =
-    ap (λ (o : Option TaskEnd). newer_or o (end_in_phase phase (slice_get S.nodes core))) (last-shown phase core (next S x) xs)
+    ap (λ (o : Option TaskEnd). option_or o (end_in_phase phase (slice_get S.nodes core))) (last-shown phase core (next S x) xs)
     ∙ later-twice (end_in_phase phase (slice_get (after (next S x) xs).nodes core)) (last_end phase core (next S x) xs) (end_in_phase phase (slice_get S.nodes core))
 
 -- ---- an event changes one core's node at the most
@@ -153,10 +154,10 @@ there table x phase core old in_phase of_core is =
 -- the end that is shown of a core by a node in its place
 node-noted : (S : State) (events : List Event) (table : EndTable) (phase core : ℕ) (n : NodeParts) → n.core ≡ core → core < 16
     → slice_get table (end_index phase core) ≡ Some (last_end phase core S events)
-    → slice_get (with_end (end_of n n.task) table) (end_index phase core) ≡ Some (newer_or (end_in_phase phase (Some n)) (last_end phase core S events))
+    → slice_get (with_end (end_of n n.task) table) (end_index phase core) ≡ Some (option_or (end_in_phase phase (Some n)) (last_end phase core S events))
 node-noted S events table phase core n place small is = by_end (end_of n n.task) refl where
   by_test : (x : TaskEnd) (t : Bool) → end_of n n.task ≡ Some x → IsEndOf n x → (n.phase == phase) ≡ t
-      → slice_get (with_end (Some x) table) (end_index phase core) ≡ Some (newer_or (cond t (end_of n n.task) None) (last_end phase core S events))
+      → slice_get (with_end (Some x) table) (end_index phase core) ≡ Some (option_or (cond t (end_of n n.task) None) (last_end phase core S events))
   by_test x true e of test =
       let here : x.phase.0 ≡ phase = grind (arith, nat_tests, of.phase, test) in
       rw e (there table x phase core (last_end phase core S events) here (of.core ∙ place) is)
@@ -164,7 +165,7 @@ node-noted S events table phase core n place small is = by_end (end_of n n.task)
       elsewhere table x phase core (omega (arith, of.core, place, small)) small (λ same _. absurd (let hit : (n.phase == phase) ≡ true = grind (arith, nat_tests, of.phase, same) in cc)) ∙ is
 
   by_end : (o : Option TaskEnd) → end_of n n.task ≡ o
-      → slice_get (with_end o table) (end_index phase core) ≡ Some (newer_or (end_in_phase phase (Some n)) (last_end phase core S events))
+      → slice_get (with_end o table) (end_index phase core) ≡ Some (option_or (end_in_phase phase (Some n)) (last_end phase core S events))
   by_end None e = rw (none-in phase n e) is
   by_end (Some x) e = by_test x (n.phase == phase) e (end-of n x e) refl
 
@@ -176,19 +177,19 @@ pub record AreInPlace (S : State) : Type 0 where
 -- of a core that the event doesn't change nothing new is noted
 other-noted : (S : State) (events : List Event) (table : EndTable) (e : Event) (phase core : ℕ) → slice_get (next (after S events) e).nodes core ≡ slice_get (after S events).nodes core
     → slice_get table (end_index phase core) ≡ Some (last_end phase core S events)
-    → slice_get table (end_index phase core) ≡ Some (newer_or (end_in_phase phase (slice_get (next (after S events) e).nodes core)) (last_end phase core S events))
+    → slice_get table (end_index phase core) ≡ Some (option_or (end_in_phase phase (slice_get (next (after S events) e).nodes core)) (last_end phase core S events))
 other-noted S events table e phase core frame is = rw frame (is ∙ ap (λ (o : Option TaskEnd). Some o) (last-shown phase core S events))
 
 core-noted : (S : State) (events : List Event) (table : EndTable) (e : Event) (c : CoreId) (phase core : ℕ) → AreInPlace (next (after S events) e) → core_in (after S events) e ≡ Some c → core < 16
     → slice_get table (end_index phase core) ≡ Some (last_end phase core S events)
     → slice_get (with_end (end_at (slice_get (next (after S events) e).nodes c.0)) table) (end_index phase core)
-    ≡ Some (newer_or (end_in_phase phase (slice_get (next (after S events) e).nodes core)) (last_end phase core S events))
+    ≡ Some (option_or (end_in_phase phase (slice_get (next (after S events) e).nodes core)) (last_end phase core S events))
 core-noted S events table e c phase core well own small is = by_core (c.0 == core) refl where
   T : State
   T = next (after S events) e
 
   same_node : c.0 ≡ core → (o : Option NodeParts) → slice_get T.nodes core ≡ o
-      → slice_get (with_end (end_at o) table) (end_index phase core) ≡ Some (newer_or (end_in_phase phase o) (last_end phase core S events))
+      → slice_get (with_end (end_at o) table) (end_index phase core) ≡ Some (option_or (end_in_phase phase o) (last_end phase core S events))
   same_node here None e = is
   same_node here (Some n) e = node-noted S events table phase core n (well.place core n e) small is
 
@@ -205,7 +206,7 @@ core-noted S events table e c phase core well own small is = by_core (c.0 == cor
         (λ _ same. other (ap (λ (k : ℕ). let y : CoreId = record { 0 = k } in Some y) (sym place ∙ sym of.core ∙ same)))
 
   by_core : (t : Bool) → (c.0 == core) ≡ t
-      → slice_get (with_end (end_at (slice_get T.nodes c.0)) table) (end_index phase core) ≡ Some (newer_or (end_in_phase phase (slice_get T.nodes core)) (last_end phase core S events))
+      → slice_get (with_end (end_at (slice_get T.nodes c.0)) table) (end_index phase core) ≡ Some (option_or (end_in_phase phase (slice_get T.nodes core)) (last_end phase core S events))
   by_core true test =
       let same : c.0 ≡ core = grind (arith, nat_tests, test) in
       rw same (same_node same (slice_get T.nodes core) refl)
@@ -222,7 +223,7 @@ noted-ends S events table e well are phase core low small = by_core (core_in (af
 
   by_core : (o : Option CoreId) → core_in (after S events) e ≡ o
       → slice_get (with_end (end_there (next (after S events) e) o) table) (end_index phase core)
-      ≡ Some (newer_or (end_in_phase phase (slice_get (next (after S events) e).nodes core)) (last_end phase core S events))
+      ≡ Some (option_or (end_in_phase phase (slice_get (next (after S events) e).nodes core)) (last_end phase core S events))
   by_core None own = other-noted S events table e phase core (next-frame (after S events) e core (λ eq. none-some (record { 0 = core }) (sym own ∙ eq))) is
   by_core (Some c) own = core-noted S events table e c phase core well own small is
 

@@ -1,5 +1,6 @@
 -- A picked event may come, and where none is picked no event may come.
 use Rattle.std.proofs.Common.{◌≡◌, ℕ, zero, suc, ◌%◌, ◌<◌, ◌≤◌, ◌⊎◌, inl, inr, Bool, true, false, cond, List, [], ◌∷◌, ◌++◌, length, map, slice_get, Option, Some, None, refl, sym, ap, ◌∙◌, subst, arith}
+use Rattle.std.specs.Option.{option_or}
 use Rattle.std.proofs.lemmas.Bool.Decides.{nat_tests}
 use Rattle.dn_base.specs.declared.ids.WordId.{WordId}
 use Rattle.word_cache.proofs.CacheLaws.{victim-goes}
@@ -11,7 +12,7 @@ use Rattle.message_net.specs.Pool.{of_id, count_of}
 use Rattle.message_net.proofs.PoolLemmas.{place-counted, same_id-refl}
 use Rattle.registration_protocol.specs.Node.{NodeParts, Setting, entry_of, need_now}
 use Rattle.registration_protocol.specs.Fit.{Fits}
-use Rattle.registration_protocol.specs.OwnEvents.{may_instr, may_evict, may_arrive, me, wanted_by, victim_for, eviction_of, eviction, arrival, first_of, own_event, IsStill}
+use Rattle.registration_protocol.specs.OwnEvents.{may_instr, may_evict, may_arrive, me, wanted_by, victim_for, eviction_of, eviction, arrival, own_event, IsStill}
 use Rattle.registration_protocol.proofs.OwnLemmas.{without-victim, victim-stays}
 use Rattle.machine_rules.specs.State.{State}
 use Rattle.machine_rules.specs.Next.{enabled, when_there}
@@ -30,16 +31,16 @@ own-comes S core n e there place is = by_instr (may_instr S.setting n) refl is w
   by_arrive true may is = let same : Arrive (me n) ≡ e = cc in subst (λ (x : Event). enabled S x ≡ true) same (ap (when_there may_arrive) here ∙ may)
   by_arrive false may is = absurd (cc)
 
-  by_evict : (v : WordId) (b : Bool) → may_evict S.setting n v.0 ≡ b → first_of (cond b (Some (Evict (me n) v)) None) (arrival n) ≡ Some e → enabled S e ≡ true
+  by_evict : (v : WordId) (b : Bool) → may_evict S.setting n v.0 ≡ b → option_or (cond b (Some (Evict (me n) v)) None) (arrival n) ≡ Some e → enabled S e ≡ true
   by_evict v true may is =
       let same : Evict (me n) v ≡ e = cc in subst (λ (x : Event). enabled S x ≡ true) same (ap (when_there (λ m. may_evict S.setting m v.0)) here ∙ may)
   by_evict v false may is = by_arrive (may_arrive n) refl is
 
-  by_victim : (o : Option WordId) → first_of (eviction_of S.setting n o) (arrival n) ≡ Some e → enabled S e ≡ true
+  by_victim : (o : Option WordId) → option_or (eviction_of S.setting n o) (arrival n) ≡ Some e → enabled S e ≡ true
   by_victim None is = by_arrive (may_arrive n) refl is
   by_victim (Some v) is = by_evict v (may_evict S.setting n v.0) refl is
 
-  by_instr : (b : Bool) → may_instr S.setting n ≡ b → cond b (Some (Instr (me n))) (first_of (eviction S.setting n) (arrival n)) ≡ Some e → enabled S e ≡ true
+  by_instr : (b : Bool) → may_instr S.setting n ≡ b → cond b (Some (Instr (me n))) (option_or (eviction S.setting n) (arrival n)) ≡ Some e → enabled S e ≡ true
   by_instr true may is = let same : Instr (me n) ≡ e = cc in subst (λ (x : Event). enabled S x ≡ true) same (ap (when_there (may_instr S.setting)) here ∙ may)
   by_instr false may is = by_victim (victim_for n (wanted_by n (need_now S.setting n))) is
 
@@ -59,16 +60,16 @@ own-none C n fits is = by_instr (may_instr C n) refl is where
   by_arrive instr evict false may is = record { instr = instr; evict = evict; arrive = may }
 
   by_evict : may_instr C n ≡ false → (v : WordId) → victim_for n (wanted_by n (need_now C n)) ≡ Some v → (b : Bool) → may_evict C n v.0 ≡ b
-      → first_of (cond b (Some (Evict (me n) v)) None) (arrival n) ≡ None → IsStill C n
+      → option_or (cond b (Some (Evict (me n) v)) None) (arrival n) ≡ None → IsStill C n
   by_evict instr v found true may is = absurd (cc)
   by_evict instr v found false may is =
       by_arrive instr (victim-stays C n v found (victim-may C n v fits (wanted_by n (need_now C n)) found) may) (may_arrive n) refl is
 
-  by_victim : may_instr C n ≡ false → (o : Option WordId) → victim_for n (wanted_by n (need_now C n)) ≡ o → first_of (eviction_of C n o) (arrival n) ≡ None → IsStill C n
+  by_victim : may_instr C n ≡ false → (o : Option WordId) → victim_for n (wanted_by n (need_now C n)) ≡ o → option_or (eviction_of C n o) (arrival n) ≡ None → IsStill C n
   by_victim instr None found is = by_arrive instr (without-victim C n found) (may_arrive n) refl is
   by_victim instr (Some v) found is = by_evict instr v found (may_evict C n v.0) refl is
 
-  by_instr : (b : Bool) → may_instr C n ≡ b → cond b (Some (Instr (me n))) (first_of (eviction C n) (arrival n)) ≡ None → IsStill C n
+  by_instr : (b : Bool) → may_instr C n ≡ b → cond b (Some (Instr (me n))) (option_or (eviction C n) (arrival n)) ≡ None → IsStill C n
   by_instr true may is = absurd (cc)
   by_instr false may is = by_victim may (victim_for n (wanted_by n (need_now C n))) refl is
 

@@ -80,7 +80,7 @@ goes-on C seed g S T log h way pick_is come setting =
       words = ap after_word way.words ∙ sym (after_words-more (generator_of seed) log.events h.event);
       leads = come.next ∙ ap (λ (x : State). next x h.event) way.leads ∙ sym (after-more (initial_state C) log.events h.event);
       kept = subst (IsKept T) (sym one_more) kept;
-      all = length-added h.told.kind log.counts ∙ way.all;
+      all = length-added h.observed.kind log.counts ∙ way.all;
       logged = log-more (initial_state C) T log.events log h way.all (in-place T (length log.events + 1) kept) (rw (← way.leads) come) way.logged;
     }
 

@@ -41,10 +41,10 @@ abbrev pub end_there : State → Option CoreId → Option TaskEnd
 end_there T None = None
 end_there T (Some core) = end_at (slice_get T.nodes core.0)
 
--- an event came in a state: what it told, and how the task of the core that it changed stands then
+-- an event came in a state: what was observed of it, and how the task of the core that it changed stands then
 pub record HasCome (S T : State) (h : Happened) : Type 0 where
   pub next : T ≡ next S h.event
-  pub told : h.told ≡ observed S h.event
+  pub observed : h.observed ≡ observed S h.event
   pub end : h.end ≡ end_there T (core_in S h.event)
 
 -- the log of no event, for a program of so many phases
@@ -56,8 +56,8 @@ abbrev pub with_event : Happened → Log → Log
 with_event h log =
     record {
       events = log.events ++ h.event ∷ [];
-      grants = log.grants ++ listed h.told.granted;
-      counts = added h.told.kind log.counts;
+      grants = log.grants ++ listed h.observed.granted;
+      counts = added h.observed.kind log.counts;
       ends = with_end h.end log.ends;
     }
 

@@ -30,11 +30,11 @@ unfoldable pub pick : State → ℕ → Option Event
 pick S draw = picked (candidates (map (own_event S.setting) S.nodes) S.mails) draw
 
 -- the event of a choice
-abbrev pub handling_of : Option Mail → Option Event
-handling_of None = None
-handling_of (Some m) = Some (Handle m.id)
+abbrev pub handling_event : Option Mail → Option Event
+handling_event None = None
+handling_event (Some m) = Some (Handle m.id)
 
 abbrev pub chosen : List Mail → Option Choice → Option Event
 chosen mails None = None
 chosen mails (Some (Own e)) = Some e
-chosen mails (Some (MailAt place)) = handling_of (slice_get mails place)
+chosen mails (Some (MailAt place)) = handling_event (slice_get mails place)

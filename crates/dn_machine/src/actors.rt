@@ -42,7 +42,7 @@ impl Machine {
         requires { has_actor self.now.state.setting.shape.cores self.now.state.setting.shape.banks actor ≡ true }
         ensures { result ≡ next_number self.now.state actor }
     {
-        let place = actor.place(self.shape.cores, self.shape.banks);
-        next_number(&self.content.numbers, place)
+        let index = actor.index(self.shape.cores, self.shape.banks);
+        next_number(&self.content.numbers, index)
     }
 }

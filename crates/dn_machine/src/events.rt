@@ -56,7 +56,7 @@ impl Content {
         requires may { enabled (state_of (setting context.now) self.old) (AnInstr core) ≡ true }
         requires spare { 1 ≤ self.old.pool.spare }
         ensures state { state_of (setting context.now) self.new ≡ next (state_of (setting context.now) self.old) (AnInstr core) }
-        ensures told { result ≡ observed (state_of (setting context.now) self.old) (AnInstr core) }
+        ensures observed { result ≡ observed (state_of (setting context.now) self.old) (AnInstr core) }
         ensures known { KnowsOwn (setting context.now) self.new }
     {
         let step = instruct_at(&mut self.nodes, core.0 as usize, context);
@@ -75,7 +75,7 @@ impl Content {
         requires may { enabled (state_of (setting context.now) self.old) (AnEvict core word) ≡ true }
         requires spare { 1 ≤ self.old.pool.spare }
         ensures state { state_of (setting context.now) self.new ≡ next (state_of (setting context.now) self.old) (AnEvict core word) }
-        ensures told { result ≡ observed (state_of (setting context.now) self.old) (AnEvict core word) }
+        ensures observed { result ≡ observed (state_of (setting context.now) self.old) (AnEvict core word) }
         ensures known { KnowsOwn (setting context.now) self.new }
     {
         let sent = evict_at(&mut self.nodes, core.0 as usize, context, word);
@@ -90,7 +90,7 @@ impl Content {
         requires may { enabled (state_of (setting context.now) self.old) (AnArrive core) ≡ true }
         requires spare { 1 ≤ self.old.pool.spare }
         ensures state { state_of (setting context.now) self.new ≡ next (state_of (setting context.now) self.old) (AnArrive core) }
-        ensures told { result ≡ observed (state_of (setting context.now) self.old) (AnArrive core) }
+        ensures observed { result ≡ observed (state_of (setting context.now) self.old) (AnArrive core) }
         ensures known { KnowsOwn (setting context.now) self.new }
     {
         let sent = arrive_at(&mut self.nodes, core.0 as usize, context);
@@ -129,8 +129,8 @@ impl Content {
         }
         let sent = handle_at(&mut self.banks, bank.0 as usize, message);
         let from = Actor::Bank(bank);
-        let place = from.place(context.shape.cores, context.shape.banks);
-        send(&mut self.pool, &mut self.numbers, place, from, sent);
+        let index = from.index(context.shape.cores, context.shape.banks);
+        send(&mut self.pool, &mut self.numbers, index, from, sent);
     }
 
     /// The keeper gets a message.
@@ -143,8 +143,8 @@ impl Content {
     {
         let verdict = self.keeper.handle(message);
         let cores = context.shape.cores;
-        let place = Actor::Keeper.place(cores, context.shape.banks);
-        send_letters(&mut self.pool, &mut self.numbers, place, cores, verdict);
+        let index = Actor::Keeper.index(cores, context.shape.banks);
+        send_letters(&mut self.pool, &mut self.numbers, index, cores, verdict);
     }
 
     /// An actor gets a message; the lock that a core is granted by it.
@@ -181,7 +181,7 @@ impl Content {
         requires may { enabled (state_of (setting context.now) self.old) (HandleOf id) ≡ true }
         requires spare { (setting context.now).shape.cores ≤ self.old.pool.spare }
         ensures state { state_of (setting context.now) self.new ≡ next (state_of (setting context.now) self.old) (HandleOf id) }
-        ensures told { result ≡ observed (state_of (setting context.now) self.old) (HandleOf id) }
+        ensures observed { result ≡ observed (state_of (setting context.now) self.old) (HandleOf id) }
         ensures known { KnowsOwn (setting context.now) self.new }
     {
         match self.pool.take(id) {
@@ -204,7 +204,7 @@ impl Content {
         requires may { enabled (state_of (setting context.now) self.old) event ≡ true }
         requires spare { (setting context.now).shape.cores ≤ self.old.pool.spare }
         ensures state { state_of (setting context.now) self.new ≡ next (state_of (setting context.now) self.old) event }
-        ensures told { result ≡ observed (state_of (setting context.now) self.old) event }
+        ensures observed { result ≡ observed (state_of (setting context.now) self.old) event }
         ensures known { KnowsOwn (setting context.now) self.new }
     {
         match event {

@@ -14,12 +14,12 @@ use region_table::{Phase, TaskDecl};
 use rv_core::{Ending, TaskEnd};
 use std::alloc::Global;
 
-/// An event that came: what it told, and how the task of the core that it changed stands, where it has ended or waits for a
-/// lock.
+/// An event that came: what was observed of it, and how the task of the core that it changed stands, where it has ended or
+/// waits for a lock.
 #[derive(Clone, Copy, Debug)]
 pub struct Happened {
     pub event: Event,
-    pub told: Stepped,
+    pub observed: Stepped,
     pub end: Option<TaskEnd>,
 }
 
@@ -72,14 +72,14 @@ impl Log {
     /// # Errors
     /// `Memory` where there is no room; the log is then of no more use.
     pub fn note(&mut self, happened: Happened) -> Result<(), Memory>
-        requires { kind_count happened.told.kind self.old.counts < 18446744073709551615 }
+        requires { kind_count happened.observed.kind self.old.counts < 18446744073709551615 }
         ensures { OnOk result (self.new ≡ with_event happened self.old) }
     {
         self.events.push(happened.event)?;
-        if let Some(grant) = happened.told.granted {
+        if let Some(grant) = happened.observed.granted {
             self.grants.push(grant)?;
         }
-        self.counts.add(happened.told.kind);
+        self.counts.add(happened.observed.kind);
         note_end(&mut self.ends, happened.end);
         Ok(())
     }

@@ -13,8 +13,8 @@ use crate::content::Content;
 use crate::forms::plans_have_one_form;
 use crate::picking::pick_from;
 use crate::record::RunRecord;
-use crate::running::run_opened;
-use crate::starting::opened_content;
+use crate::running::run_from_start;
+use crate::starting::initial_content;
 use dn_base::{CoreId, Memory, Shape, WordId};
 use effect_checker::Checked;
 use machine_rules::Stepped;
@@ -98,7 +98,7 @@ impl Machine {
         let plans = plans(alloc, program)?;
         plans_have_one_form(plans.as_slice());
         let context = context_of(&checked, &plans, shape, fuel);
-        let content = opened_content(alloc, &context)?;
+        let content = initial_content(alloc, &context)?;
         Ok(Machine {
             checked,
             plans,
@@ -134,7 +134,7 @@ impl Machine {
         requires made { self.old.made < 4000000000 }
         ensures state { OnOk result (self.new.state ≡ next self.old.state event) }
         ensures made { OnOk result (self.new.made ≡ self.old.made + 1) }
-        ensures told { IfOk result (λ stepped. stepped ≡ observed self.old.state event) }
+        ensures observed { IfOk result (λ stepped. stepped ≡ observed self.old.state event) }
         ensures err { OnErr result (self.new ≡ self.old) }
     {
         self.content.reserve(self.shape.cores)?;
@@ -192,7 +192,7 @@ impl Machine {
             made: _,
         } = self;
         let context = context_of(&checked, &plans, shape, fuel);
-        run_opened(alloc, &context, content, seed)
+        run_from_start(alloc, &context, content, seed)
     }
 }
 

@@ -112,7 +112,7 @@ impl Machine {
 /// The opened machine of a checked program is in a state that a machine may have; so is whatever a run makes of such a state,
 /// and the same state with its mails in another order.
 pub fn what_a_run_leaves_is_kept()
-    ensures opened { (C : Setting) → IsReady C → 1 ≤ C.shape.cores → C.shape.cores ≤ 16 → IsKept (initial_state C) 0 }
+    ensures initial { (C : Setting) → IsReady C → 1 ≤ C.shape.cores → C.shape.cores ≤ 16 → IsKept (initial_state C) 0 }
     ensures run { (S : State) (made : ℕ) (events : List Event) → IsKept S made → IsRun S events → IsKept (after S events) (made + length events) }
     ensures reordered { (S T : State) (made : ℕ) → IsKept S made → IsReordered S T → IsKept T made }
 {}

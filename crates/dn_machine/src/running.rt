@@ -72,9 +72,13 @@ impl Content {
         ensures came { HasCome (state_of (setting context.now) self.old) (state_of (setting context.now) self.new) result }
         ensures known { KnowsOwn (setting context.now) self.new }
     {
-        let told = self.act(context, event);
+        let observed = self.act(context, event);
         let end = self.end_there(own_core(event));
-        Happened { event, told, end }
+        Happened {
+            event,
+            observed,
+            end,
+        }
     }
 
     /// The handling of the mail at a place of the pool, which is taken from there.
@@ -90,7 +94,7 @@ impl Content {
     {
         let mail = self.pool.take_at(place);
         let granted = self.deliver(context, mail.to, mail.message);
-        let told = Stepped {
+        let observed = Stepped {
             kind: mail.message.kind(),
             seen: None,
             granted,
@@ -98,7 +102,7 @@ impl Content {
         let end = self.end_there(core_of(mail.to));
         Happened {
             event: Event::Handle(mail.id),
-            told,
+            observed,
             end,
         }
     }
@@ -150,7 +154,7 @@ impl Content {
         seed: u32,
         log: &mut Log,
     ) -> Result<(), Memory>
-        requires opened { state_of (setting context.now) self.old ≡ initial_state (setting context.now) }
+        requires initial { state_of (setting context.now) self.old ≡ initial_state (setting context.now) }
         requires kept { IsKept (state_of (setting context.now) self.old) 0 }
         requires known { KnowsOwn (setting context.now) self.old }
         requires empty { log.old ≡ no_log (length (setting context.now).program.phases) }
@@ -193,13 +197,13 @@ impl Content {
 ///
 /// # Errors
 /// `Memory` where there is no room for the mails or the record.
-pub(crate) fn run_opened(
+pub(crate) fn run_from_start(
     alloc: Global,
     context: &Context<'_>,
     content: Content,
     seed: u32,
 ) -> Result<RunRecord, Memory>
-    requires opened { state_of (setting context.now) content ≡ initial_state (setting context.now) }
+    requires initial { state_of (setting context.now) content ≡ initial_state (setting context.now) }
     requires kept { IsKept (state_of (setting context.now) content) 0 }
     requires known { KnowsOwn (setting context.now) content }
     ensures { IfOk result (IsSeedsRunOf (initial_state (setting context.now)) seed) }

@@ -7,7 +7,7 @@ ghost use Rattle.registration_protocol.specs.Fit.{IsContext, Fits};
 ghost use Rattle.registration_protocol.specs.Node.{NodeParts, initial_node};
 ghost use Rattle.registration_protocol.specs.OwnEvents.{own_event};
 ghost use Rattle.registration_protocol.specs.Setting.{setting};
-ghost use Rattle.machine_rules.specs.State.{initial_state as opened_machine};
+ghost use Rattle.machine_rules.specs.State.{initial_state};
 ghost use Rattle.dn_machine.specs.Content.{state_of, in_row, KnowsOwn};
 
 use crate::content::Content;
@@ -103,13 +103,13 @@ pub(crate) fn own_events(nodes: &[Node], context: &Context<'_>) -> [Option<Event
 }
 
 /// What changes in a machine, as a run begins.
-pub(crate) fn opened_content(alloc: Global, context: &Context<'_>) -> Result<Content, Memory>
+pub(crate) fn initial_content(alloc: Global, context: &Context<'_>) -> Result<Content, Memory>
     requires context { IsContext (setting context.now) }
     requires program { IsProgram (setting context.now).program }
     requires checked { IsChecked (setting context.now).program }
     requires some { 1 ≤ (setting context.now).shape.cores }
     requires most { (setting context.now).shape.cores ≤ 16 }
-    ensures state { IfOk result (λ content. state_of (setting context.now) content ≡ opened_machine (setting context.now)) }
+    ensures state { IfOk result (λ content. state_of (setting context.now) content ≡ initial_state (setting context.now)) }
     ensures known { IfOk result (KnowsOwn (setting context.now)) }
 {
     let shape = context.shape;

@@ -30,7 +30,7 @@ fn pending_among(nodes: &[Node], word: WordId) -> Option<u32>
 }
 
 /// The value of an entry.
-fn value_of(entry: Option<Entry>) -> u32
+fn value_in_entry(entry: Option<Entry>) -> u32
     ensures { result ≡ value_in_entry entry }
 {
     match entry {
@@ -46,7 +46,7 @@ fn value_at(nodes: &[Node], core: CoreId, word: WordId) -> u32
     ensures { result ≡ value_in_entry (entry_in word.0 (slice_get nodes.now core.0)) }
 {
     match nodes.get(core.0 as usize) {
-        Some(node) => value_of(node.entry(word)),
+        Some(node) => value_in_entry(node.entry(word)),
         None => 0,
     }
 }

@@ -8,7 +8,7 @@ use Rattle.dn_top.specs.declared.serving.Answer.{Answer}
 use Rattle.dn_top.specs.Answers.{IsAnswer, IsOutcome}
 use Rattle.dn_top.specs.Outside.{Devices, Took}
 use Rattle.dn_top.specs.Serving.{text_to_answer, ForText, HasDone, HasRefused, answer_to}
-use Rattle.dn_top.specs.Laws.{Call, IsAnswered, IsDecided, GaveOneOutput}
+use Rattle.dn_top.specs.Laws.{Call, IsTextAnswered, IsDecided, GaveOneOutput}
 use Rattle.dn_top.proofs.Statuses.{outcome_refused}
 use Rattle.dn_top.proofs.Clauses.{at-some, same_options}
 use Rattle.dn_top.proofs.OneAnswer.{one-answer}
@@ -31,7 +31,7 @@ record IsGivenBy (o : Options) (text : List ℕ) (c : Call) : Type 0 where
   answer : c.answer ≡ answer_to out
   took : Took c.before.sink c.after.sink out.bytes
 
-given : (o : Options) (text : List ℕ) (c : Call) → IsAnswered o text c → IsGivenBy o text c
+given : (o : Options) (text : List ℕ) (c : Call) → IsTextAnswered o text c → IsGivenBy o text c
 given o text c is = by_end is.ends
   where
     by_end : IsOutcome c.answer.status ⊎ (c.answer.status ≡ status.TheVariants.SourceRefused) → IsGivenBy o text c
@@ -54,7 +54,7 @@ given o text c is = by_end is.ends
           took = was.took;
         }
 
-pub one-call : (o : Options) (text : List ℕ) (c d : Call) → IsDecided o → IsAnswered o text c → IsAnswered o text d → GaveOneOutput c d
+pub one-call : (o : Options) (text : List ℕ) (c d : Call) → IsDecided o → IsTextAnswered o text c → IsTextAnswered o text d → GaveOneOutput c d
 one-call o text c d decided is also =
     let first = given o text c is in
     let second = given o text d also in

@@ -60,12 +60,12 @@ document-or_none bytes line Holds is none = no-fault_of_document bytes is.trace 
 -- the events of a document have one replay
 one-replayed : (P : ProgramParts) (t : Trace) (a b : Replayed) → IsReplayIn P t a → IsReplayIn P t b → a ≡ b
 one-replayed P t a b is also =
-    let same : is.setting ≡ also.setting = same-setting P (shape_told P t.shape) t.shape.fuel is.setting also.setting is.told also.told in
+    let same : is.setting ≡ also.setting = same-setting P (shape_told P t.shape) t.shape.fuel is.setting also.setting is.setting_is also.setting_is in
     one-replay also.setting t.events a b (subst (λ (C : Setting). IsTrueOf C t.events a) same is.is_true) also.is_true
 
 replayed_run-one : (P : ProgramParts) (t : Trace) (out other : Output) → IsReplayedRun P t out → IsReplayedRun P t other → out ≡ other
 replayed_run-one P t out other is also =
-    let same : is.is.setting ≡ also.is.setting = same-setting P (shape_told P t.shape) t.shape.fuel is.is.setting also.is.setting is.is.asked also.is.asked in
+    let same : is.is.setting ≡ also.is.setting = same-setting P (shape_told P t.shape) t.shape.fuel is.is.setting also.is.setting is.is.setting_is also.is.setting_is in
     let run : is.run ≡ also.run =
     one-record (initial_state also.is.setting) is.run also.run (is.events ∙ sym also.events) is.is.each_kind also.is.each_kind
     (subst (λ (C : Setting). IsRecord (initial_state C) is.run) same is.is.machine.is_true)

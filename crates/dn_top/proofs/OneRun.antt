@@ -45,7 +45,7 @@ by-seed P o r is one = record { scheduled = is.scheduled one; run = is.run.machi
 -- a program and options have one run, by one worker
 pub one-run : (P : ProgramParts) (o : Options) (r s : RunRecord) → o.workers ≡ 1 → IsRunFor P o r → IsRunFor P o s → r ≡ s
 one-run P o r s one is also =
-    let same : is.run.setting ≡ also.run.setting = same-setting P (shape_for P o) o.fuel is.run.setting also.run.setting is.run.asked also.run.asked in
+    let same : is.run.setting ≡ also.run.setting = same-setting P (shape_for P o) o.fuel is.run.setting also.run.setting is.run.setting_is also.run.setting_is in
     same-record (initial_state also.run.setting) o.seed r s is.run.each_kind also.run.each_kind
     (subst (λ (C : Setting). IsSeedsRunOf (initial_state C) o.seed r) same (by-seed P o r is one))
     (by-seed P o s also one)

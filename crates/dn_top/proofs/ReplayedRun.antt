@@ -36,10 +36,10 @@ module _ (P : ProgramParts) (t : Trace) (r : RunRecord) where
   pub run-again : r.events ≡ t.events → IsReplayIn P t (Complete r.ending r.grants r.counts) → IsRunOf P (shape_told P t.shape) t.shape.fuel r
   run-again events is =
       let machine = machines-run events is in
-      run-of P (shape_told P t.shape) t.shape.fuel is.setting r is.told machine (flat-end is machine) is.is_true.each_kind
+      run-of P (shape_told P t.shape) t.shape.fuel is.setting r is.setting_is machine (flat-end is machine) is.is_true.each_kind
 
   pub prints-again : IsProgram P → r.events ≡ t.events → IsReplayIn P t (Complete r.ending r.grants r.counts) → IsPrintable r
   prints-again program events is =
       let machine = machines-run events is in
       let few : length r.events < 18446744073709551616 = omega (arith, machine.few.most) in
-      can-print P (shape_told P t.shape) t.shape.fuel is.setting r (subst IsProgram (sym is.told.program) program) machine.is_true (flat-end is machine) is.is_true.each_kind few
+      can-print P (shape_told P t.shape) t.shape.fuel is.setting r (subst IsProgram (sym is.setting_is.program) program) machine.is_true (flat-end is machine) is.is_true.each_kind few

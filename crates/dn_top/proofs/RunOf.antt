@@ -33,7 +33,7 @@ use Rattle.dn_machine.specs.Settings.{IsSettingOf}
 use Rattle.dn_machine.specs.Run.{IsRecord, IsMachinesRun, IsSeedsRunOf}
 use Rattle.dn_machine.specs.declared.record.RunRecord.{RunRecord}
 use Rattle.dn_machine.proofs.RunLemmas.{ready-of}
-use Rattle.run_replay.specs.Document.{IsTold}
+use Rattle.run_replay.specs.Document.{FitsDocument}
 use Rattle.run_replay.proofs.ToldRuns.{run-told}
 use Rattle.command_words.specs.declared.options.Options.{Options}
 use Rattle.dn_top.specs.Causes.{IsCaused}
@@ -119,7 +119,7 @@ module _ (P : ProgramParts) (s : Shape) (fuel : ℕ) (C : Setting) (r : RunRecor
   pub run-of : IsSettingOf P s fuel C → IsMachinesRun (initial_state C) r → HasFlatEnd C r.events → length r.counts.kinds ≡ 17 → IsRunOf P s fuel r
   run-of asked machine flat each =
       let by_grants = has-flat_run machine.is_true flat in
-      record { setting = C; asked = asked; machine = machine; each_kind = each; flat = by_grants; caused = has-cause asked by_grants; lock_free = has-no_grants asked by_grants }
+      record { setting = C; setting_is = asked; machine = machine; each_kind = each; flat = by_grants; caused = has-cause asked by_grants; lock_free = has-no_grants asked by_grants }
 
   pub can-print : IsProgram C.program → IsRecord (initial_state C) r → HasFlatEnd C r.events → length r.counts.kinds ≡ 17 → length r.events < 18446744073709551616 → IsPrintable r
   can-print program is flat kinds few =
@@ -170,7 +170,7 @@ module _ (P : ProgramParts) (o : Options) (m : Made) (r : RunRecord) where
       can-print P (shape_for P o) o.fuel m.state.setting r kept.sound.machine.program (at-opened (λ S. IsRecord S r) at is) flat kinds few
 
   -- the events are within the limits of a document
-  pub all-told : IsInitialMachine P (shape_for P o) o.fuel m → IsKept m.state m.made → IsRun m.state r.events → All IsTold r.events
+  pub all-told : IsInitialMachine P (shape_for P o) o.fuel m → IsKept m.state m.made → IsRun m.state r.events → All FitsDocument r.events
   all-told at kept run =
       run-told m.state.setting r.events (ready-of m.state m.made kept.sound) kept.most (at-opened (λ S. IsRun S r.events) at run)
 

@@ -18,7 +18,7 @@ use Rattle.dn_top.specs.Runs.{shape_for, ticks_for, IsAnyRunFor}
 -- the events are a run of the opened machine that the options ask for
 run-on : (P : ProgramParts) (o : Options) (r : RunRecord) → IsAnyRunFor P o r → IsRunOn P (shape_for P o) o.fuel r.events
 run-on P o r is C told =
-    let same : is.setting ≡ C = same-setting P (shape_for P o) o.fuel is.setting C is.asked told in
+    let same : is.setting ≡ C = same-setting P (shape_for P o) o.fuel is.setting C is.setting_is told in
     subst (λ (D : Setting). IsRun (initial_state D) r.events) same is.machine.complete.run
 
 -- the same of a shape and events that are these

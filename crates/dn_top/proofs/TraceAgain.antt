@@ -16,7 +16,7 @@ replay-of_run : (P : ProgramParts) (o : Options) (text : List ℕ) (r : RunRecor
 replay-of_run P o text r is =
     record {
       setting = is.run.setting;
-      told = is.run.asked;
+      setting_is = is.run.setting_is;
       is_true = record { run = is.run.machine; each_kind = is.run.each_kind };
     }
 

@@ -4,7 +4,7 @@ use Rattle.std.specs.List.{All}
 use Rattle.region_table.specs.Program.{ProgramParts}
 use Rattle.rv_assembler.specs.Source.{source}
 use Rattle.dn_machine.specs.declared.record.RunRecord.{RunRecord}
-use Rattle.run_replay.specs.Document.{IsTold, IsTrace, IsTraceShape}
+use Rattle.run_replay.specs.Document.{FitsDocument, IsTrace, IsTraceShape}
 use Rattle.command_words.specs.declared.options.Options.{Options}
 use Rattle.command_words.specs.Command.{OptionsInRange}
 use Rattle.dn_top.specs.Runs.{IsAnyRunFor}
@@ -22,7 +22,7 @@ sizes-within o l =
     }
 
 -- so is all that the document of a run tells
-pub trace-told : (P : ProgramParts) (o : Options) (text : List ℕ) (r : RunRecord) → OptionsInRange o → source text ≡ Ok P → IsAnyRunFor P o r → All IsTold r.events → IsTrace (trace_of o text r)
+pub trace-told : (P : ProgramParts) (o : Options) (text : List ℕ) (r : RunRecord) → OptionsInRange o → source text ≡ Ok P → IsAnyRunFor P o r → All FitsDocument r.events → IsTrace (trace_of o text r)
 trace-told P o text r limits is run told =
     record {
       head = record { shape = sizes-within o limits; text = source-small text P is; count = run.machine.few.most };

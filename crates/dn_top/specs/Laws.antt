@@ -22,7 +22,7 @@ pub record Call : Type 0 where
   pub answer : Answer
 
 -- these options are wanted, this is the text that they are about, and its exit code is that of an outcome or of a refusal
-pub record IsAnswered (o : Options) (text : List ℕ) (c : Call) : Type 0 where
+pub record IsTextAnswered (o : Options) (text : List ℕ) (c : Call) : Type 0 where
   pub about : text_to_answer o c.before.source ≡ Some text
   pub serves : Serves (Some o) c.before c.after c.answer
   pub ends : IsOutcome c.answer.status ⊎ (c.answer.status ≡ status.TheVariants.SourceRefused)

@@ -16,8 +16,8 @@ pub record Devices : Type 0 where
   pub source : DeviceState
   pub sink : DeviceState
 
-abbrev pub devices : (told : Option (List ℕ)) → (source_faults : ℕ) → (held : Option (List ℕ)) → (sink_faults : ℕ) → Devices
-devices told source_faults held sink_faults = record { source = device told source_faults; sink = device held sink_faults }
+abbrev pub devices : (content : Option (List ℕ)) → (source_faults : ℕ) → (held : Option (List ℕ)) → (sink_faults : ℕ) → Devices
+devices content source_faults held sink_faults = record { source = device content source_faults; sink = device held sink_faults }
 
 -- it failed once or more in between
 abbrev pub Failed : DeviceState → DeviceState → Type 0

@@ -60,7 +60,7 @@ pub record IsWithoutGrants (P : ProgramParts) (fuel : ℕ) (r : RunRecord) : Typ
 pub record IsRunOf (P : ProgramParts) (shape : Shape) (fuel : ℕ) (r : RunRecord) : Type 0 where
   -- what the machine is told; a program, a shape and fuel have one such setting
   pub setting : Setting
-  pub asked : IsSettingOf P shape fuel setting
+  pub setting_is : IsSettingOf P shape fuel setting
   -- its events are a complete run of the opened machine, at rest behind it, coherent after each of them, whose loads are fronts
   -- of one thread's; and its grants, counts and ending are read off them
   pub machine : IsMachinesRun (initial_state setting) r

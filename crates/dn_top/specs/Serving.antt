@@ -25,8 +25,8 @@ use Rattle.dn_top.specs.Outside.{DeviceState, Devices, Failed, GaveAtMost, IsUnt
 
 -- the text that options are about: the generated one of their size, or what the source tells
 abbrev pub text_by : Option ℕ → ℕ → Option (List ℕ) → Option (List ℕ)
-text_by None size told = Some (work_of size)
-text_by (Some most) size told = told
+text_by None size content = Some (work_of size)
+text_by (Some most) size content = content
 
 abbrev pub text_to_answer : Options → DeviceState → Option (List ℕ)
 text_to_answer o source = text_by (most_read o.mode) o.size source.bytes

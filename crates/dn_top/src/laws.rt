@@ -11,7 +11,7 @@ ghost use Rattle.command_words.specs.declared.options.Options.{Options};
 ghost use Rattle.dn_top.specs.declared.output.Output.{Output};
 ghost use Rattle.dn_top.specs.Answers.{IsAnswer, IsRefusal, done_in};
 ghost use Rattle.dn_top.specs.Causes.{IsCaused};
-ghost use Rattle.dn_top.specs.Laws.{Call, GaveOneOutput, IsAnswered, IsDecided};
+ghost use Rattle.dn_top.specs.Laws.{Call, GaveOneOutput, IsTextAnswered, IsDecided};
 ghost use Rattle.dn_top.specs.Runs.{IsRunFor, IsRunOf, output_of_run, reported};
 
 /// A run that is out of fuel or stuck is so because of its tasks.
@@ -42,5 +42,5 @@ pub fn the_output_is_a_function_of_source_and_options()
     ensures run { (P : ProgramParts) (o : Options) (r s : RunRecord) → o.workers ≡ 1 → IsRunFor P o r → IsRunFor P o s → r ≡ s }
     ensures answer { (o : Options) (text : List ℕ) (out other : Output) → IsDecided o → IsAnswer o text out → IsAnswer o text other → out ≡ other }
     ensures refusal { (o : Options) (text : List ℕ) (out other : Output) → IsRefusal o text out → IsAnswer o text other → out ≡ other }
-    ensures call { (o : Options) (text : List ℕ) (c d : Call) → IsDecided o → IsAnswered o text c → IsAnswered o text d → GaveOneOutput c d }
+    ensures call { (o : Options) (text : List ℕ) (c d : Call) → IsDecided o → IsTextAnswered o text c → IsTextAnswered o text d → GaveOneOutput c d }
 {}

@@ -1,7 +1,7 @@
 ghost use Rattle.std.specs.Prelude.{◌≡◌, ◌≤◌, ◌++◌, All, length, IfOk, IfErr};
 ghost use Rattle.command_words.specs.Command.{OptionsInRange};
 ghost use Rattle.run_report.specs.Summary.{summary_of};
-ghost use Rattle.run_replay.specs.Document.{IsTold, IsTrace};
+ghost use Rattle.run_replay.specs.Document.{FitsDocument, IsTrace};
 ghost use Rattle.run_timing.specs.Text.{timing_of};
 ghost use Rattle.run_timing.specs.Ticks.{AreWithinLimits};
 ghost use Rattle.dn_top.specs.Answers.{HasAnyRun, HasChecked, IsRunOfText, IsStop, IsUnfit};
@@ -44,7 +44,7 @@ pub(crate) fn has_each_kind(counts: &Counts)
 fn machine_run(alloc: Global, options: &Options, checked: Checked) -> Result<RunRecord, Memory>
     requires { OptionsInRange options.now }
     ensures run { IfOk result (IsRunFor checked (with_one_worker options.now)) }
-    ensures told { IfOk result (λ run. All IsTold run.events) }
+    ensures told { IfOk result (λ run. All FitsDocument run.events) }
     ensures printable { IfOk result IsPrintable }
 {
     let shape = shape_of(options, checked.program());

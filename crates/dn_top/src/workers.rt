@@ -1,7 +1,7 @@
 //! Runs that host threads make.
 ghost use Rattle.std.specs.Prelude.{◌≢◌, All, IfOk, IfErr};
 ghost use Rattle.command_words.specs.Command.{OptionsInRange};
-ghost use Rattle.run_replay.specs.Document.{IsTold, IsTrace};
+ghost use Rattle.run_replay.specs.Document.{FitsDocument, IsTrace};
 ghost use Rattle.dn_top.specs.Answers.{IsRunOfText, IsStop, IsUnfit};
 ghost use Rattle.dn_top.specs.Documents.{trace_of};
 ghost use Rattle.dn_top.specs.Runs.{IsPrintable, IsRunFor};
@@ -28,7 +28,7 @@ fn machine_run_by_workers<R: Threads + Wait + Sync, G: Gate + Sync>(
     requires limits { OptionsInRange options.now }
     requires several { options.now.workers ≢ 1 }
     ensures run { IfOk result (IsRunFor checked options.now) }
-    ensures told { IfOk result (λ run. All IsTold run.events) }
+    ensures told { IfOk result (λ run. All FitsDocument run.events) }
     ensures printable { IfOk result IsPrintable }
 {
     let shape = shape_of(options, checked.program());

@@ -19,7 +19,7 @@ use Rattle.rv_core.specs.declared.need.Need.TheVariants.{Acquire, Release}
 use Rattle.rv_core.specs.Access.{is_held}
 use Rattle.rv_core.specs.Kinds.{IsLoad, IsAdvance}
 use Rattle.rv_core.specs.Need.{need_of, fetch_need, word_need, instr_need, call_need, traps, address_of, jump_target}
-use Rattle.rv_core.specs.Place.{code_at, data_at, size_of, extended}
+use Rattle.rv_core.specs.Address.{code_at, data_at, size_of, extended}
 use Rattle.rv_core.specs.Registers.{value_in}
 use Rattle.rv_core.specs.Step.{read_instr, next_pc, jumped_to, with_locks, after_call, after_instr, after_fetch, advanced, after_load, loaded_of, after_store, merged_of}
 use Rattle.rv_core.specs.Task.{started}

@@ -5,7 +5,7 @@ use Rattle.std.specs.Int.{w8, w16, w32, cast_signed, cast_unsigned, to_le_bytes,
 use Rattle.region_table.specs.Numbers.{AreCodeWords}
 use Rattle.rv_isa.specs.declared.instr.Width.{Width}
 use Rattle.rv_isa.specs.declared.instr.Width as width
-use Rattle.rv_core.specs.Place.{byte_at, half_at, extended, replaced}
+use Rattle.rv_core.specs.Address.{byte_at, half_at, extended, replaced}
 use Rattle.effect_prover.specs.Range.{Has}
 use Rattle.effect_prover.specs.Successors.{loadable}
 use Rattle.effect_prover.proofs.RangeLemmas.{every-has}

@@ -18,7 +18,7 @@ use Rattle.rv_core.specs.declared.need.Need.{Need}
 use Rattle.rv_core.specs.declared.need.Need as need
 use Rattle.rv_core.specs.Access.{is_held, least_held, may_load, may_store}
 use Rattle.rv_core.specs.Need.{need_of, fetch_need, word_need, instr_need, jump_need, load_need, store_need, call_need, when_aligned, traps, address_of, jump_target}
-use Rattle.rv_core.specs.Place.{code_at, data_at, size_of, is_whole}
+use Rattle.rv_core.specs.Address.{code_at, data_at, size_of, is_whole}
 use Rattle.rv_core.specs.Registers.{value_in}
 use Rattle.flat_machine.specs.Laws.{HoldsLess}
 use Rattle.flat_machine.proofs.Rights.{may_load-less, may_store-less}

@@ -11,7 +11,7 @@ use Rattle.region_table.specs.declared.interval.Interval.{Interval}
 use Rattle.region_table.specs.Words.{has, in_interval}
 use Rattle.rv_core.specs.Access.{is_held, under}
 use Rattle.rv_core.proofs.HighLocks.{holds-high}
-use Rattle.rv_core.specs.Place.{data_at, size_of}
+use Rattle.rv_core.specs.Address.{data_at, size_of}
 use Rattle.effect_prover.specs.declared.range.Range.{Range}
 use Rattle.effect_prover.specs.Range.{Has}
 use Rattle.effect_prover.specs.Inside.{IsAllowed, AreAllowed}

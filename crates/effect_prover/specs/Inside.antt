@@ -8,7 +8,7 @@ use Rattle.rv_isa.specs.declared.instr.Instr.TheVariants.{Jalr, Load, Store}
 use Rattle.region_table.specs.Program.{ProgramParts}
 use Rattle.region_table.specs.declared.declared.TaskDecl.{TaskDecl}
 use Rattle.rv_core.specs.Access.{may_load, may_store}
-use Rattle.rv_core.specs.Place.{data_at, size_of}
+use Rattle.rv_core.specs.Address.{data_at, size_of}
 use Rattle.effect_prover.specs.declared.range.Range.{Range}
 use Rattle.effect_prover.specs.declared.row.Row.{Row}
 use Rattle.effect_prover.specs.Range.{Has, computed_imm}

@@ -3,7 +3,7 @@ use Rattle.std.specs.Prelude.{◌≡◌, ℕ, ◌%◌, ◌<◌, ◌≤◌, Bool,
 use Rattle.rv_isa.specs.declared.instr.Width.{Width}
 use Rattle.region_table.specs.declared.declared.TaskDecl.{TaskDecl}
 use Rattle.rv_core.specs.Access.{may_load, may_store}
-use Rattle.rv_core.specs.Place.{size_of}
+use Rattle.rv_core.specs.Address.{size_of}
 use Rattle.effect_prover.specs.declared.inside.Access.{Access}
 use Rattle.effect_prover.specs.declared.inside.Access.TheVariants.{Load, Store}
 

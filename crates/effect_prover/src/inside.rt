@@ -2,7 +2,7 @@
 ghost use Rattle.std.specs.Prelude.{◌≡◌, ℕ, ◌%◌, ◌<◌, ◌≤◌, ◌&&◌, Decides, length, slice_get};
 ghost use Rattle.region_table.specs.Words.{has};
 ghost use Rattle.rv_core.specs.Access.{is_held, under, may_load, may_store};
-ghost use Rattle.rv_core.specs.Place.{size_of};
+ghost use Rattle.rv_core.specs.Address.{size_of};
 ghost use Rattle.effect_prover.specs.Row.{IsRow};
 ghost use Rattle.effect_prover.specs.Inside.{AreAllowed, addresses, IsInside};
 ghost use Rattle.effect_prover.specs.Stretch.{IsStretch, may_use, AreUsable, IsLastMultiple, IsFirstMultiple};

@@ -30,7 +30,7 @@ impl Successors {
     }
 
     /// At the next word alone.
-    fn goes_on(row: &Row) -> Successors
+    fn falls_through(row: &Row) -> Successors
         ensures { result ≡ falls_through row.now }
     {
         Successors {
@@ -206,7 +206,7 @@ impl Row {
         } else if taken(cond, 0, 0) {
             Successors::jumps(self)
         } else {
-            Successors::goes_on(self)
+            Successors::falls_through(self)
         }
     }
 
@@ -240,21 +240,21 @@ impl Row {
         ensures { result ≡ calls locks self.now number lock }
     {
         if !number.is_one() {
-            return Successors::goes_on(&self.holding(0));
+            return Successors::falls_through(&self.holding(0));
         }
         match number.lo {
-            1 => Successors::goes_on(&self.holding(self.after_acquire(locks, lock))),
-            2 => Successors::goes_on(&self.holding(self.after_release(lock))),
+            1 => Successors::falls_through(&self.holding(self.after_acquire(locks, lock))),
+            2 => Successors::falls_through(&self.holding(self.after_release(lock))),
             _ => Successors::stays(),
         }
     }
 
     /// The row with another range of a register, at the next word.
-    fn goes_on_with(&self, rd: Reg, range: Range) -> Successors
+    fn falls_through_with(&self, rd: Reg, range: Range) -> Successors
         requires { IsRow self.now }
         ensures { result ≡ falls_through (with_range self.now rd range) }
     {
-        Successors::goes_on(&self.with(rd, range))
+        Successors::falls_through(&self.with(rd, range))
     }
 
     /// The successors of an instruction at the address `pc`, in a program with so many locks.
@@ -265,22 +265,22 @@ impl Row {
         ensures { result ≡ successors locks pc self.now instr.now }
     {
         match *instr {
-            Instr::Lui { rd, imm } => self.goes_on_with(rd, Range::one(imm << 12)),
-            Instr::Auipc { rd, imm } => self.goes_on_with(
+            Instr::Lui { rd, imm } => self.falls_through_with(rd, Range::one(imm << 12)),
+            Instr::Auipc { rd, imm } => self.falls_through_with(
                 rd,
                 Range::one(pc.wrapping_add(imm << 12)),
             ),
             Instr::Jal { rd, .. } => Successors::jumps(&self.with(rd, Range::one(pc + 4))),
             Instr::Branch { cond, a, b, .. } => self.branch_on(cond, a, b),
-            Instr::Load { width, rd, .. } => self.goes_on_with(rd, loadable(width)),
+            Instr::Load { width, rd, .. } => self.falls_through_with(rd, loadable(width)),
             Instr::OpImm { op, rd, a, imm } => {
                 let results = Range::computed_with(op, self.range(a), imm.cast_unsigned());
-                self.goes_on_with(rd, results)
+                self.falls_through_with(rd, results)
             }
             Instr::Op { op, rd, a, b } => {
-                self.goes_on_with(rd, Range::computed(op, self.range(a), self.range(b)))
+                self.falls_through_with(rd, Range::computed(op, self.range(a), self.range(b)))
             }
-            Instr::Store { .. } | Instr::Fence => Successors::goes_on(self),
+            Instr::Store { .. } | Instr::Fence => Successors::falls_through(self),
             Instr::Ecall => self.calls(locks, self.ranges[A7], self.ranges[A0]),
             Instr::Jalr { .. } | Instr::Ebreak => Successors::stays(),
         }

@@ -1,5 +1,6 @@
 -- What the flat machine's run tells of a world that leads to it: its loads, its words, and its end.
 use Rattle.std.proofs.Common.{◌≡◌, ℕ, zero, suc, Bool, true, false, if◌then◌else◌, is_none, List, [], ◌∷◌, ◌++◌, slice_get, slice_index, Option, Some, None, refl, sym, ap, ◌∙◌, subst, ⊎_elim}
+use Rattle.std.specs.Option.{option_or}
 use Rattle.std.proofs.lemmas.Bool.{cases_eq}
 use Rattle.std.proofs.lemmas.Option.{same_Some}
 use Rattle.dn_base.specs.declared.ids.Grant.{Grant}
@@ -10,7 +11,7 @@ use Rattle.rv_core.specs.declared.need.Need as need
 use Rattle.flat_machine.specs.declared.ending.TaskLoads.{TaskLoads}
 use Rattle.flat_machine.specs.Step.{Started, wish}
 use Rattle.flat_machine.specs.Phases.{Flat, all_tasks, next_phase, settled}
-use Rattle.flat_machine.specs.Grants.{grant_by, grant_of, first_or, first_grant, next_grant, grants_are_whole, so_far}
+use Rattle.flat_machine.specs.Grants.{grant_by, grant_of, first_grant, next_grant, grants_are_whole, so_far}
 use Rattle.flat_machine.specs.Ending.{task_loads, flat_loads_of, flat_end_of, flat_end}
 use Rattle.flat_machine.specs.Laws.{at_memory, EndsSegment, StandsLater, AreLater}
 use Rattle.flat_machine.proofs.CauseLemmas.{whole-ends}
@@ -102,7 +103,7 @@ stopped-grant tasks r (Some (need.TheVariants.End by)) k = absurd k
 no-first : (P : ProgramParts) (fuel : ℕ) (tasks rs : List Started) → ((i : ℕ) (r : Started) → slice_get rs i ≡ Some r → IsStopped tasks (wish P fuel r)) → first_grant P fuel tasks rs ≡ None
 no-first P fuel tasks [] stop = refl
 no-first P fuel tasks (r ∷ rs) stop =
-    ap (λ (o : Option Grant). first_or o (first_grant P fuel tasks rs)) (stopped-grant tasks r (wish P fuel r) (stop zero r refl))
+    ap (λ (o : Option Grant). option_or o (first_grant P fuel tasks rs)) (stopped-grant tasks r (wish P fuel r) (stop zero r refl))
     ∙ no-first P fuel tasks rs (λ i q at'. stop (suc i) q at')
 
 pub stopped-whole : (P : ProgramParts) (fuel : ℕ) (W : Flat) → AreStopped P fuel W → grants_are_whole P fuel W ≡ true

@@ -1,5 +1,6 @@
 -- Why the tasks of a run stand still: they have used up their fuel, or want a lock that another task holds.
 use Rattle.std.proofs.Common.{◌≡◌, ℕ, zero, suc, Bool, true, false, not, if◌then◌else◌, ◌⊎◌, inl, inr, List, [], ◌∷◌, ◌++◌, drop, get_or, map, position, slice_get, slice_index, Option, Some, None, is_none, refl, sym, ap, ◌∙◌, subst, arith}
+use Rattle.std.specs.Option.{option_or}
 use Rattle.std.specs.List.{All, Any, list_all, list_any}
 use Rattle.std.proofs.lemmas.Bool.{true≢false, false≢true, true_from_ne_false, false_from_ne_true}
 use Rattle.std.proofs.lemmas.List.Elements.{All-nil, All-cons, All-append, All-set, All-map, All-weaker}
@@ -29,7 +30,7 @@ use Rattle.rv_core.proofs.Needs.{need-fuel}
 use Rattle.flat_machine.specs.declared.ending.FlatEnd.{FlatEnd}
 use Rattle.flat_machine.specs.Step.{Started, At, fresh, wish, wish_unless, in_state, step_by, flat_step, flat_steps, segment, IsWithin, IsAcquire, WantsLock}
 use Rattle.flat_machine.specs.Phases.{Flat, run_all, begin, finished_by, has_finished, settle, settled, initial, initial_flat}
-use Rattle.flat_machine.specs.Grants.{grant_by, grant_for, can_take, go_on, with_task, resumed, granted_at, granted, granted_if, grants_from, so_far, first_or, first_grant, next_grant, grants_are_whole}
+use Rattle.flat_machine.specs.Grants.{grant_by, grant_for, can_take, go_on, with_task, resumed, granted_at, granted, granted_if, grants_from, so_far, first_grant, next_grant, grants_are_whole}
 use Rattle.rv_core.specs.Ending.{is_waiting, is_trapped, is_spent, outcome_of}
 use Rattle.flat_machine.specs.Ending.{wait_shown, shown_of, task_end, flat_end_of, whole_only, flat_end}
 use Rattle.flat_machine.specs.Laws.{EndsSegment, HasUsedUp, IsOutOfFuel, IsHeldUp, IsEnded}
@@ -383,7 +384,7 @@ run-waiter P fuel gs F leads is =
 
 -- ---- a task that waits when no grant can be taken
 
-first-or_none : (o q : Option Grant) → first_or o q ≡ None → (o ≡ None) × (q ≡ None)
+first-or_none : (o q : Option Grant) → option_or o q ≡ None → (o ≡ None) × (q ≡ None)
 first-or_none None q e = (refl, e)
 first-or_none (Some g) q e = absurd (none-some g (sym e))
 

@@ -1,5 +1,6 @@
 -- Which task can take a grant.
 use Rattle.std.proofs.Common.{◌≡◌, ℕ, ◌+◌, ◌<◌, Bool, true, false, not, cond, nat_lt, List, [], ◌∷◌, length, drop, get_or, position, Option, Some, None, refl, sym, ap, ◌∙◌, subst, arith}
+use Rattle.std.specs.Option.{option_or}
 use Rattle.std.specs.List.{position_or_len}
 use Rattle.std.proofs.lemmas.Bool.Decides.{nat_tests}
 use Rattle.std.proofs.lemmas.List.{at_drop_more}
@@ -13,7 +14,7 @@ use Rattle.rv_core.specs.declared.need.Need as need
 use Rattle.rv_core.specs.Need.{need_of}
 use Rattle.flat_machine.specs.Step.{Started, wish_unless, IsAcquire, WantsLock}
 use Rattle.flat_machine.specs.Phases.{Flat}
-use Rattle.flat_machine.specs.Grants.{grant_by, grant_for, is_grant, can_take, granted_at, granted, grants_from, first_or, first_grant, next_grant}
+use Rattle.flat_machine.specs.Grants.{grant_by, grant_for, is_grant, can_take, granted_at, granted, grants_from, first_grant, next_grant}
 
 -- a task that can take a grant waits for its lock
 pub can_take-waits : (P : ProgramParts) (fuel : ℕ) (tasks : List Started) (g : Grant) (r : Started) → can_take P fuel tasks g r ≡ true → WantsLock P fuel r
@@ -70,7 +71,7 @@ first-place P fuel tasks (r ∷ rs) g e = by_grant (grant_for P fuel tasks r) re
     here true n e = omega arith
     here false n e = absurd (cc)
 
-    by_grant : (o : Option Grant) → grant_for P fuel tasks r ≡ o → first_or o (first_grant P fuel tasks rs) ≡ Some g
+    by_grant : (o : Option Grant) → grant_for P fuel tasks r ≡ o → option_or o (first_grant P fuel tasks rs) ≡ Some g
         → (first_grant P fuel tasks rs ≡ Some g → position_or_len (can_take P fuel tasks g) rs < length rs) → position_or_len (can_take P fuel tasks g) (r ∷ rs) < length (r ∷ rs)
     by_grant None is rest later = by_test (can_take P fuel tasks g r) (position_or_len (can_take P fuel tasks g) rs) (later rest)
     by_grant (Some h) is found later =

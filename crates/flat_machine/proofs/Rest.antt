@@ -104,7 +104,7 @@ open-room fuel retired (Some by) e = absurd (none-some by (sym e))
 pub more-less : (fuel : ℕ) (t u : TaskState) → t.end ≡ None → t.retired ≤ fuel → IsOneMore fuel t u → IsLess fuel t u
 more-less fuel t u opened within h =
     let before = open-room fuel t.retired t.end opened in
-    let after_fetch = open-room fuel u.retired u.end (h.kept ∙ opened) in
+    let after = open-room fuel u.retired u.end (h.kept ∙ opened) in
     let apart = h.unspent in
     let one = h.retired in
     record { room = omega arith; within = λ e. omega arith }
@@ -122,7 +122,7 @@ stopped-some (cause.TheVariants.Trap kind pc value) t e = none-some _ (sym e)
 stopped-less : (fuel : ℕ) (by : End) (t : TaskState) → t.end ≡ None → t.retired ≤ fuel → IsLess fuel t (stopped by t)
 stopped-less fuel by t opened within =
     let before = open-room fuel t.retired t.end opened in
-    let after_fetch = stopped-room fuel by t in
+    let after = stopped-room fuel by t in
     record { room = omega arith; within = λ e. absurd (stopped-some by t e) }
 
 -- a task is at rest, or goes on with less room

@@ -1,5 +1,6 @@
 -- What lists of grants come to.
 use Rattle.std.proofs.Common.{◌≡◌, ◌≢◌, ℕ, ◌+◌, ◌<◌, true, false, cond, is_none, List, [], ◌∷◌, ◌++◌, length, take, get_or, position, Option, Some, None, refl, sym, ap, ◌∙◌, subst, append_assoc, arith}
+use Rattle.std.specs.Option.{option_or}
 use Rattle.std.proofs.lemmas.List.{take_more}
 use Rattle.std.proofs.lemmas.List.Quantifiers.{position-Some}
 use Rattle.std.proofs.lemmas.Option.{none-some, same_Some, slice_get-get_or}
@@ -10,7 +11,7 @@ use Rattle.rv_core.specs.declared.need.Need as need
 use Rattle.flat_machine.specs.declared.ending.FlatEnd.{FlatEnd}
 use Rattle.flat_machine.specs.Step.{Started, wish}
 use Rattle.flat_machine.specs.Phases.{Flat, initial_flat}
-use Rattle.flat_machine.specs.Grants.{grant_by, grant_for, is_grant, can_take, granted_at, granted, granted_if, grants_from, first_or, first_grant, next_grant, IsStoppedAt, IsLeastFrom, IsLeast}
+use Rattle.flat_machine.specs.Grants.{grant_by, grant_for, is_grant, can_take, granted_at, granted, granted_if, grants_from, first_grant, next_grant, IsStoppedAt, IsLeastFrom, IsLeast}
 use Rattle.flat_machine.specs.Ending.{flat_end_of, whole_only, flat_end}
 use Rattle.flat_machine.proofs.Rights.{told}
 use Rattle.flat_machine.proofs.GrantLemmas.{grants-none}
@@ -96,7 +97,7 @@ no-grant P fuel tasks r none = by_wish (wish P fuel r) refl
 no-first : (P : ProgramParts) (fuel : ℕ) (tasks rs : List Started) → length P.locks ≡ 0 → first_grant P fuel tasks rs ≡ None
 no-first P fuel tasks [] none = refl
 no-first P fuel tasks (r ∷ rs) none =
-    ap (λ (o : Option Grant). first_or o (first_grant P fuel tasks rs)) (no-grant P fuel tasks r none) ∙ no-first P fuel tasks rs none
+    ap (λ (o : Option Grant). option_or o (first_grant P fuel tasks rs)) (no-grant P fuel tasks r none) ∙ no-first P fuel tasks rs none
 
 no-place : (P : ProgramParts) (fuel : ℕ) (tasks rs : List Started) (g : Grant) (o : Option ℕ) → length P.locks ≡ 0 → position (can_take P fuel tasks g) rs ≡ o → o ≡ None
 no-place P fuel tasks rs g None none e = refl

@@ -1,5 +1,6 @@
 -- Grants of locks to the tasks of the flat machine.
 use Rattle.std.specs.Prelude.{◌≡◌, ℕ, ◌==◌, Bool, false, ◌&&◌, not, if◌then◌else◌, List, [], ◌∷◌, slice_get, slice_set, take, Option, Some, None, is_none, position}
+use Rattle.std.specs.Option.{option_or}
 use Rattle.std.specs.List.{list_any}
 use Rattle.dn_base.specs.declared.ids.Grant.{Grant}
 use Rattle.dn_base.specs.declared.ids.LockId.{LockId}
@@ -80,13 +81,9 @@ pub record IsStoppedAt (P : ProgramParts) (fuel : ℕ) (F : Flat) (gs : List Gra
   pub illegal : granted P fuel given G ≡ None
 
 -- the first grant that one of these tasks can take
-abbrev pub first_or : Option Grant → Option Grant → Option Grant
-first_or None rest = rest
-first_or (Some g) rest = Some g
-
 abbrev pub first_grant : ProgramParts → ℕ → List Started → List Started → Option Grant
 first_grant P fuel tasks [] = None
-first_grant P fuel tasks (r ∷ rs) = first_or (grant_for P fuel tasks r) (first_grant P fuel tasks rs)
+first_grant P fuel tasks (r ∷ rs) = option_or (grant_for P fuel tasks r) (first_grant P fuel tasks rs)
 
 -- the grant to the least core whose wanted lock is free; None where the run is over or each waiting task's lock is held
 unfoldable pub next_grant : ProgramParts → ℕ → Flat → Option Grant

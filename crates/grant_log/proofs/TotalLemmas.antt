@@ -6,13 +6,13 @@ use Rattle.std.proofs.lemmas.List.{get_or-replicate}
 use Rattle.std.proofs.lemmas.List.Sums.{sum_by-set, sum_by-cons}
 use Rattle.message_net.specs.declared.event.EventKind as kind
 use Rattle.message_net.specs.declared.event.EventKind.{EventKind}
-use Rattle.message_net.specs.Kind.{kind_place}
+use Rattle.message_net.specs.Kind.{kind_index}
 use Rattle.grant_log.specs.declared.counts.Counts.{Counts}
 use Rattle.grant_log.specs.Counts.{same_kind, kind_count, no_counts, added, AreCounts}
 use Rattle.grant_log.proofs.CountLemmas.{raises, place_within, length-added}
 
 -- what is true at the place of each kind is true at each of the seventeen places
-every_place : (P : ℕ → Type 0) → ((k : EventKind) → P (kind_place k)) → (i : ℕ) → i < 17 → P i
+every_place : (P : ℕ → Type 0) → ((k : EventKind) → P (kind_index k)) → (i : ℕ) → i < 17 → P i
 every_place P all zero within = all kind.TheVariants.Instr
 every_place P all (suc zero) within = all kind.TheVariants.Evict
 every_place P all (suc (suc zero)) within = all kind.TheVariants.Arrive
@@ -35,8 +35,8 @@ every_place P all (suc (suc (suc (suc (suc (suc (suc (suc (suc (suc (suc (suc (s
 -- one more event makes all counts one more
 pub one_more_in_all : (k : EventKind) (counts : Counts) → length counts.kinds ≡ 17 → sum (added k counts).kinds ≡ sum counts.kinds + 1
 one_more_in_all k counts all =
-    let place : kind_place k < length counts.kinds = rw all (place_within k) in
-    omega (arith, sum_by-set (λ n. n) counts.kinds (kind_place k) (kind_count k counts + 1) 0 place)
+    let place : kind_index k < length counts.kinds = rw all (place_within k) in
+    omega (arith, sum_by-set (λ n. n) counts.kinds (kind_index k) (kind_count k counts + 1) 0 place)
 
 -- the counts of a list, event by event
 abbrev counted : List EventKind → Counts
@@ -50,7 +50,7 @@ counted-all (k ∷ kinds) = length-added k (counted kinds) ∙ counted-all kinds
 counted-told : (kinds : List EventKind) → AreCounts kinds (counted kinds)
 counted-told [] j = none j where
   none : (j : EventKind) → kind_count j no_counts ≡ 0
-  none j = get_or-replicate 17 (kind_place j) 0 0 (place_within j)
+  none j = get_or-replicate 17 (kind_index j) 0 0 (place_within j)
 counted-told (k ∷ kinds) j =
     raises j k (counted kinds) (counted-all kinds)
     ∙ omega (arith, counted-told kinds j, sum_by-cons (λ x. cond (same_kind j x) 1 0) k kinds)

@@ -1,7 +1,7 @@
 -- How many events of each kind there are.
 use Rattle.std.specs.Prelude.{ℕ, ◌≡◌, ◌+◌, ◌==◌, Bool, List, count_by, slice_index_or, slice_set, replicate}
 use Rattle.message_net.specs.declared.event.EventKind.{EventKind}
-use Rattle.message_net.specs.Kind.{kind_place}
+use Rattle.message_net.specs.Kind.{kind_index}
 use Rattle.grant_log.specs.declared.counts.Counts.{Counts}
 
 -- whether two kinds are one

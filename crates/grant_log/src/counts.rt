@@ -22,7 +22,7 @@ impl Counts {
     pub fn count(&self, kind: EventKind) -> u64
         ensures { result ≡ kind_count kind self.now }
     {
-        self.kinds[kind.place()]
+        self.kinds[kind.index()]
     }
 
     /// One more event of this kind. Its count is below the greatest of its type.
@@ -30,7 +30,7 @@ impl Counts {
         requires { kind_count kind self.old < 18446744073709551615 }
         ensures { self.new ≡ added kind self.old }
     {
-        self.kinds[kind.place()] += 1;
+        self.kinds[kind.index()] += 1;
     }
 
     /// The counts of these entries.

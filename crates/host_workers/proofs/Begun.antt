@@ -13,7 +13,7 @@ use Rattle.machine_rules.specs.State.{State}
 use Rattle.bank_hall.specs.declared.posted.Posted.{Posted}
 use Rattle.bank_hall.specs.declared.bank.Handled.{Handled}
 use Rattle.bank_hall.specs.Note.{KeeperNote}
-use Rattle.bank_hall.specs.Stamps.{has_numbers_left as may_go}
+use Rattle.bank_hall.specs.Stamps.{has_numbers_left}
 use Rattle.round_rules.specs.Members.{ActorParts, NodeIs, Member}
 use Rattle.round_rules.specs.Steps.{Done, Goes, clock_after}
 use Rattle.round_rules.specs.Acts.{Act, Stepped, Kept, is_act_of}
@@ -42,16 +42,16 @@ node-back _ = None
 
 -- where a worker goes on with a core whose first take gave nothing, the core's own event comes next
 own-next : (C : Setting) (S : State) (core : CoreId) (o : Owned) (rest : List Act) (first : List Act) → slice_get S.nodes core.0 ≡ Some o.node → owned_has_numbers o ≡ true
-    → (p : IsCorePass C first core (held_of o)) → OwnComesNext C S core p.taken (own_acts core (may_go (clock_after o.clock (taken_steps p.taken)) p.next) (own_event C p.node) p.done ++ rest)
+    → (p : IsCorePass C first core (held_of o)) → OwnComesNext C S core p.taken (own_acts core (has_numbers_left (clock_after o.clock (taken_steps p.taken)) p.next) (own_event C p.node) p.done ++ rest)
 own-next C S core o rest first at goes p = by p.taken p.handled where
   by : (taken : Option (Posted × Done)) → Goes C (Core core) o.clock (held_member (held_of o)) (taken_steps taken) (record { parts = NodeIs p.node; next = p.next })
-      → OwnComesNext C S core taken (own_acts core (may_go (clock_after o.clock (taken_steps taken)) p.next) (own_event C p.node) p.done ++ rest)
+      → OwnComesNext C S core taken (own_acts core (has_numbers_left (clock_after o.clock (taken_steps taken)) p.next) (own_event C p.node) p.done ++ rest)
   by (Some t) went = tt
   by None same = λ n e there own.
       let node : o.node ≡ p.node = same-some o.node p.node (ap (λ (m : Member). node-back m.parts) same) in
       let next : o.next ≡ p.next = ap (λ (m : Member). m.next) same in
       let is : o.node ≡ n = same-some o.node n (sym at ∙ there) in
-      let may : may_go o.clock p.next ≡ true = ap (may_go o.clock) (sym next) ∙ goes in
+      let may : has_numbers_left o.clock p.next ≡ true = ap (has_numbers_left o.clock) (sym next) ∙ goes in
       let event : own_event C p.node ≡ Some e = ap (own_event C) (sym node ∙ is) ∙ own in
       (p.done, rest, ap (λ b. own_acts core b (own_event C p.node) p.done ++ rest) may ∙ ap (λ o. own_acts core true o p.done ++ rest) event)
 
@@ -79,14 +79,14 @@ module _ (S M : State) (made workers : ℕ) (f : Finished) (left : IsRoundLeft S
       let next : o.0.next < 4294967000 =
       subst (λ n. n < 4294967000) (ap (λ l. slice_index l core.0) (sym (together.same-numbers S M made workers f left)) ∙ sym fresh.next_is) (reached-numbers C S core.0 few-cores left.stands.reached) in
       let goes : owned_has_numbers o.0 ≡ true =
-      ap (λ n. may_go n o.0.next) fresh.clock ∙ ap (λ b. nat_lt 0 (2 ^ 63) && b) (is-below o.0.next 4294967000 next) in
+      ap (λ n. has_numbers_left n o.0.next) fresh.clock ∙ ap (λ b. nat_lt 0 (2 ^ 63) && b) (is-below o.0.next 4294967000 next) in
       let pass : IsCorePass C acts.0 core (held_of o.0) = subst (λ c. IsCorePass C acts.0 c (held_of o.0)) is ((w.begun.turns first.0 o.0 before).turn goes) in
       let node : slice_get S.nodes core.0 ≡ Some o.0.node = ap (λ l. slice_get l core.0) (sym (together.same-nodes S M made workers f left)) ∙ fresh.node in
       let later = filter (is_act_of (Core core)) acts.1 in
       record {
         pick = pass.pick;
         taken = pass.taken;
-        rest = own_acts core (may_go (clock_after o.0.clock (taken_steps pass.taken)) pass.next) (own_event C pass.node) pass.done ++ later;
+        rest = own_acts core (has_numbers_left (clock_after o.0.clock (taken_steps pass.taken)) pass.next) (own_event C pass.node) pass.done ++ later;
         acts = filter-append (is_act_of (Core core)) acts.0 acts.1 ∙ ap (λ l. l ++ later) pass.acts_are;
         own = own-next C S core o.0 later acts.0 node goes pass;
       }

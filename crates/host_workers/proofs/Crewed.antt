@@ -21,7 +21,7 @@ use Rattle.host_workers.specs.declared.crew.BankLog.{BankLog}
 use Rattle.host_workers.specs.declared.crew.Crew.{Crew}
 use Rattle.host_workers.specs.declared.owned.Owned.{Owned}
 use Rattle.host_workers.specs.Crews.{held_of, owned_core, bank_of, owned_has_numbers, keeper_log, IsOwned, IsCrew}
-use Rattle.host_workers.specs.Work.{AreOf, IsCoreServed, IsStepped, IsKeeperServed, HasDone, HaveDone, Each, in_one_list}
+use Rattle.host_workers.specs.Work.{AreOf, IsCoreServed, IsStepped, IsKeeperServed, HasDoneActs, HaveDone, Each, in_one_list}
 use Rattle.host_workers.specs.Pass.{actors_of, tries_by, IsActOf, IsKeptOf, HasMore, HasWorked}
 use Rattle.host_workers.proofs.Calls.{acted-both}
 use Rattle.host_workers.proofs.Filters.{filter-own, filter-other, gone-by, turn-by}
@@ -195,7 +195,7 @@ module _ (C : Setting) (a b c d : PassView) (had has : Crew) (m n k : ℕ)
     (crew : IsCrew C had)
     (served : HaveDone (IsCoreServed C) C a b had.cores.items has.cores.items m)
     (stepped : HaveDone (IsStepped C) C b c had.banks.items has.banks.items n)
-    (kept : HasDone (IsKeeperServed C) C c d (keeper_log had) (keeper_log has) k) where
+    (kept : HasDoneActs (IsKeeperServed C) C c d (keeper_log had) (keeper_log has) k) where
   abbrev all_acts : List Act
   all_acts = (in_one_list served.parts ++ in_one_list stepped.parts) ++ kept.acts
 

@@ -1,5 +1,6 @@
 -- How a table of ends stands in a place after more ends were noted in it.
 use Rattle.std.proofs.Common.{◌≡◌, ℕ, zero, suc, ◌+◌, ◌*◌, ◌<◌, ◌≤◌, ◌==◌, Bool, true, false, cond, List, [], ◌∷◌, length, slice_get, set, Option, Some, None, refl, sym, ap, subst, ◌∙◌, arith}
+use Rattle.std.specs.Option.{option_or}
 use Rattle.std.specs.List.{filter_map, cons_option}
 use Rattle.std.proofs.lemmas.Bool.Decides.{nat_tests}
 use Rattle.std.proofs.lemmas.Option.{none-some, same_Some, slice_get_within}
@@ -8,7 +9,7 @@ use Rattle.rv_core.specs.declared.ending.TaskEnd.{TaskEnd}
 use Rattle.rv_core.specs.declared.task.TaskState.{TaskState}
 use Rattle.registration_protocol.specs.Node.{NodeParts}
 use Rattle.registration_protocol.specs.OwnEvents.{end_of, end_by, shown_by}
-use Rattle.machine_rules.specs.Runs.{newer_or, end_in_phase}
+use Rattle.machine_rules.specs.Runs.{end_in_phase}
 use Rattle.dn_machine.specs.Ends.{EndTable, end_index, with_end}
 use Rattle.host_workers.specs.Ends.{with_ends, node_standing}
 
@@ -65,22 +66,22 @@ own-place table x phase core old in_phase of_core is =
 
 -- how a node's task stands is noted in the place of its phase and core, if it is anywhere
 pub own-noted : (table : EndTable) (n : NodeParts) (phase core : ℕ) (old : Option TaskEnd) → n.core ≡ core → core < 16 → slice_get table (end_index phase core) ≡ Some old
-    → slice_get (with_end (node_standing n) table) (end_index phase core) ≡ Some (newer_or (end_in_phase phase (Some n)) old)
+    → slice_get (with_end (node_standing n) table) (end_index phase core) ≡ Some (option_or (end_in_phase phase (Some n)) old)
 own-noted table n phase core old place small is = by_end (node_standing n) refl where
   none_in : node_standing n ≡ None → (t : Bool) → cond t (node_standing n) None ≡ None
   none_in none true = none
   none_in none false = refl
 
   by_test : (x : TaskEnd) (t : Bool) → node_standing n ≡ Some x → IsEndOf n x → (n.phase == phase) ≡ t
-      → slice_get (with_end (Some x) table) (end_index phase core) ≡ Some (newer_or (cond t (node_standing n) None) old)
+      → slice_get (with_end (Some x) table) (end_index phase core) ≡ Some (option_or (cond t (node_standing n) None) old)
   by_test x true e of test =
       let here : x.phase.0 ≡ phase = grind (arith, nat_tests, of.phase, test) in
-      own-place table x phase core old here (of.core ∙ place) is ∙ ap (λ (o : Option TaskEnd). Some (newer_or o old)) (sym e)
+      own-place table x phase core old here (of.core ∙ place) is ∙ ap (λ (o : Option TaskEnd). Some (option_or o old)) (sym e)
   by_test x false e of test =
       other-place table x phase core (omega (arith, of.core, place, small)) small (λ same _. absurd (let hit : (n.phase == phase) ≡ true = grind (arith, nat_tests, of.phase, same) in cc)) ∙ is
 
-  by_end : (o : Option TaskEnd) → node_standing n ≡ o → slice_get (with_end o table) (end_index phase core) ≡ Some (newer_or (end_in_phase phase (Some n)) old)
-  by_end None e = is ∙ ap (λ (o : Option TaskEnd). Some (newer_or o old)) (sym (none_in e (n.phase == phase)))
+  by_end : (o : Option TaskEnd) → node_standing n ≡ o → slice_get (with_end o table) (end_index phase core) ≡ Some (option_or (end_in_phase phase (Some n)) old)
+  by_end None e = is ∙ ap (λ (o : Option TaskEnd). Some (option_or o old)) (sym (none_in e (n.phase == phase)))
   by_end (Some x) e = by_test x (n.phase == phase) e (end-of n x e) refl
 
 -- how another core's task stands is noted elsewhere
@@ -129,7 +130,7 @@ none-noted first (n ∷ ns) table phase core from small other =
 -- a core that is one of them
 pub one-noted : (first : ℕ) (ns : List NodeParts) (table : EndTable) (phase i : ℕ) (n : NodeParts) (old : Option TaskEnd) → AreFrom first ns → slice_get ns i ≡ Some n
     → slice_get table (end_index phase (first + i)) ≡ Some old
-    → slice_get (with_ends (filter_map node_standing ns) table) (end_index phase (first + i)) ≡ Some (newer_or (end_in_phase phase (Some n)) old)
+    → slice_get (with_ends (filter_map node_standing ns) table) (end_index phase (first + i)) ≡ Some (option_or (end_in_phase phase (Some n)) old)
 one-noted first [] table phase i n old from there is = absurd (none-some n there)
 one-noted first (m ∷ ns) table phase zero n old from there is =
     let none : first + 0 ≡ first = omega arith in
@@ -138,7 +139,7 @@ one-noted first (m ∷ ns) table phase zero n old from there is =
     ap (λ (t : EndTable). slice_get t (end_index phase (first + 0))) (nodes-noted m ns table)
     ∙ (none-noted (first + 1) ns (with_end (node_standing m) table) phase (first + 0) (from-next first m ns from) (omega (arith, from.few)) (λ i inside is. omega (arith, is))
     ∙ (own-noted table m phase (first + 0) old (omega (arith, at)) (omega (arith, from.few)) is
-    ∙ ap (λ (x : NodeParts). Some (newer_or (end_in_phase phase (Some x)) old)) same))
+    ∙ ap (λ (x : NodeParts). Some (option_or (end_in_phase phase (Some x)) old)) same))
 one-noted first (m ∷ ns) table phase (suc i) n old from there is =
     let on : first + 1 + i ≡ first + suc i = omega arith in
     let at = from-first first m ns from in
@@ -146,6 +147,6 @@ one-noted first (m ∷ ns) table phase (suc i) n old from there is =
     let kept : slice_get (with_end (node_standing m) table) (end_index phase (first + suc i)) ≡ Some old =
     other-noted table m phase (first + suc i) (omega (arith, at, from.few)) (omega (arith, from.few, inside)) (λ same. omega (arith, same, at)) ∙ is in
     ap (λ (t : EndTable). slice_get t (end_index phase (first + suc i))) (nodes-noted m ns table)
-    ∙ subst (λ (c : ℕ). slice_get (with_ends (filter_map node_standing ns) (with_end (node_standing m) table)) (end_index phase c) ≡ Some (newer_or (end_in_phase phase (Some n)) old)) on
+    ∙ subst (λ (c : ℕ). slice_get (with_ends (filter_map node_standing ns) (with_end (node_standing m) table)) (end_index phase c) ≡ Some (option_or (end_in_phase phase (Some n)) old)) on
     (one-noted (first + 1) ns (with_end (node_standing m) table) phase i n old (from-next first m ns from) there
     (subst (λ (c : ℕ). slice_get (with_end (node_standing m) table) (end_index phase c) ≡ Some old) (sym on) kept))

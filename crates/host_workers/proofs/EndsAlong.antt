@@ -1,6 +1,6 @@
 -- Along a run the table of the ends with which tasks arrived has of each task what is noted of it.
 use Rattle.std.proofs.Common.{◌≡◌, ◌⊎◌, inl, inr, ℕ, zero, suc, ◌+◌, ◌*◌, ◌<◌, ◌≤◌, ◌==◌, Bool, true, false, List, [], ◌∷◌, ◌++◌, length, replicate, slice_get, Option, Some, None, refl, sym, ap, subst, ◌∙◌, arith, append_assoc}
-use Rattle.std.specs.Option.{is_some}
+use Rattle.std.specs.Option.{is_some, option_or}
 use Rattle.std.proofs.lemmas.Bool.Decides.{nat_tests}
 use Rattle.std.proofs.lemmas.Option.{same_Some, slice_get_within}
 use Rattle.region_table.specs.Tasks.{declared}
@@ -9,7 +9,7 @@ use Rattle.message_net.specs.declared.event.Event.{Event}
 use Rattle.registration_protocol.specs.Node.{NodeParts, Setting}
 use Rattle.machine_rules.specs.State.{State, initial_state}
 use Rattle.machine_rules.specs.Next.{next, enabled}
-use Rattle.machine_rules.specs.Runs.{after, IsRun, read_off, newer_or, end_in_phase, last_end}
+use Rattle.machine_rules.specs.Runs.{after, IsRun, read_off, end_in_phase, last_end}
 use Rattle.machine_rules.specs.Sound.{IsReady, IsMachine}
 use Rattle.machine_rules.proofs.OpenedFacts.{opened-setting, opened-node}
 use Rattle.machine_rules.proofs.RunsKept.{memory_over, same-setting, run-setting}
@@ -25,26 +25,26 @@ use Rattle.host_workers.proofs.EndsMoved.{Way, Stayed, Began, Arrived, MovesNode
 
 -- ---- how a task stood last
 
-later-twice : {X : Type 0} (a b c : Option X) → newer_or (newer_or a b) c ≡ newer_or a (newer_or b c)
+later-twice : {X : Type 0} (a b c : Option X) → option_or (option_or a b) c ≡ option_or a (option_or b c)
 later-twice None b c = refl
 later-twice (Some x) b c = refl
 
-later-same : {X : Type 0} (a : Option X) → a ≡ newer_or a a
+later-same : {X : Type 0} (a : Option X) → a ≡ option_or a a
 later-same None = refl
 later-same (Some x) = refl
 
 last-more : (phase core : ℕ) (S : State) (events : List Event) (e : Event)
-    → last_end phase core S (events ++ e ∷ []) ≡ newer_or (end_in_phase phase (slice_get (next (after S events) e).nodes core)) (last_end phase core S events)
+    → last_end phase core S (events ++ e ∷ []) ≡ option_or (end_in_phase phase (slice_get (next (after S events) e).nodes core)) (last_end phase core S events)
 last-more phase core S [] e = refl
 last-more phase core S (x ∷ xs) e =
-    ap (λ (o : Option TaskEnd). newer_or o (end_in_phase phase (slice_get S.nodes core))) (last-more phase core (next S x) xs e)
+    ap (λ (o : Option TaskEnd). option_or o (end_in_phase phase (slice_get S.nodes core))) (last-more phase core (next S x) xs e)
     ∙ later-twice (end_in_phase phase (slice_get (next (after (next S x) xs) e).nodes core)) (last_end phase core (next S x) xs) (end_in_phase phase (slice_get S.nodes core))
 
 pub last-shown : (phase core : ℕ) (S : State) (events : List Event)
-    → last_end phase core S events ≡ newer_or (end_in_phase phase (slice_get (after S events).nodes core)) (last_end phase core S events)
+    → last_end phase core S events ≡ option_or (end_in_phase phase (slice_get (after S events).nodes core)) (last_end phase core S events)
 last-shown phase core S [] = later-same (end_in_phase phase (slice_get S.nodes core))
 last-shown phase core S (x ∷ xs) =
-    ap (λ (o : Option TaskEnd). newer_or o (end_in_phase phase (slice_get S.nodes core))) (last-shown phase core (next S x) xs)
+    ap (λ (o : Option TaskEnd). option_or o (end_in_phase phase (slice_get S.nodes core))) (last-shown phase core (next S x) xs)
     ∙ later-twice (end_in_phase phase (slice_get (after (next S x) xs).nodes core)) (last_end phase core (next S x) xs) (end_in_phase phase (slice_get S.nodes core))
 
 -- ---- what the table has of a core's task of a phase
@@ -65,21 +65,21 @@ pub record AreNoted (S : State) (events : List Event) (table : EndTable) : Type 
 -- ---- one event more
 
 -- a node that stays what it was
-same-node : (phase : ℕ) (o : Option NodeParts) (there : Option (Option TaskEnd)) (last : Option TaskEnd) → last ≡ newer_or (end_in_phase phase o) last → IsNotedAt phase o there last
-    → IsNotedAt phase o there (newer_or (end_in_phase phase o) last)
+same-node : (phase : ℕ) (o : Option NodeParts) (there : Option (Option TaskEnd)) (last : Option TaskEnd) → last ≡ option_or (end_in_phase phase o) last → IsNotedAt phase o there last
+    → IsNotedAt phase o there (option_or (end_in_phase phase o) last)
 same-node phase o there last shown noted = subst (IsNotedAt phase o there) shown noted
 
 -- the node that the event changes
 own-node : (table : EndTable) (told : Option TaskEnd) (phase core : ℕ) (n m : NodeParts) (last : Option TaskEnd) → n.core ≡ core → core < 16 → (m.phase ≡ n.phase → m.task ≡ None → n.task ≡ None)
     → IsLast phase n last → Way n m told → IsNotedAt phase (Some n) (slice_get table (end_index phase core)) last
-    → IsNotedAt phase (Some m) (slice_get (with_end told table) (end_index phase core)) (newer_or (end_in_phase phase (Some m)) last)
+    → IsNotedAt phase (Some m) (slice_get (with_end told table) (end_index phase core)) (option_or (end_in_phase phase (Some m)) last)
 own-node table told phase core n m last place small tasks shown (Stayed none stays) noted =
     rw none (record { seen = noted.seen; is = noted.is; noted = stays-noted phase n m noted.seen last (tasks stays.phase) stays shown noted.noted })
 own-node table told phase core n m last place small tasks shown (Began none begins) noted =
     rw none (record { seen = noted.seen; is = noted.is; noted = begins-noted phase n m noted.seen last begins noted.noted })
 own-node table told phase core n m last place small tasks shown (Arrived ended arrives) noted =
     rw ended (record {
-      seen = newer_or (end_in_phase phase (Some n)) noted.seen;
+      seen = option_or (end_in_phase phase (Some n)) noted.seen;
       is = own-noted table n phase core noted.seen place small noted.is;
       noted = arrives-noted phase n m noted.seen last arrives shown noted.noted;
     })
@@ -106,15 +106,15 @@ seated S machine most =
     }
 
 event-noted : (S T : State) (told : Option TaskEnd) (table : EndTable) (phase core : ℕ) (last : Option TaskEnd) → AreSeated S → AreSeated T → T.setting ≡ S.setting → core < 16
-    → last ≡ newer_or (end_in_phase phase (slice_get S.nodes core)) last
+    → last ≡ option_or (end_in_phase phase (slice_get S.nodes core)) last
     → LeavesNodes S T told ⊎ MovesNode S T told
     → IsNotedAt phase (slice_get S.nodes core) (slice_get table (end_index phase core)) last
-    → IsNotedAt phase (slice_get T.nodes core) (slice_get (with_end told table) (end_index phase core)) (newer_or (end_in_phase phase (slice_get T.nodes core)) last)
+    → IsNotedAt phase (slice_get T.nodes core) (slice_get (with_end told table) (end_index phase core)) (option_or (end_in_phase phase (slice_get T.nodes core)) last)
 event-noted S T told table phase core last before now setting small shown (inl leaves) noted =
     rw (leaves.none, leaves.nodes) (same-node phase (slice_get S.nodes core) (slice_get table (end_index phase core)) last shown noted)
 event-noted S T told table phase core last before now setting small shown (inr moves) noted = by_core (moves.core == core) refl where
   by_core : (t : Bool) → (moves.core == core) ≡ t
-      → IsNotedAt phase (slice_get T.nodes core) (slice_get (with_end told table) (end_index phase core)) (newer_or (end_in_phase phase (slice_get T.nodes core)) last)
+      → IsNotedAt phase (slice_get T.nodes core) (slice_get (with_end told table) (end_index phase core)) (option_or (end_in_phase phase (slice_get T.nodes core)) last)
   by_core false test =
       let stays : slice_get T.nodes core ≡ slice_get S.nodes core = rw (test) at (moves.nodes core) in
       let low : moves.old.core < 16 = omega (arith, before.place moves.core moves.old moves.found, slice_get_within S.nodes moves.core moves.old moves.found, before.few) in

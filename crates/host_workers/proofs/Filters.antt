@@ -11,7 +11,7 @@ use Rattle.message_net.proofs.PoolLemmas.{same_actor-true}
 use Rattle.registration_protocol.specs.Node.{Setting}
 use Rattle.round_rules.specs.Acts.{Act, Took, Made, Stepped, Kept, is_act_of, core_step, events_in, note_of}
 use Rattle.round_rules.specs.Steps.{Goes, clock_after}
-use Rattle.bank_hall.specs.Stamps.{has_numbers_left as may_go}
+use Rattle.bank_hall.specs.Stamps.{has_numbers_left}
 use Rattle.round_rules.specs.Passes.{Held, HasGone, IsCorePass, end_seen, held_member, own_acts}
 use Rattle.registration_protocol.specs.OwnEvents.{own_event}
 use Rattle.host_workers.specs.Deeds.{HasMoved, step_note, step_end}
@@ -81,5 +81,5 @@ turn-by C core acts own had is turn = record {
   node = turn.between.node;
   next = turn.between.next;
   handled = turn.handled.goes;
-  acts_are = is ∙ (turn.acts_are ∙ ap (λ clock. Took core turn.pick turn.taken ∷ own_acts core (may_go clock turn.between.next) (own_event C turn.between.node) turn.done) turn.handled.clock);
+  acts_are = is ∙ (turn.acts_are ∙ ap (λ clock. Took core turn.pick turn.taken ∷ own_acts core (has_numbers_left clock turn.between.next) (own_event C turn.between.node) turn.done) turn.handled.clock);
 }

@@ -1,7 +1,7 @@
 -- After a complete run the ends with which tasks arrived, and then how the tasks of its last state stand, are how all tasks stood
 -- last.
 use Rattle.std.proofs.Common.{◌≡◌, ◌⊎◌, inl, inr, ℕ, zero, suc, ◌+◌, ◌<◌, ◌≤◌, Bool, true, false, List, [], ◌∷◌, length, slice_get, Option, Some, None, refl, sym, ap, subst, ◌∙◌, arith}
-use Rattle.std.specs.Option.{is_some}
+use Rattle.std.specs.Option.{is_some, option_or}
 use Rattle.std.proofs.lemmas.Option.{same_Some}
 use Rattle.dn_base.specs.declared.ids.LockId.{LockId}
 use Rattle.rv_core.specs.declared.ending.TaskEnd.{TaskEnd}
@@ -18,7 +18,7 @@ use Rattle.machine_rules.specs.State.{State, initial_state}
 use Rattle.machine_rules.specs.Next.{enabled, when_there}
 use Rattle.machine_rules.specs.Flight.{is_go_to}
 use Rattle.machine_rules.specs.Rest.{HasOpenTask, IsAtRest}
-use Rattle.machine_rules.specs.Runs.{after, IsOver, IsCompleteRun, read_off, newer_or, end_in_phase, last_end}
+use Rattle.machine_rules.specs.Runs.{after, IsOver, IsCompleteRun, read_off, end_in_phase, last_end}
 use Rattle.machine_rules.specs.Sound.{IsReady}
 use Rattle.machine_rules.proofs.Invariant.{Invariant}
 use Rattle.machine_rules.proofs.OpenedFacts.{opened-setting}
@@ -97,22 +97,22 @@ work-shown S M c n inv over rests found absent low = by_halted n.halted refl whe
 -- ---- the last state
 
 -- a core's task in a phase, by its node
-last-by : (phase : ℕ) (n : NodeParts) (seen last : Option TaskEnd) → (n.phase ≡ phase → n.arrived ≡ false → is_some (node_standing n) ≡ true) → last ≡ newer_or (end_in_phase phase (Some n)) last
-    → IsNoted phase n seen last → newer_or (end_in_phase phase (Some n)) seen ≡ last
+last-by : (phase : ℕ) (n : NodeParts) (seen last : Option TaskEnd) → (n.phase ≡ phase → n.arrived ≡ false → is_some (node_standing n) ≡ true) → last ≡ option_or (end_in_phase phase (Some n)) last
+    → IsNoted phase n seen last → option_or (end_in_phase phase (Some n)) seen ≡ last
 last-by phase n seen last works shown noted = by_place (grind arith) where
-  apart : (n.phase ≡ phase → ⊥) → seen ≡ last → newer_or (end_in_phase phase (Some n)) seen ≡ last
-  apart other same = ap (λ (o : Option TaskEnd). newer_or o seen) (out-of-phase phase n other) ∙ same
+  apart : (n.phase ≡ phase → ⊥) → seen ≡ last → option_or (end_in_phase phase (Some n)) seen ≡ last
+  apart other same = ap (λ (o : Option TaskEnd). option_or o seen) (out-of-phase phase n other) ∙ same
 
-  by_end : (o : Option TaskEnd) → end_in_phase phase (Some n) ≡ o → is_some o ≡ true → last ≡ newer_or o last → newer_or o seen ≡ last
+  by_end : (o : Option TaskEnd) → end_in_phase phase (Some n) ≡ o → is_some o ≡ true → last ≡ option_or o last → option_or o seen ≡ last
   by_end None is some there = absurd (cc)
   by_end (Some e) is some there = sym there
 
-  by_arrived : n.phase ≡ phase → (b : Bool) → n.arrived ≡ b → newer_or (end_in_phase phase (Some n)) seen ≡ last
-  by_arrived same true there = ap (newer_or (end_in_phase phase (Some n))) (noted.here same there) ∙ sym shown
+  by_arrived : n.phase ≡ phase → (b : Bool) → n.arrived ≡ b → option_or (end_in_phase phase (Some n)) seen ≡ last
+  by_arrived same true there = ap (option_or (end_in_phase phase (Some n))) (noted.here same there) ∙ sym shown
   by_arrived same false away =
       by_end (end_in_phase phase (Some n)) refl (ap is_some (in-phase phase n same) ∙ works same away) shown
 
-  by_place : (phase < n.phase) ⊎ (n.phase ≡ phase) ⊎ (n.phase < phase) → newer_or (end_in_phase phase (Some n)) seen ≡ last
+  by_place : (phase < n.phase) ⊎ (n.phase ≡ phase) ⊎ (n.phase < phase) → option_or (end_in_phase phase (Some n)) seen ≡ last
   by_place (inl past) = apart (λ same. omega (arith, same, past)) (noted.past past)
   by_place (inr (inl same)) = by_arrived same n.arrived refl
   by_place (inr (inr ahead)) = apart (λ same. omega (arith, same, ahead)) (noted.ahead ahead ∙ sym (noted.never ahead))
@@ -158,12 +158,12 @@ ends-noted C events ready most complete phase core low small = by_node (slice_ge
       ∙ (at_none.is ∙ ap (λ (o : Option TaskEnd). Some o) (at_none.noted.0 ∙ sym at_none.noted.1))
   by_node (Some n) found at =
       let at_some : IsNotedAt phase (Some n) (slice_get table (end_index phase core)) last = subst (λ (o : Option NodeParts). IsNotedAt phase o (slice_get table (end_index phase core)) last) found at in
-      let shown : last ≡ newer_or (end_in_phase phase (Some n)) last =
-      subst (λ (o : Option NodeParts). last ≡ newer_or (end_in_phase phase o) last) found (last-shown phase core (initial_state C) events) in
+      let shown : last ≡ option_or (end_in_phase phase (Some n)) last =
+      subst (λ (o : Option NodeParts). last ≡ option_or (end_in_phase phase o) last) found (last-shown phase core (initial_state C) events) in
       let phases : length S.setting.program.phases ≡ length (initial_state C).setting.program.phases = ap (λ (D : Setting). length D.program.phases) setting in
       let works : n.phase ≡ phase → n.arrived ≡ false → is_some (node_standing n) ≡ true =
       λ same absent. work-shown S (memory_over (first_memory C) (initial_state C) events) core n inv complete.over (run-rests C events ready complete) found absent (omega (arith, same, low, phases)) in
       let none : 0 + core ≡ core = omega arith in
-      subst (λ (c : ℕ). slice_get (with_ends (last_ends S) table) (end_index phase c) ≡ Some (newer_or (end_in_phase phase (Some n)) at_some.seen)) none
+      subst (λ (c : ℕ). slice_get (with_ends (last_ends S) table) (end_index phase c) ≡ Some (option_or (end_in_phase phase (Some n)) at_some.seen)) none
       (one-noted 0 S.nodes table phase core n at_some.seen from found (subst (λ (c : ℕ). slice_get table (end_index phase c) ≡ Some at_some.seen) (sym none) at_some.is))
       ∙ ap (λ (o : Option TaskEnd). Some o) (last-by phase n at_some.seen last works shown at_some.noted)

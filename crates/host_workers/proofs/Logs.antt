@@ -18,7 +18,7 @@ use Rattle.machine_rules.specs.Flight.{bit}
 use Rattle.round_rules.specs.Members.{Member, Deed, Handles, Makes, IsIn, member}
 use Rattle.round_rules.specs.Steps.{Step, Done, stamp_of, deed_stamp, Goes}
 use Rattle.round_rules.specs.Acts.{note_of, events_by, notes_by, steps_by}
-use Rattle.round_rules.specs.Rounds.{Round, owner, actors, bank_at, bank_in, keeper_in, AreClosed, HaveWorked, IsMerged}
+use Rattle.round_rules.specs.Rounds.{Round, owner, actors, bank_at, bank_in, keeper_in, IsHallClosed, HaveWorked, IsMerged}
 use Rattle.round_rules.proofs.Actors.{actor-once, all-inside, each-actor}
 use Rattle.round_rules.proofs.Joining.{noted, bank-history, keeper-history}
 use Rattle.round_rules.proofs.Numbers.{below-bound}
@@ -76,7 +76,7 @@ actors-differ C = differ (actors C) (λ a. few (has_actor C.shape.cores C.shape.
   few true is = omega (arith, is)
   few false is = omega (arith, is)
 
-module _ (C : Setting) (S T : State) (r : Round) (some : 1 ≤ r.workers) (worked : HaveWorked C S T r) (closed : AreClosed C S T r) (machine : IsMachine S) (setting : S.setting ≡ C) where
+module _ (C : Setting) (S T : State) (r : Round) (some : 1 ≤ r.workers) (worked : HaveWorked C S T r) (closed : IsHallClosed C S T r) (machine : IsMachine S) (setting : S.setting ≡ C) where
   -- what the steps of an actor tell is its log
   steps-log : (a : Actor) (x : Member) (ss : List Step) (y : Member) → Goes C a 0 x ss y → map step_done ss ≡ events_by C.shape a (r.work (owner r.workers a)) → IsLogOf a (log_of C r a)
   steps-log a x ss y goes told = subst (IsLogOf a) (noted ss ∙ ap (map note_of) told) (goes-log C a x ss y goes)

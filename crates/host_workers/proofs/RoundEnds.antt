@@ -17,7 +17,7 @@ use Rattle.round_rules.specs.Members.{IsIn}
 use Rattle.round_rules.specs.Steps.{Done}
 use Rattle.round_rules.specs.Acts.{Act, Took, Made, Stepped, Kept, is_act_of, actor_of, events_in, events_by, note_of}
 use Rattle.round_rules.specs.Passes.{end_seen}
-use Rattle.round_rules.specs.Rounds.{owner, core_at, IsJoined, AreTold, done_by}
+use Rattle.round_rules.specs.Rounds.{owner, core_at, IsJoined, AreToldInOrder, done_by}
 use Rattle.round_rules.proofs.MachineParts.{there}
 use Rattle.round_rules.proofs.Mapped.{long-map, all-map}
 use Rattle.round_rules.proofs.Numbers.{below-bound, is-below}
@@ -57,7 +57,7 @@ quiet shape a other (act ∷ acts) = by (is_act_of a act) refl (quiet shape a ot
 
 module _ (S M : State) (made workers : ℕ) (f : Finished) (left : IsRoundLeft S M made workers f) (merged : List Stamped)
     (joined : IsJoined M.setting S (together.T S M made workers f left) (together.round_with S M made workers f left merged))
-    (rising : AllPairs IsStampedBefore merged) (told : List Done) (tells : AreTold M.setting S (together.round_with S M made workers f left merged) told) where
+    (rising : AllPairs IsStampedBefore merged) (told : List Done) (tells : AreToldInOrder M.setting S (together.round_with S M made workers f left merged) told) where
   abbrev C : Setting
   C = M.setting
 

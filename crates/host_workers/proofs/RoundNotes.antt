@@ -26,7 +26,7 @@ use Rattle.host_workers.specs.RoundOf.{IsTallied, HasNoted}
 
 -- what is noted of an entry
 abbrev pub happened_at : Stamped → Happened
-happened_at e = record { event = e.event; told = record { kind = e.kind; seen = None; granted = e.granted }; end = None }
+happened_at e = record { event = e.event; observed = record { kind = e.kind; seen = None; granted = e.granted }; end = None }
 
 nil-behind : {X : Type 0} (xs : List X) → xs ++ [] ≡ xs
 nil-behind [] = refl

@@ -11,10 +11,10 @@ use Rattle.bank_hall.specs.declared.posted.Posted.{Posted}
 use Rattle.bank_hall.specs.Halls.{PassView, pass_number}
 use Rattle.round_rules.specs.Acts.{Act, Took, core_step, taken_step}
 use Rattle.round_rules.specs.Steps.{Done}
-use Rattle.bank_hall.specs.Stamps.{has_numbers_left as may_go}
+use Rattle.bank_hall.specs.Stamps.{has_numbers_left}
 use Rattle.round_rules.specs.Passes.{Held, own_acts, taken_steps}
 use Rattle.host_workers.specs.Deeds.{HasMoved, own_steps}
-use Rattle.host_workers.specs.Work.{HasActed, HasTaken, HasMadeOwn, AreOf, IsTurn, HasDone, HaveDone, Each, in_one_list}
+use Rattle.host_workers.specs.Work.{HasActed, HasTaken, HasMadeOwn, AreOf, IsTurn, HasDoneActs, HaveDone, Each, in_one_list}
 use Rattle.host_workers.proofs.Calls.{acted-none, acted-both}
 use Rattle.host_workers.proofs.Moves.{moved-both}
 
@@ -40,17 +40,17 @@ turn-steps core pick (Some t) goes e done = ap (λ l. taken_step t ∷ l) (own-s
 
 -- the acts of a turn
 abbrev pub turn_acts : (C : Setting) (core : CoreId) (pick : ℕ) → Option (Posted × Done) → Held → Done → List Act
-turn_acts C core pick taken mid done = Took core pick taken ∷ own_acts core (may_go mid.clock mid.next) (own_event C mid.node) done
+turn_acts C core pick taken mid done = Took core pick taken ∷ own_acts core (has_numbers_left mid.clock mid.next) (own_event C mid.node) done
 
 pub turn-acted : (C : Setting) (core : CoreId) (pick : ℕ) (a b c : PassView) (had mid has : Held) (m n : ℕ) → (t : HasTaken C core pick a b had mid m) → pass_number b ≡ pass_number a
     → (o : HasMadeOwn C core b c mid has n) → HasActed C a c (turn_acts C core pick t.taken mid o.done) (m + n)
-turn-acted C core pick a b c had mid has m n t same o = acted-both C a b c (Took core pick t.taken ∷ []) (own_acts core (may_go mid.clock mid.next) (own_event C mid.node) o.done) m n t.acted same o.acted
+turn-acted C core pick a b c had mid has m n t same o = acted-both C a b c (Took core pick t.taken ∷ []) (own_acts core (has_numbers_left mid.clock mid.next) (own_event C mid.node) o.done) m n t.acted same o.acted
 
 pub turn-moved : (C : Setting) (core : CoreId) (pick : ℕ) (a b c : PassView) (had mid has : Held) (m n : ℕ) → (t : HasTaken C core pick a b had mid m)
     → (o : HasMadeOwn C core b c mid has n) → HasMoved C core (filter_map core_step (turn_acts C core pick t.taken mid o.done)) had has
 turn-moved C core pick a b c had mid has m n t o =
-    subst (λ steps. HasMoved C core steps had has) (sym (turn-steps core pick t.taken (may_go mid.clock mid.next) (own_event C mid.node) o.done))
-    (moved-both C core (taken_steps t.taken) (own_steps (may_go mid.clock mid.next) (own_event C mid.node) o.done) had mid has t.moved o.moved)
+    subst (λ steps. HasMoved C core steps had has) (sym (turn-steps core pick t.taken (has_numbers_left mid.clock mid.next) (own_event C mid.node) o.done))
+    (moved-both C core (taken_steps t.taken) (own_steps (has_numbers_left mid.clock mid.next) (own_event C mid.node) o.done) had mid has t.moved o.moved)
 
 pub turn-is : (C : Setting) (core : CoreId) (pick : ℕ) (a b c : PassView) (had mid has : Held) (m n : ℕ) → (t : HasTaken C core pick a b had mid m)
     → (o : HasMadeOwn C core b c mid has n) → IsTurn C core had (turn_acts C core pick t.taken mid o.done)
@@ -69,7 +69,7 @@ module _ {A : Type 0} (Does : A → A → List Act → Type 0) where
   done-none C p = record { parts = []; acted = acted-none C p; each = tt }
 
   -- one more was done behind the others
-  done-more : (C : Setting) (p q r : PassView) (xs ys : List A) (a b : A) (m n : ℕ) → HaveDone Does C p q xs ys m → pass_number q ≡ pass_number p → HasDone Does C q r a b n
+  done-more : (C : Setting) (p q r : PassView) (xs ys : List A) (a b : A) (m n : ℕ) → HaveDone Does C p q xs ys m → pass_number q ≡ pass_number p → HasDoneActs Does C q r a b n
       → HaveDone Does C p r (xs ++ a ∷ []) (ys ++ b ∷ []) (m + n)
   done-more C p q r xs ys a b m n had same one = record {
     parts = had.parts ++ one.acts ∷ [];
@@ -79,7 +79,7 @@ module _ {A : Type 0} (Does : A → A → List Act → Type 0) where
 
   -- the next one of two lists, of which the second changes in place
   pub done-next : (C : Setting) (p q r : PassView) (olds nows : List A) (place : ℕ) (b : A) (m n : ℕ) → HaveDone Does C p q (take place olds) (take place nows) m → pass_number q ≡ pass_number p
-      → place < length olds → length nows ≡ length olds → (d : A) → HasDone Does C q r (get_or olds place d) b n
+      → place < length olds → length nows ≡ length olds → (d : A) → HasDoneActs Does C q r (get_or olds place d) b n
       → HaveDone Does C p r (take (place + 1) olds) (take (place + 1) (set nows place b)) (m + n)
   done-next C p q r olds nows place b m n had same within long d one =
       subst (λ l. HaveDone Does C p r l (take (place + 1) (set nows place b)) (m + n)) (sym (take_more olds place d within))

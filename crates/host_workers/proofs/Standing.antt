@@ -25,7 +25,7 @@ use Rattle.registration_protocol.specs.declared.node.NodeWait as wait
 use Rattle.registration_protocol.specs.declared.node.NodeWait.{NodeWait}
 use Rattle.registration_protocol.proofs.InstrLemmas.{may-instruct, may-arrive}
 use Rattle.registration_protocol.proofs.MessageLemmas.{ack-kept, forward-kept, read-kept, back-kept}
-use Rattle.registration_protocol.proofs.PlaceLemmas.{instr-place, evict-keeps}
+use Rattle.registration_protocol.proofs.PhaseLemmas.{instr-phase, evict-keeps}
 use Rattle.host_workers.specs.Ends.{node_standing}
 
 -- ---- what becomes of a node
@@ -68,7 +68,7 @@ stays-same n = record { phase = refl; arrived = refl; shown = λ here. refl }
 
 stays-kept : (n m : NodeParts) → KeepsTask n m → Stays n m
 stays-kept n m k =
-    record { phase = k.place.phase; arrived = k.place.arrived; shown = λ here. standing-same n m k.place.core k.place.phase k.task k.waiting }
+    record { phase = k.phase_kept.phase; arrived = k.phase_kept.arrived; shown = λ here. standing-same n m k.phase_kept.core k.phase_kept.phase k.task k.waiting }
 
 -- a node that isn't at the barrier
 stays-absent : (n m : NodeParts) → n.arrived ≡ false → KeepsPhase n m → Stays n m
@@ -77,7 +77,7 @@ stays-absent n m absent k = record { phase = k.phase; arrived = k.arrived; shown
 -- ---- its own events
 
 pub instr-stays : (C : Setting) (n : NodeParts) → may_instr C n ≡ true → Stays n (instructed C n).0
-instr-stays C n may = stays-absent n (instructed C n).0 (may-instruct C n may).arrived (instr-place C n)
+instr-stays C n may = stays-absent n (instructed C n).0 (may-instruct C n may).arrived (instr-phase C n)
 
 pub evict-stays : (C : Setting) (n : NodeParts) (word : WordId) → Stays n (evicted C n word).0
 evict-stays C n word = stays-kept n (evicted C n word).0 (evict-keeps C n word)

@@ -25,7 +25,7 @@ use Rattle.round_rules.specs.Acts.{Act, steps_by}
 use Rattle.round_rules.specs.Steps.{Goes}
 use Rattle.round_rules.specs.Passes.{held_member}
 use Rattle.round_rules.specs.Rounds as rules
-use Rattle.round_rules.specs.Rounds.{owner, core_at, bank_at, bank_in, keeper_in, HasSameSizes, IsBankClosed, IsKeeperClosed, IsPortClosed, AreClosed, HaveWorked, AreNamed}
+use Rattle.round_rules.specs.Rounds.{owner, core_at, bank_at, bank_in, keeper_in, HasSameSizes, IsBankClosed, IsKeeperClosed, IsPortClosed, IsHallClosed, HaveWorked, AreNamed}
 use Rattle.round_rules.proofs.MachineParts.{there}
 use Rattle.round_rules.proofs.Numbers.{remainder}
 use Rattle.round_rules.proofs.Mapped.{long-map}
@@ -305,7 +305,7 @@ module _ (S M : State) (made workers : ℕ) (f : Finished) (left : IsRoundLeft S
       subst (λ x. Legal port_answer port_next x (history_of (port_histories f) c) (left_there (core_at c))) first
       (subst (λ y. Legal port_answer port_next turn.0.opening.inbox (history_of (port_histories f) c) y) (sym now) (left.finished.ports_closed.legal c turn.0 last.0 turn.1 last.1))
 
-  pub closed : (merged : List Stamped) → AreClosed C S T (round_with merged)
+  pub closed : (merged : List Stamped) → IsHallClosed C S T (round_with merged)
   closed merged = record { banks = bank-closed merged; ports = port-closed merged; keeper = keeper-closed merged }
 
   -- ---- as many of each

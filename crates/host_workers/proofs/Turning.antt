@@ -17,13 +17,13 @@ use Rattle.bank_hall.specs.Halls.{PassView, HasMadeCalls, pass_number}
 use Rattle.round_rules.specs.Acts.{Took, Made, Stepped, Kept, try_calls, postings, keeper_done}
 use Rattle.round_rules.specs.Members.{Handles, Makes}
 use Rattle.round_rules.specs.Steps.{Done}
-use Rattle.bank_hall.specs.Stamps.{has_numbers_left as may_go}
+use Rattle.bank_hall.specs.Stamps.{has_numbers_left}
 use Rattle.round_rules.specs.Passes.{Held, own_acts}
 use Rattle.host_workers.specs.declared.crew.BankLog.{BankLog}
 use Rattle.host_workers.specs.declared.owned.Owned.{Owned}
 use Rattle.host_workers.specs.Crews.{held_of, owned_has_numbers}
 use Rattle.host_workers.specs.Deeds.{HasMoved, step_of_deed, own_steps}
-use Rattle.host_workers.specs.Work.{HasActed, HasTaken, HasMadeOwn, IsCoreServed, IsStepped, IsKeeperStep, IsKeeperServed, HasDone}
+use Rattle.host_workers.specs.Work.{HasActed, HasTaken, HasMadeOwn, IsCoreServed, IsStepped, IsKeeperStep, IsKeeperServed, HasDoneActs}
 use Rattle.host_workers.proofs.Calls.{made-none, acted-none, acted-one}
 use Rattle.host_workers.proofs.Moves.{moved-none}
 use Rattle.host_workers.proofs.Served.{turn-are, turn-acted, turn-moved, turn-is, turn_acts}
@@ -71,27 +71,27 @@ still-steps true None done is = refl
 still-steps false (Some e) done is = refl
 still-steps false None done is = refl
 
-own-nothing : (C : Setting) (core : CoreId) (a : PassView) (h : Held) → own_acts core (may_go h.clock h.next) (own_event C h.node) (some-done C core h) ≡ [] → own_steps (may_go h.clock h.next) (own_event C h.node) (some-done C core h) ≡ [] → HasMadeOwn C core a a h h 0
+own-nothing : (C : Setting) (core : CoreId) (a : PassView) (h : Held) → own_acts core (has_numbers_left h.clock h.next) (own_event C h.node) (some-done C core h) ≡ [] → own_steps (has_numbers_left h.clock h.next) (own_event C h.node) (some-done C core h) ≡ [] → HasMadeOwn C core a a h h 0
 own-nothing C core a h acts steps = record {
   done = some-done C core h;
   moved = subst (λ l. HasMoved C core l h h) (sym steps) (moved-none C core h);
   acted = subst (λ l. HasActed C a a l 0) (sym acts) (acted-none C a);
 }
 
-pub own-spent : (C : Setting) (core : CoreId) (a : PassView) (h : Held) → may_go h.clock h.next ≡ false → HasMadeOwn C core a a h h 0
-own-spent C core a h is = own-nothing C core a h (no-acts core (may_go h.clock h.next) (own_event C h.node) (some-done C core h) is) (no-steps (may_go h.clock h.next) (own_event C h.node) (some-done C core h) is)
+pub own-spent : (C : Setting) (core : CoreId) (a : PassView) (h : Held) → has_numbers_left h.clock h.next ≡ false → HasMadeOwn C core a a h h 0
+own-spent C core a h is = own-nothing C core a h (no-acts core (has_numbers_left h.clock h.next) (own_event C h.node) (some-done C core h) is) (no-steps (has_numbers_left h.clock h.next) (own_event C h.node) (some-done C core h) is)
 
 pub own-still : (C : Setting) (core : CoreId) (a : PassView) (h : Held) → own_event C h.node ≡ None → HasMadeOwn C core a a h h 0
-own-still C core a h is = own-nothing C core a h (still-acts core (may_go h.clock h.next) (own_event C h.node) (some-done C core h) is) (still-steps (may_go h.clock h.next) (own_event C h.node) (some-done C core h) is)
+own-still C core a h is = own-nothing C core a h (still-acts core (has_numbers_left h.clock h.next) (own_event C h.node) (some-done C core h) is) (still-steps (has_numbers_left h.clock h.next) (own_event C h.node) (some-done C core h) is)
 
 pub own-some : (C : Setting) (core : CoreId) (a b : PassView) (had has : Held) (e : Event) (sent : Option Posted)
-    → may_go had.clock had.next ≡ true → own_event C had.node ≡ Some e
+    → has_numbers_left had.clock had.next ≡ true → own_event C had.node ≡ Some e
     → HasMoved C core (step_of_deed C core had (Makes e) ∷ []) had has → option_to_list sent ≡ (step_of_deed C core had (Makes e)).done.sent
     → HasMadeCalls a b (postings C.shape (pass_number a) (option_to_list sent)) → HasMadeOwn C core a b had has 1
 own-some C core a b had has e sent goes own moved is posts =
     let done = (step_of_deed C core had (Makes e)).done in
-    let acts : own_acts core (may_go had.clock had.next) (own_event C had.node) done ≡ Made core e done ∷ [] = rw (goes, own) refl in
-    let steps : own_steps (may_go had.clock had.next) (own_event C had.node) done ≡ step_of_deed C core had (Makes e) ∷ [] = rw (goes, own) refl in record {
+    let acts : own_acts core (has_numbers_left had.clock had.next) (own_event C had.node) done ≡ Made core e done ∷ [] = rw (goes, own) refl in
+    let steps : own_steps (has_numbers_left had.clock had.next) (own_event C had.node) done ≡ step_of_deed C core had (Makes e) ∷ [] = rw (goes, own) refl in record {
       done = done;
       moved = subst (λ l. HasMoved C core l had has) (sym steps) moved;
       acted = subst (λ l. HasActed C a b l 1) (sym acts) (acted-one C a a b (Made core e done) 1 (made-none a) refl (subst (λ l. HasMadeCalls a b (postings C.shape (pass_number a) l)) is posts) refl);
@@ -99,21 +99,21 @@ own-some C core a b had has e sent goes own moved is posts =
 
 -- a core had its turn
 pub serves : (C : Setting) (o n : Owned) (pick : ℕ) (a b c : PassView) (mid : Held) (m k : ℕ) → n.core ≡ o.core → Fits C n.node → owned_has_numbers o ≡ true
-    → HasTaken C o.core pick a b (held_of o) mid m → pass_number b ≡ pass_number a → HasMadeOwn C o.core b c mid (held_of n) k → HasDone (IsCoreServed C) C a c o n (m + k)
+    → HasTaken C o.core pick a b (held_of o) mid m → pass_number b ≡ pass_number a → HasMadeOwn C o.core b c mid (held_of n) k → HasDoneActs (IsCoreServed C) C a c o n (m + k)
 serves C o n pick a b c mid m k core fits goes t same own = record {
   acts = turn_acts C o.core pick t.taken mid own.done;
   acted = turn-acted C o.core pick a b c (held_of o) mid (held_of n) m k t same own;
   does = record {
     core = core;
     fits = fits;
-    own = turn-are o.core pick t.taken (may_go mid.clock mid.next) (own_event C mid.node) own.done;
+    own = turn-are o.core pick t.taken (has_numbers_left mid.clock mid.next) (own_event C mid.node) own.done;
     moved = turn-moved C o.core pick a b c (held_of o) mid (held_of n) m k t own;
     turn = λ e. turn-is C o.core pick a b c (held_of o) mid (held_of n) m k t own;
     stays = λ e. absurd (false≢true (sym e ∙ goes));
   };
 }
 
-pub stays : (C : Setting) (o : Owned) (a : PassView) → Fits C o.node → owned_has_numbers o ≡ false → HasDone (IsCoreServed C) C a a o o 0
+pub stays : (C : Setting) (o : Owned) (a : PassView) → Fits C o.node → owned_has_numbers o ≡ false → HasDoneActs (IsCoreServed C) C a a o o 0
 stays C o a fits spent = record {
   acts = [];
   acted = acted-none C a;
@@ -123,7 +123,7 @@ stays C o a fits spent = record {
 -- a bank was stepped
 pub steps : (C : Setting) (b d : BankLog) (pick : ℕ) (p q r : PassView) (h : Handled) → d.bank ≡ b.bank → d.log.items ≡ b.log.items ++ h.stamped ∷ []
     → HasMadeCalls p q (try_calls (pass_number p) (Stepped b.bank pick (Some h))) → pass_number q ≡ pass_number p → HasMadeCalls q r (postings C.shape (pass_number q) (option_to_list h.reply))
-    → HasDone (IsStepped C) C p r b d 1
+    → HasDoneActs (IsStepped C) C p r b d 1
 steps C b d pick p q r h bank log tries same posts = record {
   acts = Stepped b.bank pick (Some h) ∷ [];
   acted = acted-one C p q r (Stepped b.bank pick (Some h)) 1 tries same posts refl;
@@ -131,7 +131,7 @@ steps C b d pick p q r h bank log tries same posts = record {
 }
 
 pub steps-not : (C : Setting) (b d : BankLog) (pick : ℕ) (p q : PassView) → d.bank ≡ b.bank → d.log.items ≡ b.log.items
-    → HasMadeCalls p q (try_calls (pass_number p) (Stepped b.bank pick None)) → pass_number q ≡ pass_number p → HasDone (IsStepped C) C p q b d 0
+    → HasMadeCalls p q (try_calls (pass_number p) (Stepped b.bank pick None)) → pass_number q ≡ pass_number p → HasDoneActs (IsStepped C) C p q b d 0
 steps-not C b d pick p q bank log tries same = record {
   acts = Stepped b.bank pick None ∷ [];
   acted = acted-one C p q q (Stepped b.bank pick None) 0 tries same (made-none q) refl;
@@ -141,7 +141,7 @@ steps-not C b d pick p q bank log tries same = record {
 -- the keeper was stepped
 pub keeps : (C : Setting) (had has : List Stamped) (pick : ℕ) (p q r : PassView) (n : KeeperNote) → has ≡ had ++ n.stamped ∷ []
     → HasMadeCalls p q (try_calls (pass_number p) (Kept pick (Some n))) → pass_number q ≡ pass_number p → HasMadeCalls q r (postings C.shape (pass_number q) (keeper_done C.shape.cores n).sent)
-    → HasDone (IsKeeperStep C) C p r had has 1
+    → HasDoneActs (IsKeeperStep C) C p r had has 1
 keeps C had has pick p q r n log tries same posts = record {
   acts = Kept pick (Some n) ∷ [];
   acted = acted-one C p q r (Kept pick (Some n)) 1 tries same posts refl;
@@ -149,7 +149,7 @@ keeps C had has pick p q r n log tries same posts = record {
 }
 
 pub keeps-not : (C : Setting) (had has : List Stamped) (pick : ℕ) (p q : PassView) → has ≡ had
-    → HasMadeCalls p q (try_calls (pass_number p) (Kept pick None)) → pass_number q ≡ pass_number p → HasDone (IsKeeperStep C) C p q had has 0
+    → HasMadeCalls p q (try_calls (pass_number p) (Kept pick None)) → pass_number q ≡ pass_number p → HasDoneActs (IsKeeperStep C) C p q had has 0
 keeps-not C had has pick p q log tries same = record {
   acts = Kept pick None ∷ [];
   acted = acted-one C p q q (Kept pick None) 0 tries same (made-none q) refl;
@@ -157,9 +157,9 @@ keeps-not C had has pick p q log tries same = record {
 }
 
 -- the keeper was stepped, if the worker has it
-pub kept-not : (C : Setting) (p : PassView) → HasDone (IsKeeperServed C) C p p None None 0
+pub kept-not : (C : Setting) (p : PassView) → HasDoneActs (IsKeeperServed C) C p p None None 0
 kept-not C p = record { acts = []; acted = acted-none C p; does = refl }
 
-pub kept-if : {E : Type 0} (C : Setting) (p q : PassView) (had has : List Stamped) (r : Result ℕ E) → IfOk r (HasDone (IsKeeperStep C) C p q had has) → IfOk r (HasDone (IsKeeperServed C) C p q (Some had) (Some has))
+pub kept-if : {E : Type 0} (C : Setting) (p q : PassView) (had has : List Stamped) (r : Result ℕ E) → IfOk r (HasDoneActs (IsKeeperStep C) C p q had has) → IfOk r (HasDoneActs (IsKeeperServed C) C p q (Some had) (Some has))
 kept-if C p q had has (Ok count) done = record { acts = done.acts; acted = done.acted; does = done.does }
 kept-if C p q had has (Err e) done = tt

@@ -26,7 +26,7 @@ use Rattle.host_workers.specs.declared.crew.Crew.{Crew}
 use Rattle.host_workers.specs.declared.owned.Owned.{Owned}
 use Rattle.host_workers.specs.declared.working.Job.{Job}
 use Rattle.host_workers.specs.Crews.{held_of, owned_core, bank_of, keeper_log}
-use Rattle.host_workers.specs.Pass.{actors_of, IsWork, IsPassOf, HasMore}
+use Rattle.host_workers.specs.Pass.{actors_of, IsWork, AreActsOfPass, HasMore}
 use Rattle.host_workers.specs.Rosters.{RosterParts, IsRoster, IsCrewOf, core_actor, bank_actor}
 use Rattle.host_workers.proofs.Chosen.{stands-taken, taken-stands, same-some, none-some}
 use Rattle.host_workers.proofs.Crewed.{is_some-map}
@@ -51,7 +51,7 @@ pub record WorkerAt (C : Setting) (hall : HallView) (workers : ℕ) (had has : R
   pub told : IsToldPass banks ports keeper done.pass
   pub number : pass_number done.pass ≡ k
   pub work : IsWork C job.pass done.pass job.crew done.crew (acts.0 ++ acts.1)
-  pub begun : IsPassOf C acts.0 job.crew
+  pub begun : AreActsOfPass C acts.0 job.crew
 
 abbrev Unused : {O I U : Type 0} → Token O I U → Type 0
 Unused p = (p.seen ≡ []) × (p.made ≡ [])

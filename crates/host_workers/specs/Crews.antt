@@ -6,7 +6,7 @@ use Rattle.dn_base.specs.declared.ids.CoreId.{CoreId}
 use Rattle.grant_log.specs.declared.log.Stamped.{Stamped}
 use Rattle.registration_protocol.specs.Fit.{Fits}
 use Rattle.registration_protocol.specs.Node.{Setting}
-use Rattle.bank_hall.specs.Stamps.{has_numbers_left as may_go}
+use Rattle.bank_hall.specs.Stamps.{has_numbers_left}
 use Rattle.round_rules.specs.Passes.{Held}
 use Rattle.host_workers.specs.declared.crew.BankLog.{BankLog}
 use Rattle.host_workers.specs.declared.crew.Crew.{Crew}
@@ -24,7 +24,7 @@ bank_of b = b.bank
 
 -- whether the worker goes on with an owned core
 abbrev pub owned_has_numbers : Owned → Bool
-owned_has_numbers o = may_go o.clock o.next
+owned_has_numbers o = has_numbers_left o.clock o.next
 
 -- an owned core is one of the machine's, and its node fits
 pub record IsOwned (C : Setting) (o : Owned) : Type 0 where

@@ -11,14 +11,14 @@ use Rattle.round_rules.specs.Unspent.{AreUnspent}
 use Rattle.round_rules.specs.Owners.{AreOwners}
 use Rattle.round_rules.specs.Entries.{AreAnswers, AreGivenMails}
 use Rattle.round_rules.specs.NextNumbers.{AreNumbersLow}
-use Rattle.host_workers.specs.declared.round.Frame.{Frame}
+use Rattle.host_workers.specs.declared.round.FixedParts.{FixedParts}
 use Rattle.host_workers.specs.declared.round.Round.{Round}
 use Rattle.host_workers.specs.Inboxes.{inbox_at_first}
 use Rattle.host_workers.specs.Opening.{StandsFor}
 
 -- what a round leaves of a machine in a state as it is
-abbrev pub AreFixedPartsOf : State → Frame → Type 0
-AreFixedPartsOf M frame = M.setting ≡ record { program = frame.checked; plans = frame.plans.items; shape = frame.shape; fuel = frame.fuel }
+abbrev pub AreFixedPartsOf : State → FixedParts → Type 0
+AreFixedPartsOf M fixed = M.setting ≡ record { program = fixed.checked; plans = fixed.plans.items; shape = fixed.shape; fuel = fixed.fuel }
 
 -- The round that workers made of a machine in state M, which stands for S: what each did, and which calls its hall had. It is a
 -- run of the machine from S on, to a state for which the machine stands that is handed back

@@ -50,7 +50,7 @@ IsKeptOf acts true = (pick : ℕ) × (answer : Option KeeperNote) × (filter (is
 
 -- the acts of one pass of a worker: the turn of each of its cores, a step of each of its banks and, if it has it, one of the
 -- keeper
-pub record IsPassOf (C : Setting) (acts : List Act) (had : Crew) : Type 0 where
+pub record AreActsOfPass (C : Setting) (acts : List Act) (had : Crew) : Type 0 where
   pub turns : (i : ℕ) (o : Owned) → slice_get had.cores.items i ≡ Some o → IsTurnOf C acts o
   pub steps : (i : ℕ) (b : BankLog) → slice_get had.banks.items i ≡ Some b → IsStepOf acts b
   pub kept : IsKeptOf acts (is_some had.keeper)
@@ -77,11 +77,11 @@ pub record HasWorked (C : Setting) (old new : PassView) (had has : Crew) (count 
   pub acts : List Act
   pub work : IsWork C old new had has acts
   pub passed : HasPassed C old new (tries_by had) acts count
-  pub is_pass : IsPassOf C acts had
+  pub is_pass : AreActsOfPass C acts had
 
 -- one or more passes of a worker, the first of which was made with the crew as it was
 pub record HasWorkedOn (C : Setting) (old new : PassView) (had has : Crew) : Type 0 where
   pub first : List Act
   pub rest : List Act
   pub work : IsWork C old new had has (first ++ rest)
-  pub begun : IsPassOf C first had
+  pub begun : AreActsOfPass C first had

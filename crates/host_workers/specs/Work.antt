@@ -14,7 +14,7 @@ use Rattle.bank_hall.specs.Note.{KeeperNote}
 use Rattle.bank_hall.specs.Halls.{HallView, PassView, IsHallPass, HasMadeCalls, pass_number}
 use Rattle.round_rules.specs.Acts.{Act, Took, Stepped, Kept, actor_of, core_step, events_in, note_of, calls_in}
 use Rattle.round_rules.specs.Steps.{Done}
-use Rattle.bank_hall.specs.Stamps.{has_numbers_left as may_go}
+use Rattle.bank_hall.specs.Stamps.{has_numbers_left}
 use Rattle.round_rules.specs.Passes.{Held, own_acts, taken_steps}
 use Rattle.host_workers.specs.declared.crew.BankLog.{BankLog}
 use Rattle.host_workers.specs.declared.owned.Owned.{Owned}
@@ -46,8 +46,8 @@ pub record HasTaken (C : Setting) (core : CoreId) (pick : ℕ) (old new : PassVi
 -- the core's own event was made, where the worker goes on with the core and the node has one
 pub record HasMadeOwn (C : Setting) (core : CoreId) (old new : PassView) (had has : Held) (count : ℕ) : Type 0 where
   pub done : Done
-  pub moved : HasMoved C core (own_steps (may_go had.clock had.next) (own_event C had.node) done) had has
-  pub acted : HasActed C old new (own_acts core (may_go had.clock had.next) (own_event C had.node) done) count
+  pub moved : HasMoved C core (own_steps (has_numbers_left had.clock had.next) (own_event C had.node) done) had has
+  pub acted : HasActed C old new (own_acts core (has_numbers_left had.clock had.next) (own_event C had.node) done) count
 
 -- each act is of one actor
 abbrev pub AreOf : Actor → List Act → Type 0
@@ -60,7 +60,7 @@ pub record IsTurn (C : Setting) (core : CoreId) (had : Held) (acts : List Act) :
   pub done : Done
   pub between : Held
   pub handled : HasMoved C core (taken_steps taken) had between
-  pub acts_are : acts ≡ Took core pick taken ∷ own_acts core (may_go between.clock between.next) (own_event C between.node) done
+  pub acts_are : acts ≡ Took core pick taken ∷ own_acts core (has_numbers_left between.clock between.next) (own_event C between.node) done
 
 -- a core was served by these acts: it has its turn, or nothing is done where the worker doesn't go on with it
 pub record IsCoreServed (C : Setting) (had has : Owned) (acts : List Act) : Type 0 where
@@ -98,7 +98,7 @@ in_one_list parts = flat_map (λ (acts : List Act). acts) parts
 
 module _ {A : Type 0} where
   -- something was done by some acts
-  pub record HasDone (Does : A → A → List Act → Type 0) (C : Setting) (old new : PassView) (had has : A) (count : ℕ) : Type 0 where
+  pub record HasDoneActs (Does : A → A → List Act → Type 0) (C : Setting) (old new : PassView) (had has : A) (count : ℕ) : Type 0 where
     pub acts : List Act
     pub acted : HasActed C old new acts count
     pub does : Does had has acts

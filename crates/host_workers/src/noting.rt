@@ -19,14 +19,14 @@ pub(crate) fn note_events(log: &mut Log, merged: &[Stamped]) -> Result<(), Memor
     ensures { OnOk result (HasNoted merged.now log.old log.new) }
 {
     for entry in merged {
-        let told = Stepped {
+        let observed = Stepped {
             kind: entry.kind,
             seen: None,
             granted: entry.granted,
         };
         log.note(Happened {
             event: entry.event,
-            told,
+            observed,
             end: None,
         })?;
     }

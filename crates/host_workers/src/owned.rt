@@ -12,7 +12,7 @@ ghost use Rattle.host_workers.specs.Deeds.{HasMoved, IsNoted, IsEarly, step_of_d
 
 use crate::deeds::{NodeCame, act, receive};
 use crate::stamps::own_kind;
-use bank_hall::{Posted, goes_on, stamp_of};
+use bank_hall::{Posted, has_numbers_left, stamp_of};
 use dn_base::{CoreId, Memory};
 use grant_log::Stamped;
 use message_net::{Actor, Event, EventKind, Outgoing};
@@ -55,10 +55,10 @@ fn push_end(ends: &mut Vec<EndSeen>, stamp: u64, end: Option<TaskEnd>) -> Result
 
 impl Owned {
     /// Whether the worker goes on with the core: its clock and the number of its next mail are below their limits.
-    pub(crate) fn goes_on(&self) -> bool
+    pub(crate) fn has_numbers_left(&self) -> bool
         ensures { result ≡ owned_has_numbers self.now }
     {
-        goes_on(self.clock, self.next)
+        has_numbers_left(self.clock, self.next)
     }
 
     /// Makes room for what one pass notes, so that no mail is taken that can't be noted.

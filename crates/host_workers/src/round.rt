@@ -41,7 +41,7 @@ pub struct Round {
 
 /// What a round leaves of a machine as it is: the program with its plans, the size, and the fuel.
 #[derive(Drop)]
-struct Frame {
+struct FixedParts {
     checked: Checked,
     plans: Vec<PhasePlan>,
     shape: Shape,
@@ -53,9 +53,9 @@ struct Frame {
 ///
 /// # Errors
 /// `Memory` where there is no room.
-fn put_together(alloc: Global, frame: Frame, finished: Finished) -> Result<Round, Memory>
-    requires { (S M : State) × (workers : ℕ) × IsRoundLeft S M frame.made workers finished × AreFixedPartsOf M frame }
-    ensures { IfOk result (λ round. (S M : State) (workers : ℕ) → IsRoundLeft S M frame.made workers finished → AreFixedPartsOf M frame → IsMadeRound S M frame.made workers round) }
+fn put_together(alloc: Global, fixed: FixedParts, finished: Finished) -> Result<Round, Memory>
+    requires { (S M : State) × (workers : ℕ) × IsRoundLeft S M fixed.made workers finished × AreFixedPartsOf M fixed }
+    ensures { IfOk result (λ round. (S M : State) (workers : ℕ) → IsRoundLeft S M fixed.made workers finished → AreFixedPartsOf M fixed → IsMadeRound S M fixed.made workers round) }
 {
     let Finished {
         parted,
@@ -80,16 +80,16 @@ fn put_together(alloc: Global, frame: Frame, finished: Finished) -> Result<Round
     let ends = ends_in(alloc, merged.as_slice(), ends.as_slice())?;
     next.extend_from_slice(more.as_slice())?;
     let parts = MachineParts {
-        checked: frame.checked,
-        plans: frame.plans,
-        shape: frame.shape,
-        fuel: frame.fuel,
+        checked: fixed.checked,
+        plans: fixed.plans,
+        shape: fixed.shape,
+        fuel: fixed.fuel,
         nodes,
         banks: kept_banks,
         keeper: kept_keeper,
         pool: inboxes.pool(alloc)?,
         next,
-        made: frame.made + merged.len() as u64,
+        made: fixed.made + merged.len() as u64,
     };
     Ok(Round {
         machine: Machine::join(parts),
@@ -152,12 +152,12 @@ pub fn run_round<R: Threads + Wait + Sync, G: Gate + Sync>(
     };
     let dones = work_all(rt, alloc, &hall, &context, jobs, gate)?;
     let finished = finish(alloc, hall, dones, shape)?;
-    let frame = Frame {
+    let fixed = FixedParts {
         checked,
         plans,
         shape,
         fuel,
         made,
     };
-    put_together(alloc, frame, finished)
+    put_together(alloc, fixed, finished)
 }

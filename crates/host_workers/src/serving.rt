@@ -2,7 +2,7 @@ ghost use Rattle.std.specs.Prelude.{◌≡◌, ◌≤◌, true, length, All, IfO
 ghost use Rattle.registration_protocol.specs.Fit.{Fits};
 ghost use Rattle.registration_protocol.specs.Setting.{setting};
 ghost use Rattle.host_workers.specs.Crews.{held_of, owned_has_numbers, IsOwned};
-ghost use Rattle.host_workers.specs.Work.{MayAct, KeepsNumber, HasTaken, HasMadeOwn, IsCoreServed, HasDone, HaveDone};
+ghost use Rattle.host_workers.specs.Work.{MayAct, KeepsNumber, HasTaken, HasMadeOwn, IsCoreServed, HasDoneActs, HaveDone};
 
 use crate::draws::draw;
 use crate::emitting::emit;
@@ -55,7 +55,7 @@ fn make_own<R: Wait>(
     ensures made { IfOk result (HasMadeOwn (setting context.now) owned.old.core pass.old pass.new (held_of owned.old) (held_of owned.new)) }
     ensures few { IfOk result (λ count. count ≤ 1) }
 {
-    if !owned.goes_on() {
+    if !owned.has_numbers_left() {
         return Ok(0);
     }
     let Some(event) = owned.node.own(context) else {
@@ -78,10 +78,10 @@ fn serve_core<R: Wait>(
     requires may { MayAct (setting context.now) hall.now pass.old }
     requires owned { IsOwned (setting context.now) owned.old }
     ensures pass { KeepsNumber hall.now pass.old pass.new }
-    ensures served { IfOk result (HasDone (IsCoreServed (setting context.now)) (setting context.now) pass.old pass.new owned.old owned.new) }
+    ensures served { IfOk result (HasDoneActs (IsCoreServed (setting context.now)) (setting context.now) pass.old pass.new owned.old owned.new) }
     ensures few { IfOk result (λ count. count ≤ 2) }
 {
-    if !owned.goes_on() {
+    if !owned.has_numbers_left() {
         return Ok(0);
     }
     owned.reserve()?;

@@ -2,7 +2,7 @@ ghost use Rattle.std.specs.Prelude.{◌≡◌, ◌<◌, ◌≤◌, length, All, 
 ghost use Rattle.std.specs.Option.{option_map};
 ghost use Rattle.registration_protocol.specs.Setting.{setting};
 ghost use Rattle.host_workers.specs.declared.crew.BankLog.{BankLog as Noted};
-ghost use Rattle.host_workers.specs.Work.{MayAct, KeepsNumber, IsStepped, IsKeeperStep, IsKeeperServed, HasDone, HaveDone};
+ghost use Rattle.host_workers.specs.Work.{MayAct, KeepsNumber, IsStepped, IsKeeperStep, IsKeeperServed, HasDoneActs, HaveDone};
 
 use crate::crew::BankLog;
 use crate::draws::draw;
@@ -29,7 +29,7 @@ fn step_bank<R: Wait, G: Gate>(
     requires may { MayAct (setting context.now) hall.now pass.old }
     requires bank { owned.old.bank.0 < (setting context.now).shape.banks }
     ensures pass { KeepsNumber hall.now pass.old pass.new }
-    ensures stepped { IfOk result (HasDone (IsStepped (setting context.now)) (setting context.now) pass.old pass.new owned.old owned.new) }
+    ensures stepped { IfOk result (HasDoneActs (IsStepped (setting context.now)) (setting context.now) pass.old pass.new owned.old owned.new) }
     ensures few { IfOk result (λ count. count ≤ 1) }
 {
     owned.log.reserve(1)?;
@@ -88,7 +88,7 @@ fn step_keeper<R: Wait>(
 ) -> Result<u32, Memory>
     requires may { MayAct (setting context.now) hall.now pass.old }
     ensures pass { KeepsNumber hall.now pass.old pass.new }
-    ensures stepped { IfOk result (HasDone (IsKeeperStep (setting context.now)) (setting context.now) pass.old pass.new log.old.items log.new.items) }
+    ensures stepped { IfOk result (HasDoneActs (IsKeeperStep (setting context.now)) (setting context.now) pass.old pass.new log.old.items log.new.items) }
     ensures few { IfOk result (λ count. count ≤ 1) }
 {
     a_program_is_well_formed(context.program);
@@ -112,7 +112,7 @@ pub(crate) fn keep<R: Wait>(
 ) -> Result<u32, Memory>
     requires may { MayAct (setting context.now) hall.now pass.old }
     ensures pass { KeepsNumber hall.now pass.old pass.new }
-    ensures stepped { IfOk result (HasDone (IsKeeperServed (setting context.now)) (setting context.now) pass.old pass.new (option_map (λ log. log.items) keeper.old) (option_map (λ log. log.items) keeper.new)) }
+    ensures stepped { IfOk result (HasDoneActs (IsKeeperServed (setting context.now)) (setting context.now) pass.old pass.new (option_map (λ log. log.items) keeper.old) (option_map (λ log. log.items) keeper.new)) }
     ensures few { IfOk result (λ count. count ≤ 1) }
 {
     match keeper {

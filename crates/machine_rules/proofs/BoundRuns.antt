@@ -1,6 +1,7 @@
 -- The events of every run of a checked program are at most 12 for each instruction that its tasks have retired and for each
 -- task that has started, and 3 for each core and phase.
 use Rattle.std.proofs.Common.{◌≡◌, ◌⊎◌, inl, inr, ℕ, zero, suc, ◌+◌, ◌*◌, ◌<◌, ◌≤◌, ◌==◌, true, List, [], ◌∷◌, length, take, slice_get, sum_by, Option, Some, None, refl, sym, ap, subst, ◌∙◌, arith, length-append}
+use Rattle.std.specs.Option.{option_or}
 use Rattle.std.specs.List.{All, IsAmong}
 use Rattle.std.proofs.Math.Nat.{mul-le-mul, mul-le-mul_left}
 use Rattle.std.proofs.lemmas.Bool.Decides.{nat_tests}
@@ -17,14 +18,15 @@ use Rattle.region_table.proofs.TaskLemmas.{declared-tells}
 use Rattle.rv_core.specs.declared.task.TaskState.{TaskState}
 use Rattle.message_net.specs.declared.event.Event.{Event}
 use Rattle.registration_protocol.specs.Node.{NodeParts, Setting}
+use Rattle.registration_protocol.specs.Parts.{retired_so_far}
 use Rattle.machine_rules.specs.State.{State, initial_state}
 use Rattle.machine_rules.specs.Next.{next}
 use Rattle.machine_rules.specs.Memory.{store_in}
-use Rattle.machine_rules.specs.Runs.{after, IsRun, newer_or, begun_in}
-use Rattle.machine_rules.specs.Bound.{task_in_phase, last_task, retired_so_far, retired_from, retired_in, started_in}
+use Rattle.machine_rules.specs.Runs.{after, IsRun, begun_in}
+use Rattle.machine_rules.specs.Bound.{task_in_phase, last_task, retired_from, retired_in, started_in}
 use Rattle.machine_rules.specs.Sound.{IsSound, IsReady}
 use Rattle.machine_rules.proofs.Invariant.{Invariant}
-use Rattle.machine_rules.proofs.Leaves.{stored_to}
+use Rattle.machine_rules.proofs.Outcomes.{stored_to}
 use Rattle.machine_rules.proofs.SoundEvents.{sound-next}
 use Rattle.machine_rules.proofs.Kept.{kept}
 use Rattle.machine_rules.proofs.OpenedFacts.{opened-setting}
@@ -49,7 +51,7 @@ abbrev all_done : ℕ → ℕ → State → List Event → ℕ
 all_done cores phases S events = total (λ (c : ℕ). total (done S events c) phases) cores
 
 -- a later state shows no less
-done-later : (x y : Option TaskState) → worked x ≤ worked (newer_or x y)
+done-later : (x y : Option TaskState) → worked x ≤ worked (option_or x y)
 done-later None y = omega arith
 done-later (Some t) y = omega arith
 
@@ -87,7 +89,7 @@ event-done S M count e es cores phases due sound inv run long low earns = by_end
       let gone : last_task n.phase core T es ≡ None =
       none-past T (stored_to (store_in S e) M) (count + 1) es n.phase core m after_it (kept S M e inv run.0 after_it.machine) run.1 ends.now (omega (arith, ends.next_phase)) in
       let shown : last_task n.phase core S (e ∷ es) ≡ n.task =
-      ap (λ (o : Option TaskState). newer_or o (task_in_phase n.phase (slice_get S.nodes core))) gone ∙ (ap (task_in_phase n.phase) ends.found ∙ own-task n) in
+      ap (λ (o : Option TaskState). option_or o (task_in_phase n.phase (slice_get S.nodes core))) gone ∙ (ap (task_in_phase n.phase) ends.found ∙ own-task n) in
       let one : done T es core n.phase + worked n.task ≤ done S (e ∷ es) core n.phase = omega (arith, ap worked gone, ap worked shown) in
       let row = total-raised (done T es core) (done S (e ∷ es) core) phases n.phase (worked n.task) (each core) (omega (arith, low, inv.behind core n ends.found)) one in
       let all = total-raised (λ (c : ℕ). total (done T es c) phases) (λ (c : ℕ). total (done S (e ∷ es) c) phases) cores core (worked n.task) rows

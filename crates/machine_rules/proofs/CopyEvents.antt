@@ -32,13 +32,14 @@ use Rattle.phase_barrier.specs.Barrier.{Barrier}
 use Rattle.registration_protocol.specs.declared.node.NodeWait as wait
 use Rattle.registration_protocol.specs.Node.{NodeParts, entry_of, keeping, signature_of}
 use Rattle.registration_protocol.specs.OwnEvents.{retires, with_put}
+use Rattle.registration_protocol.specs.Parts.{held_locks}
 use Rattle.machine_rules.specs.State.{State, lock_at}
 use Rattle.machine_rules.specs.Flight.{bit, is_false_data_reply}
-use Rattle.machine_rules.specs.Coherent.{UsesPlainly, held_locks}
+use Rattle.machine_rules.specs.Coherent.{UsesPlainly}
 use Rattle.machine_rules.proofs.Bits.{passes, signed_in}
 use Rattle.machine_rules.proofs.Invariant.{Invariant, LocksGood, CopiesGood, MayBeOld, carriers, carried_by, is_carrying, is_late, kept_bit}
 use Rattle.machine_rules.proofs.Steps.{NodeStep}
-use Rattle.machine_rules.proofs.Leaves.{IsActing, WordStep, LockStep, BarrierStep, to_all, at_core, at_bank, at_keeper}
+use Rattle.machine_rules.proofs.Outcomes.{IsActing, WordStep, LockStep, BarrierStep, to_all, at_core, at_bank, at_keeper}
 use Rattle.machine_rules.proofs.WordCore.{same-number}
 use Rattle.machine_rules.proofs.Exclusive.{in-phase, acting-works}
 use Rattle.machine_rules.proofs.CopyFrames.{uses-kept, copies-still}

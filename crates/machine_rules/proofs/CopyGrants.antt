@@ -31,16 +31,17 @@ use Rattle.word_cache.specs.Cache.{entry_after_grant}
 use Rattle.queue_lock.specs.Lock.{Lock, holder_count}
 use Rattle.registration_protocol.specs.Node.{NodeParts, entry_of}
 use Rattle.registration_protocol.specs.Messages.{holds_now, guarded_by}
+use Rattle.registration_protocol.specs.Parts.{held_locks}
 use Rattle.registration_protocol.proofs.MessageLemmas.{grant-entries}
 use Rattle.machine_rules.specs.State.{State, lock_at}
 use Rattle.machine_rules.specs.Flight.{bit, mail_count, flight, is_release_of, is_grant_to}
-use Rattle.machine_rules.specs.Coherent.{held_locks, holds_lock, has_lock, holder_in}
+use Rattle.machine_rules.specs.Coherent.{holds_lock, has_lock, holder_in}
 use Rattle.machine_rules.proofs.Bits.{same_signature, signed_in}
 use Rattle.machine_rules.proofs.BitLemmas.{bit-true}
 use Rattle.machine_rules.proofs.Lists.{get-set}
 use Rattle.machine_rules.proofs.Invariant.{Invariant, LocksGood, CopiesGood, MayHaveWritten, MayBeOld, carriers, carried_by, is_carrying, is_unlike, kept_bit}
 use Rattle.machine_rules.proofs.Steps.{NodeStep}
-use Rattle.machine_rules.proofs.Leaves.{at_core}
+use Rattle.machine_rules.proofs.Outcomes.{at_core}
 use Rattle.machine_rules.proofs.WordCore.{same-number}
 use Rattle.machine_rules.proofs.Exclusive.{in-phase}
 use Rattle.machine_rules.proofs.CopyFrames.{uses-kept, behind-kept, writer-kept, guarded-kept}

@@ -6,8 +6,9 @@ use Rattle.word_cache.specs.declared.row.Entry.{Entry}
 use Rattle.word_cache.specs.declared.row.Entry.TheVariants.{Valid}
 use Rattle.rv_core.specs.Access.{is_held}
 use Rattle.registration_protocol.specs.Node.{NodeParts, entry_of}
+use Rattle.registration_protocol.specs.Parts.{held_locks}
 use Rattle.machine_rules.specs.State.{State, entry_at}
-use Rattle.machine_rules.specs.Coherent.{UsesPlainly, held_locks, holds_lock}
+use Rattle.machine_rules.specs.Coherent.{UsesPlainly, holds_lock}
 use Rattle.machine_rules.proofs.Bits.{passes, valid_bit}
 use Rattle.machine_rules.proofs.Invariant.{CopiesGood, MayBeOld, carriers, carried_by, is_carrying}
 use Rattle.machine_rules.proofs.Steps.{NodeStep}

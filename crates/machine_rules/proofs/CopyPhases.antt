@@ -23,16 +23,17 @@ use Rattle.message_net.specs.declared.message.Outgoing.{Outgoing}
 use Rattle.word_cache.specs.declared.row.Entry.{Entry}
 use Rattle.word_cache.specs.declared.row.Entry.TheVariants.{Valid, Registered, Leaving}
 use Rattle.word_cache.specs.Cache.{entry_after_phase}
-use Rattle.phase_barrier.specs.Barrier.{Barrier, with_arrival as counts_in, in_next_phase, all_arrived}
+use Rattle.phase_barrier.specs.Barrier.{Barrier, with_arrival, in_next_phase, all_arrived}
 use Rattle.registration_protocol.specs.Node.{NodeParts, entry_of}
 use Rattle.registration_protocol.specs.Messages.{begins, written_in}
+use Rattle.registration_protocol.specs.Parts.{held_locks}
 use Rattle.registration_protocol.proofs.MessageLemmas.{begin-entries}
 use Rattle.machine_rules.specs.State.{State, entry_in, entry_at}
 use Rattle.machine_rules.specs.Flight.{bit, flight, is_arrival_of, is_go_to}
-use Rattle.machine_rules.specs.Coherent.{IsBehind, HasWriter, held_locks, holds_lock, has_lock, is_alive}
+use Rattle.machine_rules.specs.Coherent.{IsBehind, HasWriter, holds_lock, has_lock, is_alive}
 use Rattle.machine_rules.proofs.Invariant.{Invariant, CopiesGood, MayHaveWritten, MayBeOld, carried_by}
 use Rattle.machine_rules.proofs.Steps.{NodeStep}
-use Rattle.machine_rules.proofs.Leaves.{BarrierStep, at_core, at_keeper}
+use Rattle.machine_rules.proofs.Outcomes.{BarrierStep, at_core, at_keeper}
 use Rattle.machine_rules.proofs.WordCore.{same-number}
 use Rattle.machine_rules.proofs.PhaseWhole.{none-posted, arriving, in-flight, IsWhole, is-whole, there-within}
 use Rattle.machine_rules.proofs.CopyFrames.{uses-kept, writer-kept, guarded-kept}
@@ -71,8 +72,8 @@ in-plan S M core w x inv declares writes =
 
 -- ---- the last arrival: whatever may be old is behind then
 
-pub copies-together : (S T : State) (M : ℕ → ℕ) (core : CoreId) (bad : Bool) → Invariant S M → slice_get S.keeper.arrived core.0 ≡ Some false → all_arrived (counts_in core.0 bad S.keeper) ≡ true
-    → BarrierStep S T (in_next_phase (counts_in core.0 bad S.keeper)) (at_keeper (Arrived core bad)) (Some (Go (record { 0 = S.keeper.phase + 1 }))) → CopiesGood T M
+pub copies-together : (S T : State) (M : ℕ → ℕ) (core : CoreId) (bad : Bool) → Invariant S M → slice_get S.keeper.arrived core.0 ≡ Some false → all_arrived (with_arrival core.0 bad S.keeper) ≡ true
+    → BarrierStep S T (in_next_phase (with_arrival core.0 bad S.keeper)) (at_keeper (Arrived core bad)) (Some (Go (record { 0 = S.keeper.phase + 1 }))) → CopiesGood T M
 copies-together S T M core bad inv new whole step =
     record {
       marked = λ c w value is. uses-kept S T c w step.setting (kept c) (inv.copies.marked c w value (sym (entries c w) ∙ is));
@@ -83,7 +84,7 @@ copies-together S T M core bad inv new whole step =
     go = Go (record { 0 = S.keeper.phase + 1 })
 
     k : Barrier
-    k = in_next_phase (counts_in core.0 bad S.keeper)
+    k = in_next_phase (with_arrival core.0 bad S.keeper)
 
     all : IsWhole S core.0
     all = is-whole S core.0 bad inv.machine inv.phases (arriving S core.0 bad inv.machine new)

@@ -22,16 +22,17 @@ use Rattle.word_cache.specs.declared.row.Entry.TheVariants.{Valid, Registered}
 use Rattle.registration_protocol.specs.Node.{NodeParts, entry_of}
 use Rattle.registration_protocol.specs.Fit.{HoldsOwn}
 use Rattle.registration_protocol.specs.OwnEvents.{stored, noted_at}
+use Rattle.registration_protocol.specs.Parts.{held_locks}
 use Rattle.registration_protocol.proofs.EntryLemmas.{store-entry}
 use Rattle.registration_protocol.proofs.SignLemmas.{noted-holds, noted-keeps}
 use Rattle.registration_protocol.proofs.SignatureLemmas.{noted-get}
 use Rattle.machine_rules.specs.State.{State, entry_at, lock_at}
 use Rattle.machine_rules.specs.Flight.{bit}
-use Rattle.machine_rules.specs.Coherent.{HasWriter, held_locks, has_lock}
+use Rattle.machine_rules.specs.Coherent.{HasWriter, has_lock}
 use Rattle.machine_rules.proofs.Bits.{signed_in}
 use Rattle.machine_rules.proofs.Invariant.{Invariant, CopiesGood, MayHaveWritten, MayBeOld, carriers, carried_by}
 use Rattle.machine_rules.proofs.Steps.{NodeStep}
-use Rattle.machine_rules.proofs.Leaves.{IsActing, stored_to}
+use Rattle.machine_rules.proofs.Outcomes.{IsActing, stored_to}
 use Rattle.machine_rules.proofs.Exclusive.{in-phase, acting-works, store-right, differ}
 use Rattle.machine_rules.proofs.CopyFrames.{uses-kept}
 use Rattle.machine_rules.proofs.CopyNodes.{IsSteady, HasNoNew, old-at, node-now, leaves-other, leaves-steady, signed-steady, copies-node, fresh-own, fresh-other, own-entry}

@@ -25,12 +25,12 @@ use Rattle.machine_rules.specs.Memory.{store_in}
 use Rattle.machine_rules.specs.Coherent.{is_alive, waits_at_keeper}
 use Rattle.machine_rules.proofs.Invariant.{Invariant, is_right}
 use Rattle.machine_rules.proofs.Steps.{KeeperStep, letter_bit, Handled, handled, keeper-step}
-use Rattle.machine_rules.proofs.Leaves.{Leaves, Tells, BarrierStep, to_all, stored_to, at_keeper}
+use Rattle.machine_rules.proofs.Outcomes.{Outcomes, Tells, BarrierStep, to_all, stored_to, at_keeper}
 use Rattle.machine_rules.proofs.WordCore.{same-number}
 use Rattle.machine_rules.proofs.DispatchOwn.{instr-ways, evict-ways, arrive-ways}
 use Rattle.machine_rules.proofs.DispatchCore.{counts, goes-right, core-ways}
 use Rattle.machine_rules.proofs.DispatchBank.{bank-ways}
-use Rattle.machine_rules.proofs.AddressLeaves.{there-by}
+use Rattle.machine_rules.proofs.AddressOutcomes.{there-by}
 
 -- ---- the keeper
 
@@ -115,8 +115,8 @@ unmarked S M core inv some = by_case (slice_get_cases S.keeper.arrived core).1 w
   by_case (inr (past, is)) = absurd (omega (arith, within, past, inv.machine.nodes, inv.machine.cores))
 
 arrived-way : (S : State) (M : ℕ → ℕ) (id : MailId) (m : Mail) (core : CoreId) (bad : Bool) (G : (ℕ → ℕ) → Type 0) → Invariant S M → Handled S id m → m.to ≡ Keeper → m.message ≡ Arrived core bad
-    → Leaves S M (Handle id) G → G M
-arrived-way S M id m core bad G inv h to is leaves = by_all (all_arrived (with_arrival core.0 bad S.keeper)) refl where
+    → Outcomes S M (Handle id) G → G M
+arrived-way S M id m core bad G inv h to is outcomes = by_all (all_arrived (with_arrival core.0 bad S.keeper)) refl where
   one : 1 ≤ flight S (is_arrival_of core.0)
   one =
       let counted_here = subst (λ (x : Message). bit (is_arrival_of core.0 m.to x) ≤ flight S (is_arrival_of core.0)) is (counts S id m (is_arrival_of core.0) h) in
@@ -134,26 +134,26 @@ arrived-way S M id m core bad G inv h to is leaves = by_all (all_arrived (with_a
   by_over : all_arrived (with_arrival core.0 bad S.keeper) ≡ true → (x : Bool) → is_over (with_arrival core.0 bad S.keeper) ≡ x → G M
   by_over all true over =
       let now : keeper_gets S.keeper (Arrived core bad) ≡ (with_arrival core.0 bad S.keeper, verdict.Halt) = row ∙ (rw (all, over) refl) in
-      leaves.all_halt core bad new all over tells (barrier-step S id m core bad (with_arrival core.0 bad S.keeper) verdict.Halt (Some Halt) h to is now (λ p. letters-all p S.setting.shape.cores Halt))
+      outcomes.all_halt core bad new all over tells (barrier-step S id m core bad (with_arrival core.0 bad S.keeper) verdict.Halt (Some Halt) h to is now (λ p. letters-all p S.setting.shape.cores Halt))
   by_over all false over =
       let now : keeper_gets S.keeper (Arrived core bad) ≡ (in_next_phase (with_arrival core.0 bad S.keeper), verdict.Go (record { 0 = S.keeper.phase + 1 })) = row ∙ (rw (all, over) refl) in
-      leaves.all_go core bad new all over tells
+      outcomes.all_go core bad new all over tells
       (barrier-step S id m core bad (in_next_phase (with_arrival core.0 bad S.keeper)) (verdict.Go (record { 0 = S.keeper.phase + 1 })) (Some (Go (record { 0 = S.keeper.phase + 1 }))) h to is now
       (λ p. letters-all p S.setting.shape.cores (Go (record { 0 = S.keeper.phase + 1 }))))
 
   by_all : (x : Bool) → all_arrived (with_arrival core.0 bad S.keeper) ≡ x → G M
   by_all false more =
       let now : keeper_gets S.keeper (Arrived core bad) ≡ (with_arrival core.0 bad S.keeper, verdict.Wait) = row ∙ (rw (more) refl) in
-      leaves.arrived core bad new more tells (barrier-step S id m core bad (with_arrival core.0 bad S.keeper) verdict.Wait None h to is now (λ p. no-letters S.setting.shape.cores p))
+      outcomes.arrived core bad new more tells (barrier-step S id m core bad (with_arrival core.0 bad S.keeper) verdict.Wait None h to is now (λ p. no-letters S.setting.shape.cores p))
   by_all true all = by_over all (is_over (with_arrival core.0 bad S.keeper)) refl
 
-keeper-ways : (S : State) (M : ℕ → ℕ) (id : MailId) (m : Mail) (G : (ℕ → ℕ) → Type 0) → Invariant S M → Handled S id m → m.to ≡ Keeper → Leaves S M (Handle id) G → G M
-keeper-ways S M id m G inv h to leaves = by_message m.message refl where
+keeper-ways : (S : State) (M : ℕ → ℕ) (id : MailId) (m : Mail) (G : (ℕ → ℕ) → Type 0) → Invariant S M → Handled S id m → m.to ≡ Keeper → Outcomes S M (Handle id) G → G M
+keeper-ways S M id m G inv h to outcomes = by_message m.message refl where
   right : is_right S.setting.shape.cores S.setting.shape.banks Keeper m.message ≡ true
   right = subst (λ (a : Actor). is_right S.setting.shape.cores S.setting.shape.banks a m.message ≡ true) to (goes-right S M id m inv h)
 
   by_message : (message : Message) → m.message ≡ message → G M
-  by_message (Arrived core bad) is = arrived-way S M id m core bad G inv h to is leaves
+  by_message (Arrived core bad) is = arrived-way S M id m core bad G inv h to is outcomes
   by_message (ReadReq word reader) is = let wrong = rw (is) at right in absurd (cc)
   by_message (ReadFwd word reader) is = let wrong = rw (is) at right in absurd (cc)
   by_message (DataReply word value) is = let wrong = rw (is) at right in absurd (cc)
@@ -175,14 +175,14 @@ handle-stores : (S : State) (id : MailId) → store_in S (Handle id) ≡ None
 unfolding store_in
 handle-stores S id = refl
 
-pub ways : (S : State) (M : ℕ → ℕ) (e : Event) (G : (ℕ → ℕ) → Type 0) → Invariant S M → enabled S e ≡ true → Leaves S M e G → G (stored_to (store_in S e) M)
-ways S M (Instr core) G inv may leaves = instr-ways S M core G inv may leaves
-ways S M (Evict core word) G inv may leaves = evict-ways S M core word G inv may leaves
-ways S M (Arrive core) G inv may leaves = arrive-ways S M core G inv may leaves
-ways S M (Handle id) G inv may leaves = subst (λ (o : Option (WordId × ℕ)). G (stored_to o M)) (sym (handle-stores S id)) (by_mail (handled S id may)) where
+pub ways : (S : State) (M : ℕ → ℕ) (e : Event) (G : (ℕ → ℕ) → Type 0) → Invariant S M → enabled S e ≡ true → Outcomes S M e G → G (stored_to (store_in S e) M)
+ways S M (Instr core) G inv may outcomes = instr-ways S M core G inv may outcomes
+ways S M (Evict core word) G inv may outcomes = evict-ways S M core word G inv may outcomes
+ways S M (Arrive core) G inv may outcomes = arrive-ways S M core G inv may outcomes
+ways S M (Handle id) G inv may outcomes = subst (λ (o : Option (WordId × ℕ)). G (stored_to o M)) (sym (handle-stores S id)) (by_mail (handled S id may)) where
   by_mail : (m : Mail) × Handled S id m → G M
   by_mail (m, h) = by_actor m.to refl where
     by_actor : (a : Actor) → m.to ≡ a → G M
-    by_actor (Core core) to = core-ways S M id m core G inv h to leaves
-    by_actor (Bank bank) to = bank-ways S M id m bank G inv h to leaves
-    by_actor Keeper to = keeper-ways S M id m G inv h to leaves
+    by_actor (Core core) to = core-ways S M id m core G inv h to outcomes
+    by_actor (Bank bank) to = bank-ways S M id m bank G inv h to outcomes
+    by_actor Keeper to = keeper-ways S M id m G inv h to outcomes

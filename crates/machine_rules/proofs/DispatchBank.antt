@@ -40,10 +40,10 @@ use Rattle.machine_rules.proofs.Bits.{passes, pending_bit, leaving_bit, known_bi
 use Rattle.machine_rules.proofs.BitLemmas.{owner-bit}
 use Rattle.machine_rules.proofs.Invariant.{Invariant, is_right}
 use Rattle.machine_rules.proofs.Steps.{BankStep, Handled, bank-step}
-use Rattle.machine_rules.proofs.Leaves.{Leaves, Tells, WordStep, LockStep, at_bank}
+use Rattle.machine_rules.proofs.Outcomes.{Outcomes, Tells, WordStep, LockStep, at_bank}
 use Rattle.machine_rules.proofs.WordCore.{same-number}
 use Rattle.machine_rules.proofs.DispatchCore.{counts, goes-right, reading-word, locking-lock}
-use Rattle.machine_rules.proofs.AddressLeaves.{there-by}
+use Rattle.machine_rules.proofs.AddressOutcomes.{there-by}
 use Rattle.machine_rules.proofs.Exclusive.{reading-works}
 
 -- a bank that is there
@@ -201,8 +201,8 @@ known-word S M w inv within none =
 -- ---- reads
 
 read-way : (S : State) (M : ℕ → ℕ) (id : MailId) (bank : BankId) (word : WordId) (reader : CoreId) (b : BankParts) (G : (ℕ → ℕ) → Type 0)
-    → Leaves S M (Handle id) G → AtBank S M id bank (ReadReq word reader) word.0 b → G M
-read-way S M id bank word reader b G leaves at = by_home (home_at S word.0) refl where
+    → Outcomes S M (Handle id) G → AtBank S M id bank (ReadReq word reader) word.0 b → G M
+read-way S M id bank word reader b G outcomes at = by_home (home_at S word.0) refl where
   some : 1 ≤ reading_in word.0 (slice_get S.nodes reader.0)
   some =
       let one = rw (same-number word.0, same-number reader.0) at (at.counted (is_read_req_of word.0 reader.0)) in
@@ -223,19 +223,19 @@ read-way S M id bank word reader b G leaves at = by_home (home_at S word.0) refl
   by_home (Some (Home value)) is =
       let here = sym (home-is S M id bank (ReadReq word reader) word.0 b at) ∙ is in
       let row = read-home b word reader value inside here in
-      leaves.read_home bank word reader value is at.tells
+      outcomes.read_home bank word reader value is at.tells
       (word-step S M id bank (ReadReq word reader) word.0 b (Home value) (b, to_core reader (DataReply word value)) at row (same-words b word.0 (Home value) here) (λ l. refl))
   by_home (Some (Reg owner)) is =
       let here = sym (home-is S M id bank (ReadReq word reader) word.0 b at) ∙ is in
       let row = read-registered b word reader owner inside here in
-      leaves.read_owned bank word reader owner is at.tells
+      outcomes.read_owned bank word reader owner is at.tells
       (word-step S M id bank (ReadReq word reader) word.0 b (Reg owner) (b, to_core owner (ReadFwd word reader)) at row (same-words b word.0 (Reg owner) here) (λ l. refl))
 
 -- ---- registrations
 
 register-way : (S : State) (M : ℕ → ℕ) (id : MailId) (bank : BankId) (word : WordId) (core : CoreId) (b : BankParts) (G : (ℕ → ℕ) → Type 0)
-    → Leaves S M (Handle id) G → AtBank S M id bank (RegReq word core) word.0 b → G M
-register-way S M id bank word core b G leaves at = by_home (home_at S word.0) refl where
+    → Outcomes S M (Handle id) G → AtBank S M id bank (RegReq word core) word.0 b → G M
+register-way S M id bank word core b G outcomes at = by_home (home_at S word.0) refl where
   asked : 1 ≤ flight S (is_reg_req_of word.0 core.0)
   asked = rw (same-number word.0, same-number core.0) at (at.counted (is_reg_req_of word.0 core.0))
 
@@ -253,14 +253,14 @@ register-way S M id bank word core b G leaves at = by_home (home_at S word.0) re
   by_home (Some (Home value)) is =
       let here = sym (home-is S M id bank (RegReq word core) word.0 b at) ∙ is in
       let row = register-home b word core value inside here in
-      leaves.register_home bank word core value is at.tells
+      outcomes.register_home bank word core value is at.tells
       (word-step S M id bank (RegReq word core) word.0 b (Reg core) (with_word b word.0 (Reg core), to_core core (RegAck word)) at row
       (λ v. word-changed b word.0 v (Home value) (Reg core) size.1 here) (λ l. refl))
   by_home (Some (Reg owner)) is =
       let here = sym (home-is S M id bank (RegReq word core) word.0 b at) ∙ is in
       let other : owner.0 ≢ core.0 = λ same. not-own is same in
       let row = register-other b word core owner inside here other in
-      leaves.register_owned bank word core owner is other at.tells
+      outcomes.register_owned bank word core owner is other at.tells
       (word-step S M id bank (RegReq word core) word.0 b (Reg core) (with_word b word.0 (Reg core), to_core owner (RegFwd word core)) at row
       (λ v. word-changed b word.0 v (Reg owner) (Reg core) size.1 here) (λ l. refl))
     where
@@ -272,8 +272,8 @@ register-way S M id bank word core b G leaves at = by_home (home_at S word.0) re
 -- ---- write-backs
 
 back-way : (S : State) (M : ℕ → ℕ) (id : MailId) (bank : BankId) (word : WordId) (value : ℕ) (core : CoreId) (b : BankParts) (G : (ℕ → ℕ) → Type 0)
-    → Leaves S M (Handle id) G → AtBank S M id bank (WriteBack word value core) word.0 b → G M
-back-way S M id bank word value core b G leaves at = by_home (home_at S word.0) refl where
+    → Outcomes S M (Handle id) G → AtBank S M id bank (WriteBack word value core) word.0 b → G M
+back-way S M id bank word value core b G outcomes at = by_home (home_at S word.0) refl where
   given : 1 ≤ flight S (is_write_back_of word.0 core.0)
   given = rw (same-number word.0, same-number core.0) at (at.counted (is_write_back_of word.0 core.0))
 
@@ -291,7 +291,7 @@ back-way S M id bank word value core b G leaves at = by_home (home_at S word.0) 
   by_home (Some (Home old)) is =
       let here = sym (home-is S M id bank (WriteBack word value core) word.0 b at) ∙ is in
       let row = write_back-home b word value old core inside here in
-      leaves.write_past bank word core value (Home old) is refl at.tells
+      outcomes.write_past bank word core value (Home old) is refl at.tells
       (word-step S M id bank (WriteBack word value core) word.0 b (Home old) (b, to_core core (WbAck word)) at row (same-words b word.0 (Home old) here) (λ l. refl))
   by_home (Some (Reg owner)) is = by_owner owner is (owner.0 == core.0) refl where
     by_owner : (owner : CoreId) → home_at S word.0 ≡ Some (Reg owner) → (x : Bool) → (owner.0 == core.0) ≡ x → G M
@@ -299,14 +299,14 @@ back-way S M id bank word value core b G leaves at = by_home (home_at S word.0) 
         let same : owner ≡ core = ap (λ (x : ℕ). let c : CoreId = record { 0 = x } in c) (eqb-true owner.0 core.0 e) in
         let here = sym (home-is S M id bank (WriteBack word value core) word.0 b at) ∙ is in
         let row = write_back-own b word value core owner inside here (eqb-true owner.0 core.0 e) in
-        leaves.write_back bank word core value (is ∙ ap (λ (c : CoreId). Some (Reg c)) same) at.tells
+        outcomes.write_back bank word core value (is ∙ ap (λ (c : CoreId). Some (Reg c)) same) at.tells
         (word-step S M id bank (WriteBack word value core) word.0 b (Home value) (with_word b word.0 (Home value), to_core core (WbAck word)) at row
         (λ v. word-changed b word.0 v (Reg owner) (Home value) size.1 here) (λ l. refl))
     by_owner owner is false e =
         let other : owner.0 ≢ core.0 = λ same. absurd (grind (arith, nat_tests, e, same)) in
         let here = sym (home-is S M id bank (WriteBack word value core) word.0 b at) ∙ is in
         let row = write_back-other b word value core owner inside here other in
-        leaves.write_past bank word core value (Reg owner) is (ap bit e) at.tells
+        outcomes.write_past bank word core value (Reg owner) is (ap bit e) at.tells
         (word-step S M id bank (WriteBack word value core) word.0 b (Reg owner) (b, to_core core (WbAck word)) at row (same-words b word.0 (Reg owner) here) (λ l. refl))
 
 -- ---- locks
@@ -340,8 +340,8 @@ waiting-one S l c = by_bit (node_is_locking l (slice_get S.nodes c)) where
   by_bit false = omega arith
 
 acquire-way : (S : State) (M : ℕ → ℕ) (id : MailId) (bank : BankId) (lock : LockId) (core : CoreId) (b : BankParts) (G : (ℕ → ℕ) → Type 0)
-    → Leaves S M (Handle id) G → AtBank S M id bank (Acquire lock core) lock.0 b → G M
-acquire-way S M id bank lock core b G leaves at = by_lock (lock_at S lock.0) refl where
+    → Outcomes S M (Handle id) G → AtBank S M id bank (Acquire lock core) lock.0 b → G M
+acquire-way S M id bank lock core b G outcomes at = by_lock (lock_at S lock.0) refl where
   asked : 1 ≤ flight S (is_acquire_of lock.0 core.0)
   asked = rw (same-number lock.0, same-number core.0) at (at.counted (is_acquire_of lock.0 core.0))
 
@@ -369,14 +369,14 @@ acquire-way S M id bank lock core b G leaves at = by_lock (lock_at S lock.0) ref
     by_holder : (o : Option CoreId) → h.holder ≡ o → G M
     by_holder None free =
         let now = row ∙ ap (λ (x : Lock × Option Signature). (with_lock b lock.0 x.0, grants lock core x.1)) (acquired-free h core free) in
-        leaves.acquire_free bank lock core h is free at.tells
+        outcomes.acquire_free bank lock core h is free at.tells
         (lock-step S M id bank (Acquire lock core) lock.0 b (record h { holder = Some core }) (with_lock b lock.0 (record h { holder = Some core }), to_core core (Grant lock h.kept)) at now
         (λ v. refl) (λ k. lock-changed b lock.0 k h (record h { holder = Some core }) size.1 here))
     by_holder (Some holder) has =
         let none : times_queued core.0 h.queue ≡ 0 = omega (arith, asked, at.inv.locks.row lock.0 core.0, waiting-one S lock.0 core.0, ap (queued_in core.0) is) in
         let room = room-of b.cores h core ((at.inv.machine.bank bank.0 b at.found).well.locks lock.0 h here) inside none in
         let now = row ∙ ap (λ (x : Lock × Option Signature). (with_lock b lock.0 x.0, grants lock core x.1)) (acquired-held h core holder has none room) in
-        leaves.acquire_held bank lock core holder h is has at.tells
+        outcomes.acquire_held bank lock core holder h is has at.tells
         (lock-step S M id bank (Acquire lock core) lock.0 b (record h { queue = h.queue ++ core ∷ [] }) (with_lock b lock.0 (record h { queue = h.queue ++ core ∷ [] }), None) at now
         (λ v. refl) (λ k. lock-changed b lock.0 k h (record h { queue = h.queue ++ core ∷ [] }) size.1 here))
 
@@ -388,8 +388,8 @@ holder-inside cores h core well one = by_test (nat_lt core.0 cores) refl where
   by_test false e = absurd (omega (arith, one, outsider-holder cores h core.0 well (grind (arith, nat_tests, e))))
 
 release-way : (S : State) (M : ℕ → ℕ) (id : MailId) (bank : BankId) (lock : LockId) (core : CoreId) (s : Signature) (b : BankParts) (G : (ℕ → ℕ) → Type 0)
-    → Leaves S M (Handle id) G → AtBank S M id bank (Release lock core s) lock.0 b → G M
-release-way S M id bank lock core s b G leaves at = by_lock (lock_at S lock.0) refl where
+    → Outcomes S M (Handle id) G → AtBank S M id bank (Release lock core s) lock.0 b → G M
+release-way S M id bank lock core s b G outcomes at = by_lock (lock_at S lock.0) refl where
   given : 1 ≤ flight S (is_release_of lock.0 core.0)
   given = rw (same-number lock.0, same-number core.0) at (at.counted (is_release_of lock.0 core.0))
 
@@ -418,20 +418,20 @@ release-way S M id bank lock core s b G leaves at = by_lock (lock_at S lock.0) r
     by_queue [] none =
         let given_up = released-own h core s one ∙ ap (handed_on (record h { kept = joined h.kept s })) none in
         let now = row ∙ ap (λ (x : Lock × Option (CoreId × Signature)). (with_lock b lock.0 x.0, hands_on lock x.1)) given_up in
-        leaves.release_last bank lock core core s h is has refl none at.tells
+        outcomes.release_last bank lock core core s h is has refl none at.tells
         (lock-step S M id bank (Release lock core s) lock.0 b (record h { holder = None; kept = joined h.kept s }) (with_lock b lock.0 (record h { holder = None; kept = joined h.kept s }), None) at now
         (λ v. refl) (λ k. lock-changed b lock.0 k h (record h { holder = None; kept = joined h.kept s }) size.1 here))
     by_queue (waiter ∷ others) first =
         let given_up = released-own h core s one ∙ ap (handed_on (record h { kept = joined h.kept s })) first in
         let now = row ∙ ap (λ (x : Lock × Option (CoreId × Signature)). (with_lock b lock.0 x.0, hands_on lock x.1)) given_up in
-        leaves.release_on bank lock core core waiter others s h is has refl first at.tells
+        outcomes.release_on bank lock core core waiter others s h is has refl first at.tells
         (lock-step S M id bank (Release lock core s) lock.0 b (record h { holder = Some waiter; queue = others; kept = joined h.kept s })
         (with_lock b lock.0 (record h { holder = Some waiter; queue = others; kept = joined h.kept s }), to_core waiter (Grant lock (joined h.kept s))) at now
         (λ v. refl) (λ k. lock-changed b lock.0 k h (record h { holder = Some waiter; queue = others; kept = joined h.kept s }) size.1 here))
 
 -- a bank's mail, by its kind
-pub bank-ways : (S : State) (M : ℕ → ℕ) (id : MailId) (m : Mail) (bank : BankId) (G : (ℕ → ℕ) → Type 0) → Invariant S M → Handled S id m → m.to ≡ Bank bank → Leaves S M (Handle id) G → G M
-bank-ways S M id m bank G inv h to leaves = by_message m.message refl where
+pub bank-ways : (S : State) (M : ℕ → ℕ) (id : MailId) (m : Mail) (bank : BankId) (G : (ℕ → ℕ) → Type 0) → Invariant S M → Handled S id m → m.to ≡ Bank bank → Outcomes S M (Handle id) G → G M
+bank-ways S M id m bank G inv h to outcomes = by_message m.message refl where
   right : is_right S.setting.shape.cores S.setting.shape.banks (Bank bank) m.message ≡ true
   right = subst (λ (a : Actor). is_right S.setting.shape.cores S.setting.shape.banks a m.message ≡ true) to (goes-right S M id m inv h)
 
@@ -443,16 +443,16 @@ bank-ways S M id m bank G inv h to leaves = by_message m.message refl where
       way at.0 (at-bank S M id m bank message w at.0 inv h to is at.1 here)
 
   by_message : (message : Message) → m.message ≡ message → G M
-  by_message (ReadReq word reader) is = by_bank (ReadReq word reader) word.0 is (rw (is) at right) (λ b. read-way S M id bank word reader b G leaves)
+  by_message (ReadReq word reader) is = by_bank (ReadReq word reader) word.0 is (rw (is) at right) (λ b. read-way S M id bank word reader b G outcomes)
   by_message (ReadFwd word reader) is = let wrong = rw (is) at right in absurd (cc)
   by_message (DataReply word value) is = let wrong = rw (is) at right in absurd (cc)
-  by_message (RegReq word c) is = by_bank (RegReq word c) word.0 is (rw (is) at right) (λ b. register-way S M id bank word c b G leaves)
+  by_message (RegReq word c) is = by_bank (RegReq word c) word.0 is (rw (is) at right) (λ b. register-way S M id bank word c b G outcomes)
   by_message (RegFwd word c) is = let wrong = rw (is) at right in absurd (cc)
   by_message (RegAck word) is = let wrong = rw (is) at right in absurd (cc)
-  by_message (WriteBack word value c) is = by_bank (WriteBack word value c) word.0 is (rw (is) at right) (λ b. back-way S M id bank word value c b G leaves)
+  by_message (WriteBack word value c) is = by_bank (WriteBack word value c) word.0 is (rw (is) at right) (λ b. back-way S M id bank word value c b G outcomes)
   by_message (WbAck word) is = let wrong = rw (is) at right in absurd (cc)
-  by_message (Acquire lock c) is = by_bank (Acquire lock c) lock.0 is (rw (is) at right) (λ b. acquire-way S M id bank lock c b G leaves)
-  by_message (Release lock c s) is = by_bank (Release lock c s) lock.0 is (rw (is) at right) (λ b. release-way S M id bank lock c s b G leaves)
+  by_message (Acquire lock c) is = by_bank (Acquire lock c) lock.0 is (rw (is) at right) (λ b. acquire-way S M id bank lock c b G outcomes)
+  by_message (Release lock c s) is = by_bank (Release lock c s) lock.0 is (rw (is) at right) (λ b. release-way S M id bank lock c s b G outcomes)
   by_message (Grant lock s) is = let wrong = rw (is) at right in absurd (cc)
   by_message (Arrived c bad) is = let wrong = rw (is) at right in absurd (cc)
   by_message (Go phase) is = let wrong = rw (is) at right in absurd (cc)

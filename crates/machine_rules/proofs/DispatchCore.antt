@@ -37,7 +37,7 @@ use Rattle.machine_rules.proofs.Bits.{settled_bit, reading_in, is_reading}
 use Rattle.machine_rules.proofs.BitLemmas.{pending-is, leaving-is, bit-true}
 use Rattle.machine_rules.proofs.Invariant.{Invariant, is_lost, is_right, is_astray}
 use Rattle.machine_rules.proofs.Steps.{NodeStep, Handled, core-step}
-use Rattle.machine_rules.proofs.Leaves.{Leaves, Tells, at_core}
+use Rattle.machine_rules.proofs.Outcomes.{Outcomes, Tells, at_core}
 use Rattle.machine_rules.proofs.WordCore.{same-number}
 
 -- a mail in flight that passes a test is counted
@@ -119,69 +119,69 @@ locking-lock waiting lock some = let at = locking-waits waiting lock.0 some in a
 -- ---- the kinds of message, one by one
 
 reply-way : (S : State) (M : ℕ → ℕ) (id : MailId) (core : CoreId) (word : WordId) (value : ℕ) (n : NodeParts) (G : (ℕ → ℕ) → Type 0)
-    → Leaves S M (Handle id) G → AtNode S M id core (DataReply word value) n → G M
-reply-way S M id core word value n G leaves at =
+    → Outcomes S M (Handle id) G → AtNode S M id core (DataReply word value) n → G M
+reply-way S M id core word value n G outcomes at =
     let one = rw (same-number word.0, same-number core.0) at (at.counted (is_data_reply_to word.0 core.0)) in
     let here = ap (reading_in word.0) at.found in
     let waits = reading-word n.waiting word (omega (arith, one, here, at.inv.reads.row word.0 core.0)) in
     let reading = at.inv.reads.reading core.0 n word at.found waits in
     let is = data-is S.setting n word value waits reading.0 reading.1 in
-    leaves.reply core n word value at.found waits reading.0 reading.1 (at.tells _ is) (at.row _ is)
+    outcomes.reply core n word value at.found waits reading.0 reading.1 (at.tells _ is) (at.row _ is)
 
 ack-way : (S : State) (M : ℕ → ℕ) (id : MailId) (core : CoreId) (word : WordId) (n : NodeParts) (G : (ℕ → ℕ) → Type 0)
-    → Leaves S M (Handle id) G → AtNode S M id core (RegAck word) n → G M
-ack-way S M id core word n G leaves at =
+    → Outcomes S M (Handle id) G → AtNode S M id core (RegAck word) n → G M
+ack-way S M id core word n G outcomes at =
     let one = rw (same-number word.0, same-number core.0) at (at.counted (is_reg_ack_to word.0 core.0)) in
     let pending = pending-is (entry_at S core.0 word.0) (omega (arith, one, at.inv.words.row word.0 core.0)) in
     let entry : entry_of n word.0 ≡ Some (Registered pending.0 true) = sym (ap (entry_in word.0) at.found) ∙ pending.1 in
     let is = ack-is S.setting n word ∙ ap (reg_ack_row n word) entry in
-    leaves.acknowledge core n word pending.0 at.found entry (at.tells _ is) (at.row _ is)
+    outcomes.acknowledge core n word pending.0 at.found entry (at.tells _ is) (at.row _ is)
 
 freed-way : (S : State) (M : ℕ → ℕ) (id : MailId) (core : CoreId) (word : WordId) (n : NodeParts) (G : (ℕ → ℕ) → Type 0)
-    → Leaves S M (Handle id) G → AtNode S M id core (WbAck word) n → G M
-freed-way S M id core word n G leaves at =
+    → Outcomes S M (Handle id) G → AtNode S M id core (WbAck word) n → G M
+freed-way S M id core word n G outcomes at =
     let one = rw (same-number word.0, same-number core.0) at (at.counted (is_wb_ack_to word.0 core.0)) in
     let leaving = leaving-is (entry_at S core.0 word.0) (omega (arith, one, at.inv.words.row word.0 core.0)) in
     let entry : entry_of n word.0 ≡ Some (Leaving leaving.0) = sym (ap (entry_in word.0) at.found) ∙ leaving.1 in
     let is = back-is S.setting n word ∙ ap (wb_ack_row n word) entry in
-    leaves.freed core n word leaving.0 at.found entry (at.tells _ is) (at.row _ is)
+    outcomes.freed core n word leaving.0 at.found entry (at.tells _ is) (at.row _ is)
 
 forward-way : (S : State) (M : ℕ → ℕ) (id : MailId) (core other : CoreId) (word : WordId) (n : NodeParts) (G : (ℕ → ℕ) → Type 0)
-    → Leaves S M (Handle id) G → AtNode S M id core (RegFwd word other) n → G M
-forward-way S M id core other word n G leaves at = by_entry (entry_of n word.0) refl where
+    → Outcomes S M (Handle id) G → AtNode S M id core (RegFwd word other) n → G M
+forward-way S M id core other word n G outcomes at = by_entry (entry_of n word.0) refl where
   by_entry : (e : Option Entry) → entry_of n word.0 ≡ e → G M
   by_entry None is =
       let row = forward-is S.setting n word other ∙ ap (reg_fwd_row n word other) is in
-      leaves.forward_past core other n word at.found (ap settled_bit is) (at.tells _ row) (at.row _ row)
+      outcomes.forward_past core other n word at.found (ap settled_bit is) (at.tells _ row) (at.row _ row)
   by_entry (Some (Valid value marked)) is =
       let row = forward-is S.setting n word other ∙ ap (reg_fwd_row n word other) is in
-      leaves.forward_past core other n word at.found (ap settled_bit is) (at.tells _ row) (at.row _ row)
+      outcomes.forward_past core other n word at.found (ap settled_bit is) (at.tells _ row) (at.row _ row)
   by_entry (Some (Registered value true)) is =
       let row = forward-is S.setting n word other ∙ ap (reg_fwd_row n word other) is in
-      leaves.forward_past core other n word at.found (ap settled_bit is) (at.tells _ row) (at.row _ row)
+      outcomes.forward_past core other n word at.found (ap settled_bit is) (at.tells _ row) (at.row _ row)
   by_entry (Some (Registered value false)) is =
       let row = forward-is S.setting n word other ∙ ap (reg_fwd_row n word other) is in
-      leaves.forward core other n word value at.found is (at.tells _ row) (at.row _ row)
+      outcomes.forward core other n word value at.found is (at.tells _ row) (at.row _ row)
   by_entry (Some (Leaving value)) is =
       let row = forward-is S.setting n word other ∙ ap (reg_fwd_row n word other) is in
-      leaves.forward_past core other n word at.found (ap settled_bit is) (at.tells _ row) (at.row _ row)
+      outcomes.forward_past core other n word at.found (ap settled_bit is) (at.tells _ row) (at.row _ row)
 
 read-way : (S : State) (M : ℕ → ℕ) (id : MailId) (core reader : CoreId) (word : WordId) (n : NodeParts) (G : (ℕ → ℕ) → Type 0)
-    → Leaves S M (Handle id) G → AtNode S M id core (ReadFwd word reader) n → G M
-read-way S M id core reader word n G leaves at = by_entry (entry_of n word.0) refl where
+    → Outcomes S M (Handle id) G → AtNode S M id core (ReadFwd word reader) n → G M
+read-way S M id core reader word n G outcomes at = by_entry (entry_of n word.0) refl where
   by_entry : (e : Option Entry) → entry_of n word.0 ≡ e → G M
   by_entry None is =
       let row = read-is S.setting n word reader ∙ ap (read_fwd_row S.setting n word reader) is in
-      leaves.bounce core reader n word at.found (ap owned_value is) (at.tells _ row) (at.row _ row)
+      outcomes.bounce core reader n word at.found (ap owned_value is) (at.tells _ row) (at.row _ row)
   by_entry (Some (Valid value marked)) is =
       let row = read-is S.setting n word reader ∙ ap (read_fwd_row S.setting n word reader) is in
-      leaves.bounce core reader n word at.found (ap owned_value is) (at.tells _ row) (at.row _ row)
+      outcomes.bounce core reader n word at.found (ap owned_value is) (at.tells _ row) (at.row _ row)
   by_entry (Some (Registered value pending)) is =
       let row = read-is S.setting n word reader ∙ ap (read_fwd_row S.setting n word reader) is in
-      leaves.answer core reader n word value at.found (ap owned_value is) (at.tells _ row) (at.row _ row)
+      outcomes.answer core reader n word value at.found (ap owned_value is) (at.tells _ row) (at.row _ row)
   by_entry (Some (Leaving value)) is =
       let row = read-is S.setting n word reader ∙ ap (read_fwd_row S.setting n word reader) is in
-      leaves.answer core reader n word value at.found (ap owned_value is) (at.tells _ row) (at.row _ row)
+      outcomes.answer core reader n word value at.found (ap owned_value is) (at.tells _ row) (at.row _ row)
 
 -- a node that waits for a lock isn't at the barrier, nor halted
 busy : (S : State) (M : ℕ → ℕ) (core : ℕ) (n : NodeParts) (lock : LockId) → Invariant S M → slice_get S.nodes core ≡ Some n → n.waiting ≡ wait.TheVariants.Locking lock
@@ -196,8 +196,8 @@ busy S M core n lock inv found waits = (by_halted n.halted refl, by_arrived n.ar
   by_arrived true is = let none = (inv.phases.arrived core n found is).waiting in absurd (cc)
 
 grant-way : (S : State) (M : ℕ → ℕ) (id : MailId) (core : CoreId) (lock : LockId) (s : Signature) (n : NodeParts) (G : (ℕ → ℕ) → Type 0)
-    → Leaves S M (Handle id) G → AtNode S M id core (Grant lock s) n → G M
-grant-way S M id core lock s n G leaves at = by_task n.task refl where
+    → Outcomes S M (Handle id) G → AtNode S M id core (Grant lock s) n → G M
+grant-way S M id core lock s n G outcomes at = by_task n.task refl where
   waits : n.waiting ≡ wait.TheVariants.Locking lock
   waits =
       let one = rw (same-number lock.0, same-number core.0) at (at.counted (is_grant_to lock.0 core.0)) in
@@ -220,7 +220,7 @@ grant-way S M id core lock s n G leaves at = by_task n.task refl where
       let marks = busy S M core.0 n lock at.inv at.found waits in
       let row = grant-is S.setting n t lock s waits is in
       let mine : n.core ≡ core.0 = own in
-      leaves.grant core n next_is.decl t lock s at.found waits is next_is.going
+      outcomes.grant core n next_is.decl t lock s at.found waits is next_is.going
       (subst (λ (x : ℕ). declared S.setting.program n.phase x ≡ Some next_is.decl) mine next_is.declares) next_is.asks marks.0 marks.1
       (subst (λ (x : ℕ). Tells S (Handle id) None (Some (record { phase = record { 0 = n.phase }; core = record { 0 = x }; lock = lock })) None) mine (at.tells _ row))
       (at.row _ row)
@@ -241,8 +241,8 @@ alive-one (Some n) = by_bit (n.arrived && not n.halted) where
   by_bit false = omega arith
 
 go-way : (S : State) (M : ℕ → ℕ) (id : MailId) (core : CoreId) (phase : PhaseId) (n : NodeParts) (G : (ℕ → ℕ) → Type 0)
-    → Leaves S M (Handle id) G → AtNode S M id core (Go phase) n → G M
-go-way S M id core phase n G leaves at =
+    → Outcomes S M (Handle id) G → AtNode S M id core (Go phase) n → G M
+go-way S M id core phase n G outcomes at =
     let one = rw (same-number core.0) at (at.counted (is_go_to core.0)) in
     let here = ap (λ (o : Option NodeParts). bit (is_alive o)) at.found in
     let row = at.inv.phases.row core.0 in
@@ -253,7 +253,7 @@ go-way S M id core phase n G leaves at =
     let next_is : phase.0 ≡ n.phase + 1 = omega (arith, right, single, later) in
     let within = in_program (at.inv.phases.within) (((at.inv.machine.node core.0 n at.found).fits).phase marks.1) right in
     let is = go-is S.setting n phase marks.0 marks.1 next_is within in
-    leaves.go core n phase at.found marks.1 marks.0 right next_is within (at.tells _ is) (at.row _ is)
+    outcomes.go core n phase at.found marks.1 marks.0 right next_is within (at.tells _ is) (at.row _ is)
   where
     same_phase : (x : Bool) → (phase.0 == S.keeper.phase) ≡ x → bit (not x) ≤ flight S (is_astray S.keeper.phase) → phase.0 ≡ S.keeper.phase
     same_phase true e one = eqb-true phase.0 S.keeper.phase e
@@ -265,17 +265,17 @@ go-way S M id core phase n G leaves at =
     in_program (inr none) here right = absurd (omega (arith, none, here))
 
 halt-way : (S : State) (M : ℕ → ℕ) (id : MailId) (core : CoreId) (n : NodeParts) (G : (ℕ → ℕ) → Type 0)
-    → Leaves S M (Handle id) G → AtNode S M id core Halt n → G M
-halt-way S M id core n G leaves at =
+    → Outcomes S M (Handle id) G → AtNode S M id core Halt n → G M
+halt-way S M id core n G outcomes at =
     let one = rw (same-number core.0) at (at.counted (is_halt_to core.0)) in
     let here = ap (λ (o : Option NodeParts). bit (is_alive o)) at.found in
     let marks = called n (omega (arith, one, here, at.inv.phases.row core.0)) in
     let is = halt-is S.setting n marks.0 in
-    leaves.halt core n at.found marks.1 marks.0 (at.tells _ is) (at.row _ is)
+    outcomes.halt core n at.found marks.1 marks.0 (at.tells _ is) (at.row _ is)
 
 -- a core's mail, by its kind
-pub core-ways : (S : State) (M : ℕ → ℕ) (id : MailId) (m : Mail) (core : CoreId) (G : (ℕ → ℕ) → Type 0) → Invariant S M → Handled S id m → m.to ≡ Core core → Leaves S M (Handle id) G → G M
-core-ways S M id m core G inv h to leaves = by_message m.message refl where
+pub core-ways : (S : State) (M : ℕ → ℕ) (id : MailId) (m : Mail) (core : CoreId) (G : (ℕ → ℕ) → Type 0) → Invariant S M → Handled S id m → m.to ≡ Core core → Outcomes S M (Handle id) G → G M
+core-ways S M id m core G inv h to outcomes = by_message m.message refl where
   right : is_right S.setting.shape.cores S.setting.shape.banks (Core core) m.message ≡ true
   right = subst (λ (a : Actor). is_right S.setting.shape.cores S.setting.shape.banks a m.message ≡ true) to (goes-right S M id m inv h)
 
@@ -287,16 +287,16 @@ core-ways S M id m core G inv h to leaves = by_message m.message refl where
 
   by_message : (message : Message) → m.message ≡ message → G M
   by_message (ReadReq word reader) is = let wrong = rw (is) at right in absurd (cc)
-  by_message (ReadFwd word reader) is = by_node (ReadFwd word reader) is (rw (is) at right) (λ n. read-way S M id core reader word n G leaves)
-  by_message (DataReply word value) is = by_node (DataReply word value) is (rw (is) at right) (λ n. reply-way S M id core word value n G leaves)
+  by_message (ReadFwd word reader) is = by_node (ReadFwd word reader) is (rw (is) at right) (λ n. read-way S M id core reader word n G outcomes)
+  by_message (DataReply word value) is = by_node (DataReply word value) is (rw (is) at right) (λ n. reply-way S M id core word value n G outcomes)
   by_message (RegReq word c) is = let wrong = rw (is) at right in absurd (cc)
-  by_message (RegFwd word c) is = by_node (RegFwd word c) is (rw (is) at right) (λ n. forward-way S M id core c word n G leaves)
-  by_message (RegAck word) is = by_node (RegAck word) is (rw (is) at right) (λ n. ack-way S M id core word n G leaves)
+  by_message (RegFwd word c) is = by_node (RegFwd word c) is (rw (is) at right) (λ n. forward-way S M id core c word n G outcomes)
+  by_message (RegAck word) is = by_node (RegAck word) is (rw (is) at right) (λ n. ack-way S M id core word n G outcomes)
   by_message (WriteBack word value c) is = let wrong = rw (is) at right in absurd (cc)
-  by_message (WbAck word) is = by_node (WbAck word) is (rw (is) at right) (λ n. freed-way S M id core word n G leaves)
+  by_message (WbAck word) is = by_node (WbAck word) is (rw (is) at right) (λ n. freed-way S M id core word n G outcomes)
   by_message (Acquire lock c) is = let wrong = rw (is) at right in absurd (cc)
   by_message (Release lock c s) is = let wrong = rw (is) at right in absurd (cc)
-  by_message (Grant lock s) is = by_node (Grant lock s) is (rw (is) at right) (λ n. grant-way S M id core lock s n G leaves)
+  by_message (Grant lock s) is = by_node (Grant lock s) is (rw (is) at right) (λ n. grant-way S M id core lock s n G outcomes)
   by_message (Arrived c bad) is = let wrong = rw (is) at right in absurd (cc)
-  by_message (Go phase) is = by_node (Go phase) is (rw (is) at right) (λ n. go-way S M id core phase n G leaves)
-  by_message Halt is = by_node Halt is (rw (is) at right) (λ n. halt-way S M id core n G leaves)
+  by_message (Go phase) is = by_node (Go phase) is (rw (is) at right) (λ n. go-way S M id core phase n G outcomes)
+  by_message Halt is = by_node Halt is (rw (is) at right) (λ n. halt-way S M id core n G outcomes)

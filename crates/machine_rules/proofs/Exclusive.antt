@@ -31,7 +31,7 @@ use Rattle.machine_rules.specs.Flight.{bit}
 use Rattle.machine_rules.specs.Coherent.{NeedsValue, HasArrived, has_lock, holder_in, is_alive}
 use Rattle.machine_rules.proofs.Bits.{pending_bit, reading_in, is_reading}
 use Rattle.machine_rules.proofs.Invariant.{Invariant, LocksGood}
-use Rattle.machine_rules.proofs.Leaves.{IsActing}
+use Rattle.machine_rules.proofs.Outcomes.{IsActing}
 
 -- the node n of a core is neither at the barrier nor halted; its task is t, and the program declares it as d
 pub record IsAtWork (S : State) (c : ℕ) (n : NodeParts) (d : TaskDecl) (t : TaskState) : Type 0 where

@@ -23,10 +23,11 @@ use Rattle.registration_protocol.specs.declared.node.NodeWait as wait
 use Rattle.registration_protocol.specs.declared.node.NodeWait.{NodeWait}
 use Rattle.registration_protocol.specs.Node.{NodeParts, entry_of}
 use Rattle.registration_protocol.specs.OwnEvents.{task_ended_badly}
+use Rattle.registration_protocol.specs.Parts.{held_locks}
 use Rattle.machine_rules.specs.State.{State, entry_at, home_at, lock_at}
 use Rattle.machine_rules.specs.Sound.{IsMachine}
 use Rattle.machine_rules.specs.Flight.{Test, bit, flight, is_reg_req_of, is_reg_fwd_of, is_reg_fwd_to, is_reg_fwd_to_itself, is_reg_ack_to, is_write_back_of, is_write_back_with, is_wb_ack_to, is_read_req_of, is_read_fwd_of, is_read_fwd_to, is_data_reply_to, is_false_data_reply, is_acquire_of, is_release_of, is_grant_to, is_arrival_of, is_go_to, is_halt_to}
-use Rattle.machine_rules.specs.Coherent.{MayStore, UsesPlainly, IsBehind, HasWriter, NeedsValue, HasArrived, owned_value, held_locks, has_lock, node_is_locking, queued_in, holder_in, is_alive, waits_at_keeper, counts_bad}
+use Rattle.machine_rules.specs.Coherent.{MayStore, UsesPlainly, IsBehind, HasWriter, NeedsValue, HasArrived, owned_value, has_lock, node_is_locking, queued_in, holder_in, is_alive, waits_at_keeper, counts_bad}
 use Rattle.machine_rules.proofs.Bits.{pending_bit, settled_bit, leaving_bit, known_bit, owner_bit, reading_in, same_signature, signed_in}
 
 -- ---- Where mails go.

@@ -1,7 +1,7 @@
 -- The task of a core in a phase, as its node last had it: what the program declares, and none before the core comes to the
 -- phase; once the core has gone on, no later state shows it.
 use Rattle.std.proofs.Common.{◌≡◌, ℕ, ◌+◌, ◌<◌, ◌≤◌, ◌==◌, Bool, true, false, cond, List, [], ◌∷◌, slice_get, Option, Some, None, refl, sym, ap, subst, ◌∙◌, arith}
-use Rattle.std.specs.Option.{is_some}
+use Rattle.std.specs.Option.{is_some, option_or}
 use Rattle.std.proofs.lemmas.Bool.{eqb-true}
 use Rattle.std.proofs.lemmas.Bool.Decides.{nat_tests}
 use Rattle.std.proofs.lemmas.Option.{none-some}
@@ -10,14 +10,15 @@ use Rattle.region_table.specs.Tasks.{declared}
 use Rattle.rv_core.specs.declared.task.TaskState.{TaskState}
 use Rattle.message_net.specs.declared.event.Event.{Event}
 use Rattle.registration_protocol.specs.Node.{NodeParts, Setting}
+use Rattle.registration_protocol.specs.Parts.{retired_so_far}
 use Rattle.machine_rules.specs.State.{State}
 use Rattle.machine_rules.specs.Next.{next}
 use Rattle.machine_rules.specs.Memory.{store_in}
-use Rattle.machine_rules.specs.Runs.{IsRun, newer_or}
-use Rattle.machine_rules.specs.Bound.{task_in_phase, last_task, retired_so_far}
+use Rattle.machine_rules.specs.Runs.{IsRun}
+use Rattle.machine_rules.specs.Bound.{task_in_phase, last_task}
 use Rattle.machine_rules.specs.Sound.{IsSound}
 use Rattle.machine_rules.proofs.Invariant.{Invariant}
-use Rattle.machine_rules.proofs.Leaves.{stored_to}
+use Rattle.machine_rules.proofs.Outcomes.{stored_to}
 use Rattle.machine_rules.proofs.SoundEvents.{sound-next}
 use Rattle.machine_rules.proofs.Kept.{kept}
 use Rattle.machine_rules.proofs.RunsKept.{same-setting}
@@ -40,7 +41,7 @@ none-past S M count (e ∷ es) q c n sound inv run found past =
     let after_it = sound-next S count e sound run.0 in
     let on = (goes-on S M e inv run.0).each c n found in
     let rest = none-past (next S e) (stored_to (store_in S e) M) (count + 1) es q c on.node after_it (kept S M e inv run.0 after_it.machine) run.1 on.found (omega (arith, past, on.past)) in
-    ap (λ (o : Option TaskState). newer_or o (task_in_phase q (slice_get S.nodes c))) rest ∙ (ap (task_in_phase q) found ∙ past-task q n past)
+    ap (λ (o : Option TaskState). option_or o (task_in_phase q (slice_get S.nodes c))) rest ∙ (ap (task_in_phase q) found ∙ past-task q n past)
 
 -- ---- the task that a node had is one that the program declares, and within its fuel
 
@@ -80,7 +81,7 @@ last-declared S M count (e ∷ es) q c t sound inv run is =
     by_last (last_task q c (next S e) es) refl (λ u last. last-declared (next S e) (stored_to (store_in S e) M) (count + 1) es q c u after_it (kept S M e inv run.0 after_it.machine) run.1 last) is
   where
     by_last : (o : Option TaskState) → last_task q c (next S e) es ≡ o → ((u : TaskState) → last_task q c (next S e) es ≡ Some u → IsTaskOf (next S e).setting q c u)
-        → newer_or o (task_in_phase q (slice_get S.nodes c)) ≡ Some t → IsTaskOf S.setting q c t
+        → option_or o (task_in_phase q (slice_get S.nodes c)) ≡ Some t → IsTaskOf S.setting q c t
     by_last None last rest is = node-task S M q c t inv is
     by_last (Some u) last rest is = subst (λ (C : Setting). IsTaskOf C q c t) (same-setting S e) (rest t (last ∙ is))
 

@@ -3,7 +3,7 @@ pub mod Invariant
 mod Lists
 pub mod Steps
 pub mod BitLemmas
-pub mod Leaves
+pub mod Outcomes
 mod ReadableWords
 mod ReadablePhases
 pub mod ReadableValues
@@ -18,35 +18,35 @@ mod WordRights
 mod WordMade
 mod WordMoves
 mod WordBacks
-mod WordLeaves
+mod WordOutcomes
 pub mod Exclusive
-mod AddressLeaves
+mod AddressOutcomes
 pub mod PhaseRows
 mod PhaseNodes
 pub mod PhaseWhole
 mod PhaseKeeper
-mod PhaseLeaves
+mod PhaseOutcomes
 mod NodeEntries
 mod ReadMails
 mod ReadEvents
 mod ReadSteps
 mod ReadHome
-mod ReadLeaves
+mod ReadOutcomes
 mod ValueEvents
 mod ValueSteps
 mod ValueStores
-mod ValueLeaves
+mod ValueOutcomes
 mod LockRows
 mod LockHomes
 mod LockSigns
-mod LockLeaves
+mod LockOutcomes
 mod CopyFrames
 mod CopyNodes
 mod CopyGrants
 mod CopyPhases
 mod CopyStores
 mod CopyEvents
-mod CopyLeaves
+mod CopyOutcomes
 mod DispatchOwn
 mod DispatchCore
 mod DispatchBank
@@ -58,13 +58,13 @@ pub mod OpenedFacts
 pub mod OpenedSound
 pub mod OpenedInvariant
 mod ReadableLocks
-mod BehindLeaves
+mod BehindOutcomes
 mod ReadableMails
 mod Found
 mod ReadableCopies
 mod Readable
 pub mod LoadsRead
-mod EndedLeaves
+mod EndedOutcomes
 pub mod Kept
 pub mod RunsKept
 pub mod RunsCoherent
@@ -74,10 +74,10 @@ mod Spending
 mod Totals
 mod SpendSteps
 mod SpendNodes
-mod SpendLeaves
+mod SpendOutcomes
 mod SpendBound
 mod PhasesOn
-mod PlainLeaves
+mod PlainOutcomes
 mod LastTasks
 pub mod NoPhases
 pub mod BoundRuns

@@ -32,7 +32,7 @@ use Rattle.machine_rules.specs.Coherent.{owned_value, IsBehind, HasWriter}
 use Rattle.machine_rules.proofs.Bits.{pending_bit, settled_bit}
 use Rattle.machine_rules.proofs.BitLemmas.{owner-is}
 use Rattle.machine_rules.proofs.Invariant.{Invariant, AllSettled, MayBeOld, MayHaveWritten}
-use Rattle.machine_rules.proofs.Leaves.{Leaves, IsActing}
+use Rattle.machine_rules.proofs.Outcomes.{Outcomes, IsActing}
 use Rattle.machine_rules.proofs.Exclusive.{acting-works, in-phase, load-none-pending}
 use Rattle.machine_rules.proofs.ValueEvents.{settled-owner}
 use Rattle.machine_rules.proofs.ReadableValues.{value-is}
@@ -162,8 +162,8 @@ one-seen S M e word value told right seen is =
     let same : record { word = word; value = value } ≡ seen = cc in
     subst (λ (x : LoadSeen). x.value ≡ M x.word.0) same right
 
-loads-leaves : (S : State) (M : ℕ → ℕ) (e : Event) → Invariant S M → Leaves S M e (λ M'. IsTrueLoad S M e)
-loads-leaves S M e inv =
+loads-outcomes : (S : State) (M : ℕ → ℕ) (e : Event) → Invariant S M → Outcomes S M e (λ M'. IsTrueLoad S M e)
+loads-outcomes S M e inv =
     record {
       local = λ core n d t acts told step. none-seen S M e told.seen_is;
       ends = λ core n d t by acts told step. none-seen S M e told.seen_is;
@@ -204,7 +204,7 @@ loads-leaves S M e inv =
     }
 
 pub loads-read : (S : State) (M : ℕ → ℕ) (e : Event) → Invariant S M → enabled S e ≡ true → (seen : LoadSeen) → seen_in S e ≡ Some seen → seen.value ≡ M seen.word.0
-loads-read S M e inv may = ways S M e (λ M'. IsTrueLoad S M e) inv may (loads-leaves S M e inv)
+loads-read S M e inv may = ways S M e (λ M'. IsTrueLoad S M e) inv may (loads-outcomes S M e inv)
 
 -- so it reads the word's value
 pub loads-value : (S : State) (M : ℕ → ℕ) (e : Event) → Invariant S M → enabled S e ≡ true → (seen : LoadSeen) → seen_in S e ≡ Some seen → seen.value ≡ word_value S seen.word.0

@@ -11,9 +11,10 @@ use Rattle.message_net.specs.declared.actor.Actor.TheVariants.{Core, Bank}
 use Rattle.message_net.specs.declared.message.Message.TheVariants.{Acquire, Release, Grant}
 use Rattle.message_net.specs.declared.message.Outgoing.{Outgoing}
 use Rattle.registration_protocol.specs.Node.{NodeParts}
+use Rattle.registration_protocol.specs.Parts.{held_locks}
 use Rattle.machine_rules.specs.State.{State, lock_at}
 use Rattle.machine_rules.specs.Flight.{bit, is_acquire_of, is_release_of, is_grant_to}
-use Rattle.machine_rules.specs.Coherent.{held_locks, holds_lock, has_lock, is_locking, node_is_locking, queued_in, holder_in}
+use Rattle.machine_rules.specs.Coherent.{holds_lock, has_lock, is_locking, node_is_locking, queued_in, holder_in}
 use Rattle.machine_rules.proofs.Invariant.{LocksGood, LockRow, lock_counts}
 use Rattle.machine_rules.proofs.Steps.{NodeStep}
 use Rattle.machine_rules.proofs.WordEvents.{Flown, Balance}

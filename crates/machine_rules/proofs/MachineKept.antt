@@ -7,7 +7,7 @@ use Rattle.message_net.specs.declared.actor.MailId.{MailId}
 use Rattle.message_net.specs.declared.message.Outgoing.{Outgoing}
 use Rattle.message_net.specs.Mail.{has_actor, all_mails}
 use Rattle.message_net.proofs.PoolLemmas.{AreDistinct-taken}
-use Rattle.message_net.proofs.MailLemmas.{place_of-within}
+use Rattle.message_net.proofs.MailLemmas.{actor_index-within}
 use Rattle.registry_bank.specs.Bank.{BankParts, IsBank, bank_word, bank_lock}
 use Rattle.registry_bank.proofs.KeptLemmas.{KeepsPlace}
 use Rattle.phase_barrier.specs.Barrier.{Barrier}
@@ -55,7 +55,7 @@ machine-posts S from sent there good =
     }
   where
     within : actor_index_in S from < length S.numbers
-    within = omega (arith, good.numbers, place_of-within S.setting.shape.cores S.setting.shape.banks from there)
+    within = omega (arith, good.numbers, actor_index-within S.setting.shape.cores S.setting.shape.banks from there)
 
 pub machine-taken : (S : State) (id : MailId) → IsMachine S → IsMachine (without_mail S id)
 machine-taken S id good =

@@ -7,8 +7,8 @@ use Rattle.std.proofs.lemmas.Option.{slice_get-map}
 use Rattle.queue_lock.specs.Lock.{free_lock}
 use Rattle.registry_bank.specs.Bank.{initial_bank, first_word, IsNewBank}
 use Rattle.registry_bank.proofs.Opened.{opened-is-new}
-use Rattle.phase_barrier.specs.Barrier.{initial_barrier as opened_barrier}
-use Rattle.registration_protocol.specs.Node.{NodeParts, Setting, initial_node as opened_node}
+use Rattle.phase_barrier.specs.Barrier.{initial_barrier}
+use Rattle.registration_protocol.specs.Node.{NodeParts, Setting, initial_node}
 use Rattle.registration_protocol.specs.Fit.{IsContext}
 use Rattle.machine_rules.specs.State.{initial_state, entry_in, entry_at, word_in, home_at, lock_in, lock_at}
 use Rattle.machine_rules.specs.Flight.{Test, flight}
@@ -35,28 +35,28 @@ pub opened-flight : (C : Setting) (p : Test) → flight (initial_state C) p ≡ 
 unfolding initial_state
 opened-flight C p = refl
 
-pub opened-keeper : (C : Setting) → (initial_state C).keeper ≡ opened_barrier C.shape.cores (length C.program.phases)
+pub opened-keeper : (C : Setting) → (initial_state C).keeper ≡ initial_barrier C.shape.cores (length C.program.phases)
 unfolding initial_state
 opened-keeper C = refl
 
-opened-nodes : (C : Setting) (c : ℕ) → slice_get (initial_state C).nodes c ≡ cond (nat_lt c C.shape.cores) (Some (opened_node C c)) None
+opened-nodes : (C : Setting) (c : ℕ) → slice_get (initial_state C).nodes c ≡ cond (nat_lt c C.shape.cores) (Some (initial_node C c)) None
 unfolding initial_state
-opened-nodes C c = get-made (opened_node C) C.shape.cores c
+opened-nodes C c = get-made (initial_node C) C.shape.cores c
 
 -- a node of the opened machine
 pub record IsNewNode (C : Setting) (c : ℕ) (n : NodeParts) : Type 0 where
   pub below : c < C.shape.cores
-  pub is : n ≡ opened_node C c
+  pub is : n ≡ initial_node C c
 
 pub opened-node : (C : Setting) (c : ℕ) (n : NodeParts) → slice_get (initial_state C).nodes c ≡ Some n → IsNewNode C c n
 opened-node C c n found = by_test (nat_lt c C.shape.cores) refl (sym (opened-nodes C c) ∙ found) where
-  by_test : (t : Bool) → nat_lt c C.shape.cores ≡ t → cond t (Some (opened_node C c)) None ≡ Some n → IsNewNode C c n
+  by_test : (t : Bool) → nat_lt c C.shape.cores ≡ t → cond t (Some (initial_node C c)) None ≡ Some n → IsNewNode C c n
   by_test true e is = record { below = grind (arith, nat_tests, e); is = cc }
   by_test false e is = absurd (cc)
 
 pub opened-entry : (C : Setting) (c w : ℕ) → entry_at (initial_state C) c w ≡ None
 opened-entry C c w = ap (entry_in w) (opened-nodes C c) ∙ by_test (nat_lt c C.shape.cores) where
-  by_test : (t : Bool) → entry_in w (cond t (Some (opened_node C c)) None) ≡ None
+  by_test : (t : Bool) → entry_in w (cond t (Some (initial_node C c)) None) ≡ None
   by_test true = refl
   by_test false = refl
 

@@ -18,14 +18,15 @@ use Rattle.write_signature.proofs.SignatureLemmas.{tag-empty}
 use Rattle.queue_lock.specs.Lock.{Lock, free_lock}
 use Rattle.registry_bank.specs.declared.bank.BankWord.TheVariants.{Home, Reg}
 use Rattle.registry_bank.specs.Bank.{first_word}
-use Rattle.phase_barrier.specs.Barrier.{Barrier, all_arrived, initial_barrier as opened_barrier}
+use Rattle.phase_barrier.specs.Barrier.{Barrier, all_arrived, initial_barrier}
 use Rattle.phase_barrier.proofs.ArrivalLemmas.{unmarked}
 use Rattle.phase_barrier.proofs.CountLemmas.{missing-one}
-use Rattle.registration_protocol.specs.Node.{NodeParts, Setting, is_running, initial_node as opened_node}
+use Rattle.registration_protocol.specs.Node.{NodeParts, Setting, is_running, initial_node}
 use Rattle.registration_protocol.specs.Fit.{IsContext}
+use Rattle.registration_protocol.specs.Parts.{held_locks}
 use Rattle.machine_rules.specs.State.{initial_state, lock_at}
 use Rattle.machine_rules.specs.Flight.{bit, is_reg_req_of, is_reg_fwd_of, is_reg_fwd_to, is_reg_fwd_to_itself, is_reg_ack_to, is_write_back_of, is_wb_ack_to, is_read_req_of, is_read_fwd_of, is_read_fwd_to, is_data_reply_to, is_false_data_reply, is_acquire_of, is_release_of, is_grant_to, is_arrival_of, is_go_to, is_halt_to}
-use Rattle.machine_rules.specs.Coherent.{HasArrived, held_locks, has_lock, holds_lock, node_is_locking, queued_in, holder_in, is_alive, waits_at_keeper}
+use Rattle.machine_rules.specs.Coherent.{HasArrived, has_lock, holds_lock, node_is_locking, queued_in, holder_in, is_alive, waits_at_keeper}
 use Rattle.machine_rules.proofs.Bits.{pending_bit, settled_bit, leaving_bit, owner_bit, reading_in}
 use Rattle.machine_rules.proofs.Invariant.{Invariant, WordsGood, WordRow, word_counts, LocksGood, LockRow, lock_counts, PhasesGood, PhaseRow, phase_counts, ReadsGood, ReadRow, read_counts, ValuesGood, CopiesGood, is_lost, is_late, is_unlike, is_astray, is_lie}
 use Rattle.machine_rules.proofs.OpenedFacts.{opened-setting, opened-flight, opened-keeper, opened-node, opened-entry, opened-home, opened-lock}
@@ -130,12 +131,12 @@ none-declared : (phases : List Phase) (core : ℕ) → (length phases == 0) ≡ 
 none-declared [] core none = refl
 none-declared (p ∷ ps) core none = absurd (grind (arith, nat_tests, none))
 
-first-asleep : (C : Setting) (c : ℕ) → (opened_node C c).halted ≡ true → HasArrived (opened_node C c)
+first-asleep : (C : Setting) (c : ℕ) → (initial_node C c).halted ≡ true → HasArrived (initial_node C c)
 first-asleep C c none = record { settled = refl; waiting = refl; over = none-declared C.program.phases c none }
 
 not-whole : (C : Setting) (c : ℕ) → c < C.shape.cores → all_arrived (initial_state C).keeper ≡ false
 not-whole C c below =
-    rw (opened-keeper C) (missing-one (opened_barrier C.shape.cores (length C.program.phases)) c (unmarked C.shape.cores c below))
+    rw (opened-keeper C) (missing-one (initial_barrier C.shape.cores (length C.program.phases)) c (unmarked C.shape.cores c below))
 
 phases-row : (C : Setting) (c : ℕ) → PhaseRow (phase_counts (initial_state C) c)
 phases-row C c = omega (arith, nobody-alive C c, nobody-waits C c, opened-flight C (is_arrival_of c), opened-flight C (is_go_to c), opened-flight C (is_halt_to c))

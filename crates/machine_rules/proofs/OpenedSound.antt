@@ -9,7 +9,7 @@ use Rattle.region_table.specs.Program.{IsProgram}
 use Rattle.queue_lock.specs.Lock.{free_lock}
 use Rattle.registry_bank.specs.Bank.{BankParts, initial_bank, first_word}
 use Rattle.registry_bank.proofs.Opened.{IsBank-opened}
-use Rattle.registration_protocol.specs.Node.{NodeParts, Setting, initial_node as opened_node}
+use Rattle.registration_protocol.specs.Node.{NodeParts, Setting, initial_node}
 use Rattle.registration_protocol.specs.Fit.{IsContext, Fits}
 use Rattle.registration_protocol.proofs.FitLemmas.{opened-fits}
 use Rattle.machine_rules.specs.State.{initial_state, home_at, lock_at}
@@ -33,7 +33,7 @@ node-at : (C : Setting) (core : ℕ) (n : NodeParts) → IsContext C → slice_g
 node-at C core n context found =
     let new = opened-node C core n found in
     subst (IsNodeAt (initial_state C) core) (sym new.is)
-    (record { fits = subst (λ (D : Setting). Fits D (opened_node C core)) (sym (opened-setting C)) (opened-fits C core new.below); core = refl })
+    (record { fits = subst (λ (D : Setting). Fits D (initial_node C core)) (sym (opened-setting C)) (opened-fits C core new.below); core = refl })
 
 bank-at : (C : Setting) (bank : ℕ) (b : BankParts) → slice_get (initial_state C).banks bank ≡ Some b → IsBankAt (initial_state C) bank b
 bank-at C bank b found = by_test (nat_lt bank C.shape.banks) refl (sym (opened-banks C bank) ∙ found) where
@@ -59,7 +59,7 @@ opened-machine C context program checked =
       context = context;
       program = program;
       checked = checked;
-      nodes = length-map-range_with_len (opened_node C) 0 C.shape.cores;
+      nodes = length-map-range_with_len (initial_node C) 0 C.shape.cores;
       banks = length-map-range_with_len (λ (bank : ℕ). initial_bank bank C.shape.banks C.shape.cores C.program.memory (length C.program.locks)) 0 C.shape.banks;
       numbers = length-replicate (C.shape.cores + C.shape.banks + 1) 0;
       node = λ core n found. node-at C core n context found;

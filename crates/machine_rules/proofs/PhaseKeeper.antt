@@ -8,15 +8,16 @@ use Rattle.std.proofs.lemmas.List.{length-set}
 use Rattle.dn_base.specs.declared.ids.CoreId.{CoreId}
 use Rattle.message_net.specs.declared.message.Message.{Message}
 use Rattle.message_net.specs.declared.message.Message.TheVariants.{Arrived, Go, Halt}
-use Rattle.phase_barrier.specs.Barrier.{Barrier, with_arrival as counts_in, in_next_phase, all_arrived, is_over}
+use Rattle.phase_barrier.specs.Barrier.{Barrier, with_arrival, in_next_phase, all_arrived, is_over}
 use Rattle.registration_protocol.specs.Node.{NodeParts}
 use Rattle.registration_protocol.specs.OwnEvents.{task_ended_badly}
+use Rattle.registration_protocol.specs.Parts.{held_locks}
 use Rattle.machine_rules.specs.State.{State}
 use Rattle.machine_rules.specs.Sound.{IsMachine}
 use Rattle.machine_rules.specs.Flight.{bit, flight, is_arrival_of, is_go_to, is_halt_to}
-use Rattle.machine_rules.specs.Coherent.{held_locks, is_alive, waits_at_keeper, counts_bad}
+use Rattle.machine_rules.specs.Coherent.{is_alive, waits_at_keeper, counts_bad}
 use Rattle.machine_rules.proofs.Invariant.{PhasesGood, is_astray, is_lie, is_lost, bad_in}
-use Rattle.machine_rules.proofs.Leaves.{BarrierStep, at_keeper, to_all}
+use Rattle.machine_rules.proofs.Outcomes.{BarrierStep, at_keeper, to_all}
 use Rattle.machine_rules.proofs.WordCore.{same-number}
 use Rattle.machine_rules.proofs.PhaseRows.{marked, counts-is}
 use Rattle.machine_rules.proofs.PhaseWhole.{nothing-posted, none-posted, one-posted, alive-arrived, Arriving, arriving, in-flight, said, IsWhole, is-whole, there-within, holds-none, no-go}
@@ -30,7 +31,7 @@ counts-are S c = by_node (slice_get S.nodes c) refl where
   by_node (Some n) is = rw (is) refl
 
 -- the state once an arrival has been counted, by the marks that the keeper has then
-counts-now : (S T : State) (core : ℕ) (bad : Bool) → T.nodes ≡ S.nodes → T.keeper ≡ counts_in core bad S.keeper → Arriving S core bad
+counts-now : (S T : State) (core : ℕ) (bad : Bool) → T.nodes ≡ S.nodes → T.keeper ≡ with_arrival core bad S.keeper → Arriving S core bad
     → (c : ℕ) → counts_bad T c ≡ (((core == c) || marked S c) && bad_in (slice_get S.nodes c))
 counts-now S T core bad nodes keeper a c =
     let marks : marked T c ≡ ((core == c) || marked S c) = ap (λ (k : Barrier). slice_index_or k.arrived c false) keeper ∙ a.marks c in
@@ -42,7 +43,7 @@ counts-more true true false e = absurd (cc)
 counts-more true false b e = absurd (cc)
 counts-more false m b e = e
 
-bad-now : (S T : State) (core : ℕ) (bad : Bool) → T.nodes ≡ S.nodes → T.keeper ≡ counts_in core bad S.keeper → Arriving S core bad → PhasesGood S → bad ≡ bad_in (slice_get S.nodes core)
+bad-now : (S T : State) (core : ℕ) (bad : Bool) → T.nodes ≡ S.nodes → T.keeper ≡ with_arrival core bad S.keeper → Arriving S core bad → PhasesGood S → bad ≡ bad_in (slice_get S.nodes core)
     → T.keeper.bad ≡ true → (c : ℕ) × (counts_bad T c ≡ true)
 bad-now S T core bad nodes keeper a g says is = by_old S.keeper.bad refl (sym (ap (λ (k : Barrier). k.bad) keeper) ∙ is) where
   by_old : (x : Bool) → S.keeper.bad ≡ x → (x || bad) ≡ true → (c : ℕ) × (counts_bad T c ≡ true)
@@ -61,7 +62,7 @@ or-false : (x y : Bool) → (x || y) ≡ false → (x ≡ false) × (y ≡ false
 or-false true y e = absurd (cc)
 or-false false y e = (refl, e)
 
-good-now : (S T : State) (core : ℕ) (bad : Bool) → T.nodes ≡ S.nodes → T.keeper ≡ counts_in core bad S.keeper → Arriving S core bad → PhasesGood S → bad ≡ bad_in (slice_get S.nodes core)
+good-now : (S T : State) (core : ℕ) (bad : Bool) → T.nodes ≡ S.nodes → T.keeper ≡ with_arrival core bad S.keeper → Arriving S core bad → PhasesGood S → bad ≡ bad_in (slice_get S.nodes core)
     → T.keeper.bad ≡ false → (c : ℕ) → counts_bad T c ≡ false
 good-now S T core bad nodes keeper a g says is c = counts-now S T core bad nodes keeper a c ∙ by_test (core == c) refl where
   parts : (S.keeper.bad ≡ false) × (bad ≡ false)
@@ -80,7 +81,7 @@ pub record CountedGood (S T : State) : Type 0 where
   pub halting : (c : ℕ) → 1 ≤ flight T (is_halt_to c) → all_arrived T.keeper ≡ true
   pub whole : all_arrived T.keeper ≡ true → (c : ℕ) (n : NodeParts) → slice_get S.nodes c ≡ Some n → n.arrived ≡ true
 
-phases-counted : (S T : State) (core : CoreId) (bad : Bool) (sent : Option Message) → BarrierStep S T (counts_in core.0 bad S.keeper) (at_keeper (Arrived core bad)) sent
+phases-counted : (S T : State) (core : CoreId) (bad : Bool) (sent : Option Message) → BarrierStep S T (with_arrival core.0 bad S.keeper) (at_keeper (Arrived core bad)) sent
     → Arriving S core.0 bad → PhasesGood S
     → ((c : ℕ) → to_all (is_go_to c) S.setting.shape.cores sent ≡ 0) → to_all (is_astray S.keeper.phase) S.setting.shape.cores sent ≡ 0 → to_all (is_lie S.nodes) S.setting.shape.cores sent ≡ 0
     → CountedGood S T → PhasesGood T
@@ -103,7 +104,7 @@ phases-counted S T core bad sent step a g goes_none astray_none lie_none good =
     }
   where
     says : bad ≡ bad_in (slice_get S.nodes core.0)
-    says = said S T (counts_in core.0 bad S.keeper) core bad sent step g lie_none
+    says = said S T (with_arrival core.0 bad S.keeper) core bad sent step g lie_none
 
     nodes-at : (c : ℕ) → slice_get T.nodes c ≡ slice_get S.nodes c
     nodes-at c = ap (λ (ns : List NodeParts). slice_get ns c) step.nodes
@@ -118,8 +119,8 @@ phases-counted S T core bad sent step a g goes_none astray_none lie_none good =
     going c = omega (arith, step.flown (is_go_to c), goes_none c)
 
 -- others are missing
-pub counted-node : (S T : State) (core : CoreId) (bad : Bool) → BarrierStep S T (counts_in core.0 bad S.keeper) (at_keeper (Arrived core bad)) None
-    → IsMachine S → PhasesGood S → slice_get S.keeper.arrived core.0 ≡ Some false → all_arrived (counts_in core.0 bad S.keeper) ≡ false → PhasesGood T
+pub counted-node : (S T : State) (core : CoreId) (bad : Bool) → BarrierStep S T (with_arrival core.0 bad S.keeper) (at_keeper (Arrived core bad)) None
+    → IsMachine S → PhasesGood S → slice_get S.keeper.arrived core.0 ≡ Some false → all_arrived (with_arrival core.0 bad S.keeper) ≡ false → PhasesGood T
 counted-node S T core bad step machine g new missing =
     phases-counted S T core bad None step a g (λ c. nothing-posted (is_go_to c) S.setting.shape.cores) (nothing-posted (is_astray S.keeper.phase) S.setting.shape.cores)
     (nothing-posted (is_lie S.nodes) S.setting.shape.cores)
@@ -184,8 +185,8 @@ counted-node S T core bad step machine g new missing =
           )
 
 -- all have arrived, and the run is over
-pub halting-all : (S T : State) (core : CoreId) (bad : Bool) → BarrierStep S T (counts_in core.0 bad S.keeper) (at_keeper (Arrived core bad)) (Some Halt)
-    → IsMachine S → PhasesGood S → slice_get S.keeper.arrived core.0 ≡ Some false → all_arrived (counts_in core.0 bad S.keeper) ≡ true → PhasesGood T
+pub halting-all : (S T : State) (core : CoreId) (bad : Bool) → BarrierStep S T (with_arrival core.0 bad S.keeper) (at_keeper (Arrived core bad)) (Some Halt)
+    → IsMachine S → PhasesGood S → slice_get S.keeper.arrived core.0 ≡ Some false → all_arrived (with_arrival core.0 bad S.keeper) ≡ true → PhasesGood T
 halting-all S T core bad step machine g new whole =
     phases-counted S T core bad (Some Halt) step a g (λ c. none-posted (is_go_to c) Halt (λ d. refl) cores) (none-posted (is_astray S.keeper.phase) Halt (λ d. refl) cores)
     (none-posted (is_lie S.nodes) Halt (λ d. refl) cores)
@@ -203,7 +204,7 @@ halting-all S T core bad step machine g new whole =
     a = arriving S core.0 bad machine new
 
     all : IsWhole S core.0
-    all = is-whole S core.0 bad machine g a (in-flight S T (counts_in core.0 bad S.keeper) core bad (Some Halt) step (none-posted (is_arrival_of core.0) Halt (λ d. refl) cores)) whole
+    all = is-whole S core.0 bad machine g a (in-flight S T (with_arrival core.0 bad S.keeper) core bad (Some Halt) step (none-posted (is_arrival_of core.0) Halt (λ d. refl) cores)) whole
 
     arrivals : (c : ℕ) → flight T (is_arrival_of c) ≡ 0
     arrivals c = omega (arith, step.flown (is_arrival_of c), none-posted (is_arrival_of c) Halt (λ d. refl) cores, all.arriving c)
@@ -229,9 +230,9 @@ not-all zero some = absurd (omega (arith, some))
 not-all (suc n) some = refl
 
 pub going-all : (S T : State) (core : CoreId) (bad : Bool)
-    → BarrierStep S T (in_next_phase (counts_in core.0 bad S.keeper)) (at_keeper (Arrived core bad)) (Some (Go (record { 0 = S.keeper.phase + 1 })))
+    → BarrierStep S T (in_next_phase (with_arrival core.0 bad S.keeper)) (at_keeper (Arrived core bad)) (Some (Go (record { 0 = S.keeper.phase + 1 })))
     → IsMachine S → flight S (is_lost S.setting.shape.cores S.setting.shape.banks) ≡ 0 → PhasesGood S
-    → slice_get S.keeper.arrived core.0 ≡ Some false → all_arrived (counts_in core.0 bad S.keeper) ≡ true → is_over (counts_in core.0 bad S.keeper) ≡ false → PhasesGood T
+    → slice_get S.keeper.arrived core.0 ≡ Some false → all_arrived (with_arrival core.0 bad S.keeper) ≡ true → is_over (with_arrival core.0 bad S.keeper) ≡ false → PhasesGood T
 going-all S T core bad step machine addressed g new whole on =
     record {
       row = λ c. record { one = omega (arith, arrivals c, waits c, goings c, halts-now c, all.alive c, ap (λ (o : Option NodeParts). bit (is_alive o)) (nodes-at c)) };
@@ -257,7 +258,7 @@ going-all S T core bad step machine addressed g new whole on =
     go = Go (record { 0 = S.keeper.phase + 1 })
 
     k : Barrier
-    k = in_next_phase (counts_in core.0 bad S.keeper)
+    k = in_next_phase (with_arrival core.0 bad S.keeper)
 
     a : Arriving S core.0 bad
     a = arriving S core.0 bad machine new
@@ -290,16 +291,16 @@ going-all S T core bad step machine addressed g new whole on =
     halts-now c = omega (arith, step.flown (is_halt_to c), none-posted (is_halt_to c) go (λ d. refl) cores, all.halting c)
 
     marks : (c : ℕ) → marked T c ≡ false
-    marks c = ap (λ (k : Barrier). slice_index_or k.arrived c false) step.keeper ∙ no-marks (length (counts_in core.0 bad S.keeper).arrived) c
+    marks c = ap (λ (k : Barrier). slice_index_or k.arrived c false) step.keeper ∙ no-marks (length (with_arrival core.0 bad S.keeper).arrived) c
 
     waits : (c : ℕ) → waits_at_keeper T c ≡ 0
     waits c = rw (marks c, and-false (not (all_arrived T.keeper))) refl
 
-    some-core : 1 ≤ length (counts_in core.0 bad S.keeper).arrived
+    some-core : 1 ≤ length (with_arrival core.0 bad S.keeper).arrived
     some-core = omega (arith, length-set S.keeper.arrived core.0 true, machine.cores, a.within)
 
     never : all_arrived T.keeper ≡ true → ⊥
-    never is = let none : all_arrived T.keeper ≡ false = ap all_arrived step.keeper ∙ not-all (length (counts_in core.0 bad S.keeper).arrived) some-core in absurd (cc)
+    never is = let none : all_arrived T.keeper ≡ false = ap all_arrived step.keeper ∙ not-all (length (with_arrival core.0 bad S.keeper).arrived) some-core in absurd (cc)
 
     parts : ((S.keeper.bad || bad) ≡ false) × (nat_le S.keeper.phases (S.keeper.phase + 1) ≡ false)
     parts = or-false (S.keeper.bad || bad) (nat_le S.keeper.phases (S.keeper.phase + 1)) on

@@ -17,13 +17,14 @@ use Rattle.registration_protocol.specs.declared.node.NodeWait as wait
 use Rattle.registration_protocol.specs.Node.{NodeParts, is_settled, is_running}
 use Rattle.registration_protocol.specs.OwnEvents.{task_ended_badly}
 use Rattle.registration_protocol.specs.Messages.{begins}
+use Rattle.registration_protocol.specs.Parts.{held_locks}
 use Rattle.machine_rules.specs.State.{State}
 use Rattle.machine_rules.specs.Flight.{bit, flight, is_arrival_of, is_go_to, is_halt_to}
-use Rattle.machine_rules.specs.Coherent.{HasArrived, held_locks, is_alive, waits_at_keeper}
+use Rattle.machine_rules.specs.Coherent.{HasArrived, is_alive, waits_at_keeper}
 use Rattle.machine_rules.proofs.Bits.{passes}
 use Rattle.machine_rules.proofs.Invariant.{PhasesGood, is_astray, is_lie, same_truth, bad_in}
 use Rattle.machine_rules.proofs.Steps.{NodeStep}
-use Rattle.machine_rules.proofs.Leaves.{at_core}
+use Rattle.machine_rules.proofs.Outcomes.{at_core}
 use Rattle.machine_rules.proofs.WordCore.{same-number}
 use Rattle.machine_rules.proofs.PhaseRows.{IsOther, other-none, other-apart, marked, OwnGood, phases-node, lies-le, lies-same}
 

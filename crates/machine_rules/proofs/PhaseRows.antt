@@ -14,9 +14,10 @@ use Rattle.rv_core.specs.declared.task.TaskState.{TaskState}
 use Rattle.rv_core.specs.declared.task.End.TheVariants.{Finished}
 use Rattle.registration_protocol.specs.Node.{NodeParts}
 use Rattle.registration_protocol.specs.OwnEvents.{task_ended_badly}
+use Rattle.registration_protocol.specs.Parts.{held_locks}
 use Rattle.machine_rules.specs.State.{State}
 use Rattle.machine_rules.specs.Flight.{Test, bit, mail_count, flight, is_arrival_of, is_go_to, is_halt_to}
-use Rattle.machine_rules.specs.Coherent.{HasArrived, held_locks, is_alive, waits_at_keeper, counts_bad}
+use Rattle.machine_rules.specs.Coherent.{HasArrived, is_alive, waits_at_keeper, counts_bad}
 use Rattle.machine_rules.proofs.Bits.{passes}
 use Rattle.machine_rules.proofs.Invariant.{PhasesGood, is_astray, is_lie, bad_in}
 use Rattle.machine_rules.proofs.Steps.{NodeStep}

@@ -12,19 +12,20 @@ use Rattle.message_net.specs.declared.message.Mail.{Mail}
 use Rattle.message_net.specs.declared.message.Message.{Message}
 use Rattle.message_net.specs.declared.message.Message.TheVariants.{Arrived, Go}
 use Rattle.message_net.proofs.PoolLemmas.{weight-somewhere, weight-within}
-use Rattle.phase_barrier.specs.Barrier.{Barrier, with_arrival as counts_in, all_arrived}
+use Rattle.phase_barrier.specs.Barrier.{Barrier, with_arrival, all_arrived}
 use Rattle.rv_core.specs.declared.task.TaskState.{TaskState}
 use Rattle.rv_core.specs.declared.task.End.{End}
 use Rattle.rv_core.specs.declared.task.End.TheVariants.{Finished, Fuel, Trap}
 use Rattle.registration_protocol.specs.Node.{NodeParts, is_running}
 use Rattle.registration_protocol.specs.OwnEvents.{task_ended_badly}
+use Rattle.registration_protocol.specs.Parts.{held_locks}
 use Rattle.machine_rules.specs.State.{State}
 use Rattle.machine_rules.specs.Sound.{IsMachine}
 use Rattle.machine_rules.specs.Flight.{Test, bit, mail_count, flight, is_arrival_of, is_go_to, is_halt_to}
-use Rattle.machine_rules.specs.Coherent.{held_locks, is_alive, waits_at_keeper}
+use Rattle.machine_rules.specs.Coherent.{is_alive, waits_at_keeper}
 use Rattle.machine_rules.proofs.Bits.{passes}
 use Rattle.machine_rules.proofs.Invariant.{PhasesGood, is_astray, is_lie, is_lost, same_truth, bad_in}
-use Rattle.machine_rules.proofs.Leaves.{BarrierStep, at_keeper, to_all}
+use Rattle.machine_rules.proofs.Outcomes.{BarrierStep, at_keeper, to_all}
 use Rattle.machine_rules.proofs.WordCore.{same-number}
 use Rattle.machine_rules.proofs.PhaseRows.{marked}
 use Rattle.machine_rules.proofs.PhaseNodes.{false-else}
@@ -83,7 +84,7 @@ pub record Arriving (S : State) (core : ℕ) (bad : Bool) : Type 0 where
   pub within : core < S.setting.shape.cores
   pub missing : all_arrived S.keeper ≡ false
   pub own : marked S core ≡ false
-  pub marks : (c : ℕ) → slice_index_or (counts_in core bad S.keeper).arrived c false ≡ ((core == c) || marked S c)
+  pub marks : (c : ℕ) → slice_index_or (with_arrival core bad S.keeper).arrived c false ≡ ((core == c) || marked S c)
 
 pub arriving : (S : State) (core : ℕ) (bad : Bool) → IsMachine S → slice_get S.keeper.arrived core ≡ Some false → Arriving S core bad
 arriving S core bad machine new =
@@ -130,7 +131,7 @@ record IsIn (S : State) (core c : ℕ) : Type 0 where
   alive : bit (is_alive (slice_get S.nodes c)) ≡ bit (nat_lt c S.setting.shape.cores)
   marked : (core == c) ≡ false → c < S.setting.shape.cores → marked S c ≡ true
 
-whole-at : (S : State) (core : ℕ) (bad : Bool) → IsMachine S → PhasesGood S → Arriving S core bad → 1 ≤ flight S (is_arrival_of core) → all_arrived (counts_in core bad S.keeper) ≡ true
+whole-at : (S : State) (core : ℕ) (bad : Bool) → IsMachine S → PhasesGood S → Arriving S core bad → 1 ≤ flight S (is_arrival_of core) → all_arrived (with_arrival core bad S.keeper) ≡ true
     → (c : ℕ) → IsIn S core c
 whole-at S core bad machine g a one whole c = by_tests (nat_lt c S.setting.shape.cores) refl (core == c) refl where
   by_tests : (x : Bool) → nat_lt c S.setting.shape.cores ≡ x → (y : Bool) → (core == c) ≡ y → IsIn S core c
@@ -157,8 +158,8 @@ whole-at S core bad machine g a one whole c = by_tests (nat_lt c S.setting.shape
         marked = λ other inside. absurd (cc);
       }
   by_tests true e false f =
-      let inside : c < length (counts_in core bad S.keeper).arrived = grind (arith, nat_tests, e, length-set S.keeper.arrived core true, machine.cores) in
-      let now : slice_index_or (counts_in core bad S.keeper).arrived c false ≡ true = AllPass-from_list_all (λ (a : Bool). a) (counts_in core bad S.keeper).arrived whole c false inside in
+      let inside : c < length (with_arrival core bad S.keeper).arrived = grind (arith, nat_tests, e, length-set S.keeper.arrived core true, machine.cores) in
+      let now : slice_index_or (with_arrival core bad S.keeper).arrived c false ≡ true = AllPass-from_list_all (λ (a : Bool). a) (with_arrival core bad S.keeper).arrived whole c false inside in
       let mark : marked S c ≡ true = sym (rw (f) at (a.marks c)) ∙ now in
       let waits : waits_at_keeper S c ≡ 1 = rw (a.missing, mark) refl in
       let most = alive-one (slice_get S.nodes c) in
@@ -170,7 +171,7 @@ whole-at S core bad machine g a one whole c = by_tests (nat_lt c S.setting.shape
         marked = λ other within. mark;
       }
 
-pub is-whole : (S : State) (core : ℕ) (bad : Bool) → IsMachine S → PhasesGood S → Arriving S core bad → 1 ≤ flight S (is_arrival_of core) → all_arrived (counts_in core bad S.keeper) ≡ true → IsWhole S core
+pub is-whole : (S : State) (core : ℕ) (bad : Bool) → IsMachine S → PhasesGood S → Arriving S core bad → 1 ≤ flight S (is_arrival_of core) → all_arrived (with_arrival core bad S.keeper) ≡ true → IsWhole S core
 is-whole S core bad machine g a one whole =
     record {
       arriving = λ c. (whole-at S core bad machine g a one whole c).arriving;

@@ -20,8 +20,8 @@ use Rattle.machine_rules.specs.Memory.{store_in}
 use Rattle.machine_rules.specs.Sound.{IsSound}
 use Rattle.machine_rules.proofs.Invariant.{Invariant}
 use Rattle.machine_rules.proofs.Steps.{NodeStep}
-use Rattle.machine_rules.proofs.Leaves.{Leaves, WordStep, LockStep, BarrierStep, at_core, stored_to}
-use Rattle.machine_rules.proofs.PlainLeaves.{plain-leaves}
+use Rattle.machine_rules.proofs.Outcomes.{Outcomes, WordStep, LockStep, BarrierStep, at_core, stored_to}
+use Rattle.machine_rules.proofs.PlainOutcomes.{plain-outcomes}
 use Rattle.machine_rules.proofs.Dispatch.{ways}
 use Rattle.machine_rules.proofs.SoundEvents.{sound-next}
 use Rattle.machine_rules.proofs.Kept.{kept}
@@ -53,8 +53,8 @@ on-still S T nodes later =
       each = λ c n found. record { node = n; found = ap (λ (ns : List NodeParts). slice_get ns c) nodes ∙ found; past = omega arith };
     }
 
-on-leaves : (S : State) (M : ℕ → ℕ) (e : Event) → Leaves S M e (λ M'. GoesOn S (next S e))
-on-leaves S M e = plain-leaves S M e (GoesOn S T) (record { node = λ core n m left sent step phase mark. same core n m left sent step phase; go = go; halt = λ core n step. same core.0 n _ _ _ step refl; home = home; lock = lock_home; barrier = barrier }) where
+on-outcomes : (S : State) (M : ℕ → ℕ) (e : Event) → Outcomes S M e (λ M'. GoesOn S (next S e))
+on-outcomes S M e = plain-outcomes S M e (GoesOn S T) (record { node = λ core n m left sent step phase mark. same core n m left sent step phase; go = go; halt = λ core n step. same core.0 n _ _ _ step refl; home = home; lock = lock_home; barrier = barrier }) where
   T : State
   T = next S e
 
@@ -75,7 +75,7 @@ on-leaves S M e = plain-leaves S M e (GoesOn S T) (record { node = λ core n m l
   barrier k left sent step later all = on-still S T step.nodes (omega (arith, later, ap (λ (x : Barrier). x.phase) step.keeper))
 
 pub goes-on : (S : State) (M : ℕ → ℕ) (e : Event) → Invariant S M → enabled S e ≡ true → GoesOn S (next S e)
-goes-on S M e inv may = ways S M e (λ M'. GoesOn S (next S e)) inv may (on-leaves S M e)
+goes-on S M e inv may = ways S M e (λ M'. GoesOn S (next S e)) inv may (on-outcomes S M e)
 
 pub keeper-on : (S : State) (M : ℕ → ℕ) (count : ℕ) (events : List Event) → IsSound S count → Invariant S M → IsRun S events → S.keeper.phase ≤ (after S events).keeper.phase
 keeper-on S M count [] sound inv run = omega arith

@@ -19,7 +19,7 @@ use Rattle.machine_rules.specs.Flight.{bit, flight, is_read_req_of, is_read_fwd_
 use Rattle.machine_rules.proofs.Bits.{passes, pending_bit, owner_bit, reading_in, is_reading}
 use Rattle.machine_rules.proofs.Invariant.{Invariant, ReadsGood, ReadRow, read_counts}
 use Rattle.machine_rules.proofs.Steps.{NodeStep}
-use Rattle.machine_rules.proofs.Leaves.{IsActing}
+use Rattle.machine_rules.proofs.Outcomes.{IsActing}
 use Rattle.machine_rules.proofs.WordEvents.{Flown}
 use Rattle.machine_rules.proofs.WordQuiet.{home-node}
 use Rattle.machine_rules.proofs.NodeEntries.{IsCalm, calm-node}

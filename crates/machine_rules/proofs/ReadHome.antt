@@ -14,7 +14,7 @@ use Rattle.machine_rules.specs.State.{State, home_at}
 use Rattle.machine_rules.specs.Flight.{bit, flight, is_reg_req_of, is_read_fwd_to}
 use Rattle.machine_rules.proofs.Bits.{passes, owner_bit, reading_in}
 use Rattle.machine_rules.proofs.Invariant.{ReadsGood, WordsGood}
-use Rattle.machine_rules.proofs.Leaves.{WordStep, at_bank}
+use Rattle.machine_rules.proofs.Outcomes.{WordStep, at_bank}
 use Rattle.machine_rules.proofs.WordCore.{same-number}
 use Rattle.machine_rules.proofs.ReadMails.{IsNoRead, SameReads, same-reads, forward-reading}
 use Rattle.machine_rules.proofs.ReadEvents.{rows-carried, rows-same, pair-same, reads-nodes}

@@ -20,7 +20,7 @@ use Rattle.machine_rules.specs.Flight.{Test, bit, mail_count, flight, is_to, is_
 use Rattle.machine_rules.proofs.Bits.{passes, known_bit, reading_in, is_reading}
 use Rattle.machine_rules.proofs.BitLemmas.{bit-true}
 use Rattle.machine_rules.proofs.Invariant.{Invariant, ReadsGood}
-use Rattle.machine_rules.proofs.Leaves.{to_all}
+use Rattle.machine_rules.proofs.Outcomes.{to_all}
 use Rattle.machine_rules.proofs.WordEvents.{Flown}
 use Rattle.machine_rules.proofs.Exclusive.{reading-works}
 

@@ -25,7 +25,7 @@ use Rattle.machine_rules.specs.Flight.{bit, is_read_req_of, is_read_fwd_of, is_r
 use Rattle.machine_rules.proofs.Bits.{passes, pending_bit, reading_in, is_reading}
 use Rattle.machine_rules.proofs.Invariant.{Invariant, ReadsGood}
 use Rattle.machine_rules.proofs.Steps.{NodeStep}
-use Rattle.machine_rules.proofs.Leaves.{IsActing, at_core}
+use Rattle.machine_rules.proofs.Outcomes.{IsActing, at_core}
 use Rattle.machine_rules.proofs.WordEvents.{entry-node}
 use Rattle.machine_rules.proofs.WordCore.{same-number}
 use Rattle.machine_rules.proofs.Exclusive.{store-none-reading, load-none-pending, pending-one}

@@ -14,9 +14,10 @@ use Rattle.message_net.specs.declared.message.Message.{Message}
 use Rattle.message_net.specs.declared.message.Message.TheVariants.{ReadReq, ReadFwd, DataReply, RegReq, RegFwd, RegAck, WriteBack, WbAck, Acquire, Release, Grant, Arrived, Go, Halt}
 use Rattle.queue_lock.specs.Lock.{Lock, holder_count}
 use Rattle.registration_protocol.specs.Node.{NodeParts}
+use Rattle.registration_protocol.specs.Parts.{held_locks}
 use Rattle.machine_rules.specs.State.{State, lock_at}
 use Rattle.machine_rules.specs.Flight.{bit, flight, mail_count, is_release_of}
-use Rattle.machine_rules.specs.Coherent.{AreCopies, IsFresh, IsBehind, HasWriter, HasGuardedWriter, has_lock, holds_lock, held_locks, holder_in, signature_at, release_in, first_release, with_carried, with_holder, lock_signature}
+use Rattle.machine_rules.specs.Coherent.{AreCopies, IsFresh, IsBehind, HasWriter, HasGuardedWriter, has_lock, holds_lock, holder_in, signature_at, release_in, first_release, with_carried, with_holder, lock_signature}
 use Rattle.machine_rules.proofs.Bits.{signed_in}
 use Rattle.machine_rules.proofs.BitLemmas.{bit-true}
 use Rattle.machine_rules.proofs.Invariant.{Invariant, MayBeOld, MayHaveWritten, carriers, kept_bit, carried_by, is_carrying}

@@ -1,12 +1,13 @@
 -- What is kept says that a state shows the memory to which each store was applied.
 use Rattle.std.proofs.Common.{◌≡◌, ℕ, zero, suc, ◌+◌, ◌≤◌, true, false, List, [], ◌∷◌, slice_get, Option, Some, None, refl, sym, ap, ◌∙◌, arith}
+use Rattle.std.specs.Option.{option_or}
 use Rattle.word_cache.specs.declared.row.Entry.{Entry}
 use Rattle.word_cache.specs.declared.row.Entry.TheVariants.{Valid, Registered, Leaving}
 use Rattle.registry_bank.specs.declared.bank.BankWord.{BankWord}
 use Rattle.registry_bank.specs.declared.bank.BankWord.TheVariants.{Home, Reg}
 use Rattle.registration_protocol.specs.Node.{NodeParts, entry_of}
 use Rattle.machine_rules.specs.State.{State, entry_in, entry_at, home_at}
-use Rattle.machine_rules.specs.Memory.{pending_value, or_else, pending_among, value_in_entry, kept_value, value_or_kept, word_value}
+use Rattle.machine_rules.specs.Memory.{pending_value, pending_among, value_in_entry, kept_value, value_or_kept, word_value}
 use Rattle.machine_rules.specs.Coherent.{owned_value}
 use Rattle.machine_rules.proofs.Bits.{pending_bit, settled_bit, leaving_bit, owner_bit}
 use Rattle.machine_rules.proofs.BitLemmas.{owner-bit}
@@ -21,7 +22,7 @@ found-pending (n ∷ ns) w value is = by_entry (found-pending ns w value) (entry
   by_place (c, here) = (suc c, here)
 
   by_entry : (pending_among ns w ≡ Some value → (c : ℕ) × (entry_in w (slice_get ns c) ≡ Some (Registered value true)))
-      → (e : Option Entry) → entry_of n w ≡ e → or_else (pending_value e) (pending_among ns w) ≡ Some value
+      → (e : Option Entry) → entry_of n w ≡ e → option_or (pending_value e) (pending_among ns w) ≡ Some value
       → (c : ℕ) × (entry_in w (slice_get (n ∷ ns) c) ≡ Some (Registered value true))
   by_entry again None e rest = by_place (again rest)
   by_entry again (Some (Valid v marked)) e rest = by_place (again rest)
@@ -38,7 +39,7 @@ none-pending (n ∷ ns) w is c = by_entry (none-pending ns w) (entry_of n w) ref
   later rest here (suc c) = rest c
 
   by_entry : (pending_among ns w ≡ None → (d : ℕ) → pending_bit (entry_in w (slice_get ns d)) ≡ 0)
-      → (e : Option Entry) → entry_of n w ≡ e → or_else (pending_value e) (pending_among ns w) ≡ None → (c : ℕ) → pending_bit (entry_in w (slice_get (n ∷ ns) c)) ≡ 0
+      → (e : Option Entry) → entry_of n w ≡ e → option_or (pending_value e) (pending_among ns w) ≡ None → (c : ℕ) → pending_bit (entry_in w (slice_get (n ∷ ns) c)) ≡ 0
   by_entry again None e rest c = later (again rest) (rw (e) refl) c
   by_entry again (Some (Valid v marked)) e rest c = later (again rest) (rw (e) refl) c
   by_entry again (Some (Registered v true)) e rest c = absurd (cc)

@@ -25,7 +25,7 @@ pub registrants : (S : State) → WordsGood S → AreRegistrants S
 registrants S g =
     record {
       has = λ c w owner. three S c w (omega (arith, g.row w c, owner-bit c (home_at S w) owner));
-      told = λ c w settled. by_owner c w (g.row w c) (settled-bit (entry_at S c w) settled.0 settled.1) (owner_bit c (home_at S w)) refl;
+      hears = λ c w settled. by_owner c w (g.row w c) (settled-bit (entry_at S c w) settled.0 settled.1) (owner_bit c (home_at S w)) refl;
     }
   where
     by_owner : (c w : ℕ) → WordRow (word_counts S w c) → settled_bit (entry_at S c w) ≡ 1 → (x : ℕ) → owner_bit c (home_at S w) ≡ x

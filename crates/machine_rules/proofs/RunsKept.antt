@@ -24,7 +24,7 @@ use Rattle.machine_rules.specs.Memory.{store_of, store_in, with_store}
 use Rattle.machine_rules.specs.Runs.{after, IsRun, memory_after}
 use Rattle.machine_rules.specs.Sound.{IsSound}
 use Rattle.machine_rules.proofs.Invariant.{Invariant}
-use Rattle.machine_rules.proofs.Leaves.{stored_to}
+use Rattle.machine_rules.proofs.Outcomes.{stored_to}
 use Rattle.machine_rules.proofs.SoundEvents.{sound-next}
 use Rattle.machine_rules.proofs.Kept.{kept}
 

@@ -31,7 +31,7 @@ use Rattle.registration_protocol.specs.Node.{NodeParts, Setting, entry_of}
 use Rattle.registration_protocol.specs.Fit.{Fits}
 use Rattle.registration_protocol.specs.OwnEvents.{may_instr, instructed, evicted, arrives}
 use Rattle.registration_protocol.specs.Messages.{node_gets, becomes, begins}
-use Rattle.registration_protocol.proofs.PlaceLemmas.{instr-place, evict-keeps, ack-keeps, forward-keeps, read-keeps, gone-keeps, gets-place}
+use Rattle.registration_protocol.proofs.PhaseLemmas.{instr-phase, evict-keeps, ack-keeps, forward-keeps, read-keeps, gone-keeps, gets-phase}
 use Rattle.registration_protocol.proofs.FitLemmas.{instr-fits, evict-fits, arrive-fits, gets-fits}
 use Rattle.machine_rules.specs.State.{State}
 use Rattle.machine_rules.specs.Flight.{bit}
@@ -168,16 +168,16 @@ gets-core C n message.TheVariants.Halt = by_test n.arrived where
   by_test true = refl
   by_test false = refl
 gets-core C n (message.TheVariants.ReadReq word reader) = refl
-gets-core C n (message.TheVariants.ReadFwd word reader) = (read-keeps C n word reader (entry_of n word.0)).place.core
-gets-core C n (message.TheVariants.DataReply word value) = (gets-place C n (message.TheVariants.DataReply word value) refl).core
+gets-core C n (message.TheVariants.ReadFwd word reader) = (read-keeps C n word reader (entry_of n word.0)).phase_kept.core
+gets-core C n (message.TheVariants.DataReply word value) = (gets-phase C n (message.TheVariants.DataReply word value) refl).core
 gets-core C n (message.TheVariants.RegReq word core) = refl
-gets-core C n (message.TheVariants.RegFwd word core) = (forward-keeps n word core (entry_of n word.0)).place.core
-gets-core C n (message.TheVariants.RegAck word) = (ack-keeps n word (entry_of n word.0)).place.core
+gets-core C n (message.TheVariants.RegFwd word core) = (forward-keeps n word core (entry_of n word.0)).phase_kept.core
+gets-core C n (message.TheVariants.RegAck word) = (ack-keeps n word (entry_of n word.0)).phase_kept.core
 gets-core C n (message.TheVariants.WriteBack word value core) = refl
-gets-core C n (message.TheVariants.WbAck word) = (gone-keeps n word (entry_of n word.0)).place.core
+gets-core C n (message.TheVariants.WbAck word) = (gone-keeps n word (entry_of n word.0)).phase_kept.core
 gets-core C n (message.TheVariants.Acquire lock core) = refl
 gets-core C n (message.TheVariants.Release lock core signature) = refl
-gets-core C n (message.TheVariants.Grant lock signature) = (gets-place C n (message.TheVariants.Grant lock signature) refl).core
+gets-core C n (message.TheVariants.Grant lock signature) = (gets-phase C n (message.TheVariants.Grant lock signature) refl).core
 gets-core C n (message.TheVariants.Arrived core bad) = refl
 
 sound-gets : (S : State) (made : ℕ) (to : Actor) (m : Message) → IsSound S made → IsSound (gets S to m) (made + 1)
@@ -205,12 +205,12 @@ sound-next S made (Instr core) sound may = by_node (slice_get S.nodes core.0) re
   by_node : (o : Option NodeParts) → slice_get S.nodes core.0 ≡ o → when_there (may_instr S.setting) o ≡ true → IsSound (does_instr S core o) (made + 1)
   by_node None is may = absurd (cc)
   by_node (Some n) is may =
-      sound-core S made core n (instructed S.setting n).0 (instructed S.setting n).1.sent is (instr-fits S.setting n (sound.machine.node core.0 n is).fits may) (instr-place S.setting n).core sound
+      sound-core S made core n (instructed S.setting n).0 (instructed S.setting n).1.sent is (instr-fits S.setting n (sound.machine.node core.0 n is).fits may) (instr-phase S.setting n).core sound
 sound-next S made (Evict core word) sound may = by_node (slice_get S.nodes core.0) refl where
   by_node : (o : Option NodeParts) → slice_get S.nodes core.0 ≡ o → IsSound (does_evict S core word o) (made + 1)
   by_node None is = later S made sound
   by_node (Some n) is =
-      sound-core S made core n (evicted S.setting n word).0 (evicted S.setting n word).1 is (evict-fits S.setting n word (sound.machine.node core.0 n is).fits) (evict-keeps S.setting n word).place.core sound
+      sound-core S made core n (evicted S.setting n word).0 (evicted S.setting n word).1 is (evict-fits S.setting n word (sound.machine.node core.0 n is).fits) (evict-keeps S.setting n word).phase_kept.core sound
 sound-next S made (Arrive core) sound may = by_node (slice_get S.nodes core.0) refl where
   by_node : (o : Option NodeParts) → slice_get S.nodes core.0 ≡ o → IsSound (does_arrive S core o) (made + 1)
   by_node None is = later S made sound

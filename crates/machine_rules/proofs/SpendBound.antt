@@ -22,13 +22,13 @@ use Rattle.machine_rules.specs.Coherent.{NeedsValue}
 use Rattle.machine_rules.proofs.Invariant.{Invariant}
 use Rattle.machine_rules.proofs.Dispatch.{ways}
 use Rattle.machine_rules.proofs.Kept.{kept}
-use Rattle.machine_rules.proofs.Leaves.{stored_to}
+use Rattle.machine_rules.proofs.Outcomes.{stored_to}
 use Rattle.machine_rules.proofs.SoundEvents.{sound-next}
 use Rattle.machine_rules.proofs.OpenedFacts.{opened-flight, opened-node, opened-lock}
 use Rattle.machine_rules.proofs.Spending.{is_any, is_handed, is_register, is_reply, is_seek, is_pass, seeks_owned, debt, credit, earned, lent, queue_in, HasEarned, Spent, Spends}
 use Rattle.machine_rules.proofs.Totals.{total-none}
 use Rattle.machine_rules.proofs.SpendNodes.{lent-most}
-use Rattle.machine_rules.proofs.SpendLeaves.{spend-leaves}
+use Rattle.machine_rules.proofs.SpendOutcomes.{spend-outcomes}
 
 -- ---- as a run begins
 
@@ -65,7 +65,7 @@ opened-spent C context =
 -- ---- one event more
 
 pub spent-next : (S : State) (M : ℕ → ℕ) (e : Event) (made past : ℕ) → Invariant S M → enabled S e ≡ true → Spent S made past → Spends S (next S e) made past
-spent-next S M e made past inv may spent = ways S M e (λ _. Spends S (next S e) made past) inv may (spend-leaves S M e made past inv spent)
+spent-next S M e made past inv may spent = ways S M e (λ _. Spends S (next S e) made past) inv may (spend-outcomes S M e made past inv spent)
 
 -- ---- what pays is bounded
 

@@ -28,7 +28,7 @@ use Rattle.machine_rules.specs.State.{State}
 use Rattle.machine_rules.specs.Flight.{bit}
 use Rattle.machine_rules.specs.Coherent.{NeedsValue}
 use Rattle.machine_rules.proofs.Invariant.{Invariant}
-use Rattle.machine_rules.proofs.Leaves.{IsActing}
+use Rattle.machine_rules.proofs.Outcomes.{IsActing}
 use Rattle.machine_rules.proofs.ReadEvents.{acting-need}
 use Rattle.machine_rules.proofs.Spending.{works, is_work, earned, lent}
 

@@ -20,7 +20,7 @@ use Rattle.machine_rules.specs.Sound.{IsMachine, rounds}
 use Rattle.machine_rules.proofs.Bits.{passes}
 use Rattle.machine_rules.proofs.Steps.{NodeStep}
 use Rattle.machine_rules.proofs.CopyFrames.{sum-changed}
-use Rattle.machine_rules.proofs.Leaves.{WordStep, LockStep, BarrierStep, to_all}
+use Rattle.machine_rules.proofs.Outcomes.{WordStep, LockStep, BarrierStep, to_all}
 use Rattle.machine_rules.proofs.WordCore.{same-number}
 use Rattle.machine_rules.proofs.Spending.{is_any, is_handed, is_register, is_reply, is_seek, is_pass, is_owned, seeks_owned, mail_cost, cost_of, debt, credit, queue_in, total, queue_cost, Spent}
 

@@ -21,7 +21,7 @@ use Rattle.machine_rules.proofs.Bits.{passes, pending_bit, settled_bit, owner_bi
 use Rattle.machine_rules.proofs.BitLemmas.{pending-is, pending-bit}
 use Rattle.machine_rules.proofs.Invariant.{WordsGood, ValuesGood, AllSettled}
 use Rattle.machine_rules.proofs.Steps.{NodeStep}
-use Rattle.machine_rules.proofs.Leaves.{WordStep}
+use Rattle.machine_rules.proofs.Outcomes.{WordStep}
 use Rattle.machine_rules.proofs.WordEvents.{Flown}
 use Rattle.machine_rules.proofs.WordQuiet.{home-node}
 use Rattle.machine_rules.proofs.NodeEntries.{IsCalm, IsCalmState, calm-node, calm-nodes}

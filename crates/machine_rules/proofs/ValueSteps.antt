@@ -19,7 +19,7 @@ use Rattle.machine_rules.proofs.Bits.{passes, pending_bit, owner_bit}
 use Rattle.machine_rules.proofs.BitLemmas.{entry-bits, leaving-is, owner-is}
 use Rattle.machine_rules.proofs.Invariant.{WordsGood, ReadsGood, ValuesGood, AllSettled}
 use Rattle.machine_rules.proofs.Steps.{NodeStep}
-use Rattle.machine_rules.proofs.Leaves.{WordStep, at_core, at_bank}
+use Rattle.machine_rules.proofs.Outcomes.{WordStep, at_core, at_bank}
 use Rattle.machine_rules.proofs.WordEvents.{Flown, entry-node}
 use Rattle.machine_rules.proofs.WordGood.{valued-within}
 use Rattle.machine_rules.proofs.WordQuiet.{home-node}

@@ -25,7 +25,7 @@ use Rattle.machine_rules.proofs.Bits.{pending_bit, settled_bit, known_bit, readi
 use Rattle.machine_rules.proofs.BitLemmas.{entry-bits, owner-is, pending-bit}
 use Rattle.machine_rules.proofs.Invariant.{Invariant, ValuesGood, AllSettled, is_lost}
 use Rattle.machine_rules.proofs.Steps.{NodeStep}
-use Rattle.machine_rules.proofs.Leaves.{IsActing, stored_to}
+use Rattle.machine_rules.proofs.Outcomes.{IsActing, stored_to}
 use Rattle.machine_rules.proofs.WordEvents.{entry-node}
 use Rattle.machine_rules.proofs.WordQuiet.{home-node}
 use Rattle.machine_rules.proofs.WordCore.{same-number}

@@ -21,7 +21,7 @@ use Rattle.machine_rules.specs.Coherent.{MayStore}
 use Rattle.machine_rules.proofs.Bits.{passes, pending_bit, leaving_bit, owner_bit}
 use Rattle.machine_rules.proofs.Invariant.{WordsGood, WordRow, word_counts}
 use Rattle.machine_rules.proofs.Steps.{NodeStep}
-use Rattle.machine_rules.proofs.Leaves.{WordStep, at_bank}
+use Rattle.machine_rules.proofs.Outcomes.{WordStep, at_bank}
 use Rattle.machine_rules.proofs.WordEvents.{flows, IsAside, WordEvent, rows}
 use Rattle.machine_rules.proofs.WordCore.{same-number, evicted-row}
 use Rattle.machine_rules.proofs.WordHome.{AtHome, home-registered, owned-registered, written-back, written-past}

@@ -19,7 +19,7 @@ use Rattle.registration_protocol.specs.Messages.{lacking}
 use Rattle.machine_rules.specs.State.{State}
 use Rattle.machine_rules.proofs.Invariant.{WordsGood}
 use Rattle.machine_rules.proofs.Steps.{NodeStep}
-use Rattle.machine_rules.proofs.Leaves.{IsActing}
+use Rattle.machine_rules.proofs.Outcomes.{IsActing}
 use Rattle.machine_rules.proofs.WordEvents.{IsAside}
 use Rattle.machine_rules.proofs.WordGood.{right-kept, KeepsRights}
 use Rattle.machine_rules.proofs.WordRights.{keeps-held}

@@ -29,7 +29,7 @@ use Rattle.machine_rules.specs.Coherent.{MayStore}
 use Rattle.machine_rules.proofs.Bits.{passes, pending_bit, settled_bit, leaving_bit, known_bit, owner_bit}
 use Rattle.machine_rules.proofs.Invariant.{WordsGood, WordRow, word_counts}
 use Rattle.machine_rules.proofs.Steps.{NodeStep}
-use Rattle.machine_rules.proofs.Leaves.{IsActing, at_core}
+use Rattle.machine_rules.proofs.Outcomes.{IsActing, at_core}
 use Rattle.machine_rules.proofs.WordEvents.{IsAside, entry-node}
 use Rattle.machine_rules.proofs.WordCore.{AtCore, same-number, acknowledged-row, freed-row, registered-row, forwarded-row, passed-row}
 use Rattle.machine_rules.proofs.WordGood.{single-calm, single-registered, valued-still, pending-one, right-kept, KeepsRights}

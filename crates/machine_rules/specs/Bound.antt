@@ -1,14 +1,16 @@
 -- What bounds the events of a run: the instructions that its tasks have retired, and the tasks that have started.
 use Rattle.std.specs.Prelude.{ℕ, ◌+◌, ◌==◌, List, [], ◌∷◌, length, sum_by, slice_get, Option, Some, None, if◌then◌else◌}
+use Rattle.std.specs.Option.{option_or}
 use Rattle.region_table.specs.declared.declared.TaskDecl.{TaskDecl}
 use Rattle.region_table.specs.declared.declared.Phase.{Phase}
 use Rattle.region_table.specs.Program.{tasks_of}
 use Rattle.rv_core.specs.declared.task.TaskState.{TaskState}
 use Rattle.message_net.specs.declared.event.Event.{Event}
 use Rattle.registration_protocol.specs.Node.{NodeParts}
+use Rattle.registration_protocol.specs.Parts.{retired_so_far}
 use Rattle.machine_rules.specs.State.{State}
 use Rattle.machine_rules.specs.Next.{next}
-use Rattle.machine_rules.specs.Runs.{after, newer_or, begun_in}
+use Rattle.machine_rules.specs.Runs.{after, begun_in}
 
 -- the task of a core in a phase: None where the core's node isn't in that phase, and where it has no task in it
 abbrev pub task_in_phase : ℕ → Option NodeParts → Option TaskState
@@ -18,12 +20,7 @@ task_in_phase phase (Some n) = if n.phase == phase then n.task else None
 -- the task as its node last had it: None where the node hasn't come to the phase yet
 abbrev pub last_task : ℕ → ℕ → State → List Event → Option TaskState
 last_task phase core S [] = task_in_phase phase (slice_get S.nodes core)
-last_task phase core S (e ∷ es) = newer_or (last_task phase core (next S e) es) (task_in_phase phase (slice_get S.nodes core))
-
--- the instructions that a task has retired
-abbrev pub retired_so_far : Option TaskState → ℕ
-retired_so_far None = 0
-retired_so_far (Some t) = t.retired
+last_task phase core S (e ∷ es) = option_or (last_task phase core (next S e) es) (task_in_phase phase (slice_get S.nodes core))
 
 -- what the tasks of some phases have retired, the first of which is phase number `phase`
 abbrev pub retired_from : ℕ → List Phase → State → List Event → ℕ

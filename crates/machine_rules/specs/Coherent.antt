@@ -1,6 +1,7 @@
 -- When a state of the machine is coherent: what holds between the nodes, the banks, the keeper and the mails in flight after
 -- every event of every run of a checked program. Eight parts, each on the state alone.
 use Rattle.std.specs.Prelude.{◌≡◌, ◌≢◌, ◌⊎◌, ℕ, ◌+◌, ◌%◌, ◌≤◌, ◌==◌, if◌then◌else◌, ◌∷◌, Bool, true, false, ◌&&◌, not, List, [], slice_get, slice_index_or, Option, Some, None}
+use Rattle.std.specs.Option.{option_or}
 use Rattle.std.specs.List.{All}
 use Rattle.dn_base.specs.declared.ids.CoreId.{CoreId}
 use Rattle.dn_base.specs.declared.ids.WordId.{WordId}
@@ -30,6 +31,7 @@ use Rattle.registration_protocol.specs.declared.node.NodeWait.{NodeWait}
 use Rattle.registration_protocol.specs.Node.{NodeParts, need_now, entry_of, is_running, is_settled}
 use Rattle.registration_protocol.specs.OwnEvents.{task_ended_badly}
 use Rattle.registration_protocol.specs.Messages.{written_in}
+use Rattle.registration_protocol.specs.Parts.{held_locks}
 use Rattle.machine_rules.specs.State.{State, entry_at, home_at, lock_at}
 use Rattle.machine_rules.specs.Flight.{bit, flight, is_reg_req_of, is_reg_fwd_of, is_reg_fwd_to, is_reg_fwd_to_itself, is_reg_ack_to, is_write_back_with, is_wb_ack_to, is_read_req_of, is_read_fwd_of, is_read_fwd_to, is_data_reply_to, is_acquire_of, is_release_of, is_grant_to, is_arrival_of, is_go_to, is_halt_to}
 use Rattle.machine_rules.specs.Memory.{word_value}
@@ -60,11 +62,7 @@ IsRegistrant S c w = home_at S w ≡ Some (Reg (record { 0 = c }))
 abbrev pub waits_for : State → ℕ → NodeWait → Type 0
 waits_for S c waiting = (n : NodeParts) × (slice_get S.nodes c ≡ Some n) × (n.waiting ≡ waiting)
 
--- the locks that a node's task holds, and the task's right to store a word with them
-abbrev pub held_locks : Option TaskState → ℕ
-held_locks None = 0
-held_locks (Some t) = t.held
-
+-- the task of a node, or of a core's node, holds a lock
 abbrev pub holds_lock : ℕ → Option NodeParts → Bool
 holds_lock l None = false
 holds_lock l (Some n) = is_held (held_locks n.task) l
@@ -154,7 +152,7 @@ pub record AreRegistrants (S : State) : Type 0 where
   -- a registrant has the word, registered or leaving
   pub has : (c w : ℕ) → IsRegistrant S c w → IsPending S c w ⊎ (IsSettled S c w ⊎ ((value : ℕ) × IsLeaving S c w value))
   -- who has it registered is its registrant, or is about to hear who is
-  pub told : (c w : ℕ) → IsSettled S c w → IsRegistrant S c w ⊎ (1 ≤ flight S (is_reg_fwd_to w c))
+  pub hears : (c w : ℕ) → IsSettled S c w → IsRegistrant S c w ⊎ (1 ≤ flight S (is_reg_fwd_to w c))
 
 -- the task of a core may store a word with the locks that it holds
 pub record MayStore (S : State) (c w : ℕ) : Type 0 where
@@ -248,11 +246,7 @@ release_in l _ = None
 
 abbrev pub first_release : ℕ → List Mail → Option Signature
 first_release l [] = None
-first_release l (m ∷ ms) = first_of (release_in l m.message) (first_release l ms)
-  where
-    first_of : Option Signature → Option Signature → Option Signature
-    first_of (Some s) rest = Some s
-    first_of None rest = rest
+first_release l (m ∷ ms) = option_or (release_in l m.message) (first_release l ms)
 
 -- the words written under a lock so far: those that its home knows of, and those of its holder, or of its release
 abbrev pub with_carried : Signature → Option Signature → Signature

@@ -1,5 +1,6 @@
 -- The value of each data word: as a state shows it, and as the stores of a run leave it.
 use Rattle.std.specs.Prelude.{ℕ, true, List, [], ◌∷◌, length, map, slice_get, slice_set, Option, Some, None}
+use Rattle.std.specs.Option.{option_or}
 use Rattle.std.specs.List.{range_with_len}
 use Rattle.dn_base.specs.declared.ids.WordId.{WordId}
 use Rattle.message_net.specs.declared.event.Event.{Event}
@@ -17,15 +18,10 @@ abbrev pub pending_value : Option Entry → Option ℕ
 pending_value (Some (Registered value true)) = Some value
 pending_value _ = None
 
--- the first value of two, if there is one
-abbrev pub or_else : Option ℕ → Option ℕ → Option ℕ
-or_else (Some v) rest = Some v
-or_else None rest = rest
-
 -- the value that some core is about to register for a word
 abbrev pub pending_among : List NodeParts → ℕ → Option ℕ
 pending_among [] w = None
-pending_among (n ∷ ns) w = or_else (pending_value (entry_of n w)) (pending_among ns w)
+pending_among (n ∷ ns) w = option_or (pending_value (entry_of n w)) (pending_among ns w)
 
 -- the value of the entry that a core has of a word
 abbrev pub value_in_entry : Option Entry → ℕ

@@ -1,5 +1,6 @@
 -- Runs: lists of events, each of which may come in its turn; and what is read off them.
 use Rattle.std.specs.Prelude.{◌≡◌, ℕ, ◌+◌, ◌==◌, Bool, true, false, ◌&&◌, List, [], ◌∷◌, ◌++◌, map, take, slice_get, Option, Some, None, if◌then◌else◌}
+use Rattle.std.specs.Option.{option_or}
 use Rattle.std.specs.List.{filter_map}
 use Rattle.dn_base.specs.declared.ids.Grant.{Grant}
 use Rattle.dn_base.specs.declared.ids.LoadSeen.{LoadSeen}
@@ -80,14 +81,10 @@ abbrev pub end_in_phase : ℕ → Option NodeParts → Option TaskEnd
 end_in_phase phase None = None
 end_in_phase phase (Some n) = if n.phase == phase then end_of n n.task else None
 
-abbrev pub newer_or : {X : Type 0} → Option X → Option X → Option X
-newer_or (Some x) before = Some x
-newer_or None before = before
-
 -- how it stood when its node last had it
 abbrev pub last_end : ℕ → ℕ → State → List Event → Option TaskEnd
 last_end phase core S [] = end_in_phase phase (slice_get S.nodes core)
-last_end phase core S (e ∷ es) = newer_or (last_end phase core (next S e) es) (end_in_phase phase (slice_get S.nodes core))
+last_end phase core S (e ∷ es) = option_or (last_end phase core (next S e) es) (end_in_phase phase (slice_get S.nodes core))
 
 -- the phases that have begun
 abbrev pub begun_in : State → List Phase

@@ -7,8 +7,8 @@ use Rattle.queue_lock.specs.Lock.{Lock}
 use Rattle.registry_bank.specs.declared.bank.BankWord.{BankWord}
 use Rattle.registry_bank.specs.Bank.{BankParts, bank_word, bank_lock, initial_bank}
 use Rattle.phase_barrier.specs.Barrier.{Barrier}
-use Rattle.phase_barrier.specs.Barrier.{initial_barrier as opened_barrier}
-use Rattle.registration_protocol.specs.Node.{NodeParts, Setting, entry_of, initial_node as opened_node}
+use Rattle.phase_barrier.specs.Barrier.{initial_barrier}
+use Rattle.registration_protocol.specs.Node.{NodeParts, Setting, entry_of, initial_node}
 
 -- the program with its plans, shape and fuel; a node for each core and a bank for each number, in the order of their
 -- numbers; the keeper; the mails in flight; and the number of the next mail of each actor: cores, banks, keeper
@@ -29,9 +29,9 @@ unfoldable pub initial_state : Setting → State
 initial_state C =
     record {
       setting = C;
-      nodes = map (opened_node C) (range_with_len 0 C.shape.cores);
+      nodes = map (initial_node C) (range_with_len 0 C.shape.cores);
       banks = initial_banks C;
-      keeper = opened_barrier C.shape.cores (length C.program.phases);
+      keeper = initial_barrier C.shape.cores (length C.program.phases);
       mails = [];
       numbers = replicate (C.shape.cores + C.shape.banks + 1) 0;
     }

@@ -21,20 +21,20 @@ unfoldable pub element : List ℕ → List ℕ → List ℕ
 element name class = codes "<" ++ name ++ codes " class='" ++ class ++ codes "'"
 
 -- a point by the names of its two attributes
-unfoldable pub place : List ℕ → List ℕ → ℕ → ℕ → List ℕ
-place x_name y_name x y = attribute x_name x ++ attribute y_name y
+unfoldable pub point_attributes : List ℕ → List ℕ → ℕ → ℕ → List ℕ
+point_attributes x_name y_name x y = attribute x_name x ++ attribute y_name y
 
 -- a line of a class from one point to another
 unfoldable pub line_element : List ℕ → ℕ → ℕ → ℕ → ℕ → List ℕ
-line_element class x1 y1 x2 y2 = element (codes "line") class ++ place (codes "x1") (codes "y1") x1 y1 ++ place (codes "x2") (codes "y2") x2 y2 ++ codes "/>\n"
+line_element class x1 y1 x2 y2 = element (codes "line") class ++ point_attributes (codes "x1") (codes "y1") x1 y1 ++ point_attributes (codes "x2") (codes "y2") x2 y2 ++ codes "/>\n"
 
 -- the dot of an event
 unfoldable pub dot : ℕ → ℕ → List ℕ
-dot x y = element (codes "circle") (codes "event") ++ place (codes "cx") (codes "cy") x y ++ attribute (codes "r") 4 ++ codes "/>\n"
+dot x y = element (codes "circle") (codes "event") ++ point_attributes (codes "cx") (codes "cy") x y ++ attribute (codes "r") 4 ++ codes "/>\n"
 
 -- words of a class at a point
 unfoldable pub words_begin : List ℕ → ℕ → ℕ → List ℕ
-words_begin class x y = element (codes "text") class ++ place (codes "x") (codes "y") x y ++ codes ">"
+words_begin class x y = element (codes "text") class ++ point_attributes (codes "x") (codes "y") x y ++ codes ">"
 
 unfoldable pub words_end : List ℕ
 words_end = codes "</text>\n"

@@ -91,10 +91,10 @@ abbrev pub lanes : Chart → List ℕ
 lanes chart =
     flat_map (core_lane chart) (range_with_len 0 chart.cores) ++ flat_map (bank_lane chart) (range_with_len 0 chart.banks) ++ lane chart Keeper
 
--- one line through the marked events
+-- one line through the chain's events
 unfoldable pub point : Chart → ChartRow → List ℕ
 point chart row =
-    if row.marked then decimal (column chart row.actor) ++ codes "," ++ decimal (y_of row.line) ++ space else []
+    if row.on_chain then decimal (column chart row.actor) ++ codes "," ++ decimal (y_of row.line) ++ space else []
 
 unfoldable pub path : Chart → List ℕ
 path chart = element (codes "polyline") (codes "path") ++ codes " points='" ++ flat_map (point chart) chart.rows ++ codes "'/>\n"
@@ -140,7 +140,7 @@ unfoldable pub row_words : Chart → ChartRow → List ℕ
 row_words chart row =
     number_words row ++ dot (column chart row.actor) (y_of row.line) ++ kind_words chart row ++ changes_beside chart row row.changes
 
--- the picture: the columns, the line through the marked events, the arrows, and over these what is written for each event
+-- the picture: the columns, the line through the chain's events, the arrows, and over these what is written for each event
 unfoldable pub svg_of : Chart → List ℕ
 svg_of chart =
     opening chart ++ lanes chart ++ path chart ++ flat_map (arrow chart) chart.rows ++ flat_map (row_words chart) chart.rows ++ codes "</svg>\n"

@@ -23,8 +23,8 @@ pub struct ChartRow {
     pub mail: Option<Origin>,
     /// What becomes of the words for which the actor has something else after the event.
     pub changes: Sequence<WordChange>,
-    /// Whether the event is marked.
-    pub marked: bool,
+    /// Whether the event is on the chain that the picture has a line through.
+    pub on_chain: bool,
 }
 
 /// The message chart of some events that follow each other in a run of a machine with so many cores and banks.

@@ -1,5 +1,5 @@
 ghost use Rattle.std.specs.Prelude.{◌≡◌, ◌≤◌, ◌++◌, OnOk};
-ghost use Rattle.message_chart.specs.Marks.{attribute, dot, element, place, line_element, words_begin, words_end, x_of, y_of};
+ghost use Rattle.message_chart.specs.Marks.{attribute, dot, element, point_attributes, line_element, words_begin, words_end, x_of, y_of};
 
 use dn_base::Memory;
 use text_pieces::{push, push_long};
@@ -52,9 +52,9 @@ pub(crate) fn push_element(out: &mut Vec<u8>, name: &[u8], class: &[u8]) -> Resu
 }
 
 /// Adds a point by the names of its two attributes.
-#[tactic(auto, unfolding(crate::specs::Marks::place))]
-fn push_place(out: &mut Vec<u8>, x: &[u8], y: &[u8], at: Point) -> Result<(), Memory>
-    ensures { OnOk result (out.new.items ≡ out.old.items ++ place x.now y.now at.x at.y) }
+#[tactic(auto, unfolding(crate::specs::Marks::point_attributes))]
+fn push_point_attributes(out: &mut Vec<u8>, x: &[u8], y: &[u8], at: Point) -> Result<(), Memory>
+    ensures { OnOk result (out.new.items ≡ out.old.items ++ point_attributes x.now y.now at.x at.y) }
 {
     push_attribute(out, x, at.x)?;
     push_attribute(out, y, at.y)
@@ -71,8 +71,8 @@ pub(crate) fn push_segment(
     ensures { OnOk result (out.new.items ≡ out.old.items ++ line_element class.now from.x from.y to.x to.y) }
 {
     push_element(out, b"line", class)?;
-    push_place(out, b"x1", b"y1", from)?;
-    push_place(out, b"x2", b"y2", to)?;
+    push_point_attributes(out, b"x1", b"y1", from)?;
+    push_point_attributes(out, b"x2", b"y2", to)?;
     push(out, b"/>\n")
 }
 
@@ -82,7 +82,7 @@ pub(crate) fn push_dot(out: &mut Vec<u8>, at: Point) -> Result<(), Memory>
     ensures { OnOk result (out.new.items ≡ out.old.items ++ dot at.x at.y) }
 {
     push_element(out, b"circle", b"event")?;
-    push_place(out, b"cx", b"cy", at)?;
+    push_point_attributes(out, b"cx", b"cy", at)?;
     push_attribute(out, b"r", 4)?;
     push(out, b"/>\n")
 }
@@ -93,7 +93,7 @@ pub(crate) fn push_words_begin(out: &mut Vec<u8>, class: &[u8], at: Point) -> Re
     ensures { OnOk result (out.new.items ≡ out.old.items ++ words_begin class.now at.x at.y) }
 {
     push_element(out, b"text", class)?;
-    push_place(out, b"x", b"y", at)?;
+    push_point_attributes(out, b"x", b"y", at)?;
     push(out, b">")
 }
 

@@ -107,7 +107,7 @@ fn push_lanes(out: &mut Vec<u8>, chart: &Chart) -> Result<(), Memory>
     push_lane(out, chart, Actor::Keeper)
 }
 
-/// Adds the line through the marked events.
+/// Adds the line through the chain's events.
 #[tactic(auto, unfolding(crate::specs::Picture::path))]
 fn push_path(out: &mut Vec<u8>, chart: &Chart) -> Result<(), Memory>
     ensures { OnOk result (out.new.items ≡ out.old.items ++ path chart.now) }
@@ -118,7 +118,7 @@ fn push_path(out: &mut Vec<u8>, chart: &Chart) -> Result<(), Memory>
     push(out, b"'/>\n")
 }
 
-/// The chart as a picture, the text of an SVG document: the actors' columns, a line through the marked events, an arrow for each mail
+/// The chart as a picture, the text of an SVG document: the actors' columns, a line through the chain's events, an arrow for each mail
 /// that an event handles, and for each event its number, actor and kind, and beside it what becomes of the words that it changes.
 ///
 /// # Errors

@@ -93,12 +93,12 @@ fn push_state(out: &mut Vec<u8>, state: WordState) -> Result<(), Memory>
     }
 }
 
-/// Adds the point of a marked event.
+/// Adds the point of an event of the chain.
 #[tactic(auto, unfolding(crate::specs::Picture::point))]
 fn push_point(out: &mut Vec<u8>, chart: &Chart, row: &ChartRow) -> Result<(), Memory>
     ensures { OnOk result (out.new.items ≡ out.old.items ++ point chart.now row.now) }
 {
-    if !row.marked {
+    if !row.on_chain {
         return Ok(());
     }
     let dot = chart.dot(row);
@@ -108,7 +108,7 @@ fn push_point(out: &mut Vec<u8>, chart: &Chart, row: &ChartRow) -> Result<(), Me
     push(out, b" ")
 }
 
-/// Adds the points of the marked events.
+/// Adds the points of the chain's events.
 pub(crate) fn push_points(out: &mut Vec<u8>, chart: &Chart, rows: &[ChartRow]) -> Result<(), Memory>
     ensures { OnOk result (out.new.items ≡ out.old.items ++ flat_map (point chart.now) rows.now) }
 {

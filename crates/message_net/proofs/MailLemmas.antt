@@ -15,23 +15,23 @@ use Rattle.message_net.proofs.PoolLemmas.{same_actor-true, AreDistinct-posted}
 use Rattle.message_net.specs.Mail.{has_actor, actor_index, mail_of, mails_with, mails_of, all_mails}
 
 -- each actor of a machine has a place of its own
-pub place_of-within : (cores banks : ℕ) (a : Actor) → has_actor cores banks a ≡ true → actor_index cores banks a < cores + banks + 1
-place_of-within cores banks (Core core) there = grind (arith, nat_tests)
-place_of-within cores banks (Bank bank) there = grind (arith, nat_tests)
-place_of-within cores banks Keeper there = omega arith
+pub actor_index-within : (cores banks : ℕ) (a : Actor) → has_actor cores banks a ≡ true → actor_index cores banks a < cores + banks + 1
+actor_index-within cores banks (Core core) there = grind (arith, nat_tests)
+actor_index-within cores banks (Bank bank) there = grind (arith, nat_tests)
+actor_index-within cores banks Keeper there = omega arith
 
-pub place_of-own : (cores banks : ℕ) (a b : Actor) → has_actor cores banks a ≡ true → has_actor cores banks b ≡ true → actor_index cores banks a ≡ actor_index cores banks b → a ≡ b
-place_of-own cores banks (Core a) (Core b) first second same = grind (arith, nat_tests)
-place_of-own cores banks (Core a) (Bank b) first second same = absurd (grind (arith, nat_tests))
-place_of-own cores banks (Core a) Keeper first second same = absurd (grind (arith, nat_tests))
-place_of-own cores banks (Bank a) (Core b) first second same = absurd (grind (arith, nat_tests))
-place_of-own cores banks (Bank a) (Bank b) first second same =
+pub actor_index-own : (cores banks : ℕ) (a b : Actor) → has_actor cores banks a ≡ true → has_actor cores banks b ≡ true → actor_index cores banks a ≡ actor_index cores banks b → a ≡ b
+actor_index-own cores banks (Core a) (Core b) first second same = grind (arith, nat_tests)
+actor_index-own cores banks (Core a) (Bank b) first second same = absurd (grind (arith, nat_tests))
+actor_index-own cores banks (Core a) Keeper first second same = absurd (grind (arith, nat_tests))
+actor_index-own cores banks (Bank a) (Core b) first second same = absurd (grind (arith, nat_tests))
+actor_index-own cores banks (Bank a) (Bank b) first second same =
     let numbers : a.0 ≡ b.0 = omega (arith, same) in
     grind (arith, nat_tests)
-place_of-own cores banks (Bank a) Keeper first second same = absurd (grind (arith, nat_tests))
-place_of-own cores banks Keeper (Core b) first second same = absurd (grind (arith, nat_tests))
-place_of-own cores banks Keeper (Bank b) first second same = absurd (grind (arith, nat_tests))
-place_of-own cores banks Keeper Keeper first second same = refl
+actor_index-own cores banks (Bank a) Keeper first second same = absurd (grind (arith, nat_tests))
+actor_index-own cores banks Keeper (Core b) first second same = absurd (grind (arith, nat_tests))
+actor_index-own cores banks Keeper (Bank b) first second same = absurd (grind (arith, nat_tests))
+actor_index-own cores banks Keeper Keeper first second same = refl
 
 -- the weight of a message that is sent, if one is
 abbrev pub weight_sent : (Mail → ℕ) → Actor → ℕ → Option Outgoing → ℕ

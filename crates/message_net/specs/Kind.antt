@@ -22,22 +22,22 @@ kind_of (message.TheVariants.Arrived core bad) = kind.TheVariants.Arrived
 kind_of (message.TheVariants.Go phase) = kind.TheVariants.Go
 kind_of message.TheVariants.Halt = kind.TheVariants.Halt
 
--- the seventeen kinds in their order, each with its place: a core's own events, and then the messages
-abbrev pub kind_place : EventKind → ℕ
-kind_place kind.TheVariants.Instr = 0
-kind_place kind.TheVariants.Evict = 1
-kind_place kind.TheVariants.Arrive = 2
-kind_place kind.TheVariants.ReadReq = 3
-kind_place kind.TheVariants.ReadFwd = 4
-kind_place kind.TheVariants.DataReply = 5
-kind_place kind.TheVariants.RegReq = 6
-kind_place kind.TheVariants.RegFwd = 7
-kind_place kind.TheVariants.RegAck = 8
-kind_place kind.TheVariants.WriteBack = 9
-kind_place kind.TheVariants.WbAck = 10
-kind_place kind.TheVariants.Acquire = 11
-kind_place kind.TheVariants.Release = 12
-kind_place kind.TheVariants.Grant = 13
-kind_place kind.TheVariants.Arrived = 14
-kind_place kind.TheVariants.Go = 15
-kind_place kind.TheVariants.Halt = 16
+-- the seventeen kinds in their order, each with its index: a core's own events, and then the messages
+abbrev pub kind_index : EventKind → ℕ
+kind_index kind.TheVariants.Instr = 0
+kind_index kind.TheVariants.Evict = 1
+kind_index kind.TheVariants.Arrive = 2
+kind_index kind.TheVariants.ReadReq = 3
+kind_index kind.TheVariants.ReadFwd = 4
+kind_index kind.TheVariants.DataReply = 5
+kind_index kind.TheVariants.RegReq = 6
+kind_index kind.TheVariants.RegFwd = 7
+kind_index kind.TheVariants.RegAck = 8
+kind_index kind.TheVariants.WriteBack = 9
+kind_index kind.TheVariants.WbAck = 10
+kind_index kind.TheVariants.Acquire = 11
+kind_index kind.TheVariants.Release = 12
+kind_index kind.TheVariants.Grant = 13
+kind_index kind.TheVariants.Arrived = 14
+kind_index kind.TheVariants.Go = 15
+kind_index kind.TheVariants.Halt = 16

@@ -26,7 +26,7 @@ has_actor cores banks (Core core) = nat_lt core.0 cores
 has_actor cores banks (Bank bank) = nat_lt bank.0 banks
 has_actor cores banks Keeper = true
 
--- the place of an actor among all of a machine: cores come first, then banks, then the keeper
+-- the index of an actor among all of a machine: cores come first, then banks, then the keeper
 abbrev pub actor_index : ℕ → ℕ → Actor → ℕ
 actor_index cores banks (Core core) = core.0
 actor_index cores banks (Bank bank) = cores + bank.0

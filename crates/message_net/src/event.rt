@@ -1,5 +1,5 @@
 ghost use Rattle.std.specs.Prelude.{◌≡◌, ◌<◌};
-ghost use Rattle.message_net.specs.Kind.{kind_place};
+ghost use Rattle.message_net.specs.Kind.{kind_index};
 
 use crate::actor::MailId;
 use dn_base::{CoreId, WordId};
@@ -40,9 +40,9 @@ pub enum EventKind {
 }
 
 impl EventKind {
-    /// The place of the kind among the seventeen.
-    pub fn place(self) -> usize
-        ensures value { result ≡ kind_place self }
+    /// The index of the kind among the seventeen.
+    pub fn index(self) -> usize
+        ensures value { result ≡ kind_index self }
         ensures within { result < 17 }
     {
         self as usize

@@ -8,7 +8,7 @@ ghost use Rattle.message_net.specs.declared.message.Mail.{Mail};
 ghost use Rattle.message_net.specs.declared.message.Outgoing.{Outgoing};
 ghost use Rattle.message_net.specs.Id.{same_id};
 ghost use Rattle.message_net.specs.Pool.{count_of, AreDistinct, IsFound, posted, without_mail_at, removed};
-ghost use Rattle.message_net.specs.Kind.{kind_place};
+ghost use Rattle.message_net.specs.Kind.{kind_index};
 ghost use Rattle.message_net.specs.Order.{actor_order};
 ghost use Rattle.message_net.specs.Mail.{has_actor, actor_index, mails_of, all_mails};
 
@@ -47,8 +47,8 @@ pub fn a_counted_id_is_found()
     ensures none { (id : MailId) (mails : List Mail) → count_of id mails ≡ 0 → removed id mails ≡ (None, mails) }
 {}
 
-/// Each actor of a machine has a place of its own among the places of all.
-pub fn actors_have_places_of_their_own()
+/// Each actor of a machine has an index of its own among the indices of all.
+pub fn actors_have_indices_of_their_own()
     ensures within { (cores banks : ℕ) (a : Actor) → has_actor cores banks a ≡ true → actor_index cores banks a < cores + banks + 1 }
     ensures own { (cores banks : ℕ) (a b : Actor) → has_actor cores banks a ≡ true → has_actor cores banks b ≡ true
         → actor_index cores banks a ≡ actor_index cores banks b → a ≡ b }
@@ -62,10 +62,10 @@ pub fn actors_are_in_order()
         → actor_order a b ≡ nat_cmp (actor_index cores banks a) (actor_index cores banks b) }
 {}
 
-/// Each kind has a place of its own among the seventeen.
-pub fn kinds_have_places_of_their_own()
-    ensures within { (k : EventKind) → kind_place k < 17 }
-    ensures own { (j k : EventKind) → kind_place j ≡ kind_place k → j ≡ k }
+/// Each kind has an index of its own among the seventeen.
+pub fn kinds_have_indices_of_their_own()
+    ensures within { (k : EventKind) → kind_index k < 17 }
+    ensures own { (j k : EventKind) → kind_index j ≡ kind_index k → j ≡ k }
 {}
 
 /// The same mails in another order weigh the same, whatever the weights are, and the same is taken from them and left of
@@ -73,7 +73,7 @@ pub fn kinds_have_places_of_their_own()
 pub fn the_order_of_mails_does_not_matter()
     ensures weight { (f : Mail → ℕ) (xs ys : List Mail) → IsPermutation xs ys → sum_by f ys ≡ sum_by f xs }
     ensures posted { (xs ys : List Mail) (m : Mail) → IsPermutation xs ys → IsPermutation (posted m xs) (posted m ys) }
-    ensures taken { (id : MailId) (xs ys : List Mail) → AreDistinct xs → IsPermutation xs ys → (removed id xs).0 ≡ (removed id ys).0 }
+    ensures removed { (id : MailId) (xs ys : List Mail) → AreDistinct xs → IsPermutation xs ys → (removed id xs).0 ≡ (removed id ys).0 }
     ensures rest { (id : MailId) (xs ys : List Mail) → AreDistinct xs → IsPermutation xs ys
         → IsPermutation (removed id xs).1 (removed id ys).1 }
 {}

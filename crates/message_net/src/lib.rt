@@ -16,8 +16,8 @@ pub use event::{Event, EventKind};
 pub use laws::{
     a_counted_id_is_found, a_counted_mail_stands_somewhere, a_mail_is_found_by_its_id,
     a_post_adds_its_mail, a_take_frees_one_mail, actors_are_in_order,
-    actors_have_places_of_their_own, all_mails_are_added, equal_ids_are_the_same,
-    ids_stay_distinct, kinds_have_places_of_their_own, the_order_of_mails_does_not_matter,
+    actors_have_indices_of_their_own, all_mails_are_added, equal_ids_are_the_same,
+    ids_stay_distinct, kinds_have_indices_of_their_own, the_order_of_mails_does_not_matter,
 };
 pub use message::{Mail, Message, Outgoing};
 pub use pool::Pool;

@@ -46,7 +46,7 @@ pub fn only_arrivals_count()
 
 /// A machine's keeper stays one: the current phase is one of the program's, and all have arrived only once the run is over.
 pub fn a_keeper_stays_the_machines()
-    ensures opened { (cores phases : ℕ) → 1 ≤ cores → IsBarrier (initial_barrier cores phases) }
+    ensures initial { (cores phases : ℕ) → 1 ≤ cores → IsBarrier (initial_barrier cores phases) }
     ensures kept { (k : Barrier) (m : Message) → IsBarrier k → IsBarrier (keeper_gets k m).0 }
 {}
 

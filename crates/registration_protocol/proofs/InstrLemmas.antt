@@ -1,4 +1,4 @@
--- An instruction, part by part, and what its leave to go on tells.
+-- An instruction, part by part, and what its permission to go on tells.
 use Rattle.std.proofs.Common.{◌≡◌, ℕ, Bool, true, false, cond, not, ◌&&◌, ◌||◌, Option, Some, None, refl, ap, ◌∙◌, subst, sym, arith}
 use Rattle.std.proofs.lemmas.Bool.{and_parts}
 use Rattle.std.specs.Option.{is_some}
@@ -26,7 +26,7 @@ use Rattle.registration_protocol.specs.Changes.{on_load, on_store}
 use Rattle.registration_protocol.specs.Parts.{MayInstruct, MayEvict, MayArrive, accessed, Instructs, completes, loads_to, task_by, Retires, Acquires}
 use Rattle.registration_protocol.proofs.EntryLemmas.{at_word, steady}
 
--- ---- what the leaves tell
+-- ---- what the permissions tell
 
 inactive : (a b : Bool) → not (a || b) ≡ true → (a ≡ false) × (b ≡ false)
 inactive true b e = absurd (cc)
@@ -132,7 +132,7 @@ load_parts : (C : Setting) (n : NodeParts) (d : TaskDecl) (t : TaskState) (word 
     → Instructs C n d t (need.TheVariants.Load word) e (load_row C n d t word e).0 (load_row C n d t word e).1
 load_parts C n d t word None has is =
     record {
-      place = record { core = refl; phase = refl; arrived = refl; halted = refl };
+      phase_kept = record { core = refl; phase = refl; arrived = refl; halted = refl };
       sets = refl;
       ways = refl;
       entries = λ w. steady (on_load d word.0) word.0 w n.cache.pairs None is refl;
@@ -144,7 +144,7 @@ load_parts C n d t word None has is =
     }
 load_parts C n d t word (Some (Valid value marked)) has is =
     record {
-      place = record { core = refl; phase = refl; arrived = refl; halted = refl };
+      phase_kept = record { core = refl; phase = refl; arrived = refl; halted = refl };
       sets = refl;
       ways = refl;
       entries = λ w. lookup-put word _ w n.cache.pairs ∙ at_word (on_load d word.0) word.0 w n.cache.pairs (Some (Valid value marked)) _ is refl;
@@ -156,7 +156,7 @@ load_parts C n d t word (Some (Valid value marked)) has is =
     }
 load_parts C n d t word (Some (Registered value pending)) has is =
     record {
-      place = record { core = refl; phase = refl; arrived = refl; halted = refl };
+      phase_kept = record { core = refl; phase = refl; arrived = refl; halted = refl };
       sets = refl;
       ways = refl;
       entries = λ w. lookup-touched word w n.cache.pairs ∙ steady (on_load d word.0) word.0 w n.cache.pairs (Some (Registered value pending)) is refl;
@@ -168,7 +168,7 @@ load_parts C n d t word (Some (Registered value pending)) has is =
     }
 load_parts C n d t word (Some (Leaving value)) has is =
     record {
-      place = record { core = refl; phase = refl; arrived = refl; halted = refl };
+      phase_kept = record { core = refl; phase = refl; arrived = refl; halted = refl };
       sets = refl;
       ways = refl;
       entries = λ w. steady (on_load d word.0) word.0 w n.cache.pairs (Some (Leaving value)) is refl;
@@ -183,7 +183,7 @@ store_parts : (C : Setting) (n : NodeParts) (d : TaskDecl) (t : TaskState) (word
     → Instructs C n d t (need.TheVariants.Store word whole) e (store_row C n d t word whole e).0 (store_row C n d t word whole e).1
 store_parts C n d t word true None has is =
     record {
-      place = record { core = refl; phase = refl; arrived = refl; halted = refl };
+      phase_kept = record { core = refl; phase = refl; arrived = refl; halted = refl };
       sets = refl;
       ways = refl;
       entries = λ w. lookup-put word _ w n.cache.pairs ∙ at_word (on_store C t true) word.0 w n.cache.pairs None _ is refl;
@@ -195,7 +195,7 @@ store_parts C n d t word true None has is =
     }
 store_parts C n d t word false None has is =
     record {
-      place = record { core = refl; phase = refl; arrived = refl; halted = refl };
+      phase_kept = record { core = refl; phase = refl; arrived = refl; halted = refl };
       sets = refl;
       ways = refl;
       entries = λ w. steady (on_store C t false) word.0 w n.cache.pairs None is refl;
@@ -207,7 +207,7 @@ store_parts C n d t word false None has is =
     }
 store_parts C n d t word whole (Some (Valid value marked)) has is =
     record {
-      place = record { core = refl; phase = refl; arrived = refl; halted = refl };
+      phase_kept = record { core = refl; phase = refl; arrived = refl; halted = refl };
       sets = refl;
       ways = refl;
       entries = λ w. lookup-put word _ w n.cache.pairs ∙ at_word (on_store C t whole) word.0 w n.cache.pairs (Some (Valid value marked)) _ is refl;
@@ -219,7 +219,7 @@ store_parts C n d t word whole (Some (Valid value marked)) has is =
     }
 store_parts C n d t word whole (Some (Registered value pending)) has is =
     record {
-      place = record { core = refl; phase = refl; arrived = refl; halted = refl };
+      phase_kept = record { core = refl; phase = refl; arrived = refl; halted = refl };
       sets = refl;
       ways = refl;
       entries = λ w. lookup-put word _ w n.cache.pairs ∙ at_word (on_store C t whole) word.0 w n.cache.pairs (Some (Registered value pending)) _ is refl;
@@ -231,7 +231,7 @@ store_parts C n d t word whole (Some (Registered value pending)) has is =
     }
 store_parts C n d t word whole (Some (Leaving value)) has is =
     record {
-      place = record { core = refl; phase = refl; arrived = refl; halted = refl };
+      phase_kept = record { core = refl; phase = refl; arrived = refl; halted = refl };
       sets = refl;
       ways = refl;
       entries = λ w. steady (on_store C t whole) word.0 w n.cache.pairs (Some (Leaving value)) is refl;
@@ -243,10 +243,10 @@ store_parts C n d t word whole (Some (Leaving value)) has is =
     }
 
 pub instr-parts : (C : Setting) (n : NodeParts) (d : TaskDecl) (t : TaskState) (x : Need) → n.task ≡ Some t → Instructs C n d t x (accessed n x) (instr_row C n d t x).0 (instr_row C n d t x).1
-instr-parts C n d t need.TheVariants.Local has = record { place = record { core = refl; phase = refl; arrived = refl; halted = refl }; sets = refl; ways = refl; entries = λ w. refl; task = refl; waiting = refl; signatures = refl; sent = refl; seen = refl }
-instr-parts C n d t (need.TheVariants.End by) has = record { place = record { core = refl; phase = refl; arrived = refl; halted = refl }; sets = refl; ways = refl; entries = λ w. refl; task = refl; waiting = refl; signatures = refl; sent = refl; seen = refl }
-instr-parts C n d t (need.TheVariants.Acquire lock) has = record { place = record { core = refl; phase = refl; arrived = refl; halted = refl }; sets = refl; ways = refl; entries = λ w. refl; task = has; waiting = refl; signatures = refl; sent = refl; seen = refl }
-instr-parts C n d t (need.TheVariants.Release lock) has = record { place = record { core = refl; phase = refl; arrived = refl; halted = refl }; sets = refl; ways = refl; entries = λ w. refl; task = refl; waiting = refl; signatures = refl; sent = refl; seen = refl }
+instr-parts C n d t need.TheVariants.Local has = record { phase_kept = record { core = refl; phase = refl; arrived = refl; halted = refl }; sets = refl; ways = refl; entries = λ w. refl; task = refl; waiting = refl; signatures = refl; sent = refl; seen = refl }
+instr-parts C n d t (need.TheVariants.End by) has = record { phase_kept = record { core = refl; phase = refl; arrived = refl; halted = refl }; sets = refl; ways = refl; entries = λ w. refl; task = refl; waiting = refl; signatures = refl; sent = refl; seen = refl }
+instr-parts C n d t (need.TheVariants.Acquire lock) has = record { phase_kept = record { core = refl; phase = refl; arrived = refl; halted = refl }; sets = refl; ways = refl; entries = λ w. refl; task = has; waiting = refl; signatures = refl; sent = refl; seen = refl }
+instr-parts C n d t (need.TheVariants.Release lock) has = record { phase_kept = record { core = refl; phase = refl; arrived = refl; halted = refl }; sets = refl; ways = refl; entries = λ w. refl; task = refl; waiting = refl; signatures = refl; sent = refl; seen = refl }
 instr-parts C n d t (need.TheVariants.Load word) has = load_parts C n d t word (entry_of n word.0) has refl
 instr-parts C n d t (need.TheVariants.Store word whole) has = store_parts C n d t word whole (entry_of n word.0) has refl
 

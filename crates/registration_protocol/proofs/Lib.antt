@@ -5,7 +5,7 @@ pub mod FitLemmas
 pub mod MessageLemmas
 pub mod NameLemmas
 pub mod OwnLemmas
-pub mod PlaceLemmas
+pub mod PhaseLemmas
 pub mod SignatureLemmas
 pub mod SignLemmas
 pub mod StillLemmas

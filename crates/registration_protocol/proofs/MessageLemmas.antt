@@ -26,7 +26,7 @@ use Rattle.registration_protocol.specs.declared.node.Received.{Received}
 use Rattle.registration_protocol.specs.Node.{NodeParts, Setting, entry_of, keeping}
 use Rattle.registration_protocol.specs.Messages.{node_gets, becomes, fills, data_reply_row, reg_ack_row, reg_fwd_row, read_fwd_row, wb_ack_row, guarded_by, written_in, holds_now, granted_to, grant_row, begins}
 use Rattle.registration_protocol.specs.Changes.{KeepsTask, is_for_node}
-use Rattle.registration_protocol.proofs.PlaceLemmas.{ack-keeps, forward-keeps, read-keeps, gone-keeps}
+use Rattle.registration_protocol.proofs.PhaseLemmas.{ack-keeps, forward-keeps, read-keeps, gone-keeps}
 use Rattle.registration_protocol.specs.Parts.{retired_so_far, held_locks}
 
 -- ---- the table, row by row

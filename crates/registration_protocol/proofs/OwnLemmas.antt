@@ -3,13 +3,13 @@ use Rattle.std.proofs.Common.{◌≡◌, ℕ, ◌%◌, ◌==◌, Bool, true, fal
 use Rattle.std.proofs.lemmas.Bool.{and_parts, and_from}
 use Rattle.std.proofs.lemmas.Bool.Decides.{nat_tests}
 use Rattle.std.specs.List.{find}
-use Rattle.std.specs.Option.{option_map}
+use Rattle.std.specs.Option.{option_map, option_or}
 use Rattle.dn_base.specs.declared.ids.WordId.{WordId}
 use Rattle.message_net.specs.declared.event.Event as event
 use Rattle.message_net.specs.declared.event.Event.{Event}
 use Rattle.word_cache.specs.Cache.{Pair, lookup, may_go, is_evictable, shares_set, gives_way}
 use Rattle.registration_protocol.specs.Node.{NodeParts, Setting, need_now, entry_of, is_active, waits_for_nothing}
-use Rattle.registration_protocol.specs.OwnEvents.{wanted_by, makes_room, may_evict, victim_for, me, may_instr, may_arrive, first_of, eviction_of, eviction, arrival, own_event}
+use Rattle.registration_protocol.specs.OwnEvents.{wanted_by, makes_room, may_evict, victim_for, me, may_instr, may_arrive, eviction_of, eviction, arrival, own_event}
 use Rattle.registration_protocol.specs.Parts.{MayCome}
 
 -- what is found passes the test
@@ -99,16 +99,16 @@ arrival_comes C n e true may is = subst (MayCome C n) (same_some _ e is) (refl, 
 arrival_comes C n e false may is = absurd (cc)
 
 evict_comes : (C : Setting) (n : NodeParts) (e : Event) (v : WordId) (b : Bool) → may_evict C n v.0 ≡ b
-    → first_of (cond b (Some (event.TheVariants.Evict (me n) v)) None) (arrival n) ≡ Some e → MayCome C n e
+    → option_or (cond b (Some (event.TheVariants.Evict (me n) v)) None) (arrival n) ≡ Some e → MayCome C n e
 evict_comes C n e v true may is = subst (MayCome C n) (same_some _ e is) (refl, may)
 evict_comes C n e v false may is = arrival_comes C n e (may_arrive n) refl is
 
-victim_comes : (C : Setting) (n : NodeParts) (e : Event) (o : Option WordId) → first_of (eviction_of C n o) (arrival n) ≡ Some e → MayCome C n e
+victim_comes : (C : Setting) (n : NodeParts) (e : Event) (o : Option WordId) → option_or (eviction_of C n o) (arrival n) ≡ Some e → MayCome C n e
 victim_comes C n e None is = arrival_comes C n e (may_arrive n) refl is
 victim_comes C n e (Some v) is = evict_comes C n e v (may_evict C n v.0) refl is
 
 instr_comes : (C : Setting) (n : NodeParts) (e : Event) (b : Bool) → may_instr C n ≡ b
-    → cond b (Some (event.TheVariants.Instr (me n))) (first_of (eviction C n) (arrival n)) ≡ Some e → MayCome C n e
+    → cond b (Some (event.TheVariants.Instr (me n))) (option_or (eviction C n) (arrival n)) ≡ Some e → MayCome C n e
 instr_comes C n e true may is = subst (MayCome C n) (same_some _ e is) (refl, may)
 instr_comes C n e false may is = victim_comes C n e (victim_for n (wanted_by n (need_now C n))) is
 

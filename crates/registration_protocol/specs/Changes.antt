@@ -1,4 +1,7 @@
--- What becomes of a word's entry at each event, and what stays of a node where entries change.
+-- What becomes of one entry at each event, and what stays of a node where entries change.
+--
+-- These are columns of the rows in OwnEvents and Messages, for laws. That each is the column of its row is what the laws
+-- `one_entry_changes`, `a_value_is_a_copy`, `a_store_writes_one_entry` and `a_phase_begins_part_by_part` prove.
 use Rattle.std.specs.Prelude.{◌≡◌, ℕ, Bool, true, false, ◌||◌, ◌==◌, Option, Some, None, if◌then◌else◌}
 use Rattle.region_table.specs.declared.declared.TaskDecl.{TaskDecl}
 use Rattle.region_table.specs.Plan.{uses_plainly}
@@ -78,7 +81,7 @@ pub record KeepsPhase (n m : NodeParts) : Type 0 where
 
 -- a node of which at most entries differ
 pub record KeepsTask (n m : NodeParts) : Type 0 where
-  pub place : KeepsPhase n m
+  pub phase_kept : KeepsPhase n m
   pub task : m.task ≡ n.task
   pub waiting : m.waiting ≡ n.waiting
   pub signatures : m.signatures ≡ n.signatures

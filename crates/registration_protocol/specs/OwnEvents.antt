@@ -1,6 +1,6 @@
 -- A node's own events: when each may come, and what it does.
 use Rattle.std.specs.Prelude.{◌≡◌, ℕ, ◌+◌, ◌%◌, Bool, true, false, ◌&&◌, ◌||◌, ◌==◌, not, List, [], ◌∷◌, slice_index_or, Option, Some, None, if◌then◌else◌}
-use Rattle.std.specs.Option.{is_some}
+use Rattle.std.specs.Option.{is_some, option_or}
 use Rattle.dn_base.specs.declared.ids.CoreId.{CoreId}
 use Rattle.dn_base.specs.declared.ids.WordId.{WordId}
 use Rattle.region_table.specs.declared.declared.TaskDecl.{TaskDecl}
@@ -209,14 +209,10 @@ eviction C n = eviction_of C n (victim_for n (wanted_by n (need_now C n)))
 abbrev pub arrival : NodeParts → Option Event
 arrival n = if may_arrive n then Some (event.TheVariants.Arrive (me n)) else None
 
-abbrev pub first_of : Option Event → Option Event → Option Event
-first_of None e = e
-first_of (Some a) e = Some a
-
 -- the node's next event by itself: its instruction where it may go on, else the eviction of the cache's victim, else its
 -- arrival
 abbrev pub own_event : Setting → NodeParts → Option Event
-own_event C n = if may_instr C n then Some (event.TheVariants.Instr (me n)) else first_of (eviction C n) (arrival n)
+own_event C n = if may_instr C n then Some (event.TheVariants.Instr (me n)) else option_or (eviction C n) (arrival n)
 
 -- a node with nothing to do by itself
 pub record IsStill (C : Setting) (n : NodeParts) : Type 0 where

@@ -1,4 +1,7 @@
 -- An instruction, part by part: what it changes of the task, the wait and the signatures, and what it sends and reads.
+--
+-- These are columns of the rows in OwnEvents and Messages, for laws. That each is the column of its row is what the laws
+-- `an_instruction_part_by_part`, `a_grant_part_by_part` and `a_phase_begins_part_by_part` prove.
 use Rattle.std.specs.Prelude.{◌≡◌, ℕ, ◌^◌, Bool, true, false, List, Option, Some, None, if◌then◌else◌, ◌+◌, ◌<◌, length, bit_or, ◌⊎◌}
 use Rattle.dn_base.specs.declared.ids.LoadSeen.{LoadSeen}
 use Rattle.dn_base.specs.declared.ids.WordId.{WordId}
@@ -172,7 +175,7 @@ seen_by _ e = None
 
 -- the node after an instruction with this need, where the word that it accesses has this entry, and what it sends and reads
 pub record Instructs (C : Setting) (n : NodeParts) (d : TaskDecl) (t : TaskState) (x : Need) (e : Option Entry) (m : NodeParts) (s : Step) : Type 0 where
-  pub place : KeepsPhase n m
+  pub phase_kept : KeepsPhase n m
   pub sets : m.cache.sets ≡ n.cache.sets
   pub ways : m.cache.ways ≡ n.cache.ways
   pub entries : (w : ℕ) → entry_of m w ≡ on_instr C d t x w (entry_of n w)

@@ -38,7 +38,7 @@ pub fn one_entry_changes()
     ensures read { (C : Setting) (n : NodeParts) (word : WordId) (reader : CoreId) → (node_gets C n (ReadFwd word reader)).0 ≡ n }
 {}
 
-/// They leave the task, the wait, the signatures, the phase and the marks.
+/// They leave the task, the wait, the signatures, the phase and the flags.
 pub fn the_task_stays()
     ensures ack { (C : Setting) (n : NodeParts) (word : WordId) → KeepsTask n (node_gets C n (RegAck word)).0 }
     ensures forward { (C : Setting) (n : NodeParts) (word : WordId) (core : CoreId) → KeepsTask n (node_gets C n (RegFwd word core)).0 }
@@ -64,15 +64,15 @@ pub fn a_store_writes_one_word()
         → written_now C n ≡ written_by C t word whole (entry_of n word.0) }
 {}
 
-/// Only the keeper's messages and an arrival change a node's phase and marks.
-pub fn a_node_keeps_its_place()
+/// Only the keeper's messages and an arrival change a node's phase and flags.
+pub fn a_node_keeps_its_phase()
     ensures instr { (C : Setting) (n : NodeParts) → KeepsPhase n (instructed C n).0 }
     ensures evict { (C : Setting) (n : NodeParts) (word : WordId) → KeepsPhase n (evicted C n word).0 }
     ensures receive { (C : Setting) (n : NodeParts) (m : Message) → is_from_keeper m ≡ false → KeepsPhase n (node_gets C n m).0 }
 {}
 
 /// What it says of a node that it may go on with its instruction, evict a word or arrive.
-pub fn a_leave_tells_of_its_node()
+pub fn a_permission_tells_of_its_node()
     ensures instr { (C : Setting) (n : NodeParts) → may_instr C n ≡ true → MayInstruct C n }
     ensures evict { (C : Setting) (n : NodeParts) (w : ℕ) → may_evict C n w ≡ true → MayEvict C n w }
     ensures arrive { (n : NodeParts) → may_arrive n ≡ true → MayArrive n }
@@ -124,7 +124,7 @@ pub fn signatures_are_of_the_phase()
 
 /// A node fits its context as a run begins and after every event.
 pub fn a_node_stays_fit()
-    ensures opened { (C : Setting) (core : ℕ) → core < C.shape.cores → Fits C (initial_node C core) }
+    ensures initial { (C : Setting) (core : ℕ) → core < C.shape.cores → Fits C (initial_node C core) }
     ensures instr { (C : Setting) (n : NodeParts) → Fits C n → may_instr C n ≡ true → Fits C (instructed C n).0 }
     ensures evict { (C : Setting) (n : NodeParts) (word : WordId) → Fits C n → Fits C (evicted C n word).0 }
     ensures arrive { (C : Setting) (n : NodeParts) → Fits C n → Fits C (arrives n).0 }

@@ -43,7 +43,7 @@ pub struct Received {
     pub granted: Option<Grant>,
 }
 
-/// A core with its task, its cache, its wait, a signature for each lock, and its marks.
+/// A core with its task, its cache, its wait, a signature for each lock, and its flags: arrived and halted.
 #[derive(Drop)]
 pub struct Node {
     pub(crate) core: CoreId,
@@ -137,8 +137,8 @@ impl Node {
         self.cache.pending() == 0
     }
 
-    /// Whether the node has a task that goes on.
-    pub(crate) fn goes_on(&self) -> bool
+    /// Whether the node has a task that hasn't ended.
+    pub(crate) fn is_running(&self) -> bool
         ensures { result ≡ is_running self.now.task }
     {
         match &self.task {
@@ -152,7 +152,7 @@ impl Node {
     pub fn may_arrive(&self) -> bool
         ensures { result ≡ may_arrive self.now }
     {
-        !(self.halted || self.arrived) && !self.goes_on() && self.is_settled()
+        !(self.halted || self.arrived) && !self.is_running() && self.is_settled()
     }
 
     /// What the next instruction of the node's task needs; None where the node has no task that goes on.

@@ -213,13 +213,13 @@ impl Bank {
         send(core, Message::WbAck { word })
     }
 
-    /// The place of a lock among the bank's own; None where it isn't one of them.
-    fn place(&self, lock: LockId) -> Option<usize>
+    /// The index of a lock among the bank's own; None where it isn't one of them.
+    fn lock_index(&self, lock: LockId) -> Option<usize>
         ensures { result ≡ lock_index self.now lock.0 }
     {
-        let place = (lock.0 / self.banks) as usize;
-        if lock.0 % self.banks == self.bank.0 && place < self.locks.len() {
-            Some(place)
+        let index = (lock.0 / self.banks) as usize;
+        if lock.0 % self.banks == self.bank.0 && index < self.locks.len() {
+            Some(index)
         } else {
             None
         }
@@ -230,8 +230,8 @@ impl Bank {
         ensures bank { self.new ≡ (acquires self.old lock core (bank_lock self.old lock.0)).0 }
         ensures sent { result ≡ (acquires self.old lock core (bank_lock self.old lock.0)).1 }
     {
-        let place = self.place(lock)?;
-        acquire_at(self.locks.as_mut_slice(), place, lock, core)
+        let index = self.lock_index(lock)?;
+        acquire_at(self.locks.as_mut_slice(), index, lock, core)
     }
 
     /// A core gives up a lock, and the first that waits for it is granted it.
@@ -239,8 +239,8 @@ impl Bank {
         ensures bank { self.new ≡ (releases self.old lock core signature (bank_lock self.old lock.0)).0 }
         ensures sent { result ≡ (releases self.old lock core signature (bank_lock self.old lock.0)).1 }
     {
-        let place = self.place(lock)?;
-        release_at(self.locks.as_mut_slice(), place, lock, core, signature)
+        let index = self.lock_index(lock)?;
+        release_at(self.locks.as_mut_slice(), index, lock, core, signature)
     }
 
     /// The bank's answer to a message, which may change what it holds.

@@ -20,7 +20,7 @@ pub fn an_opened_bank_holds_the_first_memory()
 
 /// A bank of a machine stays one, whatever the message, and sends what it sends to the machine's cores.
 pub fn a_bank_stays_the_machines()
-    ensures opened { (bank banks cores : ℕ) (memory : List ℕ) (locks : ℕ) → bank < banks → IsBank (initial_bank bank banks cores memory locks) }
+    ensures initial { (bank banks cores : ℕ) (memory : List ℕ) (locks : ℕ) → bank < banks → IsBank (initial_bank bank banks cores memory locks) }
     ensures kept { (b : BankParts) (m : Message) → IsBank b → IsBank (bank_gets b m).0 }
     ensures answers { (b : BankParts) (m : Message) (out : Outgoing) → IsBank b → (bank_gets b m).1 ≡ Some out
         → (core : CoreId) × (out.to ≡ Core core) × (core.0 < b.cores) }
@@ -71,7 +71,7 @@ pub fn locks_change_by_their_own_messages()
 {}
 
 /// No message changes which bank it is, or how many banks, cores, words and locks there are.
-pub fn a_bank_keeps_its_place()
+pub fn a_bank_keeps_its_shape()
     ensures number { (b : BankParts) (m : Message) → (bank_gets b m).0.bank ≡ b.bank }
     ensures banks { (b : BankParts) (m : Message) → (bank_gets b m).0.banks ≡ b.banks }
     ensures cores { (b : BankParts) (m : Message) → (bank_gets b m).0.cores ≡ b.cores }

@@ -10,7 +10,7 @@ mod laws;
 
 pub use bank::{Bank, BankWord};
 pub use laws::{
-    a_bank_keeps_its_place, a_bank_stays_the_machines, a_lock_changes_alone, a_word_changes_alone,
+    a_bank_keeps_its_shape, a_bank_stays_the_machines, a_lock_changes_alone, a_word_changes_alone,
     an_opened_bank_holds_the_first_memory, locks_change_by_their_own_messages,
     other_kinds_change_nothing, words_change_by_their_own_messages,
 };

@@ -21,7 +21,7 @@ use Rattle.bank_hall.specs.declared.posted.Posted.{Posted}
 use Rattle.round_rules.specs.Members.{member, IsIn}
 use Rattle.round_rules.specs.Steps.{Step, Done, Goes}
 use Rattle.round_rules.specs.Acts.{Act, actor_of, is_act_of, act_done, note_of, events_in, events_by, core_step, steps_by, calls_in}
-use Rattle.round_rules.specs.Rounds.{Round, owner, actors, bank_in, keeper_in, AreClosed, HaveWorked, IsMerged, IsOwn}
+use Rattle.round_rules.specs.Rounds.{Round, owner, actors, bank_in, keeper_in, IsHallClosed, HaveWorked, IsMerged, IsOwn}
 use Rattle.round_rules.proofs.Weights.{sum-flat, sum-agree, sum-same, sum-flip, sum-parted, parts-weigh, told-cons}
 use Rattle.round_rules.proofs.Actors.{actor-once, all-inside, in-range}
 use Rattle.round_rules.proofs.Shares.{one-share, none-of, by-passes, one-tells}
@@ -162,7 +162,7 @@ module _ (C : Setting) (S T : State) (r : Round) (some : 1 ≤ r.workers) (worke
 
   -- ---- the steps of each actor
 
-  module _ (closed : AreClosed C S T r) (merged : IsMerged C r) (machine : IsMachine S) (setting : S.setting ≡ C) where
+  module _ (closed : IsHallClosed C S T r) (merged : IsMerged C r) (machine : IsMachine S) (setting : S.setting ≡ C) where
     noted-by : (a : Actor) (steps : List Step) → IsIn C a → map step_done steps ≡ events_by C.shape a (r.work (owner r.workers a)) → filter (of_actor a) r.merged ≡ map step_note steps
     noted-by a steps inside told = merged.parts a inside ∙ (ap (map note_of) (sym told) ∙ sym (noted steps))
 

@@ -18,7 +18,7 @@ use Rattle.message_net.specs.Id.{same_actor}
 use Rattle.message_net.specs.Pool.{removed}
 use Rattle.message_net.specs.Mail.{mail_of, mails_of}
 use Rattle.message_net.proofs.PoolLemmas.{same_actor-refl}
-use Rattle.message_net.proofs.MailLemmas.{place_of-within, place_of-own, weight_sent, sum_by-mails_with, sum_by-all_mails}
+use Rattle.message_net.proofs.MailLemmas.{actor_index-within, actor_index-own, weight_sent, sum_by-mails_with, sum_by-all_mails}
 use Rattle.registry_bank.specs.Bank.{BankParts, bank_gets}
 use Rattle.phase_barrier.specs.Barrier.{Barrier, keeper_gets}
 use Rattle.phase_barrier.specs.Letters.{letters}
@@ -41,12 +41,12 @@ pub record Sent (S T : State) (a : Actor) (rest : List Mail) (sent : List Outgoi
 -- ---- numbers
 
 place-there : (S : State) (a : Actor) → IsMachine S → IsIn S.setting a → actor_index_in S a < length S.numbers
-place-there S a good inside = omega (arith, good.numbers, place_of-within S.setting.shape.cores S.setting.shape.banks a inside)
+place-there S a good inside = omega (arith, good.numbers, actor_index-within S.setting.shape.cores S.setting.shape.banks a inside)
 
 -- two actors stand at two places
 apart : (S : State) (a b : Actor) → IsIn S.setting a → IsIn S.setting b → same_actor b a ≡ false → actor_index_in S b ≡ actor_index_in S a → ⊥
 apart S a b first second differ same =
-    let one : b ≡ a = place_of-own S.setting.shape.cores S.setting.shape.banks b a second first same in
+    let one : b ≡ a = actor_index-own S.setting.shape.cores S.setting.shape.banks b a second first same in
     let alike : same_actor b a ≡ true = subst (λ (x : Actor). same_actor b x ≡ true) one (same_actor-refl b) in
     absurd (cc)
 

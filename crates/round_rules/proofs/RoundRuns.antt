@@ -19,7 +19,7 @@ use Rattle.bank_hall.specs.declared.posted.Posted.{Posted}
 use Rattle.round_rules.specs.Members.{Member, Deed, Handles, Makes, member, event_of, deed_kind, IsIn}
 use Rattle.round_rules.specs.Steps.{Step, Done, stamp_of, deed_stamp, with_stamp, IsStep, Goes}
 use Rattle.round_rules.specs.Acts.{events_by}
-use Rattle.round_rules.specs.Rounds.{Round, owner, actors, IsReached, IsJoined, IsRoundOf, AreTold, IsNoLater, mail_in, noted_event, noted_kind, events_of, end_observed, end_of_done, done_by}
+use Rattle.round_rules.specs.Rounds.{Round, owner, actors, IsReached, IsJoined, IsRoundOf, AreToldInOrder, IsNoLater, mail_in, noted_event, noted_kind, events_of, end_observed, end_of_done, done_by}
 use Rattle.round_rules.proofs.Weights.{sum-map, sum-flat, sum-zero, zero-sum, sum-agree, sum-same, sum-both, parts-weigh, all-of-parts}
 use Rattle.round_rules.proofs.SameMails.{same_elements}
 use Rattle.round_rules.proofs.Actors.{actor-once, all-inside, each-actor}
@@ -240,7 +240,7 @@ module _ (C : Setting) (S T : State) (r : Round) (reached : IsReached C S) (join
       ∙ (filter_map-map (λ (e : Stamped). e.granted) step_note steps
       ∙ subst (λ es. filter_map step_grant steps ≡ grants_of S es) events comes.grants)
 
-  tells : AreTold C S r (map step_done steps)
+  tells : AreToldInOrder C S r (map step_done steps)
   tells = record {
     notes = sym (noted steps) ∙ woven.notes;
     parts = λ a within. filter-map (done_by a) step_done steps ∙ (ap (map step_done) (woven.each a) ∙ (part a).told within);

@@ -11,7 +11,7 @@ use Rattle.message_net.specs.declared.message.Message.{Message}
 use Rattle.message_net.specs.declared.message.Message.TheVariants.{ReadReq, ReadFwd, DataReply, RegReq, RegFwd, RegAck, WriteBack, WbAck, Acquire, Release, Grant, Arrived, Go, Halt}
 use Rattle.message_net.specs.declared.message.Mail.{Mail}
 use Rattle.message_net.specs.Id.{same_actor, same_id}
-use Rattle.message_net.specs.Kind.{kind_of, kind_place}
+use Rattle.message_net.specs.Kind.{kind_of, kind_index}
 use Rattle.message_net.proofs.PoolLemmas.{same_actor-true, same_actor-refl, same_id-true, same_id-refl}
 use Rattle.machine_rules.specs.Flight.{bit}
 use Rattle.bank_hall.specs.declared.posted.Posted.{Posted}
@@ -24,7 +24,7 @@ kinds = kind.TheVariants.Instr ∷ kind.TheVariants.Evict ∷ kind.TheVariants.A
 abbrev at_place : ℕ → EventKind
 at_place n = get_or kinds n kind.TheVariants.Instr
 
-placed : (k : EventKind) → at_place (kind_place k) ≡ k
+placed : (k : EventKind) → at_place (kind_index k) ≡ k
 placed kind.TheVariants.Instr = refl
 placed kind.TheVariants.Evict = refl
 placed kind.TheVariants.Arrive = refl
@@ -127,17 +127,17 @@ same_numbers-refl (x ∷ xs) = ap (λ b. b && same_numbers xs xs) (itself x) ∙
 
 -- a kind, with what the message says
 abbrev same_message : Message → Message → Bool
-same_message a b = (kind_place (kind_of a) == kind_place (kind_of b)) && same_numbers (said a) (said b)
+same_message a b = (kind_index (kind_of a) == kind_index (kind_of b)) && same_numbers (said a) (said b)
 
 same_message-true : (a b : Message) → same_message a b ≡ true → a ≡ b
 same_message-true a b e =
-    let parts = both (kind_place (kind_of a) == kind_place (kind_of b)) (same_numbers (said a) (said b)) e in
-    let place : kind_place (kind_of a) ≡ kind_place (kind_of b) = grind (arith, nat_tests, parts.0) in
+    let parts = both (kind_index (kind_of a) == kind_index (kind_of b)) (same_numbers (said a) (said b)) e in
+    let place : kind_index (kind_of a) ≡ kind_index (kind_of b) = grind (arith, nat_tests, parts.0) in
     let kinds_are : kind_of a ≡ kind_of b = sym (placed (kind_of a)) ∙ (ap at_place place ∙ placed (kind_of b)) in
     sym (recalled a) ∙ (ap (λ k. message_of k (said a)) kinds_are ∙ (ap (message_of (kind_of b)) (same_numbers-true (said a) (said b) parts.1) ∙ recalled b))
 
 same_message-refl : (m : Message) → same_message m m ≡ true
-same_message-refl m = ap (λ b. b && same_numbers (said m) (said m)) (itself (kind_place (kind_of m))) ∙ same_numbers-refl (said m)
+same_message-refl m = ap (λ b. b && same_numbers (said m) (said m)) (itself (kind_index (kind_of m))) ∙ same_numbers-refl (said m)
 
 unfoldable pub same_mail : Mail → Mail → Bool
 same_mail a b = same_id a.id b.id && (same_actor a.to b.to && same_message a.message b.message)

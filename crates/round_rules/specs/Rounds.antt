@@ -86,7 +86,7 @@ abbrev pub IsPortClosed : Round → ℕ → Type 0
 IsPortClosed r c = Legal port_answer port_next (r.began (core_at c)) (r.histories.ports c) (r.left (core_at c))
 
 -- the objects of the hall were closed
-pub record AreClosed (C : Setting) (S T : State) (r : Round) : Type 0 where
+pub record IsHallClosed (C : Setting) (S T : State) (r : Round) : Type 0 where
   pub banks : (b : ℕ) → b < C.shape.banks → IsBankClosed S T r b
   pub ports : (c : ℕ) → c < C.shape.cores → IsPortClosed r c
   pub keeper : IsKeeperClosed S T r
@@ -149,7 +149,7 @@ pub record IsJoined (C : Setting) (S T : State) (r : Round) : Type 0 where
   pub some : 1 ≤ r.workers
   pub alike : HasSameSizes C S T
   pub inboxes : AreInboxes C S T r
-  pub closed : AreClosed C S T r
+  pub closed : IsHallClosed C S T r
   pub worked : HaveWorked C S T r
   pub merged : IsMerged C r
 
@@ -179,7 +179,7 @@ abbrev pub done_by : Actor → Done → Bool
 done_by a d = of_actor a d.stamped
 
 -- what is told of the events in their order: each actor's part is what its worker saw of it
-pub record AreTold (C : Setting) (S : State) (r : Round) (told : List Done) : Type 0 where
+pub record AreToldInOrder (C : Setting) (S : State) (r : Round) (told : List Done) : Type 0 where
   pub notes : map note_of told ≡ r.merged
   pub parts : (a : Actor) → IsIn C a → filter (done_by a) told ≡ events_by C.shape a (r.work (owner r.workers a))
   pub ends : filter_map end_of_done told ≡ read_off end_observed S (events_of r.merged)
@@ -193,5 +193,5 @@ pub record IsRoundOf (C : Setting) (S T : State) (r : Round) : Type 0 where
   pub kinds : map noted_kind r.merged ≡ kinds_of S (events_of r.merged)
   pub grants : grants_in r.merged ≡ grants_of S (events_of r.merged)
   pub told : List Done
-  pub tells : AreTold C S r told
+  pub tells : AreToldInOrder C S r told
   pub early : (i : ℕ) (e : Stamped) → slice_get r.merged i ≡ Some e → e.stamp ≤ i + 1

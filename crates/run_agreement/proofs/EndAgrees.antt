@@ -10,7 +10,7 @@ use Rattle.rv_core.specs.declared.ending.TaskEnd.{TaskEnd}
 use Rattle.flat_machine.specs.declared.ending.TaskLoads.{TaskLoads}
 use Rattle.flat_machine.specs.Step.{Started}
 use Rattle.flat_machine.specs.Phases.{Flat, initial}
-use Rattle.flat_machine.specs.Ending.{task_end, task_loads, flat_loads_of as flat_loads, flat_ends_of as flat_ends, flat_end_of, flat_end}
+use Rattle.flat_machine.specs.Ending.{task_end, task_loads, flat_loads_of, flat_ends_of, flat_end_of, flat_end}
 use Rattle.rv_core.specs.Ending.{ending_of}
 use Rattle.flat_agreement.specs.Cores.{world_of}
 use Rattle.flat_agreement.proofs.CoreByCore.{agreed-ends, none-ends}
@@ -25,7 +25,7 @@ use Rattle.machine_rules.specs.Memory.{store_in, memory_of}
 use Rattle.machine_rules.specs.Rest.{HasOpenTask, IsAtRest}
 use Rattle.machine_rules.specs.Runs.{after, IsRun, IsOver, IsCompleteRun, grants_of, loads_of, loads_from, all_loads, memory_after, last_end, ends_from, ends_of}
 use Rattle.machine_rules.proofs.Invariant.{Invariant}
-use Rattle.machine_rules.proofs.Leaves.{stored_to}
+use Rattle.machine_rules.proofs.Outcomes.{stored_to}
 use Rattle.machine_rules.proofs.Dispatch.{ways}
 use Rattle.machine_rules.proofs.SoundEvents.{sound-next}
 use Rattle.machine_rules.proofs.Kept.{kept}
@@ -42,7 +42,7 @@ use Rattle.run_agreement.proofs.Opened.{no_loads}
 use Rattle.run_agreement.proofs.Quiet.{last-more}
 use Rattle.run_agreement.proofs.AgreedRuns.{loads_over, ends_over, no_ends, last-run, ends-last}
 use Rattle.run_agreement.proofs.PrefixAgrees.{all-standing, run-agreed}
-use Rattle.run_agreement.proofs.Halting.{IsHalting, halting-leaves, not-all}
+use Rattle.run_agreement.proofs.Halting.{IsHalting, halting-outcomes, not-all}
 use Rattle.run_agreement.proofs.Resting.{IsResting, task-stops, no-next}
 use Rattle.run_agreement.proofs.TaskEnds.{task-seen, ends-list, take-back}
 
@@ -52,7 +52,7 @@ run-halting : (S : State) (M : ℕ → ℕ) (made : ℕ) (events : List Event) �
 run-halting S M made [] sound inv h run = h
 run-halting S M made (e ∷ es) sound inv h run =
     let later = sound-next S made e sound run.0 in
-    run-halting (next S e) (stored_to (store_in S e) M) (made + 1) es later (kept S M e inv run.0 later.machine) (ways S M e (λ M'. IsHalting (next S e)) inv run.0 (halting-leaves S M e inv h)) run.1
+    run-halting (next S e) (stored_to (store_in S e) M) (made + 1) es later (kept S M e inv run.0 later.machine) (ways S M e (λ M'. IsHalting (next S e)) inv run.0 (halting-outcomes S M e inv h)) run.1
 
 some-cores : (ts : List TaskDecl) → 1 ≤ cores_in ts
 some-cores [] = omega arith
@@ -91,11 +91,11 @@ loads-list K S events L phase (p ∷ ps) same =
 
 -- ---- the end
 
-end-loads : (P : ProgramParts) (fuel : ℕ) (F : Flat) → (flat_end_of P fuel F).loads ≡ flat_loads F
+end-loads : (P : ProgramParts) (fuel : ℕ) (F : Flat) → (flat_end_of P fuel F).loads ≡ flat_loads_of F
 unfolding flat_end_of
 end-loads P fuel F = refl
 
-end-ending : (P : ProgramParts) (fuel : ℕ) (F : Flat) → (flat_end_of P fuel F).ending ≡ ending_of (flat_ends P fuel F) F.memory
+end-ending : (P : ProgramParts) (fuel : ℕ) (F : Flat) → (flat_end_of P fuel F).ending ≡ ending_of (flat_ends_of P fuel F) F.memory
 unfolding flat_end_of
 end-ending P fuel F = refl
 
@@ -119,7 +119,7 @@ phases-end C p events ready first complete =
       end' = flat_end_of S.setting.program S.setting.fuel W;
       run = subst (λ (x : Setting). flat_end x.program x.fuel (grants_of (initial_state C) events) ≡ Some (flat_end_of S.setting.program S.setting.fuel W)) setting ends;
       loads = end-loads S.setting.program S.setting.fuel W ∙ loads;
-      ending = end-ending S.setting.program S.setting.fuel W ∙ same-ending (flat_ends S.setting.program S.setting.fuel W) (ends_of (initial_state C) events) h.memory (memory_of S) tasks memory;
+      ending = end-ending S.setting.program S.setting.fuel W ∙ same-ending (flat_ends_of S.setting.program S.setting.fuel W) (ends_of (initial_state C) events) h.memory (memory_of S) tasks memory;
     }
   where
     S : State
@@ -169,7 +169,7 @@ phases-end C p events ready first complete =
         (λ d among. task-stops S M h.states L h.phase d resting among)
         (no-next S M h.states L h.phase past h.memory resting (whole-or-open S M h.phase inv complete.over h.world.there nodes)) h.world
 
-    loads : flat_loads W ≡ all_loads (initial_state C) events
+    loads : flat_loads_of W ≡ all_loads (initial_state C) events
     loads =
         let number : suc S.keeper.phase ≡ S.keeper.phase + 1 = omega arith in
         ap (λ (ts : List Started). map task_loads ts) (all-standing S.setting (grants_of (initial_state C) events) h.states L S.keeper.phase h.phase h.memory h.world)
@@ -186,7 +186,7 @@ phases-end C p events ready first complete =
         subst (λ (k : ℕ). last_end k d.core.0 (initial_state C) events ≡ Some (task_end S.setting.program S.setting.fuel (stands h.states L k d))) number
         (sym (ends-last (initial_state C) events j d.core.0) ∙ seen)
 
-    tasks : flat_ends S.setting.program S.setting.fuel W ≡ ends_of (initial_state C) events
+    tasks : flat_ends_of S.setting.program S.setting.fuel W ≡ ends_of (initial_state C) events
     tasks =
         let number : suc S.keeper.phase ≡ S.keeper.phase + 1 = omega arith in
         ap (λ (ts : List Started). map (task_end S.setting.program S.setting.fuel) ts) (all-standing S.setting (grants_of (initial_state C) events) h.states L S.keeper.phase h.phase h.memory h.world)

@@ -13,7 +13,7 @@ use Rattle.machine_rules.specs.Next.{next}
 use Rattle.machine_rules.specs.Flight.{bit, is_arrival_of, is_halt_to}
 use Rattle.machine_rules.specs.Coherent.{is_alive}
 use Rattle.machine_rules.proofs.Invariant.{Invariant}
-use Rattle.machine_rules.proofs.Leaves.{Leaves, at_core, at_keeper, BarrierStep}
+use Rattle.machine_rules.proofs.Outcomes.{Outcomes, at_core, at_keeper, BarrierStep}
 use Rattle.machine_rules.proofs.Steps.{NodeStep}
 use Rattle.machine_rules.proofs.WordCore.{same-number}
 use Rattle.machine_rules.proofs.PhaseWhole.{none-posted, Arriving, arriving, in-flight, IsWhole, is-whole, there-within}
@@ -101,8 +101,8 @@ halting-go S T M core bad inv step new whole =
         let none = not-all (length (with_arrival core.0 bad S.keeper).arrived) (omega (arith, long, inv.machine.cores, a.within)) in
         absurd (cc)
 
-pub halting-leaves : (S : State) (M : ℕ → ℕ) (e : Event) → Invariant S M → IsHalting S → Leaves S M e (λ M'. IsHalting (next S e))
-halting-leaves S M e inv h =
+pub halting-outcomes : (S : State) (M : ℕ → ℕ) (e : Event) → Invariant S M → IsHalting S → Outcomes S M e (λ M'. IsHalting (next S e))
+halting-outcomes S M e inv h =
     record {
       local = λ core n d t acts told step. same core.0 n _ _ _ step refl refl;
       ends = λ core n d t by acts told step. same core.0 n _ _ _ step refl refl;

@@ -6,7 +6,7 @@ pub mod Phases
 pub mod Quiet
 pub mod Told
 pub mod FreeLocks
-pub mod AgreedLeaves
+pub mod AgreedOutcomes
 pub mod AgreedRuns
 pub mod Opened
 pub mod PrefixAgrees

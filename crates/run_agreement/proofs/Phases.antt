@@ -26,7 +26,7 @@ use Rattle.machine_rules.specs.State.{State}
 use Rattle.machine_rules.specs.Flight.{bit, is_arrival_of}
 use Rattle.machine_rules.specs.Coherent.{is_alive}
 use Rattle.machine_rules.proofs.Invariant.{Invariant, bad_in, is_lie}
-use Rattle.machine_rules.proofs.Leaves.{BarrierStep, at_keeper}
+use Rattle.machine_rules.proofs.Outcomes.{BarrierStep, at_keeper}
 use Rattle.machine_rules.proofs.PhaseRows.{counts-is}
 use Rattle.machine_rules.proofs.PhaseWhole.{none-posted, alive-arrived, Arriving, arriving, in-flight, said, IsWhole, is-whole, there-within}
 use Rattle.run_agreement.specs.Agreed.{States, Loads, Ends, stands, tasks_from, IsWorldAt, AreShown, Agreed}

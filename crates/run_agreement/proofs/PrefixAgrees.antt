@@ -6,7 +6,7 @@ use Rattle.dn_base.specs.declared.ids.Grant.{Grant}
 use Rattle.region_table.specs.declared.declared.TaskDecl.{TaskDecl}
 use Rattle.region_table.specs.declared.declared.Phase.{Phase}
 use Rattle.flat_machine.specs.Step.{Started}
-use Rattle.flat_machine.specs.Phases.{Flat, all_tasks, settled, initial_flat as opened_flat}
+use Rattle.flat_machine.specs.Phases.{Flat, all_tasks, settled, initial_flat}
 use Rattle.flat_machine.specs.Grants.{so_far}
 use Rattle.flat_machine.specs.Laws.{StandsLater}
 use Rattle.flat_agreement.specs.Cores.{world_of}
@@ -113,7 +113,7 @@ prefix-agrees C events ready run = by_phases C.program.phases refl where
   by_phases : (ps : List Phase) → C.program.phases ≡ ps → (F : Flat) × IsFrontOf C events F
   by_phases [] is =
       let none : events ≡ [] = no-phases-run C events (ap length is) run in (
-        opened_flat C.program C.fuel,
+        initial_flat C.program C.fuel,
         record {
           leads = ap (λ (es : List Event). so_far C.program C.fuel (grants_of (initial_state C) es)) none;
           fronts = λ q x d before there among. absurd (none-some x (ap (λ (ps : List Phase). slice_get ps q) (sym is) ∙ there));

@@ -1,5 +1,6 @@
 -- How the tasks of a run stand, and what it means that a state of the machine agrees with the flat machine's run.
 use Rattle.std.specs.Prelude.{◌≡◌, ℕ, ◌+◌, ◌<◌, List, [], ◌∷◌, ◌++◌, map, take, slice_get, slice_index, Option, Some, None}
+use Rattle.std.specs.Option.{option_or}
 use Rattle.dn_base.specs.declared.ids.Grant.{Grant}
 use Rattle.dn_base.specs.declared.ids.LoadSeen.{LoadSeen}
 use Rattle.region_table.specs.declared.declared.TaskDecl.{TaskDecl}
@@ -16,7 +17,7 @@ use Rattle.message_net.specs.declared.event.Event.{Event}
 use Rattle.registration_protocol.specs.Node.{NodeParts, Setting}
 use Rattle.machine_rules.specs.State.{State}
 use Rattle.machine_rules.specs.Next.{granted_in}
-use Rattle.machine_rules.specs.Runs.{load_of, end_in_phase, newer_or}
+use Rattle.machine_rules.specs.Runs.{load_of, end_in_phase}
 
 -- by phase and core: how the core's task of the phase stands, or stood when the phase was over, and what it has loaded
 abbrev pub States : Type 0
@@ -86,4 +87,4 @@ abbrev pub more_loads : Loads → State → Event → Loads
 more_loads loads S e phase c = loads phase c ++ listed (load_of phase c S e)
 
 abbrev pub more_ends : Ends → State → Ends
-more_ends ends S phase c = newer_or (end_in_phase phase (slice_get S.nodes c)) (ends phase c)
+more_ends ends S phase c = option_or (end_in_phase phase (slice_get S.nodes c)) (ends phase c)

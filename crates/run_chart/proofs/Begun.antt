@@ -26,18 +26,18 @@ setting-of P machine most m opens kept =
 made-is : (s t : State) (n k : ℕ) → s ≡ t → n ≡ k → ◌≡◌ {A = Made} (record { state = s; made = n }) (record { state = t; made = k })
 made-is s t n k states counts = rw (states, counts) refl
 
-chart-is : (m : Made) (shape : Shape) (range : Range) (marks : List ℕ) (events : List Event) (b d : Drawing) → m.state ≡ initial_state m.state.setting → m.made ≡ 0 → m.state.setting.shape ≡ shape
-    → b ≡ blank m → d ≡ draw range marks b events → chart_in shape d ≡ chart_of m.state.setting events range marks
-chart-is m shape range marks events b d opens none is begins drawn =
+chart-is : (m : Made) (shape : Shape) (range : Range) (chain : List ℕ) (events : List Event) (b d : Drawing) → m.state ≡ initial_state m.state.setting → m.made ≡ 0 → m.state.setting.shape ≡ shape
+    → b ≡ blank m → d ≡ draw range chain b events → chart_in shape d ≡ chart_of m.state.setting events range chain
+chart-is m shape range chain events b d opens none is begins drawn =
     let first : m ≡ record { state = initial_state m.state.setting; made = 0 } = made-is m.state (initial_state m.state.setting) m.made 0 opens none in
-    let all = drawn ∙ ap (λ (x : Drawing). draw range marks x events) (begins ∙ ap blank first) in
+    let all = drawn ∙ ap (λ (x : Drawing). draw range chain x events) (begins ∙ ap blank first) in
     ap (λ (s : Shape). chart_in s d) (sym is) ∙ ap (chart_in m.state.setting.shape) all
 
-pub chart-of : (P : ProgramParts) (shape : Shape) (fuel : ℕ) (m : Made) (range : Range) (marks : List ℕ) (events : List Event) (b d : Drawing) → IsInitialMachine P shape fuel m → IsKept m.state m.made
-    → b ≡ blank m → d ≡ draw range marks b events → IsChartOf P shape fuel events range marks (chart_in shape d)
-chart-of P shape fuel m range marks events b d opens kept begins drawn =
+pub chart-of : (P : ProgramParts) (shape : Shape) (fuel : ℕ) (m : Made) (range : Range) (chain : List ℕ) (events : List Event) (b d : Drawing) → IsInitialMachine P shape fuel m → IsKept m.state m.made
+    → b ≡ blank m → d ≡ draw range chain b events → IsChartOf P shape fuel events range chain (chart_in shape d)
+chart-of P shape fuel m range chain events b d opens kept begins drawn =
     record {
       setting = m.state.setting;
-      told = setting-of P shape fuel m opens kept;
-      is = chart-is m shape range marks events b d opens.state opens.made opens.shape_is begins drawn;
+      setting_is = setting-of P shape fuel m opens kept;
+      is = chart-is m shape range chain events b d opens.state opens.made opens.shape_is begins drawn;
     }

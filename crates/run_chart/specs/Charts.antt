@@ -22,10 +22,10 @@ chart_in shape d = record { cores = shape.cores; banks = shape.banks; rows = d.r
 
 -- the chart of the events that come from the opened machine on
 abbrev pub chart_of : Setting → List Event → Range → List ℕ → Chart
-chart_of C events range marks = chart_in C.shape (draw range marks (blank (record { state = initial_state C; made = 0 })) events)
+chart_of C events range chain = chart_in C.shape (draw range chain (blank (record { state = initial_state C; made = 0 })) events)
 
 -- the chart of a run of the machine of this program, shape and fuel
-pub record IsChartOf (P : ProgramParts) (shape : Shape) (fuel : ℕ) (events : List Event) (range : Range) (marks : List ℕ) (chart : Chart) : Type 0 where
+pub record IsChartOf (P : ProgramParts) (shape : Shape) (fuel : ℕ) (events : List Event) (range : Range) (chain : List ℕ) (chart : Chart) : Type 0 where
   pub setting : Setting
-  pub told : IsSettingOf P shape fuel setting
-  pub is : chart ≡ chart_of setting events range marks
+  pub setting_is : IsSettingOf P shape fuel setting
+  pub is : chart ≡ chart_of setting events range chain

@@ -26,7 +26,7 @@ the_actor (Some a) = a
 abbrev pub event_maker : State → Event → Actor
 event_maker S e = the_actor (actor_in S e)
 
--- whether an event is among those to be marked
+-- whether an event is on the chain
 abbrev pub is_on_chain : List ℕ → ℕ → Bool
 is_on_chain [] event = false
 is_on_chain (m ∷ ms) event = (m == event) || is_on_chain ms event
@@ -42,7 +42,7 @@ has_row range d = nat_le range.first d.event && nat_lt (length d.rows) range.mos
 
 -- the row of an event
 abbrev pub row_of : List ℕ → Drawing → Event → ChartRow
-row_of marks d e =
+row_of chain d e =
     record {
       event = d.event;
       actor = event_maker d.machine.state e;
@@ -50,18 +50,18 @@ row_of marks d e =
       line = d.line;
       mail = origin_of d.sent e;
       changes = changes_in d.machine.state (next d.machine.state e) (event_maker d.machine.state e);
-      marked = is_on_chain marks d.event;
+      on_chain = is_on_chain chain d.event;
     }
 
 -- the drawing with one event more, which has a row
 abbrev pub with_row : List ℕ → Drawing → Event → Drawing
-with_row marks d e =
+with_row chain d e =
     record {
       machine = moved d.machine e;
       sent = noted_mails (next d.machine.state e).mails (Some d.line) d.sent;
       event = d.event + 1;
-      line = d.line + height (row_of marks d e).changes;
-      rows = d.rows ++ row_of marks d e ∷ [];
+      line = d.line + height (row_of chain d e).changes;
+      rows = d.rows ++ row_of chain d e ∷ [];
     }
 
 -- or has none
@@ -76,9 +76,9 @@ without_row d e =
     }
 
 abbrev pub drawn : Range → List ℕ → Drawing → Event → Drawing
-drawn range marks d e = if has_row range d then with_row marks d e else without_row d e
+drawn range chain d e = if has_row range d then with_row chain d e else without_row d e
 
 -- the drawing with these events more, as long as each may come
 abbrev pub draw : Range → List ℕ → Drawing → List Event → Drawing
-draw range marks d [] = d
-draw range marks d (e ∷ es) = if enabled d.machine.state e then draw range marks (drawn range marks d e) es else d
+draw range chain d [] = d
+draw range chain d (e ∷ es) = if enabled d.machine.state e then draw range chain (drawn range chain d e) es else d

@@ -23,7 +23,7 @@ fn blank(alloc: Global, machine: Machine) -> Drawing
     }
 }
 
-/// The message chart of a range of a run's events, in which the events with the marked numbers are marked.
+/// The message chart of a range of a run's events, with a line through the events whose numbers the chain has.
 ///
 /// A row tells which actor makes the event, its kind, where the mail that it handles comes from, and each data word for which
 /// the actor has something else after the event than before it. The chart goes as far as the events may come one after the other from
@@ -41,7 +41,7 @@ pub fn chart(
     fuel: u32,
     events: &[Event],
     range: Range,
-    marks: &[u32],
+    chain: &[u32],
 ) -> Result<Chart, Memory>
     requires cores { shape.cores ≡ cores_of checked }
     requires some_banks { 1 ≤ shape.banks }
@@ -54,7 +54,7 @@ pub fn chart(
     requires most_fuel { fuel ≤ 32768 }
     requires few { length events.now ≤ 25169664 }
     requires most { range.most ≤ 4096 }
-    ensures { IfOk result (IsChartOf checked shape fuel events.now range marks.now) }
+    ensures { IfOk result (IsChartOf checked shape fuel events.now range chain.now) }
 {
     let machine = Machine::start(alloc, checked, shape, fuel)?;
     a_machine_is_kept(&machine);
@@ -64,7 +64,7 @@ pub fn chart(
         event: _,
         line,
         rows,
-    } = blank(alloc, machine).draw(alloc, events, range, marks)?;
+    } = blank(alloc, machine).draw(alloc, events, range, chain)?;
     Ok(Chart {
         cores: shape.cores,
         banks: shape.banks,

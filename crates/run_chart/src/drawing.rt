@@ -69,19 +69,19 @@ fn make(machine: Machine, event: Event) -> Result<Came, Memory>
     ensures kept { IfOk result (λ came. IsKept (made_in came.parts).state came.parts.made) }
 {
     let mut machine = machine;
-    let told = machine.step(event)?;
+    let observed = machine.step(event)?;
     Ok(Came {
-        kind: told.kind,
+        kind: observed.kind,
         parts: machine.split(),
     })
 }
 
-/// Whether an event is among those to be marked.
-fn is_marked(marks: &[u32], event: u32) -> bool
-    ensures { result ≡ is_on_chain marks.now event }
+/// Whether an event is on the chain.
+fn is_on_chain(chain: &[u32], event: u32) -> bool
+    ensures { result ≡ is_on_chain chain.now event }
 {
-    for mark in marks {
-        if *mark == event {
+    for number in chain {
+        if *number == event {
             return true;
         }
     }
@@ -134,13 +134,13 @@ impl Drawing {
     }
 
     /// The drawing with one event more that has a row.
-    fn with_row(self, alloc: Global, event: Event, marks: &[u32]) -> Result<Drawing, Memory>
+    fn with_row(self, alloc: Global, event: Event, chain: &[u32]) -> Result<Drawing, Memory>
         requires may { enabled self.machine.state event ≡ true }
         requires made { self.machine.made < 4000000000 }
         requires event { self.event < 4000000000 }
         requires line { self.line ≤ 65536 * length self.rows }
         requires rows { length self.rows < 4096 }
-        ensures drawing { IfOk result (λ drawing. drawing ≡ with_row marks.now self event) }
+        ensures drawing { IfOk result (λ drawing. drawing ≡ with_row chain.now self event) }
         ensures line { IfOk result (λ drawing. drawing.line ≤ 65536 * length drawing.rows) }
     {
         let Drawing {
@@ -165,7 +165,7 @@ impl Drawing {
             line,
             mail,
             changes,
-            marked: is_marked(marks, number),
+            on_chain: is_on_chain(chain, number),
         })?;
         Ok(Drawing {
             machine: Machine::join(parts),
@@ -182,18 +182,18 @@ impl Drawing {
         alloc: Global,
         event: Event,
         range: Range,
-        marks: &[u32],
+        chain: &[u32],
     ) -> Result<Drawing, Memory>
         requires may { enabled self.machine.state event ≡ true }
         requires made { self.machine.made < 4000000000 }
         requires event { self.event < 4000000000 }
         requires line { self.line ≤ 65536 * length self.rows }
         requires most { range.most ≤ 4096 }
-        ensures drawing { IfOk result (λ drawing. drawing ≡ drawn range marks.now self event) }
+        ensures drawing { IfOk result (λ drawing. drawing ≡ drawn range chain.now self event) }
         ensures line { IfOk result (λ drawing. drawing.line ≤ 65536 * length drawing.rows) }
     {
         if self.has_row(range) {
-            self.with_row(alloc, event, marks)
+            self.with_row(alloc, event, chain)
         } else {
             self.without_row(alloc, event)
         }
@@ -208,21 +208,21 @@ impl Drawing {
         alloc: Global,
         events: &[Event],
         range: Range,
-        marks: &[u32],
+        chain: &[u32],
     ) -> Result<Drawing, Memory>
         requires made { self.machine.made ≡ 0 }
         requires event { self.event ≡ 0 }
         requires line { self.line ≡ 0 }
         requires few { length events.now ≤ 25169664 }
         requires most { range.most ≤ 4096 }
-        ensures { IfOk result (λ drawing. drawing ≡ draw range marks.now self events.now) }
+        ensures { IfOk result (λ drawing. drawing ≡ draw range chain.now self events.now) }
     {
         let mut drawing = self;
         for event in events {
             if !drawing.machine.enabled(event) {
                 return Ok(drawing);
             }
-            drawing = drawing.drawn(alloc, *event, range, marks)?;
+            drawing = drawing.drawn(alloc, *event, range, chain)?;
         }
         Ok(drawing)
     }

@@ -13,7 +13,7 @@ use Rattle.message_net.specs.declared.event.Event.TheVariants.{Instr, Evict, Arr
 use Rattle.text_pieces.specs.Pieces.{newline, space}
 use Rattle.run_replay.specs.declared.trace.TraceShape.{TraceShape}
 use Rattle.run_replay.specs.Field.{field, IsFrom, Stands}
-use Rattle.run_replay.specs.Document.{IsTraceShape, IsNamed, IsMail, IsTold, Head, IsHead, title, shape_line, source_part, head_text, mail_line, event_line, event_lines}
+use Rattle.run_replay.specs.Document.{IsTraceShape, IsNamed, IsMail, FitsDocument, Head, IsHead, title, shape_line, source_part, head_text, mail_line, event_line, event_lines}
 use Rattle.run_replay.specs.Lines.{IsSource, two_fields, mail_text}
 use Rattle.run_replay.proofs.Digits.{front, front-decimal}
 use Rattle.run_replay.proofs.Fields.{field-parts}

@@ -10,7 +10,7 @@ use Rattle.message_net.specs.declared.event.Event.{Event}
 use Rattle.message_net.specs.declared.event.Event.TheVariants.{Instr, Evict, Arrive, Handle}
 use Rattle.text_pieces.specs.Pieces.{newline, space}
 use Rattle.run_replay.specs.Field.{field, IsFrom, Stands, NoneStands}
-use Rattle.run_replay.specs.Document.{IsNamed, IsMail, IsTold, Head, IsHead, title, shape_line, source_part, head_text, mail_line, event_line, event_lines}
+use Rattle.run_replay.specs.Document.{IsNamed, IsMail, FitsDocument, Head, IsHead, title, shape_line, source_part, head_text, mail_line, event_line, event_lines}
 use Rattle.run_replay.specs.Lines.{two_fields, StandTwo, mail_text, AreLines}
 use Rattle.run_replay.proofs.Forms.{IsOne, head-parts}
 
@@ -53,7 +53,7 @@ module _ (bytes : List ℕ) where
   none-mail no_core no_bank no_keeper id rest found = no-mail id.sender id.number rest no_core no_bank no_keeper found.fits.0 found.fits.1 found.parts
 
   no-event : (e : Event) (rest : List ℕ) → NoneStands (IsFrom 0 15) (field (codes "i ") (10 ∷ [])) bytes → NoTwo (codes "e ") 65535
-      → NoneStands (IsFrom 0 15) (field (codes "a ") (10 ∷ [])) bytes → NoneStands IsMail mail_text bytes → IsTold e → bytes ≡ event_line e ++ rest → ⊥
+      → NoneStands (IsFrom 0 15) (field (codes "a ") (10 ∷ [])) bytes → NoneStands IsMail mail_text bytes → FitsDocument e → bytes ≡ event_line e ++ rest → ⊥
   unfolding event_line two_fields
   no-event (Instr core) rest no_instr no_evict no_arrive no_mail told is = no_instr core.0 rest (record { fits = record { low = omega arith; high = omega arith }; parts = is })
   no-event (Evict core word) rest no_instr no_evict no_arrive no_mail told is =
@@ -62,7 +62,7 @@ module _ (bytes : List ℕ) where
   no-event (Handle id) rest no_instr no_evict no_arrive no_mail told is = no_mail id rest (record { fits = told; parts = is })
 
   pub none-event : NoneStands (IsFrom 0 15) (field (codes "i ") (10 ∷ [])) bytes → NoTwo (codes "e ") 65535
-      → NoneStands (IsFrom 0 15) (field (codes "a ") (10 ∷ [])) bytes → NoneStands IsMail mail_text bytes → NoneStands IsTold event_line bytes
+      → NoneStands (IsFrom 0 15) (field (codes "a ") (10 ∷ [])) bytes → NoneStands IsMail mail_text bytes → NoneStands FitsDocument event_line bytes
   none-event no_instr no_evict no_arrive no_mail e rest found = no-event e rest no_instr no_evict no_arrive no_mail found.fits found.parts
 
   -- ---- what was found
@@ -82,20 +82,20 @@ module _ (bytes : List ℕ) where
   unfolding mail_line
   keeper-mail number rest found = record { fits = (tt, omega (arith, found.fits.high)); parts = found.parts }
 
-  pub instr-event : (core : ℕ) (rest : List ℕ) → Stands (IsFrom 0 15) (field (codes "i ") (10 ∷ [])) bytes core rest → Stands IsTold event_line bytes (Instr (record { 0 = core })) rest
+  pub instr-event : (core : ℕ) (rest : List ℕ) → Stands (IsFrom 0 15) (field (codes "i ") (10 ∷ [])) bytes core rest → Stands FitsDocument event_line bytes (Instr (record { 0 = core })) rest
   unfolding event_line
   instr-event core rest found = record { fits = omega (arith, found.fits.high); parts = found.parts }
 
   pub evict-event : (core word : ℕ) (rest : List ℕ) → StandTwo (codes "e ") 65535 bytes core word rest
-      → Stands IsTold event_line bytes (Evict (record { 0 = core }) (record { 0 = word })) rest
+      → Stands FitsDocument event_line bytes (Evict (record { 0 = core }) (record { 0 = word })) rest
   unfolding event_line two_fields
   evict-event core word rest found = record { fits = (omega (arith, found.first_from.high), omega (arith, found.second_from.high)); parts = found.parts }
 
-  pub arrive-event : (core : ℕ) (rest : List ℕ) → Stands (IsFrom 0 15) (field (codes "a ") (10 ∷ [])) bytes core rest → Stands IsTold event_line bytes (Arrive (record { 0 = core })) rest
+  pub arrive-event : (core : ℕ) (rest : List ℕ) → Stands (IsFrom 0 15) (field (codes "a ") (10 ∷ [])) bytes core rest → Stands FitsDocument event_line bytes (Arrive (record { 0 = core })) rest
   unfolding event_line
   arrive-event core rest found = record { fits = omega (arith, found.fits.high); parts = found.parts }
 
-  pub handle-event : (id : MailId) (rest : List ℕ) → Stands IsMail mail_text bytes id rest → Stands IsTold event_line bytes (Handle id) rest
+  pub handle-event : (id : MailId) (rest : List ℕ) → Stands IsMail mail_text bytes id rest → Stands FitsDocument event_line bytes (Handle id) rest
   unfolding event_line
   handle-event id rest found = record { fits = found.fits; parts = found.parts }
 
@@ -104,11 +104,11 @@ module _ (bytes : List ℕ) where
 pub lines-none : (bytes : List ℕ) → AreLines bytes [] bytes
 lines-none bytes = record { told = λ k d low. absurd (omega (arith, low)); parts = refl }
 
-pub lines-more : (bytes : List ℕ) (events : List Event) (rest : List ℕ) (e : Event) (more : List ℕ) → AreLines bytes events rest → Stands IsTold event_line rest e more
+pub lines-more : (bytes : List ℕ) (events : List Event) (rest : List ℕ) (e : Event) (more : List ℕ) → AreLines bytes events rest → Stands FitsDocument event_line rest e more
     → AreLines bytes (events ++ e ∷ []) more
 lines-more bytes events rest e more lines found =
     record {
-      told = All-push IsTold events e lines.told found.fits;
+      told = All-push FitsDocument events e lines.told found.fits;
       parts =
           lines.parts ∙ ap (λ r. event_lines events ++ r) (found.parts ∙ ap (λ l. l ++ more) (sym (append-nil' (event_line e))))
           ∙ sym (append_assoc (event_lines events) (event_line e ++ []) more) ∙ ap (λ l. l ++ more) (sym (flat_map-append event_line events (e ∷ [])));

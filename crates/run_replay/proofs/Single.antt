@@ -13,7 +13,7 @@ use Rattle.run_replay.specs.declared.trace.TraceShape.{TraceShape}
 use Rattle.run_replay.specs.declared.trace.TraceFault.{TraceFault}
 use Rattle.run_replay.specs.declared.trace.TraceFault.TheVariants.{TooLarge, Head as NoHead, Line, Rest, Memory}
 use Rattle.run_replay.specs.Field.{field, IsFrom, Stands, NoneStands}
-use Rattle.run_replay.specs.Document.{IsTraceShape, IsNamed, IsMail, IsTold, Head, IsHead, IsTrace, head_of, title, shape_line, source_part, head_text, mail_line, event_line, event_lines, document_of, IsDocument}
+use Rattle.run_replay.specs.Document.{IsTraceShape, IsNamed, IsMail, FitsDocument, Head, IsHead, IsTrace, head_of, title, shape_line, source_part, head_text, mail_line, event_line, event_lines, document_of, IsDocument}
 use Rattle.run_replay.specs.Faults.{most_bytes, BeginsWithEvents, IsBrokenAt, GoesOn, HasFault}
 use Rattle.run_replay.specs.Lines.{two_fields}
 use Rattle.run_replay.proofs.Forms.{IsOne, field-one, two-one, head-one, head-parts, shape-parts, source-parts}
@@ -75,7 +75,7 @@ mail-one a b m n r q fa fb fm fn is =
     let marks : mail_mark a ≡ mail_mark b = sym (mail-third a m r) ∙ ap (λ bs. get_or bs 2 0) is ∙ mail-third b n q in
     absurd (omega (arith, marks))
 
-pub event-one : IsOne IsTold event_line
+pub event-one : IsOne FitsDocument event_line
 unfolding event_line two_fields
 event-one (Instr a) (Instr b) r q fa fb is =
     let s = field-one (codes "i ") 10 0 15 refl (omega arith) a.0 b.0 r q (from-15 a.0 fa) (from-15 b.0 fb) is in
@@ -95,19 +95,19 @@ event-one x y r q fa fb is =
 
 -- ---- lines
 
-told-rest : (e : Event) (es : List Event) → All IsTold (e ∷ es) → All IsTold es
+told-rest : (e : Event) (es : List Event) → All FitsDocument (e ∷ es) → All FitsDocument es
 told-rest e es all = λ k d low. all (suc k) d (omega (arith, low))
 
-told-first : (e : Event) (es : List Event) → All IsTold (e ∷ es) → IsTold e
+told-first : (e : Event) (es : List Event) → All FitsDocument (e ∷ es) → FitsDocument e
 told-first e es all = all 0 e (omega arith)
 
-first-line : (e f : Event) (es fs : List Event) (r q : List ℕ) → All IsTold (e ∷ es) → All IsTold (f ∷ fs) → event_lines (e ∷ es) ++ r ≡ event_lines (f ∷ fs) ++ q
+first-line : (e f : Event) (es fs : List Event) (r q : List ℕ) → All FitsDocument (e ∷ es) → All FitsDocument (f ∷ fs) → event_lines (e ∷ es) ++ r ≡ event_lines (f ∷ fs) ++ q
     → (e ≡ f) × (event_lines es ++ r ≡ event_lines fs ++ q)
 first-line e f es fs r q te tf is =
     event-one e f (event_lines es ++ r) (event_lines fs ++ q) (told-first e es te) (told-first f fs tf)
     (sym (append_assoc (event_line e) (event_lines es) r) ∙ is ∙ append_assoc (event_line f) (event_lines fs) q)
 
-lines-one : (es fs : List Event) (r q : List ℕ) → All IsTold es → All IsTold fs → event_lines es ++ r ≡ event_lines fs ++ q → length es ≡ length fs → (es ≡ fs) × (r ≡ q)
+lines-one : (es fs : List Event) (r q : List ℕ) → All FitsDocument es → All FitsDocument fs → event_lines es ++ r ≡ event_lines fs ++ q → length es ≡ length fs → (es ≡ fs) × (r ≡ q)
 lines-one [] [] r q te tf is same = (refl, is)
 lines-one [] (f ∷ fs) r q te tf is same = absurd (omega (arith, same))
 lines-one (e ∷ es) [] r q te tf is same = absurd (omega (arith, same))
@@ -116,7 +116,7 @@ lines-one (e ∷ es) (f ∷ fs) r q te tf is same =
     let rest = lines-one es fs r q (told-rest e es te) (told-rest f fs tf) first.1 (omega (arith, same)) in
     (λ i. first.0 i ∷ rest.0 i, rest.1)
 
-lines-less : (es fs : List Event) (r q : List ℕ) → All IsTold es → All IsTold fs → event_lines es ++ r ≡ event_lines fs ++ q → length es < length fs → NoneStands IsTold event_line r → ⊥
+lines-less : (es fs : List Event) (r q : List ℕ) → All FitsDocument es → All FitsDocument fs → event_lines es ++ r ≡ event_lines fs ++ q → length es < length fs → NoneStands FitsDocument event_line r → ⊥
 lines-less [] [] r q te tf is less none = omega (arith, less)
 lines-less [] (f ∷ fs) r q te tf is less none =
     none f (event_lines fs ++ q) (record { fits = told-first f fs tf; parts = is ∙ append_assoc (event_line f) (event_lines fs) q })
@@ -137,7 +137,7 @@ module _ (bytes : List ℕ) (h g : Head) (es fs : List Event) (r q : List ℕ) (
   begin-same : length es ≡ length fs → (es ≡ fs) × (r ≡ q)
   begin-same same = lines-one es fs r q a.told b.told begin-one.1 same
 
-  begin-less : length es < length fs → NoneStands IsTold event_line r → ⊥
+  begin-less : length es < length fs → NoneStands FitsDocument event_line r → ⊥
   begin-less less none = lines-less es fs r q a.told b.told begin-one.1 less none
 
 -- ---- a document isn't too large
@@ -165,7 +165,7 @@ mail-length (Bank bank) n named small =
     )
 mail-length Keeper n named small = omega (arith, field-length (codes "h k ") newline 10 n (omega arith) (omega arith) (omega arith))
 
-event-length : (e : Event) → IsTold e → length (event_line e) ≤ 18
+event-length : (e : Event) → FitsDocument e → length (event_line e) ≤ 18
 unfolding event_line
 event-length (Instr core) told = omega (arith, field-length (codes "i ") newline 2 core.0 (omega arith) (omega (arith, told)) (omega (arith, told)))
 event-length (Evict core word) told =
@@ -178,7 +178,7 @@ event-length (Evict core word) told =
 event-length (Arrive core) told = omega (arith, field-length (codes "a ") newline 2 core.0 (omega arith) (omega (arith, told)) (omega (arith, told)))
 event-length (Handle id) told = mail-length id.sender id.number told.0 told.1
 
-lines-length : (es : List Event) → All IsTold es → length (event_lines es) ≤ 18 * length es
+lines-length : (es : List Event) → All FitsDocument es → length (event_lines es) ≤ 18 * length es
 lines-length [] told = omega arith
 lines-length (e ∷ es) told =
     omega (arith, length-append (event_line e) (event_lines es), event-length e (told-first e es told), lines-length es (told-rest e es told))

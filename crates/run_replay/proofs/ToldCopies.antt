@@ -26,7 +26,7 @@ use Rattle.machine_rules.specs.Flight.{bit}
 use Rattle.machine_rules.proofs.Bits.{valid_bit}
 use Rattle.machine_rules.proofs.Invariant.{Invariant}
 use Rattle.machine_rules.proofs.Steps.{NodeStep}
-use Rattle.machine_rules.proofs.Leaves.{Leaves}
+use Rattle.machine_rules.proofs.Outcomes.{Outcomes}
 use Rattle.machine_rules.proofs.Exclusive.{reading-works}
 use Rattle.machine_rules.proofs.OpenedFacts.{opened-entry}
 
@@ -119,8 +119,8 @@ answered S M core n m word value inv good found waits now = record { copy = λ v
 
 -- ---- every event
 
-pub copies-leaves : (S : State) (M : ℕ → ℕ) (e : Event) → Invariant S M → AreOfProgram S → Leaves S M e (λ M'. AreOfProgram (next S e))
-copies-leaves S M e inv g =
+pub copies-outcomes : (S : State) (M : ℕ → ℕ) (e : Event) → Invariant S M → AreOfProgram S → Outcomes S M e (λ M'. AreOfProgram (next S e))
+copies-outcomes S M e inv g =
     let T = next S e in
     record {
       local = λ core n d t acts told step. no-new S T g step (same-entries n _ (λ v. refl));

@@ -29,7 +29,7 @@ use Rattle.machine_rules.specs.Flight.{bit}
 use Rattle.machine_rules.specs.Sound.{IsSound, IsReady, IsMachine, rounds}
 use Rattle.machine_rules.proofs.Bits.{valid_bit, settled_bit, known_bit}
 use Rattle.machine_rules.proofs.Invariant.{Invariant}
-use Rattle.machine_rules.proofs.Leaves.{stored_to}
+use Rattle.machine_rules.proofs.Outcomes.{stored_to}
 use Rattle.machine_rules.proofs.Steps.{Handled, handled}
 use Rattle.machine_rules.proofs.Dispatch.{ways}
 use Rattle.machine_rules.proofs.Kept.{kept}
@@ -40,8 +40,8 @@ use Rattle.machine_rules.proofs.OpenedInvariant.{opened-invariant}
 use Rattle.machine_rules.proofs.RunsKept.{same-setting}
 use Rattle.machine_rules.proofs.RunsCoherent.{first_memory}
 use Rattle.machine_rules.proofs.BoundRuns.{run-ends}
-use Rattle.run_replay.specs.Document.{IsTold, IsMail, IsNamed}
-use Rattle.run_replay.proofs.ToldCopies.{AreOfProgram, known, copies-leaves, opened-copies}
+use Rattle.run_replay.specs.Document.{FitsDocument, IsMail, IsNamed}
+use Rattle.run_replay.proofs.ToldCopies.{AreOfProgram, known, copies-outcomes, opened-copies}
 use Rattle.run_replay.proofs.ToldMails.{AreSent, sent-next, sender-there, opened-sent}
 
 -- a node is there and passes a test
@@ -114,7 +114,7 @@ told-mail S made id sound sent few short may = by_mail (handled S id may) where
 
 -- ---- every event
 
-told-event : (S : State) (M : ℕ → ℕ) (made : ℕ) (e : Event) → IsSound S made → Invariant S M → AreOfProgram S → AreSent S → S.setting.shape.cores ≤ 16 → made ≤ 25169664 → enabled S e ≡ true → IsTold e
+told-event : (S : State) (M : ℕ → ℕ) (made : ℕ) (e : Event) → IsSound S made → Invariant S M → AreOfProgram S → AreSent S → S.setting.shape.cores ≤ 16 → made ≤ 25169664 → enabled S e ≡ true → FitsDocument e
 unfolding enabled
 told-event S M made (Instr core) sound inv copies sent few short may =
     let at = there S core.0 (may_instr S.setting) may in
@@ -128,19 +128,19 @@ told-event S M made (Arrive core) sound inv copies sent few short may =
 told-event S M made (Handle id) sound inv copies sent few short may = told-mail S made id sound sent few short may
 
 told-events : (S : State) (M : ℕ → ℕ) (made : ℕ) (events : List Event) → IsSound S made → Invariant S M → AreOfProgram S → AreSent S → S.setting.shape.cores ≤ 16 → made + length events ≤ 25169664
-    → IsRun S events → All IsTold events
-told-events S M made [] sound inv copies sent few short run = All-nil IsTold
+    → IsRun S events → All FitsDocument events
+told-events S M made [] sound inv copies sent few short run = All-nil FitsDocument
 told-events S M made (e ∷ es) sound inv copies sent few short run =
     let later = sound-next S made e sound run.0 in
     let first = told-event S M made e sound inv copies sent few (omega (arith, short)) run.0 in
     let rest = told-events (next S e) (stored_to (store_in S e) M) (made + 1) es later
     (kept S M e inv run.0 later.machine)
-    (ways S M e (λ M'. AreOfProgram (next S e)) inv run.0 (copies-leaves S M e inv copies))
+    (ways S M e (λ M'. AreOfProgram (next S e)) inv run.0 (copies-outcomes S M e inv copies))
     (sent-next S e inv.machine run.0 sent)
     (omega (arith, few, ap (λ (C : Setting). C.shape.cores) (same-setting S e))) (omega (arith, short)) run.1 in
-    All-cons IsTold e es first rest
+    All-cons FitsDocument e es first rest
 
-pub run-told : (C : Setting) (events : List Event) → IsReady C → C.shape.cores ≤ 16 → IsRun (initial_state C) events → All IsTold events
+pub run-told : (C : Setting) (events : List Event) → IsReady C → C.shape.cores ≤ 16 → IsRun (initial_state C) events → All FitsDocument events
 run-told C events ready few run =
     told-events (initial_state C) (first_memory C) 0 events (opened-sound C ready.context ready.program ready.checked) (opened-invariant C ready.context ready.program ready.checked)
     (opened-copies C) (opened-sent C) (omega (arith, few, ap (λ (x : Setting). x.shape.cores) (opened-setting C))) (omega (arith, run-ends C events ready run)) run

@@ -80,7 +80,7 @@ goes-on C events S T made log h way may come kept =
       run = run-more (initial_state C) events h.event way.run (rw (← way.leads) may);
       leads = come.next ∙ ap (λ (x : State). next x h.event) way.leads ∙ sym (after-more (initial_state C) events h.event);
       count = omega (arith, way.count, length-append events (h.event ∷ []));
-      all = length-added h.told.kind log.counts ∙ way.all;
+      all = length-added h.observed.kind log.counts ∙ way.all;
       logged = log-more (initial_state C) T events log h way.all (in-place T (made + 1) kept) (rw (← way.leads) come) way.logged;
     }
 
@@ -221,5 +221,5 @@ at-end C events i T made log (Err e) low way kept last = tt
 
 pub replay-of : (P : ProgramParts) (shape : Shape) (fuel : ℕ) (events : List Event) (m : Made) (r : Result Replayed Memory) → IsInitialMachine P shape fuel m → IsKept m.state m.made
     → IfOk r (IsTrueOf m.state.setting events) → IfOk r (IsReplayOf P shape fuel events)
-replay-of P shape fuel events m (Ok x) at kept is = record { setting = m.state.setting; told = setting-of P shape fuel m at kept; is_true = is }
+replay-of P shape fuel events m (Ok x) at kept is = record { setting = m.state.setting; setting_is = setting-of P shape fuel m at kept; is_true = is }
 replay-of P shape fuel events m (Err e) at kept is = tt

@@ -30,11 +30,11 @@ abbrev pub IsMail : MailId → Type 0
 IsMail id = IsNamed id.sender × (id.number < 2 ^ 32)
 
 -- cores have numbers below 16, and words below 65,536
-abbrev pub IsTold : Event → Type 0
-IsTold (Instr core) = core.0 < 16
-IsTold (Evict core word) = (core.0 < 16) × (word.0 < 65536)
-IsTold (Arrive core) = core.0 < 16
-IsTold (Handle id) = IsMail id
+abbrev pub FitsDocument : Event → Type 0
+FitsDocument (Instr core) = core.0 < 16
+FitsDocument (Evict core word) = (core.0 < 16) × (word.0 < 65536)
+FitsDocument (Arrive core) = core.0 < 16
+FitsDocument (Handle id) = IsMail id
 
 -- what stands before the events: the machine, the source text of at most 1,048,576 bytes, and that there are at most 25,169,664 events
 pub record Head : Type 0 where
@@ -52,7 +52,7 @@ head_of t = record { shape = t.shape; text = t.text; count = length t.events }
 
 pub record IsTrace (t : Trace) : Type 0 where
   pub head : IsHead (head_of t)
-  pub events : All IsTold t.events
+  pub events : All FitsDocument t.events
 
 -- ---- how it is written
 

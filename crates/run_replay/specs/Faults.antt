@@ -4,7 +4,7 @@ use Rattle.message_net.specs.declared.event.Event.{Event}
 use Rattle.run_replay.specs.declared.trace.TraceFault.{TraceFault}
 use Rattle.run_replay.specs.declared.trace.TraceFault.TheVariants.{TooLarge, Head as NoHead, Line, Rest, Memory}
 use Rattle.run_replay.specs.Field.{NoneStands}
-use Rattle.run_replay.specs.Document.{IsTold, Head, IsHead, head_text, event_line, event_lines}
+use Rattle.run_replay.specs.Document.{FitsDocument, Head, IsHead, head_text, event_line, event_lines}
 
 -- a document has no more bytes than this
 abbrev pub most_bytes : ℕ
@@ -14,7 +14,7 @@ most_bytes = 536870912
 pub record BeginsWithEvents (bytes : List ℕ) (h : Head) (events : List Event) (rest : List ℕ) : Type 0 where
   pub within : length bytes ≤ most_bytes
   pub head : IsHead h
-  pub told : All IsTold events
+  pub told : All FitsDocument events
   pub parts : bytes ≡ head_text h ++ (event_lines events ++ rest)
 
 -- the first event line that isn't there whole in its form is that of this number, from 0; the head announces it
@@ -25,7 +25,7 @@ pub record IsBrokenAt (bytes : List ℕ) (number : ℕ) : Type 0 where
   pub begins : BeginsWithEvents bytes head before rest
   pub place : length before ≡ number
   pub announced : number < head.count
-  pub none : NoneStands IsTold event_line rest
+  pub none : NoneStands FitsDocument event_line rest
 
 -- bytes stand behind the last of the announced event lines
 pub record GoesOn (bytes : List ℕ) : Type 0 where

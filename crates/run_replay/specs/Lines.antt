@@ -6,7 +6,7 @@ use Rattle.run_replay.specs.declared.head.Heading.{Heading}
 use Rattle.run_replay.specs.declared.trace.TraceFault.{TraceFault}
 use Rattle.run_replay.specs.declared.trace.TraceFault.TheVariants.{TooLarge, Head as NoHead, Line, Rest, Memory}
 use Rattle.run_replay.specs.Field.{field, IsFrom, NoneStands}
-use Rattle.run_replay.specs.Document.{Head, IsTold, mail_line, event_line, event_lines}
+use Rattle.run_replay.specs.Document.{Head, FitsDocument, mail_line, event_line, event_lines}
 use Rattle.text_pieces.specs.Pieces.{newline, space}
 
 -- a source text has at most 1,048,576 bytes
@@ -32,7 +32,7 @@ mail_text id = mail_line id.sender id.number
 
 -- in front of some bytes stand the lines of events, and behind them the rest
 pub record AreLines (bytes : List ℕ) (events : List Event) (rest : List ℕ) : Type 0 where
-  pub told : All IsTold events
+  pub told : All FitsDocument events
   pub parts : bytes ≡ event_lines events ++ rest
 
 -- the line of this number, below the count, is the first that isn't there
@@ -42,7 +42,7 @@ pub record IsBroken (bytes : List ℕ) (count number : ℕ) : Type 0 where
   pub lines : AreLines bytes before rest
   pub place : length before ≡ number
   pub announced : number < count
-  pub none : NoneStands IsTold event_line rest
+  pub none : NoneStands FitsDocument event_line rest
 
 -- bytes stand behind the last of so many lines
 pub record IsLonger (bytes : List ℕ) (count : ℕ) : Type 0 where

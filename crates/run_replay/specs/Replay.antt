@@ -55,5 +55,5 @@ IsReplayOutcome S log Incomplete = (e : Event) × (enabled S e ≡ true)
 -- it is the answer of the machine of a program with this shape and fuel
 pub record IsReplayOf (P : ProgramParts) (shape : Shape) (fuel : ℕ) (events : List Event) (r : Replayed) : Type 0 where
   pub setting : Setting
-  pub told : IsSettingOf P shape fuel setting
+  pub setting_is : IsSettingOf P shape fuel setting
   pub is_true : IsTrueOf setting events r

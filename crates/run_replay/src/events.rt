@@ -1,6 +1,6 @@
 ghost use Rattle.std.specs.Prelude.{◌≡◌, ℕ, List, [], length, IfSome, IfNone, IfOk, IfErr};
 ghost use Rattle.run_replay.specs.Field.{Stands, NoneStands};
-ghost use Rattle.run_replay.specs.Document.{event_line, IsMail, IsTold};
+ghost use Rattle.run_replay.specs.Document.{event_line, IsMail, FitsDocument};
 ghost use Rattle.run_replay.specs.Lines.{StandTwo, mail_text, AreLines, FailsLines};
 
 use crate::field::field;
@@ -40,8 +40,8 @@ fn mail(bytes: &[u8]) -> Option<(MailId, &[u8])>
 
 /// The event whose line stands in front of some bytes, and what stands behind that.
 pub(crate) fn event(bytes: &[u8]) -> Option<(Event, &[u8])>
-    ensures some { IfSome result (λ f. Stands IsTold event_line bytes.now f.0 f.1.now) }
-    ensures none { IfNone result (NoneStands IsTold event_line bytes.now) }
+    ensures some { IfSome result (λ f. Stands FitsDocument event_line bytes.now f.0 f.1.now) }
+    ensures none { IfNone result (NoneStands FitsDocument event_line bytes.now) }
 {
     if let Some((core, rest)) = field(bytes, b"i ", 0, 15, b'\n') {
         return Some((Event::Instr(CoreId(core)), rest));

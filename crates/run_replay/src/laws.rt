@@ -8,7 +8,7 @@ ghost use Rattle.machine_rules.specs.Sound.{IsReady};
 ghost use Rattle.machine_rules.specs.State.{initial_state};
 ghost use Rattle.run_replay.specs.declared.trace.Trace.{Trace};
 ghost use Rattle.run_replay.specs.declared.replaying.Replayed.{Replayed};
-ghost use Rattle.run_replay.specs.Document.{IsTold, IsTrace, document_of};
+ghost use Rattle.run_replay.specs.Document.{FitsDocument, IsTrace, document_of};
 ghost use Rattle.run_replay.specs.Replay.{IsTrueOf};
 
 /// A document is that of one trace.
@@ -29,5 +29,5 @@ pub fn events_have_one_replay()
 
 /// The events of a run of the opened machine are within the limits of a document.
 pub fn what_a_run_tells_fits_a_document()
-    ensures { (C : Setting) (events : List Event) → IsReady C → C.shape.cores ≤ 16 → IsRun (initial_state C) events → All IsTold events }
+    ensures { (C : Setting) (events : List Event) → IsReady C → C.shape.cores ≤ 16 → IsRun (initial_state C) events → All FitsDocument events }
 {}

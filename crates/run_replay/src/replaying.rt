@@ -56,10 +56,14 @@ fn advance(machine: &mut Machine, event: Event) -> Result<Happened, Memory>
     ensures kept { OnOk result (IsKept machine.new.state machine.new.made) }
 {
     let actor = machine.actor(&event);
-    let told = machine.step(event)?;
+    let observed = machine.step(event)?;
     a_machine_is_kept(machine);
     let end = task_end(machine, actor);
-    Ok(Happened { event, told, end })
+    Ok(Happened {
+        event,
+        observed,
+        end,
+    })
 }
 
 /// What the events so far come to, where all of them came: a complete run, or none yet.
@@ -87,7 +91,7 @@ fn finish(alloc: Global, machine: &Machine, log: Log) -> Result<Replayed, Memory
 
 /// Replays events on a machine as a run begins.
 fn follow(alloc: Global, machine: Machine, events: &[Event]) -> Result<Replayed, Memory>
-    requires opened { machine.state ≡ initial_state machine.state.setting }
+    requires initial { machine.state ≡ initial_state machine.state.setting }
     requires made { machine.made ≡ 0 }
     requires few { length events.now ≤ 25169664 }
     ensures { IfOk result (IsTrueOf machine.state.setting events.now) }

@@ -5,7 +5,7 @@ use Rattle.message_net.specs.declared.actor.Actor.{Actor}
 use Rattle.message_net.specs.declared.event.Event.{Event}
 use Rattle.message_net.specs.declared.event.EventKind.{EventKind}
 use Rattle.message_net.specs.Mail.{actor_index}
-use Rattle.message_net.proofs.MailLemmas.{place_of-within}
+use Rattle.message_net.proofs.MailLemmas.{actor_index-within}
 use Rattle.registration_protocol.specs.Node.{Setting}
 use Rattle.machine_rules.specs.State.{State, initial_state}
 use Rattle.machine_rules.specs.Next.{next, enabled, kind_in, next_number}
@@ -52,7 +52,7 @@ can-note ticks C shape events n state made last senders rows e a at' same ready 
     may = enabled-at (initial_state C) events n e run here
 
     low : place C a < C.shape.cores + C.shape.banks + 1
-    low = place_of-within C.shape.cores C.shape.banks a there
+    low = actor_index-within C.shape.cores C.shape.banks a there
 
     own_shape : CanNote C.shape last senders rows e (place C a)
     own_shape =

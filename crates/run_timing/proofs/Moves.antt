@@ -16,7 +16,7 @@ use Rattle.message_net.specs.Id.{same_actor}
 use Rattle.message_net.specs.Mail.{has_actor, actor_index, all_mails}
 use Rattle.message_net.specs.Pool.{of_id, count_of, removed}
 use Rattle.message_net.proofs.PoolLemmas.{same_actor-true, same_actor-refl, sum_by-taken}
-use Rattle.message_net.proofs.MailLemmas.{place_of-within, sum_by-all_mails, count_of-mails_of}
+use Rattle.message_net.proofs.MailLemmas.{actor_index-within, sum_by-all_mails, count_of-mails_of}
 use Rattle.registry_bank.specs.Bank.{BankParts, bank_gets}
 use Rattle.phase_barrier.specs.Barrier.{Barrier, keeper_gets}
 use Rattle.phase_barrier.specs.Letters.{letters}
@@ -111,7 +111,7 @@ posts S nodes banks keeper left a outs good there fewer =
     more : slice_index (slice_set S.numbers (place S.setting a) (old + length outs)) (place S.setting a) ≡ old + length outs
     more =
         raised-here S.numbers (place S.setting a) (old + length outs)
-        (omega (arith, good.numbers, place_of-within S.setting.shape.cores S.setting.shape.banks a there))
+        (omega (arith, good.numbers, actor_index-within S.setting.shape.cores S.setting.shape.banks a there))
 
 sends-some : (S : State) (nodes : List NodeParts) (banks : List BankParts) (keeper : Barrier) (left : List Mail) (a : Actor) (sent : Option Outgoing) → IsMachine S → has S.setting a ≡ true
     → AreFewer left S.mails → IsMove S.setting S (sends (changed S nodes banks keeper left) a sent) a

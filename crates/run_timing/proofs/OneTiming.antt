@@ -143,5 +143,5 @@ one-longest ticks S events t u limits a b =
 pub one-timing : (P : ProgramParts) (machine : Shape) (most : ℕ) (events : List Event) (ticks : Ticks) (t u : Timing) → AreWithinLimits ticks → IsTimingOf P machine most events ticks t
     → IsTimingOf P machine most events ticks u → (t.total ≡ u.total) × (t.links.items ≡ u.links.items)
 one-timing P machine most events ticks t u limits is also =
-    let same : also.setting ≡ is.setting = same-setting P machine most also.setting is.setting also.told is.told in
+    let same : also.setting ≡ is.setting = same-setting P machine most also.setting is.setting also.setting_is is.setting_is in
     one-longest ticks (initial_state is.setting) events t u limits is.longest (subst (λ (C : Setting). IsLongest ticks (initial_state C) events u) same also.longest)

@@ -56,6 +56,6 @@ timing-of P machine most m events ticks rows last timing opens kept few noted la
     let found : IsLatest (length events) (finish_in rows) last = subst (λ (n : ℕ). IsLatest n (finish_in rows) last) noted.finishes latest in
     record {
       setting = m.state.setting;
-      told = setting-of P machine most m opens kept;
+      setting_is = setting-of P machine most m opens kept;
       longest = subst (λ (S : State). IsLongest ticks S events timing) opens.state (way-longest ticks m.state events rows last timing few noted found way total);
     }

@@ -8,7 +8,7 @@ use Rattle.message_net.specs.declared.actor.Actor.{Actor}
 use Rattle.message_net.specs.declared.actor.MailId.{MailId}
 use Rattle.message_net.specs.Mail.{has_actor, actor_index}
 use Rattle.run_timing.specs.Tracks.{last_at, senders_at, noted_last, noted_senders}
-use Rattle.message_net.proofs.MailLemmas.{place_of-within, place_of-own}
+use Rattle.message_net.proofs.MailLemmas.{actor_index-within, actor_index-own}
 
 -- ---- lists that grow
 
@@ -115,7 +115,7 @@ tables-more cores banks actors so_far Sent n last senders a count tables turn no
     at' = actor_index cores banks a
 
     within : at' < cores + banks + 1
-    within = place_of-within cores banks a turn.there
+    within = actor_index-within cores banks a turn.there
 
     new_row : List ℕ
     new_row = senders_at senders at' ++ replicate count n
@@ -133,7 +133,7 @@ tables-more cores banks actors so_far Sent n last senders a count tables turn no
     row_there place apart = get_or-set_other senders at' place new_row [] apart
 
     same-actor : (b : Actor) → has_actor cores banks b ≡ true → (actor_index cores banks b == at') ≡ true → b ≡ a
-    same-actor b has_b e = place_of-own cores banks b a has_b turn.there (eqb-true (actor_index cores banks b) at' e)
+    same-actor b has_b e = actor_index-own cores banks b a has_b turn.there (eqb-true (actor_index cores banks b) at' e)
 
     other-actor : (b : Actor) → (actor_index cores banks b == at') ≡ false → a ≢ b
     other-actor b e is = eqb-false (actor_index cores banks b) at' e (ap (actor_index cores banks) (sym is))

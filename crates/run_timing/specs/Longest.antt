@@ -54,5 +54,5 @@ pub record IsLongest (ticks : Ticks) (S : State) (events : List Event) (timing :
 -- the timing of a run of the opened machine of this program, shape and fuel
 pub record IsTimingOf (P : ProgramParts) (machine : Shape) (most : ℕ) (events : List Event) (ticks : Ticks) (timing : Timing) : Type 0 where
   pub setting : Setting
-  pub told : IsSettingOf P machine most setting
+  pub setting_is : IsSettingOf P machine most setting
   pub longest : IsLongest ticks (initial_state setting) events timing

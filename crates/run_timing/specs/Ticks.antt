@@ -3,7 +3,7 @@ use Rattle.std.specs.Prelude.{ℕ, ◌≤◌, map, slice_index_or, List, Option,
 use Rattle.message_net.specs.declared.event.Event.{Event}
 use Rattle.message_net.specs.declared.event.EventKind as kind
 use Rattle.message_net.specs.declared.event.EventKind.{EventKind}
-use Rattle.message_net.specs.Kind.{kind_place}
+use Rattle.message_net.specs.Kind.{kind_index}
 use Rattle.machine_rules.specs.State.{State}
 use Rattle.run_report.specs.Run.{all_kinds}
 use Rattle.run_timing.specs.declared.ticks.Ticks.{Ticks}
@@ -11,7 +11,7 @@ use Rattle.run_timing.specs.Depends.{kind_at}
 
 -- the ticks of an event of a kind
 abbrev pub ticks_of : Ticks → EventKind → ℕ
-ticks_of ticks kind = slice_index_or ticks.kinds (kind_place kind) 0
+ticks_of ticks kind = slice_index_or ticks.kinds (kind_index kind) 0
 
 -- an event of each kind takes 1 to 1,000,000 ticks
 abbrev pub AreWithinLimits : Ticks → Type 0

@@ -29,10 +29,10 @@ pub(crate) fn make(machine: &mut Machine, event: Event, actor: Actor) -> Result<
     ensures sent { IfOk result (λ happened. next_number machine.old.state actor + happened.sent ≡ next_number (next machine.old.state event) actor) }
 {
     let first = machine.next_mail(actor);
-    let told = machine.step(event)?;
+    let observed = machine.step(event)?;
     let next = machine.next_mail(actor);
     Ok(Happened {
-        kind: told.kind,
+        kind: observed.kind,
         sent: next - first,
     })
 }

@@ -16,7 +16,7 @@ impl Tracks {
         ensures { result ≡ sender_in shape.cores shape.banks self.now.senders.items event }
     {
         match event {
-            Event::Handle(id) => self.sender(id.sender.place(shape.cores, shape.banks), id.number),
+            Event::Handle(id) => self.sender(id.sender.index(shape.cores, shape.banks), id.number),
             _ => None,
         }
     }

@@ -13,7 +13,7 @@ fn raise(counts: &mut [u32], place: usize)
     }
 }
 
-/// How many mails of each actor the events handle, by the place of the actor, of so many. In a run to its end these are all that
+/// How many mails of each actor the events handle, by the index of the actor, of so many. In a run to its end these are all that
 /// the actor sends, so a row with that much room doesn't grow.
 ///
 /// # Errors
@@ -29,8 +29,8 @@ pub(crate) fn handled_mails(
     let mut mails = vec![in alloc; 0; actors]?;
     for event in events {
         if let Event::Handle(id) = event {
-            let place = id.sender.place(shape.cores, shape.banks);
-            raise(&mut mails, place);
+            let index = id.sender.index(shape.cores, shape.banks);
+            raise(&mut mails, index);
         }
     }
     Ok(mails)

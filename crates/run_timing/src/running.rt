@@ -27,7 +27,7 @@ pub(crate) fn timed_rows(
     events: &[Event],
     ticks: &Ticks,
 ) -> Result<Rows, Memory>
-    requires opened { machine.state ≡ initial_state machine.state.setting }
+    requires initial { machine.state ≡ initial_state machine.state.setting }
     requires made { machine.made ≡ 0 }
     requires shape { machine.state.setting.shape ≡ shape }
     requires run { IsRun machine.state events.now }
@@ -44,10 +44,10 @@ pub(crate) fn timed_rows(
     let mut number = 0;
     for event in events {
         let actor = machine.actor(event);
-        let place = actor.place(shape.cores, shape.banks);
-        let before = tracks.before(&rows, *event, place, shape);
+        let index = actor.index(shape.cores, shape.banks);
+        let before = tracks.before(&rows, *event, index, shape);
         let happened = make(&mut machine, *event, actor)?;
-        tracks.note(place, happened.sent, number)?;
+        tracks.note(index, happened.sent, number)?;
         note_row(&mut rows, happened, before, ticks)?;
         number += 1;
     }

@@ -1,5 +1,6 @@
 -- Adding up the lines one by one gives what the text means.
 use Rattle.std.proofs.Common.{◌≡◌, ℕ, ◌+◌, ◌≤◌, Bool, cond, nat_lt, List, [], ◌∷◌, ◌++◌, map, length, Option, Some, None, Result, Ok, Err, refl, sym, ap, ◌∙◌, append_assoc, append-nil, length-append, arith}
+use Rattle.std.specs.Option.{option_or}
 use Rattle.std.specs.List.{filter_map, cons_option}
 use Rattle.std.proofs.lemmas.List.Elements.{filter_map-append}
 use Rattle.region_table.specs.Program.{ProgramParts}
@@ -12,7 +13,6 @@ use Rattle.rv_assembler.specs.declared.reading.Reading.TheVariants.{Bad, Good}
 use Rattle.rv_assembler.specs.declared.names.Meaning.{Meaning}
 use Rattle.rv_assembler.specs.declared.draft.Draft.{Draft}
 use Rattle.rv_assembler.specs.Reading.{version_line, reading_of}
-use Rattle.rv_assembler.specs.First.{first_of}
 use Rattle.rv_assembler.specs.Gathering.{no_count, meaning_in}
 use Rattle.rv_assembler.specs.Adding.{no_draft, draft_after, unless_fault, total, program_in, added_program}
 use Rattle.rv_assembler.specs.Fault.{doubled, first_fault, early_fault, limit_fault}
@@ -39,7 +39,7 @@ first-decides (Some f) r fs p h = refl
 
 -- the same where a line's last fault is looked for behind the others
 then-decides : (a b c : Option SourceFault) (r : Result Draft SourceFault) (fs : List SourceFault) (p : ProgramParts) → (a ≡ None → b ≡ c) → (a ≡ None → c ≡ None → program_in r ≡ without_faults fs p)
-    → program_in (unless_fault (first_of a b) r) ≡ without_faults (cons_option (first_of a c) fs) p
+    → program_in (unless_fault (option_or a b) r) ≡ without_faults (cons_option (option_or a c) fs) p
 then-decides None b c r fs p same h = ap (λ (o : Option SourceFault). program_in (unless_fault o r)) (same refl) ∙ first-decides c r fs p (h refl)
 then-decides (Some f) b c r fs p same h = refl
 

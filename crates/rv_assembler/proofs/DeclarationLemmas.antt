@@ -1,5 +1,6 @@
 -- The names that the assembler gathers line by line mean what the first lines that declare them say.
 use Rattle.std.proofs.Common.{◌≡◌, ℕ, ◌+◌, ◌-◌, ◌^◌, ◌≤◌, min, Bool, true, false, cond, List, [], ◌∷◌, ◌++◌, length, Option, Some, None, option_map, find, flat_map, bytes_eq, refl, sym, ap, ◌∙◌, length-append, arith}
+use Rattle.std.specs.Option.{option_or}
 use Rattle.std.proofs.lemmas.List.Sums.{sum_by_push, count_by-le-length}
 use Rattle.src_text.specs.declared.token.Token.{Token}
 use Rattle.rv_assembler.specs.declared.statement.Statement.{Statement}
@@ -11,7 +12,6 @@ use Rattle.rv_assembler.specs.declared.names.Meaning.{Meaning}
 use Rattle.rv_assembler.specs.declared.names.Meaning as meaning
 use Rattle.rv_assembler.specs.declared.names.Count.{Count}
 use Rattle.rv_assembler.specs.Operand.{bytes_of}
-use Rattle.rv_assembler.specs.First.{first_of}
 use Rattle.rv_assembler.specs.Size.{code_word_count}
 use Rattle.rv_assembler.specs.Gathering.{more, no_count, count_behind, label_of_means, name_means, meaning_in}
 use Rattle.rv_assembler.specs.Placed.{placed_behind}
@@ -20,12 +20,12 @@ use Rattle.rv_assembler.specs.Declarations.{Declaration, label_by, named_by, dec
 use Rattle.rv_assembler.specs.Source.{sayings}
 use Rattle.rv_assembler.proofs.TableLemmas.{tally, place, code-bound, data-bound, sum-same}
 
-pub found-append : (ds es : List Declaration) (q : List ℕ) → meaning_among (ds ++ es) q ≡ first_of (meaning_among ds q) (meaning_among es q)
+pub found-append : (ds es : List Declaration) (q : List ℕ) → meaning_among (ds ++ es) q ≡ option_or (meaning_among ds q) (meaning_among es q)
 found-append [] es q = refl
 found-append (d ∷ ds) es q = step (found-append ds es q) (bytes_eq d.name q)
   where
-    step : meaning_among (ds ++ es) q ≡ first_of (meaning_among ds q) (meaning_among es q) → (b : Bool) → option_map (λ (d : Declaration). d.meaning) (cond b (Some d) (find (λ (d : Declaration). bytes_eq d.name q) (ds ++ es)))
-        ≡ first_of (option_map (λ (d : Declaration). d.meaning) (cond b (Some d) (find (λ (d : Declaration). bytes_eq d.name q) ds))) (meaning_among es q)
+    step : meaning_among (ds ++ es) q ≡ option_or (meaning_among ds q) (meaning_among es q) → (b : Bool) → option_map (λ (d : Declaration). d.meaning) (cond b (Some d) (find (λ (d : Declaration). bytes_eq d.name q) (ds ++ es)))
+        ≡ option_or (option_map (λ (d : Declaration). d.meaning) (cond b (Some d) (find (λ (d : Declaration). bytes_eq d.name q) ds))) (meaning_among es q)
     step rest true = refl
     step rest false = rest
 
@@ -137,10 +137,10 @@ module _ (text : List ℕ) (before : List Saying) (c : Count) (q : List ℕ) (co
   name-same (statement.TheVariants.Tasks f) = refl
   name-same (statement.TheVariants.Uses e) = refl
 
-  line-same : (s : Saying) → first_of (label_of_means text c s.line s.label q) (name_means text c s.statement q) ≡ meaning_among (declared_at text (place before s)) q
+  line-same : (s : Saying) → option_or (label_of_means text c s.line s.label q) (name_means text c s.statement q) ≡ meaning_among (declared_at text (place before s)) q
   line-same s =
-      ap (λ (m : Option Meaning). first_of m (name_means text c s.statement q)) (label-same s.line s.label)
-      ∙ ap (λ (m : Option Meaning). first_of (meaning_among (label_by text before s.line s.label) q) m) (name-same s.statement)
+      ap (λ (m : Option Meaning). option_or m (name_means text c s.statement q)) (label-same s.line s.label)
+      ∙ ap (λ (m : Option Meaning). option_or (meaning_among (label_by text before s.line s.label) q) m) (name-same s.statement)
       ∙ sym (found-append (label_by text before s.line s.label) (named_by text before s.statement) q)
 
 gathered-from : (text : List ℕ) (rs : List Reading) (before : List Saying) (c : Count) (q : List ℕ) → AreCapped before c → length before + length (sayings rs) ≤ 65536
@@ -159,8 +159,8 @@ gathered-from text (Good s ∷ rs) before c q h few =
     let here = line-same text before c q (omega arith) (omega arith) (omega arith) (omega arith) s in
     let longer : length (before ++ s ∷ []) ≡ length before + 1 = length-append before (s ∷ []) in
     let rest = gathered-from text rs (before ++ s ∷ []) (count_behind c s.statement) q (capped-after before s.line s.label c h s.statement) (omega arith) in
-    ap (λ (m : Option Meaning). first_of m (meaning_in text (count_behind c s.statement) rs q)) here
-    ∙ ap (λ (m : Option Meaning). first_of (meaning_among (declared_at text (place before s)) q) m) rest
+    ap (λ (m : Option Meaning). option_or m (meaning_in text (count_behind c s.statement) rs q)) here
+    ∙ ap (λ (m : Option Meaning). option_or (meaning_among (declared_at text (place before s)) q) m) rest
     ∙ sym (found-append (declared_at text (place before s)) (flat_map (declared_at text) (placed_behind (before ++ s ∷ []) (sayings rs))) q)
 
 pub gathered : (text : List ℕ) (rs : List Reading) (q : List ℕ) → length (sayings rs) ≤ 65536 → meaning_in text no_count rs q ≡ meaning_of text (sayings rs) q

@@ -1,7 +1,7 @@
 -- The names of an assembled program are names that a text may declare.
 use Rattle.std.proofs.Common.{◌≡◌, ℕ, Bool, true, false, not, ◌&&◌, ◌||◌, cond, eqb, nat_lt, nat_eq, List, [], ◌∷◌, map, length, get_or, Option, Some, None, Result, Ok, Err, refl, sym, ◌∙◌, ap, subst}
 use Rattle.std.specs.List.{All, list_all, slice_range, find}
-use Rattle.std.specs.Option.{option_map}
+use Rattle.std.specs.Option.{option_map, option_or}
 use Rattle.std.proofs.lemmas.Bool.{cond_both, and_parts, le-leb}
 use Rattle.std.proofs.lemmas.List.Elements.{All-nil, All-cons, All-head, All-tail, All-append, All-map, All-weaker}
 use Rattle.src_text.specs.Byte.{is_letter, is_word}
@@ -33,7 +33,6 @@ use Rattle.rv_assembler.specs.Names.{is_declared_name, AreDeclaredNames}
 use Rattle.rv_assembler.specs.Operand.{bytes_of, token_at}
 use Rattle.rv_assembler.specs.Shape as shape
 use Rattle.rv_assembler.specs.Shape.{Shape, memory_rows, operation_rows, short_rows, directive_rows, later_rows, is_colon, is_plain, piece_fits, fits, shape_has_word, is_row, kind_in_rows, knows_word, kind_for}
-use Rattle.rv_assembler.specs.First.{first_of}
 use Rattle.rv_assembler.specs.Reading.{statement_for, statement_of, statement_in, said, labelled, read_tokens, read_line, reading_of, version_line}
 use Rattle.rv_assembler.specs.Adding.{no_draft, draft_after, fault_on_line, unless_fault, total, program_in, draft_of}
 use Rattle.rv_assembler.specs.Finishing.{finished_program}
@@ -140,7 +139,7 @@ found-good v text w ts all (s ∷ ss) e = by_row (is_row v text w ts s) refl (fo
     by_row true e rest = kind-good text s.kind s.operands ts all named.0 (and_parts (shape_has_word v w s) (fits text s.operands ts) e).1
     by_row false e rest = rest
 
-else-good : (text : List ℕ) (ts : List Token) (a b : Option Kind) → FoundGood text ts a → FoundGood text ts b → FoundGood text ts (first_of a b)
+else-good : (text : List ℕ) (ts : List Token) (a b : Option Kind) → FoundGood text ts a → FoundGood text ts b → FoundGood text ts (option_or a b)
 else-good text ts None b f g = g
 else-good text ts (Some k) b f g = f
 

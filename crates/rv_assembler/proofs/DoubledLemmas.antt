@@ -12,7 +12,7 @@ use Rattle.rv_assembler.specs.declared.reading.Saying.{Saying}
 use Rattle.rv_assembler.specs.declared.names.Meaning.{Meaning}
 use Rattle.rv_assembler.specs.declared.names.Meaning as meaning
 use Rattle.rv_assembler.specs.Operand.{bytes_of}
-use Rattle.rv_assembler.specs.First.{first_of}
+use Rattle.std.specs.Option.{option_or}
 use Rattle.rv_assembler.specs.Placed.{placed_behind}
 use Rattle.rv_assembler.specs.Counts.{code_words, data_words, is_region, is_lock, regions_in, locks_in, counts_in}
 use Rattle.rv_assembler.specs.Declarations.{Declaration, label_by, named_by, declared_at, declarations, declares, declare_again, meaning_among, meaning_of}
@@ -35,7 +35,7 @@ old-more r r' l l' n n' (Some (meaning.TheVariants.Label first at)) a b c h = om
 old-more r r' l l' n n' (Some (meaning.TheVariants.Region number start len)) a b c h = omega arith
 old-more r r' l l' n n' (Some (meaning.TheVariants.Lock number)) a b c h = omega arith
 
-old-first : (r l n : ℕ) (a b : Option Meaning) → IsOld r l n a → IsOld r l n b → IsOld r l n (first_of a b)
+old-first : (r l n : ℕ) (a b : Option Meaning) → IsOld r l n a → IsOld r l n b → IsOld r l n (option_or a b)
 old-first r l n None b h k = k
 old-first r l n (Some m) b h k = h
 
@@ -46,7 +46,7 @@ AreRising lo (s ∷ ss) = (lo ≤ s.line) × AreRising (s.line + 1) ss
 
 -- names mean what the lines declare, of which these were before
 pub record AreTold (text : List ℕ) (names : List ℕ → Option Meaning) (before ss : List Saying) (lo : ℕ) : Type 0 where
-  pub means : (q : List ℕ) → names q ≡ first_of (meaning_among (declarations text before) q) (meaning_among (flat_map (declared_at text) (placed_behind before ss)) q)
+  pub means : (q : List ℕ) → names q ≡ option_or (meaning_among (declarations text before) q) (meaning_among (flat_map (declared_at text) (placed_behind before ss)) q)
   pub old : (q : List ℕ) → IsOld (regions_in before) (locks_in before) lo (meaning_among (declarations text before) q)
   pub rising : AreRising lo ss
 
@@ -95,14 +95,14 @@ told-next text names before ss s lo h = record { means = means; old = old; risin
     later : List Declaration
     later = flat_map (declared_at text) (placed_behind now ss)
 
-    more : (q : List ℕ) → meaning_among (declarations text now) q ≡ first_of (meaning_among (declarations text before) q) (meaning_among mine q)
+    more : (q : List ℕ) → meaning_among (declarations text now) q ≡ option_or (meaning_among (declarations text before) q) (meaning_among mine q)
     more q = ap (λ (ds : List Declaration). meaning_among ds q) (table-more (declared_at text) before s) ∙ found-append (declarations text before) mine q
 
-    means : (q : List ℕ) → names q ≡ first_of (meaning_among (declarations text now) q) (meaning_among later q)
+    means : (q : List ℕ) → names q ≡ option_or (meaning_among (declarations text now) q) (meaning_among later q)
     means q =
-        h.means q ∙ ap (first_of (meaning_among (declarations text before) q)) (found-append mine later q)
+        h.means q ∙ ap (option_or (meaning_among (declarations text before) q)) (found-append mine later q)
         ∙ sym (first-group (meaning_among (declarations text before) q) (meaning_among mine q) (meaning_among later q))
-        ∙ ap (λ (m : Option Meaning). first_of m (meaning_among later q)) (sym (more q))
+        ∙ ap (λ (m : Option Meaning). option_or m (meaning_among later q)) (sym (more q))
 
     old : (q : List ℕ) → IsOld (regions_in now) (locks_in now) (s.line + 1) (meaning_among (declarations text now) q)
     old q =
@@ -138,19 +138,19 @@ not-less : (m n : ℕ) → m < n → not (eqb m n) ≡ true
 not-less m n h = grind (arith, nat_tests)
 
 -- what is declared first is what this line declares, where no earlier one declares the name
-label-test : (r l line at : ℕ) (m : Option Meaning) → IsOld r l line m → label_doubled (first_of m (Some (meaning.TheVariants.Label line at))) line ≡ is_some m
+label-test : (r l line at : ℕ) (m : Option Meaning) → IsOld r l line m → label_doubled (option_or m (Some (meaning.TheVariants.Label line at))) line ≡ is_some m
 label-test r l line at None h = not-same line
 label-test r l line at (Some (meaning.TheVariants.Label first place)) h = not-less first line h
 label-test r l line at (Some (meaning.TheVariants.Region number start len)) h = refl
 label-test r l line at (Some (meaning.TheVariants.Lock number)) h = refl
 
-region-test : (l line start : ℕ) (len : ℤ) (r : ℕ) (m : Option Meaning) → IsOld r l line m → region_doubled (first_of m (Some (meaning.TheVariants.Region r start len))) r ≡ is_some m
+region-test : (l line start : ℕ) (len : ℤ) (r : ℕ) (m : Option Meaning) → IsOld r l line m → region_doubled (option_or m (Some (meaning.TheVariants.Region r start len))) r ≡ is_some m
 region-test l line start len r None h = not-same r
 region-test l line start len r (Some (meaning.TheVariants.Label first place)) h = refl
 region-test l line start len r (Some (meaning.TheVariants.Region number start' len')) h = not-less number r h
 region-test l line start len r (Some (meaning.TheVariants.Lock number)) h = refl
 
-lock-test : (r line l : ℕ) (m : Option Meaning) → IsOld r l line m → lock_doubled (first_of m (Some (meaning.TheVariants.Lock l))) l ≡ is_some m
+lock-test : (r line l : ℕ) (m : Option Meaning) → IsOld r l line m → lock_doubled (option_or m (Some (meaning.TheVariants.Lock l))) l ≡ is_some m
 lock-test r line l None h = not-same l
 lock-test r line l (Some (meaning.TheVariants.Label first place)) h = refl
 lock-test r line l (Some (meaning.TheVariants.Region number start len)) h = refl
@@ -163,10 +163,10 @@ or-false false = refl
 -- what is declared by then, and what the statement declares
 module _ (text : List ℕ) (names : List ℕ → Option Meaning) (before : List Saying) (earlier later : List Declaration) (line : ℕ) (old : (q : List ℕ) → IsOld (regions_in before) (locks_in before) line (meaning_among earlier q)) where
   abbrev Means : List Declaration → Type 0
-  Means ds = (q : List ℕ) → names q ≡ first_of (meaning_among earlier q) (meaning_among (ds ++ later) q)
+  Means ds = (q : List ℕ) → names q ≡ option_or (meaning_among earlier q) (meaning_among (ds ++ later) q)
 
-  first-here : (d : Declaration) → Means (d ∷ []) → names d.name ≡ first_of (meaning_among earlier d.name) (Some d.meaning)
-  first-here d means = means d.name ∙ ap (first_of (meaning_among earlier d.name)) (itself d later)
+  first-here : (d : Declaration) → Means (d ∷ []) → names d.name ≡ option_or (meaning_among earlier d.name) (Some d.meaning)
+  first-here d means = means d.name ∙ ap (option_or (meaning_among earlier d.name)) (itself d later)
 
   one-again : (d : Declaration) (b : Bool) → b ≡ is_some (meaning_among earlier d.name) → b ≡ declare_again earlier (d ∷ [])
   one-again d b e = e ∙ sym (declared-some earlier d.name) ∙ sym (or-false (declares earlier d.name))
@@ -199,19 +199,19 @@ doubled-same text names before ss s lo h = by_label s.label h.means
     old : (q : List ℕ) → IsOld (regions_in before) (locks_in before) (s.line + 1) (meaning_among earlier q)
     old q = let low = h.rising.0 in old-more (regions_in before) (regions_in before) (locks_in before) (locks_in before) lo (s.line + 1) (meaning_among earlier q) (omega arith) (omega arith) (omega arith) (h.old q)
 
-    by_label : (label : Option Token) → ((q : List ℕ) → names q ≡ first_of (meaning_among earlier q) (meaning_among ((label_by text before s.line label ++ named_by text before s.statement) ++ later) q))
+    by_label : (label : Option Token) → ((q : List ℕ) → names q ≡ option_or (meaning_among earlier q) (meaning_among ((label_by text before s.line label ++ named_by text before s.statement) ++ later) q))
         → (label_of_doubled text names s.line label || name_doubled text names (counts_in before) s.statement) ≡ declare_again earlier (label_by text before s.line label ++ named_by text before s.statement)
     by_label None means = name-again text names before earlier later (s.line + 1) old s.statement means
     by_label (Some t) means =
         let d : Declaration = record { name = bytes_of text t; meaning = meaning.TheVariants.Label s.line (code_words before) } in
         let named = named_by text before s.statement in
         let label : label_doubled (names d.name) s.line ≡ declares earlier d.name =
-        ap (λ (m : Option Meaning). label_doubled m s.line) (means d.name ∙ ap (first_of (meaning_among earlier d.name)) (itself d (named ++ later)))
+        ap (λ (m : Option Meaning). label_doubled m s.line) (means d.name ∙ ap (option_or (meaning_among earlier d.name)) (itself d (named ++ later)))
         ∙ label-test (regions_in before) (locks_in before) s.line (code_words before) (meaning_among earlier d.name) (let low = h.rising.0 in old-more (regions_in before) (regions_in before) (locks_in before) (locks_in before) lo s.line (meaning_among earlier d.name) (omega arith) (omega arith) low (h.old d.name))
         ∙ sym (declared-some earlier d.name) in
-        let with_label : (q : List ℕ) → names q ≡ first_of (meaning_among (earlier ++ d ∷ []) q) (meaning_among (named ++ later) q) =
-        λ q. means q ∙ ap (first_of (meaning_among earlier q)) (found-append (d ∷ []) (named ++ later) q) ∙ sym (first-group (meaning_among earlier q) (meaning_among (d ∷ []) q) (meaning_among (named ++ later) q))
-        ∙ ap (λ (m : Option Meaning). first_of m (meaning_among (named ++ later) q)) (sym (found-append earlier (d ∷ []) q)) in
+        let with_label : (q : List ℕ) → names q ≡ option_or (meaning_among (earlier ++ d ∷ []) q) (meaning_among (named ++ later) q) =
+        λ q. means q ∙ ap (option_or (meaning_among earlier q)) (found-append (d ∷ []) (named ++ later) q) ∙ sym (first-group (meaning_among earlier q) (meaning_among (d ∷ []) q) (meaning_among (named ++ later) q))
+        ∙ ap (λ (m : Option Meaning). option_or m (meaning_among (named ++ later) q)) (sym (found-append earlier (d ∷ []) q)) in
         let older : (q : List ℕ) → IsOld (regions_in before) (locks_in before) (s.line + 1) (meaning_among (earlier ++ d ∷ []) q) =
         λ q. subst (IsOld (regions_in before) (locks_in before) (s.line + 1)) (sym (found-append earlier (d ∷ []) q))
         (old-first (regions_in before) (locks_in before) (s.line + 1) (meaning_among earlier q) (meaning_among (d ∷ []) q) (old q) (old-label text before (regions_in before) (locks_in before) s.line (Some t) q)) in

@@ -9,7 +9,7 @@ use Rattle.rv_assembler.specs.declared.draft.Start.{Start}
 use Rattle.rv_assembler.specs.declared.draft.Usage.{Usage}
 use Rattle.rv_assembler.specs.declared.draft.Claim.{Claim}
 use Rattle.rv_assembler.specs.declared.draft.Cores.{Cores}
-use Rattle.rv_assembler.specs.declared.draft.Place.{Place}
+use Rattle.rv_assembler.specs.declared.draft.Span.{Span}
 use Rattle.rv_assembler.specs.Number.{natural_of, is_interval}
 use Rattle.rv_assembler.specs.Gathering.{more}
 use Rattle.rv_assembler.specs.Drafting.{members}
@@ -52,7 +52,7 @@ uses_from phase core usage start lo hi step (suc n) =
     record { phase = phase; core = core; usage = usage; lo = start + natural_of lo; hi = start + natural_of hi }
     ∷ uses_from phase (core + 1) usage start (lo +ℤ step) (hi +ℤ step) step n
 
-module _ (phase : ℕ) (family : Cores) (u : Usage) (p : Place) (e : Extent) where
+module _ (phase : ℕ) (family : Cores) (u : Usage) (p : Span) (e : Extent) where
   abbrev low_at : ℕ → ℤ
   low_at k = moved (from_index e) (moved_by e) k
 

@@ -1,5 +1,6 @@
 -- No line makes a text too large.
 use Rattle.std.proofs.Common.{◌≡◌, ◌<◌, ◌≤◌, ℕ, Bool, true, false, not, ◌&&◌, List, [], ◌∷◌, map, length, Option, Some, None, Result, Ok, Err, refl, sym, ◌∙◌, ap, nat_lt, nat_eq, ⊎_elim}
+use Rattle.std.specs.Option.{option_or}
 use Rattle.std.proofs.lemmas.Bool.{cond_both, cases_lt, le-ltb}
 use Rattle.src_text.specs.declared.line.Line.{Line}
 use Rattle.src_text.specs.declared.line.LineFault.{LineFault}
@@ -17,7 +18,6 @@ use Rattle.rv_assembler.specs.declared.draft.Draft.{Draft}
 use Rattle.rv_assembler.specs.Operand.{bytes_of}
 use Rattle.rv_assembler.specs.Shape.{is_name, is_colon, is_plain, knows_word, kind_for}
 use Rattle.rv_assembler.specs.Reading.{statement_of, statement_in, said, labelled, read_tokens, read_line, reading_of, version_line}
-use Rattle.rv_assembler.specs.First.{first_of}
 use Rattle.src_text.specs.Line.{lines_of}
 use Rattle.rv_assembler.specs.Adding.{no_draft, draft_after, fault_on_line, unless_fault, total, total_of, program_in, gathered_names, draft_of, added_program}
 use Rattle.rv_assembler.specs.Fault.{out_of_range, unknown, misplaced, over_limit, limit_fault}
@@ -93,7 +93,7 @@ early-small text names d s =
 limit-small : (v : Bool) (d : Draft) (line : ℕ) → some_large (limit_fault v d line) ≡ false
 limit-small v d line = cond_both (over_limit v d) _ _ (λ (o : Option SourceFault). some_large o ≡ false) (λ e. refl) (λ e. refl)
 
-first-small : (a b : Option SourceFault) → some_large a ≡ false → some_large b ≡ false → some_large (first_of a b) ≡ false
+first-small : (a b : Option SourceFault) → some_large a ≡ false → some_large b ≡ false → some_large (option_or a b) ≡ false
 first-small None b e f = f
 first-small (Some x) b e f = e
 

@@ -1,20 +1,20 @@
 -- A table of names in which a name keeps its first meaning.
 use Rattle.std.proofs.Common.{◌≡◌, ℕ, true, false, cond, List, Option, Some, None, refl, bytes_eq, ⊎_elim, is_some}
+use Rattle.std.specs.Option.{option_or}
 use Rattle.std.proofs.lemmas.Bool.{cases_Bool}
 use Rattle.std.proofs.lemmas.Slice.Eq.{bytes_eq-Decides}
 use Rattle.rv_assembler.specs.declared.names.Meaning.{Meaning}
-use Rattle.rv_assembler.specs.First.{first_of}
 
-first-none : (o : Option Meaning) → o ≡ first_of o None
+first-none : (o : Option Meaning) → o ≡ option_or o None
 first-none None = refl
 first-none (Some m) = refl
 
-first-some : (o : Option Meaning) (p : Option Meaning) → is_some o ≡ true → o ≡ first_of o p
+first-some : (o : Option Meaning) (p : Option Meaning) → is_some o ≡ true → o ≡ option_or o p
 first-some None p e = absurd cc
 first-some (Some m) p e = refl
 
 -- a name that has a meaning keeps it
-pub present : (f : List ℕ → Option Meaning) (name q : List ℕ) (m : Meaning) → is_some (f name) ≡ true → f q ≡ first_of (f q) (cond (bytes_eq name q) (Some m) None)
+pub present : (f : List ℕ → Option Meaning) (name q : List ℕ) (m : Meaning) → is_some (f name) ≡ true → f q ≡ option_or (f q) (cond (bytes_eq name q) (Some m) None)
 present f name q m h =
     ⊎_elim
     (λ (e : bytes_eq name q ≡ true).
@@ -24,7 +24,7 @@ present f name q m h =
     (cases_Bool (bytes_eq name q))
 
 -- a name that has none gets one
-pub absent : (f : List ℕ → Option Meaning) (name q : List ℕ) (m : Meaning) → f name ≡ None → cond (bytes_eq name q) (Some m) (f q) ≡ first_of (f q) (cond (bytes_eq name q) (Some m) None)
+pub absent : (f : List ℕ → Option Meaning) (name q : List ℕ) (m : Meaning) → f name ≡ None → cond (bytes_eq name q) (Some m) (f q) ≡ option_or (f q) (cond (bytes_eq name q) (Some m) None)
 absent f name q m h =
     ⊎_elim
     (λ (e : bytes_eq name q ≡ true).
@@ -35,7 +35,7 @@ absent f name q m h =
     (cases_Bool (bytes_eq name q))
 
 -- first of three
-pub first-group : (a b c : Option Meaning) → first_of (first_of a b) c ≡ first_of a (first_of b c)
+pub first-group : (a b c : Option Meaning) → option_or (option_or a b) c ≡ option_or a (option_or b c)
 first-group None b c = refl
 first-group (Some m) b c = refl
 

@@ -1,5 +1,6 @@
 -- Addresses in a text are the same modulo 2^32: it has at most 131,072 code words.
 use Rattle.std.proofs.Common.{◌≡◌, ℕ, ◌+◌, ◌%◌, ◌<◌, ◌≤◌, true, false, eqb, ltb-true, List, [], ◌∷◌, ◌++◌, length, ℤ, pos, negsuc, int_le, int_lt, Option, Some, None, flat_map, bytes_eq, refl, sym, subst, length-append, arith}
+use Rattle.std.specs.Option.{option_or}
 use Rattle.std.proofs.lemmas.Bool.{and_parts, cond_both}
 use Rattle.src_text.specs.declared.token.Token.{Token}
 use Rattle.src_text.specs.declared.token.TokenKind.{TokenKind}
@@ -11,7 +12,6 @@ use Rattle.rv_assembler.specs.declared.names.Meaning.{Meaning}
 use Rattle.rv_assembler.specs.declared.names.Meaning as meaning
 use Rattle.rv_assembler.specs.Number.{natural_of, wrapped, is_within}
 use Rattle.rv_assembler.specs.Operand.{bytes_of}
-use Rattle.rv_assembler.specs.First.{first_of}
 use Rattle.rv_assembler.specs.Emission.{label_index}
 use Rattle.rv_assembler.specs.Named.{entry_address, entry_value, task_entry}
 use Rattle.rv_assembler.specs.Drafting.{wrapped_entry_at, wrapped_entry_by, wrapped_entry}
@@ -30,7 +30,7 @@ IsNear (Some (meaning.TheVariants.Label line at)) = at ≤ 131072
 IsNear (Some (meaning.TheVariants.Region number start len)) = Unit {0}
 IsNear (Some (meaning.TheVariants.Lock number)) = Unit {0}
 
-near-first : (a b : Option Meaning) → IsNear a → IsNear b → IsNear (first_of a b)
+near-first : (a b : Option Meaning) → IsNear a → IsNear b → IsNear (option_or a b)
 near-first None b h k = k
 near-first (Some m) b h k = h
 

@@ -1,5 +1,6 @@
 -- In a text without a fault, first values and uses of words are the same modulo 2^32.
 use Rattle.std.proofs.Common.{◌≡◌, ℕ, zero, suc, ◌+◌, ◌%◌, ◌^◌, ◌<◌, ◌≤◌, Bool, true, false, cond, ◌&&◌, ltb, leb, ltb-true, leb-true, lt-ltb, le-leb, ℤ, pos, negsuc, ◌+ℤ◌, int_le, int_lt, List, [], ◌∷◌, ◌++◌, Option, Some, None, Ok, flat_map, bytes_eq, refl, sym, ap, subst, ◌∙◌, append_assoc, append-nil, arith}
+use Rattle.std.specs.Option.{option_or}
 use Rattle.std.specs.List.{All, filter_map, cons_option}
 use Rattle.std.proofs.lemmas.Bool.{and_parts, and_from, cond_both}
 use Rattle.std.proofs.lemmas.List.Elements.{filter_map-append, All-nil, All-cons, All-append}
@@ -21,12 +22,11 @@ use Rattle.rv_assembler.specs.declared.draft.FirstValue.{FirstValue}
 use Rattle.rv_assembler.specs.declared.draft.Usage.{Usage}
 use Rattle.rv_assembler.specs.declared.draft.Claim.{Claim}
 use Rattle.rv_assembler.specs.declared.draft.Cores.{Cores}
-use Rattle.rv_assembler.specs.declared.draft.Place.{Place}
+use Rattle.rv_assembler.specs.declared.draft.Span.{Span}
 use Rattle.rv_assembler.specs.declared.draft.Draft.{Draft}
 use Rattle.rv_assembler.specs.Number.{natural_of, wrapped, is_length, is_interval}
 use Rattle.rv_assembler.specs.Gathering.{more}
 use Rattle.rv_assembler.specs.Operand.{bytes_of}
-use Rattle.rv_assembler.specs.First.{first_of}
 use Rattle.rv_assembler.specs.Named.{no_cores, region_span, usage_of}
 use Rattle.rv_assembler.specs.Drafting.{next_claim, claimed, claims_for, values_for}
 use Rattle.rv_assembler.specs.Rows.{first_values, from_index, to_index, moved_by, uses_of}
@@ -142,10 +142,10 @@ whole-interval (negsuc n) e =
     let no : false ≡ true = p.0 in
     absurd cc
 
-abbrev first_claim : ℕ → Cores → Place → Usage → ℤ → ℤ → Claim
+abbrev first_claim : ℕ → Cores → Span → Usage → ℤ → ℤ → Claim
 first_claim phase family p u lo hi = record { phase = phase; core = family.first; usage = u; lo = (p.start + wrapped lo) % 2 ^ 32; hi = (p.start + wrapped hi) % 2 ^ 32 }
 
-stepped-uses : (words phase : ℕ) (family : Cores) (p : Place) (u : Usage) (lo hi step : ℤ) → IsRegion words p.start p.len → (n : ℕ) → family.first + n ≤ 16 → fits_from p.len step lo hi n ≡ true
+stepped-uses : (words phase : ℕ) (family : Cores) (p : Span) (u : Usage) (lo hi step : ℤ) → IsRegion words p.start p.len → (n : ℕ) → family.first + n ≤ 16 → fits_from p.len step lo hi n ≡ true
     → claimed (first_claim phase family p u lo hi) (wrapped step) n ≡ uses_from phase family.first u p.start lo hi step n
 stepped-uses words phase family p u lo hi step r zero k e = refl
 stepped-uses words phase family p u lo hi step r (suc n) k e =
@@ -157,7 +157,7 @@ stepped-uses words phase family p u lo hi step r (suc n) k e =
     let m = r.few in
     claimed-stepped p.start p.len step (omega arith) (suc n) (first_claim phase family p u lo hi) lo hi (counted-small p.start lo (omega arith) here.low (omega arith)) (counted-small p.start hi (omega arith) here.high (omega arith)) k e
 
-made-same : (words phase : ℕ) (family : Cores) (p : Place) (u : Usage) (e : Extent) → IsRegion words p.start p.len → family.first + family.count ≤ 16 → extent_far (Some p) e family.count ≡ false
+made-same : (words phase : ℕ) (family : Cores) (p : Span) (u : Usage) (e : Extent) → IsRegion words p.start p.len → family.first + family.count ≤ 16 → extent_far (Some p) e family.count ≡ false
     → claims_for phase family (Some p) (Some u) e ≡ uses_from phase family.first u p.start (from_index e) (to_index p.len e) (moved_by e) family.count
 made-same words phase family p u extent.TheVariants.Whole r k e =
     let l = r.reach in
@@ -170,14 +170,14 @@ made-same words phase family p u (extent.TheVariants.Part lo hi) r k e =
 made-same words phase family p u (extent.TheVariants.Stepped lo hi step) r k e =
     stepped-uses words phase family p u lo hi step r family.count k (sym (fits-index p.len step lo hi family.count) ∙ not-false (stepped_fits p.len step lo hi family.count) e)
 
-uses-same : (words phase : ℕ) (family : Cores) (p : Place) (u : Usage) (e : Extent) → IsRegion words p.start p.len → family.first + family.count ≤ 16 → extent_far (Some p) e family.count ≡ false
+uses-same : (words phase : ℕ) (family : Cores) (p : Span) (u : Usage) (e : Extent) → IsRegion words p.start p.len → family.first + family.count ≤ 16 → extent_far (Some p) e family.count ≡ false
     → claims_for phase family (Some p) (Some u) e ≡ uses_of phase family (Some p) (Some u) e
 uses-same words phase family p u e r k f = made-same words phase family p u e r k f ∙ sym (uses-index phase family u p e)
 
 abbrev value_row : ℕ → ℕ → List FirstValue
 value_row word value = record { word = word; value = value } ∷ []
 
-word-same : (words : ℕ) (p : Place) (i : ℤ) (v : ℕ) → IsRegion words p.start p.len → word_far (Some p) i ≡ false → values_for (Some p) i v ≡ first_values (Some p) i v
+word-same : (words : ℕ) (p : Span) (i : ℤ) (v : ℕ) → IsRegion words p.start p.len → word_far (Some p) i ≡ false → values_for (Some p) i v ≡ first_values (Some p) i v
 word-same words p i v r e =
     let q = and_parts (int_le (pos 0) i) (int_lt i p.len) (not-false (int_le (pos 0) i && int_lt i p.len) e) in
     let l = r.reach in
@@ -204,17 +204,17 @@ IsInside words (Some (meaning.TheVariants.Label line at)) = Unit {0}
 IsInside words (Some (meaning.TheVariants.Region number start len)) = IsRegion words start len
 IsInside words (Some (meaning.TheVariants.Lock number)) = Unit {0}
 
-abbrev IsPlaceInside : ℕ → Option Place → Type 0
-IsPlaceInside words None = Unit {0}
-IsPlaceInside words (Some p) = IsRegion words p.start p.len
+abbrev IsSpanInside : ℕ → Option Span → Type 0
+IsSpanInside words None = Unit {0}
+IsSpanInside words (Some p) = IsRegion words p.start p.len
 
-place-inside : (words : ℕ) (m : Option Meaning) → IsInside words m → IsPlaceInside words (region_span m)
-place-inside words None h = tt
-place-inside words (Some (meaning.TheVariants.Label line at)) h = tt
-place-inside words (Some (meaning.TheVariants.Region number start len)) h = record { sized = h.sized; reach = h.reach; few = h.few }
-place-inside words (Some (meaning.TheVariants.Lock number)) h = tt
+span-inside : (words : ℕ) (m : Option Meaning) → IsInside words m → IsSpanInside words (region_span m)
+span-inside words None h = tt
+span-inside words (Some (meaning.TheVariants.Label line at)) h = tt
+span-inside words (Some (meaning.TheVariants.Region number start len)) h = record { sized = h.sized; reach = h.reach; few = h.few }
+span-inside words (Some (meaning.TheVariants.Lock number)) h = tt
 
-inside-first : (words : ℕ) (a b : Option Meaning) → IsInside words a → IsInside words b → IsInside words (first_of a b)
+inside-first : (words : ℕ) (a b : Option Meaning) → IsInside words a → IsInside words b → IsInside words (option_or a b)
 inside-first words None b h k = k
 inside-first words (Some m) b h k = h
 
@@ -242,12 +242,12 @@ stepped-held words phase start u len step m (suc n) core lo hi e =
     let g = here.last in
     All-cons (IsInMemory words) _ (uses_from phase (core + 1) u start (lo +ℤ step) (hi +ℤ step) step n) (omega arith, omega arith) (stepped-held words phase start u len step m n (core + 1) (lo +ℤ step) (hi +ℤ step) p.1)
 
-made-held : (words phase : ℕ) (family : Cores) (p : Place) (u : Usage) (e : Extent) → IsRegion words p.start p.len → extent_far (Some p) e family.count ≡ false → All (IsInMemory words) (uses_from phase family.first u p.start (from_index e) (to_index p.len e) (moved_by e) family.count)
+made-held : (words phase : ℕ) (family : Cores) (p : Span) (u : Usage) (e : Extent) → IsRegion words p.start p.len → extent_far (Some p) e family.count ≡ false → All (IsInMemory words) (uses_from phase family.first u p.start (from_index e) (to_index p.len e) (moved_by e) family.count)
 made-held words phase family p u extent.TheVariants.Whole r e = plain-held words phase p.start u family.count family.first (pos 0) p.len p.len (whole-interval p.len r.sized) r.reach
 made-held words phase family p u (extent.TheVariants.Part lo hi) r e = plain-held words phase p.start u family.count family.first lo hi p.len (not-false (is_interval lo hi p.len) e) r.reach
 made-held words phase family p u (extent.TheVariants.Stepped lo hi step) r e = stepped-held words phase p.start u p.len step r.reach family.count family.first lo hi (sym (fits-index p.len step lo hi family.count) ∙ not-false (stepped_fits p.len step lo hi family.count) e)
 
-uses-held : (words phase : ℕ) (family : Cores) (p : Place) (u : Usage) (e : Extent) → IsRegion words p.start p.len → extent_far (Some p) e family.count ≡ false → All (IsInMemory words) (uses_of phase family (Some p) (Some u) e)
+uses-held : (words phase : ℕ) (family : Cores) (p : Span) (u : Usage) (e : Extent) → IsRegion words p.start p.len → extent_far (Some p) e family.count ≡ false → All (IsInMemory words) (uses_of phase family (Some p) (Some u) e)
 uses-held words phase family p u e r f = subst (All (IsInMemory words)) (sym (uses-index phase family u p e)) (made-held words phase family p u e r f)
 
 -- each statement is in its range
@@ -302,9 +302,9 @@ module _ (text : List ℕ) (names : List ℕ → Option Meaning) (words : ℕ) (
     claim-here statement.TheVariants.Phase phase family d k c e = refl
     claim-here (statement.TheVariants.Tasks f) phase family d k c e = refl
     claim-here (statement.TheVariants.Uses u) phase family d k c e =
-        by_place (region_span (names (bytes_of text u.region))) (usage_of text names u) (place-inside words (names (bytes_of text u.region)) (inside (bytes_of text u.region))) (ap (λ (n : ℕ). extent_far (region_span (names (bytes_of text u.region))) u.extent n) c ∙ e)
+        by_place (region_span (names (bytes_of text u.region))) (usage_of text names u) (span-inside words (names (bytes_of text u.region)) (inside (bytes_of text u.region))) (ap (λ (n : ℕ). extent_far (region_span (names (bytes_of text u.region))) u.extent n) c ∙ e)
       where
-        by_place : (o : Option Place) (w : Option Usage) → IsPlaceInside words o → extent_far o u.extent family.count ≡ false → claims_for phase family o w u.extent ≡ uses_of phase family o w u.extent
+        by_place : (o : Option Span) (w : Option Usage) → IsSpanInside words o → extent_far o u.extent family.count ≡ false → claims_for phase family o w u.extent ≡ uses_of phase family o w u.extent
         by_place None w h f = refl
         by_place (Some p) None h f = refl
         by_place (Some p) (Some w) h f = uses-same words phase family p w u.extent h k f
@@ -318,9 +318,9 @@ module _ (text : List ℕ) (names : List ℕ → Option Meaning) (words : ℕ) (
     claim-held statement.TheVariants.Phase phase family d c e = All-nil (IsInMemory words)
     claim-held (statement.TheVariants.Tasks f) phase family d c e = All-nil (IsInMemory words)
     claim-held (statement.TheVariants.Uses u) phase family d c e =
-        by_place (region_span (names (bytes_of text u.region))) (usage_of text names u) (place-inside words (names (bytes_of text u.region)) (inside (bytes_of text u.region))) (ap (λ (n : ℕ). extent_far (region_span (names (bytes_of text u.region))) u.extent n) c ∙ e)
+        by_place (region_span (names (bytes_of text u.region))) (usage_of text names u) (span-inside words (names (bytes_of text u.region)) (inside (bytes_of text u.region))) (ap (λ (n : ℕ). extent_far (region_span (names (bytes_of text u.region))) u.extent n) c ∙ e)
       where
-        by_place : (o : Option Place) (w : Option Usage) → IsPlaceInside words o → extent_far o u.extent family.count ≡ false → All (IsInMemory words) (uses_of phase family o w u.extent)
+        by_place : (o : Option Span) (w : Option Usage) → IsSpanInside words o → extent_far o u.extent family.count ≡ false → All (IsInMemory words) (uses_of phase family o w u.extent)
         by_place None w h f = All-nil (IsInMemory words)
         by_place (Some p) None h f = All-nil (IsInMemory words)
         by_place (Some p) (Some w) h f = uses-held words phase family p w u.extent h f
@@ -336,9 +336,9 @@ module _ (text : List ℕ) (names : List ℕ → Option Meaning) (words : ℕ) (
     value-here (statement.TheVariants.Instruction i) d e = refl
     value-here (statement.TheVariants.Region name len) d e = refl
     value-here (statement.TheVariants.Word region index value) d e =
-        by_place (region_span (names (bytes_of text region))) (place-inside words (names (bytes_of text region)) (inside (bytes_of text region))) e
+        by_place (region_span (names (bytes_of text region))) (span-inside words (names (bytes_of text region)) (inside (bytes_of text region))) e
       where
-        by_place : (o : Option Place) → IsPlaceInside words o → word_far o index ≡ false → values_for o index value ≡ first_values o index value
+        by_place : (o : Option Span) → IsSpanInside words o → word_far o index ≡ false → values_for o index value ≡ first_values o index value
         by_place None h f = refl
         by_place (Some p) h f = word-same words p index value h f
     value-here (statement.TheVariants.Lock name) d e = refl
@@ -382,7 +382,7 @@ none-of : (o : Option SourceFault) (fs : List SourceFault) → cons_option o fs 
 none-of None fs e = (refl, e)
 none-of (Some f) fs e = absurd cc
 
-pub both-none : (a b : Option SourceFault) → first_of a b ≡ None → (a ≡ None) × (b ≡ None)
+pub both-none : (a b : Option SourceFault) → option_or a b ≡ None → (a ≡ None) × (b ≡ None)
 both-none None b e = (refl, e)
 both-none (Some f) b e = absurd cc
 

@@ -1,6 +1,7 @@
 -- The assembler's way to a program or a fault: the lines are added up one by one, with counts that stand still at the greatest
 -- number of 32 bits. The meaning of a text is defined in Source; this gives the same.
 use Rattle.std.specs.Prelude.{ℕ, ◌%◌, ◌^◌, Bool, nat_lt, List, [], ◌∷◌, ◌++◌, length, map, Option, Some, None, Result, Ok, Err, if◌then◌else◌}
+use Rattle.std.specs.Option.{option_or}
 use Rattle.region_table.specs.Program.{ProgramParts}
 use Rattle.src_text.specs.declared.line.Line.{Line}
 use Rattle.src_text.specs.Line.{lines_of}
@@ -17,7 +18,6 @@ use Rattle.rv_assembler.specs.declared.draft.Draft.{Draft}
 use Rattle.rv_assembler.specs.Number.{wrapped}
 use Rattle.rv_assembler.specs.Operand.{bytes_of}
 use Rattle.rv_assembler.specs.Reading.{version_line, reading_of}
-use Rattle.rv_assembler.specs.First.{first_of}
 use Rattle.rv_assembler.specs.Gathering.{more, no_count, count_behind, meaning_in}
 use Rattle.rv_assembler.specs.Emission.{emission, words_in}
 use Rattle.rv_assembler.specs.Named.{no_cores, region_span, usage_of}
@@ -57,7 +57,7 @@ draft_after text names d s = record (draft_with text names d s) { count = count_
 
 -- the first fault of a line of good form
 abbrev pub fault_on_line : Bool → List ℕ → (List ℕ → Option Meaning) → Draft → Saying → Option SourceFault
-fault_on_line version_2 text names d s = first_of (draft_fault text names d s) (limit_fault version_2 (draft_after text names d s.statement) s.line)
+fault_on_line version_2 text names d s = option_or (draft_fault text names d s) (limit_fault version_2 (draft_after text names d s.statement) s.line)
 
 abbrev pub unless_fault : Option SourceFault → Result Draft SourceFault → Result Draft SourceFault
 unless_fault (Some f) r = Err f

@@ -12,7 +12,7 @@ use Rattle.rv_assembler.specs.declared.draft.Start.{Start}
 use Rattle.rv_assembler.specs.declared.draft.Usage.{Usage}
 use Rattle.rv_assembler.specs.declared.draft.Claim.{Claim}
 use Rattle.rv_assembler.specs.declared.draft.Cores.{Cores}
-use Rattle.rv_assembler.specs.declared.draft.Place.{Place}
+use Rattle.rv_assembler.specs.declared.draft.Span.{Span}
 use Rattle.rv_assembler.specs.Number.{wrapped}
 use Rattle.rv_assembler.specs.Operand.{bytes_of}
 use Rattle.rv_assembler.specs.Emission.{label_address, label_index}
@@ -39,12 +39,12 @@ members t step zero = []
 members t step (suc n) = t ∷ members (next_task t step) step n
 
 -- the words of an effect on the first of the current tasks, and how much further the next one has them
-abbrev pub extent_start : Place → Extent → ℕ
+abbrev pub extent_start : Span → Extent → ℕ
 extent_start p extent.TheVariants.Whole = p.start
 extent_start p (extent.TheVariants.Part lo hi) = (p.start + wrapped lo) % 2 ^ 32
 extent_start p (extent.TheVariants.Stepped lo hi step) = (p.start + wrapped lo) % 2 ^ 32
 
-abbrev pub past_word : Place → Extent → ℕ
+abbrev pub past_word : Span → Extent → ℕ
 past_word p extent.TheVariants.Whole = (p.start + wrapped p.len) % 2 ^ 32
 past_word p (extent.TheVariants.Part lo hi) = (p.start + wrapped hi) % 2 ^ 32
 past_word p (extent.TheVariants.Stepped lo hi step) = (p.start + wrapped hi) % 2 ^ 32
@@ -61,12 +61,12 @@ abbrev pub claimed : Claim → ℕ → ℕ → List Claim
 claimed c step zero = []
 claimed c step (suc n) = c ∷ claimed (next_claim c step) step n
 
-abbrev pub claims_for : ℕ → Cores → Option Place → Option Usage → Extent → List Claim
+abbrev pub claims_for : ℕ → Cores → Option Span → Option Usage → Extent → List Claim
 claims_for phase family (Some p) (Some u) e =
     claimed (record { phase = phase; core = family.first; usage = u; lo = extent_start p e; hi = past_word p e }) (step_of e) family.count
 claims_for phase family (Some p) None e = []
 claims_for phase family None u e = []
 
-abbrev pub values_for : Option Place → ℤ → ℕ → List FirstValue
+abbrev pub values_for : Option Span → ℤ → ℕ → List FirstValue
 values_for None index value = []
 values_for (Some p) index value = record { word = (p.start + wrapped index) % 2 ^ 32; value = value } ∷ []

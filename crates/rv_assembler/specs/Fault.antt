@@ -20,7 +20,7 @@ use Rattle.rv_assembler.specs.declared.emission.Emission.{Emission}
 use Rattle.rv_assembler.specs.declared.emission.Emission.TheVariants.{OutOfRange, Unknown}
 use Rattle.rv_assembler.specs.declared.draft.Start.{Start}
 use Rattle.rv_assembler.specs.declared.draft.Draft.{Draft}
-use Rattle.rv_assembler.specs.declared.draft.Place.{Place}
+use Rattle.rv_assembler.specs.declared.draft.Span.{Span}
 use Rattle.rv_assembler.specs.Number.{natural_of, is_within, is_length, is_interval}
 use Rattle.rv_assembler.specs.Operand.{bytes_of}
 use Rattle.rv_assembler.specs.Emission.{emission, label_index}
@@ -45,13 +45,13 @@ abbrev pub stepped_fits : ℤ → ℤ → ℤ → ℤ → ℕ → Bool
 stepped_fits len step lo hi n = list_all (fits_at len step lo hi) (range_with_len 0 n)
 
 -- where the region isn't declared its words aren't tested
-abbrev pub extent_far : Option Place → Extent → ℕ → Bool
+abbrev pub extent_far : Option Span → Extent → ℕ → Bool
 extent_far None e n = false
 extent_far (Some p) extent.TheVariants.Whole n = false
 extent_far (Some p) (extent.TheVariants.Part lo hi) n = not (is_interval lo hi p.len)
 extent_far (Some p) (extent.TheVariants.Stepped lo hi step) n = not (stepped_fits p.len step lo hi n)
 
-abbrev pub word_far : Option Place → ℤ → Bool
+abbrev pub word_far : Option Span → ℤ → Bool
 word_far None i = false
 word_far (Some p) i = not (int_le (pos 0) i && int_lt i p.len)
 

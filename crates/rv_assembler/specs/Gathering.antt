@@ -1,6 +1,7 @@
 -- The assembler's way to the names of a text: line by line, with counts of what is declared so far. The counts stand still
 -- at the greatest number of 32 bits. What names mean is defined in Declarations; this gives the same.
 use Rattle.std.specs.Prelude.{ℕ, ◌+◌, ◌-◌, ◌^◌, min, List, [], ◌∷◌, Option, Some, None, if◌then◌else◌, bytes_eq}
+use Rattle.std.specs.Option.{option_or}
 use Rattle.src_text.specs.declared.token.Token.{Token}
 use Rattle.rv_assembler.specs.declared.statement.Statement.{Statement}
 use Rattle.rv_assembler.specs.declared.statement.Statement as statement
@@ -11,7 +12,6 @@ use Rattle.rv_assembler.specs.declared.names.Meaning.{Meaning}
 use Rattle.rv_assembler.specs.declared.names.Meaning as meaning
 use Rattle.rv_assembler.specs.declared.names.Count.{Count}
 use Rattle.rv_assembler.specs.Operand.{bytes_of}
-use Rattle.rv_assembler.specs.First.{first_of}
 use Rattle.rv_assembler.specs.Size.{code_word_count}
 use Rattle.rv_assembler.specs.Counts.{region_words}
 
@@ -54,9 +54,9 @@ name_means text c _ q = None
 -- what a line declares a name to mean
 abbrev pub declared_by : List ℕ → Count → Reading → List ℕ → Option Meaning
 declared_by text c (Bad f) q = None
-declared_by text c (Good s) q = first_of (label_means text c s q) (name_means text c s.statement q)
+declared_by text c (Good s) q = option_or (label_means text c s q) (name_means text c s.statement q)
 
 -- what a name means: what the first line that declares it says
 abbrev pub meaning_in : List ℕ → Count → List Reading → List ℕ → Option Meaning
 meaning_in text c [] q = None
-meaning_in text c (r ∷ rs) q = first_of (declared_by text c r q) (meaning_in text (count_after c r) rs q)
+meaning_in text c (r ∷ rs) q = option_or (declared_by text c r q) (meaning_in text (count_after c r) rs q)

@@ -1,7 +1,6 @@
 -- What a text means: Source is the whole, and the others are its parts.
 pub mod Number
 pub mod Operand
-pub mod First
 pub mod Shape
 pub mod Reading
 pub mod Size

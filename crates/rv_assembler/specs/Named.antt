@@ -9,7 +9,7 @@ use Rattle.rv_assembler.specs.declared.names.Meaning as meaning
 use Rattle.rv_assembler.specs.declared.draft.Usage.{Usage}
 use Rattle.rv_assembler.specs.declared.draft.Usage.TheVariants.{Reads, Writes, GuardedReads, GuardedWrites}
 use Rattle.rv_assembler.specs.declared.draft.Cores.{Cores}
-use Rattle.rv_assembler.specs.declared.draft.Place.{Place}
+use Rattle.rv_assembler.specs.declared.draft.Span.{Span}
 use Rattle.rv_assembler.specs.Number.{natural_of}
 use Rattle.rv_assembler.specs.Operand.{bytes_of}
 use Rattle.rv_assembler.specs.Emission.{label_address, label_index}
@@ -18,7 +18,7 @@ abbrev pub no_cores : Cores
 no_cores = record { first = 0; count = 0 }
 
 -- the region and the lock that a name means
-abbrev pub region_span : Option Meaning → Option Place
+abbrev pub region_span : Option Meaning → Option Span
 region_span (Some (meaning.TheVariants.Region number start len)) = Some (record { start = start; len = len })
 region_span _ = None
 

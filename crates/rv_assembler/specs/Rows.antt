@@ -8,11 +8,11 @@ use Rattle.rv_assembler.specs.declared.draft.Start.{Start}
 use Rattle.rv_assembler.specs.declared.draft.Usage.{Usage}
 use Rattle.rv_assembler.specs.declared.draft.Claim.{Claim}
 use Rattle.rv_assembler.specs.declared.draft.Cores.{Cores}
-use Rattle.rv_assembler.specs.declared.draft.Place.{Place}
+use Rattle.rv_assembler.specs.declared.draft.Span.{Span}
 use Rattle.rv_assembler.specs.Number.{natural_of}
 
 -- the first value of the region's word with this index
-abbrev pub first_values : Option Place → ℤ → ℕ → List FirstValue
+abbrev pub first_values : Option Span → ℤ → ℕ → List FirstValue
 first_values None index value = []
 first_values (Some p) index value = record { word = p.start + natural_of index; value = value } ∷ []
 
@@ -39,7 +39,7 @@ moved_by (extent.TheVariants.Stepped lo hi step) = step
 moved_by _ = pos 0
 
 -- the words that an effect gives task i of the family: those of the interval, moved on i times by the step
-abbrev pub use_at : ℕ → Cores → Usage → Place → Extent → ℕ → Claim
+abbrev pub use_at : ℕ → Cores → Usage → Span → Extent → ℕ → Claim
 use_at phase family u p e i =
     record {
       phase = phase;
@@ -50,7 +50,7 @@ use_at phase family u p e i =
     }
 
 -- the words that an effect gives each of the current tasks
-abbrev pub uses_of : ℕ → Cores → Option Place → Option Usage → Extent → List Claim
+abbrev pub uses_of : ℕ → Cores → Option Span → Option Usage → Extent → List Claim
 uses_of phase family (Some p) (Some u) e = map (use_at phase family u p e) (range_with_len 0 family.count)
 uses_of phase family (Some p) None e = []
 uses_of phase family None u e = []

@@ -1,5 +1,6 @@
 -- The statements of the source language: their words, and the shapes of their operands.
 use Rattle.std.specs.Prelude.{ℕ, Bool, true, false, not, ◌&&◌, ◌||◌, ◌==◌, List, [], ◌∷◌, Option, option_map, find, codes, bytes_eq, is_some, slice_index}
+use Rattle.std.specs.Option.{option_or}
 use Rattle.std.specs.List.{list_any}
 use Rattle.rv_isa.specs.declared.instr.AluOp as op
 use Rattle.rv_isa.specs.declared.instr.Cond as cond
@@ -8,7 +9,6 @@ use Rattle.src_text.specs.Register.{register_of}
 use Rattle.src_text.specs.declared.token.Token.{Token}
 use Rattle.src_text.specs.declared.token.TokenKind as token
 use Rattle.src_text.specs.declared.token.TokenKind.{TokenKind}
-use Rattle.rv_assembler.specs.First.{first_of}
 use Rattle.rv_assembler.specs.declared.kind.Piece.{Piece}
 use Rattle.rv_assembler.specs.declared.kind.Piece.TheVariants.{Register, Number, Name, Target, Comma, Left, Right}
 use Rattle.rv_assembler.specs.declared.kind.Mnemonic as mnemonic
@@ -260,5 +260,5 @@ knows_word version_2 w =
 -- the kind of the first row of the table that fits
 abbrev pub kind_for : Bool → List ℕ → List ℕ → List Token → Option Kind
 kind_for version_2 text w ts =
-    first_of (kind_in_rows version_2 text w ts memory_rows) (first_of (kind_in_rows version_2 text w ts operation_rows) (first_of (kind_in_rows version_2 text w ts short_rows)
-    (first_of (kind_in_rows version_2 text w ts directive_rows) (kind_in_rows version_2 text w ts later_rows))))
+    option_or (kind_in_rows version_2 text w ts memory_rows) (option_or (kind_in_rows version_2 text w ts operation_rows) (option_or (kind_in_rows version_2 text w ts short_rows)
+    (option_or (kind_in_rows version_2 text w ts directive_rows) (kind_in_rows version_2 text w ts later_rows))))

@@ -4,6 +4,7 @@
 -- what names mean in src/names.rt, the tables and their rows (`Draft`; `Start`, a task; `Claim`, words that a task uses; `FirstValue`;
 -- `Cores`, those of the current tasks) in src/draft.rt, and faults in src/fault.rt.
 use Rattle.std.specs.Prelude.{ℕ, Bool, nat_lt, List, [], ◌∷◌, ◌++◌, length, map, filter_map, Option, Some, None, Result, Ok, Err, if◌then◌else◌}
+use Rattle.std.specs.Option.{option_or}
 use Rattle.region_table.specs.Program.{ProgramParts}
 use Rattle.src_text.specs.Line.{lines_of}
 use Rattle.rv_assembler.specs.declared.fault.SourceFault.{SourceFault}
@@ -13,7 +14,6 @@ use Rattle.rv_assembler.specs.declared.reading.Reading.{Reading}
 use Rattle.rv_assembler.specs.declared.reading.Reading.TheVariants.{Bad, Good}
 use Rattle.rv_assembler.specs.declared.names.Meaning.{Meaning}
 use Rattle.rv_assembler.specs.Reading.{version_line, reading_of}
-use Rattle.rv_assembler.specs.First.{first_of}
 use Rattle.rv_assembler.specs.Placed.{Placed, placed}
 use Rattle.rv_assembler.specs.Declarations.{meaning_of}
 use Rattle.rv_assembler.specs.Tables.{tables}
@@ -32,7 +32,7 @@ sayings rs = filter_map good rs
 abbrev pub line_fault : Bool → List ℕ → (List ℕ → Option Meaning) → List Saying → Reading → Option SourceFault
 line_fault version_2 text names before (Bad f) = Some f
 line_fault version_2 text names before (Good s) =
-    first_of (early_fault text names before s) (limit_fault version_2 (tables text names (before ++ s ∷ [])) s.line)
+    option_or (early_fault text names before s) (limit_fault version_2 (tables text names (before ++ s ∷ [])) s.line)
 
 abbrev pub fault_at : Bool → List ℕ → (List ℕ → Option Meaning) → Placed Reading → Option SourceFault
 fault_at version_2 text names p = line_fault version_2 text names (sayings p.before) p.here

@@ -80,16 +80,16 @@ pub struct Draft {
 
 /// The region that a name means: its first word and its length.
 #[derive(Clone, Copy)]
-pub struct Place {
+pub struct Span {
     pub start: u32,
     pub len: i64,
 }
 
-pub(crate) fn region_place(meaning: Option<Meaning>) -> Option<Place>
+pub(crate) fn region_span(meaning: Option<Meaning>) -> Option<Span>
     ensures { result ≡ region_span meaning }
 {
     match meaning {
-        Some(Meaning::Region { start, len, .. }) => Some(Place { start, len }),
+        Some(Meaning::Region { start, len, .. }) => Some(Span { start, len }),
         _ => None,
     }
 }
@@ -105,10 +105,10 @@ pub(crate) fn lock_number(meaning: Option<Meaning>) -> Option<u32>
 }
 
 /// The region of a name.
-pub(crate) fn region_named<'a>(text: &'a [u8], names: &Names<'a>, name: Token) -> Option<Place>
+pub(crate) fn region_named<'a>(text: &'a [u8], names: &Names<'a>, name: Token) -> Option<Span>
     ensures { result ≡ region_span (name_lookup names.now (bytes_of text.now name)) }
 {
-    region_place(meaning_of(text, names, name))
+    region_span(meaning_of(text, names, name))
 }
 
 /// The number of the lock of a name.
@@ -153,24 +153,24 @@ fn usage_in<'a>(text: &'a [u8], names: &Names<'a>, effect: Effect) -> Option<Usa
 }
 
 /// The first word of an effect, modulo 2^32.
-fn first_word(place: Place, extent: Extent) -> u32
-    ensures { result ≡ extent_start place extent }
+fn first_word(span: Span, extent: Extent) -> u32
+    ensures { result ≡ extent_start span extent }
 {
     match extent {
-        Extent::Whole => place.start,
-        Extent::Part { lo, hi: _ } => place.start.wrapping_add(wrapped(lo)),
-        Extent::Stepped { lo, hi: _, step: _ } => place.start.wrapping_add(wrapped(lo)),
+        Extent::Whole => span.start,
+        Extent::Part { lo, hi: _ } => span.start.wrapping_add(wrapped(lo)),
+        Extent::Stepped { lo, hi: _, step: _ } => span.start.wrapping_add(wrapped(lo)),
     }
 }
 
 /// The word behind the last of an effect, modulo 2^32.
-fn past_word(place: Place, extent: Extent) -> u32
-    ensures { result ≡ past_word place extent }
+fn past_word(span: Span, extent: Extent) -> u32
+    ensures { result ≡ past_word span extent }
 {
     match extent {
-        Extent::Whole => place.start.wrapping_add(wrapped(place.len)),
-        Extent::Part { lo: _, hi } => place.start.wrapping_add(wrapped(hi)),
-        Extent::Stepped { lo: _, hi, step: _ } => place.start.wrapping_add(wrapped(hi)),
+        Extent::Whole => span.start.wrapping_add(wrapped(span.len)),
+        Extent::Part { lo: _, hi } => span.start.wrapping_add(wrapped(hi)),
+        Extent::Stepped { lo: _, hi, step: _ } => span.start.wrapping_add(wrapped(hi)),
     }
 }
 
@@ -277,13 +277,13 @@ impl Draft {
         self.locks.push(name)
     }
 
-    fn push_value(&mut self, place: Option<Place>, index: i64, value: u32) -> Result<(), Memory>
-        ensures { OnOk result (self.new ≡ record self.old { values = self.old.values ++ values_for place index value }) }
+    fn push_value(&mut self, span: Option<Span>, index: i64, value: u32) -> Result<(), Memory>
+        ensures { OnOk result (self.new ≡ record self.old { values = self.old.values ++ values_for span index value }) }
     {
-        match place {
+        match span {
             None => Ok(()),
-            Some(place) => self.values.push(FirstValue {
-                word: place.start.wrapping_add(wrapped(index)),
+            Some(span) => self.values.push(FirstValue {
+                word: span.start.wrapping_add(wrapped(index)),
                 value,
             }),
         }
@@ -309,21 +309,21 @@ impl Draft {
 
     fn push_effect(
         &mut self,
-        place: Option<Place>,
+        span: Option<Span>,
         usage: Option<Usage>,
         extent: Extent,
     ) -> Result<(), Memory>
-        ensures { OnOk result (self.new ≡ record self.old { claims = self.old.claims ++ claims_for self.old.phases self.old.family place usage extent }) }
+        ensures { OnOk result (self.new ≡ record self.old { claims = self.old.claims ++ claims_for self.old.phases self.old.family span usage extent }) }
     {
-        let (Some(place), Some(usage)) = (place, usage) else {
+        let (Some(span), Some(usage)) = (span, usage) else {
             return Ok(());
         };
         let first = Claim {
             phase: self.phases,
             core: self.family.first,
             usage,
-            lo: first_word(place, extent),
-            hi: past_word(place, extent),
+            lo: first_word(span, extent),
+            hi: past_word(span, extent),
         };
         push_claims(&mut self.claims, first, step(extent), self.family.count)
     }

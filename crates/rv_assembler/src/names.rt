@@ -1,9 +1,9 @@
 //! The names of a text: labels, regions and locks, and what each means.
 ghost use Rattle.std.specs.Prelude.{◌≡◌, ℕ, List, Option, Some, None, bytes_eq, if◌then◌else◌, OnOk, IfOk, map};
+ghost use Rattle.std.specs.Option.{option_or};
 ghost use Rattle.rv_assembler.specs.Lookup.{name_lookup};
 ghost use Rattle.rv_assembler.specs.Operand.{bytes_of};
 ghost use Rattle.rv_assembler.specs.Reading.{reading_of};
-ghost use Rattle.rv_assembler.specs.First.{first_of};
 ghost use Rattle.rv_assembler.specs.Size.{code_word_count};
 ghost use Rattle.rv_assembler.specs.Counts.{region_words};
 ghost use Rattle.rv_assembler.specs.Gathering.{no_count, count_behind, count_after, label_means, name_means, declared_by, meaning_in};
@@ -124,7 +124,7 @@ impl<'a> Names<'a> {
 
     /// Gives a name a meaning, unless it has one.
     fn declare(&mut self, name: &'a [u8], meaning: Meaning) -> Result<(), Memory>
-        ensures { OnOk result ((q : List ℕ) → name_lookup self.new q ≡ first_of (name_lookup self.old q) (if bytes_eq name.now q then Some meaning else None)) }
+        ensures { OnOk result ((q : List ℕ) → name_lookup self.new q ≡ option_or (name_lookup self.old q) (if bytes_eq name.now q then Some meaning else None)) }
     {
         if self.index.contains_key(&name) {
             return Ok(());
@@ -140,7 +140,7 @@ impl<'a> Names<'a> {
         count: &Count,
         saying: &Saying,
     ) -> Result<(), Memory>
-        ensures { OnOk result ((q : List ℕ) → name_lookup self.new q ≡ first_of (name_lookup self.old q) (label_means text.now count.now saying.now q)) }
+        ensures { OnOk result ((q : List ℕ) → name_lookup self.new q ≡ option_or (name_lookup self.old q) (label_means text.now count.now saying.now q)) }
     {
         match saying.label {
             None => Ok(()),
@@ -161,7 +161,7 @@ impl<'a> Names<'a> {
         count: &Count,
         statement: &Statement,
     ) -> Result<(), Memory>
-        ensures { OnOk result ((q : List ℕ) → name_lookup self.new q ≡ first_of (name_lookup self.old q) (name_means text.now count.now statement.now q)) }
+        ensures { OnOk result ((q : List ℕ) → name_lookup self.new q ≡ option_or (name_lookup self.old q) (name_means text.now count.now statement.now q)) }
     {
         match *statement {
             Statement::Region { name, len } => self.declare(
@@ -184,7 +184,7 @@ impl<'a> Names<'a> {
 
     /// Declares the names of a line of good form.
     fn declare_good(&mut self, text: &'a [u8], count: &Count, saying: &Saying) -> Result<(), Memory>
-        ensures { OnOk result ((q : List ℕ) → name_lookup self.new q ≡ first_of (name_lookup self.old q) (first_of (label_means text.now count.now saying.now q) (name_means text.now count.now saying.now.statement q))) }
+        ensures { OnOk result ((q : List ℕ) → name_lookup self.new q ≡ option_or (name_lookup self.old q) (option_or (label_means text.now count.now saying.now q) (name_means text.now count.now saying.now.statement q))) }
     {
         self.declare_label(text, count, saying)?;
         self.declare_name(text, count, &saying.statement)
@@ -197,7 +197,7 @@ impl<'a> Names<'a> {
         count: &Count,
         reading: &Reading,
     ) -> Result<(), Memory>
-        ensures { OnOk result ((q : List ℕ) → name_lookup self.new q ≡ first_of (name_lookup self.old q) (declared_by text.now count.now reading.now q)) }
+        ensures { OnOk result ((q : List ℕ) → name_lookup self.new q ≡ option_or (name_lookup self.old q) (declared_by text.now count.now reading.now q)) }
     {
         match reading {
             Reading::Bad(_) => Ok(()),

@@ -219,7 +219,7 @@ fn is_version(text: &[u8], line: &Line) -> bool
 }
 
 /// Whether nothing stands on the line but blanks and a comment.
-fn is_blank(line: &Line) -> bool
+fn is_blank_line(line: &Line) -> bool
     ensures { result ≡ is_blank_line line.now }
 {
     line.fault.is_none() && line.tokens.len() == 0
@@ -230,7 +230,7 @@ pub(crate) fn version_line(text: &[u8], lines: &[Line]) -> u32
     ensures { result ≡ version_line text.now lines.now }
 {
     for line in lines {
-        if !is_blank(line) {
+        if !is_blank_line(line) {
             return if is_version(text, line) {
                 line.number
             } else {

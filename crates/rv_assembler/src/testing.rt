@@ -8,7 +8,7 @@ ghost use Rattle.rv_assembler.specs.Operand.{bytes_of};
 ghost use Rattle.rv_assembler.specs.Emission.{emission, label_index};
 ghost use Rattle.rv_assembler.specs.Named.{region_span, lock_number};
 
-use crate::draft::{Draft, Place, Start, lock_named, region_named};
+use crate::draft::{Draft, Span, Start, lock_named, region_named};
 use crate::emission::{Emission, emit};
 use crate::fault::SourceFault;
 use crate::names::{Count, Meaning, Names, meaning_of};
@@ -50,31 +50,31 @@ fn stepped_fits(lo: i128, hi: i128, step: i64, len: i64, count: u32) -> bool
 }
 
 /// Whether words of a region aren't all its own, for some of `count` tasks.
-fn extent_far(place: Option<Place>, extent: Extent, count: u32) -> bool
-    ensures { result ≡ extent_far place extent count }
+fn extent_far(span: Option<Span>, extent: Extent, count: u32) -> bool
+    ensures { result ≡ extent_far span extent count }
 {
-    let Some(place) = place else {
+    let Some(span) = span else {
         return false;
     };
     match extent {
         Extent::Whole => false,
-        Extent::Part { lo, hi } => !is_interval(i128::from(lo), i128::from(hi), place.len),
+        Extent::Part { lo, hi } => !is_interval(i128::from(lo), i128::from(hi), span.len),
         Extent::Stepped { lo, hi, step } => !stepped_fits(
             i128::from(lo),
             i128::from(hi),
             step,
-            place.len,
+            span.len,
             count,
         ),
     }
 }
 
 /// Whether a word's index isn't one of the region's.
-fn word_far(place: Option<Place>, index: i64) -> bool
-    ensures { result ≡ word_far place index }
+fn word_far(span: Option<Span>, index: i64) -> bool
+    ensures { result ≡ word_far span index }
 {
-    match place {
-        Some(place) => !(0 <= index && index < place.len),
+    match span {
+        Some(span) => !(0 <= index && index < span.len),
         None => false,
     }
 }
@@ -250,7 +250,7 @@ fn is_on(phase: u32, family: Family, task: Start) -> bool
 }
 
 /// Whether one of the family's cores has a task in the phase.
-fn taken(tasks: &[Start], phase: u32, family: Family) -> bool
+fn core_in_use(tasks: &[Start], phase: u32, family: Family) -> bool
     ensures { result ≡ core_in_use tasks.now phase family }
 {
     tasks.iter().any(|task| is_on(phase, family, *task))
@@ -262,7 +262,7 @@ fn misplaced(draft: &Draft, statement: &Statement) -> bool
 {
     match *statement {
         Statement::Tasks(family) => {
-            draft.phases == 0 || taken(draft.tasks.as_slice(), draft.phases, family)
+            draft.phases == 0 || core_in_use(draft.tasks.as_slice(), draft.phases, family)
         }
         Statement::Uses(_) => draft.family.count == 0,
         _ => false,

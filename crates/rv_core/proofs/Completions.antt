@@ -17,7 +17,7 @@ use Rattle.rv_core.specs.declared.need.Need.TheVariants.{Local, Load, Store, Acq
 use Rattle.dn_base.specs.declared.ids.WordId.{WordId}
 use Rattle.dn_base.specs.declared.ids.LockId.{LockId}
 use Rattle.rv_core.specs.Access.{is_held, may_load, may_store}
-use Rattle.rv_core.specs.Place.{code_at, data_at, size_of, is_whole, replaced}
+use Rattle.rv_core.specs.Address.{code_at, data_at, size_of, is_whole, replaced}
 use Rattle.rv_core.specs.Registers.{value_in}
 use Rattle.rv_core.specs.Need.{need_of, fetch_need, word_need, instr_need, jump_need, load_need, store_need, call_need, address_of, jump_target, register_target}
 use Rattle.rv_core.specs.Step.{read_instr, instr_at, after_fetch, after_instr, after_load, after_store, after_call, with_locks, advanced, loaded_of, merged_of}

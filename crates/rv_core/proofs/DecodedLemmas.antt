@@ -12,7 +12,7 @@ use Rattle.rv_core.specs.declared.need.Need.{Need}
 use Rattle.rv_core.specs.declared.need.Need.TheVariants.{End}
 use Rattle.rv_core.specs.declared.need.Next.{Next}
 use Rattle.rv_core.specs.Need.{need_of, instr_need, word_need, fetch_need}
-use Rattle.rv_core.specs.Place.{code_at}
+use Rattle.rv_core.specs.Address.{code_at}
 use Rattle.rv_core.specs.Step.{read_instr, instr_at}
 use Rattle.rv_core.specs.Next.{IsNextOf}
 use Rattle.rv_core.specs.Decoded.{decoded_entry, found_at, IsDecoded}

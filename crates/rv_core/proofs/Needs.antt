@@ -13,7 +13,7 @@ use Rattle.rv_core.specs.declared.task.TrapKind as kind
 use Rattle.rv_core.specs.declared.need.Need.{Need}
 use Rattle.rv_core.specs.declared.need.Need.TheVariants.{Local, Load, Store, Acquire, Release, End}
 use Rattle.rv_core.specs.Access.{is_held, least_held, may_load, may_store}
-use Rattle.rv_core.specs.Place.{code_at, data_at, size_of, is_whole}
+use Rattle.rv_core.specs.Address.{code_at, data_at, size_of, is_whole}
 use Rattle.rv_core.specs.Registers.{value_in}
 use Rattle.rv_core.specs.Need.{need_of, fetch_need, word_need, instr_need, jump_need, load_need, store_need, call_need, traps, address_of, jump_target, register_target}
 use Rattle.rv_core.specs.Step.{read_instr, instr_at, after_fetch, after_instr, after_load, after_call, with_locks, advanced}

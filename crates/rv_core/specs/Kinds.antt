@@ -10,7 +10,7 @@ use Rattle.rv_core.specs.declared.need.Need.{Need}
 use Rattle.rv_core.specs.declared.need.Need.TheVariants.{Local, Load, Store, Acquire, Release, End}
 use Rattle.rv_core.specs.Access.{is_held, may_load, may_store}
 use Rattle.rv_core.specs.Need.{address_of}
-use Rattle.rv_core.specs.Place.{size_of}
+use Rattle.rv_core.specs.Address.{size_of}
 use Rattle.rv_core.specs.Step.{advanced}
 
 abbrev pub IsLoad : Need → Type 0

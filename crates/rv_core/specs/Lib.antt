@@ -1,6 +1,6 @@
 pub mod Task
 pub mod Access
-pub mod Place
+pub mod Address
 pub mod Registers
 pub mod Need
 pub mod Step

@@ -15,7 +15,7 @@ use Rattle.rv_core.specs.declared.task.TrapKind.{TrapKind}
 use Rattle.rv_core.specs.declared.need.Need.{Need}
 use Rattle.rv_core.specs.declared.need.Need.TheVariants.{Local, Load, Store, Acquire, Release, End}
 use Rattle.rv_core.specs.Access.{is_held, least_held, may_load, may_store}
-use Rattle.rv_core.specs.Place.{code_at, data_at, size_of, is_whole}
+use Rattle.rv_core.specs.Address.{code_at, data_at, size_of, is_whole}
 use Rattle.rv_core.specs.Registers.{value_in}
 
 -- the task ends by a trap at its instruction

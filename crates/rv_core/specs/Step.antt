@@ -8,7 +8,7 @@ use Rattle.rv_isa.specs.declared.instr.Instr.{Instr}
 use Rattle.rv_isa.specs.declared.instr.Instr.TheVariants.{Lui, Auipc, Jal, Jalr, Branch, Load, Store, OpImm, Op, Fence, Ecall, Ebreak}
 use Rattle.rv_core.specs.declared.task.TaskState.{TaskState}
 use Rattle.rv_core.specs.Need.{address_of, jump_target, register_target}
-use Rattle.rv_core.specs.Place.{code_at, extended, replaced}
+use Rattle.rv_core.specs.Address.{code_at, extended, replaced}
 use Rattle.rv_core.specs.Registers.{value_in, with_value}
 
 -- the instruction at a task's program counter, if there is one

@@ -5,8 +5,8 @@ ghost use Rattle.rv_core.specs.Need.{instr_need};
 ghost use Rattle.rv_core.specs.Next.{IsNextOf};
 ghost use Rattle.rv_core.specs.Step.{instr_at};
 
+use crate::address::CODE;
 use crate::need::{Need, Next, instruction};
-use crate::place::CODE;
 use crate::task::TaskState;
 use dn_base::Memory;
 use region_table::{Program, TaskDecl};

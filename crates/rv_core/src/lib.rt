@@ -6,11 +6,11 @@
 #![tactic(auto)]
 
 mod access;
+mod address;
 mod decoded;
 mod ending;
 mod laws;
 mod need;
-mod place;
 mod registers;
 mod step;
 mod task;

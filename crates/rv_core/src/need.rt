@@ -3,10 +3,10 @@ ghost use Rattle.region_table.specs.Program.{AreEffects};
 ghost use Rattle.rv_core.specs.Need.{need_of, traps, when_aligned, address_of, jump_target, register_target, jump_need, load_need, store_need, call_need, instr_need, word_need};
 ghost use Rattle.rv_core.specs.Kinds.{Allowed, EndsByFuel};
 ghost use Rattle.rv_core.specs.Next.{IsNextOf};
-ghost use Rattle.rv_core.specs.Place.{data_at, is_whole};
+ghost use Rattle.rv_core.specs.Address.{data_at, is_whole};
 
 use crate::access::{is_held, is_readable, is_writable, least_lock};
-use crate::place::{code_word, data_word, size};
+use crate::address::{code_word, data_word, size};
 use crate::registers::read;
 use crate::task::{A0, End, TaskState, TrapKind};
 use dn_base::{LockId, WordId};
@@ -20,7 +20,7 @@ pub enum Need {
     Local,
     /// The value of a data word.
     Load { word: WordId },
-    /// Leave to write a data word; `whole` where the store gives all four bytes.
+    /// The right to write a data word; `whole` where the store gives all four bytes.
     Store { word: WordId, whole: bool },
     /// A lock that the task doesn't hold.
     Acquire { lock: LockId },

@@ -7,8 +7,8 @@ ghost use Rattle.rv_core.specs.Step.{instr_at, next_pc, with_result, jumped_to, 
 ghost use Rattle.rv_core.specs.Kinds.{IsLoad, IsStore, IsAdvance, IsAligned, KeepsOthers};
 ghost use Rattle.rv_core.specs.Next.{IsNextOf};
 
+use crate::address::{code_word, part, replace};
 use crate::need::{A7, Next, address, register_jump, target};
-use crate::place::{code_word, part, replace};
 use crate::registers::{read, write};
 use crate::task::{A0, TaskState};
 use region_table::{Program, TaskDecl};

@@ -73,7 +73,7 @@ pub fn is_same(a: &Ending, b: &Ending) -> bool {
 }
 
 /// The load, where it is of the task of this core in this phase.
-fn load_of(load: &TaskLoad, phase: PhaseId, core: CoreId) -> Option<LoadSeen>
+fn load_of_task(load: &TaskLoad, phase: PhaseId, core: CoreId) -> Option<LoadSeen>
     ensures { result ≡ load_of_task phase core load.now }
 {
     if load.phase == phase && load.core == core {
@@ -92,7 +92,7 @@ fn loads_of(
 ) -> Result<Vec<LoadSeen>, Memory> {
     let mut loads = Vec::new(alloc);
     for load in all {
-        if let Some(seen) = load_of(load, phase, core) {
+        if let Some(seen) = load_of_task(load, phase, core) {
             loads.push(seen)?;
         }
     }

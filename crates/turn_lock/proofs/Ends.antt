@@ -15,7 +15,7 @@ use Rattle.turn_lock.specs.Passes.{Token, IsTold}
 use Rattle.turn_lock.specs.Slots.{Lies}
 use Rattle.turn_lock.specs.Standing.{claim, resting, gathered, weight}
 use Rattle.turn_lock.specs.Turns.{HasSeen, Kept}
-use Rattle.turn_lock.specs.Dealing.{Gathers, IsTrueOf}
+use Rattle.turn_lock.specs.Dealing.{Gathers, IsTrueClaim}
 use Rattle.atomic_table.proofs.Lists.{at_longer, at_last}
 use Rattle.turn_lock.proofs.Lists.{at_same, any_at, at_snoc_place}
 use Rattle.turn_lock.proofs.Keeps.{settles}
@@ -25,8 +25,8 @@ module _ {O I U C : Type 0} (content : O → C) (answer : C → I → U) (next :
   pub record Ended (v : View O (Entry O I U)) (slot : Option (Desk O I U)) : Type 0 where
     pub log : List (Entry O I U)
     pub good : Lies content answer next x log slot
-    pub own : IsTrueOf log v.own
-    pub joined : All (IsTrueOf log) v.joined
+    pub own : IsTrueClaim log v.own
+    pub joined : All (IsTrueClaim log) v.joined
     pub longest : HasSeen log v
     pub named : All (λ e. e.pass < passes) log
 
@@ -44,8 +44,8 @@ module _ {O I U C : Type 0} (content : O → C) (answer : C → I → U) (next :
   -- the same of the desk that was taken out
   pub record Handed (v : View O (Entry O I U)) (desk : Desk O I U) : Type 0 where
     pub legal : Legal answer next (content x) desk.history.items (content desk.object)
-    pub own : IsTrueOf desk.history.items v.own
-    pub joined : All (IsTrueOf desk.history.items) v.joined
+    pub own : IsTrueClaim desk.history.items v.own
+    pub joined : All (IsTrueClaim desk.history.items) v.joined
     pub longest : HasSeen desk.history.items v
     pub named : All (λ e. e.pass < passes) desk.history.items
 
@@ -54,8 +54,8 @@ module _ {O I U C : Type 0} (content : O → C) (answer : C → I → U) (next :
       let good = subst (Lies content answer next x e.log) is e.good in
       let here = sym good.0 in record {
         legal = subst (λ l. Legal answer next (content x) l (content desk.object)) here good.1;
-        own = subst (λ l. IsTrueOf l v.own) here e.own;
-        joined = subst (λ l. All (IsTrueOf l) v.joined) here e.joined;
+        own = subst (λ l. IsTrueClaim l v.own) here e.own;
+        joined = subst (λ l. All (IsTrueClaim l) v.joined) here e.joined;
         longest = subst (λ l. HasSeen l v) here e.longest;
         named = subst (All (λ d. d.pass < passes)) here e.named;
       }
@@ -91,6 +91,6 @@ module _ {S O I U : Type 0} where
         (at_snoc_place (me.0.own ∷ me.0.joined) (claim p.number p.seen p.made) seen.1 seen.0 seen.2);
     others = λ history place q at. had.others history place q (subst (λ l. get_elem? l place ≡ some q) (sym split) (at_longer rest (p ∷ []) place q at));
     told = λ history own joined others.
-        let all = All-pop (IsTrueOf history) (me.0.joined ++ claim p.number p.seen p.made ∷ []) me.0.joined (Some (claim p.number p.seen p.made)) refl joined in
+        let all = All-pop (IsTrueClaim history) (me.0.joined ++ claim p.number p.seen p.made ∷ []) me.0.joined (Some (claim p.number p.seen p.made)) refl joined in
         had.told history own all.0 (All-same (IsTold history) left (rest ++ p ∷ []) split (All-push (IsTold history) rest p others all.1));
   })

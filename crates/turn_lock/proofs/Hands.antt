@@ -10,7 +10,7 @@ use Rattle.turn_lock.specs.declared.view.Stage.{Stage}
 use Rattle.turn_lock.specs.declared.view.Stage.TheVariants.{Inside}
 use Rattle.turn_lock.specs.declared.view.View.{View}
 use Rattle.turn_lock.specs.History.{Legal, maker}
-use Rattle.turn_lock.specs.Slots.{Lies, history_of}
+use Rattle.turn_lock.specs.Slots.{Lies, history_in_slot}
 use Rattle.turn_lock.specs.Standing.{standing}
 use Rattle.turn_lock.specs.Turns.{Kept}
 use Rattle.turn_lock.specs.Steps.{HasTurn, left, passed}
@@ -39,9 +39,9 @@ module _ {O I U C : Type 0} (content : O → C) (answer : C → I → U) (next :
       leave maker (Lies content answer next) x passes slots id me.0.own me.0.next hand.ticket hand.log (Some desk) me' (step 0 0 0 0 none) (holding x [] desk me me' hand is) (whole, subst (λ l. Legal answer next (content x) l (content desk.object)) whole hand.legal)
 
   pub pass_on_desk : (x : O) (passes slots id : ℕ) (more : List (Entry O I U)) (desk : Desk O I U) (me me' : Me (Option (Desk O I U)) (View O (Entry O I U))) → InHand content answer next x me more desk → me' ≡ (me.0, (0, Some desk) ∷ [])
-      → Allows (Kept maker (Lies content answer next) x passes) slots id me' 1 (λ k. (k + 1) % 2 ^ 64) (passed maker history_of (step 0 0 0 0 none) me')
+      → Allows (Kept maker (Lies content answer next) x passes) slots id me' 1 (λ k. (k + 1) % 2 ^ 64) (passed maker history_in_slot (step 0 0 0 0 none) me')
   pass_on_desk x passes slots id more desk me me' hand is =
-      pass_on maker (Lies content answer next) x passes slots history_of id me.0.own me.0.next hand.ticket hand.log more (Some desk) me' (step 0 0 0 0 none) (holding x more desk me me' hand is) hand.longer (refl, hand.legal) hand.theirs
+      pass_on maker (Lies content answer next) x passes slots history_in_slot id me.0.own me.0.next hand.ticket hand.log more (Some desk) me' (step 0 0 0 0 none) (holding x more desk me me' hand is) hand.longer (refl, hand.legal) hand.theirs
 
   pub at_opening : (x y : O) (more : List (Entry O I U)) (desk : Desk O I U) (me : Me (Option (Desk O I U)) (View O (Entry O I U))) → y ≡ x → InHand content answer next x me more desk → InHand content answer next y me more desk
   at_opening x y more desk me same hand = subst (λ o. InHand content answer next o me more desk) (sym same) hand

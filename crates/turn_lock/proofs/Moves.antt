@@ -15,7 +15,7 @@ use Rattle.turn_lock.specs.History.{BeginsWith}
 use Rattle.turn_lock.specs.Standing.{claim, standing, dealer, dealt, newcomer, gathered, spent}
 use Rattle.turn_lock.specs.Turns.{Turns, Kept}
 use Rattle.turn_lock.specs.Steps.{drew, looked, left, passed}
-use Rattle.turn_lock.specs.Calling.{IsIdle, IsWaiting}
+use Rattle.turn_lock.specs.Calling.{IsIdle, WaitsForTurn}
 use Rattle.turn_lock.proofs.Keeps.{draws, enters, leaves, splits, joins, begins}
 
 module _ {S X E : Type 0} (by : E → ℕ) (Good : X → List E → S → Type 0) (x : X) (passes slots : ℕ) where
@@ -71,7 +71,7 @@ module _ {S X E : Type 0} (by : E → ℕ) (Good : X → List E → S → Type 0
         ((λ is. absurd (other is)), (λ ne. refl)),
       ))
 
-  pub look : (id : ℕ) (t : ℕ) (me : Me S (View X E)) (st : Step S) → IsWaiting x t me → Allows (Kept by Good x passes) slots id me 1 (λ k. k) (looked by Good st me)
+  pub look : (id : ℕ) (t : ℕ) (me : Me S (View X E)) (st : Step S) → WaitsForTurn x t me → Allows (Kept by Good x passes) slots id me 1 (λ k. k) (looked by Good st me)
   look id t me st waiting =
       subst (λ m. Allows (Kept by Good x passes) slots id m 1 (λ k. k) (looked by Good st m)) (sym waiting) (look_standing id me.0.own me.0.next t st)
 

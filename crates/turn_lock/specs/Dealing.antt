@@ -18,8 +18,8 @@ Deals x next spare me = me ≡ (dealer x next spare, [])
 
 module _ {O I U : Type 0} where
   -- a claim is true of this history
-  abbrev pub IsTrueOf : List (Entry O I U) → Claim (Entry O I U) → Type 0
-  IsTrueOf history c = BeginsWith history c.seen × (calls_by c.number history ≡ c.mine)
+  abbrev pub IsTrueClaim : List (Entry O I U) → Claim (Entry O I U) → Type 0
+  IsTrueClaim history c = BeginsWith history c.seen × (calls_by c.number history ≡ c.mine)
 
 -- The seat has taken in all but `left` of `passes`: what its claims and the passes that are left have seen, some pass has seen, and where its claims are true of a history, that history is told by all passes once it is by those that are left
 pub record Gathers {S O I U : Type 0} (passes left : List (Token O I U)) (me : Me S (View O (Entry O I U))) : Type 0 where
@@ -29,4 +29,4 @@ pub record Gathers {S O I U : Type 0} (passes left : List (Token O I U)) (me : M
   pub count : 1 + length me.0.joined + length left ≡ length passes
   pub claims : (history : List (Entry O I U)) → HasSeen history me.0 → Any (λ p. p.seen ≡ history) passes
   pub others : (history : List (Entry O I U)) (place : ℕ) (p : Token O I U) → get_elem? left place ≡ some p → p.seen ≡ history → Any (λ p. p.seen ≡ history) passes
-  pub told : (history : List (Entry O I U)) → IsTrueOf history me.0.own → All (IsTrueOf history) me.0.joined → All (IsTold history) left → All (IsTold history) passes
+  pub told : (history : List (Entry O I U)) → IsTrueClaim history me.0.own → All (IsTrueClaim history) me.0.joined → All (IsTold history) left → All (IsTold history) passes

@@ -28,13 +28,13 @@ module _ {O I U : Type 0} where
   IsSamePass old new = (new.table ≡ old.table) × (new.opening ≡ old.opening) × (new.number ≡ old.number)
 
   -- a pass of this turn, with this number, that has seen nothing and made no call
-  abbrev pub IsFresh : Sharing O → ℕ → Token O I U → Type 0
-  IsFresh turn number pass = IsPassOf turn pass × (pass.number ≡ number) × (pass.seen ≡ []) × (pass.made ≡ [])
+  abbrev pub IsUnusedPass : Sharing O → ℕ → Token O I U → Type 0
+  IsUnusedPass turn number pass = IsPassOf turn pass × (pass.number ≡ number) × (pass.seen ≡ []) × (pass.made ≡ [])
 
   -- the passes are fresh, with rising numbers from this one on
-  abbrev pub AreFresh : Sharing O → ℕ → List (Token O I U) → Type 0
-  AreFresh turn number [] = Unit {0}
-  AreFresh turn number (p ∷ ps) = IsFresh turn number p × AreFresh turn (number + 1) ps
+  abbrev pub AreUnusedPasses : Sharing O → ℕ → List (Token O I U) → Type 0
+  AreUnusedPasses turn number [] = Unit {0}
+  AreUnusedPasses turn number (p ∷ ps) = IsUnusedPass turn number p × AreUnusedPasses turn (number + 1) ps
 
   -- as many passes of this turn as it has, in any order
   abbrev pub AreAllPasses : Sharing O → List (Token O I U) → Type 0

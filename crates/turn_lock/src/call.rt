@@ -6,7 +6,7 @@ ghost use Rattle.turn_lock.specs.Passes.{IsPassOf, IsSamePass};
 ghost use Rattle.turn_lock.specs.Slots.{Lies};
 ghost use Rattle.turn_lock.specs.Standing.{standing, claim};
 ghost use Rattle.turn_lock.specs.Steps.{HasTurn};
-ghost use Rattle.turn_lock.specs.Calling.{IsIdle, IsWaiting, IsSameSeat, InHand};
+ghost use Rattle.turn_lock.specs.Calling.{IsIdle, WaitsForTurn, IsSameSeat, InHand};
 
 use crate::desk::Desk;
 use crate::object::Object;
@@ -97,7 +97,7 @@ impl<O: Object> Turn<O> {
 
     // Looks at the serving word. Where it is the ticket, the turn has come, and the slot is with the seat.
     fn look(&self, seat: &mut Chair<O>, ticket: u64) -> u64
-        requires { (seat.old.table_id ≡ self.now.table) × IsWaiting self.now.opening ticket seat.old.me }
+        requires { (seat.old.table_id ≡ self.now.table) × WaitsForTurn self.now.opening ticket seat.old.me }
         ensures same { IsSameSeat seat.old seat.new }
         ensures turn { result ≡ ticket → HasTurn maker (Lies O.content O.answer O.next) seat.old.me.0 ticket seat.new.me }
         ensures wait { result ≢ ticket → seat.new.me ≡ seat.old.me }

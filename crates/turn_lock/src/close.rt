@@ -3,7 +3,7 @@ ghost use Rattle.turn_lock.specs.declared.view.Stage.TheVariants.{Idle};
 ghost use Rattle.turn_lock.specs.Standing.{weight};
 ghost use Rattle.turn_lock.specs.History.{Legal};
 ghost use Rattle.turn_lock.specs.Turns.{HasSeen};
-ghost use Rattle.turn_lock.specs.Dealing.{Gathers, IsTrueOf};
+ghost use Rattle.turn_lock.specs.Dealing.{Gathers, IsTrueClaim};
 ghost use Rattle.turn_lock.specs.Passes.{AreAllPasses, IsTold};
 
 use crate::desk::Desk;
@@ -62,7 +62,7 @@ impl<O: Object> Turn<O> {
     fn end(self, seat: Chair<O>) -> Desk<O>
         requires { (seat.table_id ≡ self.table) × (seat.me.0.stage ≡ Idle) × (weight seat.me.0 ≡ self.passes) }
         ensures legal { Legal O.answer O.next (O.content self.opening) result.history.items (O.content result.object) }
-        ensures told { IsTrueOf result.history.items seat.me.0.own × All (IsTrueOf result.history.items) seat.me.0.joined }
+        ensures told { IsTrueClaim result.history.items seat.me.0.own × All (IsTrueClaim result.history.items) seat.me.0.joined }
         ensures longest { HasSeen result.history.items seat.me.0 }
         ensures named { All (λ e. e.pass < self.passes) result.history.items }
     {

@@ -4,7 +4,7 @@ ghost use Rattle.turn_lock.specs.History.{maker};
 ghost use Rattle.turn_lock.specs.Standing.{dealer, dealt, newcomer, gathered, spent};
 ghost use Rattle.turn_lock.specs.Turns.{Kept};
 ghost use Rattle.turn_lock.specs.Steps.{drew, looked, left, passed};
-ghost use Rattle.turn_lock.specs.Slots.{Lies, history_of};
+ghost use Rattle.turn_lock.specs.Slots.{Lies, history_in_slot};
 
 use crate::desk::Desk;
 use crate::entry::Entry;
@@ -71,7 +71,7 @@ impl<S, X, E> Play<S, View<X, E>> for Leave {
 pub struct PassOn;
 
 impl<O: Object> Play<Option<Desk<O>>, View<O, Entry<O>>> for PassOn {
-    ghost then = { passed maker history_of };
+    ghost then = { passed maker history_in_slot };
 }
 
 /// A pass was dealt out.

@@ -1,7 +1,7 @@
 ghost use Rattle.std.specs.Prelude.{◌≡◌, ◌+◌, ◌-◌, ◌<◌, ◌≤◌, length, IfOk, OnOk};
 ghost use Rattle.turn_lock.specs.Calling.{IsSameSeat};
 ghost use Rattle.turn_lock.specs.Dealing.{Deals};
-ghost use Rattle.turn_lock.specs.Passes.{AreFresh, IsFresh};
+ghost use Rattle.turn_lock.specs.Passes.{AreUnusedPasses, IsUnusedPass};
 
 use crate::desk::Desk;
 use crate::object::Object;
@@ -33,7 +33,7 @@ impl<O: Object> Turn<O> {
         requires few { passes ≤ 17 }
         ensures opening { IfOk result (λ r. r.0.opening ≡ object) }
         ensures passes { IfOk result (λ r. (r.0.passes ≡ passes) × (length r.1.items ≡ passes)) }
-        ensures fresh { IfOk result (λ r. AreFresh r.0 0 r.1.items) }
+        ensures fresh { IfOk result (λ r. AreUnusedPasses r.0 0 r.1.items) }
     {
         let history = Vec::with_capacity(alloc, FIRST_CALLS)?;
         let plan = Plan {
@@ -64,7 +64,7 @@ impl<O: Object> Turn<O> {
         requires left { 0 < seat.old.me.0.spare }
         ensures seat { IsSameSeat seat.old seat.new }
         ensures dealer { Deals self.now.opening (number + 1) (seat.old.me.0.spare - 1) seat.new.me }
-        ensures fresh { IsFresh self.now number result }
+        ensures fresh { IsUnusedPass self.now number result }
     {
         let other = self.table.shared.split_seat::<Deal>(seat);
         TurnPass {
@@ -86,7 +86,7 @@ impl<O: Object> Turn<O> {
         requires dealer { Deals self.now.opening 1 (passes - 1) seat.old.me }
         ensures seat { IsSameSeat seat.old seat.new }
         ensures dealer { OnOk result (Deals self.now.opening passes 0 seat.new.me) }
-        ensures fresh { IfOk result (λ all. AreFresh self.now 1 all.items × (1 + length all.items ≡ passes)) }
+        ensures fresh { IfOk result (λ all. AreUnusedPasses self.now 1 all.items × (1 + length all.items ≡ passes)) }
     {
         let mut all = Vec::with_capacity(alloc, passes as usize)?;
         for number in 1..passes {

@@ -51,7 +51,7 @@ pub struct Place {
 }
 
 /// Whether the place has the word's pair.
-pub(crate) fn holds(place: &Place, word: WordId) -> bool
+pub(crate) fn has_word(place: &Place, word: WordId) -> bool
     ensures { result ≡ has_word word.0 place.now }
 {
     match place.pair {
@@ -79,7 +79,7 @@ pub(crate) fn place_of(row: &[Place], sets: u32, ways: u32, word: WordId) -> Opt
 {
     let start = start_of(sets, ways, word);
     for index in start..start + ways as usize {
-        if holds(&row[index], word) {
+        if has_word(&row[index], word) {
             return Some(index);
         }
     }

@@ -14,15 +14,15 @@ use Rattle.host_workers.proofs.round.put_together.Goals as goal
 pub merge-requires : goal.merge-requires
 merge-requires c =
     let left = c.requires.3 in
-    logs-may-merge c.requires.0 c.requires.1 c.args.frame.made c.requires.2 c.args.finished left _ left.finished.logs
+    logs-may-merge c.requires.0 c.requires.1 c.args.fixed.made c.requires.2 c.args.finished left _ left.finished.logs
 
 pub ends_in-requires : goal.ends_in-requires
 ends_in-requires c =
     let left = c.requires.3 in
     let merged = c.in_ok-merged.merged.items in
     let merge = subst (λ ls. IsMerge ls merged) left.finished.logs c.in_ok-merged.ensures in
-    let told = (run c.requires.0 c.requires.1 c.args.frame.made c.requires.2 c.args.finished left merged merge).told in
-    let are = ends-told c.requires.0 c.requires.1 c.args.frame.made c.requires.2 c.args.finished left merged merge in (
+    let told = (run c.requires.0 c.requires.1 c.args.fixed.made c.requires.2 c.args.finished left merged merge).told in
+    let are = ends-told c.requires.0 c.requires.1 c.args.fixed.made c.requires.2 c.args.finished left merged merge in (
       told,
       subst (λ m. AreEndsOf m (map (λ e. e.items) c.as_slice-2.result.now) told) (sym c.as_slice.ensures.value)
           (subst (λ es. AreEndsOf merged es told) (sym (ap (map (λ e. e.items)) c.as_slice-2.ensures.value ∙ left.finished.ends)) are),
@@ -32,31 +32,31 @@ pub pool-requires-clause-distinct : goal.pool-requires-clause-distinct
 pool-requires-clause-distinct c =
     let left = c.requires.3 in
     let merge = subst (λ ls. IsMerge ls c.in_ok-merged.merged.items) left.finished.logs c.in_ok-merged.ensures in
-    (kept-then c.requires.0 c.requires.1 c.args.frame.made c.requires.2 c.args.finished left c.in_ok-merged.merged.items merge).sound.machine.distinct
+    (kept-then c.requires.0 c.requires.1 c.args.fixed.made c.requires.2 c.args.finished left c.in_ok-merged.merged.items merge).sound.machine.distinct
 
 pub pool-requires-clause-few : goal.pool-requires-clause-few
 pool-requires-clause-few c =
     let left = c.requires.3 in
     let merge = subst (λ ls. IsMerge ls c.in_ok-merged.merged.items) left.finished.logs c.in_ok-merged.ensures in
     subst (λ n. n < 4294967295) (long-map mail_in (all_posted (inboxes_of c.args.finished.objects.inboxes)))
-    (room-then c.requires.0 c.requires.1 c.args.frame.made c.requires.2 c.args.finished left c.in_ok-merged.merged.items merge)
+    (room-then c.requires.0 c.requires.1 c.args.fixed.made c.requires.2 c.args.finished left c.in_ok-merged.merged.items merge)
 
 pub overflow_add-parts : goal.overflow_add-parts
 overflow_add-parts c =
     let left = c.requires.3 in
     let merge = subst (λ ls. IsMerge ls c.in_ok-merged.merged.items) left.finished.logs c.in_ok-merged.ensures in
-    let few = few-events c.requires.0 c.requires.1 c.args.frame.made c.requires.2 c.args.finished left c.in_ok-merged.merged.items merge in
+    let few = few-events c.requires.0 c.requires.1 c.args.fixed.made c.requires.2 c.args.finished left c.in_ok-merged.merged.items merge in
     omega (arith, left.far, few, c.len.ensures, c.in_ok-merged.merged.ok.0)
 
 pub join-requires : goal.join-requires
 join-requires c =
     let left = c.requires.3 in
     let merge = subst (λ ls. IsMerge ls c.in_ok-merged.merged.items) left.finished.logs c.in_ok-merged.ensures in
-    let kept = kept-then c.requires.0 c.requires.1 c.args.frame.made c.requires.2 c.args.finished left c.in_ok-merged.merged.items merge in
+    let kept = kept-then c.requires.0 c.requires.1 c.args.fixed.made c.requires.2 c.args.finished left c.in_ok-merged.merged.items merge in
     let count : length c.in_ok-merged.merged.items ≡ c.len.result = omega (arith, c.len.ensures, c.in_ok-merged.merged.ok.0) in
     let numbers = c.in_ok-extend_from_slice.ensures.items ∙ ap (λ l. c.args.finished.parted.next.items ++ l) c.as_slice-3.ensures.value in
     let is = state-joined c.args.finished c.requires.1.setting _ c.in_ok-pool.field-0.mails c.extend_from_slice.new.self.items c.requires.4 c.in_ok-pool.ensures numbers in
-    subst (λ (U : State). IsKept U (c.args.frame.made + c.len.result)) is (subst (λ n. IsKept (left_in c.requires.1.setting c.args.finished) (c.args.frame.made + n)) count kept)
+    subst (λ (U : State). IsKept U (c.args.fixed.made + c.len.result)) is (subst (λ n. IsKept (left_in c.requires.1.setting c.args.finished) (c.args.fixed.made + n)) count kept)
 
 pub returns : goal.returns
 returns c = λ S M workers left frame.
@@ -64,9 +64,9 @@ returns c = λ S M workers left frame.
     let count : length c.in_ok-merged.merged.items ≡ c.len.result = omega (arith, c.len.ensures, c.in_ok-merged.merged.ok.0) in
     let numbers = c.in_ok-extend_from_slice.ensures.items ∙ ap (λ l. c.args.finished.parted.next.items ++ l) c.as_slice-3.ensures.value in
     let is = state-joined c.args.finished M.setting _ c.in_ok-pool.field-0.mails c.extend_from_slice.new.self.items frame c.in_ok-pool.ensures numbers in
-    made-round S M c.args.frame.made workers c.args.finished left c.in_ok-merged.merged c.in_ok-ends.ends c.join.result merge
+    made-round S M c.args.fixed.made workers c.args.finished left c.in_ok-merged.merged c.in_ok-ends.ends c.join.result merge
     (ap (λ (m : Made). m.state) c.join.ensures ∙ sym is)
-    (ap (λ (m : Made). m.made) c.join.ensures ∙ ap (λ n. c.args.frame.made + n) (sym count))
+    (ap (λ (m : Made). m.made) c.join.ensures ∙ ap (λ n. c.args.fixed.made + n) (sym count))
     (λ told are. c.in_ok-ends.ensures told
     (subst (λ m. AreEndsOf m (map (λ e. e.items) c.as_slice-2.result.now) told) (sym c.as_slice.ensures.value)
     (subst (λ es. AreEndsOf c.in_ok-merged.merged.items es told) (sym (ap (map (λ e. e.items)) c.as_slice-2.ensures.value ∙ left.finished.ends)) are)))

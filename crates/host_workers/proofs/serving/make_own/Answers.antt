@@ -4,9 +4,9 @@ use Rattle.host_workers.specs.Crews.{held_of}
 use Rattle.host_workers.proofs.Turning.{own-spent, own-still, own-some}
 use Rattle.host_workers.proofs.serving.make_own.Goals as goal
 
-pub returns-then-not-goes_on-clause-made : goal.returns-then-not-goes_on-clause-made
-returns-then-not-goes_on-clause-made g c =
-    own-spent (setting c.args.context.now) c.args.owned.now.core c.args.pass.now (held_of c.args.owned.now) (sym c.goes_on.ensures ∙ c.if-not-goes_on.true)
+pub returns-then-not-has_numbers_left-clause-made : goal.returns-then-not-has_numbers_left-clause-made
+returns-then-not-has_numbers_left-clause-made g c =
+    own-spent (setting c.args.context.now) c.args.owned.now.core c.args.pass.now (held_of c.args.owned.now) (sym c.has_numbers_left.ensures ∙ c.if-not-has_numbers_left.true)
 
 pub returns-in_default-clause-made : goal.returns-in_default-clause-made
 returns-in_default-clause-made g c =
@@ -15,4 +15,4 @@ returns-in_default-clause-made g c =
 pub returns-clause-made : goal.returns-clause-made
 returns-clause-made g c =
     own-some (setting c.args.context.now) c.args.owned.now.core c.args.pass.now c.emit.new.pass (held_of c.args.owned.now) (held_of c.make.new.self) c.in-Some.event c.in_ok-sent.sent
-    (sym c.goes_on.ensures ∙ c.if-not-goes_on.false) (sym c.own.ensures.event ∙ c.in-Some.is) c.in_ok-sent.ensures.moved c.in_ok-sent.ensures.sent c.in_ok-emit.ensures.made
+    (sym c.has_numbers_left.ensures ∙ c.if-not-has_numbers_left.false) (sym c.own.ensures.event ∙ c.in-Some.is) c.in_ok-sent.ensures.moved c.in_ok-sent.ensures.sent c.in_ok-emit.ensures.made

@@ -7,9 +7,9 @@ use Rattle.host_workers.specs.Work.{HasTaken, HasMadeOwn}
 use Rattle.host_workers.proofs.Turning.{serves, stays}
 use Rattle.host_workers.proofs.serving.serve_core.Goals as goal
 
-pub returns-then-not-goes_on-clause-served : goal.returns-then-not-goes_on-clause-served
-returns-then-not-goes_on-clause-served g c =
-    stays (setting c.args.context.now) c.args.owned.now c.args.pass.now c.requires.owned.fits (sym c.goes_on.ensures ∙ c.if-not-goes_on.true)
+pub returns-then-not-has_numbers_left-clause-served : goal.returns-then-not-has_numbers_left-clause-served
+returns-then-not-has_numbers_left-clause-served g c =
+    stays (setting c.args.context.now) c.args.owned.now c.args.pass.now c.requires.owned.fits (sym c.has_numbers_left.ensures ∙ c.if-not-has_numbers_left.true)
 
 pub returns-clause-served : goal.returns-clause-served
 returns-clause-served g c =
@@ -19,4 +19,4 @@ returns-clause-served g c =
     (subst (λ (h : Held). HasTaken (setting c.args.context.now) c.reserve.new.self.core c.draw-pick.result c.args.pass.now c.take_mail.new.pass h (held_of c.take_mail.new.owned) c.in_ok-handled.handled) c.reserve.ensures.held c.in_ok-handled.ensures.taken) in
     let own = subst (λ (core : CoreId). HasMadeOwn (setting c.args.context.now) core c.take_mail.new.pass c.make_own.new.pass (held_of c.take_mail.new.owned) (held_of c.make_own.new.owned) c.in_ok-own.own) same-too c.in_ok-own.ensures.made in
     serves (setting c.args.context.now) c.args.owned.now c.make_own.new.owned c.draw-pick.result c.args.pass.now c.take_mail.new.pass c.make_own.new.pass (held_of c.take_mail.new.owned) c.in_ok-handled.handled c.in_ok-own.own
-    (c.make_own.ensures.core ∙ same-too) c.in_ok-own.ensures.fits (sym c.goes_on.ensures ∙ c.if-not-goes_on.false) taken c.in_ok-handled.ensures.pass.1 own
+    (c.make_own.ensures.core ∙ same-too) c.in_ok-own.ensures.fits (sym c.has_numbers_left.ensures ∙ c.if-not-has_numbers_left.false) taken c.in_ok-handled.ensures.pass.1 own

@@ -3,7 +3,7 @@ use Rattle.std.proofs.lemmas.List.{length-set, get_or-set_other, take_all}
 use Rattle.registration_protocol.specs.Setting.{setting}
 use Rattle.host_workers.specs.declared.owned.Owned.{Owned}
 use Rattle.host_workers.specs.Crews.{IsOwned}
-use Rattle.host_workers.specs.Work.{IsCoreServed, HasDone, HaveDone}
+use Rattle.host_workers.specs.Work.{IsCoreServed, HasDoneActs, HaveDone}
 use Rattle.host_workers.proofs.Served.{done-none, done-next}
 use Rattle.host_workers.proofs.serving.serve_cores.Goals as goal
 
@@ -44,7 +44,7 @@ loop-place-preserved g c =
     let few = had.few in
     let now = c.serve_core.new.owned in
     let was : get_or c.args.cores.now.items c.loop-place.place x ≡ x = sym (had.later c.loop-place.place x (omega arith)) ∙ sym c.index_mut.ensures.value in
-    let one = subst (λ (o : Owned). HasDone (IsCoreServed C) C c.loop-place.pass c.serve_core.new.pass o now c.in_ok-events.events) (sym was) c.in_ok-events.ensures.served in
+    let one = subst (λ (o : Owned). HasDoneActs (IsCoreServed C) C c.loop-place.pass c.serve_core.new.pass o now c.in_ok-events.events) (sym was) c.in_ok-events.ensures.served in
     record {
       pass = (c.in_ok-events.ensures.pass.0, c.in_ok-events.ensures.pass.1 ∙ had.pass.1);
       long = length-set c.loop-place.cores.items c.loop-place.place now ∙ had.long;

@@ -2,7 +2,7 @@ use Rattle.std.proofs.Common.{◌≡◌, ◌<◌, take, get_or, sym, refl, ◌�
 use Rattle.std.proofs.lemmas.List.{length-set, get_or-set_other, take_all}
 use Rattle.registration_protocol.specs.Setting.{setting}
 use Rattle.host_workers.specs.declared.crew.BankLog.{BankLog}
-use Rattle.host_workers.specs.Work.{IsStepped, HasDone, HaveDone}
+use Rattle.host_workers.specs.Work.{IsStepped, HasDoneActs, HaveDone}
 use Rattle.host_workers.proofs.Served.{done-none, done-next}
 use Rattle.host_workers.proofs.stepping.step_banks.Goals as goal
 
@@ -43,7 +43,7 @@ loop-place-preserved g c =
     let few = had.few in
     let now = c.step_bank.new.owned in
     let was : get_or c.args.banks.now.items c.loop-place.place x ≡ x = sym (had.later c.loop-place.place x (omega arith)) ∙ sym c.index_mut.ensures.value in
-    let one = subst (λ (o : BankLog). HasDone (IsStepped C) C c.loop-place.pass c.step_bank.new.pass o now c.in_ok-events.events) (sym was) c.in_ok-events.ensures.stepped in
+    let one = subst (λ (o : BankLog). HasDoneActs (IsStepped C) C c.loop-place.pass c.step_bank.new.pass o now c.in_ok-events.events) (sym was) c.in_ok-events.ensures.stepped in
     record {
       pass = (c.in_ok-events.ensures.pass.0, c.in_ok-events.ensures.pass.1 ∙ had.pass.1);
       long = length-set c.loop-place.banks.items c.loop-place.place now ∙ had.long;

@@ -7,8 +7,8 @@ returns-clause-weight c = weight-permuted
 pub returns-clause-posted : goal.returns-clause-posted
 returns-clause-posted c = posted-permuted
 
-pub returns-clause-taken : goal.returns-clause-taken
-returns-clause-taken c = taken-permuted
+pub returns-clause-removed : goal.returns-clause-removed
+returns-clause-removed c = taken-permuted
 
 pub returns-clause-rest : goal.returns-clause-rest
 returns-clause-rest c = rest-permuted

@@ -1,8 +1,8 @@
 use Rattle.registration_protocol.proofs.FitLemmas.{opened-fits, instr-fits, evict-fits, arrive-fits, gets-fits}
 use Rattle.registration_protocol.proofs.laws.a_node_stays_fit.Goals as goal
 
-pub returns-clause-opened : goal.returns-clause-opened
-returns-clause-opened c = opened-fits
+pub returns-clause-initial : goal.returns-clause-initial
+returns-clause-initial c = opened-fits
 
 pub returns-clause-instr : goal.returns-clause-instr
 returns-clause-instr c = instr-fits

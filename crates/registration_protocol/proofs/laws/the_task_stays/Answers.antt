@@ -1,5 +1,5 @@
 use Rattle.registration_protocol.proofs.MessageLemmas.{ack-kept, forward-kept, back-kept}
-use Rattle.registration_protocol.proofs.PlaceLemmas.{evict-keeps}
+use Rattle.registration_protocol.proofs.PhaseLemmas.{evict-keeps}
 use Rattle.registration_protocol.proofs.laws.the_task_stays.Goals as goal
 
 pub returns-clause-ack : goal.returns-clause-ack

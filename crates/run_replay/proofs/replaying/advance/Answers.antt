@@ -7,8 +7,8 @@ use Rattle.run_replay.proofs.replaying.advance.Goals as goal
 pub returns-clause-came : goal.returns-clause-came
 returns-clause-came c =
     record {
-      next = c.in_ok-told.ensures.state;
-      told = c.in_ok-told.ensures.told;
+      next = c.in_ok-observed.ensures.state;
+      observed = c.in_ok-observed.ensures.observed;
       end =
           c.task_end-end.ensures
           ∙ ap (λ (o : Option CoreId). end_there c.step.new.self.state o) (sym (core-in c.args.machine.now.state c.args.event c.actor-actor.result c.actor-actor.ensures));

@@ -12,13 +12,13 @@ pub loop-event-init : goal.loop-event-init
 loop-event-init c =
     record {
       way =
-          starts c.args.machine.state.setting c.args.events.now c.args.machine.state c.args.machine.made c.in_ok-log.log c.requires.opened c.requires.made c.in_ok-log.ensures;
+          starts c.args.machine.state.setting c.args.events.now c.args.machine.state c.args.machine.made c.in_ok-log.log c.requires.initial c.requires.made c.in_ok-log.ensures;
       number = refl;
     }
 
 pub note-requires : goal.note-requires
 note-requires c =
-    few-noted c.args.machine.state.setting c.args.events.now c.loop-event.event-index c.loop-event.machine.state c.loop-event.machine.made c.loop-event.log c.in_ok-happened.happened.told.kind c.requires.few
+    few-noted c.args.machine.state.setting c.args.events.now c.loop-event.event-index c.loop-event.machine.state c.loop-event.machine.made c.loop-event.log c.in_ok-happened.happened.observed.kind c.requires.few
     (omega (arith, c.loop-event-test.true)) c.loop-event.invariant.way
 
 pub loop-event-preserved : goal.loop-event-preserved

@@ -19,7 +19,7 @@ actor-actor-requires c =
     let n = c.loop-event.event-index in
     let e : Event = get_or E n (Instr (record { 0 = 0 })) in
     let ready : IsReady C = ready-of c.args.machine.state c.args.machine.made c.a_machine_is_kept.ensures in
-    let run : IsRun (initial_state C) E = subst (λ (S : State). IsRun S E) c.requires.opened c.requires.run in
+    let run : IsRun (initial_state C) E = subst (λ (S : State). IsRun S E) c.requires.initial c.requires.run in
     let here : slice_get E n ≡ Some e = slice_get-get_or E n (Instr (record { 0 = 0 })) c.loop-event-test.true in
     let now = at-event c.args.ticks.now C E n c.loop-event.machine.state c.loop-event.machine.made c.loop-event.tracks.last c.loop-event.tracks.senders.items c.loop-event.rows e ready run c.loop-event.invariant.timed here in
     now.may
@@ -31,9 +31,9 @@ before-before-requires c =
     let n = c.loop-event.event-index in
     let e : Event = get_or E n (Instr (record { 0 = 0 })) in
     let ready : IsReady C = ready-of c.args.machine.state c.args.machine.made c.a_machine_is_kept.ensures in
-    let run : IsRun (initial_state C) E = subst (λ (S : State). IsRun S E) c.requires.opened c.requires.run in
+    let run : IsRun (initial_state C) E = subst (λ (S : State). IsRun S E) c.requires.initial c.requires.run in
     let here : slice_get E n ≡ Some e = slice_get-get_or E n (Instr (record { 0 = 0 })) c.loop-event-test.true in
-    let can = can-note c.args.ticks.now C c.args.shape E n c.loop-event.machine.state c.loop-event.machine.made c.loop-event.tracks.last c.loop-event.tracks.senders.items c.loop-event.rows e c.actor-actor.result c.place-place.result c.requires.shape ready run c.requires.few c.loop-event.invariant.timed c.loop-event-test.true here c.actor-actor.ensures c.place-place.ensures in
+    let can = can-note c.args.ticks.now C c.args.shape E n c.loop-event.machine.state c.loop-event.machine.made c.loop-event.tracks.last c.loop-event.tracks.senders.items c.loop-event.rows e c.actor-actor.result c.index-index.result c.requires.shape ready run c.requires.few c.loop-event.invariant.timed c.loop-event-test.true here c.actor-actor.ensures c.index-index.ensures in
     record { place = can.last_within; own = can.own; sender = can.sender }
 
 pub make-requires : goal.make-requires
@@ -43,7 +43,7 @@ make-requires c =
     let n = c.loop-event.event-index in
     let e : Event = get_or E n (Instr (record { 0 = 0 })) in
     let ready : IsReady C = ready-of c.args.machine.state c.args.machine.made c.a_machine_is_kept.ensures in
-    let run : IsRun (initial_state C) E = subst (λ (S : State). IsRun S E) c.requires.opened c.requires.run in
+    let run : IsRun (initial_state C) E = subst (λ (S : State). IsRun S E) c.requires.initial c.requires.run in
     let here : slice_get E n ≡ Some e = slice_get-get_or E n (Instr (record { 0 = 0 })) c.loop-event-test.true in
     let now = at-event c.args.ticks.now C E n c.loop-event.machine.state c.loop-event.machine.made c.loop-event.tracks.last c.loop-event.tracks.senders.items c.loop-event.rows e ready run c.loop-event.invariant.timed here in
     record {
@@ -61,9 +61,9 @@ note-requires c =
     let n = c.loop-event.event-index in
     let e : Event = get_or E n (Instr (record { 0 = 0 })) in
     let ready : IsReady C = ready-of c.args.machine.state c.args.machine.made c.a_machine_is_kept.ensures in
-    let run : IsRun (initial_state C) E = subst (λ (S : State). IsRun S E) c.requires.opened c.requires.run in
+    let run : IsRun (initial_state C) E = subst (λ (S : State). IsRun S E) c.requires.initial c.requires.run in
     let here : slice_get E n ≡ Some e = slice_get-get_or E n (Instr (record { 0 = 0 })) c.loop-event-test.true in
-    let can = can-note c.args.ticks.now C c.args.shape E n c.loop-event.machine.state c.loop-event.machine.made c.loop-event.tracks.last c.loop-event.tracks.senders.items c.loop-event.rows e c.actor-actor.result c.place-place.result c.requires.shape ready run c.requires.few c.loop-event.invariant.timed c.loop-event-test.true here c.actor-actor.ensures c.place-place.ensures in
+    let can = can-note c.args.ticks.now C c.args.shape E n c.loop-event.machine.state c.loop-event.machine.made c.loop-event.tracks.last c.loop-event.tracks.senders.items c.loop-event.rows e c.actor-actor.result c.index-index.result c.requires.shape ready run c.requires.few c.loop-event.invariant.timed c.loop-event-test.true here c.actor-actor.ensures c.index-index.ensures in
     record { last = can.last_within; senders = can.senders_within }
 
 pub note_row-requires : goal.note_row-requires
@@ -73,12 +73,12 @@ note_row-requires c =
     let n = c.loop-event.event-index in
     let e : Event = get_or E n (Instr (record { 0 = 0 })) in
     let ready : IsReady C = ready-of c.args.machine.state c.args.machine.made c.a_machine_is_kept.ensures in
-    let run : IsRun (initial_state C) E = subst (λ (S : State). IsRun S E) c.requires.opened c.requires.run in
+    let run : IsRun (initial_state C) E = subst (λ (S : State). IsRun S E) c.requires.initial c.requires.run in
     let here : slice_get E n ≡ Some e = slice_get-get_or E n (Instr (record { 0 = 0 })) c.loop-event-test.true in
-    let can = can-note c.args.ticks.now C c.args.shape E n c.loop-event.machine.state c.loop-event.machine.made c.loop-event.tracks.last c.loop-event.tracks.senders.items c.loop-event.rows e c.actor-actor.result c.place-place.result c.requires.shape ready run c.requires.few c.loop-event.invariant.timed c.loop-event-test.true here c.actor-actor.ensures c.place-place.ensures in
+    let can = can-note c.args.ticks.now C c.args.shape E n c.loop-event.machine.state c.loop-event.machine.made c.loop-event.tracks.last c.loop-event.tracks.senders.items c.loop-event.rows e c.actor-actor.result c.index-index.result c.requires.shape ready run c.requires.few c.loop-event.invariant.timed c.loop-event-test.true here c.actor-actor.ensures c.index-index.ensures in
     record {
       before =
-          before-within (finish_in c.loop-event.rows) (last_at c.loop-event.tracks.last c.place-place.result) (sender_in c.args.shape.cores c.args.shape.banks c.loop-event.tracks.senders.items e) c.before-before.result
+          before-within (finish_in c.loop-event.rows) (last_at c.loop-event.tracks.last c.index-index.result) (sender_in c.args.shape.cores c.args.shape.banks c.loop-event.tracks.senders.items e) c.before-before.result
           (length c.loop-event.rows.finishes) c.before-before.ensures can.own can.sender;
       few = omega (arith, c.loop-event.invariant.timed.noted.finishes, c.loop-event-test.true, c.requires.few);
       small = can.small;
@@ -95,7 +95,7 @@ loop-event-init c =
     record {
       timed =
           run-none c.args.ticks.now c.args.machine.state.setting c.args.shape c.args.events.now c.args.machine.state c.args.machine.made c.in_ok-tracks.tracks.last c.in_ok-tracks.tracks.senders.items c.in_ok-rows.rows
-          c.requires.shape c.requires.opened c.requires.made last senders c.in_ok-rows.ensures;
+          c.requires.shape c.requires.initial c.requires.made last senders c.in_ok-rows.ensures;
       number = refl;
     }
 
@@ -106,13 +106,13 @@ loop-event-preserved c =
     let n = c.loop-event.event-index in
     let e : Event = get_or E n (Instr (record { 0 = 0 })) in
     let ready : IsReady C = ready-of c.args.machine.state c.args.machine.made c.a_machine_is_kept.ensures in
-    let run : IsRun (initial_state C) E = subst (λ (S : State). IsRun S E) c.requires.opened c.requires.run in
+    let run : IsRun (initial_state C) E = subst (λ (S : State). IsRun S E) c.requires.initial c.requires.run in
     let here : slice_get E n ≡ Some e = slice_get-get_or E n (Instr (record { 0 = 0 })) c.loop-event-test.true in
     record {
       timed =
           run-more c.args.ticks.now C c.args.shape E n c.loop-event.machine.state c.make.new.machine.state c.loop-event.machine.made c.make.new.machine.made c.loop-event.tracks.last c.note.new.self.last
-          c.loop-event.tracks.senders.items c.note.new.self.senders.items c.loop-event.rows c.note_row.new.rows e c.actor-actor.result c.place-place.result c.in_ok-happened.happened.sent c.loop-event.number
-          c.before-before.result c.in_ok-happened.happened.kind c.requires.shape ready run c.loop-event.invariant.timed here c.actor-actor.ensures c.requires.ticks c.place-place.ensures c.loop-event.invariant.number
+          c.loop-event.tracks.senders.items c.note.new.self.senders.items c.loop-event.rows c.note_row.new.rows e c.actor-actor.result c.index-index.result c.in_ok-happened.happened.sent c.loop-event.number
+          c.before-before.result c.in_ok-happened.happened.kind c.requires.shape ready run c.loop-event.invariant.timed here c.actor-actor.ensures c.requires.ticks c.index-index.ensures c.loop-event.invariant.number
           c.before-before.ensures c.in_ok-happened.ensures.kind c.in_ok-happened.ensures.sent c.in_ok-happened.ensures.state c.in_ok-happened.ensures.made c.in_ok-note.ensures.last c.in_ok-note.ensures.senders
           c.in_ok-note_row.ensures;
       number = omega (arith, c.loop-event.invariant.number);
@@ -122,4 +122,4 @@ pub returns : goal.returns
 returns c =
     let all : c.loop-event.event-index ≡ length c.args.events.now = omega (arith, c.loop-event-test.false, c.loop-event.auto.event-index-end) in
     run-end c.args.ticks.now c.args.machine.state.setting c.args.events.now c.loop-event.event-index c.args.machine.state c.loop-event.machine.state c.loop-event.machine.made c.loop-event.tracks.last
-    c.loop-event.tracks.senders.items c.loop-event.rows c.requires.opened all c.loop-event.invariant.timed
+    c.loop-event.tracks.senders.items c.loop-event.rows c.requires.initial all c.loop-event.invariant.timed

@@ -44,5 +44,5 @@ returns-clause-known c =
     let does = c.evict_at-sent.ensures there.0 there.1 in
     known-after (setting c.args.context.now) c.args.self.now.nodes.items c.args.self.now.own c.args.core.0 _ _ _ _ c.requires.known (slice_get_within _ _ there.0 there.1) does.0 (ap (λ (S : State). S.nodes) c.core_sends.ensures.state) c.core_sends.ensures.own
 
-pub returns-clause-told : goal.returns-clause-told
-returns-clause-told c = c.silent.ensures ∙ sym (evict-told (state_of (setting c.args.context.now) c.args.self.now) c.args.core c.args.word)
+pub returns-clause-observed : goal.returns-clause-observed
+returns-clause-observed c = c.silent.ensures ∙ sym (evict-told (state_of (setting c.args.context.now) c.args.self.now) c.args.core c.args.word)

@@ -2,4 +2,4 @@ use Rattle.message_net.specs.declared.actor.Actor.TheVariants.{Keeper as TheKeep
 use Rattle.dn_machine.proofs.content.Content.keeper_gets.Goals as goal
 
 pub send_letters-requires-clause-new : goal.send_letters-requires-clause-new
-send_letters-requires-clause-new c = λ number least. c.requires.whole.sends.fresh TheKeeper number (rw c.place-place.ensures at least)
+send_letters-requires-clause-new c = λ number least. c.requires.whole.sends.fresh TheKeeper number (rw c.index-index.ensures at least)

@@ -6,7 +6,7 @@ use Rattle.dn_machine.specs.declared.log.Happened.{Happened}
 use Rattle.dn_machine.specs.declared.picking.Choice.{Choice}
 use Rattle.dn_machine.specs.Content.{state_of}
 use Rattle.dn_machine.specs.Log.{HasCome}
-use Rattle.dn_machine.specs.Pick.{pick, chosen, handling_of}
+use Rattle.dn_machine.specs.Pick.{pick, chosen, handling_event}
 use Rattle.dn_machine.proofs.ListItems.{item}
 use Rattle.dn_machine.proofs.Making.{known-core, pick-chosen}
 use Rattle.dn_machine.proofs.PickLaws.{pick-comes}
@@ -41,7 +41,7 @@ returns-in-Some-Mail-clause-some c h is =
     let picks = pick-chosen S c.args.self.now.own c.args.draw c.choose.result c.choose.ensures.picked c.requires.known in
     let there = item S.mails c.in-Some-Mail.place (c.choose.ensures.mail c.in-Some-Mail.place chose) in
     let event : pick S c.args.draw ≡ Some c.make_handling.result.event =
-    sym picks ∙ ap (chosen S.mails) chose ∙ ap handling_of there.1 ∙ ap (λ (e : Event). Some e) (sym (c.make_handling.ensures.event there.0 there.1)) in
+    sym picks ∙ ap (chosen S.mails) chose ∙ ap handling_event there.1 ∙ ap (λ (e : Event). Some e) (sym (c.make_handling.ensures.event there.0 there.1)) in
     subst (λ (x : Happened). (pick S c.args.draw ≡ Some x.event) × HasCome S T x) (same_Some c.make_handling.result h is) (event, c.make_handling.ensures.came)
 
 pub returns-in-None-clause-none : goal.returns-in-None-clause-none

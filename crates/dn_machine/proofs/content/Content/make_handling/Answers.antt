@@ -21,6 +21,6 @@ returns-clause-came c =
     let took = taken-there c.args.self.now.pool.mails c.args.place m rest c.requires.distinct c.take_at-mail.ensures.value c.take_at-mail.ensures.rest in
     record {
       next = c.deliver-granted.ensures.state ∙ handle-next S m.id m rest took.0 took.1;
-      told = rw (handle-told S m.id m rest took.0, c.deliver-granted.ensures.granted, c.kind.ensures) refl;
+      observed = rw (handle-told S m.id m rest took.0, c.deliver-granted.ensures.granted, c.kind.ensures) refl;
       end = c.end_there-end.ensures (setting c.args.context.now) ∙ ap (λ (o : Option CoreId). end_there T o) (c.core_of.ensures ∙ sym (handled-core S m took.0));
     }

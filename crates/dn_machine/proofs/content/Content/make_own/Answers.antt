@@ -9,10 +9,10 @@ use Rattle.dn_machine.proofs.content.Content.make_own.Goals as goal
 pub returns-clause-came : goal.returns-clause-came
 returns-clause-came c =
     let S = state_of (setting c.args.context.now) c.args.self.now in
-    let T = state_of (setting c.args.context.now) c.act-told.new.self in
+    let T = state_of (setting c.args.context.now) c.act-observed.new.self in
     let core = c.own_core.ensures ∙ sym (own-core-in S c.args.event c.requires.own.0 c.requires.own.1) in
     record {
-      next = c.act-told.ensures.state;
-      told = c.act-told.ensures.told;
+      next = c.act-observed.ensures.state;
+      observed = c.act-observed.ensures.observed;
       end = c.end_there-end.ensures (setting c.args.context.now) ∙ ap (λ (o : Option CoreId). end_there T o) core;
     }

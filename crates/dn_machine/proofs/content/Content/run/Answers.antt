@@ -26,7 +26,7 @@ note-requires c =
     let S = state_of C c.events.self in
     let way = c.events.invariant.way in
     let few = way-few C c.args.seed c.events.words S c.events.log (ready-of S (length c.events.log.events) way.kept.sound) way in
-    let kind = c.in-Some.happened.told.kind in
+    let kind = c.in-Some.happened.observed.kind in
     omega (arith, few, count-within (initial_state C) c.events.log.events c.events.log.counts kind way.logged.counted, ap (λ (es : List Event). length es) way.logged.events)
 
 pub events-smaller : goal.events-smaller
@@ -41,7 +41,7 @@ events-smaller c =
 pub events-init : goal.events-init
 events-init c =
     let C = setting c.args.context.now in
-    record { way = rw (c.generator-words.ensures, c.requires.empty) (begins C c.args.seed (state_of C c.args.self.now) c.requires.opened c.requires.kept); known = c.requires.known }
+    record { way = rw (c.generator-words.ensures, c.requires.empty) (begins C c.args.seed (state_of C c.args.self.now) c.requires.initial c.requires.kept); known = c.requires.known }
 
 pub events-preserved : goal.events-preserved
 events-preserved c =

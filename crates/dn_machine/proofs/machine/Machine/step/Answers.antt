@@ -49,8 +49,8 @@ returns-clause-state c =
     let is : state_of P c.act-stepped.new.self ≡ next (state_of P c.self.inside.content) c.args.event = rw (c.context_of-context.ensures, c.reserve.ensures.state P) at c.act-stepped.ensures.state in
     rw (← c.self.view_is) is
 
-pub returns-clause-told : goal.returns-clause-told
-returns-clause-told c =
+pub returns-clause-observed : goal.returns-clause-observed
+returns-clause-observed c =
     let P : Setting = record { program = c.self.inside.checked; plans = c.self.inside.plans.items; shape = c.self.inside.shape; fuel = c.self.inside.fuel } in
-    let is : c.act-stepped.result ≡ observed (state_of P c.self.inside.content) c.args.event = rw (c.context_of-context.ensures, c.reserve.ensures.state P) at c.act-stepped.ensures.told in
+    let is : c.act-stepped.result ≡ observed (state_of P c.self.inside.content) c.args.event = rw (c.context_of-context.ensures, c.reserve.ensures.state P) at c.act-stepped.ensures.observed in
     rw (← c.self.view_is) is

@@ -8,9 +8,9 @@ use Rattle.registry_bank.proofs.bank.Bank.release.Goals as goal
 row : (c : goal.After-self-1) → releases c.args.self.now c.args.lock c.args.core c.args.signature (bank_lock c.args.self.now c.args.lock.0) ≡ (record c.args.self.now { locks = c.release_at.new.locks }, c.release_at.result)
 row c =
     rw (← c.self.view_is)
-    (let found = rw (← c.self.view_is) at c.in_ok-place.ensures in
+    (let found = rw (← c.self.view_is) at c.in_ok-index.ensures in
     let does = rw c.as_mut_slice.ensures.value at c.release_at.ensures in
-    release_found (record { bank = c.self.inside.bank.0; banks = c.self.inside.banks; cores = c.self.inside.cores; words = c.self.inside.words.items; locks = c.self.inside.locks.items }) c.args.lock c.args.core c.args.signature c.in_ok-place.place c.release_at.new.locks c.release_at.result found does)
+    release_found (record { bank = c.self.inside.bank.0; banks = c.self.inside.banks; cores = c.self.inside.cores; words = c.self.inside.words.items; locks = c.self.inside.locks.items }) c.args.lock c.args.core c.args.signature c.in_ok-index.index c.release_at.new.locks c.release_at.result found does)
 
 pub returns-clause-bank : goal.returns-clause-bank
 returns-clause-bank c =

@@ -8,5 +8,5 @@ invariant-loop-event l =
       made : l.drawing.machine.made ≡ l.event-index;
       event : l.drawing.event ≡ l.event-index;
       line : l.drawing.line ≤ 65536 * length l.drawing.rows;
-      so_far : draw l.range l.marks l.drawing (drop l.event-index l.events) ≡ draw l.range l.marks l.fn.self l.events;
+      so_far : draw l.range l.chain l.drawing (drop l.event-index l.events) ≡ draw l.range l.chain l.fn.self l.events;
     }

@@ -1,7 +1,7 @@
 use Rattle.registration_protocol.specs.Setting.{setting}
 use Rattle.dn_machine.specs.Content.{state_of}
 use Rattle.dn_machine.proofs.RunLemmas.{ready-of, run-of}
-use Rattle.dn_machine.proofs.running.run_opened.Goals as goal
+use Rattle.dn_machine.proofs.running.run_from_start.Goals as goal
 
 pub returns : goal.returns
 returns c =

@@ -1,5 +1,5 @@
 use Rattle.registry_bank.proofs.KeptLemmas.{place-kept}
-use Rattle.registry_bank.proofs.laws.a_bank_keeps_its_place.Goals as goal
+use Rattle.registry_bank.proofs.laws.a_bank_keeps_its_shape.Goals as goal
 
 pub returns-clause-number : goal.returns-clause-number
 returns-clause-number c b m = (place-kept b m).bank

@@ -1,5 +1,5 @@
 ghost use Rattle.std.specs.Prelude.{◌≡◌, ◌+◌, ◌<◌, ◌≤◌, length};
-ghost use Rattle.rv_core.specs.Place.{code_at, data_at, size_of, byte_at, half_at, extended, replaced};
+ghost use Rattle.rv_core.specs.Address.{code_at, data_at, size_of, byte_at, half_at, extended, replaced};
 
 use rv_isa::Width;
 

@@ -2,7 +2,7 @@ use Rattle.std.proofs.lemmas.List.FromFn.{length-map-range_with_len}
 use Rattle.registration_protocol.specs.Node.{initial_node}
 use Rattle.registration_protocol.specs.Setting.{setting}
 use Rattle.dn_machine.proofs.Opened.{opened-from, opened-nodes-fit}
-use Rattle.dn_machine.proofs.starting.opened_content.Goals as goal
+use Rattle.dn_machine.proofs.starting.initial_content.Goals as goal
 
 pub own_events-own-requires-clause-most : goal.own_events-own-requires-clause-most
 own_events-own-requires-clause-most c =

@@ -8,7 +8,7 @@ use Rattle.rv_core.specs.Task.{stopped}
 use Rattle.write_signature.specs.Signature.{joined}
 use Rattle.message_net.specs.Mail.{to_core, to_home, to_keeper}
 use Rattle.word_cache.specs.Cache.{touched}
-use Rattle.phase_barrier.specs.Barrier.{Barrier, with_arrival, in_next_phase as next_phase}
+use Rattle.phase_barrier.specs.Barrier.{Barrier, with_arrival, in_next_phase}
 use Rattle.registration_protocol.specs.OwnEvents.{retires, with_put, stored, task_ended_badly}
 use Rattle.machine_rules.proofs.WordEvents.{Flown}
 use Rattle.region_table.specs.declared.declared.TaskDecl.{TaskDecl}
@@ -35,7 +35,7 @@ use Rattle.machine_rules.specs.Next.{next}
 use Rattle.machine_rules.proofs.Bits.{pending_bit}
 use Rattle.machine_rules.proofs.Invariant.{Invariant, ReadsGood}
 use Rattle.machine_rules.proofs.Steps.{NodeStep}
-use Rattle.machine_rules.proofs.Leaves.{Leaves, IsActing, BarrierStep, at_core, at_bank, at_keeper}
+use Rattle.machine_rules.proofs.Outcomes.{Outcomes, IsActing, BarrierStep, at_core, at_bank, at_keeper}
 use Rattle.machine_rules.proofs.NodeEntries.{changed-now, phase-pending, grant-pending}
 use Rattle.machine_rules.proofs.ReadMails.{IsNoRead, no-read, no-read-none, same-reads, same-posted, no_read_in}
 use Rattle.machine_rules.proofs.ReadEvents.{waits-well, waits_free, well-same, acting-free, ready-bit, quiet-nodes}
@@ -74,8 +74,8 @@ posted S T k core bad sent g step quiet =
     quiet-nodes S T step.setting step.nodes (λ v. rw (step.setting, step.banks) refl)
     (same-posted S T S.setting.shape.cores (at_keeper (Arrived core bad)) sent step.flown (no-read Keeper (Arrived core bad) refl) quiet) g
 
-pub reads-leaves : (S : State) (M : ℕ → ℕ) (e : Event) → Invariant S M → Leaves S M e (λ M'. ReadsGood (next S e))
-reads-leaves S M e inv =
+pub reads-outcomes : (S : State) (M : ℕ → ℕ) (e : Event) → Invariant S M → Outcomes S M e (λ M'. ReadsGood (next S e))
+reads-outcomes S M e inv =
     let T = next S e in
     let g = inv.reads in
     record {
@@ -172,6 +172,6 @@ reads-leaves S M e inv =
           homed S T (at_bank bank (Release lock core s)) (to_core waiter (Grant lock (joined h.kept s))) g step.setting step.nodes step.homes step.flown
           (no-read (Bank bank) (Release lock core s) refl) (no-read (Core waiter) (Grant lock (joined h.kept s)) refl);
       arrived = λ core bad was rest told step. posted S T (with_arrival core.0 bad S.keeper) core bad None g step refl;
-      all_go = λ core bad was all over told step. posted S T (next_phase (with_arrival core.0 bad S.keeper)) core bad (Some (Go (record { 0 = S.keeper.phase + 1 }))) g step refl;
+      all_go = λ core bad was all over told step. posted S T (in_next_phase (with_arrival core.0 bad S.keeper)) core bad (Some (Go (record { 0 = S.keeper.phase + 1 }))) g step refl;
       all_halt = λ core bad was all over told step. posted S T (with_arrival core.0 bad S.keeper) core bad (Some Halt) g step refl;
     }

@@ -14,8 +14,8 @@ use Rattle.machine_rules.specs.Flight.{is_halt_to}
 use Rattle.machine_rules.specs.Next.{next}
 use Rattle.machine_rules.proofs.Invariant.{Invariant}
 use Rattle.machine_rules.proofs.Steps.{NodeStep}
-use Rattle.machine_rules.proofs.Leaves.{Leaves, WordStep, LockStep, BarrierStep, at_core}
-use Rattle.machine_rules.proofs.PlainLeaves.{plain-leaves}
+use Rattle.machine_rules.proofs.Outcomes.{Outcomes, WordStep, LockStep, BarrierStep, at_core}
+use Rattle.machine_rules.proofs.PlainOutcomes.{plain-outcomes}
 use Rattle.machine_rules.proofs.WordCore.{same-number}
 
 -- the keeper's set is whole, or there are no phases
@@ -50,8 +50,8 @@ told-out S T M core n m step inv =
     let came = rw (same-number core.0) at (step.flown (is_halt_to core.0)) in
     inl (inv.phases.halting core.0 (omega (arith, came)))
 
-pub ended-leaves : (S : State) (M : ℕ → ℕ) (e : Event) → Invariant S M → Leaves S M e (λ M'. HaveEnded (next S e))
-ended-leaves S M e inv = plain-leaves S M e (HaveEnded T) (record { node = λ core n m left sent step phase mark. same core n m left sent step mark; go = λ core n phase right later step. same core.0 n _ _ _ step refl; halt = halt; home = home; lock = lock_home; barrier = barrier }) where
+pub ended-outcomes : (S : State) (M : ℕ → ℕ) (e : Event) → Invariant S M → Outcomes S M e (λ M'. HaveEnded (next S e))
+ended-outcomes S M e inv = plain-outcomes S M e (HaveEnded T) (record { node = λ core n m left sent step phase mark. same core n m left sent step mark; go = λ core n phase right later step. same core.0 n _ _ _ step refl; halt = halt; home = home; lock = lock_home; barrier = barrier }) where
   T : State
   T = next S e
 

@@ -15,8 +15,8 @@ use Rattle.machine_rules.specs.State.{State}
 use Rattle.machine_rules.specs.Next.{next}
 use Rattle.machine_rules.proofs.Invariant.{Invariant}
 use Rattle.machine_rules.proofs.Steps.{NodeStep}
-use Rattle.machine_rules.proofs.Leaves.{Leaves, WordStep, LockStep, BarrierStep, at_core}
-use Rattle.machine_rules.proofs.PlainLeaves.{plain-leaves}
+use Rattle.machine_rules.proofs.Outcomes.{Outcomes, WordStep, LockStep, BarrierStep, at_core}
+use Rattle.machine_rules.proofs.PlainOutcomes.{plain-outcomes}
 
 abbrev pub AreBehind : State → Type 0
 AreBehind S = (c : ℕ) (n : NodeParts) → slice_get S.nodes c ≡ Some n → n.phase ≤ S.keeper.phase
@@ -36,8 +36,8 @@ behind-node S T core n m left sent step were now c k found = by_core (core == c)
 behind-still : (S T : State) → T.nodes ≡ S.nodes → S.keeper.phase ≤ T.keeper.phase → AreBehind S → AreBehind T
 behind-still S T nodes later were c k found = omega (arith, later, were c k (sym (ap (λ (ns : List NodeParts). slice_get ns c) nodes) ∙ found))
 
-pub behind-leaves : (S : State) (M : ℕ → ℕ) (e : Event) → Invariant S M → Leaves S M e (λ M'. AreBehind (next S e))
-behind-leaves S M e inv = plain-leaves S M e (AreBehind T) (record { node = λ core n m left sent step phase mark. same core n m left sent step phase; go = go; halt = λ core n step. same core.0 n _ _ _ step refl; home = home; lock = lock_home; barrier = barrier }) where
+pub behind-outcomes : (S : State) (M : ℕ → ℕ) (e : Event) → Invariant S M → Outcomes S M e (λ M'. AreBehind (next S e))
+behind-outcomes S M e inv = plain-outcomes S M e (AreBehind T) (record { node = λ core n m left sent step phase mark. same core n m left sent step phase; go = go; halt = λ core n step. same core.0 n _ _ _ step refl; home = home; lock = lock_home; barrier = barrier }) where
   T : State
   T = next S e
 

@@ -15,7 +15,7 @@ use Rattle.word_cache.specs.declared.row.Entry.{Entry}
 use Rattle.word_cache.specs.declared.row.Entry.TheVariants.{Valid, Registered, Leaving}
 use Rattle.word_cache.specs.Cache.{put, touched, entry_after_phase, entry_after_grant}
 use Rattle.word_cache.proofs.LookLemmas.{lookup-without, lookup-put, lookup-touched}
-use Rattle.phase_barrier.specs.Barrier.{Barrier, with_arrival, in_next_phase as next_phase}
+use Rattle.phase_barrier.specs.Barrier.{Barrier, with_arrival, in_next_phase}
 use Rattle.registration_protocol.specs.declared.node.NodeWait as wait
 use Rattle.registration_protocol.specs.Node.{NodeParts, keeping, signature_of}
 use Rattle.registration_protocol.specs.OwnEvents.{retires, with_put, task_ended_badly}
@@ -26,7 +26,7 @@ use Rattle.machine_rules.specs.Next.{next}
 use Rattle.machine_rules.specs.Coherent.{owned_value}
 use Rattle.machine_rules.proofs.Bits.{pending_bit, settled_bit}
 use Rattle.machine_rules.proofs.Invariant.{Invariant, ValuesGood}
-use Rattle.machine_rules.proofs.Leaves.{Leaves, BarrierStep, at_core, at_bank, at_keeper}
+use Rattle.machine_rules.proofs.Outcomes.{Outcomes, BarrierStep, at_core, at_bank, at_keeper}
 use Rattle.machine_rules.proofs.WordEvents.{Flown}
 use Rattle.machine_rules.proofs.NodeEntries.{calm-same, calm-at, calm-entries, calm-nodes, changed-now, phase-pending, phase-owned, grant-pending, grant-owned}
 use Rattle.machine_rules.proofs.ReadMails.{no-read, no_read_in, same-posted}
@@ -46,8 +46,8 @@ posted S T M k core bad sent g step quiet =
     values-quiet S T M g (calm-nodes S T step.nodes) (λ v. rw (step.setting, step.banks) refl)
     (record { passed = λ w d. omega (arith, same.passed w d); lies = λ M'. omega (arith, same.lies M') })
 
-pub values-leaves : (S : State) (M : ℕ → ℕ) (e : Event) → Invariant S M → Leaves S M e (λ M'. ValuesGood (next S e) M')
-values-leaves S M e inv =
+pub values-outcomes : (S : State) (M : ℕ → ℕ) (e : Event) → Invariant S M → Outcomes S M e (λ M'. ValuesGood (next S e) M')
+values-outcomes S M e inv =
     let T = next S e in
     let g = inv.values in
     record {
@@ -142,6 +142,6 @@ values-leaves S M e inv =
       release_on = λ bank lock core holder waiter others s h was held same queue told step.
           homed S T M (at_bank bank (Release lock core s)) (to_core waiter (Grant lock (joined h.kept s))) g step.nodes step.homes step.flown (mute (Core waiter) (Grant lock (joined h.kept s)) refl);
       arrived = λ core bad was rest told step. posted S T M (with_arrival core.0 bad S.keeper) core bad None g step refl;
-      all_go = λ core bad was all over told step. posted S T M (next_phase (with_arrival core.0 bad S.keeper)) core bad (Some (Go (record { 0 = S.keeper.phase + 1 }))) g step refl;
+      all_go = λ core bad was all over told step. posted S T M (in_next_phase (with_arrival core.0 bad S.keeper)) core bad (Some (Go (record { 0 = S.keeper.phase + 1 }))) g step refl;
       all_halt = λ core bad was all over told step. posted S T M (with_arrival core.0 bad S.keeper) core bad (Some Halt) g step refl;
     }

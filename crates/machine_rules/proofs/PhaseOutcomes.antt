@@ -31,7 +31,7 @@ use Rattle.machine_rules.specs.Next.{next}
 use Rattle.machine_rules.specs.Coherent.{HasArrived, NeedsValue}
 use Rattle.machine_rules.proofs.Invariant.{Invariant, PhasesGood}
 use Rattle.machine_rules.proofs.Steps.{NodeStep}
-use Rattle.machine_rules.proofs.Leaves.{Leaves, IsActing, WordStep, LockStep}
+use Rattle.machine_rules.proofs.Outcomes.{Outcomes, IsActing, WordStep, LockStep}
 use Rattle.machine_rules.proofs.PhaseRows.{IsOther, other-none, other-some, phases-still}
 use Rattle.machine_rules.proofs.PhaseNodes.{FinishesFree, working, receiving, arriving-node, going-node, halting-node}
 use Rattle.machine_rules.proofs.PhaseKeeper.{counted-node, going-all, halting-all}
@@ -105,10 +105,10 @@ awake-by n active = by_flags n.halted n.arrived refl refl active where
   by_flags false true e f is = absurd (cc)
   by_flags true y e f is = absurd (cc)
 
--- ---- The leaves.
+-- ---- The outcomes.
 
-pub phases-leaves : (S : State) (M : ℕ → ℕ) (e : Event) → Invariant S M → Leaves S M e (λ M'. PhasesGood (next S e))
-phases-leaves S M e inv =
+pub phases-outcomes : (S : State) (M : ℕ → ℕ) (e : Event) → Invariant S M → Outcomes S M e (λ M'. PhasesGood (next S e))
+phases-outcomes S M e inv =
     record {
       local = λ core n d t acts told step. works core n d t need.TheVariants.Local _ None acts step acts.awake acts.absent refl (unfinished _ (advanced-end P t ∙ acts.open')) other-none;
       ends = λ core n d t by acts told step. works core n d t (need.TheVariants.End by) _ None acts step acts.awake acts.absent refl (finishes-free P d S.setting.fuel t by acts.wants) other-none;

@@ -24,7 +24,7 @@ use Rattle.machine_rules.proofs.Bits.{passes, pending_bit, settled_bit, leaving_
 use Rattle.machine_rules.proofs.BitLemmas.{owner-bit}
 use Rattle.machine_rules.proofs.Invariant.{Invariant, is_lost, is_bank}
 use Rattle.machine_rules.proofs.Steps.{NodeStep}
-use Rattle.machine_rules.proofs.Leaves.{Leaves, WordStep, LockStep, BarrierStep, to_all}
+use Rattle.machine_rules.proofs.Outcomes.{Outcomes, WordStep, LockStep, BarrierStep, to_all}
 use Rattle.machine_rules.proofs.WordEvents.{Flown}
 use Rattle.machine_rules.proofs.WordCore.{same-number}
 
@@ -86,8 +86,8 @@ by-barrier : (S T : State) {k : Barrier} {left : Option Outgoing} {sent : Option
     → to_all (is_lost S.setting.shape.cores S.setting.shape.banks) S.setting.shape.cores sent ≡ 0 → IsAddressed T
 by-barrier S T {left = left} {sent = sent} step good right = barrier-addressed S T left sent step.setting good step.flown right
 
-pub address-leaves : (S : State) (M : ℕ → ℕ) (e : Event) → Invariant S M → Leaves S M e (λ _. IsAddressed (next S e))
-address-leaves S M e inv =
+pub address-outcomes : (S : State) (M : ℕ → ℕ) (e : Event) → Invariant S M → Outcomes S M e (λ _. IsAddressed (next S e))
+address-outcomes S M e inv =
     record {
       local = λ core n d t acts told step. by-node S (next S e) step good refl;
       ends = λ core n d t by acts told step. by-node S (next S e) step good refl;

@@ -31,7 +31,7 @@ use Rattle.queue_lock.specs.Lock.{Lock}
 use Rattle.write_signature.specs.Signature.{joined}
 use Rattle.registry_bank.specs.declared.bank.BankWord.{BankWord}
 use Rattle.registry_bank.specs.declared.bank.BankWord.TheVariants.{Home, Reg}
-use Rattle.phase_barrier.specs.Barrier.{Barrier, with_arrival, in_next_phase as next_phase, all_arrived, is_over}
+use Rattle.phase_barrier.specs.Barrier.{Barrier, with_arrival, in_next_phase, all_arrived, is_over}
 use Rattle.registration_protocol.specs.declared.node.NodeWait as wait
 use Rattle.registration_protocol.specs.declared.node.NodeWait.{NodeWait}
 use Rattle.registration_protocol.specs.Node.{NodeParts, keeping, signature_of, entry_of, is_settled, is_active, is_ready, is_running}
@@ -108,7 +108,7 @@ pub record BarrierStep (S T : State) (k : Barrier) (left : Option Outgoing) (sen
   pub flown : (p : Test) → flight T p + passes p left ≡ flight S p + to_all p S.setting.shape.cores sent
 
 -- the ways of an event e from a state S, with what has to be shown of each: G of the memory after it
-pub record Leaves (S : State) (M : ℕ → ℕ) (e : Event) (G : (ℕ → ℕ) → Type 0) : Type 0 where
+pub record Outcomes (S : State) (M : ℕ → ℕ) (e : Event) (G : (ℕ → ℕ) → Type 0) : Type 0 where
   -- instructions
   pub local : (core : CoreId) (n : NodeParts) (d : TaskDecl) (t : TaskState) → IsActing S core n d t need.TheVariants.Local → Tells S e None None None
       → NodeStep S (next S e) core.0 n (record n { task = Some (advanced S.setting.program t) }) None None → G M
@@ -219,7 +219,7 @@ pub record Leaves (S : State) (M : ℕ → ℕ) (e : Event) (G : (ℕ → ℕ) �
       → BarrierStep S (next S e) (with_arrival core.0 bad S.keeper) (at_keeper (Arrived core bad)) None → G M
   pub all_go : (core : CoreId) (bad : Bool) → slice_get S.keeper.arrived core.0 ≡ Some false → all_arrived (with_arrival core.0 bad S.keeper) ≡ true
       → is_over (with_arrival core.0 bad S.keeper) ≡ false → Tells S e None None None
-      → BarrierStep S (next S e) (next_phase (with_arrival core.0 bad S.keeper)) (at_keeper (Arrived core bad)) (Some (Go (record { 0 = S.keeper.phase + 1 }))) → G M
+      → BarrierStep S (next S e) (in_next_phase (with_arrival core.0 bad S.keeper)) (at_keeper (Arrived core bad)) (Some (Go (record { 0 = S.keeper.phase + 1 }))) → G M
   pub all_halt : (core : CoreId) (bad : Bool) → slice_get S.keeper.arrived core.0 ≡ Some false → all_arrived (with_arrival core.0 bad S.keeper) ≡ true
       → is_over (with_arrival core.0 bad S.keeper) ≡ true → Tells S e None None None
       → BarrierStep S (next S e) (with_arrival core.0 bad S.keeper) (at_keeper (Arrived core bad)) (Some Halt) → G M

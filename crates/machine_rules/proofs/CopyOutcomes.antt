@@ -19,11 +19,11 @@ use Rattle.registration_protocol.specs.declared.node.NodeWait as wait
 use Rattle.registration_protocol.specs.Node.{NodeParts, keeping}
 use Rattle.registration_protocol.specs.OwnEvents.{retires, task_ended_badly}
 use Rattle.registration_protocol.specs.Messages.{with_entry, lacking}
+use Rattle.registration_protocol.specs.Parts.{held_locks}
 use Rattle.machine_rules.specs.State.{State}
 use Rattle.machine_rules.specs.Next.{next}
-use Rattle.machine_rules.specs.Coherent.{held_locks}
 use Rattle.machine_rules.proofs.Invariant.{Invariant, CopiesGood, is_carrying}
-use Rattle.machine_rules.proofs.Leaves.{Leaves, at_core, at_bank}
+use Rattle.machine_rules.proofs.Outcomes.{Outcomes, at_core, at_bank}
 use Rattle.machine_rules.proofs.NodeEntries.{changed-now}
 use Rattle.machine_rules.proofs.PhaseWhole.{nothing-posted, none-posted}
 use Rattle.machine_rules.proofs.CopyNodes.{old-same, old-at, copies-same}
@@ -32,8 +32,8 @@ use Rattle.machine_rules.proofs.CopyPhases.{copies-together, copies-begun}
 use Rattle.machine_rules.proofs.CopyStores.{copies-stored}
 use Rattle.machine_rules.proofs.CopyEvents.{copies-loaded, copies-answered, copies-released, copies-homed, copies-locked, copies-joined, copies-posted}
 
-pub copies-leaves : (S : State) (M : ℕ → ℕ) (e : Event) → Invariant S M → Leaves S M e (λ M'. CopiesGood (next S e) M')
-copies-leaves S M e inv =
+pub copies-outcomes : (S : State) (M : ℕ → ℕ) (e : Event) → Invariant S M → Outcomes S M e (λ M'. CopiesGood (next S e) M')
+copies-outcomes S M e inv =
     let T = next S e in
     let g = inv.copies in
     record {

@@ -15,7 +15,7 @@ use Rattle.registration_protocol.specs.Messages.{begins}
 use Rattle.machine_rules.specs.State.{State}
 use Rattle.machine_rules.specs.Next.{next}
 use Rattle.machine_rules.proofs.Steps.{NodeStep}
-use Rattle.machine_rules.proofs.Leaves.{Leaves, WordStep, LockStep, BarrierStep, at_core}
+use Rattle.machine_rules.proofs.Outcomes.{Outcomes, WordStep, LockStep, BarrierStep, at_core}
 
 -- what has to be shown for such a fact
 pub record PlainWays (S : State) (e : Event) (Fact : Type 0) : Type 0 where
@@ -28,8 +28,8 @@ pub record PlainWays (S : State) (e : Event) (Fact : Type 0) : Type 0 where
   pub barrier : (k : Barrier) (left : Option Outgoing) (sent : Option Message) → BarrierStep S (next S e) k left sent → S.keeper.phase ≤ k.phase
       → (all_arrived S.keeper ≡ true → all_arrived k ≡ true) → Fact
 
-pub plain-leaves : (S : State) (M : ℕ → ℕ) (e : Event) (Fact : Type 0) → PlainWays S e Fact → Leaves S M e (λ M'. Fact)
-plain-leaves S M e Fact them =
+pub plain-outcomes : (S : State) (M : ℕ → ℕ) (e : Event) (Fact : Type 0) → PlainWays S e Fact → Outcomes S M e (λ M'. Fact)
+plain-outcomes S M e Fact them =
     record {
       local = λ core n d t acts told step. same core.0 n _ _ _ step refl refl;
       ends = λ core n d t by acts told step. same core.0 n _ _ _ step refl refl;

@@ -1,5 +1,5 @@
 use Rattle.registration_protocol.proofs.InstrLemmas.{may-instruct, may-evict, may-arrive}
-use Rattle.registration_protocol.proofs.laws.a_leave_tells_of_its_node.Goals as goal
+use Rattle.registration_protocol.proofs.laws.a_permission_tells_of_its_node.Goals as goal
 
 pub returns-clause-instr : goal.returns-clause-instr
 returns-clause-instr c = may-instruct

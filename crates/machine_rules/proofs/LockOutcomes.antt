@@ -36,15 +36,16 @@ use Rattle.registration_protocol.specs.declared.node.NodeWait.{NodeWait}
 use Rattle.registration_protocol.specs.Node.{NodeParts, signature_of, is_ready}
 use Rattle.registration_protocol.specs.OwnEvents.{task_ended_badly}
 use Rattle.registration_protocol.specs.Messages.{holds_now}
+use Rattle.registration_protocol.specs.Parts.{held_locks}
 use Rattle.registration_protocol.proofs.SignLemmas.{signature-tag}
 use Rattle.machine_rules.specs.State.{State, lock_at}
 use Rattle.machine_rules.specs.Flight.{Test, bit, flight, is_acquire_of, is_release_of, is_grant_to, is_go_to}
 use Rattle.machine_rules.specs.Next.{next}
-use Rattle.machine_rules.specs.Coherent.{held_locks, has_lock, is_locking, node_is_locking, queued_in, holder_in}
+use Rattle.machine_rules.specs.Coherent.{has_lock, is_locking, node_is_locking, queued_in, holder_in}
 use Rattle.machine_rules.proofs.Bits.{passes}
 use Rattle.machine_rules.proofs.Invariant.{Invariant, LocksGood, LockRow, lock_counts, is_late, is_unlike}
 use Rattle.machine_rules.proofs.Steps.{NodeStep}
-use Rattle.machine_rules.proofs.Leaves.{Leaves, IsActing, WordStep, LockStep, BarrierStep, to_all, at_core, at_bank, at_keeper}
+use Rattle.machine_rules.proofs.Outcomes.{Outcomes, IsActing, WordStep, LockStep, BarrierStep, to_all, at_core, at_bank, at_keeper}
 use Rattle.machine_rules.proofs.Exclusive.{in-phase, acting-works}
 use Rattle.machine_rules.proofs.PhaseWhole.{nothing-posted, none-posted}
 use Rattle.machine_rules.proofs.WordCore.{same-number}
@@ -188,8 +189,8 @@ barrier-signs S T step g more phase one same =
         let next_phase : S.keeper.phase + more ≡ S.keeper.phase + 1 = omega (arith, is, few) in
         rw (next_phase) (omega (arith, same (is_late (S.keeper.phase + 1)) (is-late (S.keeper.phase + 1)), later-le S S.keeper.phase, g.released))
 
-pub locks-leaves : (S : State) (M : ℕ → ℕ) (e : Event) → Invariant S M → Leaves S M e (λ _. LocksGood (next S e))
-locks-leaves S M e inv =
+pub locks-outcomes : (S : State) (M : ℕ → ℕ) (e : Event) → Invariant S M → Outcomes S M e (λ _. LocksGood (next S e))
+locks-outcomes S M e inv =
     record {
       local = λ core n d t acts told step.
           kept-node S (next S e) core n (record n { task = Some (advanced S.setting.program t) }) d t need.TheVariants.Local acts step g

@@ -30,7 +30,7 @@ use Rattle.machine_rules.specs.Next.{next, seen_in, granted_in}
 use Rattle.machine_rules.specs.Flight.{flight, is_grant_to}
 use Rattle.machine_rules.proofs.Bits.{passes}
 use Rattle.machine_rules.proofs.Invariant.{Invariant}
-use Rattle.machine_rules.proofs.Leaves.{Leaves, Tells, IsActing, stored_to, at_core}
+use Rattle.machine_rules.proofs.Outcomes.{Outcomes, Tells, IsActing, stored_to, at_core}
 use Rattle.machine_rules.proofs.Steps.{NodeStep}
 use Rattle.machine_rules.proofs.Exclusive.{acting-works, IsAtWork, in-phase}
 use Rattle.machine_rules.proofs.LoadsRead.{copy-loaded, own-loaded}
@@ -182,8 +182,8 @@ takes-lock {E} S M e gs L core n d t lock s inv h works open' wants told step =
 
 -- ---- every event
 
-pub agreed-leaves : {E : Ends} (S : State) (M : ℕ → ℕ) (e : Event) (gs : List Granted) (L : Loads) → Invariant S M → IsLast S E → Agreed S M gs L E → Leaves S M e (AgreedNext S e gs L E)
-agreed-leaves {E} S M e gs L inv last h =
+pub agreed-outcomes : {E : Ends} (S : State) (M : ℕ → ℕ) (e : Event) (gs : List Granted) (L : Loads) → Invariant S M → IsLast S E → Agreed S M gs L E → Outcomes S M e (AgreedNext S e gs L E)
+agreed-outcomes {E} S M e gs L inv last h =
     record {
       local = λ core n d t acts told step. plainly core n _ d t _ None need.TheVariants.Local acts told step refl refl (λ k. refl);
       ends = λ core n d t by acts told step. plainly core n _ d t _ None (need.TheVariants.End by) acts told step refl refl (λ k. refl);

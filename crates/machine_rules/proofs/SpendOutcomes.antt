@@ -42,7 +42,7 @@ use Rattle.machine_rules.proofs.Bits.{passes, pending_bit, settled_bit, leaving_
 use Rattle.machine_rules.proofs.BitLemmas.{owner-bit}
 use Rattle.machine_rules.proofs.Invariant.{Invariant}
 use Rattle.machine_rules.proofs.Steps.{NodeStep}
-use Rattle.machine_rules.proofs.Leaves.{Leaves, WordStep}
+use Rattle.machine_rules.proofs.Outcomes.{Outcomes, WordStep}
 use Rattle.machine_rules.proofs.WordCore.{same-number}
 use Rattle.machine_rules.proofs.Spending.{is_owned, seeks_owned, cost_of, debt, credit, works, earned, lent, Spent, Spends, EndsPhase}
 use Rattle.machine_rules.proofs.SpendSteps.{node-spent, word-spent, content-spent, lock-spent, quiet-spent, letters-spent}
@@ -200,8 +200,8 @@ gone-on S T made past core n phase step spent arrived none next_is =
 
 -- ---- all ways
 
-pub spend-leaves : (S : State) (M : ℕ → ℕ) (e : Event) (made past : ℕ) → Invariant S M → Spent S made past → Leaves S M e (λ _. Spends S (next S e) made past)
-spend-leaves S M e made past inv spent =
+pub spend-outcomes : (S : State) (M : ℕ → ℕ) (e : Event) (made past : ℕ) → Invariant S M → Spent S made past → Outcomes S M e (λ _. Spends S (next S e) made past)
+spend-outcomes S M e made past inv spent =
     record {
       local = λ core n d t acts told step. by-node S T made past step spent (omega (arith, ap earned acts.task, retires d t need.TheVariants.Local acts.wants tt));
       ends = λ core n d t by acts told step. by-node S T made past step spent (omega (arith, ap earned acts.task, earned-stopped by t acts.open'));

@@ -36,7 +36,7 @@ use Rattle.machine_rules.specs.Flight.{Test, bit, flight, is_reg_req_of, is_reg_
 use Rattle.machine_rules.specs.Next.{next}
 use Rattle.machine_rules.proofs.Bits.{passes, known_bit}
 use Rattle.machine_rules.proofs.Invariant.{Invariant, WordsGood}
-use Rattle.machine_rules.proofs.Leaves.{Leaves, IsActing, to_all}
+use Rattle.machine_rules.proofs.Outcomes.{Outcomes, IsActing, to_all}
 use Rattle.machine_rules.proofs.Exclusive.{store-none-pending}
 use Rattle.machine_rules.proofs.WordEvents.{IsAside}
 use Rattle.machine_rules.proofs.WordGood.{right-kept}
@@ -94,8 +94,8 @@ barrier-flights S T left sent flown came calm =
       by_sent None is = no-letters S.setting.shape.cores p
       by_sent (Some message) is = letters-aside S.setting.shape.cores message p (λ to. none to message is)
 
-pub words-leaves : (S : State) (M : ℕ → ℕ) (e : Event) → Invariant S M → Leaves S M e (λ _. WordsGood (next S e))
-words-leaves S M e inv =
+pub words-outcomes : (S : State) (M : ℕ → ℕ) (e : Event) → Invariant S M → Outcomes S M e (λ _. WordsGood (next S e))
+words-outcomes S M e inv =
     record {
       local = λ core n d t acts told step.
           advanced-good S (next S e) core n d t (advanced S.setting.program t) need.TheVariants.Local acts step (advanced-held S.setting.program d S.setting.fuel t need.TheVariants.Local acts.wants tt) g;
