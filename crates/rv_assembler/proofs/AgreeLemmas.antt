@@ -16,10 +16,10 @@ use Rattle.rv_assembler.specs.Reading.{version_line, reading_of}
 use Rattle.rv_assembler.specs.Gathering.{no_count, meaning_in}
 use Rattle.rv_assembler.specs.Adding.{no_draft, draft_after, unless_fault, total, program_in, added_program}
 use Rattle.rv_assembler.specs.Fault.{doubled, first_fault, early_fault, limit_fault}
-use Rattle.rv_assembler.specs.Testing.{doubled_by_meaning, draft_fault}
+use Rattle.rv_assembler.specs.Testing.{draft_fault}
 use Rattle.rv_assembler.specs.Finishing.{finished_program}
 use Rattle.rv_assembler.specs.Placed.{placed_behind}
-use Rattle.rv_assembler.specs.Counts.{data_words, counts_in}
+use Rattle.rv_assembler.specs.Counts.{data_words}
 use Rattle.rv_assembler.specs.Declarations.{meaning_of}
 use Rattle.rv_assembler.specs.Source.{good, sayings, line_fault, fault_at, without_faults, said_by, source}
 use Rattle.rv_assembler.proofs.SoundLemmas.{within}

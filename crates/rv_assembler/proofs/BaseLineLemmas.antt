@@ -29,13 +29,13 @@ use Rattle.rv_assembler.specs.Shape as shape
 use Rattle.rv_assembler.specs.Shape.{piece_fits, fits, knows_word, kind_for, none, t, r, r_t, r_r, r_r_t, r_r_n, r_r_r, r_at}
 use Rattle.rv_assembler.specs.Reading.{code_for, statement_of, statement_in}
 use Rattle.rv_assembler.specs.Emission.{jump, branch as branch_emission, offset_by, offset_of, emission}
-use Rattle.rv_assembler.specs.BaseLine.{BasePart, FromLine, XRegister, Literal, Mark, Pseudo, IsAlike, IsWritten, AreLinesOf, SaysTheSame, HasBaseLine, stands_for, two, three, based, first_operand, second_operand, zero_register, pseudo_rows}
+use Rattle.rv_assembler.specs.BaseLine.{BasePart, FromLine, XRegister, Literal, Mark, Pseudo, AreSpelledAlike, IsBaseToken, ArePseudoLines, SaysTheSame, HasBaseLine, stands_for, two, three, based, first_operand, second_operand, zero_register, pseudo_rows}
 use Rattle.rv_assembler.proofs.WordRows.{HasOneRow, nop-row, mv-row, not-row, neg-row, seqz-row, snez-row, beqz-row, bnez-row, j-row, jr-row, ret-row, addi-row, xori-row, sltiu-row, sub-row, sltu-row, beq-row, bne-row, jal-row, jalr-row}
 
 -- ---- operands
 
 -- a token that is spelled like one that fits a piece fits it too
-alike-fits : (text : List ℕ) (t u : Token) (p : Piece) → IsAlike text t u → piece_fits text p t ≡ true → piece_fits text p u ≡ true
+alike-fits : (text : List ℕ) (t u : Token) (p : Piece) → AreSpelledAlike text t u → piece_fits text p t ≡ true → piece_fits text p u ≡ true
 alike-fits text t u piece.TheVariants.Register a e = ap (λ (k : TokenKind). shape.is_name k && is_some (register_of (bytes_of text u))) (sym a.kind) ∙ ap (λ (bs : List ℕ). shape.is_name t.kind && is_some (register_of bs)) (sym a.bytes) ∙ e
 alike-fits text t u piece.TheVariants.Number a e = ap shape.is_number (sym a.kind) ∙ e
 alike-fits text t u piece.TheVariants.Name a e = ap (λ (k : TokenKind). shape.is_name k && not (eqb (get_or (bytes_of text u) 0 0) 46)) (sym a.kind) ∙ ap (λ (bs : List ℕ). shape.is_name t.kind && not (eqb (get_or bs 0 0) 46)) (sym a.bytes) ∙ e
@@ -53,14 +53,14 @@ Suits text ts p (XRegister n) = p ≡ piece.TheVariants.Register
 Suits text ts p (Literal z) = p ≡ piece.TheVariants.Number
 Suits text ts p (Mark k) = (u : Token) → u.kind ≡ k → piece_fits text p u ≡ true
 
-written-fits : (text : List ℕ) (ts : List Token) (p : Piece) (b : BasePart) (u : Token) → Suits text ts p b → IsWritten text ts b u → piece_fits text p u ≡ true
+written-fits : (text : List ℕ) (ts : List Token) (p : Piece) (b : BasePart) (u : Token) → Suits text ts p b → IsBaseToken text ts b u → piece_fits text p u ≡ true
 written-fits text ts p (FromLine i) u s w = alike-fits text (token_at ts i) u p w s
 written-fits text ts p (XRegister n) u s w =
     ap (λ (q : Piece). piece_fits text q u) s ∙ ap (λ (k : TokenKind). shape.is_name k && is_some (register_of (bytes_of text u))) w.0 ∙ ap is_some w.1
 written-fits text ts p (Literal z) u s w = ap (λ (q : Piece). piece_fits text q u) s ∙ ap shape.is_number w
 written-fits text ts p (Mark k) u s w = s u w
 
-all-fit : (text : List ℕ) (ts : List Token) (ps : List Piece) (bs : List BasePart) (us : List Token) → AllZip (Suits text ts) ps bs → AllZip (IsWritten text ts) bs us → fits text ps us ≡ true
+all-fit : (text : List ℕ) (ts : List Token) (ps : List Piece) (bs : List BasePart) (us : List Token) → AllZip (Suits text ts) ps bs → AllZip (IsBaseToken text ts) bs us → fits text ps us ≡ true
 all-fit text ts [] [] [] s w = refl
 all-fit text ts [] [] (u ∷ us) s w = absurd w
 all-fit text ts [] (b ∷ bs) us s w = absurd s
@@ -70,12 +70,12 @@ all-fit text ts (p ∷ ps) (b ∷ bs) (u ∷ us) s w =
     ap (λ (c : Bool). c && fits text ps us) (written-fits text ts p b u s.0 w.0) ∙ all-fit text ts ps bs us s.1 w.1
 
 abbrev Writes : List ℕ → List Token → List Token → ℕ → BasePart → Type 0
-Writes text ts us i b = IsWritten text ts b (token_at us i)
+Writes text ts us i b = IsBaseToken text ts b (token_at us i)
 
-alike-register : (text : List ℕ) (t u : Token) → IsAlike text t u → register_number (register_of (bytes_of text t)) ≡ register_number (register_of (bytes_of text u))
+alike-register : (text : List ℕ) (t u : Token) → AreSpelledAlike text t u → register_number (register_of (bytes_of text t)) ≡ register_number (register_of (bytes_of text u))
 alike-register text t u a = ap (λ (bs : List ℕ). register_number (register_of bs)) a.bytes
 
-alike-offset : (text : List ℕ) (names : List ℕ → Option Meaning) (here : ℕ) (t u : Token) → IsAlike text t u → offset_of text names here t ≡ offset_of text names here u
+alike-offset : (text : List ℕ) (names : List ℕ → Option Meaning) (here : ℕ) (t u : Token) → AreSpelledAlike text t u → offset_of text names here t ≡ offset_of text names here u
 alike-offset text names here t u a = ap (λ (bs : List ℕ). offset_by names here bs t.kind) a.bytes ∙ ap (offset_by names here (bytes_of text u)) a.kind
 
 fits-at : (text : List ℕ) (ps : List Piece) (ts : List Token) (i : ℕ) (d : Piece) → fits text ps ts ≡ true → i < length ps → piece_fits text (get_or ps i d) (token_at ts i) ≡ true
@@ -113,7 +113,7 @@ module _ (version_2 : Bool) (text : List ℕ) (line : ℕ) where
       ∙ ap (λ (k : Bool). chosen true k ts (kind_for version_2 text word ts)) (row.known version_2)
       ∙ ap (chosen true true ts) (row.found version_2 text ts true f)
 
-  by-rows : (p : Pseudo) (ps qs : List Piece) (m n : Mnemonic) → HasOneRow p.word ps m → HasOneRow p.base qs n → (w b : Token) (ts us : List Token) (c : Code) → AreLinesOf p text w b ts us
+  by-rows : (p : Pseudo) (ps qs : List Piece) (m n : Mnemonic) → HasOneRow p.word ps m → HasOneRow p.base qs n → (w b : Token) (ts us : List Token) (c : Code) → ArePseudoLines p text w b ts us
       → (fits text ps ts ≡ true → AllZip (Suits text ts) qs p.operands)
       → ((names : List ℕ → Option Meaning) (here : ℕ) → emission text names here (code_for text ts m) ≡ emission text names here (code_for text us n))
       → statement_in version_2 text line (w ∷ ts) ≡ Ok (Instruction c) → SaysTheSame version_2 text line (b ∷ us) c
@@ -140,23 +140,23 @@ right u e = ap shape.is_right e
 abbrev d : BasePart
 d = Mark Name
 
-written-at : (text : List ℕ) (ts : List Token) (bs : List BasePart) (us : List Token) (i : ℕ) → AllZip (IsWritten text ts) bs us → i < length bs → IsWritten text ts (get_or bs i d) (token_at us i)
+written-at : (text : List ℕ) (ts : List Token) (bs : List BasePart) (us : List Token) (i : ℕ) → AllZip (IsBaseToken text ts) bs us → i < length bs → IsBaseToken text ts (get_or bs i d) (token_at us i)
 written-at text ts [] us i zip l = let no : ⊥ = omega arith in absurd no
 written-at text ts (b ∷ bs) [] i zip l = absurd zip
 written-at text ts (b ∷ bs) (u ∷ us) zero zip l = zip.0
 written-at text ts (b ∷ bs) (u ∷ us) (suc i) zip l = written-at text ts bs us i zip.1 (omega arith)
 
 module _ (text : List ℕ) (ts us : List Token) where
-  at : (bs : List BasePart) (i : ℕ) → AllZip (IsWritten text ts) bs us → i < length bs → IsWritten text ts (get_or bs i d) (token_at us i)
+  at : (bs : List BasePart) (i : ℕ) → AllZip (IsBaseToken text ts) bs us → i < length bs → IsBaseToken text ts (get_or bs i d) (token_at us i)
   at bs i zip l = written-at text ts bs us i zip l
 
-  given : (i j : ℕ) → IsAlike text (token_at ts i) (token_at us j) → register_at text ts i ≡ register_at text us j
+  given : (i j : ℕ) → AreSpelledAlike text (token_at ts i) (token_at us j) → register_at text ts i ≡ register_at text us j
   given i j a = alike-register text (token_at ts i) (token_at us j) a
 
-  fixed : (n j : ℕ) → IsWritten text ts (XRegister n) (token_at us j) → n ≡ register_at text us j
+  fixed : (n j : ℕ) → IsBaseToken text ts (XRegister n) (token_at us j) → n ≡ register_at text us j
   fixed n j w = sym (ap register_number w.1)
 
-  number : (z : ℤ) (j : ℕ) → IsWritten text ts (Literal z) (token_at us j) → z ≡ number_at us j
+  number : (z : ℤ) (j : ℕ) → IsBaseToken text ts (Literal z) (token_at us j) → z ≡ number_at us j
   number z j w = sym (ap number_of_kind w)
 
   operation-same : (o : op.AluOp) (x x' y y' : ℕ) (z z' : ℤ) (names : List ℕ → Option Meaning) (here : ℕ) → x ≡ x' → y ≡ y' → z ≡ z' → emission text names here (OpImm o x y z) ≡ emission text names here (OpImm o x' y' z')
@@ -165,10 +165,10 @@ module _ (text : List ℕ) (ts us : List Token) where
   register-same : (o : op.AluOp) (x x' y y' z z' : ℕ) (names : List ℕ → Option Meaning) (here : ℕ) → x ≡ x' → y ≡ y' → z ≡ z' → emission text names here (Op o x y z) ≡ emission text names here (Op o x' y' z')
   register-same o x x' y y' z z' names here e f g = λ i. emission text names here (Op o (e i) (f i) (g i))
 
-  branch-same : (c : Cond) (x x' y y' : ℕ) (t u : Token) (names : List ℕ → Option Meaning) (here : ℕ) → x ≡ x' → y ≡ y' → IsAlike text t u → emission text names here (Branch c x y t) ≡ emission text names here (Branch c x' y' u)
+  branch-same : (c : Cond) (x x' y y' : ℕ) (t u : Token) (names : List ℕ → Option Meaning) (here : ℕ) → x ≡ x' → y ≡ y' → AreSpelledAlike text t u → emission text names here (Branch c x y t) ≡ emission text names here (Branch c x' y' u)
   branch-same c x x' y y' t u names here e f a = λ i. branch_emission c (e i) (f i) (alike-offset text names here t u a i)
 
-  jump-same : (x x' : ℕ) (t u : Token) (names : List ℕ → Option Meaning) (here : ℕ) → x ≡ x' → IsAlike text t u → emission text names here (Jump x t) ≡ emission text names here (Jump x' u)
+  jump-same : (x x' : ℕ) (t u : Token) (names : List ℕ → Option Meaning) (here : ℕ) → x ≡ x' → AreSpelledAlike text t u → emission text names here (Jump x t) ≡ emission text names here (Jump x' u)
   jump-same x x' t u names here e a = λ i. jump (e i) (alike-offset text names here t u a i)
 
   jump_register-same : (x x' y y' : ℕ) (z z' : ℤ) (names : List ℕ → Option Meaning) (here : ℕ) → x ≡ x' → y ≡ y' → z ≡ z' → emission text names here (JumpRegister x y z) ≡ emission text names here (JumpRegister x' y' z')

@@ -22,7 +22,7 @@ use Rattle.rv_assembler.specs.Named.{entry_value, task_entry, region_span, usage
 use Rattle.rv_assembler.specs.Rows.{start_at, from_index, to_index, moved_by, use_at, uses_of}
 use Rattle.rv_assembler.specs.Counts.{current_family}
 use Rattle.rv_assembler.specs.Tables.{tasks_by}
-use Rattle.rv_assembler.specs.BaseLine.{IsAlike}
+use Rattle.rv_assembler.specs.BaseLine.{AreSpelledAlike}
 use Rattle.rv_assembler.specs.FamilyLines.{IsTaskLine, HasTaskLines, interval_at, one_of, HasUseLines}
 
 -- ---- numbers modulo 2^32
@@ -52,7 +52,7 @@ wrapped-moved a s (suc i) =
 
 -- ---- tasks
 
-entry-alike : (text : List ℕ) (names : List ℕ → Option Meaning) (t u : Token) → IsAlike text t u → task_entry text names t ≡ task_entry text names u
+entry-alike : (text : List ℕ) (names : List ℕ → Option Meaning) (t u : Token) → AreSpelledAlike text t u → task_entry text names t ≡ task_entry text names u
 entry-alike text names t u a = ap (λ (bs : List ℕ). entry_value names bs t.kind) a.bytes ∙ ap (entry_value names (bytes_of text u)) a.kind
 
 module _ (text : List ℕ) (ts : List Token) (names : List ℕ → Option Meaning) (phase f : ℕ) (first_core : number_at ts 0 ≡ pos f) where

@@ -65,23 +65,23 @@ pseudo_rows =
     ∷ []
 
 -- two tokens are spelled alike
-pub record IsAlike (text : List ℕ) (t u : Token) : Type 0 where
+pub record AreSpelledAlike (text : List ℕ) (t u : Token) : Type 0 where
   pub kind : t.kind ≡ u.kind
   pub bytes : bytes_of text t ≡ bytes_of text u
 
 -- a token of the base line, beside a line of the pseudo-instruction with the operands ts
-abbrev pub IsWritten : List ℕ → List Token → BasePart → Token → Type 0
-IsWritten text ts (FromLine i) u = IsAlike text (token_at ts i) u
-IsWritten text ts (XRegister n) u = (u.kind ≡ Name) × (register_of (bytes_of text u) ≡ Some n)
-IsWritten text ts (Literal z) u = u.kind ≡ Number z
-IsWritten text ts (Mark k) u = u.kind ≡ k
+abbrev pub IsBaseToken : List ℕ → List Token → BasePart → Token → Type 0
+IsBaseToken text ts (FromLine i) u = AreSpelledAlike text (token_at ts i) u
+IsBaseToken text ts (XRegister n) u = (u.kind ≡ Name) × (register_of (bytes_of text u) ≡ Some n)
+IsBaseToken text ts (Literal z) u = u.kind ≡ Number z
+IsBaseToken text ts (Mark k) u = u.kind ≡ k
 
 -- two lines of a text, each a word and its operands: one of the pseudo-instruction, and its base line
-pub record AreLinesOf (p : Pseudo) (text : List ℕ) (w b : Token) (ts us : List Token) : Type 0 where
+pub record ArePseudoLines (p : Pseudo) (text : List ℕ) (w b : Token) (ts us : List Token) : Type 0 where
   pub word : bytes_of text w ≡ p.word
   pub base_is_name : b.kind ≡ Name
   pub base : bytes_of text b ≡ p.base
-  pub operands : AllZip (IsWritten text ts) p.operands us
+  pub operands : AllZip (IsBaseToken text ts) p.operands us
 
 -- the tokens of a line say an instruction that has the same words as this one, or the same fault, wherever they stand and whatever
 -- names mean
@@ -93,5 +93,5 @@ pub record SaysTheSame (version_2 : Bool) (text : List ℕ) (line : ℕ) (tokens
 -- where a line of the pseudo-instruction is of good form, its base line says the same
 abbrev pub HasBaseLine : Pseudo → Type 0
 HasBaseLine p =
-    (version_2 : Bool) (text : List ℕ) (line : ℕ) (w b : Token) (ts us : List Token) (c : Code) → AreLinesOf p text w b ts us
+    (version_2 : Bool) (text : List ℕ) (line : ℕ) (w b : Token) (ts us : List Token) (c : Code) → ArePseudoLines p text w b ts us
     → statement_in version_2 text line (w ∷ ts) ≡ Ok (Instruction c) → SaysTheSame version_2 text line (b ∷ us) c

@@ -14,13 +14,13 @@ use Rattle.rv_assembler.specs.Operand.{token_at, number_at}
 use Rattle.rv_assembler.specs.Reading.{directive_for}
 use Rattle.rv_assembler.specs.Counts.{current_family}
 use Rattle.rv_assembler.specs.Tables.{tasks_by, claim_by}
-use Rattle.rv_assembler.specs.BaseLine.{IsAlike}
+use Rattle.rv_assembler.specs.BaseLine.{AreSpelledAlike}
 
 -- us are the operands of the `.task` line for task i of a `.forall` line with the operands ts: the core f + i, the same entry, and the
 -- argument a + i s modulo 2^32
 pub record IsTaskLine (text : List ℕ) (ts : List Token) (i : ℕ) (us : List Token) : Type 0 where
   pub core : number_at us 0 ≡ number_at ts 0 +ℤ pos i
-  pub entry : IsAlike text (token_at ts 4) (token_at us 2)
+  pub entry : AreSpelledAlike text (token_at ts 4) (token_at us 2)
   pub argument : wrapped (number_at us 4) ≡ wrapped (number_at ts 6 +ℤ pos i *ℤ number_at ts 8)
 
 -- task i of a family, as a family of its own

@@ -15,7 +15,6 @@ use Rattle.rv_assembler.specs.declared.statement.Extent.{Extent}
 use Rattle.rv_assembler.specs.declared.statement.Extent as extent
 use Rattle.rv_assembler.specs.declared.reading.Saying.{Saying}
 use Rattle.rv_assembler.specs.declared.names.Meaning.{Meaning}
-use Rattle.rv_assembler.specs.declared.names.Meaning as meaning
 use Rattle.rv_assembler.specs.declared.emission.Emission.{Emission}
 use Rattle.rv_assembler.specs.declared.emission.Emission.TheVariants.{OutOfRange, Unknown}
 use Rattle.rv_assembler.specs.declared.draft.Start.{Start}

@@ -128,13 +128,20 @@ fn guarded_writes(
     Ok(sets)
 }
 
+/// Whether it is a claim of the task.
+fn is_claim_of(task: Start, claim: Claim) -> bool
+    ensures { result ≡ is_claim_of task claim }
+{
+    claim.phase == task.phase && claim.core == task.core
+}
+
 /// The claims of a task.
 fn claims_of(alloc: Global, claims: &[Claim], task: Start) -> Result<Vec<Claim>, Memory>
     ensures { IfOk result (λ own. own.items ≡ filter (is_claim_of task) claims.now) }
 {
     let mut own = Vec::new(alloc);
     for claim in claims {
-        if claim.phase == task.phase && claim.core == task.core {
+        if is_claim_of(task, *claim) {
             own.push(*claim)?;
         }
     }
@@ -173,16 +180,21 @@ fn declared(
     })
 }
 
+/// Whether it is the task of a core in a phase.
+fn is_task(phase: u32, core: u32, task: Start) -> bool
+    ensures { result ≡ is_task phase core task }
+{
+    task.phase == phase && task.core == core
+}
+
 /// The task of a core in a phase, if there is one.
 fn task_on(tasks: &[Start], phase: u32, core: u32) -> Option<Start>
     ensures { result ≡ find (is_task phase core) tasks.now }
 {
-    for task in tasks {
-        if task.phase == phase && task.core == core {
-            return Some(*task);
-        }
-    }
-    None
+    tasks
+        .iter()
+        .copied()
+        .find(|task| is_task(phase, core, *task))
 }
 
 /// Adds a task, if there is one.
