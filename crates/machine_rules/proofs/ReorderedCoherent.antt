@@ -164,7 +164,7 @@ module _ (S : State) (mails : List Mail) (moved : IsPermutation S.mails mails) w
       }
 
   registrants : AreRegistrants S → AreRegistrants T
-  registrants was = record { has = was.has; told = λ c w settled. told c w (was.told c w settled) } where
+  registrants was = record { has = was.has; hears = λ c w settled. told c w (was.hears c w settled) } where
     told : (c w : ℕ) → IsRegistrant S c w ⊎ (1 ≤ flight S (is_reg_fwd_to w c)) → IsRegistrant T c w ⊎ (1 ≤ flight T (is_reg_fwd_to w c))
     told c w (inl is) = inl is
     told c w (inr passed) = inr (omega (arith, passed, same (is_reg_fwd_to w c)))

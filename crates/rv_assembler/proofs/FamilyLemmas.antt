@@ -14,7 +14,7 @@ use Rattle.rv_assembler.specs.declared.draft.Start.{Start}
 use Rattle.rv_assembler.specs.declared.draft.Usage.{Usage}
 use Rattle.rv_assembler.specs.declared.draft.Claim.{Claim}
 use Rattle.rv_assembler.specs.declared.draft.Cores.{Cores}
-use Rattle.rv_assembler.specs.declared.draft.Place.{Place}
+use Rattle.rv_assembler.specs.declared.draft.Span.{Span}
 use Rattle.rv_assembler.specs.Number.{natural_of, wrapped}
 use Rattle.rv_assembler.specs.Operand.{bytes_of, token_at, number_at}
 use Rattle.rv_assembler.specs.Reading.{directive_for}
@@ -115,19 +115,19 @@ high-same len extent.TheVariants.Whole i = not-moved len 0 ∙ sym (not-moved le
 high-same len (extent.TheVariants.Part lo hi) i = not-moved hi 0 ∙ sym (not-moved hi i)
 high-same len (extent.TheVariants.Stepped lo hi step) i = not-moved (hi +ℤ pos i *ℤ step) 0
 
-one-use : (phase : ℕ) (family : Cores) (u : Usage) (p : Place) (e : Extent) (i : ℕ) → use_at phase (one_of family i) u p (interval_at e i) 0 ≡ use_at phase family u p e i
+one-use : (phase : ℕ) (family : Cores) (u : Usage) (p : Span) (e : Extent) (i : ℕ) → use_at phase (one_of family i) u p (interval_at e i) 0 ≡ use_at phase family u p e i
 one-use phase family u p e i =
     let core : family.first + i + 0 ≡ family.first + i = omega arith in
     λ k. record { phase = phase; core = core k; usage = u; lo = p.start + natural_of (low-same e i k); hi = p.start + natural_of (high-same p.len e i k) }
 
-uses-on : (phase : ℕ) (family : Cores) (u : Usage) (p : Place) (e : Extent) (n k : ℕ)
+uses-on : (phase : ℕ) (family : Cores) (u : Usage) (p : Span) (e : Extent) (n k : ℕ)
     → map (use_at phase family u p e) (range_with_len k n) ≡ flat_map (λ i. uses_of phase (one_of family i) (Some p) (Some u) (interval_at e i)) (range_with_len k n)
 uses-on phase family u p e zero k = refl
 uses-on phase family u p e (suc n) k =
     ap (λ (cs : List Claim). use_at phase family u p e k ∷ cs) (uses-on phase family u p e n (k + 1))
     ∙ ap (λ (c : Claim). c ∷ flat_map (λ i. uses_of phase (one_of family i) (Some p) (Some u) (interval_at e i)) (range_with_len (k + 1) n)) (sym (one-use phase family u p e k))
 
-of-uses : (phase : ℕ) (family : Cores) (p : Option Place) (u : Option Usage) (e : Extent) → uses_of phase family p u e ≡ flat_map (λ i. uses_of phase (one_of family i) p u (interval_at e i)) (range_with_len 0 family.count)
+of-uses : (phase : ℕ) (family : Cores) (p : Option Span) (u : Option Usage) (e : Extent) → uses_of phase family p u e ≡ flat_map (λ i. uses_of phase (one_of family i) p u (interval_at e i)) (range_with_len 0 family.count)
 of-uses phase family None u e = no-uses family.count 0
 of-uses phase family (Some p) None e = no-uses family.count 0
 of-uses phase family (Some p) (Some u) e = uses-on phase family u p e family.count 0

@@ -1,5 +1,5 @@
 -- The rows of the table of statements that the words of pseudo-instructions, and of their base lines, have: one each.
-use Rattle.std.proofs.Common.{◌≡◌, ℕ, Bool, true, false, cond, List, Some, None, codes, refl}
+use Rattle.std.proofs.Common.{◌≡◌, ℕ, Bool, true, false, cond, List, Some, None, option_map, codes, refl, ap}
 use Rattle.rv_isa.specs.declared.instr.AluOp as op
 use Rattle.rv_isa.specs.declared.instr.Cond as branch
 use Rattle.src_text.specs.declared.token.Token.{Token}
@@ -7,12 +7,18 @@ use Rattle.rv_assembler.specs.declared.kind.Kind.TheVariants.{Code}
 use Rattle.rv_assembler.specs.declared.kind.Mnemonic.{Mnemonic}
 use Rattle.rv_assembler.specs.declared.kind.Mnemonic as mnemonic
 use Rattle.rv_assembler.specs.declared.kind.Piece.{Piece}
-use Rattle.rv_assembler.specs.Shape.{memory_rows, operation_rows, short_rows, directive_rows, later_rows, fits, knows_word, kind_for, none, t, r, r_t, r_r, r_r_t, r_r_n, r_r_r, r_at}
+use Rattle.std.specs.Option.{option_or}
+use Rattle.rv_assembler.specs.Shape.{Shape, row, memory_rows, operation_rows, short_rows, directive_rows, later_rows, fits, knows_word, kind_for, none, t, r, r_t, r_r, r_r_t, r_r_n, r_r_r, r_at}
 
 -- the word has one row in both versions
 pub record HasOneRow (w : List ℕ) (ps : List Piece) (m : Mnemonic) : Type 0 where
   pub known : (v : Bool) → knows_word v w ≡ true
   pub found : (v : Bool) (text : List ℕ) (ts : List Token) (b : Bool) → fits text ps ts ≡ b → kind_for v text w ts ≡ cond b (Some (Code m)) None
+
+-- the row is the word's if the operands fit it
+picked : (s : Shape) (fit b : Bool) → fit ≡ b → option_or (option_map (λ (s : Shape). s.kind) (cond fit (Some s) None)) None ≡ cond b (Some s.kind) None
+picked s true b e = ap (λ (c : Bool). cond c (Some s.kind) None) e
+picked s false b e = ap (λ (c : Bool). cond c (Some s.kind) None) e
 
 nop-known : (v : Bool) → knows_word v (codes "nop") ≡ true
 unfolding memory_rows operation_rows short_rows directive_rows later_rows
@@ -21,10 +27,8 @@ nop-known false = refl
 
 nop-found : (v : Bool) (text : List ℕ) (ts : List Token) (b : Bool) → fits text none ts ≡ b → kind_for v text (codes "nop") ts ≡ cond b (Some (Code mnemonic.TheVariants.Nop)) None
 unfolding memory_rows operation_rows short_rows directive_rows later_rows
-nop-found true text ts true e = rw e refl
-nop-found true text ts false e = rw e refl
-nop-found false text ts true e = rw e refl
-nop-found false text ts false e = rw e refl
+nop-found true text ts b e = picked (row (codes "nop") none (Code mnemonic.TheVariants.Nop)) (fits text none ts) b e
+nop-found false text ts b e = picked (row (codes "nop") none (Code mnemonic.TheVariants.Nop)) (fits text none ts) b e
 
 pub nop-row : HasOneRow (codes "nop") none mnemonic.TheVariants.Nop
 nop-row = record { known = nop-known; found = nop-found }
@@ -36,10 +40,8 @@ mv-known false = refl
 
 mv-found : (v : Bool) (text : List ℕ) (ts : List Token) (b : Bool) → fits text r_r ts ≡ b → kind_for v text (codes "mv") ts ≡ cond b (Some (Code mnemonic.TheVariants.Mv)) None
 unfolding memory_rows operation_rows short_rows directive_rows later_rows
-mv-found true text ts true e = rw e refl
-mv-found true text ts false e = rw e refl
-mv-found false text ts true e = rw e refl
-mv-found false text ts false e = rw e refl
+mv-found true text ts b e = picked (row (codes "mv") r_r (Code mnemonic.TheVariants.Mv)) (fits text r_r ts) b e
+mv-found false text ts b e = picked (row (codes "mv") r_r (Code mnemonic.TheVariants.Mv)) (fits text r_r ts) b e
 
 pub mv-row : HasOneRow (codes "mv") r_r mnemonic.TheVariants.Mv
 mv-row = record { known = mv-known; found = mv-found }
@@ -51,10 +53,8 @@ not-known false = refl
 
 not-found : (v : Bool) (text : List ℕ) (ts : List Token) (b : Bool) → fits text r_r ts ≡ b → kind_for v text (codes "not") ts ≡ cond b (Some (Code mnemonic.TheVariants.Not)) None
 unfolding memory_rows operation_rows short_rows directive_rows later_rows
-not-found true text ts true e = rw e refl
-not-found true text ts false e = rw e refl
-not-found false text ts true e = rw e refl
-not-found false text ts false e = rw e refl
+not-found true text ts b e = picked (row (codes "not") r_r (Code mnemonic.TheVariants.Not)) (fits text r_r ts) b e
+not-found false text ts b e = picked (row (codes "not") r_r (Code mnemonic.TheVariants.Not)) (fits text r_r ts) b e
 
 pub not-row : HasOneRow (codes "not") r_r mnemonic.TheVariants.Not
 not-row = record { known = not-known; found = not-found }
@@ -66,10 +66,8 @@ neg-known false = refl
 
 neg-found : (v : Bool) (text : List ℕ) (ts : List Token) (b : Bool) → fits text r_r ts ≡ b → kind_for v text (codes "neg") ts ≡ cond b (Some (Code mnemonic.TheVariants.Neg)) None
 unfolding memory_rows operation_rows short_rows directive_rows later_rows
-neg-found true text ts true e = rw e refl
-neg-found true text ts false e = rw e refl
-neg-found false text ts true e = rw e refl
-neg-found false text ts false e = rw e refl
+neg-found true text ts b e = picked (row (codes "neg") r_r (Code mnemonic.TheVariants.Neg)) (fits text r_r ts) b e
+neg-found false text ts b e = picked (row (codes "neg") r_r (Code mnemonic.TheVariants.Neg)) (fits text r_r ts) b e
 
 pub neg-row : HasOneRow (codes "neg") r_r mnemonic.TheVariants.Neg
 neg-row = record { known = neg-known; found = neg-found }
@@ -81,10 +79,8 @@ seqz-known false = refl
 
 seqz-found : (v : Bool) (text : List ℕ) (ts : List Token) (b : Bool) → fits text r_r ts ≡ b → kind_for v text (codes "seqz") ts ≡ cond b (Some (Code mnemonic.TheVariants.Seqz)) None
 unfolding memory_rows operation_rows short_rows directive_rows later_rows
-seqz-found true text ts true e = rw e refl
-seqz-found true text ts false e = rw e refl
-seqz-found false text ts true e = rw e refl
-seqz-found false text ts false e = rw e refl
+seqz-found true text ts b e = picked (row (codes "seqz") r_r (Code mnemonic.TheVariants.Seqz)) (fits text r_r ts) b e
+seqz-found false text ts b e = picked (row (codes "seqz") r_r (Code mnemonic.TheVariants.Seqz)) (fits text r_r ts) b e
 
 pub seqz-row : HasOneRow (codes "seqz") r_r mnemonic.TheVariants.Seqz
 seqz-row = record { known = seqz-known; found = seqz-found }
@@ -96,10 +92,8 @@ snez-known false = refl
 
 snez-found : (v : Bool) (text : List ℕ) (ts : List Token) (b : Bool) → fits text r_r ts ≡ b → kind_for v text (codes "snez") ts ≡ cond b (Some (Code mnemonic.TheVariants.Snez)) None
 unfolding memory_rows operation_rows short_rows directive_rows later_rows
-snez-found true text ts true e = rw e refl
-snez-found true text ts false e = rw e refl
-snez-found false text ts true e = rw e refl
-snez-found false text ts false e = rw e refl
+snez-found true text ts b e = picked (row (codes "snez") r_r (Code mnemonic.TheVariants.Snez)) (fits text r_r ts) b e
+snez-found false text ts b e = picked (row (codes "snez") r_r (Code mnemonic.TheVariants.Snez)) (fits text r_r ts) b e
 
 pub snez-row : HasOneRow (codes "snez") r_r mnemonic.TheVariants.Snez
 snez-row = record { known = snez-known; found = snez-found }
@@ -111,10 +105,8 @@ beqz-known false = refl
 
 beqz-found : (v : Bool) (text : List ℕ) (ts : List Token) (b : Bool) → fits text r_t ts ≡ b → kind_for v text (codes "beqz") ts ≡ cond b (Some (Code (mnemonic.TheVariants.BranchZero branch.TheVariants.Eq))) None
 unfolding memory_rows operation_rows short_rows directive_rows later_rows
-beqz-found true text ts true e = rw e refl
-beqz-found true text ts false e = rw e refl
-beqz-found false text ts true e = rw e refl
-beqz-found false text ts false e = rw e refl
+beqz-found true text ts b e = picked (row (codes "beqz") r_t (Code (mnemonic.TheVariants.BranchZero branch.TheVariants.Eq))) (fits text r_t ts) b e
+beqz-found false text ts b e = picked (row (codes "beqz") r_t (Code (mnemonic.TheVariants.BranchZero branch.TheVariants.Eq))) (fits text r_t ts) b e
 
 pub beqz-row : HasOneRow (codes "beqz") r_t (mnemonic.TheVariants.BranchZero branch.TheVariants.Eq)
 beqz-row = record { known = beqz-known; found = beqz-found }
@@ -126,10 +118,8 @@ bnez-known false = refl
 
 bnez-found : (v : Bool) (text : List ℕ) (ts : List Token) (b : Bool) → fits text r_t ts ≡ b → kind_for v text (codes "bnez") ts ≡ cond b (Some (Code (mnemonic.TheVariants.BranchZero branch.TheVariants.Ne))) None
 unfolding memory_rows operation_rows short_rows directive_rows later_rows
-bnez-found true text ts true e = rw e refl
-bnez-found true text ts false e = rw e refl
-bnez-found false text ts true e = rw e refl
-bnez-found false text ts false e = rw e refl
+bnez-found true text ts b e = picked (row (codes "bnez") r_t (Code (mnemonic.TheVariants.BranchZero branch.TheVariants.Ne))) (fits text r_t ts) b e
+bnez-found false text ts b e = picked (row (codes "bnez") r_t (Code (mnemonic.TheVariants.BranchZero branch.TheVariants.Ne))) (fits text r_t ts) b e
 
 pub bnez-row : HasOneRow (codes "bnez") r_t (mnemonic.TheVariants.BranchZero branch.TheVariants.Ne)
 bnez-row = record { known = bnez-known; found = bnez-found }
@@ -141,10 +131,8 @@ j-known false = refl
 
 j-found : (v : Bool) (text : List ℕ) (ts : List Token) (b : Bool) → fits text t ts ≡ b → kind_for v text (codes "j") ts ≡ cond b (Some (Code mnemonic.TheVariants.J)) None
 unfolding memory_rows operation_rows short_rows directive_rows later_rows
-j-found true text ts true e = rw e refl
-j-found true text ts false e = rw e refl
-j-found false text ts true e = rw e refl
-j-found false text ts false e = rw e refl
+j-found true text ts b e = picked (row (codes "j") t (Code mnemonic.TheVariants.J)) (fits text t ts) b e
+j-found false text ts b e = picked (row (codes "j") t (Code mnemonic.TheVariants.J)) (fits text t ts) b e
 
 pub j-row : HasOneRow (codes "j") t mnemonic.TheVariants.J
 j-row = record { known = j-known; found = j-found }
@@ -156,10 +144,8 @@ jr-known false = refl
 
 jr-found : (v : Bool) (text : List ℕ) (ts : List Token) (b : Bool) → fits text r ts ≡ b → kind_for v text (codes "jr") ts ≡ cond b (Some (Code mnemonic.TheVariants.Jr)) None
 unfolding memory_rows operation_rows short_rows directive_rows later_rows
-jr-found true text ts true e = rw e refl
-jr-found true text ts false e = rw e refl
-jr-found false text ts true e = rw e refl
-jr-found false text ts false e = rw e refl
+jr-found true text ts b e = picked (row (codes "jr") r (Code mnemonic.TheVariants.Jr)) (fits text r ts) b e
+jr-found false text ts b e = picked (row (codes "jr") r (Code mnemonic.TheVariants.Jr)) (fits text r ts) b e
 
 pub jr-row : HasOneRow (codes "jr") r mnemonic.TheVariants.Jr
 jr-row = record { known = jr-known; found = jr-found }
@@ -171,10 +157,8 @@ ret-known false = refl
 
 ret-found : (v : Bool) (text : List ℕ) (ts : List Token) (b : Bool) → fits text none ts ≡ b → kind_for v text (codes "ret") ts ≡ cond b (Some (Code mnemonic.TheVariants.Ret)) None
 unfolding memory_rows operation_rows short_rows directive_rows later_rows
-ret-found true text ts true e = rw e refl
-ret-found true text ts false e = rw e refl
-ret-found false text ts true e = rw e refl
-ret-found false text ts false e = rw e refl
+ret-found true text ts b e = picked (row (codes "ret") none (Code mnemonic.TheVariants.Ret)) (fits text none ts) b e
+ret-found false text ts b e = picked (row (codes "ret") none (Code mnemonic.TheVariants.Ret)) (fits text none ts) b e
 
 pub ret-row : HasOneRow (codes "ret") none mnemonic.TheVariants.Ret
 ret-row = record { known = ret-known; found = ret-found }
@@ -186,10 +170,8 @@ addi-known false = refl
 
 addi-found : (v : Bool) (text : List ℕ) (ts : List Token) (b : Bool) → fits text r_r_n ts ≡ b → kind_for v text (codes "addi") ts ≡ cond b (Some (Code (mnemonic.TheVariants.OpImm op.TheVariants.Add))) None
 unfolding memory_rows operation_rows short_rows directive_rows later_rows
-addi-found true text ts true e = rw e refl
-addi-found true text ts false e = rw e refl
-addi-found false text ts true e = rw e refl
-addi-found false text ts false e = rw e refl
+addi-found true text ts b e = picked (row (codes "addi") r_r_n (Code (mnemonic.TheVariants.OpImm op.TheVariants.Add))) (fits text r_r_n ts) b e
+addi-found false text ts b e = picked (row (codes "addi") r_r_n (Code (mnemonic.TheVariants.OpImm op.TheVariants.Add))) (fits text r_r_n ts) b e
 
 pub addi-row : HasOneRow (codes "addi") r_r_n (mnemonic.TheVariants.OpImm op.TheVariants.Add)
 addi-row = record { known = addi-known; found = addi-found }
@@ -201,10 +183,8 @@ xori-known false = refl
 
 xori-found : (v : Bool) (text : List ℕ) (ts : List Token) (b : Bool) → fits text r_r_n ts ≡ b → kind_for v text (codes "xori") ts ≡ cond b (Some (Code (mnemonic.TheVariants.OpImm op.TheVariants.Xor))) None
 unfolding memory_rows operation_rows short_rows directive_rows later_rows
-xori-found true text ts true e = rw e refl
-xori-found true text ts false e = rw e refl
-xori-found false text ts true e = rw e refl
-xori-found false text ts false e = rw e refl
+xori-found true text ts b e = picked (row (codes "xori") r_r_n (Code (mnemonic.TheVariants.OpImm op.TheVariants.Xor))) (fits text r_r_n ts) b e
+xori-found false text ts b e = picked (row (codes "xori") r_r_n (Code (mnemonic.TheVariants.OpImm op.TheVariants.Xor))) (fits text r_r_n ts) b e
 
 pub xori-row : HasOneRow (codes "xori") r_r_n (mnemonic.TheVariants.OpImm op.TheVariants.Xor)
 xori-row = record { known = xori-known; found = xori-found }
@@ -216,10 +196,8 @@ sltiu-known false = refl
 
 sltiu-found : (v : Bool) (text : List ℕ) (ts : List Token) (b : Bool) → fits text r_r_n ts ≡ b → kind_for v text (codes "sltiu") ts ≡ cond b (Some (Code (mnemonic.TheVariants.OpImm op.TheVariants.Sltu))) None
 unfolding memory_rows operation_rows short_rows directive_rows later_rows
-sltiu-found true text ts true e = rw e refl
-sltiu-found true text ts false e = rw e refl
-sltiu-found false text ts true e = rw e refl
-sltiu-found false text ts false e = rw e refl
+sltiu-found true text ts b e = picked (row (codes "sltiu") r_r_n (Code (mnemonic.TheVariants.OpImm op.TheVariants.Sltu))) (fits text r_r_n ts) b e
+sltiu-found false text ts b e = picked (row (codes "sltiu") r_r_n (Code (mnemonic.TheVariants.OpImm op.TheVariants.Sltu))) (fits text r_r_n ts) b e
 
 pub sltiu-row : HasOneRow (codes "sltiu") r_r_n (mnemonic.TheVariants.OpImm op.TheVariants.Sltu)
 sltiu-row = record { known = sltiu-known; found = sltiu-found }
@@ -231,10 +209,8 @@ sub-known false = refl
 
 sub-found : (v : Bool) (text : List ℕ) (ts : List Token) (b : Bool) → fits text r_r_r ts ≡ b → kind_for v text (codes "sub") ts ≡ cond b (Some (Code (mnemonic.TheVariants.Op op.TheVariants.Sub))) None
 unfolding memory_rows operation_rows short_rows directive_rows later_rows
-sub-found true text ts true e = rw e refl
-sub-found true text ts false e = rw e refl
-sub-found false text ts true e = rw e refl
-sub-found false text ts false e = rw e refl
+sub-found true text ts b e = picked (row (codes "sub") r_r_r (Code (mnemonic.TheVariants.Op op.TheVariants.Sub))) (fits text r_r_r ts) b e
+sub-found false text ts b e = picked (row (codes "sub") r_r_r (Code (mnemonic.TheVariants.Op op.TheVariants.Sub))) (fits text r_r_r ts) b e
 
 pub sub-row : HasOneRow (codes "sub") r_r_r (mnemonic.TheVariants.Op op.TheVariants.Sub)
 sub-row = record { known = sub-known; found = sub-found }
@@ -246,10 +222,8 @@ sltu-known false = refl
 
 sltu-found : (v : Bool) (text : List ℕ) (ts : List Token) (b : Bool) → fits text r_r_r ts ≡ b → kind_for v text (codes "sltu") ts ≡ cond b (Some (Code (mnemonic.TheVariants.Op op.TheVariants.Sltu))) None
 unfolding memory_rows operation_rows short_rows directive_rows later_rows
-sltu-found true text ts true e = rw e refl
-sltu-found true text ts false e = rw e refl
-sltu-found false text ts true e = rw e refl
-sltu-found false text ts false e = rw e refl
+sltu-found true text ts b e = picked (row (codes "sltu") r_r_r (Code (mnemonic.TheVariants.Op op.TheVariants.Sltu))) (fits text r_r_r ts) b e
+sltu-found false text ts b e = picked (row (codes "sltu") r_r_r (Code (mnemonic.TheVariants.Op op.TheVariants.Sltu))) (fits text r_r_r ts) b e
 
 pub sltu-row : HasOneRow (codes "sltu") r_r_r (mnemonic.TheVariants.Op op.TheVariants.Sltu)
 sltu-row = record { known = sltu-known; found = sltu-found }
@@ -261,10 +235,8 @@ beq-known false = refl
 
 beq-found : (v : Bool) (text : List ℕ) (ts : List Token) (b : Bool) → fits text r_r_t ts ≡ b → kind_for v text (codes "beq") ts ≡ cond b (Some (Code (mnemonic.TheVariants.Branch branch.TheVariants.Eq))) None
 unfolding memory_rows operation_rows short_rows directive_rows later_rows
-beq-found true text ts true e = rw e refl
-beq-found true text ts false e = rw e refl
-beq-found false text ts true e = rw e refl
-beq-found false text ts false e = rw e refl
+beq-found true text ts b e = picked (row (codes "beq") r_r_t (Code (mnemonic.TheVariants.Branch branch.TheVariants.Eq))) (fits text r_r_t ts) b e
+beq-found false text ts b e = picked (row (codes "beq") r_r_t (Code (mnemonic.TheVariants.Branch branch.TheVariants.Eq))) (fits text r_r_t ts) b e
 
 pub beq-row : HasOneRow (codes "beq") r_r_t (mnemonic.TheVariants.Branch branch.TheVariants.Eq)
 beq-row = record { known = beq-known; found = beq-found }
@@ -276,10 +248,8 @@ bne-known false = refl
 
 bne-found : (v : Bool) (text : List ℕ) (ts : List Token) (b : Bool) → fits text r_r_t ts ≡ b → kind_for v text (codes "bne") ts ≡ cond b (Some (Code (mnemonic.TheVariants.Branch branch.TheVariants.Ne))) None
 unfolding memory_rows operation_rows short_rows directive_rows later_rows
-bne-found true text ts true e = rw e refl
-bne-found true text ts false e = rw e refl
-bne-found false text ts true e = rw e refl
-bne-found false text ts false e = rw e refl
+bne-found true text ts b e = picked (row (codes "bne") r_r_t (Code (mnemonic.TheVariants.Branch branch.TheVariants.Ne))) (fits text r_r_t ts) b e
+bne-found false text ts b e = picked (row (codes "bne") r_r_t (Code (mnemonic.TheVariants.Branch branch.TheVariants.Ne))) (fits text r_r_t ts) b e
 
 pub bne-row : HasOneRow (codes "bne") r_r_t (mnemonic.TheVariants.Branch branch.TheVariants.Ne)
 bne-row = record { known = bne-known; found = bne-found }
@@ -291,10 +261,8 @@ jal-known false = refl
 
 jal-found : (v : Bool) (text : List ℕ) (ts : List Token) (b : Bool) → fits text r_t ts ≡ b → kind_for v text (codes "jal") ts ≡ cond b (Some (Code mnemonic.TheVariants.Jal)) None
 unfolding memory_rows operation_rows short_rows directive_rows later_rows
-jal-found true text ts true e = rw e refl
-jal-found true text ts false e = rw e refl
-jal-found false text ts true e = rw e refl
-jal-found false text ts false e = rw e refl
+jal-found true text ts b e = picked (row (codes "jal") r_t (Code mnemonic.TheVariants.Jal)) (fits text r_t ts) b e
+jal-found false text ts b e = picked (row (codes "jal") r_t (Code mnemonic.TheVariants.Jal)) (fits text r_t ts) b e
 
 pub jal-row : HasOneRow (codes "jal") r_t mnemonic.TheVariants.Jal
 jal-row = record { known = jal-known; found = jal-found }
@@ -306,10 +274,8 @@ jalr-known false = refl
 
 jalr-found : (v : Bool) (text : List ℕ) (ts : List Token) (b : Bool) → fits text r_at ts ≡ b → kind_for v text (codes "jalr") ts ≡ cond b (Some (Code mnemonic.TheVariants.Jalr)) None
 unfolding memory_rows operation_rows short_rows directive_rows later_rows
-jalr-found true text ts true e = rw e refl
-jalr-found true text ts false e = rw e refl
-jalr-found false text ts true e = rw e refl
-jalr-found false text ts false e = rw e refl
+jalr-found true text ts b e = picked (row (codes "jalr") r_at (Code mnemonic.TheVariants.Jalr)) (fits text r_at ts) b e
+jalr-found false text ts b e = picked (row (codes "jalr") r_at (Code mnemonic.TheVariants.Jalr)) (fits text r_at ts) b e
 
 pub jalr-row : HasOneRow (codes "jalr") r_at mnemonic.TheVariants.Jalr
 jalr-row = record { known = jalr-known; found = jalr-found }

@@ -1,4 +1,5 @@
--- The faults of a line of good form, each as a test: of the line, of the tables of the lines before it, and of what names mean.
+-- The faults of a line of good form, each as a test: of the line, of the lines of good form before it and their tables, and of what
+-- names mean.
 -- What is far is a number out of its range, or a label too far away; what is lost is a name that isn't declared as what is wanted.
 use Rattle.std.specs.Prelude.{ℕ, ◌%◌, ℤ, pos, ◌+ℤ◌, ◌*ℤ◌, int_le, int_lt, Bool, true, false, not, ◌&&◌, ◌||◌, nat_lt, ◌==◌, List, length, Option, Some, None, is_none, if◌then◌else◌}
 use Rattle.std.specs.List.{list_all, list_any, range_with_len}
