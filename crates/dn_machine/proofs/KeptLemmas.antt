@@ -1,5 +1,5 @@
 -- What the calls of a machine may count on.
-use Rattle.std.proofs.Common.{◌≡◌, ℕ, ◌+◌, ◌*◌, ◌<◌, ◌≤◌, Bool, true, false, arith}
+use Rattle.std.proofs.Common.{◌≡◌, ℕ, ◌+◌, ◌*◌, ◌<◌, ◌≤◌, Bool, true, false, sym, subst, arith}
 use Rattle.std.proofs.Math.Nat.{mul-le-mul}
 use Rattle.message_net.specs.declared.event.Event.{Event}
 use Rattle.phase_barrier.specs.Barrier.{all_arrived}
@@ -8,9 +8,9 @@ use Rattle.machine_rules.specs.Next.{next, enabled, actor_index_in}
 use Rattle.machine_rules.specs.Flight.{bit}
 use Rattle.machine_rules.specs.Sound.{rounds}
 use Rattle.machine_rules.proofs.MachineMails.{unused}
-use Rattle.machine_rules.proofs.SoundEvents.{sound-next}
 use Rattle.dn_machine.specs.Content.{IsWhole}
 use Rattle.dn_machine.specs.Kept.{IsKept}
+use Rattle.dn_machine.proofs.LeftLemmas.{left-next, kept-left}
 
 bit-most : (b : Bool) → bit b ≤ 1
 bit-most true = omega arith
@@ -40,11 +40,6 @@ whole-kept S made kept few =
           };
     }
 
-pub kept-next : (S T : State) (made : ℕ) (e : Event) → IsKept S made → enabled S e ≡ true → T.setting ≡ S.setting → T ≡ next S e → IsKept T (made + 1)
-kept-next S T made e kept may setting is =
-    record {
-      some = rw setting kept.some;
-      most = rw setting kept.most;
-      sound = rw is (sound-next S made e kept.sound may);
-      first = λ none. absurd (omega (arith, none));
-    }
+pub kept-next : (S T : State) (made : ℕ) (e : Event) → IsKept S made → enabled S e ≡ true → T ≡ next S e → IsKept T (made + 1)
+kept-next S T made e kept may is =
+    subst (λ (U : State). IsKept U (made + 1)) (sym is) (kept-left (next S e) (made + 1) (left-next S made e kept.left may))

@@ -3,6 +3,7 @@ mod ListItems
 mod OwnRow
 mod CoreEvents
 mod MailEvents
+pub mod LeftLemmas
 mod KeptLemmas
 mod Opened
 mod PickLemmas

@@ -1,5 +1,5 @@
 -- The content of a machine as a run begins.
-use Rattle.std.proofs.Common.{◌≡◌, ℕ, ◌+◌, ◌≤◌, List, [], length, map, replicate, slice_get, Some, refl, sym, subst}
+use Rattle.std.proofs.Common.{◌≡◌, ℕ, ◌+◌, List, [], length, map, replicate, slice_get, Some, refl, sym, subst}
 use Rattle.std.specs.List.{range_with_len}
 use Rattle.region_table.specs.Program.{IsProgram}
 use Rattle.effect_checker.specs.Checked.{IsChecked}
@@ -9,8 +9,10 @@ use Rattle.message_net.specs.declared.message.Mail.{Mail}
 use Rattle.registry_bank.specs.Bank.{BankParts, initial_bank}
 use Rattle.phase_barrier.specs.Barrier.{Barrier, initial_barrier}
 use Rattle.machine_rules.specs.State.{State, initial_state}
-use Rattle.machine_rules.proofs.OpenedSound.{opened-machine, opened-sound}
+use Rattle.machine_rules.specs.Sound.{IsReady}
+use Rattle.machine_rules.proofs.OpenedSound.{opened-machine}
 use Rattle.dn_machine.specs.Kept.{IsKept}
+use Rattle.dn_machine.proofs.LeftLemmas.{left-first, kept-left}
 
 pub opened-from : (C : Setting) (nodes : List NodeParts) (banks : List BankParts) (keeper : Barrier) (mails : List Mail) (numbers memory : List ℕ) (locks phases : ℕ) → memory ≡ C.program.memory → locks ≡ length C.program.locks → phases ≡ length C.program.phases
     → nodes ≡ map (initial_node C) (range_with_len 0 C.shape.cores) → banks ≡ map (λ (bank : ℕ). initial_bank bank C.shape.banks C.shape.cores memory locks) (range_with_len 0 C.shape.banks) → keeper ≡ initial_barrier C.shape.cores phases → mails ≡ [] → numbers ≡ replicate (C.shape.cores + C.shape.banks + 1) 0
@@ -22,15 +24,8 @@ pub opened-nodes-fit : (C : Setting) → IsContext C → IsProgram C.program →
 unfolding initial_state
 opened-nodes-fit C context program checked core n here = ((opened-machine C context program checked).node core n here).fits
 
-pub kept-first : (C : Setting) → IsContext C → IsProgram C.program → IsChecked C.program → 1 ≤ C.shape.cores → C.shape.cores ≤ 16 → IsKept (initial_state C) 0
-unfolding initial_state
-kept-first C context program checked some most =
-    record {
-      some = some;
-      most = most;
-      sound = opened-sound C context program checked;
-      first = λ none. refl;
-    }
+pub kept-first : (C : Setting) → IsReady C → IsKept (initial_state C) 0
+kept-first C ready = kept-left (initial_state C) 0 (left-first C ready)
 
-pub kept-opened : (C : Setting) (S : State) → IsContext C → IsProgram C.program → IsChecked C.program → 1 ≤ C.shape.cores → C.shape.cores ≤ 16 → S ≡ initial_state C → IsKept S 0
-kept-opened C S context program checked some most is = subst (λ (T : State). IsKept T 0) (sym is) (kept-first C context program checked some most)
+pub kept-opened : (C : Setting) (S : State) → IsReady C → S ≡ initial_state C → IsKept S 0
+kept-opened C S ready is = subst (λ (T : State). IsKept T 0) (sym is) (kept-first C ready)

@@ -69,10 +69,10 @@ pub begins : (C : Setting) (seed : ℕ) (T : State) → T ≡ initial_state C �
 begins C seed T opens kept = record { picked = tt; words = refl; leads = opens; kept = kept; all = refl; logged = log-opened C }
 
 pub goes-on : (C : Setting) (seed : ℕ) (g : Lcg) (S T : State) (log : Log) (h : Happened) → IsOnTheWay C seed g S log → pick S (word_of g) ≡ Some h.event → HasCome S T h
-    → T.setting ≡ S.setting → IsOnTheWay C seed (after_word g) T (with_event h log)
-goes-on C seed g S T log h way pick_is come setting =
+    → IsOnTheWay C seed (after_word g) T (with_event h log)
+goes-on C seed g S T log h way pick_is come =
     let may = pick-comes S (word_of g) h.event way.kept.sound.machine pick_is in
-    let kept : IsKept T (length log.events + 1) = kept-next S T (length log.events) h.event way.kept may setting come.next in
+    let kept : IsKept T (length log.events + 1) = kept-next S T (length log.events) h.event way.kept may come.next in
     let there : pick (after (initial_state C) log.events) (word_of (after_words log.events (generator_of seed))) ≡ Some h.event = rw (← way.leads, ← way.words) pick_is in
     let one_more : length (log.events ++ h.event ∷ []) ≡ length log.events + 1 = omega (arith, length-append log.events (h.event ∷ [])) in
     record {

@@ -1,9 +1,13 @@
 -- A machine as its calls' clauses see it.
-use Rattle.std.specs.Prelude.{◌≡◌, ℕ, ◌≤◌}
+use Rattle.std.specs.Prelude.{◌≡◌, ℕ, ◌≤◌, List, length}
 use Rattle.dn_base.specs.declared.ids.Shape.{Shape}
 use Rattle.region_table.specs.Program.{ProgramParts}
+use Rattle.message_net.specs.declared.event.Event.{Event}
 use Rattle.machine_rules.specs.State.{State, initial_state}
-use Rattle.machine_rules.specs.Sound.{IsSound}
+use Rattle.machine_rules.specs.Runs.{after, IsRun}
+use Rattle.machine_rules.specs.Coherent.{Coherent}
+use Rattle.machine_rules.specs.Sound.{IsReady, IsSound}
+use Rattle.machine_rules.specs.Reordered.{IsReordered}
 use Rattle.dn_machine.specs.Plans.{AreInOneForm}
 
 -- the state of a machine, and how many events have led to it
@@ -11,11 +15,23 @@ pub record Made : Type 0 where
   pub state : State
   pub made : ℕ
 
--- what is true of every machine: it has 1 to 16 cores, its state is sound, and it is the opened one where no event has come
+-- events that may come, so many, lead from the opened machine of a checked program to the state, but for the order of its
+-- mails in flight
+pub record IsLeftByRun (S : State) (made : ℕ) : Type 0 where
+  pub ready : IsReady S.setting
+  pub events : List Event
+  pub run : IsRun (initial_state S.setting) events
+  pub count : length events ≡ made
+  pub leads : IsReordered (after (initial_state S.setting) events) S
+
+-- what is true of every machine: a run leaves it. So it has 1 to 16 cores, its state is sound and coherent, and it is the
+-- opened one where no event has come
 pub record IsKept (S : State) (made : ℕ) : Type 0 where
+  pub left : IsLeftByRun S made
   pub some : 1 ≤ S.setting.shape.cores
   pub most : S.setting.shape.cores ≤ 16
   pub sound : IsSound S made
+  pub coherent : Coherent S
   pub first : made ≡ 0 → S ≡ initial_state S.setting
 
 -- the opened machine of a program, a shape and a fuel

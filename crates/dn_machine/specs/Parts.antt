@@ -1,6 +1,5 @@
 -- The parts of a machine.
-use Rattle.std.specs.Prelude.{◌≡◌, IsPermutation}
-use Rattle.machine_rules.specs.State.{State}
+pub use Rattle.machine_rules.specs.Reordered.{IsReordered}
 use Rattle.dn_machine.specs.Kept.{Made}
 use Rattle.dn_machine.specs.declared.parts.MachineParts.{MachineParts}
 
@@ -19,8 +18,3 @@ made_in p =
           };
       made = p.made;
     }
-
--- a state is another one but for the order of its mails
-pub record IsReordered (S T : State) : Type 0 where
-  pub mails : IsPermutation S.mails T.mails
-  pub rest : T ≡ record S { mails = T.mails }

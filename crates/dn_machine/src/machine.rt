@@ -196,8 +196,8 @@ impl Machine {
     }
 }
 
-/// Every machine has 1 to 16 cores and is sound, so its program is a checked one; and it is the opened one where no event has
-/// come.
+/// Every machine is what a run of the opened machine of a checked program leaves, but for the order of its mails: so it has 1 to 16
+/// cores, is sound and coherent, and is the opened one where no event has come.
 pub fn a_machine_is_kept(machine: &Machine)
     ensures { IsKept machine.now.state machine.now.made }
 {

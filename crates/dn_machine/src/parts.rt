@@ -1,10 +1,10 @@
-ghost use Rattle.std.specs.Prelude.{◌≡◌, ℕ, ◌+◌, ◌≤◌, List, length};
+ghost use Rattle.std.specs.Prelude.{◌≡◌, ℕ, ◌+◌, List, length};
 ghost use Rattle.message_net.specs.declared.event.Event.{Event};
 ghost use Rattle.registration_protocol.specs.Node.{Setting};
 ghost use Rattle.machine_rules.specs.State.{State, initial_state};
 ghost use Rattle.machine_rules.specs.Runs.{after, IsRun};
 ghost use Rattle.machine_rules.specs.Sound.{IsReady};
-ghost use Rattle.dn_machine.specs.Kept.{IsKept};
+ghost use Rattle.dn_machine.specs.Kept.{IsKept, IsLeftByRun};
 ghost use Rattle.dn_machine.specs.Parts.{made_in, IsReordered};
 
 use crate::content::Content;
@@ -70,8 +70,8 @@ impl Machine {
         }
     }
 
-    /// The machine of these parts, whose state is one that a machine may have: the parts of a machine have such a state, and
-    /// `what_a_run_leaves_is_kept` says that runs and another order of the mails keep it. Takes no memory.
+    /// The machine of these parts. They are what a run of `made` events leaves of the opened machine of a checked program, and their
+    /// mails may stand in any order: `what_a_run_leaves_is_kept` says what follows of them. Takes no memory.
     pub fn join(parts: MachineParts) -> Machine
         requires { IsKept (made_in parts).state parts.made }
         ensures { result ≡ made_in parts }
@@ -109,10 +109,11 @@ impl Machine {
     }
 }
 
-/// The opened machine of a checked program is in a state that a machine may have; so is whatever a run makes of such a state,
-/// and the same state with its mails in another order.
+/// What a run leaves, with its mails in any order, is sound and coherent, and all that is true of a machine. It stays so at every
+/// run that goes on from it, and in another order of its mails.
 pub fn what_a_run_leaves_is_kept()
-    ensures initial { (C : Setting) → IsReady C → 1 ≤ C.shape.cores → C.shape.cores ≤ 16 → IsKept (initial_state C) 0 }
+    ensures left { (S : State) (made : ℕ) → IsLeftByRun S made → IsKept S made }
+    ensures initial { (C : Setting) → IsReady C → IsKept (initial_state C) 0 }
     ensures run { (S : State) (made : ℕ) (events : List Event) → IsKept S made → IsRun S events → IsKept (after S events) (made + length events) }
     ensures reordered { (S T : State) (made : ℕ) → IsKept S made → IsReordered S T → IsKept T made }
 {}

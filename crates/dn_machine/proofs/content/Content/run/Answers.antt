@@ -1,4 +1,4 @@
-use Rattle.std.proofs.Common.{◌≡◌, List, [], ◌∷◌, ◌++◌, length, length-append, Option, Some, None, Ok, refl, sym, ap, ◌∙◌, arith}
+use Rattle.std.proofs.Common.{◌≡◌, List, [], ◌∷◌, ◌++◌, length, length-append, Option, Some, None, Ok, sym, ap, ◌∙◌, arith}
 use Rattle.message_net.specs.declared.event.Event.{Event}
 use Rattle.registration_protocol.specs.Setting.{setting}
 use Rattle.machine_rules.specs.State.{initial_state}
@@ -51,7 +51,7 @@ events-preserved c =
     let h = c.in-Some.happened in
     let came = c.advance.ensures.some h (c.in_ok-happened.was ∙ ap (λ (o : Option Happened). Ok o) c.in-Some.is) in
     let picks : pick S (word_of c.events.words) ≡ Some h.event = ap (pick S) (sym c.draw.ensures.word) ∙ came.0 in
-    record { way = rw (c.in_ok-note.ensures, c.draw.ensures.rest) (goes-on C c.args.seed c.events.words S T c.events.log h c.events.invariant.way picks came.1 refl); known = c.advance.ensures.known }
+    record { way = rw (c.in_ok-note.ensures, c.draw.ensures.rest) (goes-on C c.args.seed c.events.words S T c.events.log h c.events.invariant.way picks came.1); known = c.advance.ensures.known }
 
 pub returns : goal.returns
 returns c =

@@ -1,4 +1,4 @@
-use Rattle.std.proofs.Common.{◌≡◌, ◌≤◌, arith}
+use Rattle.std.proofs.Common.{◌≡◌, arith}
 use Rattle.region_table.specs.Program.{IsProgram, cores_of}
 use Rattle.registration_protocol.specs.Node.{Setting}
 use Rattle.registration_protocol.specs.Fit.{IsContext}
@@ -26,8 +26,6 @@ invariant_of-result c =
       some_fuel = omega (arith, c.requires.some_fuel);
       most_fuel = c.requires.most_fuel;
     } in
-    let some : 1 ≤ c.args.shape.cores = omega (arith, c.cores-cores.ensures.some, cores, c.requires.cores) in
-    let most : c.args.shape.cores ≤ 16 = omega (arith, c.cores-cores.ensures.within, cores, c.requires.cores) in
     let program : IsProgram c.args.checked = rw same at c.a_program_is_well_formed.ensures in
     let state : state_of P c.in_ok-content.content ≡ initial_state P = rw told at c.in_ok-content.ensures.state in
-    (kept-opened P _ context program c.program-program.ensures.checked some most state, rw told at c.in_ok-content.ensures.known)
+    (kept-opened P _ (record { context = context; program = program; checked = c.program-program.ensures.checked }) state, rw told at c.in_ok-content.ensures.known)

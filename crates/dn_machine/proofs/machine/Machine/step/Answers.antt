@@ -1,4 +1,4 @@
-use Rattle.std.proofs.Common.{◌≡◌, ◌<◌, true, map, refl, sym, ap, ◌∙◌, rules}
+use Rattle.std.proofs.Common.{◌≡◌, ◌<◌, true, map, sym, ap, ◌∙◌, rules}
 use Rattle.registration_protocol.specs.Node.{Setting}
 use Rattle.registration_protocol.specs.OwnEvents.{own_event}
 use Rattle.machine_rules.specs.State.{State}
@@ -41,7 +41,7 @@ invariant_of-self-2 c =
     let P : Setting = record { program = c.self.inside.checked; plans = c.self.inside.plans.items; shape = c.self.inside.shape; fuel = c.self.inside.fuel } in
     let may : enabled (state_of P c.self.inside.content) c.args.event ≡ true = rw (← c.self.view_is) at c.requires.may in
     let is : state_of P c.act-stepped.new.self ≡ next (state_of P c.self.inside.content) c.args.event = rw (c.context_of-context.ensures, c.reserve.ensures.state P) at c.act-stepped.ensures.state in
-    (kept-next (state_of P c.self.inside.content) (state_of P c.act-stepped.new.self) c.self.inside.made c.args.event c.self.invariant.0 may refl is, rw c.context_of-context.ensures at c.act-stepped.ensures.known)
+    (kept-next (state_of P c.self.inside.content) (state_of P c.act-stepped.new.self) c.self.inside.made c.args.event c.self.invariant.0 may is, rw c.context_of-context.ensures at c.act-stepped.ensures.known)
 
 pub returns-clause-state : goal.returns-clause-state
 returns-clause-state c =
