@@ -9,3 +9,4 @@ pub mod Actors
 pub mod Parts
 pub mod Plans
 pub mod Settings
+pub mod Sizes

@@ -1,5 +1,4 @@
-ghost use Rattle.std.specs.Prelude.{◌≡◌, ◌↔◌, ◌+◌, ◌<◌, ◌≤◌, true, OnOk, OnErr, IfOk, IfSome, None, slice_get};
-ghost use Rattle.region_table.specs.Program.{cores_of};
+ghost use Rattle.std.specs.Prelude.{◌≡◌, ◌↔◌, ◌+◌, ◌<◌, true, OnOk, OnErr, IfOk, IfSome, None, slice_get};
 ghost use Rattle.registration_protocol.specs.Setting.{setting};
 ghost use Rattle.machine_rules.specs.Memory.{word_value};
 ghost use Rattle.machine_rules.specs.Next.{next, enabled, observed};
@@ -8,6 +7,7 @@ ghost use Rattle.dn_machine.specs.Ends.{end_at};
 ghost use Rattle.dn_machine.specs.Kept.{IsKept, IsInitialMachine};
 ghost use Rattle.dn_machine.specs.Pick.{pick};
 ghost use Rattle.dn_machine.specs.Run.{IsSeedsRunOf};
+ghost use Rattle.dn_machine.specs.Sizes.{FitsMachine};
 
 use crate::content::Content;
 use crate::forms::plans_have_one_form;
@@ -81,15 +81,7 @@ impl Machine {
         shape: Shape,
         fuel: u32,
     ) -> Result<Machine, Memory>
-        requires cores { shape.cores ≡ cores_of checked }
-        requires some_banks { 1 ≤ shape.banks }
-        requires most_banks { shape.banks ≤ 16 }
-        requires some_sets { 1 ≤ shape.sets }
-        requires most_sets { shape.sets ≤ 256 }
-        requires some_ways { 1 ≤ shape.ways }
-        requires most_ways { shape.ways ≤ 16 }
-        requires some_fuel { 1 ≤ fuel }
-        requires most_fuel { fuel ≤ 32768 }
+        requires fits { FitsMachine checked shape fuel }
         ensures { IfOk result (IsInitialMachine checked shape fuel) }
     {
         let program = checked.program();

@@ -1,5 +1,5 @@
 ghost use Rattle.std.specs.Prelude.{◌≡◌, ◌≤◌, length, IfOk};
-ghost use Rattle.region_table.specs.Program.{cores_of};
+ghost use Rattle.dn_machine.specs.Sizes.{FitsMachine};
 ghost use Rattle.run_chart.specs.Charts.{IsChartOf, blank};
 
 use crate::drawing::{Drawing, Range};
@@ -43,15 +43,7 @@ pub fn chart(
     range: Range,
     chain: &[u32],
 ) -> Result<Chart, Memory>
-    requires cores { shape.cores ≡ cores_of checked }
-    requires some_banks { 1 ≤ shape.banks }
-    requires most_banks { shape.banks ≤ 16 }
-    requires some_sets { 1 ≤ shape.sets }
-    requires most_sets { shape.sets ≤ 256 }
-    requires some_ways { 1 ≤ shape.ways }
-    requires most_ways { shape.ways ≤ 16 }
-    requires some_fuel { 1 ≤ fuel }
-    requires most_fuel { fuel ≤ 32768 }
+    requires fits { FitsMachine checked shape fuel }
     requires few { length events.now ≤ 25169664 }
     requires most { range.most ≤ 4096 }
     ensures { IfOk result (IsChartOf checked shape fuel events.now range chain.now) }

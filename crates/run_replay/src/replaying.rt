@@ -1,9 +1,9 @@
 ghost use Rattle.std.specs.Prelude.{◌≡◌, ◌+◌, ◌<◌, ◌≤◌, true, Some, length, IfOk, OnOk};
-ghost use Rattle.region_table.specs.Program.{cores_of};
 ghost use Rattle.machine_rules.specs.State.{initial_state};
 ghost use Rattle.machine_rules.specs.Next.{enabled};
 ghost use Rattle.dn_machine.specs.Kept.{IsKept};
 ghost use Rattle.dn_machine.specs.Log.{core_of, end_there, HasCome};
+ghost use Rattle.dn_machine.specs.Sizes.{FitsMachine};
 ghost use Rattle.run_replay.specs.Replay.{IsTrueOf, IsReplayOf, IsReplayOutcome};
 
 use dn_base::{Grant, Memory, Sequence, Shape};
@@ -129,15 +129,7 @@ pub fn replay(
     fuel: u32,
     events: &[Event],
 ) -> Result<Replayed, Memory>
-    requires cores { shape.cores ≡ cores_of checked }
-    requires some_banks { 1 ≤ shape.banks }
-    requires most_banks { shape.banks ≤ 16 }
-    requires some_sets { 1 ≤ shape.sets }
-    requires most_sets { shape.sets ≤ 256 }
-    requires some_ways { 1 ≤ shape.ways }
-    requires most_ways { shape.ways ≤ 16 }
-    requires some_fuel { 1 ≤ fuel }
-    requires most_fuel { fuel ≤ 32768 }
+    requires fits { FitsMachine checked shape fuel }
     requires few { length events.now ≤ 25169664 }
     ensures { IfOk result (IsReplayOf checked shape fuel events.now) }
 {

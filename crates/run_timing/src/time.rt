@@ -1,7 +1,7 @@
-ghost use Rattle.std.specs.Prelude.{◌≡◌, ◌≤◌, length, IfOk};
-ghost use Rattle.region_table.specs.Program.{cores_of};
+ghost use Rattle.std.specs.Prelude.{◌≤◌, length, IfOk};
 ghost use Rattle.run_timing.specs.Longest.{IsTimingOf};
 ghost use Rattle.dn_machine.specs.Settings.{IsRunOn};
+ghost use Rattle.dn_machine.specs.Sizes.{FitsMachine};
 ghost use Rattle.run_timing.specs.Ticks.{AreWithinLimits};
 
 use crate::running::timed_rows;
@@ -39,15 +39,7 @@ pub fn time_run(
     events: &[Event],
     ticks: &Ticks,
 ) -> Result<Timing, Memory>
-    requires cores { shape.cores ≡ cores_of checked }
-    requires some_banks { 1 ≤ shape.banks }
-    requires most_banks { shape.banks ≤ 16 }
-    requires some_sets { 1 ≤ shape.sets }
-    requires most_sets { shape.sets ≤ 256 }
-    requires some_ways { 1 ≤ shape.ways }
-    requires most_ways { shape.ways ≤ 16 }
-    requires some_fuel { 1 ≤ fuel }
-    requires most_fuel { fuel ≤ 32768 }
+    requires fits { FitsMachine checked shape fuel }
     requires run { IsRunOn checked shape fuel events.now }
     requires few { length events.now ≤ 25169664 }
     requires ticks { AreWithinLimits ticks.now }
