@@ -1,5 +1,6 @@
 -- From what closing the rows of a hall gives to what closing the hall does.
 use Rattle.std.proofs.Common.{◌≡◌, ℕ, zero, suc, ◌+◌, ◌<◌, List, [], ◌∷◌, ◌++◌, length, map, Option, Some, None, slice_get, sym, refl, ap, ◌∙◌, subst, arith}
+use Rattle.std.specs.Prelude.{reverse}
 use Rattle.std.specs.List.{All}
 use Rattle.std.proofs.lemmas.List.{length-map}
 use Rattle.std.proofs.lemmas.List.Elements.{All-nil, All-cons, All-head, All-tail, All-map}
@@ -8,6 +9,7 @@ use Rattle.turn_lock.specs.History.{BeginsWith, Legal, calls_by}
 use Rattle.turn_lock.specs.Passes.{Sharing, Token, IsPassOf}
 use Rattle.bank_hall.specs.Rows.{Tokens, HasPassesOf, AreShared, AreTold, AreClosed, AreAllCallers, made_by, made_of}
 use Rattle.bank_hall.specs.Halls.{HallView, PassView, BankEntry, PortEntry, KeeperEntry, IsHallPass, AreNewPasses}
+use Rattle.bank_hall.proofs.StartLemmas.{snoc-append, reverse-push}
 use Rattle.bank_hall.specs.Closing.{AreAllHallPasses, IsClosedRow, IsToldPass, or_none, history_of, seen_by_pass}
 
 module _ {X : Type 0} where
@@ -26,17 +28,10 @@ module _ {X : Type 0} where
   one_element xs (y ∷ z ∷ ys) x one split = absurd (omega (arith, sym one ∙ ap length split))
 
 module _ {X Y : Type 0} where
-  map_last : (row : X → Y) (left : List X) (x : X) (rest : List Y) → map row (left ++ x ∷ []) ++ rest ≡ map row left ++ row x ∷ rest
-  map_last row [] x rest = refl
-  map_last row (y ∷ left) x rest = ap (λ l. row y ∷ l) (map_last row left x rest)
-
   -- one more was taken apart
-  pub row_more : (row : X → Y) (xs left : List X) (x : X) (y : Y) (apart apart' first : List Y) → xs ≡ left ++ x ∷ [] → y ≡ row x → apart' ≡ y ∷ apart → map row xs ++ apart ≡ first → map row left ++ apart' ≡ first
-  row_more row xs left x y apart apart' first split is inserted had =
-      ap (λ l. map row left ++ l) (inserted ∙ ap (λ z. z ∷ apart) is) ∙ sym (map_last row left x apart) ∙ ap (λ l. map row l ++ apart) (sym split) ∙ had
-
-  pub row_done : (row : X → Y) (xs : List X) (apart first : List Y) → xs ≡ [] → map row xs ++ apart ≡ first → apart ≡ first
-  row_done row xs apart first none had = ap (λ l. map row l ++ apart) (sym none) ∙ had
+  pub row_more : (row : X → Y) (xs left : List X) (x : X) (y : Y) (apart apart' first : List Y) → xs ≡ left ++ x ∷ [] → y ≡ row x → apart' ≡ apart ++ y ∷ [] → apart ++ map row (reverse xs) ≡ first → apart' ++ map row (reverse left) ≡ first
+  row_more row xs left x y apart apart' first split is pushed had =
+      ap (λ l. l ++ map row (reverse left)) (pushed ∙ ap (λ z. apart ++ z ∷ []) is) ∙ snoc-append apart (map row (reverse left)) (row x) ∙ ap (λ l. apart ++ map row l) (sym (reverse-push left xs x split)) ∙ had
 
 module _ {O I U : Type 0} where
   told_calls : (n : ℕ) (hs : List (List (Entry O I U))) (ps : List (Token O I U)) → AreTold hs ps → ((i : ℕ) (p : Token O I U) → slice_get ps i ≡ Some p → p.number ≡ n) → (i : ℕ) → calls_by n (or_none (slice_get hs i)) ≡ made_by (slice_get ps i)

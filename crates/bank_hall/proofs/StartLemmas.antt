@@ -1,5 +1,7 @@
 -- Sharing a row of objects among callers.
 use Rattle.std.proofs.Common.{◌≡◌, ℕ, zero, suc, ◌+◌, ◌<◌, List, [], ◌∷◌, ◌++◌, length, map, Option, Some, None, slice_get, slice_set, sym, refl, ap, ◌∙◌, subst, arith, length-append}
+use Rattle.std.specs.Prelude.{reverse}
+use Rattle.std.proofs.lemmas.List.{reverse-append}
 use Rattle.std.proofs.lemmas.List.Elements.{All-nil, All-cons}
 use Rattle.turn_lock.specs.Passes.{Sharing, Token, IsPassOf, IsUnusedPass, AreUnusedPasses}
 use Rattle.bank_hall.specs.Rows.{Tokens, IsNew, AreNew, handed}
@@ -19,6 +21,9 @@ module _ {X : Type 0} where
 
   pub length-pushed : (xs ys : List X) (x : X) → ys ≡ xs ++ x ∷ [] → length ys ≡ length xs + 1
   length-pushed xs ys x is = omega (arith, ap length is, length-append xs (x ∷ []))
+
+  pub reverse-push : (xs ys : List X) (x : X) → ys ≡ xs ++ x ∷ [] → reverse ys ≡ x ∷ reverse xs
+  reverse-push xs ys x is = ap reverse is ∙ reverse-append xs (x ∷ [])
 
   pub snoc-append : (left rest : List X) (x : X) → (left ++ x ∷ []) ++ rest ≡ left ++ x ∷ rest
   snoc-append [] rest x = refl

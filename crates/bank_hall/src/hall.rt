@@ -14,7 +14,7 @@ use crate::bank::{BankActor, BankIn, BankOut, Handled};
 use crate::keeper::{KeeperActor, KeeperHandled, KeeperIn, KeeperOut};
 use crate::port::{Port, PortIn, PortOut};
 use crate::posted::{Posted, crosses};
-use crate::row::{Row, RowPass};
+use crate::row::{Row, RowPass, take_last};
 use dn_base::{BankId, CoreId, Gate, Memory};
 use message_net::Actor;
 use std::alloc::Global;
@@ -80,24 +80,24 @@ pub struct HallEnd {
 /// The passes of all callers, each of them one pass of each turn.
 fn tied(
     alloc: Global,
-    banks: Vec<RowPass<BankActor>>,
-    ports: Vec<RowPass<Port>>,
-    keepers: Vec<RowPass<KeeperActor>>,
+    mut banks: Vec<RowPass<BankActor>>,
+    mut ports: Vec<RowPass<Port>>,
+    mut keepers: Vec<RowPass<KeeperActor>>,
 ) -> Result<Vec<Pass>, Memory>
+    requires ports { length ports.items ≡ length banks.items }
+    requires keepers { length keepers.items ≡ length banks.items }
     ensures { IfOk result (λ all. all.items ≡ passes_of banks.items ports.items keepers.items) }
 {
-    Ok(
-        banks
-            .into_iter()
-            .zip(ports)
-            .zip(keepers)
-            .map(|((banks, ports), keeper)| Pass {
-                banks,
-                ports,
-                keeper,
-            })
-            .collect(alloc)?,
-    )
+    let mut all = Vec::with_capacity(alloc, banks.len())?;
+    while let Some(last) = banks.pop() {
+        all.push_reserved(Pass {
+            banks: last,
+            ports: take_last(&mut ports),
+            keeper: take_last(&mut keepers),
+        });
+    }
+    all.reverse();
+    Ok(all)
 }
 
 /// A caller's passes of the banks, of the ports and of the keeper.
@@ -114,13 +114,14 @@ fn untied(alloc: Global, mut passes: Vec<Pass>) -> Result<Apart, Memory>
     ensures ports { IfOk result (λ all. all.ports.items ≡ map (λ p. p.ports) passes.items) }
     ensures keeper { IfOk result (λ all. all.keeper.items ≡ map (λ p. p.keeper) passes.items) }
 {
-    let mut banks = Vec::new(alloc);
-    let mut ports = Vec::new(alloc);
-    let mut keeper = Vec::new(alloc);
+    let mut banks = Vec::with_capacity(alloc, passes.len())?;
+    let mut ports = Vec::with_capacity(alloc, passes.len())?;
+    let mut keeper = Vec::with_capacity(alloc, passes.len())?;
+    passes.reverse();
     while let Some(pass) = passes.pop() {
-        banks.insert(0, pass.banks)?;
-        ports.insert(0, pass.ports)?;
-        keeper.insert(0, pass.keeper)?;
+        banks.push_reserved(pass.banks);
+        ports.push_reserved(pass.ports);
+        keeper.push_reserved(pass.keeper);
     }
     Ok(Apart {
         banks,

@@ -53,10 +53,18 @@ impl<O: Object> RowPass<O> {
         requires { 0 < length self.old.passes }
         ensures { self.old ≡ record self.new { passes = self.new.passes ++ result ∷ [] } }
     {
-        match self.passes.pop() {
-            Some(pass) => pass,
-            None => unreachable!(),
-        }
+        take_last(&mut self.passes)
+    }
+}
+
+/// Takes the last item.
+pub(crate) fn take_last<T>(items: &mut Vec<T>) -> T
+    requires { 0 < length items.old.items }
+    ensures { items.old.items ≡ items.new.items ++ result ∷ [] }
+{
+    match items.pop() {
+        Some(item) => item,
+        None => unreachable!(),
     }
 }
 

@@ -1,32 +1,20 @@
-use Rattle.std.proofs.Common.{[], ◌∷◌, length, ap, arith, length-append}
-use Rattle.std.proofs.lemmas.Bool.{false≢true}
-use Rattle.bank_hall.proofs.StartLemmas.{none_left}
-use Rattle.bank_hall.proofs.EndLemmas.{row_more, row_done}
+use Rattle.std.proofs.Common.{◌≡◌, ◌+◌, length, ap, arith}
+use Rattle.bank_hall.proofs.EndLemmas.{row_more}
+use Rattle.bank_hall.proofs.StartLemmas.{length-pushed}
 use Rattle.bank_hall.proofs.hall.untied.Goals as goal
-
-pub loop-pass-smaller : goal.loop-pass-smaller
-loop-pass-smaller c = omega (arith, ap length c.in-Some.ensures.items, length-append c.pop.new.self.items (c.in-Some.pass ∷ []))
 
 pub loop-pass-preserved : goal.loop-pass-preserved
 loop-pass-preserved c =
     let had = c.loop-pass.invariant in
-    let split = c.in-Some.ensures.items in record {
-      banks = row_more (λ p. p.banks) _ _ _ _ _ _ _ split (ap (λ p. p.banks) c.pass.view_is) c.in_ok-insert.ensures.items had.banks;
-      ports = row_more (λ p. p.ports) _ _ _ _ _ _ _ split (ap (λ p. p.ports) c.pass.view_is) c.in_ok-insert-2.ensures.items had.ports;
-      keeper = row_more (λ p. p.keeper) _ _ _ _ _ _ _ split (ap (λ p. p.keeper) c.pass.view_is) c.in_ok-insert-3.ensures.items had.keeper;
+    let split = c.in-Some.ensures.items in
+    let one_less : length c.loop-pass.passes.items ≡ length c.pop.new.self.items + 1 = length-pushed c.pop.new.self.items c.loop-pass.passes.items c.in-Some.pass split in
+    let banks = c.push_reserved.ensures in
+    let ports = c.push_reserved-in-Some.ensures in
+    let keeper = c.push_reserved-in-Some-2.ensures in record {
+      banks = row_more (λ p. p.banks) _ _ _ _ _ _ _ split (ap (λ p. p.banks) c.pass.view_is) banks.items had.banks;
+      ports = row_more (λ p. p.ports) _ _ _ _ _ _ _ split (ap (λ p. p.ports) c.pass.view_is) ports.items had.ports;
+      keeper = row_more (λ p. p.keeper) _ _ _ _ _ _ _ split (ap (λ p. p.keeper) c.pass.view_is) keeper.items had.keeper;
+      bank_room = omega (arith, had.bank_room, one_less, banks.len, banks.capacity);
+      port_room = omega (arith, had.port_room, one_less, ports.len, ports.capacity);
+      keeper_room = omega (arith, had.keeper_room, one_less, keeper.len, keeper.capacity);
     }
-
-pub returns-clause-banks : goal.returns-clause-banks
-returns-clause-banks c =
-    let empty = none_left c.loop-pass.passes.items (λ more. absurd (false≢true (c.in_default.ensures.variant.1 (omega (arith, c.loop-pass.passes.ok.0, more))))) in
-    row_done (λ p. p.banks) _ _ _ empty c.loop-pass.invariant.banks
-
-pub returns-clause-ports : goal.returns-clause-ports
-returns-clause-ports c =
-    let empty = none_left c.loop-pass.passes.items (λ more. absurd (false≢true (c.in_default.ensures.variant.1 (omega (arith, c.loop-pass.passes.ok.0, more))))) in
-    row_done (λ p. p.ports) _ _ _ empty c.loop-pass.invariant.ports
-
-pub returns-clause-keeper : goal.returns-clause-keeper
-returns-clause-keeper c =
-    let empty = none_left c.loop-pass.passes.items (λ more. absurd (false≢true (c.in_default.ensures.variant.1 (omega (arith, c.loop-pass.passes.ok.0, more))))) in
-    row_done (λ p. p.keeper) _ _ _ empty c.loop-pass.invariant.keeper
