@@ -90,24 +90,33 @@ fn finish(alloc: Global, machine: &Machine, log: Log) -> Result<Replayed, Memory
 }
 
 /// Replays events on a machine as a run begins.
-fn follow(alloc: Global, machine: Machine, events: &[Event]) -> Result<Replayed, Memory>
-    requires initial { machine.state ≡ initial_state machine.state.setting }
-    requires made { machine.made ≡ 0 }
+fn follow_on(alloc: Global, machine: &mut Machine, events: &[Event]) -> Result<Replayed, Memory>
+    requires initial { machine.old.state ≡ initial_state machine.old.state.setting }
+    requires made { machine.old.made ≡ 0 }
     requires few { length events.now ≤ 25169664 }
-    ensures { IfOk result (IsTrueOf machine.state.setting events.now) }
+    ensures { IfOk result (IsTrueOf machine.old.state.setting events.now) }
 {
-    let mut machine = machine;
     let mut log = machine.log(alloc)?;
     let mut number = 0;
     for event in events {
         if !machine.enabled(event) {
             return Ok(Replayed::NotEnabled { number });
         }
-        let happened = advance(&mut machine, *event)?;
+        let happened = advance(machine, *event)?;
         log.note(happened)?;
         number += 1;
     }
-    finish(alloc, &machine, log)
+    finish(alloc, machine, log)
+}
+
+/// The same, and drops the machine. The loop is apart from the machine's owner, which keeps the proofs of both small.
+fn follow(alloc: Global, mut machine: Machine, events: &[Event]) -> Result<Replayed, Memory>
+    requires initial { machine.state ≡ initial_state machine.state.setting }
+    requires made { machine.made ≡ 0 }
+    requires few { length events.now ≤ 25169664 }
+    ensures { IfOk result (IsTrueOf machine.state.setting events.now) }
+{
+    follow_on(alloc, &mut machine, events)
 }
 
 /// Replays events on the machine of a checked program as a run begins: each in its turn, as long as it may come.

@@ -1,5 +1,6 @@
-ghost use Rattle.std.specs.Prelude.{◌≡◌, length, IfOk};
+ghost use Rattle.std.specs.Prelude.{◌≡◌, [], None, length, replicate, IfOk};
 
+use crate::tracks::Tracks;
 use dn_base::{Memory, Shape};
 use message_net::Event;
 use std::alloc::Global;
@@ -18,7 +19,7 @@ fn raise(counts: &mut [u32], place: usize)
 ///
 /// # Errors
 /// `Memory` where there is no room.
-pub(crate) fn handled_mails(
+fn handled_mails(
     alloc: Global,
     events: &[Event],
     shape: Shape,
@@ -34,4 +35,23 @@ pub(crate) fn handled_mails(
         }
     }
     Ok(mails)
+}
+
+impl Tracks {
+    /// What is noted of no event, of so many actors, with room for the mails that the events handle.
+    ///
+    /// # Errors
+    /// `Memory` where there is no room.
+    pub(crate) fn for_events(
+        alloc: Global,
+        events: &[Event],
+        shape: Shape,
+        actors: usize,
+    ) -> Result<Tracks, Memory>
+        ensures last { IfOk result (λ tracks. tracks.last ≡ replicate actors None) }
+        ensures senders { IfOk result (λ tracks. tracks.senders.items ≡ replicate actors []) }
+    {
+        let mails = handled_mails(alloc, events, shape, actors)?;
+        Tracks::with_room(alloc, mails.as_slice())
+    }
 }

@@ -1,4 +1,4 @@
-ghost use Rattle.std.specs.Prelude.{◌≡◌, ◌<◌, ◌≤◌, length, IfOk};
+ghost use Rattle.std.specs.Prelude.{◌≡◌, ◌+◌, ◌≤◌, [], None, length, replicate, IfOk, OnOk};
 ghost use Rattle.machine_rules.specs.State.{initial_state};
 ghost use Rattle.machine_rules.specs.Runs.{IsRun};
 ghost use Rattle.run_timing.specs.Noted.{AreRowsOf};
@@ -6,7 +6,6 @@ ghost use Rattle.run_timing.specs.Ticks.{AreWithinLimits};
 
 use crate::making::make;
 use crate::noting::note_row;
-use crate::room::handled_mails;
 use crate::rows::Rows;
 use crate::ticks::Ticks;
 use crate::tracks::Tracks;
@@ -15,14 +14,79 @@ use dn_machine::{Machine, a_machine_is_kept};
 use message_net::Event;
 use std::alloc::Global;
 
+/// Makes the events of a run one by one on the opened machine, and notes each.
+///
+/// # Errors
+/// `Memory` where there is no room.
+fn note_run(
+    machine: &mut Machine,
+    rows: &mut Rows,
+    tracks: &mut Tracks,
+    shape: Shape,
+    events: &[Event],
+    ticks: &Ticks,
+) -> Result<(), Memory>
+    requires initial { machine.old.state ≡ initial_state machine.old.state.setting }
+    requires made { machine.old.made ≡ 0 }
+    requires shape { machine.old.state.setting.shape ≡ shape }
+    requires run { IsRun machine.old.state events.now }
+    requires few { length events.now ≤ 25169664 }
+    requires ticks { AreWithinLimits ticks.now }
+    requires rows { rows.old ≡ record { finishes = []; befores = []; kinds = [] } }
+    requires last { tracks.old.last ≡ replicate (shape.cores + shape.banks + 1) None }
+    requires senders { tracks.old.senders.items ≡ replicate (shape.cores + shape.banks + 1) [] }
+    ensures { OnOk result (AreRowsOf ticks.now machine.old.state events.now rows.new) }
+{
+    a_machine_is_kept(machine);
+    let mut number = 0;
+    for event in events {
+        let actor = machine.actor(event);
+        let index = actor.index(shape.cores, shape.banks);
+        let before = tracks.before(rows, *event, index, shape);
+        let happened = make(machine, *event, actor)?;
+        tracks.note(index, happened.sent, number)?;
+        note_row(rows, happened, before, ticks)?;
+        number += 1;
+    }
+    Ok(())
+}
+
+/// The rows of a run's events, which the opened machine makes one by one.
+///
+/// # Errors
+/// `Memory` where there is no room for the rows or the mails.
+fn rows_by(
+    alloc: Global,
+    machine: &mut Machine,
+    shape: Shape,
+    events: &[Event],
+    ticks: &Ticks,
+) -> Result<Rows, Memory>
+    requires initial { machine.old.state ≡ initial_state machine.old.state.setting }
+    requires made { machine.old.made ≡ 0 }
+    requires shape { machine.old.state.setting.shape ≡ shape }
+    requires run { IsRun machine.old.state events.now }
+    requires few { length events.now ≤ 25169664 }
+    requires ticks { AreWithinLimits ticks.now }
+    ensures { IfOk result (AreRowsOf ticks.now machine.old.state events.now) }
+{
+    let actors = shape.cores as usize + shape.banks as usize + 1;
+    let mut tracks = Tracks::for_events(alloc, events, shape, actors)?;
+    let mut rows = Rows::with_room(alloc, events.len())?;
+    note_run(machine, &mut rows, &mut tracks, shape, events, ticks)?;
+    Ok(rows)
+}
+
 /// The rows of a run's events, which the opened machine makes one by one. They take 13 bytes for each event, and while they are
 /// made 4 more for each mail, of which a run to its end has no more than events: the room for a whole run is taken at once.
+///
+/// The machine is lent once here, and then dropped: a loop that owned it would be dear to prove.
 ///
 /// # Errors
 /// `Memory` where there is no room for the rows or the mails.
 pub(crate) fn timed_rows(
     alloc: Global,
-    machine: Machine,
+    mut machine: Machine,
     shape: Shape,
     events: &[Event],
     ticks: &Ticks,
@@ -35,21 +99,5 @@ pub(crate) fn timed_rows(
     requires ticks { AreWithinLimits ticks.now }
     ensures { IfOk result (AreRowsOf ticks.now machine.state events.now) }
 {
-    a_machine_is_kept(&machine);
-    let mut machine = machine;
-    let actors = (shape.cores + shape.banks + 1) as usize;
-    let mails = handled_mails(alloc, events, shape, actors)?;
-    let mut rows = Rows::with_room(alloc, events.len())?;
-    let mut tracks = Tracks::with_room(alloc, mails.as_slice())?;
-    let mut number = 0;
-    for event in events {
-        let actor = machine.actor(event);
-        let index = actor.index(shape.cores, shape.banks);
-        let before = tracks.before(&rows, *event, index, shape);
-        let happened = make(&mut machine, *event, actor)?;
-        tracks.note(index, happened.sent, number)?;
-        note_row(&mut rows, happened, before, ticks)?;
-        number += 1;
-    }
-    Ok(rows)
+    rows_by(alloc, &mut machine, shape, events, ticks)
 }

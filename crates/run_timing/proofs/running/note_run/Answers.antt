@@ -1,4 +1,4 @@
-use Rattle.std.proofs.Common.{◌≡◌, ◌+◌, ℕ, List, [], length, replicate, get_or, slice_get, None, Some, refl, ap, subst, ◌∙◌, arith}
+use Rattle.std.proofs.Common.{◌≡◌, length, get_or, slice_get, Some, refl, subst, arith}
 use Rattle.std.proofs.lemmas.Option.{slice_get-get_or}
 use Rattle.message_net.specs.declared.event.Event.{Event}
 use Rattle.message_net.specs.declared.event.Event.TheVariants.{Instr}
@@ -10,15 +10,15 @@ use Rattle.run_timing.specs.Tracks.{last_at, sender_in}
 use Rattle.run_timing.proofs.Growing.{can-note, before-within, run-none, run-more, run-end}
 use Rattle.run_timing.proofs.Started.{ready-of}
 use Rattle.run_timing.proofs.Timed.{at-event}
-use Rattle.run_timing.proofs.running.timed_rows.Goals as goal
+use Rattle.run_timing.proofs.running.note_run.Goals as goal
 
 pub actor-actor-requires : goal.actor-actor-requires
 actor-actor-requires c =
-    let C = c.args.machine.state.setting in
+    let C = c.args.machine.now.state.setting in
     let E = c.args.events.now in
     let n = c.loop-event.event-index in
     let e : Event = get_or E n (Instr (record { 0 = 0 })) in
-    let ready : IsReady C = ready-of c.args.machine.state c.args.machine.made c.a_machine_is_kept.ensures in
+    let ready : IsReady C = ready-of c.args.machine.now.state c.args.machine.now.made c.a_machine_is_kept.ensures in
     let run : IsRun (initial_state C) E = subst (λ (S : State). IsRun S E) c.requires.initial c.requires.run in
     let here : slice_get E n ≡ Some e = slice_get-get_or E n (Instr (record { 0 = 0 })) c.loop-event-test.true in
     let now = at-event c.args.ticks.now C E n c.loop-event.machine.state c.loop-event.machine.made c.loop-event.tracks.last c.loop-event.tracks.senders.items c.loop-event.rows e ready run c.loop-event.invariant.timed here in
@@ -26,11 +26,11 @@ actor-actor-requires c =
 
 pub before-before-requires : goal.before-before-requires
 before-before-requires c =
-    let C = c.args.machine.state.setting in
+    let C = c.args.machine.now.state.setting in
     let E = c.args.events.now in
     let n = c.loop-event.event-index in
     let e : Event = get_or E n (Instr (record { 0 = 0 })) in
-    let ready : IsReady C = ready-of c.args.machine.state c.args.machine.made c.a_machine_is_kept.ensures in
+    let ready : IsReady C = ready-of c.args.machine.now.state c.args.machine.now.made c.a_machine_is_kept.ensures in
     let run : IsRun (initial_state C) E = subst (λ (S : State). IsRun S E) c.requires.initial c.requires.run in
     let here : slice_get E n ≡ Some e = slice_get-get_or E n (Instr (record { 0 = 0 })) c.loop-event-test.true in
     let can = can-note c.args.ticks.now C c.args.shape E n c.loop-event.machine.state c.loop-event.machine.made c.loop-event.tracks.last c.loop-event.tracks.senders.items c.loop-event.rows e c.actor-actor.result c.index-index.result c.requires.shape ready run c.requires.few c.loop-event.invariant.timed c.loop-event-test.true here c.actor-actor.ensures c.index-index.ensures in
@@ -38,11 +38,11 @@ before-before-requires c =
 
 pub make-requires : goal.make-requires
 make-requires c =
-    let C = c.args.machine.state.setting in
+    let C = c.args.machine.now.state.setting in
     let E = c.args.events.now in
     let n = c.loop-event.event-index in
     let e : Event = get_or E n (Instr (record { 0 = 0 })) in
-    let ready : IsReady C = ready-of c.args.machine.state c.args.machine.made c.a_machine_is_kept.ensures in
+    let ready : IsReady C = ready-of c.args.machine.now.state c.args.machine.now.made c.a_machine_is_kept.ensures in
     let run : IsRun (initial_state C) E = subst (λ (S : State). IsRun S E) c.requires.initial c.requires.run in
     let here : slice_get E n ≡ Some e = slice_get-get_or E n (Instr (record { 0 = 0 })) c.loop-event-test.true in
     let now = at-event c.args.ticks.now C E n c.loop-event.machine.state c.loop-event.machine.made c.loop-event.tracks.last c.loop-event.tracks.senders.items c.loop-event.rows e ready run c.loop-event.invariant.timed here in
@@ -56,11 +56,11 @@ make-requires c =
 
 pub note-requires : goal.note-requires
 note-requires c =
-    let C = c.args.machine.state.setting in
+    let C = c.args.machine.now.state.setting in
     let E = c.args.events.now in
     let n = c.loop-event.event-index in
     let e : Event = get_or E n (Instr (record { 0 = 0 })) in
-    let ready : IsReady C = ready-of c.args.machine.state c.args.machine.made c.a_machine_is_kept.ensures in
+    let ready : IsReady C = ready-of c.args.machine.now.state c.args.machine.now.made c.a_machine_is_kept.ensures in
     let run : IsRun (initial_state C) E = subst (λ (S : State). IsRun S E) c.requires.initial c.requires.run in
     let here : slice_get E n ≡ Some e = slice_get-get_or E n (Instr (record { 0 = 0 })) c.loop-event-test.true in
     let can = can-note c.args.ticks.now C c.args.shape E n c.loop-event.machine.state c.loop-event.machine.made c.loop-event.tracks.last c.loop-event.tracks.senders.items c.loop-event.rows e c.actor-actor.result c.index-index.result c.requires.shape ready run c.requires.few c.loop-event.invariant.timed c.loop-event-test.true here c.actor-actor.ensures c.index-index.ensures in
@@ -68,11 +68,11 @@ note-requires c =
 
 pub note_row-requires : goal.note_row-requires
 note_row-requires c =
-    let C = c.args.machine.state.setting in
+    let C = c.args.machine.now.state.setting in
     let E = c.args.events.now in
     let n = c.loop-event.event-index in
     let e : Event = get_or E n (Instr (record { 0 = 0 })) in
-    let ready : IsReady C = ready-of c.args.machine.state c.args.machine.made c.a_machine_is_kept.ensures in
+    let ready : IsReady C = ready-of c.args.machine.now.state c.args.machine.now.made c.a_machine_is_kept.ensures in
     let run : IsRun (initial_state C) E = subst (λ (S : State). IsRun S E) c.requires.initial c.requires.run in
     let here : slice_get E n ≡ Some e = slice_get-get_or E n (Instr (record { 0 = 0 })) c.loop-event-test.true in
     let can = can-note c.args.ticks.now C c.args.shape E n c.loop-event.machine.state c.loop-event.machine.made c.loop-event.tracks.last c.loop-event.tracks.senders.items c.loop-event.rows e c.actor-actor.result c.index-index.result c.requires.shape ready run c.requires.few c.loop-event.invariant.timed c.loop-event-test.true here c.actor-actor.ensures c.index-index.ensures in
@@ -87,25 +87,20 @@ note_row-requires c =
 
 pub loop-event-init : goal.loop-event-init
 loop-event-init c =
-    let count : length c.as_slice.result.now ≡ c.args.shape.cores + c.args.shape.banks + 1 =
-    ap (λ (xs : List ℕ). length xs) c.as_slice.ensures.value ∙ c.in_ok-mails.ensures
-    in
-    let last = subst (λ (n : ℕ). c.in_ok-tracks.tracks.last ≡ replicate n None) count c.in_ok-tracks.ensures.last in
-    let senders = subst (λ (n : ℕ). c.in_ok-tracks.tracks.senders.items ≡ replicate n []) count c.in_ok-tracks.ensures.senders in
     record {
       timed =
-          run-none c.args.ticks.now c.args.machine.state.setting c.args.shape c.args.events.now c.args.machine.state c.args.machine.made c.in_ok-tracks.tracks.last c.in_ok-tracks.tracks.senders.items c.in_ok-rows.rows
-          c.requires.shape c.requires.initial c.requires.made last senders c.in_ok-rows.ensures;
+          run-none c.args.ticks.now c.args.machine.now.state.setting c.args.shape c.args.events.now c.args.machine.now.state c.args.machine.now.made c.args.tracks.now.last c.args.tracks.now.senders.items c.args.rows.now
+          c.requires.shape c.requires.initial c.requires.made c.requires.last c.requires.senders c.requires.rows;
       number = refl;
     }
 
 pub loop-event-preserved : goal.loop-event-preserved
 loop-event-preserved c =
-    let C = c.args.machine.state.setting in
+    let C = c.args.machine.now.state.setting in
     let E = c.args.events.now in
     let n = c.loop-event.event-index in
     let e : Event = get_or E n (Instr (record { 0 = 0 })) in
-    let ready : IsReady C = ready-of c.args.machine.state c.args.machine.made c.a_machine_is_kept.ensures in
+    let ready : IsReady C = ready-of c.args.machine.now.state c.args.machine.now.made c.a_machine_is_kept.ensures in
     let run : IsRun (initial_state C) E = subst (λ (S : State). IsRun S E) c.requires.initial c.requires.run in
     let here : slice_get E n ≡ Some e = slice_get-get_or E n (Instr (record { 0 = 0 })) c.loop-event-test.true in
     record {
@@ -121,5 +116,5 @@ loop-event-preserved c =
 pub returns : goal.returns
 returns c =
     let all : c.loop-event.event-index ≡ length c.args.events.now = omega (arith, c.loop-event-test.false, c.loop-event.auto.event-index-end) in
-    run-end c.args.ticks.now c.args.machine.state.setting c.args.events.now c.loop-event.event-index c.args.machine.state c.loop-event.machine.state c.loop-event.machine.made c.loop-event.tracks.last
+    run-end c.args.ticks.now c.args.machine.now.state.setting c.args.events.now c.loop-event.event-index c.args.machine.now.state c.loop-event.machine.state c.loop-event.machine.made c.loop-event.tracks.last
     c.loop-event.tracks.senders.items c.loop-event.rows c.requires.initial all c.loop-event.invariant.timed

@@ -1,6 +1,6 @@
 use Rattle.std.proofs.Common.{◌≡◌}
 use Rattle.run_timing.proofs.Timed.{IsTimed}
-use Rattle.run_timing.proofs.running.timed_rows.Given as goal
+use Rattle.run_timing.proofs.running.note_run.Given as goal
 
 abbrev pub invariant-loop-event : goal.invariant-loop-event
 invariant-loop-event l =
