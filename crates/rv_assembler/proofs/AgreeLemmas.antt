@@ -59,7 +59,7 @@ agree-from v text names near (Good s ∷ rs) done before lo told same few small 
     let later = placed_behind (done ++ Good s ∷ []) rs in
     let whole : List Saying = before ++ s ∷ sayings rs in
     let longer : length now ≡ length before + 1 = length-append before (s ∷ []) in
-    ap (λ (o : Option SourceFault). program_in (unless_fault (first_of o (limit_fault v adds s.line)) (total v text names adds rs))) tested
+    ap (λ (o : Option SourceFault). program_in (unless_fault (option_or o (limit_fault v adds s.line)) (total v text names adds rs))) tested
     ∙ then-decides early (limit_fault v adds s.line) (limit_fault v (wrapped_tables text names now) s.line) (total v text names adds rs) (filter_map (fault_at v text names) later) (finished_program (wrapped_tables text names whole))
     (λ none. ap (λ (d : Draft). limit_fault v d s.line) (more none))
     (λ none limit.
