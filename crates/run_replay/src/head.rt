@@ -5,6 +5,7 @@ ghost use Rattle.run_replay.specs.Lines.{IsSource, told_by};
 
 use crate::field::{behind, field};
 use crate::trace::TraceShape;
+use dn_base::MOST_EVENTS;
 
 /// What stands before the events of a document, and the bytes behind it.
 #[derive(Clone, Copy)]
@@ -61,7 +62,7 @@ pub(crate) fn read_heading(bytes: &[u8]) -> Option<Heading<'_>>
     let bytes = behind_title(bytes)?;
     let (shape, bytes) = shape(bytes)?;
     let (text, bytes) = source(bytes)?;
-    let (count, rest) = field(bytes, b"events ", 0, 25_169_664, b'\n')?;
+    let (count, rest) = field(bytes, b"events ", 0, MOST_EVENTS as u32, b'\n')?;
     Some(Heading {
         shape,
         text,
