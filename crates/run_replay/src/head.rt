@@ -5,7 +5,7 @@ ghost use Rattle.run_replay.specs.Lines.{IsSource, told_by};
 
 use crate::field::{behind, field};
 use crate::trace::TraceShape;
-use dn_base::MOST_EVENTS;
+use dn_base::{MOST_EVENTS, MOST_OF_TEXT};
 
 /// What stands before the events of a document, and the bytes behind it.
 #[derive(Clone, Copy)]
@@ -48,7 +48,7 @@ fn source(bytes: &[u8]) -> Option<(&[u8], &[u8])>
     ensures some { IfSome result (λ f. Stands IsSource source_part bytes.now f.0.now f.1.now) }
     ensures none { IfNone result (NoneStands IsSource source_part bytes.now) }
 {
-    let (count, bytes) = field(bytes, b"source ", 0, 1_048_576, b'\n')?;
+    let (count, bytes) = field(bytes, b"source ", 0, MOST_OF_TEXT as u32, b'\n')?;
     let (text, bytes) = bytes.split_at_checked(count as usize)?;
     let rest = behind(bytes, b"\n")?;
     Some((text, rest))
