@@ -5,34 +5,38 @@ use Rattle.dn_base.specs.declared.status.Status.{Status}
 use Rattle.dn_base.specs.declared.status.Status as status
 use Rattle.dn_top.specs.Answers.{usage_line}
 use Rattle.dn_top.specs.ExitCodes.{IsCodeOf}
-use Rattle.dn_top.specs.Outside.{DeviceState, Devices, Failed, GaveAtMost, IsUntouched, IsRead, Took, TookNothing, TookFront}
+use Rattle.dn_top.specs.Outside.{SinkState, Devices, SourceFailed, SinkFailed, GaveAtMost, IsUntouched, IsRead, Delivered, TookFront}
 use Rattle.chart_top.specs.declared.answering.Output.{Output}
 use Rattle.chart_top.specs.declared.options.Options.{Options}
 use Rattle.chart_top.specs.Answers.{IsAnswer}
 
--- the sink took all of the output, whose status is told; or it failed and took a front of it
-abbrev pub IsWritten : Output → DeviceState → DeviceState → Status → Type 0
+-- the output, whose status is told, was delivered; or the sink failed and took a front of it
+abbrev pub IsWritten : Output → SinkState → SinkState → Status → Type 0
 IsWritten out before after end_status =
-    ((end_status ≡ out.status) × Took before after out.bytes)
-    ⊎ ((end_status ≡ status.TheVariants.WriteFault) × (Failed before after × TookFront before after out.bytes))
+    ((end_status ≡ out.status) × Delivered before after out.bytes)
+    ⊎ ((end_status ≡ status.TheVariants.WriteFault) × (SinkFailed before after × TookFront before after out.bytes))
 
--- there was no memory, and nothing was written
-abbrev pub IsStarved : DeviceState → DeviceState → Status → Type 0
-IsStarved before after end_status = (end_status ≡ status.TheVariants.Memory) × TookNothing before after
+-- there was no memory, and the sink was left alone
+abbrev pub IsStarved : SinkState → SinkState → Status → Type 0
+IsStarved before after end_status = (end_status ≡ status.TheVariants.Memory) × IsUntouched before after
 
--- the source failed, and nothing was written
+-- the source failed, and the sink was left alone
 abbrev pub IsUnread : Devices → Devices → Status → Type 0
 IsUnread before after end_status =
-    (end_status ≡ status.TheVariants.ReadFault) × (Failed before.source after.source × TookNothing before.sink after.sink)
+    (end_status ≡ status.TheVariants.ReadFault) × (SourceFailed before.source after.source × IsUntouched before.sink after.sink)
+
+-- there was no memory for the document: no read failed, and the sink was left alone
+abbrev pub IsUnheld : Devices → Devices → Status → Type 0
+IsUnheld before after end_status = (after.source.faults ≡ before.source.faults) × IsStarved before.sink after.sink end_status
 
 -- the answer to a document was written
-pub record IsGiven (o : Options) (document : List ℕ) (before after : DeviceState) (end_status : Status) : Type 0 where
+pub record IsGiven (o : Options) (document : List ℕ) (before after : SinkState) (end_status : Status) : Type 0 where
   pub output : Output
   pub answer : IsAnswer o document output
   pub written : IsWritten output before after end_status
 
 -- or there was no memory for it
-abbrev pub IsReplied : Options → List ℕ → DeviceState → DeviceState → Status → Type 0
+abbrev pub IsReplied : Options → List ℕ → SinkState → SinkState → Status → Type 0
 IsReplied o document before after end_status = IsGiven o document before after end_status ⊎ IsStarved before after end_status
 
 -- the document is what was read: to the source's end, or to one byte past the most that a document may have
@@ -46,13 +50,13 @@ abbrev pub usage : Output
 usage = record { status = status.TheVariants.Usage; bytes = usage_line }
 
 -- how a call ends of which these options are wanted; None where the words aren't the command's. The source gives at most one byte past
--- the most that a document may have
+-- the most that a document may have. The source's count of faults is as it was but with ReadFault, the sink's but with WriteFault
 abbrev pub Serves : Option Options → Devices → Devices → Status → Type 0
 Serves None before after end_status =
     IsUntouched before.source after.source × (IsWritten usage before.sink after.sink end_status ⊎ IsStarved before.sink after.sink end_status)
 Serves (Some o) before after end_status =
     GaveAtMost before.source after.source 536870913
-    × (IsDocumentServed o before after end_status ⊎ (IsUnread before after end_status ⊎ IsStarved before.sink after.sink end_status))
+    × (IsDocumentServed o before after end_status ⊎ (IsUnread before after end_status ⊎ IsUnheld before after end_status))
 
 -- such a call ended with the exit code of its end status
 pub record HasEnded (wanted : Option Options) (before after : Devices) (code : ExitCode) : Type 0 where

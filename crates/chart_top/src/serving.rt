@@ -1,5 +1,5 @@
 ghost use Rattle.std.specs.Prelude.{ℕ, List, Some, IfOk, map, string_bytes};
-ghost use Rattle.dn_top.specs.Outside.{device, devices};
+ghost use Rattle.dn_top.specs.Outside.{devices, sink_at};
 ghost use Rattle.chart_top.specs.declared.options.Options.{Options as OptionsOf};
 ghost use Rattle.chart_top.specs.Answers.{IsAnswer};
 ghost use Rattle.chart_top.specs.Command.{ViewOptionsInRange, chart_options_of};
@@ -15,7 +15,7 @@ use std::alloc::Global;
 
 /// Writes the bytes, and tells this status, or `WriteFault` where the sink failed.
 fn finish<K: Sink>(sink: &mut K, bytes: &[u8], status: Status) -> Status
-    ensures { IsWritten (record { status = status; bytes = bytes.now }) (device (K.content sink.old) (K.faults sink.old)) (device (K.content sink.new) (K.faults sink.new)) result }
+    ensures { IsWritten (record { status = status; bytes = bytes.now }) (sink_at (K.content sink.old) (K.flushed sink.old) (K.faults sink.old)) (sink_at (K.content sink.new) (K.flushed sink.new) (K.faults sink.new)) result }
 {
     match write_text(sink, bytes) {
         Ok(()) => status,
@@ -26,7 +26,7 @@ fn finish<K: Sink>(sink: &mut K, bytes: &[u8], status: Status) -> Status
 /// Refuses the command words.
 #[tactic(auto, unfolding(run_report::specs::Refusal::refusal_of))]
 fn refuse_words<K: Sink>(sink: &mut K) -> Status
-    ensures { IsWritten usage (device (K.content sink.old) (K.faults sink.old)) (device (K.content sink.new) (K.faults sink.new)) result }
+    ensures { IsWritten usage (sink_at (K.content sink.old) (K.flushed sink.old) (K.faults sink.old)) (sink_at (K.content sink.new) (K.flushed sink.new) (K.faults sink.new)) result }
 {
     finish(sink, b"refused usage\n", Status::Usage)
 }
@@ -34,7 +34,7 @@ fn refuse_words<K: Sink>(sink: &mut K) -> Status
 /// Writes the answer to a document, where there was memory for it.
 fn reply<K: Sink>(sink: &mut K, output: Result<Output, Memory>) -> Status
     ensures { (o : OptionsOf) (document : List ℕ) → IfOk output (IsAnswer o document)
-        → IsReplied o document (device (K.content sink.old) (K.faults sink.old)) (device (K.content sink.new) (K.faults sink.new)) result }
+        → IsReplied o document (sink_at (K.content sink.old) (K.flushed sink.old) (K.faults sink.old)) (sink_at (K.content sink.new) (K.flushed sink.new) (K.faults sink.new)) result }
 {
     match output {
         Ok(Output { status, bytes }) => finish(sink, bytes.as_slice(), status),
@@ -51,8 +51,8 @@ fn draw<S: Source, K: Sink>(
 ) -> Status
     requires { ViewOptionsInRange options.now }
     ensures { Serves (Some options.now)
-        (devices (S.content source.old) (S.faults source.old) (K.content sink.old) (K.faults sink.old))
-        (devices (S.content source.new) (S.faults source.new) (K.content sink.new) (K.faults sink.new)) result }
+        (devices (S.content source.old) (S.faults source.old) (K.content sink.old) (K.flushed sink.old) (K.faults sink.old))
+        (devices (S.content source.new) (S.faults source.new) (K.content sink.new) (K.flushed sink.new) (K.faults sink.new)) result }
 {
     match read_text(alloc, MOST_OF_DOCUMENT + 1, source) {
         Ok(document) => reply(sink, answer(alloc, options, document.as_slice())),
@@ -74,8 +74,8 @@ pub fn chart_main<S: Source, K: Sink>(
     sink: &mut K,
 ) -> Status
     ensures serves { Serves (chart_options_of (map string_bytes words.now))
-        (devices (S.content source.old) (S.faults source.old) (K.content sink.old) (K.faults sink.old))
-        (devices (S.content source.new) (S.faults source.new) (K.content sink.new) (K.faults sink.new)) result }
+        (devices (S.content source.old) (S.faults source.old) (K.content sink.old) (K.flushed sink.old) (K.faults sink.old))
+        (devices (S.content source.new) (S.faults source.new) (K.content sink.new) (K.flushed sink.new) (K.faults sink.new)) result }
 {
     match read_words(alloc, words) {
         Ok(options) => draw(alloc, &options, source, sink),

@@ -1,17 +1,16 @@
 -- What a call says by its answer.
-use Rattle.std.proofs.Common.{◌≡◌, ◌≢◌, ◌⊎◌, inl, inr, ℕ, true, false, List, [], Option, Some, None, IfSome, is_some, refl, sym, ap, subst, ◌∙◌, arith}
+use Rattle.std.proofs.Common.{◌≡◌, ◌≢◌, ◌⊎◌, inl, inr, ℕ, true, false, List, Option, Some, None, IfSome, is_some, refl, sym, ap, subst, ◌∙◌}
 use Rattle.std.specs.Prelude.{option_and_then}
-use Rattle.std.proofs.KnownBytes.{Consumes-nil, Consumes-kept}
 use Rattle.dn_base.specs.declared.status.Status.{Status}
 use Rattle.dn_base.specs.declared.status.Status as status
 use Rattle.dn_machine.specs.declared.record.RunRecord.{RunRecord}
 use Rattle.command_words.specs.declared.options.Options.{Options}
 use Rattle.dn_top.specs.declared.output.Output.{Output}
 use Rattle.dn_top.specs.declared.serving.Answer.{Answer}
-use Rattle.dn_top.specs.Answers.{answered, most_read, IsRefusal, IsAnswer, IsOutcome, usage_line}
-use Rattle.dn_top.specs.Outside.{DeviceState, Devices, Failed, GaveAtMost, IsUntouched, Took, TookNothing, TookFront}
-use Rattle.dn_top.specs.Serving.{text_to_answer, most_asked, IsRunWithStatus, HandsBack, HasDone, HasRefused, HasFailed, HasStatus, has_stopped, Serves, IsWritten, IsReplied, IsStarved, IsUnread, IsDoneBy, without_run}
-use Rattle.dn_top.proofs.Statuses.{other, outcome-other, answer-other, answer-done, answer-refused, answer-no_run, done-comes, done-plain, done-run}
+use Rattle.dn_top.specs.Answers.{most_read, IsRefusal, IsAnswer, IsOutcome}
+use Rattle.dn_top.specs.Outside.{SourceState, SinkState, Devices, SourceFailed, SinkFailed, GaveAtMost, IsUntouched, IsFlushed, Delivered, TookFront}
+use Rattle.dn_top.specs.Serving.{text_to_answer, most_asked, IsOutcomeOrRefusal, IsRunWithStatus, HandsBack, HasDone, HasRefused, HasFailed, HasStatus, has_stopped, Serves, IsWritten, IsReplied, IsUnread, IsUnheld, IsObtained, obtained_by, IsDoneBy, without_run}
+use Rattle.dn_top.proofs.Statuses.{fails, outcome_or_refusal-fails, other, outcome-other, answer-other, answer-done, answer-refused, answer-no_run, done-comes, done-plain, done-run}
 use Rattle.dn_top.proofs.Fronts.{AnswersAlike, taken-alike}
 
 if-some : {X : Type 0} (o : Option X) (P Q : X → Type 0) → ((x : X) → P x → Q x) → IfSome o P → IfSome o Q
@@ -34,27 +33,38 @@ run_at answer other e = ap (λ (x : Answer). x.run) e
 unlike : (o : Options) (text : List ℕ) (out : Output) (u : Status) → IsAnswer o text out → other u ≡ true → out.status ≢ u
 unlike o text out u is bad e = let plain = answer-other o text out is in let also : other out.status ≡ true = ap other e ∙ bad in cc
 
-module _ (o : Options) (before after : DeviceState) (text : List ℕ) (answer : Answer) where
+source_faults-untouched : (before after : SourceState) → IsUntouched before after → after.faults ≡ before.faults
+source_faults-untouched before after same = ap (λ (x : SourceState). x.faults) same
+
+sink_faults-untouched : (before after : SinkState) → IsUntouched before after → after.faults ≡ before.faults
+sink_faults-untouched before after same = ap (λ (x : SinkState). x.faults) same
+
+-- the status of an outcome or of a refusal isn't that of a failure
+no-failure : (answer : Answer) (s : Status) → answer ≡ without_run s → fails s ≡ true → IsOutcomeOrRefusal answer.status → ⊥
+no-failure answer s e bad is =
+    let plain = outcome_or_refusal-fails answer.status is in let also : fails answer.status ≡ true = ap fails (status_at answer _ e) ∙ bad in cc
+
+module _ (o : Options) (before after : SinkState) (text : List ℕ) (answer : Answer) where
   record Written : Type 0 where
     out : Output
     is : IsAnswer o text out
     ends : answer.status ≡ out.status
     run : answer.run ≡ out.run
-    took : Took before after out.bytes
+    delivered : Delivered before after out.bytes
 
   -- a reply with a status that some answer has was written
   written : IsReplied o before after text answer → other answer.status ≡ false → Written
   written (inl given) plain = by_finish given.finished
     where
       by_finish : IsWritten before after given.out answer → Written
-      by_finish (inl (e, took)) = record { out = given.out; is = given.is; ends = status_at answer _ e; run = run_at answer _ e; took = took }
+      by_finish (inl (e, delivered)) = record { out = given.out; is = given.is; ends = status_at answer _ e; run = run_at answer _ e; delivered = delivered }
       by_finish (inr (e, failed, front)) = let bad : other answer.status ≡ true = ap other (status_at answer _ e) in cc
   written (inr starved) plain = let bad : other answer.status ≡ true = ap other (status_at answer _ starved.memory) in cc
 
   record Stopped : Type 0 where
     out : Output
     is : IsAnswer o text out
-    failed : Failed before after
+    failed : SinkFailed before after
     front : TookFront before after out.bytes
 
   -- one with the status WriteFault was cut off
@@ -62,34 +72,52 @@ module _ (o : Options) (before after : DeviceState) (text : List ℕ) (answer : 
   stopped (inl given) r = by_finish given.finished
     where
       by_finish : IsWritten before after given.out answer → Stopped
-      by_finish (inl (e, took)) = absurd (unlike o text given.out status.TheVariants.WriteFault given.is refl (sym (status_at answer _ e) ∙ r))
+      by_finish (inl (e, delivered)) = absurd (unlike o text given.out status.TheVariants.WriteFault given.is refl (sym (status_at answer _ e) ∙ r))
       by_finish (inr (e, failed, front)) = record { out = given.out; is = given.is; failed = failed; front = front }
   stopped (inr starved) r = let bad : status.TheVariants.Memory ≡ status.TheVariants.WriteFault = sym (status_at answer _ starved.memory) ∙ r in cc
 
-  -- one with the status Memory wrote nothing
-  starved-nothing : IsReplied o before after text answer → answer.status ≡ status.TheVariants.Memory → TookNothing before after
-  starved-nothing (inl given) r = by_finish given.finished
+  -- one with the status Memory left the sink alone
+  starved-untouched : IsReplied o before after text answer → answer.status ≡ status.TheVariants.Memory → IsUntouched before after
+  starved-untouched (inl given) r = by_finish given.finished
     where
-      by_finish : IsWritten before after given.out answer → TookNothing before after
-      by_finish (inl (e, took)) = absurd (unlike o text given.out status.TheVariants.Memory given.is refl (sym (status_at answer _ e) ∙ r))
+      by_finish : IsWritten before after given.out answer → IsUntouched before after
+      by_finish (inl (e, delivered)) = absurd (unlike o text given.out status.TheVariants.Memory given.is refl (sym (status_at answer _ e) ∙ r))
       by_finish (inr (e, failed, front)) = let bad : status.TheVariants.WriteFault ≡ status.TheVariants.Memory = sym (status_at answer _ e) ∙ r in cc
-  starved-nothing (inr starved) r = starved.nothing
+  starved-untouched (inr starved) r = starved.untouched
 
   -- none has one of these
   never : (u : Status) → IsReplied o before after text answer → other u ≡ true → u ≢ status.TheVariants.WriteFault → u ≢ status.TheVariants.Memory → answer.status ≢ u
   never u (inl given) bad no_fault no_memory r = by_finish given.finished
     where
       by_finish : IsWritten before after given.out answer → ⊥
-      by_finish (inl (e, took)) = unlike o text given.out u given.is bad (sym (status_at answer _ e) ∙ r)
+      by_finish (inl (e, delivered)) = unlike o text given.out u given.is bad (sym (status_at answer _ e) ∙ r)
       by_finish (inr (e, failed, front)) = no_fault (sym r ∙ status_at answer _ e)
   never u (inr starved) bad no_fault no_memory r = no_memory (sym r ∙ status_at answer _ starved.memory)
 
+  -- one with another status than WriteFault has no fault of the sink
+  replied-faultless : IsReplied o before after text answer → answer.status ≢ status.TheVariants.WriteFault → after.faults ≡ before.faults
+  replied-faultless (inl given) no_fault = by_finish given.finished
+    where
+      by_finish : IsWritten before after given.out answer → after.faults ≡ before.faults
+      by_finish (inl (e, delivered)) = delivered.faultless
+      by_finish (inr (e, failed, front)) = absurd (no_fault (status_at answer _ e))
+  replied-faultless (inr starved) no_fault = sink_faults-untouched before after starved.untouched
+
+  -- one with an outcome's or a refusal's status left all flushed
+  replied-flushed : IsReplied o before after text answer → IsOutcomeOrRefusal answer.status → IsFlushed after
+  replied-flushed (inl given) is = by_finish given.finished
+    where
+      by_finish : IsWritten before after given.out answer → IsFlushed after
+      by_finish (inl (e, delivered)) = delivered.flushed
+      by_finish (inr (e, failed, front)) = absurd (no-failure answer _ e refl is)
+  replied-flushed (inr starved) is = absurd (no-failure answer _ starved.memory refl is)
+
   -- where the sink has no fault the answer was written, if there was memory
-  finished : IsReplied o before after text answer → (Failed before after → ⊥) → HasStatus o text answer.status ⊎ (answer.status ≡ status.TheVariants.Memory)
+  finished : IsReplied o before after text answer → (SinkFailed before after → ⊥) → HasStatus o text answer.status ⊎ (answer.status ≡ status.TheVariants.Memory)
   finished (inl given) calm = by_finish given.finished
     where
       by_finish : IsWritten before after given.out answer → HasStatus o text answer.status ⊎ (answer.status ≡ status.TheVariants.Memory)
-      by_finish (inl (e, took)) = inl (record { out = given.out; answer = given.is; ends = status_at answer _ e })
+      by_finish (inl (e, delivered)) = inl (record { out = given.out; answer = given.is; ends = status_at answer _ e })
       by_finish (inr (e, failed, front)) = absurd (calm failed)
   finished (inr starved) calm = inr (status_at answer _ starved.memory)
 
@@ -98,7 +126,7 @@ module _ (o : Options) (before after : DeviceState) (text : List ℕ) (answer : 
   replied-no_run (inl given) none = by_finish given.finished
     where
       by_finish : IsWritten before after given.out answer → answer.run ≡ None
-      by_finish (inl (e, took)) =
+      by_finish (inl (e, delivered)) =
           run_at answer _ e
           ∙ answer-no_run o text given.out given.is (λ is. none (subst IsOutcome (sym (status_at answer _ e)) is))
       by_finish (inr (e, failed, front)) = run_at answer _ e
@@ -111,7 +139,7 @@ module _ (o : Options) (before after : Devices) (answer : Answer) where
   Alike text t = AnswersAlike o.mode o before.source after.source text t
 
   abbrev NoText : Type 0
-  NoText = IsUnread before after answer ⊎ IsStarved before.sink after.sink answer
+  NoText = IsUnread before after answer ⊎ IsUnheld before after answer
 
   no_text-other : NoText → other answer.status ≡ true
   no_text-other (inl is) = ap other (status_at answer _ is.fault)
@@ -131,7 +159,7 @@ module _ (o : Options) (before after : Devices) (answer : Answer) where
       let there : IsOutcome w.out.status = (is.0, sym w.ends ∙ is.1) in
       let done = answer-done o served.text w.out w.is there in
       if-some (text_to_answer o before.source) (λ t. Alike served.text t) (λ t. HasDone o before after t answer)
-      (λ t a. record { out = w.out; done = a.done w.out done; read = a.read w.out (a.done w.out done); took = w.took; ends = w.ends; run = w.run })
+      (λ t a. record { out = w.out; done = a.done w.out done; read = a.read w.out (a.done w.out done); took = w.delivered.took; ends = w.ends; run = w.run })
       (taken-alike o before.source after.source served.text served.taken)
 
   handed_back-clause : IsDoneBy o before after answer → IsOutcome answer.status → HandsBack o answer
@@ -153,10 +181,10 @@ module _ (o : Options) (before after : Devices) (answer : Answer) where
       let w = written o before.sink after.sink served.text answer served.reply (ap other r) in
       let refused = answer-refused o served.text w.out w.is (sym w.ends ∙ r) in
       if-some (text_to_answer o before.source) (λ t. Alike served.text t) (λ t. HasRefused o before after t)
-      (λ t a. record { out = w.out; refusal = refusal-alike served.text t w.out a refused; took = w.took })
+      (λ t a. record { out = w.out; refusal = refusal-alike served.text t w.out a refused; took = w.delivered.took })
       (taken-alike o before.source after.source served.text served.taken)
 
-  failed-clause : IsDoneBy o before after answer → answer.status ≡ status.TheVariants.WriteFault → Failed before.sink after.sink × IfSome (text_to_answer o before.source) (λ t. HasFailed o before after t)
+  failed-clause : IsDoneBy o before after answer → answer.status ≡ status.TheVariants.WriteFault → SinkFailed before.sink after.sink × IfSome (text_to_answer o before.source) (λ t. HasFailed o before after t)
   failed-clause (inr (inl is)) r = let bad : status.TheVariants.ReadFault ≡ status.TheVariants.WriteFault = sym (status_at answer _ is.fault) ∙ r in absurd cc
   failed-clause (inr (inr is)) r = let bad : status.TheVariants.Memory ≡ status.TheVariants.WriteFault = sym (status_at answer _ is.memory) ∙ r in absurd cc
   failed-clause (inl served) r =
@@ -167,16 +195,38 @@ module _ (o : Options) (before after : Devices) (answer : Answer) where
             (taken-alike o before.source after.source served.text served.taken),
       )
 
-  read_fault-clause : IsDoneBy o before after answer → answer.status ≡ status.TheVariants.ReadFault → Failed before.source after.source × TookNothing before.sink after.sink
+  read_fault-clause : IsDoneBy o before after answer → answer.status ≡ status.TheVariants.ReadFault → SourceFailed before.source after.source × IsUntouched before.sink after.sink
   read_fault-clause (inl served) r =
       absurd (never o before.sink after.sink served.text answer status.TheVariants.ReadFault served.reply refl (λ x. cc) (λ x. cc) r)
-  read_fault-clause (inr (inl is)) r = (is.failed, is.nothing)
+  read_fault-clause (inr (inl is)) r = (is.failed, is.untouched)
   read_fault-clause (inr (inr is)) r = let bad : status.TheVariants.Memory ≡ status.TheVariants.ReadFault = sym (status_at answer _ is.memory) ∙ r in absurd cc
 
-  memory-clause : IsDoneBy o before after answer → answer.status ≡ status.TheVariants.Memory → TookNothing before.sink after.sink
-  memory-clause (inl served) r = starved-nothing o before.sink after.sink served.text answer served.reply r
-  memory-clause (inr (inl is)) r = is.nothing
-  memory-clause (inr (inr is)) r = is.nothing
+  memory-clause : IsDoneBy o before after answer → answer.status ≡ status.TheVariants.Memory → IsUntouched before.sink after.sink
+  memory-clause (inl served) r = starved-untouched o before.sink after.sink served.text answer served.reply r
+  memory-clause (inr (inl is)) r = is.untouched
+  memory-clause (inr (inr is)) r = is.untouched
+
+  taken-faultless : (text : List ℕ) → IsObtained o before.source after.source text → after.source.faults ≡ before.source.faults
+  taken-faultless text taken = by_most (most_read o.mode) taken
+    where
+      by_most : (most : Option ℕ) → obtained_by most o.size before.source after.source text → after.source.faults ≡ before.source.faults
+      by_most None generated = source_faults-untouched before.source after.source generated.1
+      by_most (Some most) read = read.faultless
+
+  source_faultless-clause : IsDoneBy o before after answer → answer.status ≢ status.TheVariants.ReadFault → after.source.faults ≡ before.source.faults
+  source_faultless-clause (inl served) no_fault = taken-faultless served.text served.taken
+  source_faultless-clause (inr (inl is)) no_fault = absurd (no_fault (status_at answer _ is.fault))
+  source_faultless-clause (inr (inr is)) no_fault = is.faultless
+
+  sink_faultless-clause : IsDoneBy o before after answer → answer.status ≢ status.TheVariants.WriteFault → after.sink.faults ≡ before.sink.faults
+  sink_faultless-clause (inl served) no_fault = replied-faultless o before.sink after.sink served.text answer served.reply no_fault
+  sink_faultless-clause (inr (inl is)) no_fault = sink_faults-untouched before.sink after.sink is.untouched
+  sink_faultless-clause (inr (inr is)) no_fault = sink_faults-untouched before.sink after.sink is.untouched
+
+  flushed-clause : IsDoneBy o before after answer → IsOutcomeOrRefusal answer.status → IsFlushed after.sink
+  flushed-clause (inl served) ends = replied-flushed o before.sink after.sink served.text answer served.reply ends
+  flushed-clause (inr (inl is)) ends = absurd (no-failure answer _ is.fault refl ends)
+  flushed-clause (inr (inr is)) ends = absurd (no-failure answer _ is.memory refl ends)
 
   usage-clause : IsDoneBy o before after answer → answer.status ≢ status.TheVariants.Usage
   usage-clause (inl served) r =
@@ -189,7 +239,7 @@ module _ (o : Options) (before after : Devices) (answer : Answer) where
   no_run-clause (inr (inl is)) none = run_at answer _ is.fault
   no_run-clause (inr (inr is)) none = run_at answer _ is.memory
 
-  complete-clause : IsDoneBy o before after answer → (t : List ℕ) → text_to_answer o before.source ≡ Some t → (Failed before.source after.source → ⊥) → (Failed before.sink after.sink → ⊥)
+  complete-clause : IsDoneBy o before after answer → (t : List ℕ) → text_to_answer o before.source ≡ Some t → (SourceFailed before.source after.source → ⊥) → (SinkFailed before.sink after.sink → ⊥)
       → HasStatus o t answer.status ⊎ (answer.status ≡ status.TheVariants.Memory)
   complete-clause (inr (inl is)) t e calm_source calm_sink = absurd (calm_source is.failed)
   complete-clause (inr (inr is)) t e calm_source calm_sink = inr (status_at answer _ is.memory)
@@ -227,73 +277,14 @@ serves-options wanted o before after answer e h few unread =
         subst (λ (x : Option Options). has_stopped x before after) (sym e) f.1,
       );
       memory = memory-clause o before after answer h;
+      source_faultless = source_faultless-clause o before after answer h;
+      sink_faultless = sink_faultless-clause o before after answer h;
+      flushed = flushed-clause o before after answer h;
       unread = λ none. unread (subst (λ (x : Option Options). option_and_then (λ (p : Options). most_read p.mode) x ≡ None) e none);
       few = subst (λ (x : Option Options). IfSome (most_asked x) (GaveAtMost before.source after.source)) (sym e) few;
       complete = λ p f text is calm_source calm_sink. by_options p (same_options o p wanted e f) text is calm_source calm_sink;
     }
   where
-    by_options : (p : Options) → o ≡ p → (t : List ℕ) → text_to_answer p before.source ≡ Some t → (Failed before.source after.source → ⊥) → (Failed before.sink after.sink → ⊥)
+    by_options : (p : Options) → o ≡ p → (t : List ℕ) → text_to_answer p before.source ≡ Some t → (SourceFailed before.source after.source → ⊥) → (SinkFailed before.sink after.sink → ⊥)
         → HasStatus p t answer.status ⊎ (answer.status ≡ status.TheVariants.Memory)
-    by_options p same = subst (λ (p : Options). (t : List ℕ) → text_to_answer p before.source ≡ Some t → (Failed before.source after.source → ⊥) → (Failed before.sink after.sink → ⊥) → HasStatus p t answer.status ⊎ (answer.status ≡ status.TheVariants.Memory)) same (complete-clause o before after answer h)
-
--- words that are refused
-pub serves-usage : (wanted : Option Options) (before after : Devices) (answer : Answer) → wanted ≡ None → IsUntouched before.source after.source
-    → IsWritten before.sink after.sink (answered status.TheVariants.Usage usage_line) answer → Serves wanted before after answer
-serves-usage wanted before after answer none untouched (inl (is, took)) =
-    let e = status_at answer _ is in
-    record {
-      done = λ given. let plain = outcome-other answer.status given in let bad : other answer.status ≡ true = ap other e in absurd cc;
-      handed_back = λ given. let plain = outcome-other answer.status given in let bad : other answer.status ≡ true = ap other e in absurd cc;
-      no_run = λ _. run_at answer _ is;
-      usage = λ r. (none, took);
-      usage_comes = λ _. inl e;
-      refused = λ r. let bad : status.TheVariants.Usage ≡ status.TheVariants.SourceRefused = sym e ∙ r in absurd cc;
-      read_fault = λ r. let bad : status.TheVariants.Usage ≡ status.TheVariants.ReadFault = sym e ∙ r in absurd cc;
-      write_fault = λ r. let bad : status.TheVariants.Usage ≡ status.TheVariants.WriteFault = sym e ∙ r in absurd cc;
-      memory = λ r. let bad : status.TheVariants.Usage ≡ status.TheVariants.Memory = sym e ∙ r in absurd cc;
-      unread = λ _. untouched;
-      few = subst (λ (x : Option Options). IfSome (most_asked x) (GaveAtMost before.source after.source)) (sym none) tt;
-      complete = λ o f. absurd (no_options o wanted f none);
-    }
-serves-usage wanted before after answer none untouched (inr (is, failed, front)) =
-    let e = status_at answer _ is in
-    record {
-      done = λ given. let plain = outcome-other answer.status given in let bad : other answer.status ≡ true = ap other e in absurd cc;
-      handed_back = λ given. let plain = outcome-other answer.status given in let bad : other answer.status ≡ true = ap other e in absurd cc;
-      no_run = λ _. run_at answer _ is;
-      usage = λ r. let bad : status.TheVariants.WriteFault ≡ status.TheVariants.Usage = sym e ∙ r in absurd cc;
-      usage_comes = λ _. inr (inr (e, failed));
-      refused = λ r. let bad : status.TheVariants.WriteFault ≡ status.TheVariants.SourceRefused = sym e ∙ r in absurd cc;
-      read_fault = λ r. let bad : status.TheVariants.WriteFault ≡ status.TheVariants.ReadFault = sym e ∙ r in absurd cc;
-      write_fault = λ r. (failed, subst (λ (x : Option Options). has_stopped x before after) (sym none) front);
-      memory = λ r. let bad : status.TheVariants.WriteFault ≡ status.TheVariants.Memory = sym e ∙ r in absurd cc;
-      unread = λ _. untouched;
-      few = subst (λ (x : Option Options). IfSome (most_asked x) (GaveAtMost before.source after.source)) (sym none) tt;
-      complete = λ o f. absurd (no_options o wanted f none);
-    }
-
--- a source that was left alone gave no bytes
-untouched-few : (before after : DeviceState) (most : Option ℕ) → IsUntouched before after → IfSome most (GaveAtMost before after)
-untouched-few before after None untouched = tt
-untouched-few before after (Some most) untouched =
-    record { bytes = []; taken = Consumes-kept before.bytes before.bytes after.bytes [] (Consumes-nil before.bytes) untouched.bytes; within = omega arith }
-
--- words for which there was no memory
-pub serves-memory : (wanted : Option Options) (before after : Devices) (answer : Answer) → IsUntouched before.source after.source → TookNothing before.sink after.sink
-    → answer ≡ without_run status.TheVariants.Memory → Serves wanted before after answer
-serves-memory wanted before after answer untouched nothing is =
-    let e = status_at answer _ is in
-    record {
-      done = λ given. let plain = outcome-other answer.status given in let bad : other answer.status ≡ true = ap other e in absurd cc;
-      handed_back = λ given. let plain = outcome-other answer.status given in let bad : other answer.status ≡ true = ap other e in absurd cc;
-      no_run = λ _. run_at answer _ is;
-      usage = λ r. let bad : status.TheVariants.Memory ≡ status.TheVariants.Usage = sym e ∙ r in absurd cc;
-      usage_comes = λ _. inr (inl e);
-      refused = λ r. let bad : status.TheVariants.Memory ≡ status.TheVariants.SourceRefused = sym e ∙ r in absurd cc;
-      read_fault = λ r. let bad : status.TheVariants.Memory ≡ status.TheVariants.ReadFault = sym e ∙ r in absurd cc;
-      write_fault = λ r. let bad : status.TheVariants.Memory ≡ status.TheVariants.WriteFault = sym e ∙ r in absurd cc;
-      memory = λ r. nothing;
-      unread = λ _. untouched;
-      few = untouched-few before.source after.source (most_asked wanted) untouched;
-      complete = λ o f text told calm_source calm_sink. inr e;
-    }
+    by_options p same = subst (λ (p : Options). (t : List ℕ) → text_to_answer p before.source ≡ Some t → (SourceFailed before.source after.source → ⊥) → (SinkFailed before.sink after.sink → ⊥) → HasStatus p t answer.status ⊎ (answer.status ≡ status.TheVariants.Memory)) same (complete-clause o before after answer h)

@@ -16,7 +16,7 @@ use Rattle.command_words.specs.declared.options.Mode as mode
 use Rattle.command_words.specs.declared.options.Options.{Options}
 use Rattle.dn_top.specs.declared.output.Output.{Output}
 use Rattle.dn_top.specs.Answers.{HasProgram, HasChecked, IsNoProgram, IsUnfit, IsReplayed, IsRefusedDocument, done_in, refused_in, most_read}
-use Rattle.dn_top.specs.Outside.{DeviceState, IsRead}
+use Rattle.dn_top.specs.Outside.{SourceState, IsRead}
 use Rattle.dn_top.specs.Serving.{text_by, text_to_answer, read_by, obtained_by, IsObtained}
 use Rattle.dn_top.proofs.OneReplay.{no-fault_of_document}
 
@@ -63,12 +63,12 @@ same_text t text (Some rest) bytes whole less =
     sym (bytes ∙ ap (λ r. text ++ r) ends ∙ append-nil text)
 
 -- both texts have the same program or the same fault, and where there is a program they are one, and the source was read to its end
-record AreAlike (after : DeviceState) (text t : List ℕ) : Type 0 where
+record AreAlike (after : SourceState) (text t : List ℕ) : Type 0 where
   same : source text ≡ source t
   equal : (P : ProgramParts) → source text ≡ Ok P → text ≡ t
   whole : (P : ProgramParts) → source t ≡ Ok P → after.bytes ≡ Some []
 
-are-alike : (before after : DeviceState) (text t : List ℕ) → before.bytes ≡ Some t → IsRead before after 1048577 text → AreAlike after text t
+are-alike : (before after : SourceState) (text t : List ℕ) → before.bytes ≡ Some t → IsRead before after 1048577 text → AreAlike after text t
 are-alike before after text t is read =
     let bytes : Consumes (Some t) after.bytes text = subst (λ (x : Option (List ℕ)). Consumes x after.bytes text) is read.bytes in
     record {
@@ -137,13 +137,13 @@ document-read left text t out (inr (large, more)) is = absurd (replayed-small t 
 -- ---- by the mode
 
 -- what a mode answers to the first text it answers to the second, and where it does something the source was read so
-pub record AnswersAlike (m : Mode) (o : Options) (before after : DeviceState) (text t : List ℕ) : Type 0 where
+pub record AnswersAlike (m : Mode) (o : Options) (before after : SourceState) (text t : List ℕ) : Type 0 where
   pub done : (out : Output) → done_in m o text out → done_in m o t out
   pub refused : (line : List ℕ) → refused_in m text line → refused_in m t line
   pub read : (out : Output) → done_in m o t out → read_by (most_read m) before after
 
 -- what a mode reads of a text is answered as the text
-answers-read : (m : Mode) (o : Options) (before after : DeviceState) (text t : List ℕ) (most : ℕ) → most_read m ≡ Some most → before.bytes ≡ Some t → IsRead before after most text → AnswersAlike m o before after text t
+answers-read : (m : Mode) (o : Options) (before after : SourceState) (text t : List ℕ) (most : ℕ) → most_read m ≡ Some most → before.bytes ≡ Some t → IsRead before after most text → AnswersAlike m o before after text t
 answers-read mode.TheVariants.Run o before after text t most e is read =
     let a = are-alike before after text t is (let m : most ≡ 1048577 = cc in rw m at read) in
     record { done = λ out. checked-alike text t _ a.same; refused = λ line. unfit-alike text t line a.same; read = λ out h. a.whole h.program h.is }
@@ -173,7 +173,7 @@ answers-read mode.TheVariants.Prove o before after text t most e is read =
     record { done = λ out. checked-alike text t _ a.same; refused = λ line. unfit-alike text t line a.same; read = λ out h. a.whole h.program h.is }
 
 -- the text that was taken is answered as the text that the options are about
-pub taken-alike : (o : Options) (before after : DeviceState) (text : List ℕ) → IsObtained o before after text → IfSome (text_to_answer o before) (λ t. AnswersAlike o.mode o before after text t)
+pub taken-alike : (o : Options) (before after : SourceState) (text : List ℕ) → IsObtained o before after text → IfSome (text_to_answer o before) (λ t. AnswersAlike o.mode o before after text t)
 taken-alike o before after text taken = by_most (most_read o.mode) refl taken
   where
     by_most : (x : Option ℕ) → most_read o.mode ≡ x → obtained_by x o.size before after text → IfSome (text_by x o.size before.bytes) (λ t. AnswersAlike o.mode o before after text t)

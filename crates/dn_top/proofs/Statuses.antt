@@ -9,7 +9,7 @@ use Rattle.command_words.specs.declared.options.Mode.{Mode}
 use Rattle.command_words.specs.declared.options.Mode as mode
 use Rattle.command_words.specs.declared.options.Options.{Options}
 use Rattle.dn_top.specs.declared.output.Output.{Output}
-use Rattle.dn_top.specs.Serving.{IsRunWithStatus}
+use Rattle.dn_top.specs.Serving.{IsRunWithStatus, IsOutcomeOrRefusal}
 use Rattle.dn_top.specs.Answers.{done_in, makes_run, runs_tasks, IsDone, IsRefusal, IsAnswer, IsOutcome}
 
 -- whether a status is a refusal's
@@ -24,6 +24,25 @@ other status.TheVariants.ReadFault = true
 other status.TheVariants.WriteFault = true
 other status.TheVariants.Memory = true
 other _ = false
+
+-- whether a status is that of a failed device or of want of memory
+abbrev pub fails : Status → Bool
+fails status.TheVariants.ReadFault = true
+fails status.TheVariants.WriteFault = true
+fails status.TheVariants.Memory = true
+fails _ = false
+
+fails_of : (o : Outcome) → fails (status_of o) ≡ false
+fails_of outcome.TheVariants.Done = refl
+fails_of outcome.TheVariants.Trapped = refl
+fails_of outcome.TheVariants.Fuel = refl
+fails_of outcome.TheVariants.Stuck = refl
+
+-- no outcome and no refusal is one of these
+pub outcome_or_refusal-fails : (s : Status) → IsOutcomeOrRefusal s → fails s ≡ false
+outcome_or_refusal-fails s (inl (o, e)) = ap fails e ∙ fails_of o
+outcome_or_refusal-fails s (inr (inl e)) = ap fails e
+outcome_or_refusal-fails s (inr (inr e)) = ap fails e
 
 other_of : (o : Outcome) → other (status_of o) ≡ false
 other_of outcome.TheVariants.Done = refl

@@ -1,5 +1,5 @@
 -- What a call of the program reads and writes, and what its status says of that.
-use Rattle.std.specs.Prelude.{◌≡◌, ◌⊎◌, ℕ, false, List, [], Option, Some, None, IfSome, is_some, option_and_then}
+use Rattle.std.specs.Prelude.{◌≡◌, ◌≢◌, ◌⊎◌, ℕ, false, List, [], Option, Some, None, IfSome, is_some, option_and_then}
 use Rattle.dn_base.specs.declared.status.Status.{Status}
 use Rattle.dn_base.specs.declared.status.Status as status
 use Rattle.dn_base.specs.Status.{status_of}
@@ -19,7 +19,7 @@ use Rattle.dn_top.specs.declared.serving.Answer.{Answer}
 use Rattle.dn_top.specs.Answers.{most_read, makes_run, runs_tasks, IsDone, IsRefusal, IsAnswer, IsOutcome, usage_line}
 use Rattle.dn_top.specs.Runs.{IsRunOf, IsRunFor}
 use Rattle.dn_top.specs.Documents.{shape_told}
-use Rattle.dn_top.specs.Outside.{DeviceState, Devices, Failed, GaveAtMost, IsUntouched, IsRead, Took, TookNothing, TookFront}
+use Rattle.dn_top.specs.Outside.{SourceState, SinkState, Devices, SourceFailed, SinkFailed, GaveAtMost, IsUntouched, IsRead, IsFlushed, Took, Delivered, TookFront}
 
 -- ---- the text of a call
 
@@ -28,16 +28,16 @@ abbrev pub text_by : Option ℕ → ℕ → Option (List ℕ) → Option (List �
 text_by None size content = Some (work_of size)
 text_by (Some most) size content = content
 
-abbrev pub text_to_answer : Options → DeviceState → Option (List ℕ)
+abbrev pub text_to_answer : Options → SourceState → Option (List ℕ)
 text_to_answer o source = text_by (most_read o.mode) o.size source.bytes
 
 -- the source was left alone where the text is generated, and else read to its end
-abbrev pub read_by : Option ℕ → DeviceState → DeviceState → Type 0
+abbrev pub read_by : Option ℕ → SourceState → SourceState → Type 0
 read_by None before after = IsUntouched before after
 read_by (Some most) before after = after.bytes ≡ Some []
 
 -- options are wanted, and this holds of them and their text, where the source tells it
-pub record ForText (wanted : Option Options) (source : DeviceState) (Holds : Options → List ℕ → Type 0) : Type 0 where
+pub record ForText (wanted : Option Options) (source : SourceState) (Holds : Options → List ℕ → Type 0) : Type 0 where
   pub options : Options
   pub asked : wanted ≡ Some options
   pub text : IfSome (text_to_answer options source) (Holds options)
@@ -97,6 +97,10 @@ pub record HandsBack (o : Options) (answer : Answer) : Type 0 where
   pub run : IfSome answer.run (IsRunWithStatus o.mode o answer.status)
   pub done : runs_tasks o.mode ≡ false → answer.status ≡ status.TheVariants.Done
 
+-- the status is that of an outcome, or of a refusal of the words or the text
+abbrev pub IsOutcomeOrRefusal : Status → Type 0
+IsOutcomeOrRefusal s = IsOutcome s ⊎ ((s ≡ status.TheVariants.Usage) ⊎ (s ≡ status.TheVariants.SourceRefused))
+
 -- how many bytes the program reads at most: None where the words are refused or their mode generates its text
 abbrev pub most_asked : Option Options → Option ℕ
 most_asked wanted = option_and_then (λ (o : Options). most_read o.mode) wanted
@@ -116,22 +120,28 @@ pub record Serves (wanted : Option Options) (before after : Devices) (answer : A
   pub usage : answer.status ≡ status.TheVariants.Usage → (wanted ≡ None) × Took before.sink after.sink usage_line
   -- and it comes there, unless the sink failed or there was no memory
   pub usage_comes : wanted ≡ None → (answer.status ≡ status.TheVariants.Usage)
-      ⊎ ((answer.status ≡ status.TheVariants.Memory) ⊎ ((answer.status ≡ status.TheVariants.WriteFault) × Failed before.sink after.sink))
+      ⊎ ((answer.status ≡ status.TheVariants.Memory) ⊎ ((answer.status ≡ status.TheVariants.WriteFault) × SinkFailed before.sink after.sink))
   -- SourceRefused comes only where the mode refuses the text, and the line of its first fault was written
   pub refused : answer.status ≡ status.TheVariants.SourceRefused → ForText wanted before.source (λ o text. HasRefused o before after text)
-  -- ReadFault comes only where the source failed; nothing was written
-  pub read_fault : answer.status ≡ status.TheVariants.ReadFault → Failed before.source after.source × TookNothing before.sink after.sink
+  -- ReadFault comes only where the source failed; the sink was left alone
+  pub read_fault : answer.status ≡ status.TheVariants.ReadFault → SourceFailed before.source after.source × IsUntouched before.sink after.sink
   -- WriteFault comes only where the sink failed; it took a front of what was to be written
-  pub write_fault : answer.status ≡ status.TheVariants.WriteFault → Failed before.sink after.sink × has_stopped wanted before after
-  -- where there was no memory nothing was written
-  pub memory : answer.status ≡ status.TheVariants.Memory → TookNothing before.sink after.sink
+  pub write_fault : answer.status ≡ status.TheVariants.WriteFault → SinkFailed before.sink after.sink × has_stopped wanted before after
+  -- where there was no memory the sink was left alone
+  pub memory : answer.status ≡ status.TheVariants.Memory → IsUntouched before.sink after.sink
+  -- a source whose count of faults rose gives ReadFault: with every other status the count is as it was
+  pub source_faultless : answer.status ≢ status.TheVariants.ReadFault → after.source.faults ≡ before.source.faults
+  -- a sink whose count of faults rose gives WriteFault: with every other status the count is as it was
+  pub sink_faultless : answer.status ≢ status.TheVariants.WriteFault → after.sink.faults ≡ before.sink.faults
+  -- behind every outcome and every refusal all that the sink took has been flushed, where it tells that
+  pub flushed : IsOutcomeOrRefusal answer.status → IsFlushed after.sink
   -- the source is left alone where the words are refused, and in a mode that generates its text
   pub unread : most_asked wanted ≡ None → IsUntouched before.source after.source
   -- and never gives more than one byte past the most that a text, or in the mode replay a document, may have
   pub few : IfSome (most_asked wanted) (GaveAtMost before.source after.source)
   -- options and a text that the source tells have their answer's status, unless a device failed or there was no memory
   pub complete : (o : Options) → wanted ≡ Some o → (text : List ℕ) → text_to_answer o before.source ≡ Some text
-      → ¬ Failed before.source after.source → ¬ Failed before.sink after.sink
+      → ¬ SourceFailed before.source after.source → ¬ SinkFailed before.sink after.sink
       → HasStatus o text answer.status ⊎ (answer.status ≡ status.TheVariants.Memory)
 
 -- ---- its parts
@@ -148,32 +158,32 @@ answer_to out = record { status = out.status; run = out.run }
 abbrev pub without_run : Status → Answer
 without_run s = record { status = s; run = None }
 
--- the output was written and the answer is its status and run, or the sink failed and took a front of its bytes
-abbrev pub IsWritten : DeviceState → DeviceState → Output → Answer → Type 0
+-- the output was delivered and the answer is its status and run, or the sink failed and took a front of its bytes
+abbrev pub IsWritten : SinkState → SinkState → Output → Answer → Type 0
 IsWritten before after out answer =
-    ((answer ≡ answer_to out) × Took before after out.bytes)
-    ⊎ ((answer ≡ without_run status.TheVariants.WriteFault) × Failed before after × TookFront before after out.bytes)
+    ((answer ≡ answer_to out) × Delivered before after out.bytes)
+    ⊎ ((answer ≡ without_run status.TheVariants.WriteFault) × SinkFailed before after × TookFront before after out.bytes)
 
 -- the output for a text was made, and written as far as the sink took it
-pub record IsGiven (o : Options) (before after : DeviceState) (text : List ℕ) (answer : Answer) : Type 0 where
+pub record IsGiven (o : Options) (before after : SinkState) (text : List ℕ) (answer : Answer) : Type 0 where
   pub out : Output
   pub is : IsAnswer o text out
   pub finished : IsWritten before after out answer
 
--- there was no memory, and nothing was written
-pub record IsStarved (before after : DeviceState) (answer : Answer) : Type 0 where
+-- there was no memory for the output, and the sink was left alone
+pub record IsStarved (before after : SinkState) (answer : Answer) : Type 0 where
   pub memory : answer ≡ without_run status.TheVariants.Memory
-  pub nothing : TookNothing before after
+  pub untouched : IsUntouched before after
 
-abbrev pub IsReplied : Options → DeviceState → DeviceState → List ℕ → Answer → Type 0
+abbrev pub IsReplied : Options → SinkState → SinkState → List ℕ → Answer → Type 0
 IsReplied o before after text answer = IsGiven o before after text answer ⊎ IsStarved before after answer
 
 -- the text was generated, or it was read
-abbrev pub obtained_by : Option ℕ → ℕ → DeviceState → DeviceState → List ℕ → Type 0
+abbrev pub obtained_by : Option ℕ → ℕ → SourceState → SourceState → List ℕ → Type 0
 obtained_by None size before after text = (text ≡ work_of size) × IsUntouched before after
 obtained_by (Some most) size before after text = IsRead before after most text
 
-abbrev pub IsObtained : Options → DeviceState → DeviceState → List ℕ → Type 0
+abbrev pub IsObtained : Options → SourceState → SourceState → List ℕ → Type 0
 IsObtained o before after text = obtained_by (most_read o.mode) o.size before after text
 
 -- the text was taken and replied to
@@ -182,12 +192,18 @@ pub record IsServed (o : Options) (before after : Devices) (answer : Answer) : T
   pub taken : IsObtained o before.source after.source text
   pub reply : IsReplied o before.sink after.sink text answer
 
--- the source failed, and nothing was written
+-- the source failed, and the sink was left alone
 pub record IsUnread (before after : Devices) (answer : Answer) : Type 0 where
   pub fault : answer ≡ without_run status.TheVariants.ReadFault
-  pub failed : Failed before.source after.source
-  pub nothing : TookNothing before.sink after.sink
+  pub failed : SourceFailed before.source after.source
+  pub untouched : IsUntouched before.sink after.sink
+
+-- there was no memory for the text: no read failed, and the sink was left alone
+pub record IsUnheld (before after : Devices) (answer : Answer) : Type 0 where
+  pub memory : answer ≡ without_run status.TheVariants.Memory
+  pub faultless : after.source.faults ≡ before.source.faults
+  pub untouched : IsUntouched before.sink after.sink
 
 -- a call that was given options ended: their text was replied to, or there was none
 abbrev pub IsDoneBy : Options → Devices → Devices → Answer → Type 0
-IsDoneBy o before after answer = IsServed o before after answer ⊎ (IsUnread before after answer ⊎ IsStarved before.sink after.sink answer)
+IsDoneBy o before after answer = IsServed o before after answer ⊎ (IsUnread before after answer ⊎ IsUnheld before after answer)

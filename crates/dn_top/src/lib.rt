@@ -5,7 +5,7 @@ ghost use Rattle.std.specs.Prelude.{◌≡◌, map, string_bytes, None, IfSome};
 ghost use Rattle.std.specs.Option.{option_map};
 ghost use Rattle.command_words.specs.Command.{OptionsInRange, options_of};
 ghost use Rattle.dn_top.specs.Answers.{most_read};
-ghost use Rattle.dn_top.specs.Outside.{GaveAtMost, IsUntouched, device, devices};
+ghost use Rattle.dn_top.specs.Outside.{GaveAtMost, IsUntouched, devices, source_at};
 ghost use Rattle.dn_top.specs.Runs.{with_one_worker};
 ghost use Rattle.dn_top.specs.Serving.{IsDoneBy, Serves};
 
@@ -59,8 +59,8 @@ pub fn answer_words<S: Source, K: Sink>(
     sink: &mut K,
 ) -> Answer
     ensures serves { Serves (option_map with_one_worker (options_of (map string_bytes words.now)))
-        (devices (S.content source.old) (S.faults source.old) (K.content sink.old) (K.faults sink.old))
-        (devices (S.content source.new) (S.faults source.new) (K.content sink.new) (K.faults sink.new)) result }
+        (devices (S.content source.old) (S.faults source.old) (K.content sink.old) (K.flushed sink.old) (K.faults sink.old))
+        (devices (S.content source.new) (S.faults source.new) (K.content sink.new) (K.flushed sink.new) (K.faults sink.new)) result }
 {
     match read_words(alloc, words) {
         Ok(options) => answer_alone(alloc, &options, source, sink),
@@ -80,11 +80,11 @@ fn answer_options<R: Threads + Wait + Sync, S: Source, K: Sink, G: Gate + Sync>(
 ) -> Answer
     requires { OptionsInRange options.now }
     ensures served { IsDoneBy options.now
-        (devices (S.content source.old) (S.faults source.old) (K.content sink.old) (K.faults sink.old))
-        (devices (S.content source.new) (S.faults source.new) (K.content sink.new) (K.faults sink.new)) result }
-    ensures few { IfSome (most_read options.now.mode) (GaveAtMost (device (S.content source.old) (S.faults source.old)) (device (S.content source.new) (S.faults source.new))) }
+        (devices (S.content source.old) (S.faults source.old) (K.content sink.old) (K.flushed sink.old) (K.faults sink.old))
+        (devices (S.content source.new) (S.faults source.new) (K.content sink.new) (K.flushed sink.new) (K.faults sink.new)) result }
+    ensures few { IfSome (most_read options.now.mode) (GaveAtMost (source_at (S.content source.old) (S.faults source.old)) (source_at (S.content source.new) (S.faults source.new))) }
     ensures unread { most_read options.now.mode ≡ None
-        → IsUntouched (device (S.content source.old) (S.faults source.old)) (device (S.content source.new) (S.faults source.new)) }
+        → IsUntouched (source_at (S.content source.old) (S.faults source.old)) (source_at (S.content source.new) (S.faults source.new)) }
 {
     if options.workers == 1 {
         answer_alone(alloc, options, source, sink)
@@ -108,8 +108,8 @@ pub fn denovo_main<R: Threads + Wait + Sync, S: Source, K: Sink, G: Gate + Sync>
     gate: &G,
 ) -> Answer
     ensures serves { Serves (options_of (map string_bytes words.now))
-        (devices (S.content source.old) (S.faults source.old) (K.content sink.old) (K.faults sink.old))
-        (devices (S.content source.new) (S.faults source.new) (K.content sink.new) (K.faults sink.new)) result }
+        (devices (S.content source.old) (S.faults source.old) (K.content sink.old) (K.flushed sink.old) (K.faults sink.old))
+        (devices (S.content source.new) (S.faults source.new) (K.content sink.new) (K.flushed sink.new) (K.faults sink.new)) result }
 {
     match read_words(alloc, words) {
         Ok(options) => answer_options(rt, alloc, &options, source, sink, gate),

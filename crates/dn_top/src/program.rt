@@ -22,8 +22,8 @@ fn ended<R: Threads + Wait + Sync, S: Source, K: Sink>(
     sink: &mut K,
 ) -> ExitCode
     ensures { HasEnded (options_of (map string_bytes words.now))
-        (devices (S.content source.old) (S.faults source.old) (K.content sink.old) (K.faults sink.old))
-        (devices (S.content source.new) (S.faults source.new) (K.content sink.new) (K.faults sink.new)) result }
+        (devices (S.content source.old) (S.faults source.old) (K.content sink.old) (K.flushed sink.old) (K.faults sink.old))
+        (devices (S.content source.new) (S.faults source.new) (K.content sink.new) (K.flushed sink.new) (K.faults sink.new)) result }
 {
     let answer = denovo_main(rt, alloc, words, source, sink, &OpenGate);
     ExitCode::from(answer.status.code())

@@ -1,7 +1,7 @@
 ghost use Rattle.std.specs.Prelude.{◌≡◌, ◌+◌, IfOk, IfErr, IfSome};
 ghost use Rattle.command_words.specs.Command.{OptionsInRange};
 ghost use Rattle.dn_top.specs.Answers.{most_read};
-ghost use Rattle.dn_top.specs.Outside.{Failed as HasFailed, GaveAtMost, IsRead, IsUntouched, device};
+ghost use Rattle.dn_top.specs.Outside.{SourceFailed, GaveAtMost, IsRead, IsUntouched, source_at};
 ghost use Rattle.dn_top.specs.Serving.{IsObtained};
 ghost use Rattle.dn_top.specs.declared.reading.ReadError.TheVariants.{NoMemory};
 
@@ -59,12 +59,13 @@ pub(crate) fn take_text<S: Source>(
     source: &mut S,
 ) -> Result<Vec<u8>, ReadError>
     requires { OptionsInRange options.now }
-    ensures text { IfOk result (λ text. IsObtained options.now (device (S.content source.old) (S.faults source.old)) (device (S.content source.new) (S.faults source.new)) text.items) }
+    ensures text { IfOk result (λ text. IsObtained options.now (source_at (S.content source.old) (S.faults source.old)) (source_at (S.content source.new) (S.faults source.new)) text.items) }
     ensures failed { IfErr result (λ error. error ≡ ReadError.Failed
-        → HasFailed (device (S.content source.old) (S.faults source.old)) (device (S.content source.new) (S.faults source.new))) }
-    ensures few { IfSome (most_read options.now.mode) (GaveAtMost (device (S.content source.old) (S.faults source.old)) (device (S.content source.new) (S.faults source.new))) }
+        → SourceFailed (source_at (S.content source.old) (S.faults source.old)) (source_at (S.content source.new) (S.faults source.new))) }
+    ensures memory { IfErr result (λ error. error ≡ ReadError.NoMemory → S.faults source.new ≡ S.faults source.old) }
+    ensures few { IfSome (most_read options.now.mode) (GaveAtMost (source_at (S.content source.old) (S.faults source.old)) (source_at (S.content source.new) (S.faults source.new))) }
     ensures unread { most_read options.now.mode ≡ None
-        → IsUntouched (device (S.content source.old) (S.faults source.old)) (device (S.content source.new) (S.faults source.new)) }
+        → IsUntouched (source_at (S.content source.old) (S.faults source.old)) (source_at (S.content source.new) (S.faults source.new)) }
 {
     match most_of(options.mode) {
         Some(most) => read_text(alloc, most, source),
@@ -75,16 +76,17 @@ pub(crate) fn take_text<S: Source>(
 /// Reads the source to its end, or until so many bytes have come. No more are taken, also where there is no text.
 ///
 /// # Errors
-/// `Failed` where the source fails, and `NoMemory` where there is no room for the text.
+/// `Failed` where the source fails, and `NoMemory` where there is no room for the text; no read has then failed.
 pub fn read_text<S: Source>(
     alloc: Global,
     most: usize,
     source: &mut S,
 ) -> Result<Vec<u8>, ReadError>
-    ensures text { IfOk result (λ text. IsRead (device (S.content source.old) (S.faults source.old)) (device (S.content source.new) (S.faults source.new)) most text.items) }
+    ensures text { IfOk result (λ text. IsRead (source_at (S.content source.old) (S.faults source.old)) (source_at (S.content source.new) (S.faults source.new)) most text.items) }
     ensures failed { IfErr result (λ error. error ≡ ReadError.Failed
-        → HasFailed (device (S.content source.old) (S.faults source.old)) (device (S.content source.new) (S.faults source.new))) }
-    ensures few { GaveAtMost (device (S.content source.old) (S.faults source.old)) (device (S.content source.new) (S.faults source.new)) most }
+        → SourceFailed (source_at (S.content source.old) (S.faults source.old)) (source_at (S.content source.new) (S.faults source.new))) }
+    ensures memory { IfErr result (λ error. error ≡ ReadError.NoMemory → S.faults source.new ≡ S.faults source.old) }
+    ensures few { GaveAtMost (source_at (S.content source.old) (S.faults source.old)) (source_at (S.content source.new) (S.faults source.new)) most }
 {
     let mut text = Vec::new(alloc);
     let mut buf = [0; 4096];

@@ -2,7 +2,7 @@ ghost use Rattle.std.specs.Prelude.{◌≡◌, ◌≢◌, ℕ, List, None, IfOk,
 ghost use Rattle.command_words.specs.declared.options.Options.{Options as OptionsOf};
 ghost use Rattle.command_words.specs.Command.{OptionsInRange};
 ghost use Rattle.dn_top.specs.Answers.{IsAnswer, answered, most_read, usage_line};
-ghost use Rattle.dn_top.specs.Outside.{GaveAtMost, IsUntouched, device, devices};
+ghost use Rattle.dn_top.specs.Outside.{GaveAtMost, IsUntouched, devices, sink_at, source_at};
 ghost use Rattle.dn_top.specs.Runs.{with_one_worker};
 ghost use Rattle.dn_top.specs.Serving.{without_run, IsDoneBy, IsWritten, IsReplied, status_of_read};
 
@@ -36,7 +36,7 @@ pub(crate) fn status_only(status: Status) -> Answer
 
 /// Writes the bytes, and answers this status and run, or `WriteFault` where the sink failed.
 fn finish<K: Sink>(sink: &mut K, bytes: &[u8], status: Status, run: Option<RunRecord>) -> Answer
-    ensures { IsWritten (device (K.content sink.old) (K.faults sink.old)) (device (K.content sink.new) (K.faults sink.new)) (record { status = status; bytes = bytes.now; run = run }) result }
+    ensures { IsWritten (sink_at (K.content sink.old) (K.flushed sink.old) (K.faults sink.old)) (sink_at (K.content sink.new) (K.flushed sink.new) (K.faults sink.new)) (record { status = status; bytes = bytes.now; run = run }) result }
 {
     match write_text(sink, bytes) {
         Ok(()) => Answer { status, run },
@@ -47,7 +47,7 @@ fn finish<K: Sink>(sink: &mut K, bytes: &[u8], status: Status, run: Option<RunRe
 /// Refuses the command words.
 #[tactic(auto, unfolding(run_report::specs::Refusal::refusal_of))]
 pub(crate) fn refuse_words<K: Sink>(sink: &mut K) -> Answer
-    ensures { IsWritten (device (K.content sink.old) (K.faults sink.old)) (device (K.content sink.new) (K.faults sink.new)) (answered Status.Usage usage_line) result }
+    ensures { IsWritten (sink_at (K.content sink.old) (K.flushed sink.old) (K.faults sink.old)) (sink_at (K.content sink.new) (K.flushed sink.new) (K.faults sink.new)) (answered Status.Usage usage_line) result }
 {
     finish(sink, b"refused usage\n", Status::Usage, None)
 }
@@ -55,7 +55,7 @@ pub(crate) fn refuse_words<K: Sink>(sink: &mut K) -> Answer
 /// Writes the answer to a text, where there was memory for it.
 fn reply<K: Sink>(sink: &mut K, output: Result<Output, Memory>) -> Answer
     ensures { (o : OptionsOf) (text : List ℕ) → IfOk output (IsAnswer o text)
-        → IsReplied o (device (K.content sink.old) (K.faults sink.old)) (device (K.content sink.new) (K.faults sink.new)) text result }
+        → IsReplied o (sink_at (K.content sink.old) (K.flushed sink.old) (K.faults sink.old)) (sink_at (K.content sink.new) (K.flushed sink.new) (K.faults sink.new)) text result }
 {
     match output {
         Ok(Output { status, bytes, run }) => finish(sink, bytes.as_slice(), status, run),
@@ -82,11 +82,11 @@ pub(crate) fn answer_alone<S: Source, K: Sink>(
 ) -> Answer
     requires { OptionsInRange options.now }
     ensures served { IsDoneBy (with_one_worker options.now)
-        (devices (S.content source.old) (S.faults source.old) (K.content sink.old) (K.faults sink.old))
-        (devices (S.content source.new) (S.faults source.new) (K.content sink.new) (K.faults sink.new)) result }
-    ensures few { IfSome (most_read options.now.mode) (GaveAtMost (device (S.content source.old) (S.faults source.old)) (device (S.content source.new) (S.faults source.new))) }
+        (devices (S.content source.old) (S.faults source.old) (K.content sink.old) (K.flushed sink.old) (K.faults sink.old))
+        (devices (S.content source.new) (S.faults source.new) (K.content sink.new) (K.flushed sink.new) (K.faults sink.new)) result }
+    ensures few { IfSome (most_read options.now.mode) (GaveAtMost (source_at (S.content source.old) (S.faults source.old)) (source_at (S.content source.new) (S.faults source.new))) }
     ensures unread { most_read options.now.mode ≡ None
-        → IsUntouched (device (S.content source.old) (S.faults source.old)) (device (S.content source.new) (S.faults source.new)) }
+        → IsUntouched (source_at (S.content source.old) (S.faults source.old)) (source_at (S.content source.new) (S.faults source.new)) }
 {
     match take_text(alloc, options, source) {
         Ok(text) => reply(sink, output_alone(alloc, options, text.as_slice())),
@@ -106,11 +106,11 @@ pub(crate) fn answer_by_workers<R: Threads + Wait + Sync, S: Source, K: Sink, G:
     requires limits { OptionsInRange options.now }
     requires several { options.now.workers ≢ 1 }
     ensures served { IsDoneBy options.now
-        (devices (S.content source.old) (S.faults source.old) (K.content sink.old) (K.faults sink.old))
-        (devices (S.content source.new) (S.faults source.new) (K.content sink.new) (K.faults sink.new)) result }
-    ensures few { IfSome (most_read options.now.mode) (GaveAtMost (device (S.content source.old) (S.faults source.old)) (device (S.content source.new) (S.faults source.new))) }
+        (devices (S.content source.old) (S.faults source.old) (K.content sink.old) (K.flushed sink.old) (K.faults sink.old))
+        (devices (S.content source.new) (S.faults source.new) (K.content sink.new) (K.flushed sink.new) (K.faults sink.new)) result }
+    ensures few { IfSome (most_read options.now.mode) (GaveAtMost (source_at (S.content source.old) (S.faults source.old)) (source_at (S.content source.new) (S.faults source.new))) }
     ensures unread { most_read options.now.mode ≡ None
-        → IsUntouched (device (S.content source.old) (S.faults source.old)) (device (S.content source.new) (S.faults source.new)) }
+        → IsUntouched (source_at (S.content source.old) (S.faults source.old)) (source_at (S.content source.new) (S.faults source.new)) }
 {
     match take_text(alloc, options, source) {
         Ok(text) => {

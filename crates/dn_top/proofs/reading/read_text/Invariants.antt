@@ -1,4 +1,4 @@
-use Rattle.std.proofs.Common.{◌≤◌, ◌-◌, vec_len, length}
+use Rattle.std.proofs.Common.{◌≡◌, ◌≤◌, ◌-◌, vec_len, length}
 use Rattle.std.specs.Io.KnownBytes.{Consumes}
 use Rattle.dn_top.proofs.reading.read_text.Given as goal
 
@@ -7,7 +7,7 @@ invariant-loop-buf g l =
     record {
       bytes : Consumes (g.S.Source.content l.fn.source) (g.S.Source.content l.source) l.text.items;
       within : length l.text.items ≤ l.most;
-      counted : g.S.Source.faults l.fn.source ≤ g.S.Source.faults l.source;
+      faultless : g.S.Source.faults l.source ≡ g.S.Source.faults l.fn.source;
     }
 
 abbrev pub decreases-loop-buf : goal.decreases-loop-buf

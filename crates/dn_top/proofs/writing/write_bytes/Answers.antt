@@ -1,4 +1,4 @@
-use Rattle.std.proofs.Common.{◌+◌, ◌-◌, ℕ, List, Option, length, take, drop, arith, sym}
+use Rattle.std.proofs.Common.{◌+◌, ◌-◌, ℕ, List, Option, length, take, drop, arith, sym, ◌∙◌}
 use Rattle.std.proofs.lemmas.List.{take-append-drop, take_rest, length-take, length-drop}
 use Rattle.std.proofs.Math.Seq.{take-add}
 use Rattle.std.proofs.KnownBytes.{Appends-trans, Appends-kept}
@@ -28,5 +28,5 @@ loop-done-preserved g c =
     record {
       within = omega (arith, c.in_ok-done.ensures.within, length-take (length bytes - done) (drop done bytes), length-drop done bytes, c.loop-done.invariant.within);
       taken = appends_more _ _ _ done c.in_ok-done.field-0 bytes c.loop-done.invariant.taken taken;
-      counted = omega (arith, c.loop-done.invariant.counted, c.write.ensures.counted);
+      faultless = c.in_ok-done.ensures.faultless ∙ c.loop-done.invariant.faultless;
     }

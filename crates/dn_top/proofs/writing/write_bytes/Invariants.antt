@@ -1,4 +1,4 @@
-use Rattle.std.proofs.Common.{◌≤◌, ◌-◌, length, take}
+use Rattle.std.proofs.Common.{◌≡◌, ◌≤◌, ◌-◌, length, take}
 use Rattle.std.specs.Io.KnownBytes.{Appends}
 use Rattle.dn_top.proofs.writing.write_bytes.Given as goal
 
@@ -7,7 +7,7 @@ invariant-loop-done g l =
     record {
       within : l.done ≤ length l.bytes;
       taken : Appends (g.K.Sink.content l.fn.sink) (g.K.Sink.content l.sink) (take l.done l.bytes);
-      counted : g.K.Sink.faults l.fn.sink ≤ g.K.Sink.faults l.sink;
+      faultless : g.K.Sink.faults l.sink ≡ g.K.Sink.faults l.fn.sink;
     }
 
 abbrev pub decreases-loop-done : goal.decreases-loop-done
