@@ -97,7 +97,7 @@ fn follow_on(alloc: Global, machine: &mut Machine, events: &[Event]) -> Result<R
     ensures { IfOk result (IsTrueOf machine.old.state.setting events.now) }
 {
     let mut log = machine.log(alloc)?;
-    let mut number = 0;
+    let mut number: u32 = 0;
     for event in events {
         if !machine.enabled(event) {
             return Ok(Replayed::NotEnabled { number });
