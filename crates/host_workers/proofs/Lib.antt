@@ -7,6 +7,7 @@ pub mod Turning
 pub mod Filters
 pub mod Worked
 pub mod Crewed
+pub mod Parting
 pub mod Passing
 pub mod Chosen
 pub mod Workers

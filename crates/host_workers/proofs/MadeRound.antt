@@ -50,7 +50,7 @@ use Rattle.host_workers.specs.Opening.{StandsFor}
 use Rattle.host_workers.specs.MadeRounds.{IsMadeRound}
 use Rattle.host_workers.specs.Rosters.{core_log, core_ends, bank_log, logs_of}
 use Rattle.host_workers.specs.Finishing.{IsRoundLeft}
-use Rattle.host_workers.proofs.HallObjects.{mapped-at, range-at, ports-long, inboxes-long}
+use Rattle.host_workers.proofs.HallObjects.{mapped-at, range-at, banks-long, ports-long, inboxes-long}
 use Rattle.host_workers.proofs.FirstInboxes.{first-began, first-addressed}
 use Rattle.host_workers.proofs.Leaving.{all-left}
 use Rattle.host_workers.proofs.Begun.{have-begun}
@@ -134,14 +134,25 @@ module _ (S M : State) (made workers : ℕ) (f : Finished) (left : IsRoundLeft S
   flying-inside : All (λ (m : Mail). IsIn C m.to) M.mails
   flying-inside = All-permutation (λ (m : Mail). IsIn C m.to) S.mails M.mails left.stands.same.mails (reached-inside C S left.stands.reached)
 
-  cores-long : length (inboxes_of f.objects.inboxes).cores ≡ C.shape.cores
-  cores-long =
+  ports-turns : length left.hall.ports ≡ C.shape.cores
+  ports-turns =
       let first : length left.opened.inboxes.cores ≡ C.shape.cores = ap length left.opened.first.cores ∙ (long-map _ (range_with_len 0 C.shape.cores) ∙ length-range_with_len 0 C.shape.cores) in
-      let turns : length left.hall.ports ≡ C.shape.cores = sym (long-map _ left.hall.ports) ∙ (ap length left.opened.opened.ports_shared.opened ∙ (ports-long _ _ _ _ _ _ _ left.opened.hold ∙ first)) in
-      sym (ports-long _ _ _ _ _ _ _ left.finished.hold) ∙ (left.finished.ports_closed.object_count ∙ turns)
+      sym (long-map _ left.hall.ports) ∙ (ap length left.opened.opened.ports_shared.opened ∙ (ports-long _ _ _ _ _ _ _ left.opened.hold ∙ first))
+
+  cores-long : length (inboxes_of f.objects.inboxes).cores ≡ C.shape.cores
+  cores-long = sym (ports-long _ _ _ _ _ _ _ left.finished.hold) ∙ (left.finished.ports_closed.object_count ∙ ports-turns)
 
   banks-in-long : length (inboxes_of f.objects.inboxes).banks ≡ C.shape.banks
   banks-in-long = inboxes-long _ _ _ _ _ _ _ left.finished.hold ∙ ((together.alike S M made workers f left).banks ∙ (machine-first.banks ∙ ap (λ (D : Setting). D.shape.banks) setting-first))
+
+  -- there is one history for each bank and for each port
+  banks-out-long : length f.banks.items ≡ C.shape.banks
+  banks-out-long =
+      let objects : length left.finished.objects.banks ≡ C.shape.banks = banks-long _ _ _ _ _ _ _ left.finished.hold ∙ ((together.alike S M made workers f left).banks ∙ (machine-first.banks ∙ ap (λ (D : Setting). D.shape.banks) setting-first)) in
+      sym (long-map _ f.banks.items) ∙ (left.finished.banks_closed.history_count ∙ (sym left.finished.banks_closed.object_count ∙ objects))
+
+  ports-out-long : length f.ports.items ≡ C.shape.cores
+  ports-out-long = sym (long-map _ f.ports.items) ∙ (left.finished.ports_closed.history_count ∙ ports-turns)
 
   inboxes : (merged : List Stamped) → AreInboxes C S T (round merged)
   inboxes merged = record {
@@ -223,6 +234,9 @@ module _ (S M : State) (made workers : ℕ) (f : Finished) (left : IsRoundLeft S
     round = round merged.items;
     workers_are = refl;
     merged = refl;
+    order = merge.rising;
+    bank_count = banks-out-long;
+    port_count = ports-out-long;
     banks = λ b. refl;
     ports = λ c. refl;
     keeper = refl;

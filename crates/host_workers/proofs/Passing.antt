@@ -12,7 +12,7 @@ use Rattle.round_rules.specs.Acts.{Act, actor_of, notes_by, calls_in}
 use Rattle.round_rules.specs.Passes.{HasGone}
 use Rattle.host_workers.specs.declared.crew.Crew.{Crew}
 use Rattle.host_workers.specs.Crews.{held_of, owned_core, bank_of, keeper_log}
-use Rattle.host_workers.specs.Pass.{actors_of, IsActOf, HasMore, IsWork, HasWorked, HasWorkedOn}
+use Rattle.host_workers.specs.Pass.{actors_of, IsActOf, HasMore, IsCrewAfter, IsWork, HasWorked, HasWorkedOn}
 use Rattle.round_rules.proofs.Appended.{calls-follow, notes-follow, cores-follow}
 use Rattle.host_workers.proofs.Crewed.{is_some-map}
 
@@ -31,8 +31,8 @@ more-same xs None (Some b) one = absurd one
 more-same xs (Some a) None one = absurd one
 
 -- the crew has the same actors
-same-actors : (C : Setting) (old new : PassView) (had has : Crew) (acts : List Act) → IsWork C old new had has acts → actors_of has ≡ actors_of had
-same-actors C old new had has acts work =
+same-actors : (C : Setting) (had has : Crew) (acts : List Act) → IsCrewAfter C had has acts → actors_of has ≡ actors_of had
+same-actors C had has acts work =
     let keeper : is_some has.keeper ≡ is_some had.keeper = sym (is_some-map _ has.keeper) ∙ (more-same _ (keeper_log had) (keeper_log has) work.keeper ∙ is_some-map _ had.keeper) in
     rw (work.same.cores, work.same.banks, keeper) refl
 
@@ -55,11 +55,10 @@ stands-too {A} f xs ys same i x at = by (slice_get ys i) refl (sym (slice_get-ma
   by None e is = absurd (none-some (f x) is)
   by (Some y) e is = (y, e, ap (or_else (f x)) is)
 
--- acts after others
-pub work-both : (C : Setting) (a b c : PassView) (x y z : Crew) (xs ys : List Act) → IsWork C a b x y xs → pass_number b ≡ pass_number a → IsWork C b c y z ys → IsWork C a c x z (xs ++ ys)
-work-both C a b c x y z xs ys one number two = record {
-  calls = calls-follow C.shape (pass_number a) xs ys a b c one.calls (subst (λ k. HasMadeCalls b c (calls_in C.shape k ys)) number two.calls);
-  own = All-append (IsActOf x) xs ys one.own (subst (λ all. All (λ act. Contains all (actor_of act)) ys) (same-actors C a b x y xs one) two.own);
+-- a crew after acts and then others
+crew-both : (C : Setting) (x y z : Crew) (xs ys : List Act) → IsCrewAfter C x y xs → IsCrewAfter C y z ys → IsCrewAfter C x z (xs ++ ys)
+crew-both C x y z xs ys one two = record {
+  own = All-append (IsActOf x) xs ys one.own (subst (λ all. All (λ act. Contains all (actor_of act)) ys) (same-actors C x y xs one) two.own);
   same = record { worker = two.same.worker ∙ one.same.worker; cores = two.same.cores ∙ one.same.cores; banks = two.same.banks ∙ one.same.banks };
   cores = λ i o q at now.
       let mid = stands-too owned_core x.cores.items y.cores.items one.same.cores i o at in
@@ -69,6 +68,13 @@ work-both C a b c x y z xs ys one number two = record {
       let late : q.log.items ≡ mid.0.log.items ++ notes_by C.shape (Bank o.bank) ys = subst (λ bank. q.log.items ≡ mid.0.log.items ++ notes_by C.shape (Bank bank) ys) mid.2 (two.banks i mid.0 q mid.1 now) in
       late ∙ (ap (λ l. l ++ notes_by C.shape (Bank o.bank) ys) (one.banks i o mid.0 at mid.1) ∙ (append_assoc o.log.items (notes_by C.shape (Bank o.bank) xs) (notes_by C.shape (Bank o.bank) ys) ∙ ap (λ l. o.log.items ++ l) (sym (notes-follow C.shape (Bank o.bank) xs ys))));
   keeper = subst (λ l. HasMore l (keeper_log x) (keeper_log z)) (sym (notes-follow C.shape Keeper xs ys)) (more-both (notes_by C.shape Keeper xs) (notes_by C.shape Keeper ys) (keeper_log x) (keeper_log y) (keeper_log z) one.keeper two.keeper);
+}
+
+-- acts after others
+pub work-both : (C : Setting) (a b c : PassView) (x y z : Crew) (xs ys : List Act) → IsWork C a b x y xs → pass_number b ≡ pass_number a → IsWork C b c y z ys → IsWork C a c x z (xs ++ ys)
+work-both C a b c x y z xs ys one number two = record {
+  calls = calls-follow C.shape (pass_number a) xs ys a b c one.calls (subst (λ k. HasMadeCalls b c (calls_in C.shape k ys)) number two.calls);
+  crew = crew-both C x y z xs ys one.crew two.crew;
 }
 
 -- one pass more

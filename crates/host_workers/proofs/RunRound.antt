@@ -151,4 +151,4 @@ module _ (M : State) (made workers : ℕ) (hall : HallView) (jobs : List Job) (k
               let job = stands-map crew_of jobs k b was in
               let now = stands-map crew_of dones k c is in
               let did = done.each k job.0 now.0 job.1 now.1 in
-              subst (λ x. IsBack x c) job.2 (subst (IsBack job.0.crew) now.2 (record { same = did.worked.work.same; kept = more-same _ (keeper_log job.0.crew) (keeper_log now.0.crew) did.worked.work.keeper }))
+              subst (λ x. IsBack x c) job.2 (subst (IsBack job.0.crew) now.2 (record { same = did.worked.work.crew.same; kept = more-same _ (keeper_log job.0.crew) (keeper_log now.0.crew) did.worked.work.crew.keeper }))

@@ -1,6 +1,6 @@
 -- The turn of a core, and the turns of several actors one after the other.
-use Rattle.std.proofs.Common.{◌≡◌, ℕ, ◌+◌, ◌<◌, Bool, true, false, List, [], ◌∷◌, ◌++◌, length, take, set, get_or, filter_map, Option, Some, None, refl, sym, ap, ◌∙◌, subst, arith}
-use Rattle.std.proofs.lemmas.List.{append-nil, take_more, take_more_set}
+use Rattle.std.proofs.Common.{◌≡◌, ℕ, suc, ◌+◌, ◌-◌, ◌<◌, ◌≤◌, Bool, true, false, List, [], ◌∷◌, ◌++◌, length, map, take, drop, set, get_or, filter_map, Option, Some, None, All, refl, sym, ap, ◌∙◌, subst, arith}
+use Rattle.std.proofs.lemmas.List.{append-nil, take_more, take_more_set, take-append-drop, drop_more, set_split, same_lists, length-drop, get_or-drop}
 use Rattle.std.proofs.lemmas.List.Concat.{flat_map-append}
 use Rattle.dn_base.specs.declared.ids.CoreId.{CoreId}
 use Rattle.message_net.specs.declared.actor.Actor.TheVariants.{Core}
@@ -14,11 +14,11 @@ use Rattle.round_rules.specs.Steps.{Done}
 use Rattle.bank_hall.specs.Stamps.{has_numbers_left}
 use Rattle.round_rules.specs.Passes.{Held, own_acts, taken_steps}
 use Rattle.host_workers.specs.Deeds.{HasMoved, own_steps}
-use Rattle.host_workers.specs.Work.{HasActed, HasTaken, HasMadeOwn, AreOf, IsTurn, HasDoneActs, HaveDone, Each, in_one_list}
-use Rattle.host_workers.proofs.Calls.{acted-none, acted-both}
+use Rattle.host_workers.specs.Work.{HasActed, HasTaken, HasMadeOwn, HasStopped, AreOf, IsTurn, HasDoneActs, HaveDone, HasDonePartly, HaveDonePartly, Each, in_one_list}
+use Rattle.host_workers.proofs.Calls.{acted-none, acted-both, stopped-after}
 use Rattle.host_workers.proofs.Moves.{moved-both}
 
-own-are : (core : CoreId) (goes : Bool) (e : Option Event) (done : Done) → AreOf (Core core) (own_acts core goes e done)
+pub own-are : (core : CoreId) (goes : Bool) (e : Option Event) (done : Done) → AreOf (Core core) (own_acts core goes e done)
 own-are core true (Some e) done = (refl, tt)
 own-are core true None done = tt
 own-are core false (Some e) done = tt
@@ -56,14 +56,27 @@ pub turn-is : (C : Setting) (core : CoreId) (pick : ℕ) (a b c : PassView) (had
     → (o : HasMadeOwn C core b c mid has n) → IsTurn C core had (turn_acts C core pick t.taken mid o.done)
 turn-is C core pick a b c had mid has m n t o = record { pick = pick; taken = t.taken; done = o.done; between = mid; handled = t.moved; acts_are = refl }
 
+-- no acts, for each of several
+abbrev pub no_acts : {A : Type 0} → List A → List (List Act)
+no_acts xs = map (λ x. []) xs
+
+pub joined-none : {A : Type 0} (xs : List A) → in_one_list (no_acts xs) ≡ []
+joined-none [] = refl
+joined-none (x ∷ xs) = joined-none xs
+
 module _ {A : Type 0} (Does : A → A → List Act → Type 0) where
-  each-more : (xs ys : List A) (parts : List (List Act)) (a b : A) (acts : List Act) → Each Does xs ys parts → Does a b acts → Each Does (xs ++ a ∷ []) (ys ++ b ∷ []) (parts ++ acts ∷ [])
-  each-more [] [] [] a b acts each one = (one, tt)
-  each-more (x ∷ xs) (y ∷ ys) (part ∷ parts) a b acts each one = (each.0, each-more xs ys parts a b acts each.1 one)
-  each-more [] [] (part ∷ parts) a b acts each one = absurd each
-  each-more [] (y ∷ ys) parts a b acts each one = absurd each
-  each-more (x ∷ xs) [] parts a b acts each one = absurd each
-  each-more (x ∷ xs) (y ∷ ys) [] a b acts each one = absurd each
+  each-both : (xs ys : List A) (parts : List (List Act)) (more others : List A) (rest : List (List Act)) → Each Does xs ys parts → Each Does more others rest → Each Does (xs ++ more) (ys ++ others) (parts ++ rest)
+  each-both [] [] [] more others rest each two = two
+  each-both (x ∷ xs) (y ∷ ys) (part ∷ parts) more others rest each two = (each.0, each-both xs ys parts more others rest each.1 two)
+  each-both [] [] (part ∷ parts) more others rest each two = absurd each
+  each-both [] (y ∷ ys) parts more others rest each two = absurd each
+  each-both (x ∷ xs) [] parts more others rest each two = absurd each
+  each-both (x ∷ xs) (y ∷ ys) [] more others rest each two = absurd each
+
+  -- nothing was done to any of them
+  pub each-still : (xs : List A) → All (λ x. Does x x []) xs → Each Does xs xs (no_acts xs)
+  each-still [] all = tt
+  each-still (x ∷ xs) all = (all 0 x (omega arith), each-still xs (λ k d within. all (suc k) d (omega (arith, within))))
 
   pub done-none : (C : Setting) (p : PassView) → HaveDone Does C p p [] [] 0
   done-none C p = record { parts = []; acted = acted-none C p; each = tt }
@@ -74,7 +87,7 @@ module _ {A : Type 0} (Does : A → A → List Act → Type 0) where
   done-more C p q r xs ys a b m n had same one = record {
     parts = had.parts ++ one.acts ∷ [];
     acted = subst (λ acts. HasActed C p r acts (m + n)) (sym (flat_map-append (λ (acts : List Act). acts) had.parts (one.acts ∷ []) ∙ ap (λ l. in_one_list had.parts ++ l) (append-nil one.acts))) (acted-both C p q r (in_one_list had.parts) one.acts m n had.acted same one.acted);
-    each = each-more xs ys had.parts a b one.acts had.each one.does;
+    each = each-both xs ys had.parts (a ∷ []) (b ∷ []) (one.acts ∷ []) had.each (one.does, tt);
   }
 
   -- the next one of two lists, of which the second changes in place
@@ -85,3 +98,35 @@ module _ {A : Type 0} (Does : A → A → List Act → Type 0) where
       subst (λ l. HaveDone Does C p r l (take (place + 1) (set nows place b)) (m + n)) (sym (take_more olds place d within))
       (subst (λ l. HaveDone Does C p r (take place olds ++ get_or olds place d ∷ []) l (m + n)) (sym (take_more_set nows place b (omega (arith, within, long))))
       (done-more C p q r (take place olds) (take place nows) (get_or olds place d) b m n had same one))
+
+module _ {A : Type 0} (Does Part : A → A → List Act → Type 0) (weaker : (x y : A) (acts : List Act) → Does x y acts → Part x y acts) where
+  pub each-weaker : (xs ys : List A) (parts : List (List Act)) → Each Does xs ys parts → Each Part xs ys parts
+  each-weaker [] [] [] each = tt
+  each-weaker (x ∷ xs) (y ∷ ys) (part ∷ parts) each = (weaker x y part each.0, each-weaker xs ys parts each.1)
+  each-weaker [] [] (part ∷ parts) each = absurd each
+  each-weaker [] (y ∷ ys) parts each = absurd each
+  each-weaker (x ∷ xs) [] parts each = absurd each
+  each-weaker (x ∷ xs) (y ∷ ys) [] each = absurd each
+
+  -- the next one of two lists was done in part, and nothing was done to those behind it
+  pub partly-next : (C : Setting) (p q r : PassView) (olds nows : List A) (place : ℕ) (b : A) (m : ℕ) → HaveDone Does C p q (take place olds) (take place nows) m → pass_number q ≡ pass_number p
+      → place < length olds → length nows ≡ length olds → ((i : ℕ) (d : A) → place ≤ i → get_or nows i d ≡ get_or olds i d) → All (λ x. Part x x []) olds
+      → (d : A) → HasDonePartly Part C q r (get_or olds place d) b → HaveDonePartly Part C p r olds (set nows place b)
+  partly-next C p q r olds nows place b m had same within long later still d one =
+      let rest = drop (place + 1) olds in
+      let on : suc place ≡ place + 1 = omega arith in
+      let behind : drop (suc place) nows ≡ rest = ap (λ n. drop n nows) on
+      ∙ same_lists (drop (place + 1) nows) rest (length-drop (place + 1) nows ∙ (ap (λ n. n - (place + 1)) long ∙ sym (length-drop (place + 1) olds)))
+      (λ k x below. get_or-drop (place + 1) nows k x ∙ (later (place + 1 + k) x (omega arith) ∙ sym (get_or-drop (place + 1) olds k x))) in
+      let was : take place olds ++ get_or olds place d ∷ rest ≡ olds = ap (λ l. take place olds ++ l) (sym (drop_more olds place d within)) ∙ take-append-drop place olds in
+      let is : take place nows ++ b ∷ rest ≡ set nows place b = ap (λ l. take place nows ++ b ∷ l) (sym behind) ∙ sym (set_split nows place b (omega (arith, within, long))) in
+      let all : in_one_list (had.parts ++ one.acts ∷ no_acts rest) ≡ in_one_list had.parts ++ one.acts =
+      flat_map-append (λ (acts : List Act). acts) had.parts (one.acts ∷ no_acts rest) ∙ ap (λ l. in_one_list had.parts ++ l) (ap (λ l. one.acts ++ l) (joined-none rest) ∙ append-nil one.acts) in
+      let left : All (λ x. Part x x []) rest = λ k x below.
+      subst (λ y. Part y y []) (sym (get_or-drop (place + 1) olds k x)) (still (place + 1 + k) x (omega (arith, below, length-drop (place + 1) olds))) in
+      let each = each-both Part (take place olds) (take place nows) had.parts (get_or olds place d ∷ rest) (b ∷ rest) (one.acts ∷ no_acts rest)
+      (each-weaker (take place olds) (take place nows) had.parts had.each) (one.does, each-still Part rest left) in record {
+        parts = had.parts ++ one.acts ∷ no_acts rest;
+        stopped = subst (HasStopped C p r) (sym all) (stopped-after C p q r (in_one_list had.parts) one.acts m had.acted same one.stopped);
+        each = subst (λ l. Each Part l (set nows place b) (had.parts ++ one.acts ∷ no_acts rest)) was (subst (λ l. Each Part (take place olds ++ get_or olds place d ∷ rest) l (had.parts ++ one.acts ∷ no_acts rest)) is each);
+      }

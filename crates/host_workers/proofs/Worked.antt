@@ -1,12 +1,16 @@
 -- What each actor of a crew did among the acts of all.
-use Rattle.std.proofs.Common.{◌≡◌, ◌≢◌, ℕ, zero, suc, ◌+◌, ◌-◌, ◌<◌, ◌≤◌, List, [], ◌∷◌, length, filter, Option, Some, None, All, Contains, slice_get, refl, sym, ap, ◌∙◌, subst, arith}
+use Rattle.std.proofs.Common.{◌≡◌, ◌≢◌, ℕ, zero, suc, ◌+◌, ◌-◌, ◌<◌, ◌≤◌, List, [], ◌∷◌, ◌++◌, length, filter, Option, Some, None, All, slice_get, refl, sym, ap, ◌∙◌, subst, arith}
 use Rattle.std.specs.Prelude.{AllPairs}
 use Rattle.std.proofs.lemmas.List.{append-nil}
 use Rattle.std.proofs.lemmas.List.Elements.{filter-append, All-append, All-cons, All-tail}
 use Rattle.std.proofs.lemmas.Option.{slice_get_within, get_or_from_slice_get}
+use Rattle.std.proofs.lemmas.Bool.Decides.{nat_tests}
+use Rattle.std.specs.declared.cmp.Ordering.TheVariants.{Greater}
 use Rattle.message_net.specs.declared.actor.Actor.{Actor}
+use Rattle.message_net.specs.Order.{actor_order}
 use Rattle.round_rules.specs.Acts.{Act, actor_of, is_act_of}
 use Rattle.host_workers.specs.Work.{AreOf, Each, in_one_list}
+use Rattle.host_workers.specs.Pass.{InTurn}
 use Rattle.host_workers.proofs.Filters.{filter-own, filter-other}
 
 module _ {X : Type 0} where
@@ -40,6 +44,40 @@ module _ {X : Type 0} where
       let rest = rising-few f xs (f x + 1) n (pairs-rest (λ a b. f a < f b) x xs rise) (λ k d within. let r = rise 0 (suc k) d (omega arith) (omega (arith, within)) in omega (arith, r)) (All-tail (λ a. f a < n) x xs below) in
       omega (arith, first, least, rest)
 
+  pairs-cons : (R : X → X → Type 0) (x : X) (xs : List X) → All (R x) xs → AllPairs R xs → AllPairs R (x ∷ xs)
+  pairs-cons R x xs first rest zero zero d before within = absurd (omega (arith, before))
+  pairs-cons R x xs first rest zero (suc j) d before within = first j d (omega (arith, within))
+  pairs-cons R x xs first rest (suc i) zero d before within = absurd (omega (arith, before))
+  pairs-cons R x xs first rest (suc i) (suc j) d before within = rest i j d (omega (arith, before)) (omega (arith, within))
+
+  pub pairs-append : (R : X → X → Type 0) (xs ys : List X) → AllPairs R xs → AllPairs R ys → All (λ x. All (R x) ys) xs → AllPairs R (xs ++ ys)
+  pairs-append R [] ys one two between = two
+  pairs-append R (x ∷ xs) ys one two between =
+      let first : All (R x) xs = λ j d within. one 0 (suc j) d (omega arith) (omega (arith, within)) in
+      pairs-cons R x (xs ++ ys) (All-append (R x) xs ys first (between 0 x (omega arith))) (pairs-append R xs ys (pairs-rest R x xs one) two (All-tail (λ z. All (R z) ys) x xs between))
+
+-- the one actor isn't a later one than the other
+abbrev pub IsNoLater : Actor → Actor → Type 0
+IsNoLater a b = actor_order a b ≢ Greater
+
+pub no-later : (a : Actor) → IsNoLater a a
+no-later a e = absurd (grind (arith, nat_tests))
+
+-- what holds of an actor holds of that of each of its acts
+pub own-are : (P : Actor → Type 0) (a : Actor) (acts : List Act) → AreOf a acts → P a → All (λ act. P (actor_of act)) acts
+own-are P a [] are has = λ k d within. absurd (omega (arith, within))
+own-are P a (act ∷ acts) are has = All-cons (λ act. P (actor_of act)) act acts (subst P (sym are.0) has) (own-are P a acts are.1 has)
+
+own-before : (a : Actor) (acts : List Act) (Q : Act → Type 0) → AreOf a acts → ((act : Act) → actor_of act ≡ a → Q act) → All Q acts
+own-before a [] Q are each = λ k d within. absurd (omega (arith, within))
+own-before a (act ∷ acts) Q are each = All-cons Q act acts (each act are.0) (own-before a acts Q are.1 each)
+
+-- the acts of one actor are in turn
+pub own-in-turn : (a : Actor) (acts : List Act) → AreOf a acts → AllPairs InTurn acts
+own-in-turn a [] are = λ i j d before within. absurd (omega (arith, within))
+own-in-turn a (act ∷ acts) are =
+    pairs-cons InTurn act acts (subst (λ b. All (λ other. IsNoLater b (actor_of other)) acts) (sym are.0) (own-are (IsNoLater a) a acts are.1 (no-later a))) (own-in-turn a acts are.1)
+
 module _ {A : Type 0} (actor : A → Actor) (Does : A → A → List Act → Type 0) (are-of : (a b : A) (acts : List Act) → Does a b acts → AreOf (actor a) acts) where
   -- no act is of an actor that is none of these
   pub none-of : (a : Actor) (olds nows : List A) (parts : List (List Act)) → Each Does olds nows parts → ((i : ℕ) (o : A) → slice_get olds i ≡ Some o → a ≢ actor o) → filter (is_act_of a) (in_one_list parts) ≡ []
@@ -71,16 +109,24 @@ module _ {A : Type 0} (actor : A → Actor) (Does : A → A → List Act → Typ
       let none = filter-other (actor o) (actor x) part (λ e. pairs-first (λ a b. actor a ≢ actor b) x olds apart i o at (sym e)) (are-of x y part each.0) in
       (rest.0, filter-append (is_act_of (actor o)) part (in_one_list parts) ∙ (rw none rest.1), rest.2)
 
-  -- each act is of an actor that is among some that have all these
-  are-among : (all : List Actor) (a : Actor) (acts : List Act) → AreOf a acts → Contains all a → All (λ act. Contains all (actor_of act)) acts
-  are-among all a [] are has = λ k d within. absurd (omega (arith, within))
-  are-among all a (act ∷ acts) are has = All-cons (λ act. Contains all (actor_of act)) act acts (subst (Contains all) (sym are.0) has) (are-among all a acts are.1 has)
+  -- what holds of each of them holds of the actor of each act
+  pub all-are : (P : Actor → Type 0) (olds nows : List A) (parts : List (List Act)) → Each Does olds nows parts → ((i : ℕ) (o : A) → slice_get olds i ≡ Some o → P (actor o)) → All (λ act. P (actor_of act)) (in_one_list parts)
+  all-are P [] [] [] each has = λ k d within. absurd (omega (arith, within))
+  all-are P (o ∷ olds) (n ∷ nows) (part ∷ parts) each has =
+      All-append (λ act. P (actor_of act)) part (in_one_list parts) (own-are P (actor o) part (are-of o n part each.0) (has 0 o refl)) (all-are P olds nows parts each.1 (λ i p at. has (suc i) p at))
+  all-are P [] [] (part ∷ parts) each has = absurd each
+  all-are P [] (n ∷ nows) parts each has = absurd each
+  all-are P (o ∷ olds) [] parts each has = absurd each
+  all-are P (o ∷ olds) (n ∷ nows) [] each has = absurd each
 
-  pub all-among : (all : List Actor) (olds nows : List A) (parts : List (List Act)) → Each Does olds nows parts → ((i : ℕ) (o : A) → slice_get olds i ≡ Some o → Contains all (actor o)) → All (λ act. Contains all (actor_of act)) (in_one_list parts)
-  all-among all [] [] [] each has = λ k d within. absurd (omega (arith, within))
-  all-among all (o ∷ olds) (n ∷ nows) (part ∷ parts) each has =
-      All-append (λ act. Contains all (actor_of act)) part (in_one_list parts) (are-among all (actor o) part (are-of o n part each.0) (has 0 o refl)) (all-among all olds nows parts each.1 (λ i p at. has (suc i) p at))
-  all-among all [] [] (part ∷ parts) each has = absurd each
-  all-among all [] (n ∷ nows) parts each has = absurd each
-  all-among all (o ∷ olds) [] parts each has = absurd each
-  all-among all (o ∷ olds) (n ∷ nows) [] each has = absurd each
+  -- where their order is that of their actors, so is that of all acts
+  pub in-turn : (olds nows : List A) (parts : List (List Act)) → Each Does olds nows parts → AllPairs (λ x y. IsNoLater (actor x) (actor y)) olds → AllPairs InTurn (in_one_list parts)
+  in-turn [] [] [] each order = λ i j d before within. absurd (omega (arith, within))
+  in-turn (o ∷ olds) (n ∷ nows) (part ∷ parts) each order =
+      let own = are-of o n part each.0 in
+      let later = λ (act : Act) (is : actor_of act ≡ actor o). all-are (λ b. IsNoLater (actor_of act) b) olds nows parts each.1 (λ i p at. subst (λ a. IsNoLater a (actor p)) (sym is) (pairs-first (λ x y. IsNoLater (actor x) (actor y)) o olds order i p at)) in
+      pairs-append InTurn part (in_one_list parts) (own-in-turn (actor o) part own) (in-turn olds nows parts each.1 (pairs-rest (λ x y. IsNoLater (actor x) (actor y)) o olds order)) (own-before (actor o) part (λ act. All (InTurn act) (in_one_list parts)) own later)
+  in-turn [] [] (part ∷ parts) each order = absurd each
+  in-turn [] (n ∷ nows) parts each order = absurd each
+  in-turn (o ∷ olds) [] parts each order = absurd each
+  in-turn (o ∷ olds) (n ∷ nows) [] each order = absurd each

@@ -118,7 +118,7 @@ module _ (C : Setting) (hall : HallView) (workers : ℕ) (had has : RosterParts)
   pub works-own : (k : ℕ) → k < workers → All (IsOwn C workers k) (work_of k)
   works-own k below =
       let w = each k below in
-      λ i d within. All-contains (λ (a : Actor). IsIn C a × (owner workers a ≡ k)) (actors_of w.job.crew) (actor_of (get_or (work_of k) i d)) (owned-actors C workers k had w.job.crew some whole w.crew) (w.work.own i d within)
+      λ i d within. All-contains (λ (a : Actor). IsIn C a × (owner workers a ≡ k)) (actors_of w.job.crew) (actor_of (get_or (work_of k) i d)) (owned-actors C workers k had w.job.crew some whole w.crew) (w.work.crew.own i d within)
 
   pub works-call : (k : ℕ) → k < workers → AreCallsOf k calls_of (calls_in C.shape k (work_of k))
   works-call k below =
@@ -143,12 +143,12 @@ module _ (C : Setting) (hall : HallView) (workers : ℕ) (had has : RosterParts)
       let w = each k below in
       let first = stands-taken (λ (x : Owned). owner workers (core_actor x) == k) had.cores i o at (itself k) in
       let before : slice_get w.job.crew.cores.items first.0 ≡ Some o = ap (λ l. slice_get l first.0) w.crew.cores ∙ first.1 in
-      let mid = stands-too owned_core w.job.crew.cores.items w.done.crew.cores.items w.work.same.cores first.0 o before in
+      let mid = stands-too owned_core w.job.crew.cores.items w.done.crew.cores.items w.work.crew.same.cores first.0 o before in
       let from = taken-stands (λ (x : Owned). owner workers (core_actor x) == k) has.cores first.0 mid.0 (ap (λ l. slice_get l first.0) (sym w.crew_then.cores) ∙ mid.1) in
       let number : mid.0.core.0 ≡ o.core.0 = ap (λ (c : CoreId). c.0) mid.2 in
       let place : from.0 ≡ i = omega (arith, number, whole_then.core_at from.0 mid.0 from.1, whole.core_at i o at) in
       let is : mid.0 ≡ p = same-some mid.0 p (sym from.1 ∙ (ap (slice_get has.cores) place ∙ now)) in
-      w.work.cores first.0 o p before (mid.1 ∙ ap Some is)
+      w.work.crew.cores first.0 o p before (mid.1 ∙ ap Some is)
 
   -- what is noted of a bank
   pub bank-noted : (i : ℕ) (b d : BankLog) → slice_get had.banks i ≡ Some b → slice_get has.banks i ≡ Some d → owner workers (Bank b.bank) < workers
@@ -158,18 +158,18 @@ module _ (C : Setting) (hall : HallView) (workers : ℕ) (had has : RosterParts)
       let w = each k below in
       let first = stands-taken (λ (x : BankLog). owner workers (bank_actor x) == k) had.banks i b at (itself k) in
       let before : slice_get w.job.crew.banks.items first.0 ≡ Some b = ap (λ l. slice_get l first.0) w.crew.banks ∙ first.1 in
-      let mid = stands-too bank_of w.job.crew.banks.items w.done.crew.banks.items w.work.same.banks first.0 b before in
+      let mid = stands-too bank_of w.job.crew.banks.items w.done.crew.banks.items w.work.crew.same.banks first.0 b before in
       let from = taken-stands (λ (x : BankLog). owner workers (bank_actor x) == k) has.banks first.0 mid.0 (ap (λ l. slice_get l first.0) (sym w.crew_then.banks) ∙ mid.1) in
       let number : mid.0.bank.0 ≡ b.bank.0 = ap (λ (c : BankId). c.0) mid.2 in
       let place : from.0 ≡ i = omega (arith, number, whole_then.bank_at from.0 mid.0 from.1, whole.bank_at i b at) in
       let is : mid.0 ≡ d = same-some mid.0 d (sym from.1 ∙ (ap (slice_get has.banks) place ∙ now)) in
-      w.work.banks first.0 b d before (mid.1 ∙ ap Some is)
+      w.work.crew.banks first.0 b d before (mid.1 ∙ ap Some is)
 
   -- what is noted of the keeper
   pub keeper-noted : 0 < workers → has.keeper ≡ had.keeper ++ notes_by C.shape Keeper (work_of 0)
   keeper-noted below =
       let w = each 0 below in
-      more (keeper_log w.job.crew) (keeper_log w.done.crew) w.crew.keeper w.crew_then.keeper w.work.keeper where
+      more (keeper_log w.job.crew) (keeper_log w.done.crew) w.crew.keeper w.crew_then.keeper w.work.crew.keeper where
         more : (a b : Option (List Stamped)) → a ≡ Some had.keeper → b ≡ Some has.keeper → HasMore (notes_by C.shape Keeper (work_of 0)) a b → has.keeper ≡ had.keeper ++ notes_by C.shape Keeper (work_of 0)
         more (Some x) (Some y) one two is = sym (same-some y has.keeper two) ∙ (is ∙ ap (λ l. l ++ notes_by C.shape Keeper (work_of 0)) (same-some x had.keeper one))
         more None b one two is = absurd (none-some had.keeper one)

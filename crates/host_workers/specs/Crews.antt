@@ -1,6 +1,7 @@
 -- What a worker owns, as the rules of rounds see it.
-use Rattle.std.specs.Prelude.{◌<◌, Bool, List, All, AllPairs, Option}
+use Rattle.std.specs.Prelude.{ℕ, ◌+◌, ◌<◌, ◌≤◌, Bool, List, All, AllPairs, Option, vec_len}
 use Rattle.std.specs.Option.{option_map}
+use Rattle.std.specs.Vec.{vec_capacity}
 use Rattle.dn_base.specs.declared.ids.BankId.{BankId}
 use Rattle.dn_base.specs.declared.ids.CoreId.{CoreId}
 use Rattle.grant_log.specs.declared.log.Stamped.{Stamped}
@@ -25,6 +26,10 @@ bank_of b = b.bank
 -- whether the worker goes on with an owned core
 abbrev pub owned_has_numbers : Owned → Bool
 owned_has_numbers o = has_numbers_left o.clock o.next
+
+-- there is room for the notes of so many more events of the core, and for the ends that they may tell
+abbrev pub HasRoom : Owned → ℕ → Type 0
+HasRoom o more = (vec_len o.log + more ≤ vec_capacity o.log) × (vec_len o.ends + more ≤ vec_capacity o.ends)
 
 -- an owned core is one of the machine's, and its node fits
 pub record IsOwned (C : Setting) (o : Owned) : Type 0 where

@@ -1,8 +1,9 @@
 -- What a round of workers comes to.
-use Rattle.std.specs.Prelude.{◌≡◌, ℕ, ◌+◌, length, map}
+use Rattle.std.specs.Prelude.{◌≡◌, ℕ, ◌+◌, length, map, AllPairs}
 use Rattle.message_net.specs.declared.actor.Actor.{Actor}
 use Rattle.machine_rules.specs.State.{State}
 use Rattle.machine_rules.specs.Runs.{after, read_off}
+use Rattle.grant_log.specs.Order.{IsBefore}
 use Rattle.bank_hall.specs.Closing.{history_of}
 use Rattle.round_rules.specs.Rounds as rules
 use Rattle.round_rules.specs.Rounds.{IsJoined, IsRoundOf, end_observed, events_of}
@@ -21,11 +22,15 @@ abbrev pub AreFixedPartsOf : State → FixedParts → Type 0
 AreFixedPartsOf M fixed = M.setting ≡ record { program = fixed.checked; plans = fixed.plans.items; shape = fixed.shape; fuel = fixed.fuel }
 
 -- The round that workers made of a machine in state M, which stands for S: what each did, and which calls its hall had. It is a
--- run of the machine from S on, to a state for which the machine stands that is handed back
+-- run of the machine from S on, to a state for which the machine stands that is handed back. The entries of the one list stand by
+-- their stamps, and those with one stamp by their actors; and each bank, each core's port and the keeper has one history
 pub record IsMadeRound (S M : State) (made workers : ℕ) (out : Round) : Type 0 where
   pub round : rules.Round
   pub workers_are : round.workers ≡ workers
   pub merged : round.merged ≡ out.merged.items
+  pub order : AllPairs IsBefore out.merged.items
+  pub bank_count : length out.banks.items ≡ M.setting.shape.banks
+  pub port_count : length out.ports.items ≡ M.setting.shape.cores
   pub banks : (b : ℕ) → round.histories.banks b ≡ history_of (map (λ h. h.items) out.banks.items) b
   pub ports : (c : ℕ) → round.histories.ports c ≡ history_of (map (λ h. h.items) out.ports.items) c
   pub keeper : round.histories.keeper ≡ out.keeper.items

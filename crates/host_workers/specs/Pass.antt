@@ -1,7 +1,9 @@
 -- One pass of a worker over the hall.
-use Rattle.std.specs.Prelude.{◌≡◌, ℕ, true, false, List, [], ◌++◌, map, filter, slice_get, All, Contains, Option, Some, None, ◌∷◌, Bool}
+use Rattle.std.specs.Prelude.{◌≡◌, ◌≢◌, ℕ, true, false, List, [], ◌++◌, map, filter, slice_get, All, AllPairs, Contains, Option, Some, None, ◌∷◌, Bool}
 use Rattle.std.specs.Option.{is_some}
+use Rattle.std.specs.declared.cmp.Ordering.TheVariants.{Greater}
 use Rattle.grant_log.specs.declared.log.Stamped.{Stamped}
+use Rattle.message_net.specs.Order.{actor_order}
 use Rattle.message_net.specs.declared.actor.Actor.{Actor}
 use Rattle.message_net.specs.declared.actor.Actor.TheVariants.{Core, Bank, Keeper}
 use Rattle.registration_protocol.specs.Node.{Setting}
@@ -14,6 +16,7 @@ use Rattle.host_workers.specs.declared.crew.BankLog.{BankLog}
 use Rattle.host_workers.specs.declared.crew.Crew.{Crew}
 use Rattle.host_workers.specs.declared.owned.Owned.{Owned}
 use Rattle.host_workers.specs.Crews.{held_of, owned_core, bank_of, owned_has_numbers, keeper_log}
+use Rattle.host_workers.specs.Work.{HasStopped}
 
 -- the actors of a crew, and those that the worker tries in a pass
 abbrev pub actors_of : Crew → List Actor
@@ -61,10 +64,9 @@ HasMore notes None None = Unit {0}
 HasMore notes (Some had) (Some has) = has ≡ had ++ notes
 HasMore notes _ _ = ⊥
 
--- A worker's acts, each of an actor of its crew. The hall's pass made their calls and no other, each core went by its acts, and
--- each log has the notes of its actor's events more
-pub record IsWork (C : Setting) (old new : PassView) (had has : Crew) (acts : List Act) : Type 0 where
-  pub calls : HasMadeCalls old new (calls_in C.shape (pass_number old) acts)
+-- A crew after a worker's acts, each of an actor of the crew: each core went by its acts, and each log has the notes of its actor's
+-- events more
+pub record IsCrewAfter (C : Setting) (had has : Crew) (acts : List Act) : Type 0 where
   pub own : All (IsActOf had) acts
   pub same : IsSameCrew had has
   pub cores : (i : ℕ) (o p : Owned) → slice_get had.cores.items i ≡ Some o → slice_get has.cores.items i ≡ Some p → HasGone C acts o.core (held_of o) (held_of p)
@@ -72,12 +74,33 @@ pub record IsWork (C : Setting) (old new : PassView) (had has : Crew) (acts : Li
       → d.log.items ≡ b.log.items ++ notes_by C.shape (Bank b.bank) acts
   pub keeper : HasMore (notes_by C.shape Keeper acts) (keeper_log had) (keeper_log has)
 
--- one pass of a worker, of which so many events came
+-- a worker's acts: the hall's pass made their calls and no other, and its crew is the one after them
+pub record IsWork (C : Setting) (old new : PassView) (had has : Crew) (acts : List Act) : Type 0 where
+  pub calls : HasMadeCalls old new (calls_in C.shape (pass_number old) acts)
+  pub crew : IsCrewAfter C had has acts
+
+-- an act comes before another only where its actor isn't one that comes later: cores come first, then banks, each by number, then
+-- the keeper
+abbrev pub InTurn : Act → Act → Type 0
+InTurn a b = actor_order (actor_of a) (actor_of b) ≢ Greater
+
+-- One pass of a worker, of which so many events came. All that its cores do comes before the first step of a bank, and all of its
+-- banks' steps before the keeper's
 pub record HasWorked (C : Setting) (old new : PassView) (had has : Crew) (count : ℕ) : Type 0 where
   pub acts : List Act
   pub work : IsWork C old new had has acts
   pub passed : HasPassed C old new (tries_by had) acts count
   pub is_pass : AreActsOfPass C acts had
+  pub order : AllPairs InTurn acts
+
+-- One pass of a worker for which there was no room: what it made until then. The hall's pass has the calls of its acts, but for the
+-- posts of some mails that the last event sent; and the crew is the one after all these acts, so that each mail that a take gave was
+-- handled and noted
+pub record HasWorkedPartly (C : Setting) (old new : PassView) (had has : Crew) : Type 0 where
+  pub acts : List Act
+  pub stopped : HasStopped C old new acts
+  pub crew : IsCrewAfter C had has acts
+  pub order : AllPairs InTurn acts
 
 -- one or more passes of a worker, the first of which was made with the crew as it was
 pub record HasWorkedOn (C : Setting) (old new : PassView) (had has : Crew) : Type 0 where

@@ -2,17 +2,18 @@
 use Rattle.std.specs.Prelude.{◌≡◌, ℕ, true, false, ⊤, List, [], ◌∷◌, ◌++◌, length, map, flat_map, filter_map, Option, Some, None}
 use Rattle.std.specs.List.{AllByRecursion}
 use Rattle.dn_base.specs.declared.ids.CoreId.{CoreId}
+use Rattle.dn_base.specs.declared.ids.Shape.{Shape}
 use Rattle.grant_log.specs.declared.log.Stamped.{Stamped}
 use Rattle.message_net.specs.declared.actor.Actor.{Actor}
-use Rattle.message_net.specs.declared.actor.Actor.TheVariants.{Core}
+use Rattle.message_net.specs.declared.actor.Actor.TheVariants.{Core, Bank, Keeper}
 use Rattle.registration_protocol.specs.Node.{Setting}
 use Rattle.registration_protocol.specs.Fit.{IsContext, Fits}
 use Rattle.registration_protocol.specs.OwnEvents.{own_event}
 use Rattle.bank_hall.specs.declared.bank.Handled.{Handled}
 use Rattle.bank_hall.specs.declared.posted.Posted.{Posted}
 use Rattle.bank_hall.specs.Note.{KeeperNote}
-use Rattle.bank_hall.specs.Halls.{HallView, PassView, IsHallPass, HasMadeCalls, pass_number}
-use Rattle.round_rules.specs.Acts.{Act, Took, Stepped, Kept, actor_of, core_step, events_in, note_of, calls_in}
+use Rattle.bank_hall.specs.Halls.{HallView, PassView, Calls, IsHallPass, HasMadeCalls, pass_number}
+use Rattle.round_rules.specs.Acts.{Act, Took, Stepped, Kept, actor_of, core_step, act_done, events_in, note_of, posted_by, postings, calls_in}
 use Rattle.round_rules.specs.Steps.{Done}
 use Rattle.bank_hall.specs.Stamps.{has_numbers_left}
 use Rattle.round_rules.specs.Passes.{Held, own_acts, taken_steps}
@@ -36,6 +37,35 @@ KeepsNumber hall old new = IsHallPass hall new × (pass_number new ≡ pass_numb
 pub record HasActed (C : Setting) (old new : PassView) (acts : List Act) (count : ℕ) : Type 0 where
   pub calls : HasMadeCalls old new (calls_in C.shape (pass_number old) acts)
   pub counted : count ≡ length (events_in C.shape acts)
+
+-- the calls of each object are first those and then these
+pub record Splits (whole first more : Calls) : Type 0 where
+  pub banks : (b : ℕ) → whole.banks b ≡ first.banks b ++ more.banks b
+  pub ports : (c : ℕ) → whole.ports c ≡ first.ports c ++ more.ports c
+  pub keeper : whole.keeper ≡ first.keeper ++ more.keeper
+
+-- of these mails the first were posted, and then there was no room
+pub record HasBegunPosts (shape : Shape) (old new : PassView) (mails : List Posted) : Type 0 where
+  pub posted : List Posted
+  pub unsent : List Posted
+  pub mails_are : mails ≡ posted ++ unsent
+  pub calls : HasMadeCalls old new (postings shape (pass_number old) posted)
+
+-- the mails that the event of the last of some acts sent
+abbrev pub last_sent : Shape → List Act → List Posted
+last_sent shape [] = []
+last_sent shape (act ∷ []) = posted_by (act_done shape act)
+last_sent shape (act ∷ next ∷ acts) = last_sent shape (next ∷ acts)
+
+-- The hall's pass made the calls of these acts, and then there was no room: what isn't made are the posts of some mails, the last of
+-- those that the last act's event sent
+pub record HasStopped (C : Setting) (old new : PassView) (acts : List Act) : Type 0 where
+  pub posted : List Posted
+  pub unsent : List Posted
+  pub mails_are : last_sent C.shape acts ≡ posted ++ unsent
+  pub made : Calls
+  pub calls : HasMadeCalls old new made
+  pub all : Splits (calls_in C.shape (pass_number old) acts) made (postings C.shape (pass_number old) unsent)
 
 -- a take from the core's port was made, and the mail handled that it gave
 pub record HasTaken (C : Setting) (core : CoreId) (pick : ℕ) (old new : PassView) (had has : Held) (count : ℕ) : Type 0 where
@@ -62,29 +92,49 @@ pub record IsTurn (C : Setting) (core : CoreId) (had : Held) (acts : List Act) :
   pub handled : HasMoved C core (taken_steps taken) had between
   pub acts_are : acts ≡ Took core pick taken ∷ own_acts core (has_numbers_left between.clock between.next) (own_event C between.node) done
 
--- a core was served by these acts: it has its turn, or nothing is done where the worker doesn't go on with it
-pub record IsCoreServed (C : Setting) (had has : Owned) (acts : List Act) : Type 0 where
+-- a core went by these acts, which are its own, and its log and its ends tell of them
+pub record IsMoved (C : Setting) (had has : Owned) (acts : List Act) : Type 0 where
   pub core : has.core ≡ had.core
   pub fits : Fits C has.node
   pub own : AreOf (Core had.core) acts
   pub moved : HasMoved C had.core (filter_map core_step acts) (held_of had) (held_of has)
+
+-- a core was served by these acts: it has its turn, or nothing is done where the worker doesn't go on with it
+pub record IsCoreServed (C : Setting) (had has : Owned) (acts : List Act) : Type 0 where
+  pub moves : IsMoved C had has acts
   pub turn : owned_has_numbers had ≡ true → IsTurn C had.core (held_of had) acts
   pub stays : owned_has_numbers had ≡ false → acts ≡ []
 
+-- a bank's log tells of these acts, which are its own
+pub record IsNotedBank (C : Setting) (had has : BankLog) (acts : List Act) : Type 0 where
+  pub bank : has.bank ≡ had.bank
+  pub own : AreOf (Bank had.bank) acts
+  pub log : has.log.items ≡ had.log.items ++ map note_of (events_in C.shape acts)
+
 -- a bank was stepped by these acts
 pub record IsStepped (C : Setting) (had has : BankLog) (acts : List Act) : Type 0 where
-  pub bank : has.bank ≡ had.bank
+  pub notes : IsNotedBank C had has acts
   pub pick : ℕ
   pub handled : Option Handled
   pub acts_are : acts ≡ Stepped had.bank pick handled ∷ []
-  pub log : has.log.items ≡ had.log.items ++ map note_of (events_in C.shape acts)
+
+-- the keeper's log tells of these acts, which are its own
+pub record IsNotedKeeper (C : Setting) (had has : List Stamped) (acts : List Act) : Type 0 where
+  pub own : AreOf Keeper acts
+  pub log : has ≡ had ++ map note_of (events_in C.shape acts)
+
+-- its log does, if the worker has it, and else there are no acts
+abbrev pub IsNotedIf : Setting → Option (List Stamped) → Option (List Stamped) → List Act → Type 0
+IsNotedIf C None None acts = acts ≡ []
+IsNotedIf C (Some had) (Some has) acts = IsNotedKeeper C had has acts
+IsNotedIf C _ _ acts = ⊥
 
 -- the keeper was stepped by these acts
 pub record IsKeeperStep (C : Setting) (had has : List Stamped) (acts : List Act) : Type 0 where
+  pub notes : IsNotedKeeper C had has acts
   pub pick : ℕ
   pub note : Option KeeperNote
   pub acts_are : acts ≡ Kept pick note ∷ []
-  pub log : has ≡ had ++ map note_of (events_in C.shape acts)
 
 -- the keeper was stepped, if the worker has it
 abbrev pub IsKeeperServed : Setting → Option (List Stamped) → Option (List Stamped) → List Act → Type 0
@@ -103,6 +153,12 @@ module _ {A : Type 0} where
     pub acted : HasActed C old new acts count
     pub does : Does had has acts
 
+  -- something was done by some acts, before there was no room
+  pub record HasDonePartly (Does : A → A → List Act → Type 0) (C : Setting) (old new : PassView) (had has : A) : Type 0 where
+    pub acts : List Act
+    pub stopped : HasStopped C old new acts
+    pub does : Does had has acts
+
   -- the same to each of several, each by acts of its own
   abbrev pub Each : (A → A → List Act → Type 0) → List A → List A → List (List Act) → Type 0
   Each Does [] [] [] = ⊤
@@ -112,4 +168,9 @@ module _ {A : Type 0} where
   pub record HaveDone (Does : A → A → List Act → Type 0) (C : Setting) (old new : PassView) (had has : List A) (count : ℕ) : Type 0 where
     pub parts : List (List Act)
     pub acted : HasActed C old new (in_one_list parts) count
+    pub each : Each Does had has parts
+
+  pub record HaveDonePartly (Does : A → A → List Act → Type 0) (C : Setting) (old new : PassView) (had has : List A) : Type 0 where
+    pub parts : List (List Act)
+    pub stopped : HasStopped C old new (in_one_list parts)
     pub each : Each Does had has parts

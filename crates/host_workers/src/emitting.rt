@@ -1,7 +1,8 @@
-ghost use Rattle.std.specs.Prelude.{◌≡◌, ◌^◌, ◌≤◌, length, OnOk, IfSome, option_to_list};
+ghost use Rattle.std.specs.Prelude.{◌≡◌, ◌^◌, ◌≤◌, length, OnOk, OnErr, IfSome, option_to_list};
 ghost use Rattle.bank_hall.specs.Halls.{IsHallPass, HasMadeCalls, pass_number};
 ghost use Rattle.round_rules.specs.Acts.{posting, postings, keeper_done};
 ghost use Rattle.host_workers.specs.Deeds.{IsEarly};
+ghost use Rattle.host_workers.specs.Work.{HasBegunPosts};
 
 use crate::stamps::has_actor;
 use bank_hall::{Hall, KeeperHandled, Pass, Posted};
@@ -22,6 +23,7 @@ fn deliver<R: Wait>(
     requires early { IsEarly posted }
     ensures pass { IsHallPass hall.now pass.new × (pass_number pass.new ≡ pass_number pass.old) }
     ensures made { OnOk result (HasMadeCalls pass.old pass.new (posting shape (pass_number pass.old) posted)) }
+    ensures same { OnErr result (pass.new ≡ pass.old) }
 {
     if !has_actor(shape, posted.mail.to) {
         return Ok(());
@@ -46,6 +48,7 @@ pub(crate) fn emit<R: Wait>(
     requires early { IfSome sent IsEarly }
     ensures pass { IsHallPass hall.now pass.new × (pass_number pass.new ≡ pass_number pass.old) }
     ensures made { OnOk result (HasMadeCalls pass.old pass.new (postings shape (pass_number pass.old) (option_to_list sent))) }
+    ensures same { OnErr result (pass.new ≡ pass.old) }
 {
     match sent {
         Some(posted) => deliver(rt, hall, pass, shape, posted),
@@ -68,6 +71,7 @@ pub(crate) fn emit_letters<R: Wait>(
     requires early { handled.now.stamped.stamp ≤ 2 ^ 63 }
     ensures pass { IsHallPass hall.now pass.new × (pass_number pass.new ≡ pass_number pass.old) }
     ensures made { OnOk result (HasMadeCalls pass.old pass.new (postings shape (pass_number pass.old) (keeper_done shape.cores handled.now).sent)) }
+    ensures begun { OnErr result (HasBegunPosts shape pass.old pass.new (keeper_done shape.cores handled.now).sent) }
 {
     for core in 0..shape.cores {
         emit(rt, hall, pass, shape, handled.letter(CoreId(core)))?;

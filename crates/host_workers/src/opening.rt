@@ -1,5 +1,6 @@
 //! How a round of workers begins.
-ghost use Rattle.std.specs.Prelude.{◌≡◌, ◌≤◌, length, map, IfOk};
+ghost use Rattle.std.specs.Prelude.{◌≡◌, ◌+◌, ◌*◌, ◌^◌, ◌≤◌, length, map, IfOk};
+ghost use Rattle.dn_machine.specs.Schedule.{generator_of};
 ghost use Rattle.machine_rules.specs.State.{State};
 ghost use Rattle.host_workers.specs.Opening.{IsMovingOf, IsInitialRound, crew_of, pass_of};
 
@@ -35,7 +36,10 @@ pub(crate) struct Opened {
 }
 
 /// The draws of a worker: the generator of its number times 2^32 plus the round's seed.
-fn draws_of(worker: u32, seed: u32) -> Pcg32 {
+#[tactic(auto, unfolding(dn_machine::specs::Schedule::generator_of))]
+fn draws_of(worker: u32, seed: u32) -> Pcg32
+    ensures { result ≡ generator_of (worker * 2 ^ 32 + seed) }
+{
     Pcg32::seed_from_u64(((worker as u64) << 32) + seed as u64)
 }
 

@@ -1,4 +1,5 @@
-ghost use Rattle.std.specs.Prelude.{◌≡◌, ◌+◌, ◌^◌, ◌<◌, ◌≤◌, [], ◌∷◌, ◌++◌, length, map, true, Some, IfOk, OnOk, IfSome, option_to_list};
+ghost use Rattle.std.specs.Prelude.{◌≡◌, ◌+◌, ◌^◌, ◌<◌, ◌≤◌, [], ◌∷◌, ◌++◌, length, map, true, Some, OnOk, IfSome, option_to_list, vec_len};
+ghost use Rattle.std.specs.Vec.{vec_capacity};
 ghost use Rattle.message_net.specs.declared.actor.Actor.TheVariants.{Core as OfCore};
 ghost use Rattle.message_net.specs.Mail.{mails_of};
 ghost use Rattle.registration_protocol.specs.Fit.{IsContext, Fits};
@@ -7,7 +8,7 @@ ghost use Rattle.registration_protocol.specs.Setting.{setting};
 ghost use Rattle.round_rules.specs.Members.{Handles, Makes};
 ghost use Rattle.round_rules.specs.Steps.{with_stamp};
 ghost use Rattle.round_rules.specs.Passes.{seen_at};
-ghost use Rattle.host_workers.specs.Crews.{held_of, owned_has_numbers};
+ghost use Rattle.host_workers.specs.Crews.{held_of, owned_has_numbers, HasRoom};
 ghost use Rattle.host_workers.specs.Deeds.{HasMoved, IsNoted, IsEarly, step_of_deed};
 
 use crate::deeds::{NodeCame, act, receive};
@@ -43,14 +44,16 @@ fn letter(core: CoreId, next: u32, stamp: u64, sent: Option<Outgoing>) -> Option
     })
 }
 
-/// Adds how a task had ended, if it had.
-fn push_end(ends: &mut Vec<EndSeen>, stamp: u64, end: Option<TaskEnd>) -> Result<(), Memory>
-    ensures { OnOk result (ends.new.items ≡ ends.old.items ++ option_to_list (seen_at stamp end)) }
+/// Adds how a task had ended, if it had. There is room for it.
+fn push_end(ends: &mut Vec<EndSeen>, stamp: u64, end: Option<TaskEnd>)
+    requires room { vec_len ends.old < vec_capacity ends.old }
+    ensures items { ends.new.items ≡ ends.old.items ++ option_to_list (seen_at stamp end) }
+    ensures len { vec_len ends.new ≤ vec_len ends.old + 1 }
+    ensures capacity { vec_capacity ends.new ≡ vec_capacity ends.old }
 {
     if let Some(end) = end {
-        ends.push(EndSeen { stamp, end })?;
+        ends.push_reserved(EndSeen { stamp, end });
     }
-    Ok(())
 }
 
 impl Owned {
@@ -61,63 +64,59 @@ impl Owned {
         has_numbers_left(self.clock, self.next)
     }
 
-    /// Makes room for what one pass notes, so that no mail is taken that can't be noted.
+    /// Makes room for what one pass notes, at the most two events, so that no mail is taken that can't be noted.
+    ///
+    /// # Errors
+    /// `Memory` where there is no such room.
     pub(crate) fn reserve(&mut self) -> Result<(), Memory>
+        ensures room { OnOk result (HasRoom self.new 2) }
         ensures held { held_of self.new ≡ held_of self.old }
         ensures core { self.new.core ≡ self.old.core }
     {
         self.log.reserve(2)?;
-        self.ends.reserve(1)?;
+        self.ends.reserve(2)?;
         Ok(())
     }
 
-    /// Notes an event with its stamp and with what came of it. The answer is the mail that the core sends, if it sends one.
-    fn note(
-        &mut self,
-        stamp: u64,
-        event: Event,
-        kind: EventKind,
-        came: NodeCame,
-    ) -> Result<Option<Posted>, Memory>
+    /// Notes an event with its stamp and with what came of it, for which there is room. The answer is the mail that the core sends,
+    /// if it sends one.
+    fn note(&mut self, stamp: u64, event: Event, kind: EventKind, came: NodeCame) -> Option<Posted>
         requires next { self.old.next < 4294967000 }
-        ensures noted { IfOk result (IsNoted self.old.core stamp event kind came (held_of self.old) (held_of self.new)) }
+        requires room { HasRoom self.old 1 }
+        ensures noted { IsNoted self.old.core stamp event kind came (held_of self.old) (held_of self.new) result }
         ensures core { self.new.core ≡ self.old.core }
-        ensures stamp { IfOk result (λ sent. IfSome sent (λ posted. posted.stamp ≡ stamp)) }
+        ensures stamp { IfSome result (λ posted. posted.stamp ≡ stamp) }
+        ensures room { HasRoom self.old 2 → HasRoom self.new 1 }
     {
-        self.log.push(Stamped {
+        self.log.push_reserved(Stamped {
             stamp,
             actor: Actor::Core(self.core),
             event,
             kind,
             granted: came.granted,
-        })?;
-        push_end(&mut self.ends, stamp, came.end)?;
+        });
+        push_end(&mut self.ends, stamp, came.end);
         let sent = letter(self.core, self.next, stamp, came.sent);
         self.clock = stamp;
         if sent.is_some() {
             self.next += 1;
         }
-        Ok(sent)
+        sent
     }
 
-    /// The core handles a mail. The answer is the mail that it sends then, if it sends one.
-    ///
-    /// # Errors
-    /// `Memory` where there is no room to note it.
-    pub(crate) fn handle(
-        &mut self,
-        context: &Context<'_>,
-        posted: Posted,
-    ) -> Result<Option<Posted>, Memory>
+    /// The core handles a mail, and notes it, for which there is room. The answer is the mail that it sends then, if it sends one.
+    pub(crate) fn handle(&mut self, context: &Context<'_>, posted: Posted) -> Option<Posted>
         requires context { IsContext (setting context.now) }
         requires fits { Fits (setting context.now) self.old.node }
         requires goes { owned_has_numbers self.old ≡ true }
         requires early { posted.stamp < 2 ^ 63 }
-        ensures moved { OnOk result (HasMoved (setting context.now) self.old.core (step_of_deed (setting context.now) self.old.core (held_of self.old) (Handles posted) ∷ []) (held_of self.old) (held_of self.new)) }
-        ensures sent { IfOk result (λ sent. option_to_list sent ≡ (step_of_deed (setting context.now) self.old.core (held_of self.old) (Handles posted)).done.sent) }
-        ensures early { IfOk result (λ sent. IfSome sent IsEarly) }
+        requires room { HasRoom self.old 2 }
+        ensures moved { HasMoved (setting context.now) self.old.core (step_of_deed (setting context.now) self.old.core (held_of self.old) (Handles posted) ∷ []) (held_of self.old) (held_of self.new) }
+        ensures sent { option_to_list result ≡ (step_of_deed (setting context.now) self.old.core (held_of self.old) (Handles posted)).done.sent }
+        ensures early { IfSome result IsEarly }
         ensures core { self.new.core ≡ self.old.core }
-        ensures fits { OnOk result (Fits (setting context.now) self.new.node) }
+        ensures fits { Fits (setting context.now) self.new.node }
+        ensures room { HasRoom self.new 1 }
     {
         let stamp = stamp_of(self.clock, &posted);
         let came = receive(&mut self.node, context, &posted);
@@ -125,24 +124,19 @@ impl Owned {
         self.note(stamp, Event::Handle(posted.mail.id), kind, came)
     }
 
-    /// The core makes its own event. The answer is the mail that it sends then, if it sends one.
-    ///
-    /// # Errors
-    /// `Memory` where there is no room to note it.
-    pub(crate) fn make(
-        &mut self,
-        context: &Context<'_>,
-        event: Event,
-    ) -> Result<Option<Posted>, Memory>
+    /// The core makes its own event, and notes it, for which there is room. The answer is the mail that it sends then, if it sends
+    /// one.
+    pub(crate) fn make(&mut self, context: &Context<'_>, event: Event) -> Option<Posted>
         requires context { IsContext (setting context.now) }
         requires fits { Fits (setting context.now) self.old.node }
         requires goes { owned_has_numbers self.old ≡ true }
         requires own { own_event (setting context.now) self.old.node ≡ Some event }
-        ensures moved { OnOk result (HasMoved (setting context.now) self.old.core (step_of_deed (setting context.now) self.old.core (held_of self.old) (Makes event) ∷ []) (held_of self.old) (held_of self.new)) }
-        ensures sent { IfOk result (λ sent. option_to_list sent ≡ (step_of_deed (setting context.now) self.old.core (held_of self.old) (Makes event)).done.sent) }
-        ensures early { IfOk result (λ sent. IfSome sent IsEarly) }
+        requires room { HasRoom self.old 1 }
+        ensures moved { HasMoved (setting context.now) self.old.core (step_of_deed (setting context.now) self.old.core (held_of self.old) (Makes event) ∷ []) (held_of self.old) (held_of self.new) }
+        ensures sent { option_to_list result ≡ (step_of_deed (setting context.now) self.old.core (held_of self.old) (Makes event)).done.sent }
+        ensures early { IfSome result IsEarly }
         ensures core { self.new.core ≡ self.old.core }
-        ensures fits { OnOk result (Fits (setting context.now) self.new.node) }
+        ensures fits { Fits (setting context.now) self.new.node }
     {
         let stamp = self.clock + 1;
         let kind = own_kind(&event);

@@ -1,7 +1,7 @@
-ghost use Rattle.std.specs.Prelude.{IfOk, OnOk};
+ghost use Rattle.std.specs.Prelude.{IfOk, OnErr};
 ghost use Rattle.registration_protocol.specs.Setting.{setting};
 ghost use Rattle.host_workers.specs.Crews.{IsCrew};
-ghost use Rattle.host_workers.specs.Pass.{HasWorked};
+ghost use Rattle.host_workers.specs.Pass.{HasWorked, HasWorkedPartly};
 ghost use Rattle.host_workers.specs.Work.{MayAct, KeepsNumber};
 
 use crate::crew::Crew;
@@ -22,7 +22,8 @@ use std::sync::Wait;
 /// The answer is the number of events that the pass made.
 ///
 /// # Errors
-/// `Memory` where there is no room: the pass and the crew hold what was made until then.
+/// `Memory` where there is no room: the pass and the crew hold what was made until then. Each mail that was taken is handled and noted;
+/// of the mails that the last event sent, some may not be posted.
 pub fn worker_pass<R: Wait, G: Gate>(
     rt: &R,
     hall: &Hall,
@@ -35,8 +36,9 @@ pub fn worker_pass<R: Wait, G: Gate>(
     requires may { MayAct (setting context.now) hall.now pass.old }
     requires crew { IsCrew (setting context.now) crew.old }
     ensures pass { KeepsNumber hall.now pass.old pass.new }
-    ensures crew { OnOk result (IsCrew (setting context.now) crew.new) }
+    ensures crew { IsCrew (setting context.now) crew.new }
     ensures worked { IfOk result (HasWorked (setting context.now) pass.old pass.new crew.old crew.new) }
+    ensures part { OnErr result (HasWorkedPartly (setting context.now) pass.old pass.new crew.old crew.new) }
 {
     a_program_is_well_formed(context.program);
     let served = serve_cores(rt, hall, pass, context, &mut crew.cores, draws)?;

@@ -1,5 +1,5 @@
 //! A whole run of a machine by workers, in rounds.
-ghost use Rattle.std.specs.Prelude.{◌≡◌, ◌≢◌, ◌<◌, ◌≤◌, true, length, None, IfOk};
+ghost use Rattle.std.specs.Prelude.{◌≡◌, ◌≢◌, ◌+◌, ◌^◌, ◌%◌, ◌<◌, ◌≤◌, true, length, None, IfOk};
 ghost use Rattle.message_net.specs.declared.event.Event.{Event as EventOf};
 ghost use Rattle.machine_rules.specs.State.{initial_state};
 ghost use Rattle.machine_rules.specs.Next.{enabled};
@@ -24,6 +24,13 @@ const KEPT_BYTES: usize = 33_546_240;
 fn keep_freed_memory(alloc: Global) {
     let block: Result<Vec<u8>, AllocError> = Vec::with_capacity(alloc, KEPT_BYTES);
     drop(block);
+}
+
+/// The seed of the round that follows one with this seed: it is 1 higher modulo 2^32.
+fn seed_after(seed: u32) -> u32
+    ensures { result ≡ (seed + 1) % 2 ^ 32 }
+{
+    seed.wrapping_add(1)
 }
 
 /// Makes one round more, and notes it.
@@ -100,7 +107,7 @@ pub fn run_workers<R: Threads + Wait + Sync, G: Gate + Sync>(
     let mut next_seed = seed;
     'rounds: while let Some(_event) = current.pick(0) {
         current = go_on(rt, alloc, current, workers, next_seed, gate, &mut log)?;
-        next_seed = next_seed.wrapping_add(1);
+        next_seed = seed_after(next_seed);
     }
     recorded(alloc, current, log)
 }

@@ -1,8 +1,8 @@
-ghost use Rattle.std.specs.Prelude.{◌≡◌, ◌≤◌, true, length, All, IfOk, OnOk};
+ghost use Rattle.std.specs.Prelude.{◌≡◌, ◌≤◌, true, length, All, IfOk, OnOk, OnErr};
 ghost use Rattle.registration_protocol.specs.Fit.{Fits};
 ghost use Rattle.registration_protocol.specs.Setting.{setting};
-ghost use Rattle.host_workers.specs.Crews.{held_of, owned_has_numbers, IsOwned};
-ghost use Rattle.host_workers.specs.Work.{MayAct, KeepsNumber, HasTaken, HasMadeOwn, IsCoreServed, HasDoneActs, HaveDone};
+ghost use Rattle.host_workers.specs.Crews.{held_of, owned_has_numbers, HasRoom, IsOwned};
+ghost use Rattle.host_workers.specs.Work.{MayAct, KeepsNumber, HasTaken, HasMadeOwn, IsMoved, IsCoreServed, HasDoneActs, HaveDone, HasDonePartly, HaveDonePartly};
 
 use crate::draws::draw;
 use crate::emitting::emit;
@@ -25,16 +25,19 @@ fn take_mail<R: Wait>(
     requires may { MayAct (setting context.now) hall.now pass.old }
     requires owned { IsOwned (setting context.now) owned.old }
     requires goes { owned_has_numbers owned.old ≡ true }
+    requires room { HasRoom owned.old 2 }
     ensures pass { KeepsNumber hall.now pass.old pass.new }
     ensures core { owned.new.core ≡ owned.old.core }
     ensures fits { OnOk result (Fits (setting context.now) owned.new.node) }
     ensures taken { IfOk result (HasTaken (setting context.now) owned.old.core pick pass.old pass.new (held_of owned.old) (held_of owned.new)) }
+    ensures part { OnErr result (HasDonePartly (IsMoved (setting context.now)) (setting context.now) pass.old pass.new owned.old owned.new) }
+    ensures room { OnOk result (HasRoom owned.new 1) }
     ensures few { IfOk result (λ count. count ≤ 1) }
 {
     let Some(posted) = hall.take(rt, pass, owned.core, pick)? else {
         return Ok(0);
     };
-    let sent = owned.handle(context, posted)?;
+    let sent = owned.handle(context, posted);
     emit(rt, hall, pass, context.shape, sent)?;
     Ok(1)
 }
@@ -49,10 +52,12 @@ fn make_own<R: Wait>(
 ) -> Result<u32, Memory>
     requires may { MayAct (setting context.now) hall.now pass.old }
     requires owned { IsOwned (setting context.now) owned.old }
+    requires room { HasRoom owned.old 1 }
     ensures pass { KeepsNumber hall.now pass.old pass.new }
     ensures core { owned.new.core ≡ owned.old.core }
     ensures fits { OnOk result (Fits (setting context.now) owned.new.node) }
     ensures made { IfOk result (HasMadeOwn (setting context.now) owned.old.core pass.old pass.new (held_of owned.old) (held_of owned.new)) }
+    ensures part { OnErr result (HasDonePartly (IsMoved (setting context.now)) (setting context.now) pass.old pass.new owned.old owned.new) }
     ensures few { IfOk result (λ count. count ≤ 1) }
 {
     if !owned.has_numbers_left() {
@@ -61,7 +66,7 @@ fn make_own<R: Wait>(
     let Some(event) = owned.node.own(context) else {
         return Ok(0);
     };
-    let sent = owned.make(context, event)?;
+    let sent = owned.make(context, event);
     emit(rt, hall, pass, context.shape, sent)?;
     Ok(1)
 }
@@ -79,6 +84,7 @@ fn serve_core<R: Wait>(
     requires owned { IsOwned (setting context.now) owned.old }
     ensures pass { KeepsNumber hall.now pass.old pass.new }
     ensures served { IfOk result (HasDoneActs (IsCoreServed (setting context.now)) (setting context.now) pass.old pass.new owned.old owned.new) }
+    ensures part { OnErr result (HasDonePartly (IsMoved (setting context.now)) (setting context.now) pass.old pass.new owned.old owned.new) }
     ensures few { IfOk result (λ count. count ≤ 2) }
 {
     if !owned.has_numbers_left() {
@@ -105,6 +111,7 @@ pub(crate) fn serve_cores<R: Wait>(
     requires most { length cores.old.items ≤ 16 }
     ensures pass { KeepsNumber hall.now pass.old pass.new }
     ensures served { IfOk result (HaveDone (IsCoreServed (setting context.now)) (setting context.now) pass.old pass.new cores.old.items cores.new.items) }
+    ensures part { OnErr result (HaveDonePartly (IsMoved (setting context.now)) (setting context.now) pass.old pass.new cores.old.items cores.new.items) }
     ensures few { IfOk result (λ count. count ≤ 32) }
 {
     let mut made = 0;

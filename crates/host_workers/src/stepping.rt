@@ -1,8 +1,8 @@
-ghost use Rattle.std.specs.Prelude.{◌≡◌, ◌<◌, ◌≤◌, length, All, IfOk};
+ghost use Rattle.std.specs.Prelude.{◌≡◌, ◌<◌, ◌≤◌, length, All, IfOk, OnErr};
 ghost use Rattle.std.specs.Option.{option_map};
 ghost use Rattle.registration_protocol.specs.Setting.{setting};
 ghost use Rattle.host_workers.specs.declared.crew.BankLog.{BankLog as Noted};
-ghost use Rattle.host_workers.specs.Work.{MayAct, KeepsNumber, IsStepped, IsKeeperStep, IsKeeperServed, HasDoneActs, HaveDone};
+ghost use Rattle.host_workers.specs.Work.{MayAct, KeepsNumber, IsNotedBank, IsStepped, IsNotedKeeper, IsNotedIf, IsKeeperStep, IsKeeperServed, HasDoneActs, HaveDone, HasDonePartly, HaveDonePartly};
 
 use crate::crew::BankLog;
 use crate::draws::draw;
@@ -30,13 +30,14 @@ fn step_bank<R: Wait, G: Gate>(
     requires bank { owned.old.bank.0 < (setting context.now).shape.banks }
     ensures pass { KeepsNumber hall.now pass.old pass.new }
     ensures stepped { IfOk result (HasDoneActs (IsStepped (setting context.now)) (setting context.now) pass.old pass.new owned.old owned.new) }
+    ensures part { OnErr result (HasDonePartly (IsNotedBank (setting context.now)) (setting context.now) pass.old pass.new owned.old owned.new) }
     ensures few { IfOk result (λ count. count ≤ 1) }
 {
     owned.log.reserve(1)?;
     let Some(handled) = hall.bank_step(rt, pass, worker, owned.bank, pick, gate)? else {
         return Ok(0);
     };
-    owned.log.push(handled.stamped)?;
+    owned.log.push_reserved(handled.stamped);
     emit(rt, hall, pass, context.shape, handled.reply)?;
     Ok(1)
 }
@@ -57,6 +58,7 @@ pub(crate) fn step_banks<R: Wait, G: Gate>(
     requires most { length banks.old.items ≤ 16 }
     ensures pass { KeepsNumber hall.now pass.old pass.new }
     ensures stepped { IfOk result (HaveDone (IsStepped (setting context.now)) (setting context.now) pass.old pass.new banks.old.items banks.new.items) }
+    ensures part { OnErr result (HaveDonePartly (IsNotedBank (setting context.now)) (setting context.now) pass.old pass.new banks.old.items banks.new.items) }
     ensures few { IfOk result (λ count. count ≤ 16) }
 {
     let mut made = 0;
@@ -89,6 +91,7 @@ fn step_keeper<R: Wait>(
     requires may { MayAct (setting context.now) hall.now pass.old }
     ensures pass { KeepsNumber hall.now pass.old pass.new }
     ensures stepped { IfOk result (HasDoneActs (IsKeeperStep (setting context.now)) (setting context.now) pass.old pass.new log.old.items log.new.items) }
+    ensures part { OnErr result (HasDonePartly (IsNotedKeeper (setting context.now)) (setting context.now) pass.old pass.new log.old.items log.new.items) }
     ensures few { IfOk result (λ count. count ≤ 1) }
 {
     a_program_is_well_formed(context.program);
@@ -96,7 +99,7 @@ fn step_keeper<R: Wait>(
     let Some(handled) = hall.keeper_step(rt, pass, pick)? else {
         return Ok(0);
     };
-    log.push(handled.stamped)?;
+    log.push_reserved(handled.stamped);
     emit_letters(rt, hall, pass, context.shape, &handled)?;
     Ok(1)
 }
@@ -113,6 +116,7 @@ pub(crate) fn keep<R: Wait>(
     requires may { MayAct (setting context.now) hall.now pass.old }
     ensures pass { KeepsNumber hall.now pass.old pass.new }
     ensures stepped { IfOk result (HasDoneActs (IsKeeperServed (setting context.now)) (setting context.now) pass.old pass.new (option_map (λ log. log.items) keeper.old) (option_map (λ log. log.items) keeper.new)) }
+    ensures part { OnErr result (HasDonePartly (IsNotedIf (setting context.now)) (setting context.now) pass.old pass.new (option_map (λ log. log.items) keeper.old) (option_map (λ log. log.items) keeper.new)) }
     ensures few { IfOk result (λ count. count ≤ 1) }
 {
     match keeper {

@@ -1,9 +1,10 @@
-use Rattle.std.proofs.Common.{IfSome, sym, refl, ◌∙◌, subst}
+use Rattle.std.proofs.Common.{IfSome, sym, refl, ◌∙◌, subst, arith}
 use Rattle.std.specs.Option.{option_to_list}
 use Rattle.bank_hall.specs.Halls.{HasMadeCalls, pass_number}
-use Rattle.round_rules.specs.Acts.{postings}
+use Rattle.round_rules.specs.Acts.{postings, keeper_done}
 use Rattle.host_workers.specs.Deeds.{IsEarly}
-use Rattle.host_workers.proofs.Calls.{made-none, letters-more}
+use Rattle.host_workers.specs.Work.{HasBegunPosts}
+use Rattle.host_workers.proofs.Calls.{at-exit, made-none, letters-more, letters-begun}
 use Rattle.host_workers.proofs.Stamping.{letter-early}
 use Rattle.host_workers.proofs.emitting.emit_letters.Goals as goal
 
@@ -19,3 +20,8 @@ loop-core-preserved g c =
 
 pub emit-requires-clause-early : goal.emit-requires-clause-early
 emit-requires-clause-early g c = subst (λ o. IfSome o IsEarly) (sym c.letter.ensures) (letter-early c.args.handled.now c.loop-core.core c.requires.early)
+
+pub returns-in_err-emit-clause-begun : goal.returns-in_err-emit-clause-begun
+returns-in_err-emit-clause-begun g c =
+    at-exit _ (subst (λ q. HasBegunPosts c.args.shape c.args.pass.now q (keeper_done c.args.shape.cores c.args.handled.now).sent) (sym c.in_err-emit.ensures.same)
+    (letters-begun c.args.pass.now c.loop-core.pass c.args.shape c.args.handled.now c.loop-core.core c.args.shape.cores (omega arith) c.loop-core.invariant.made))

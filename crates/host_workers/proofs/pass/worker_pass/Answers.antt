@@ -4,7 +4,9 @@ use Rattle.host_workers.specs.declared.crew.BankLog.{BankLog}
 use Rattle.host_workers.specs.declared.owned.Owned.{Owned}
 use Rattle.host_workers.proofs.Cores.{few-cores}
 use Rattle.host_workers.proofs.Worked.{rising-few}
-use Rattle.host_workers.proofs.Crewed.{worked, crew-kept}
+use Rattle.host_workers.proofs.Crewed.{worked, crew-still}
+use Rattle.host_workers.proofs.Parting.{at-cores, at-banks, at-keeper}
+use Rattle.host_workers.proofs.Calls.{at-exit}
 use Rattle.host_workers.proofs.pass.worker_pass.Goals as goal
 
 pub serve_cores-requires-clause-most : goal.serve_cores-requires-clause-most
@@ -22,10 +24,38 @@ step_banks-requires-clause-most g c =
 
 pub returns-clause-crew : goal.returns-clause-crew
 returns-clause-crew g c =
-    crew-kept (setting c.args.context.now) c.args.pass.now c.serve_cores.new.pass c.step_banks.new.pass c.keep.new.pass c.args.crew.now _ c.in_ok-served.served c.in_ok-stepped.stepped c.in_ok-kept.kept
+    crew-still (setting c.args.context.now) c.args.pass.now c.serve_cores.new.pass c.step_banks.new.pass c.keep.new.pass c.args.crew.now _ c.in_ok-served.served c.in_ok-stepped.stepped c.in_ok-kept.kept
     c.requires.crew c.in_ok-served.ensures.served c.in_ok-stepped.ensures.stepped c.in_ok-kept.ensures.stepped
 
 pub returns-clause-worked : goal.returns-clause-worked
 returns-clause-worked g c =
     worked (setting c.args.context.now) c.args.pass.now c.serve_cores.new.pass c.step_banks.new.pass c.keep.new.pass c.args.crew.now _ c.in_ok-served.served c.in_ok-stepped.stepped c.in_ok-kept.kept
     c.requires.crew c.in_ok-served.ensures.served c.in_ok-stepped.ensures.stepped c.in_ok-kept.ensures.stepped c.in_ok-served.ensures.pass.1 c.in_ok-stepped.ensures.pass.1 refl
+
+pub returns-in_err-served-clause-crew : goal.returns-in_err-served-clause-crew
+returns-in_err-served-clause-crew g c =
+    (at-cores (setting c.args.context.now) c.args.crew.now (record c.args.crew.now { cores = c.serve_cores.new.cores }) c.requires.crew refl c.args.pass.now c.serve_cores.new.pass c.in_err-served.ensures.part refl refl).1
+
+pub returns-in_err-stepped-clause-crew : goal.returns-in_err-stepped-clause-crew
+returns-in_err-stepped-clause-crew g c =
+    (at-banks (setting c.args.context.now) c.args.crew.now (record c.args.crew.now { cores = c.serve_cores.new.cores; banks = c.step_banks.new.banks }) c.requires.crew refl c.args.pass.now c.serve_cores.new.pass c.step_banks.new.pass c.in_ok-served.served
+    c.in_ok-served.ensures.served c.in_ok-served.ensures.pass.1 c.in_err-stepped.ensures.part refl).1
+
+pub returns-in_err-kept-clause-crew : goal.returns-in_err-kept-clause-crew
+returns-in_err-kept-clause-crew g c =
+    (at-keeper (setting c.args.context.now) c.args.crew.now (record c.args.crew.now { cores = c.serve_cores.new.cores; banks = c.step_banks.new.banks; keeper = c.keep.new.keeper }) c.requires.crew refl c.args.pass.now c.serve_cores.new.pass c.step_banks.new.pass c.keep.new.pass
+    c.in_ok-served.served c.in_ok-stepped.stepped c.in_ok-served.ensures.served c.in_ok-served.ensures.pass.1 c.in_ok-stepped.ensures.stepped c.in_ok-stepped.ensures.pass.1 c.in_err-kept.ensures.part).1
+
+pub returns-in_err-served-clause-part : goal.returns-in_err-served-clause-part
+returns-in_err-served-clause-part g c =
+    at-exit _ ((at-cores (setting c.args.context.now) c.args.crew.now (record c.args.crew.now { cores = c.serve_cores.new.cores }) c.requires.crew refl c.args.pass.now c.serve_cores.new.pass c.in_err-served.ensures.part refl refl).0)
+
+pub returns-in_err-stepped-clause-part : goal.returns-in_err-stepped-clause-part
+returns-in_err-stepped-clause-part g c =
+    at-exit _ ((at-banks (setting c.args.context.now) c.args.crew.now (record c.args.crew.now { cores = c.serve_cores.new.cores; banks = c.step_banks.new.banks }) c.requires.crew refl c.args.pass.now c.serve_cores.new.pass c.step_banks.new.pass c.in_ok-served.served
+    c.in_ok-served.ensures.served c.in_ok-served.ensures.pass.1 c.in_err-stepped.ensures.part refl).0)
+
+pub returns-in_err-kept-clause-part : goal.returns-in_err-kept-clause-part
+returns-in_err-kept-clause-part g c =
+    at-exit _ ((at-keeper (setting c.args.context.now) c.args.crew.now (record c.args.crew.now { cores = c.serve_cores.new.cores; banks = c.step_banks.new.banks; keeper = c.keep.new.keeper }) c.requires.crew refl c.args.pass.now c.serve_cores.new.pass c.step_banks.new.pass c.keep.new.pass
+    c.in_ok-served.served c.in_ok-stepped.stepped c.in_ok-served.ensures.served c.in_ok-served.ensures.pass.1 c.in_ok-stepped.ensures.stepped c.in_ok-stepped.ensures.pass.1 c.in_err-kept.ensures.part).0)

@@ -1,10 +1,12 @@
-use Rattle.std.proofs.Common.{sym, ◌∙◌, subst}
+use Rattle.std.proofs.Common.{sym, ap, ◌∙◌, subst}
 use Rattle.registration_protocol.specs.Setting.{setting}
 use Rattle.dn_base.specs.declared.ids.CoreId.{CoreId}
+use Rattle.registration_protocol.specs.Fit.{Fits}
 use Rattle.round_rules.specs.Passes.{Held}
 use Rattle.host_workers.specs.Crews.{held_of}
 use Rattle.host_workers.specs.Work.{HasTaken, HasMadeOwn}
-use Rattle.host_workers.proofs.Turning.{serves, stays}
+use Rattle.host_workers.proofs.Turning.{serves, stays, moves-none, from-held, turns-partly}
+use Rattle.host_workers.proofs.Calls.{at-exit}
 use Rattle.host_workers.proofs.serving.serve_core.Goals as goal
 
 pub returns-then-not-has_numbers_left-clause-served : goal.returns-then-not-has_numbers_left-clause-served
@@ -20,3 +22,21 @@ returns-clause-served g c =
     let own = subst (λ (core : CoreId). HasMadeOwn (setting c.args.context.now) core c.take_mail.new.pass c.make_own.new.pass (held_of c.take_mail.new.owned) (held_of c.make_own.new.owned) c.in_ok-own.own) same-too c.in_ok-own.ensures.made in
     serves (setting c.args.context.now) c.args.owned.now c.make_own.new.owned c.draw-pick.result c.args.pass.now c.take_mail.new.pass c.make_own.new.pass (held_of c.take_mail.new.owned) c.in_ok-handled.handled c.in_ok-own.own
     (c.make_own.ensures.core ∙ same-too) c.in_ok-own.ensures.fits (sym c.has_numbers_left.ensures ∙ c.if-not-has_numbers_left.false) taken c.in_ok-handled.ensures.pass.1 own
+
+pub returns-in_err-reserve-clause-part : goal.returns-in_err-reserve-clause-part
+returns-in_err-reserve-clause-part g c =
+    let C = setting c.args.context.now in
+    let held = c.reserve.ensures.held in
+    at-exit _ (moves-none C c.args.owned.now c.reserve.new.self c.args.pass.now c.reserve.ensures.core held (subst (Fits C) (sym (ap (λ (h : Held). h.node) held)) c.requires.owned.fits))
+
+pub returns-in_err-handled-clause-part : goal.returns-in_err-handled-clause-part
+returns-in_err-handled-clause-part g c =
+    at-exit _ (from-held (setting c.args.context.now) c.args.owned.now c.reserve.new.self c.take_mail.new.owned c.args.pass.now c.take_mail.new.pass c.reserve.ensures.core c.reserve.ensures.held c.in_err-handled.ensures.part)
+
+pub returns-in_err-own-clause-part : goal.returns-in_err-own-clause-part
+returns-in_err-own-clause-part g c =
+    let C = setting c.args.context.now in
+    let same = c.reserve.ensures.core in
+    let taken = subst (λ (core : CoreId). HasTaken C core c.draw-pick.result c.args.pass.now c.take_mail.new.pass (held_of c.args.owned.now) (held_of c.take_mail.new.owned) c.in_ok-handled.handled) same
+    (subst (λ (h : Held). HasTaken C c.reserve.new.self.core c.draw-pick.result c.args.pass.now c.take_mail.new.pass h (held_of c.take_mail.new.owned) c.in_ok-handled.handled) c.reserve.ensures.held c.in_ok-handled.ensures.taken) in
+    at-exit _ (turns-partly C c.args.owned.now c.take_mail.new.owned c.make_own.new.owned c.draw-pick.result c.args.pass.now c.take_mail.new.pass c.make_own.new.pass c.in_ok-handled.handled (c.take_mail.ensures.core ∙ same) taken c.in_ok-handled.ensures.pass.1 c.in_err-own.ensures.part)

@@ -3,8 +3,10 @@ use Rattle.std.proofs.lemmas.List.{length-set, get_or-set_other, take_all}
 use Rattle.registration_protocol.specs.Setting.{setting}
 use Rattle.host_workers.specs.declared.owned.Owned.{Owned}
 use Rattle.host_workers.specs.Crews.{IsOwned}
-use Rattle.host_workers.specs.Work.{IsCoreServed, HasDoneActs, HaveDone}
-use Rattle.host_workers.proofs.Served.{done-none, done-next}
+use Rattle.host_workers.specs.Work.{IsMoved, IsCoreServed, HasDoneActs, HaveDone, HasDonePartly}
+use Rattle.host_workers.proofs.Served.{done-none, done-next, partly-next}
+use Rattle.host_workers.proofs.Turning.{moves-not}
+use Rattle.host_workers.proofs.Calls.{at-exit}
 use Rattle.host_workers.proofs.serving.serve_cores.Goals as goal
 
 pub loop-place-init : goal.loop-place-init
@@ -62,3 +64,15 @@ returns-clause-served g c =
     let now : take c.loop-place.place c.loop-place.cores.items ≡ c.loop-place.cores.items = take_all c.loop-place.place c.loop-place.cores.items (omega (arith, long)) in
     subst (λ l. HaveDone (IsCoreServed C) C c.args.pass.now c.loop-place.pass l c.loop-place.cores.items c.loop-place.made) all
     (subst (λ l. HaveDone (IsCoreServed C) C c.args.pass.now c.loop-place.pass (take c.loop-place.place c.args.cores.now.items) l c.loop-place.made) now had.done)
+
+pub returns-in_err-events-clause-part : goal.returns-in_err-events-clause-part
+returns-in_err-events-clause-part g c =
+    let had = c.loop-place.invariant in
+    let C = setting c.args.context.now in
+    let x = c.index_mut.result.now in
+    let long = had.long in
+    let now = c.serve_core.new.owned in
+    let was : get_or c.args.cores.now.items c.loop-place.place x ≡ x = sym (had.later c.loop-place.place x (omega arith)) ∙ sym c.index_mut.ensures.value in
+    let one = subst (λ (o : Owned). HasDonePartly (IsMoved C) C c.loop-place.pass c.serve_core.new.pass o now) (sym was) c.in_err-events.ensures.part in
+    at-exit _ (partly-next (IsCoreServed C) (IsMoved C) (λ o p acts s. s.moves) C c.args.pass.now c.loop-place.pass c.serve_core.new.pass c.args.cores.now.items c.loop-place.cores.items c.loop-place.place now c.loop-place.made had.done had.pass.1 (omega (arith, long)) had.long had.later
+    (λ k d within. moves-not C (get_or c.args.cores.now.items k d) (get_or c.args.cores.now.items k d) refl refl (c.requires.owned k d within).fits) x one)

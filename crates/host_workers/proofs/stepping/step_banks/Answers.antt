@@ -2,8 +2,10 @@ use Rattle.std.proofs.Common.{◌≡◌, ◌<◌, take, get_or, sym, refl, ◌�
 use Rattle.std.proofs.lemmas.List.{length-set, get_or-set_other, take_all}
 use Rattle.registration_protocol.specs.Setting.{setting}
 use Rattle.host_workers.specs.declared.crew.BankLog.{BankLog}
-use Rattle.host_workers.specs.Work.{IsStepped, HasDoneActs, HaveDone}
-use Rattle.host_workers.proofs.Served.{done-none, done-next}
+use Rattle.host_workers.specs.Work.{IsNotedBank, IsStepped, HasDoneActs, HaveDone, HasDonePartly}
+use Rattle.host_workers.proofs.Served.{done-none, done-next, partly-next}
+use Rattle.host_workers.proofs.Turning.{notes-not}
+use Rattle.host_workers.proofs.Calls.{at-exit}
 use Rattle.host_workers.proofs.stepping.step_banks.Goals as goal
 
 pub loop-place-init : goal.loop-place-init
@@ -61,3 +63,15 @@ returns-clause-stepped g c =
     let now : take c.loop-place.place c.loop-place.banks.items ≡ c.loop-place.banks.items = take_all c.loop-place.place c.loop-place.banks.items (omega (arith, long)) in
     subst (λ l. HaveDone (IsStepped C) C c.args.pass.now c.loop-place.pass l c.loop-place.banks.items c.loop-place.made) all
     (subst (λ l. HaveDone (IsStepped C) C c.args.pass.now c.loop-place.pass (take c.loop-place.place c.args.banks.now.items) l c.loop-place.made) now had.done)
+
+pub returns-in_err-events-clause-part : goal.returns-in_err-events-clause-part
+returns-in_err-events-clause-part g c =
+    let had = c.loop-place.invariant in
+    let C = setting c.args.context.now in
+    let x = c.index_mut.result.now in
+    let long = had.long in
+    let now = c.step_bank.new.owned in
+    let was : get_or c.args.banks.now.items c.loop-place.place x ≡ x = sym (had.later c.loop-place.place x (omega arith)) ∙ sym c.index_mut.ensures.value in
+    let one = subst (λ (o : BankLog). HasDonePartly (IsNotedBank C) C c.loop-place.pass c.step_bank.new.pass o now) (sym was) c.in_err-events.ensures.part in
+    at-exit _ (partly-next (IsStepped C) (IsNotedBank C) (λ b d acts s. s.notes) C c.args.pass.now c.loop-place.pass c.step_bank.new.pass c.args.banks.now.items c.loop-place.banks.items c.loop-place.place now c.loop-place.made had.done had.pass.1 (omega (arith, long)) had.long had.later
+    (λ k d within. notes-not C (get_or c.args.banks.now.items k d) (get_or c.args.banks.now.items k d) refl refl) x one)
