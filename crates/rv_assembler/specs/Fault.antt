@@ -79,7 +79,7 @@ out_of_range text names d (statement.TheVariants.Tasks f) = family_far f
 out_of_range text names d (statement.TheVariants.Uses e) = extent_far (region_span (names (bytes_of text e.region))) e.extent d.family.count
 out_of_range text names d _ = false
 
--- DoubleName: the line declares a name that an earlier line of good form declares, or one name twice
+-- DoubleName: a name of this line was declared before, by a line of good form, or stands in this line's declarations twice
 abbrev pub doubled : List ℕ → List Saying → Saying → Bool
 doubled text before s = declare_again (declarations text before) (declared_at text (record { before = before; here = s }))
 
