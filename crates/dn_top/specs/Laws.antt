@@ -1,9 +1,17 @@
 -- What the laws of the program speak of.
-use Rattle.std.specs.Prelude.{◌≡◌, ◌⊎◌, ℕ, false, List, Some}
+use Rattle.std.specs.Prelude.{◌≡◌, ◌≢◌, ◌⊎◌, ℕ, false, List, Some}
+use Rattle.std.specs.List.{All}
 use Rattle.dn_base.specs.declared.status.Status as status
+use Rattle.rv_core.specs.declared.task.TrapKind.TheVariants.{Outside}
+use Rattle.rv_core.specs.declared.ending.EndShown.TheVariants.{Trap}
+use Rattle.rv_core.specs.declared.ending.TaskEnd.{TaskEnd}
+use Rattle.effect_prover.specs.declared.proved.Proved.TheVariants.{Inside}
+use Rattle.effect_prover.specs.Answer.{proved_text}
+use Rattle.dn_machine.specs.declared.record.RunRecord.{RunRecord}
+use Rattle.command_words.specs.declared.options.Mode as mode
 use Rattle.command_words.specs.declared.options.Options.{Options}
 use Rattle.dn_top.specs.declared.serving.Answer.{Answer}
-use Rattle.dn_top.specs.Answers.{IsOutcome, picks_events}
+use Rattle.dn_top.specs.Answers.{IsAnswer, IsOutcome, answered, picks_events}
 use Rattle.dn_top.specs.Outside.{Devices, Took}
 use Rattle.dn_top.specs.Serving.{text_to_answer, Serves}
 
@@ -33,3 +41,19 @@ pub record GaveOneOutput (c d : Call) : Type 0 where
   pub bytes : List ℕ
   pub first : Took c.before.sink c.after.sink bytes
   pub second : Took d.before.sink d.after.sink bytes
+
+-- ---- what is proved of a text
+
+-- the mode prove answers the text with `proved inside`
+pub record IsProvedInside (text : List ℕ) : Type 0 where
+  pub options : Options
+  pub asked : options.mode ≡ mode.TheVariants.Prove
+  pub answer : IsAnswer options text (answered status.TheVariants.Done (proved_text Inside))
+
+-- the task hasn't ended by a trap outside
+abbrev pub IsTameEnd : TaskEnd → Type 0
+IsTameEnd t = (pc value : ℕ) → t.end ≢ Trap Outside pc value
+
+-- nor has any task of the run
+abbrev pub IsTameRun : RunRecord → Type 0
+IsTameRun r = All IsTameEnd r.ending.tasks

@@ -1,8 +1,9 @@
 //! What holds of every run, as laws: functions that do nothing, whose contracts say it.
-ghost use Rattle.std.specs.Prelude.{◌≡◌, ℕ, List, [], Some};
+ghost use Rattle.std.specs.Prelude.{◌≡◌, ℕ, List, [], Some, Ok};
 ghost use Rattle.dn_base.specs.declared.ids.Grant.{Grant};
 ghost use Rattle.dn_base.specs.declared.ids.Shape.{Shape};
 ghost use Rattle.region_table.specs.Program.{ProgramParts};
+ghost use Rattle.rv_assembler.specs.Source.{source};
 ghost use Rattle.flat_machine.specs.declared.ending.FlatEnd.{FlatEnd};
 ghost use Rattle.flat_machine.specs.Ending.{flat_end};
 ghost use Rattle.dn_machine.specs.declared.record.RunRecord.{RunRecord};
@@ -11,7 +12,7 @@ ghost use Rattle.command_words.specs.declared.options.Options.{Options};
 ghost use Rattle.dn_top.specs.declared.output.Output.{Output};
 ghost use Rattle.dn_top.specs.Answers.{IsAnswer, IsRefusal, done_in};
 ghost use Rattle.dn_top.specs.Causes.{IsCaused};
-ghost use Rattle.dn_top.specs.Laws.{Call, GaveOneOutput, IsTextAnswered, IsDecided};
+ghost use Rattle.dn_top.specs.Laws.{Call, GaveOneOutput, IsTextAnswered, IsDecided, IsProvedInside, IsTameRun};
 ghost use Rattle.dn_top.specs.Runs.{IsRunFor, IsRunOf, output_of_run, reported};
 
 /// A run that is out of fuel or stuck is so because of its tasks.
@@ -23,6 +24,12 @@ pub fn an_outcome_has_its_cause()
 /// Without locks every run of a program ends alike, whatever the shape of the machine and whoever picked the events.
 pub fn without_locks_every_run_ends_alike()
     ensures { (P : ProgramParts) (machine other : Shape) (fuel : ℕ) (r s : RunRecord) → IsRunOf P machine fuel r → IsRunOf P other fuel s → P.locks ≡ [] → r.ending ≡ s.ending }
+{}
+
+/// Once the mode prove has answered a text with `proved inside`, no run of its program has a task that ended by a trap outside:
+/// whatever the shape of the machine and the fuel, and whoever picked the events, a seed, workers or a document.
+pub fn a_proven_text_runs_inside()
+    ensures { (text : List ℕ) (P : ProgramParts) (machine : Shape) (fuel : ℕ) (r : RunRecord) → IsProvedInside text → source text ≡ Ok P → IsRunOf P machine fuel r → IsTameRun r }
 {}
 
 /// What the mode trace writes of a text's run is answered by the mode replay with the report of that run, and its status; by one
