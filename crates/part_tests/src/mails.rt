@@ -19,8 +19,8 @@ fn arrival(number: u32) -> Mail
 fn are_in_order() -> bool {
     Actor::Core(CoreId(2)) < Actor::Bank(BankId(0))
         && Actor::Bank(BankId(1)) < Actor::Keeper
-        && EventKind::Arrive < EventKind::ReadReq
-        && EventKind::Go < EventKind::Halt
+        && EventKind::Arrive.index() < EventKind::ReadReq.index()
+        && EventKind::Go.index() < EventKind::Halt.index()
         && Message::Halt.kind() == EventKind::Halt
 }
 
