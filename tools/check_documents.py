@@ -1,7 +1,7 @@
 #!/usr/bin/env python3
 """Says which names in the documents are nowhere in the repository: run it at the top of the repository, `tools/check_documents.py`.
 
-Of README.md, docs/*.md, examples/README.md and crates/worked_rows/data/README.md it looks at all that stands between backquotes, and at
+Of README.md, docs/*.md, each crate's README.md, examples/README.md and crates/worked_rows/data/README.md it looks at all that stands between backquotes, and at
 the commands of their indented blocks and of the comments in examples/:
 - a path has to be there, from the top, from crates/, or from the folder that the same line names;
 - a name of code (with a capital, or with `_` or `::`) has to be in the code, its contracts or its definitions;
@@ -18,11 +18,12 @@ import sys
 tracked = [name for name in subprocess.run(["git", "ls-files"], capture_output=True, text=True).stdout.split("\n") if name]
 folders = {str(parent) for name in tracked for parent in pathlib.PurePath(name).parents}
 there = set(tracked) | folders
-names = {pathlib.PurePath(name).name for name in there}
+names = {pathlib.PurePath(name).name for name in there} | {pathlib.PurePath(name).stem for name in there if name.endswith(".edit")}
 code = "\n".join(pathlib.Path(name).read_text() for name in tracked
                  if name.endswith((".rt", ".antt", ".py", ".txt", ".cases", ".s")) or name.startswith(("bench/", ".ci/")))
 words = set(re.findall(r"[A-Za-z_]\w*(?:-\w+)*'?", code))
-documents = ["README.md", "examples/README.md", "crates/worked_rows/data/README.md"] + [n for n in tracked if re.fullmatch(r"docs/\w+\.md", n)]
+documents = ["README.md", "examples/README.md", "crates/worked_rows/data/README.md"] + [
+    n for n in tracked if re.fullmatch(r"docs/\w+\.md|crates/\w+/README\.md", n)]
 examples = sorted(n for n in tracked if re.fullmatch(r"examples/[\w-]+\.s", n))
 found = []
 
@@ -61,7 +62,8 @@ for document in documents:
                 for name in piece.split("::"):
                     if name not in words and name not in names:
                         found.append(f"{document}: no such name: {piece}")
-    for path in re.findall(r"\]\(([^)#:]+)\)", text):
+    for path in re.findall(r"\]\(([^)#:]+)\)|^\[\w+\]: (\S+)$", text, re.M):
+        path = path[0] or path[1].removeprefix("../")
         if not has_path(path, document):
             found.append(f"{document}: no such link: {path}")
 for document in documents + examples:
