@@ -1,7 +1,7 @@
 -- What a text and a sink in memory are, as contracts see them.
 use Rattle.std.specs.Prelude.{ℕ, ◌+◌, Bool, List, min}
 
--- a text that is given a few bytes at a time: the bytes that are left, how many bytes a call gives at the most,
+-- a text that is given a few bytes at a time: the bytes that are left, how many bytes a call gives at most,
 -- the numbers of the calls that fail, how many calls were made, and how many of them failed
 pub record GivenText : Type 0 where
   pub left : List ℕ
@@ -11,7 +11,7 @@ pub record GivenText : Type 0 where
   pub faults : ℕ
 
 -- bytes that were taken a few at a time: those that are held, whether all of them were flushed, the room for all, how many a
--- call takes at the most,
+-- call takes at most,
 -- the numbers of the calls that fail, how many calls were made, and how many faults there were
 pub record TakenBytes : Type 0 where
   pub held : List ℕ

@@ -3,6 +3,7 @@
 #![tactic(auto)]
 
 mod calls;
+mod division;
 mod failure;
 mod ids;
 mod limits;
@@ -14,6 +15,7 @@ mod status;
 mod text_source;
 mod vec_sink;
 
+pub use division::{quotient, remainder};
 pub use failure::{Failed, Memory};
 pub use ids::{BankId, CoreId, Grant, LoadSeen, LockId, PhaseId, Shape, WordId};
 pub use limits::{MOST_CORES, MOST_EVENTS, MOST_OF_DOCUMENT, MOST_OF_TEXT};

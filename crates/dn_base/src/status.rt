@@ -14,7 +14,7 @@ pub enum Status {
     Trapped = 3,
     /// A task ran out of fuel, and none trapped or waits for a lock.
     Fuel = 4,
-    /// A task waits for a lock for ever.
+    /// A task waits for a lock forever.
     Stuck = 5,
     /// The source failed.
     ReadFault = 6,

@@ -46,7 +46,7 @@ fn in_order(mut entries: Vec<Stamped>) -> Result<Vec<Stamped>, Memory>
 /// The entries of all logs, in the order of their stamps, and those with one stamp in the order of their actors.
 ///
 /// A log is what a single actor noted, in the order of its stamps, each of which is later than the one before; every actor has one
-/// log at the most.
+/// log at most.
 ///
 /// # Errors
 /// `Memory` where there is no room for the list.
@@ -73,9 +73,10 @@ pub fn grants(alloc: Global, merged: &[Stamped]) -> Result<Vec<Grant>, Memory>
     )
 }
 
+/// Shows that a value goes from thread to thread, and may be shared.
 fn crosses<T: Send + Sync>(_value: &T) {}
 
-/// An entry may be sent to another thread, and shared with it.
+/// An entry may be sent to another thread, and shared with it. Nobody calls this; the check of its body proves it.
 pub(crate) fn entry_crosses(entry: &Stamped) {
     crosses(entry);
 }

@@ -4,7 +4,7 @@ ghost use Rattle.message_net.specs.Mail.{to_core, to_home, to_keeper, mail_of};
 
 use crate::actor::{Actor, MailId};
 use crate::event::EventKind;
-use dn_base::{BankId, CoreId, LockId, PhaseId, WordId};
+use dn_base::{BankId, CoreId, LockId, PhaseId, WordId, remainder};
 use write_signature::Signature;
 
 /// What one actor tells another.
@@ -134,7 +134,7 @@ impl Outgoing {
         ensures { Some result ≡ to_home banks number message }
     {
         Outgoing {
-            to: Actor::Bank(BankId(number % banks)),
+            to: Actor::Bank(BankId(remainder(number, banks))),
             message,
         }
     }

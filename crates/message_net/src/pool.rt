@@ -158,6 +158,7 @@ impl Pool {
 /// Shows that a value goes from thread to thread, and may be shared.
 fn crosses<T: Send + Sync>(_value: &T) {}
 
+/// A pool may be sent to another thread, and shared with it. Nobody calls this; the check of its body proves it.
 fn pool_crosses(pool: &Pool) {
     crosses(pool);
 }

@@ -1,4 +1,4 @@
--- What the keeper tells the cores.
+-- What the keeper tells the cores. `go_count` and `goes_to_core` are for laws.
 use Rattle.std.specs.Prelude.{ℕ, ◌+◌, Bool, zero, suc, List, [], ◌∷◌, Option, Some, None}
 use Rattle.message_net.specs.declared.actor.Actor.TheVariants.{Core}
 use Rattle.message_net.specs.declared.message.Message as message

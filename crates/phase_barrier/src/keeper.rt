@@ -162,6 +162,7 @@ impl Keeper {
 /// Shows that a value goes from thread to thread, and may be shared.
 fn crosses<T: Send + Sync>(_value: &T) {}
 
+/// A keeper may be sent to another thread, and shared with it. Nobody calls this; the check of its body proves it.
 fn keeper_crosses(keeper: &Keeper) {
     crosses(keeper);
 }

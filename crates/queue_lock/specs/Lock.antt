@@ -1,4 +1,5 @@
--- A lock at its home: who holds it, who waits for it, and which words were written under it.
+-- A lock at its home: who holds it, who waits for it, and which words were written under it. The counts at the end, from
+-- `holder_count` on, are for laws.
 use Rattle.std.specs.Prelude.{◌≡◌, ℕ, ◌<◌, ◌≤◌, Bool, ◌||◌, ◌==◌, nat_le, List, [], ◌∷◌, ◌++◌, length, Option, Some, None, if◌then◌else◌, count_by}
 use Rattle.std.specs.List.{list_any, All}
 use Rattle.dn_base.specs.declared.ids.CoreId.{CoreId}

@@ -60,6 +60,7 @@ impl LockHome {
         ensures { self.new ≡ queued self.old core }
     {
         if !is_queued(&self.queue, core) {
+            // a full queue takes no core, as the definition of the lock says; for the lock of a machine it has room
             let _ = self.queue.try_push_back(core);
         }
     }
@@ -109,6 +110,7 @@ impl LockHome {
 /// Shows that a value goes from thread to thread, and may be shared.
 fn crosses<T: Send + Sync>(_value: &T) {}
 
+/// A lock may be sent to another thread, and shared with it. Nobody calls this; the check of its body proves it.
 fn home_crosses(home: &LockHome) {
     crosses(home);
 }

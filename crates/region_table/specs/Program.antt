@@ -31,7 +31,7 @@ cores_in (t ∷ ts) = max (t.core.0 + 1) (cores_in ts)
 abbrev pub cores_of : ProgramParts → ℕ
 cores_of p = cores_in (tasks_of p.phases)
 
--- the regions lie one behind the other from word `from` on, each has a word, and the last ends before word `end`
+-- the regions lie one after the other from word `from` on, each has a word, and the last ends before word `end`
 abbrev pub AreTiled : ℕ → List Region → ℕ → Type 0
 AreTiled from [] end = from ≡ end
 AreTiled from (r ∷ rs) end = (r.start ≡ from) × (0 < r.len) × AreTiled (r.start + r.len) rs end

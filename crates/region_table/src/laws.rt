@@ -1,4 +1,5 @@
 //! What every program says of its tasks and of the plans of its phases.
+//! These are laws: functions without effect, whose contracts say it.
 ghost use Rattle.std.specs.Prelude.{◌≡◌, ◌<◌, ℕ, List, [], IsTrue, length, slice_get, slice_index_or, Some};
 ghost use Rattle.std.specs.List.{IsAmong};
 ghost use Rattle.region_table.specs.declared.declared.TaskDecl.{TaskDecl};
@@ -17,6 +18,7 @@ use crate::program::Program;
 pub fn a_program_is_well_formed(program: &Program)
     ensures { IsProgram program.now }
 {
+    // for the proof alone: a read of a field brings the invariant of the program, which is the law
     let _code = &program.code;
 }
 
@@ -25,6 +27,7 @@ pub fn a_program_is_well_formed(program: &Program)
 pub fn a_program_has_words(program: &Program)
     ensures { HasWords program.now }
 {
+    // for the proof alone: each call says its part of the law
     words_fit(program.code.as_slice());
     words_fit(program.memory.as_slice());
     phases_fit(program.phases.as_slice());

@@ -16,6 +16,7 @@ fn sets_fit(sets: &[WordSet])
     ensures { All IsCanonical sets.now }
 {
     for set in sets {
+        // for the proof alone: the call says that the intervals of the set are canonical
         let _intervals = set.intervals();
     }
 }
@@ -24,6 +25,7 @@ fn sets_fit(sets: &[WordSet])
 fn task_fits(task: &TaskDecl)
     ensures { IsOfWords task.now }
 {
+    // for the proof alone: a read of a number brings the range of its type, and a look at the intervals of a set that they are canonical
     let _entry = task.entry;
     let _arg = task.arg;
     let _reads = task.effects.reads.intervals();

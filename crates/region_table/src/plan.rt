@@ -22,7 +22,7 @@ pub struct PhasePlan {
     pub guarded: Sequence<WordSet>,
 }
 
-/// A plan may be sent to another thread, and shared with it.
+/// A plan may be sent to another thread, and shared with it. Nobody calls this; the check of its body proves it.
 pub(crate) fn plan_crosses(plan: &PhasePlan) {
     crate::program::crosses(plan);
 }

@@ -16,7 +16,7 @@ pub struct Program {
     pub code: Sequence<u32>,
     /// The data words before the first phase.
     pub memory: Sequence<u32>,
-    /// The regions, one behind the other from data word 0; together they are the memory.
+    /// The regions, one after the other from data word 0; together they are the memory.
     pub regions: Sequence<Region>,
     /// The names of the locks, by number.
     pub locks: Sequence<Name>,
@@ -65,9 +65,10 @@ fn cores_with(tasks: &[TaskDecl], most: u32) -> u32
     cores
 }
 
+/// Shows that a value goes from thread to thread, and may be shared.
 pub(crate) fn crosses<T: Send + Sync>(_value: &T) {}
 
-/// A program may be sent to another thread, and shared with it.
+/// A program may be sent to another thread, and shared with it. Nobody calls this; the check of its body proves it.
 pub(crate) fn program_crosses(program: &Program) {
     crosses(program);
 }

@@ -1,4 +1,4 @@
--- What a message names, and where it goes.
+-- What a message names, and where it goes, for the law `mails_are_of_the_machine`.
 use Rattle.std.specs.Prelude.{◌<◌, length, ◌≡◌, true}
 use Rattle.message_net.specs.declared.message.Message as message
 use Rattle.message_net.specs.declared.message.Message.{Message}

@@ -22,7 +22,7 @@ use dn_base::{LoadSeen, LockId, PhaseId, Sequence, WordId};
 use message_net::{Message, Outgoing};
 use region_table::TaskDecl;
 use rv_core::{End, Need, Next, TaskState};
-use word_cache::Entry;
+use word_cache::{Entry, Probe};
 use write_signature::Signature;
 
 /// What an instruction gives that sends nothing and reads nothing.
@@ -106,6 +106,14 @@ fn sign(
     }
 }
 
+/// A word to which a store goes: its value so far, and where its pair may stand in the cache.
+#[derive(Clone, Copy, Debug)]
+struct Target {
+    word: WordId,
+    place: usize,
+    old: u32,
+}
+
 impl Node {
     /// The node asks a word's home for its value.
     fn miss(&mut self, context: &Context<'_>, word: WordId) -> Step
@@ -154,21 +162,23 @@ impl Node {
         ensures node { (t : TaskState) → self.old.task ≡ Some t → self.new ≡ (load_row (setting context.now) self.old declared.now t word (entry_of self.old word.0)).0 }
         ensures step { (t : TaskState) → self.old.task ≡ Some t → result ≡ (load_row (setting context.now) self.old declared.now t word (entry_of self.old word.0)).1 }
     {
-        match self.cache.get(word) {
-            None => self.miss(context, word),
-            Some(Entry::Valid { value, marked }) => {
+        let Probe::Hit { place, entry } = self.cache.probe(word) else {
+            return self.miss(context, word);
+        };
+        match entry {
+            Entry::Valid { value, marked } => {
                 let entry = Entry::Valid {
                     value,
                     marked: marked || is_plain(declared, word),
                 };
-                self.cache.set(word, entry);
+                self.cache.set_at(place, word, entry);
                 self.see(context, declared, next, word, value)
             }
-            Some(Entry::Registered { value, .. }) => {
-                self.cache.touch(word);
+            Entry::Registered { value, .. } => {
+                self.cache.touch_at(place, word);
                 self.see(context, declared, next, word, value)
             }
-            Some(Entry::Leaving(_)) => silence(),
+            Entry::Leaving(_) => silence(),
         }
     }
 
@@ -184,52 +194,83 @@ impl Node {
         }
     }
 
-    /// A store to the word, whose value was `old`, retires. The core is the word's registrant then, or is to be it.
+    /// A store to the word retires. The core is the word's registrant then, or is to be it.
     fn write(
         &mut self,
         context: &Context<'_>,
         declared: &TaskDecl,
         next: &Next,
-        word: WordId,
-        old: u32,
+        target: Target,
         pending: bool,
     )
         requires look { IfSome self.old.task (IsLook (setting context.now) declared.now next.now) }
         requires kind { IsStore next.now.need }
         requires locks { length self.old.signatures ≤ 32 }
-        requires room { (is_some (entry_of self.old word.0) || has_room self.old.cache word.0) ≡ true }
+        requires room { (is_some (entry_of self.old target.word.0) || has_room self.old.cache target.word.0) ≡ true }
         ensures { (t : TaskState) → self.old.task ≡ Some t
-            → self.new ≡ stored (setting context.now) self.old declared.now t word (AsRegistered (merged_of (setting context.now).program old t) pending) }
+            → self.new ≡ stored (setting context.now) self.old declared.now t target.word (AsRegistered (merged_of (setting context.now).program target.old t) pending) }
     {
+        let Target { word, place, old } = target;
         let value = self.merged(context, declared, next, old);
         sign(&mut self.signatures, &self.task, declared, word, self.phase);
-        self.cache.set(word, Entry::Registered { value, pending });
+        self.cache
+            .set_at(place, word, Entry::Registered { value, pending });
         advance(&mut self.task, context, declared, next);
         self.wait = NodeWait::None;
     }
 
-    /// A store to the word, whose value was `old`, retires, and asks the word's home to make the core its registrant.
+    /// A store to the word retires, and asks the word's home to make the core its registrant.
     fn register(
         &mut self,
         context: &Context<'_>,
         declared: &TaskDecl,
         next: &Next,
-        word: WordId,
-        old: u32,
+        target: Target,
     ) -> Step
         requires banks { 0 < (setting context.now).shape.banks }
         requires look { IfSome self.old.task (IsLook (setting context.now) declared.now next.now) }
         requires kind { IsStore next.now.need }
         requires locks { length self.old.signatures ≤ 32 }
-        requires room { (is_some (entry_of self.old word.0) || has_room self.old.cache word.0) ≡ true }
+        requires room { (is_some (entry_of self.old target.word.0) || has_room self.old.cache target.word.0) ≡ true }
         ensures node { (t : TaskState) → self.old.task ≡ Some t
-            → self.new ≡ (registers_word (setting context.now) self.old declared.now t word (merged_of (setting context.now).program old t)).0 }
+            → self.new ≡ (registers_word (setting context.now) self.old declared.now t target.word (merged_of (setting context.now).program target.old t)).0 }
         ensures step { (t : TaskState) → self.old.task ≡ Some t
-            → result ≡ (registers_word (setting context.now) self.old declared.now t word (merged_of (setting context.now).program old t)).1 }
+            → result ≡ (registers_word (setting context.now) self.old declared.now t target.word (merged_of (setting context.now).program target.old t)).1 }
     {
+        let word = target.word;
         let core = self.core;
-        self.write(context, declared, next, word, old, true);
+        self.write(context, declared, next, target, true);
         sending(send_home(context, word.0, Message::RegReq { word, core }))
+    }
+
+    /// A store to the word, which has no entry; `whole` where it gives all four bytes.
+    fn store_new(
+        &mut self,
+        context: &Context<'_>,
+        declared: &TaskDecl,
+        next: &Next,
+        word: WordId,
+        whole: bool,
+    ) -> Step
+        requires banks { 0 < (setting context.now).shape.banks }
+        requires look { IfSome self.old.task (IsLook (setting context.now) declared.now next.now) }
+        requires kind { IsStore next.now.need }
+        requires locks { length self.old.signatures ≤ 32 }
+        requires room { has_room self.old.cache word.0 ≡ true }
+        ensures node { (t : TaskState) → self.old.task ≡ Some t → self.new ≡ (store_row (setting context.now) self.old declared.now t word whole None).0 }
+        ensures step { (t : TaskState) → self.old.task ≡ Some t → result ≡ (store_row (setting context.now) self.old declared.now t word whole None).1 }
+    {
+        if !whole {
+            return self.miss(context, word);
+        }
+
+        // no place has the word's pair, so any number serves as the hint
+        let target = Target {
+            word,
+            place: 0,
+            old: 0,
+        };
+        self.register(context, declared, next, target)
     }
 
     /// A store to the word; `whole` where it gives all four bytes.
@@ -249,15 +290,28 @@ impl Node {
         ensures node { (t : TaskState) → self.old.task ≡ Some t → self.new ≡ (store_row (setting context.now) self.old declared.now t word whole (entry_of self.old word.0)).0 }
         ensures step { (t : TaskState) → self.old.task ≡ Some t → result ≡ (store_row (setting context.now) self.old declared.now t word whole (entry_of self.old word.0)).1 }
     {
-        match self.cache.get(word) {
-            None if whole => self.register(context, declared, next, word, 0),
-            None => self.miss(context, word),
-            Some(Entry::Valid { value, .. }) => self.register(context, declared, next, word, value),
-            Some(Entry::Registered { value, pending }) => {
-                self.write(context, declared, next, word, value, pending);
+        let Probe::Hit { place, entry } = self.cache.probe(word) else {
+            return self.store_new(context, declared, next, word, whole);
+        };
+        match entry {
+            Entry::Valid { value, .. } => {
+                let target = Target {
+                    word,
+                    place,
+                    old: value,
+                };
+                self.register(context, declared, next, target)
+            }
+            Entry::Registered { value, pending } => {
+                let target = Target {
+                    word,
+                    place,
+                    old: value,
+                };
+                self.write(context, declared, next, target, pending);
                 silence()
             }
-            Some(Entry::Leaving(_)) => silence(),
+            Entry::Leaving(_) => silence(),
         }
     }
 

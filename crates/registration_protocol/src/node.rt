@@ -8,12 +8,14 @@ ghost use Rattle.registration_protocol.specs.Messages.{fills, read_fwd_row, data
 
 use crate::setting::{Context, declaration, start};
 use crate::signatures::empty_signatures;
-use dn_base::{BankId, CoreId, Grant, LoadSeen, LockId, Memory, PhaseId, Sequence, WordId};
+use dn_base::{
+    BankId, CoreId, Grant, LoadSeen, LockId, Memory, PhaseId, Sequence, WordId, remainder,
+};
 use message_net::{Actor, Message, Outgoing};
 use rv_core::{End, Need, TaskState};
 use std::alloc::Global;
 use std::marker::Model;
-use word_cache::{Entry, WordCache};
+use word_cache::{Entry, Probe, WordCache};
 use write_signature::Signature;
 
 /// What a node waits for.
@@ -93,7 +95,7 @@ pub(crate) fn send_home(context: &Context<'_>, number: u32, message: Message) ->
     ensures { Some result ≡ to_home (setting context.now).shape.banks number message }
 {
     Outgoing {
-        to: Actor::Bank(BankId(number % context.shape.banks)),
+        to: Actor::Bank(BankId(remainder(number, context.shape.banks))),
         message,
     }
 }
@@ -171,10 +173,13 @@ impl Node {
     fn may_access(&self, word: WordId) -> bool
         ensures { result ≡ may_access self.now word.0 (entry_of self.now word.0) }
     {
-        match self.cache.get(word) {
-            None => self.cache.room(word),
-            Some(Entry::Leaving(_)) => false,
-            Some(_) => true,
+        match self.cache.probe(word) {
+            Probe::Hit { entry, .. } => match entry {
+                Entry::Valid { .. } | Entry::Registered { .. } => true,
+                Entry::Leaving(_) => false,
+            },
+            Probe::Room => true,
+            Probe::Full => false,
         }
     }
 
@@ -279,18 +284,19 @@ impl Node {
         ensures node { self.new ≡ (evicted (setting context.now) self.old word).0 }
         ensures sent { result ≡ (evicted (setting context.now) self.old word).1 }
     {
-        match self.cache.get(word) {
-            Some(Entry::Valid { .. }) => {
-                self.cache.remove(word);
+        let Probe::Hit { place, entry } = self.cache.probe(word) else {
+            return None;
+        };
+        match entry {
+            Entry::Valid { .. } => {
+                self.cache.remove_at(place, word);
                 None
             }
-            Some(
-                Entry::Registered {
-                    value,
-                    pending: false,
-                },
-            ) => {
-                self.cache.change(word, Entry::Leaving(value));
+            Entry::Registered {
+                value,
+                pending: false,
+            } => {
+                self.cache.change_at(place, word, Entry::Leaving(value));
                 let core = self.core;
                 Some(send_home(context, word.0, Message::WriteBack { word, value, core }))
             }
@@ -314,18 +320,19 @@ impl Node {
         ensures node { self.new ≡ (reg_ack_row self.old word (entry_of self.old word.0)).0 }
         ensures received { result ≡ (reg_ack_row self.old word (entry_of self.old word.0)).1 }
     {
-        if let Some(
-            Entry::Registered {
-                value,
-                pending: true,
-            },
-        ) = self.cache.get(word)
+        let Probe::Hit { place, entry } = self.cache.probe(word) else {
+            return nothing();
+        };
+        if let Entry::Registered {
+            value,
+            pending: true,
+        } = entry
         {
             let entry = Entry::Registered {
                 value,
                 pending: false,
             };
-            self.cache.change(word, entry);
+            self.cache.change_at(place, word, entry);
         }
         nothing()
     }
@@ -335,10 +342,14 @@ impl Node {
         ensures node { self.new ≡ (reg_fwd_row self.old word core (entry_of self.old word.0)).0 }
         ensures received { result ≡ (reg_fwd_row self.old word core (entry_of self.old word.0)).1 }
     {
-        if let Some(Entry::Registered { pending: false, .. }) = self.cache.get(word) {
-            self.cache.remove(word);
+        let reply = send(core, Message::RegAck { word });
+        let Probe::Hit { place, entry } = self.cache.probe(word) else {
+            return reply;
+        };
+        if let Entry::Registered { pending: false, .. } = entry {
+            self.cache.remove_at(place, word);
         }
-        send(core, Message::RegAck { word })
+        reply
     }
 
     /// The home of a word has had it back.
@@ -346,8 +357,11 @@ impl Node {
         ensures node { self.new ≡ (wb_ack_row self.old word (entry_of self.old word.0)).0 }
         ensures received { result ≡ (wb_ack_row self.old word (entry_of self.old word.0)).1 }
     {
-        if let Some(Entry::Leaving(_)) = self.cache.get(word) {
-            self.cache.remove(word);
+        let Probe::Hit { place, entry } = self.cache.probe(word) else {
+            return nothing();
+        };
+        if let Entry::Leaving(_) = entry {
+            self.cache.remove_at(place, word);
         }
         nothing()
     }
@@ -356,6 +370,7 @@ impl Node {
 /// Shows that a value goes from thread to thread.
 fn crosses<T: Send>(_value: &T) {}
 
+/// A node may be sent to another thread. Nobody calls this; the check of its body proves it.
 fn node_crosses(node: &Node) {
     crosses(node);
 }

@@ -7,10 +7,10 @@ ghost use Rattle.registration_protocol.specs.Setting.{setting};
 
 use crate::node::{Node, NodeWait};
 use crate::setting::Context;
-use dn_base::WordId;
+use dn_base::{WordId, remainder};
 use message_net::{Event, Outgoing};
 use rv_core::{End, EndShown, Need, TaskEnd};
-use word_cache::Entry;
+use word_cache::{Entry, Probe};
 
 /// How a task stands that ended so, or that goes on at a node with this wait; None where it goes on and waits for no lock.
 fn shown(end: Option<End>, wait: NodeWait) -> Option<EndShown>
@@ -30,10 +30,9 @@ impl Node {
     fn crowded(&self, word: WordId) -> Option<WordId>
         ensures { result ≡ crowded self.now word }
     {
-        if self.cache.get(word).is_some() || self.cache.room(word) {
-            None
-        } else {
-            Some(word)
+        match self.cache.probe(word) {
+            Probe::Hit { .. } | Probe::Room => None,
+            Probe::Full => Some(word),
         }
     }
 
@@ -68,7 +67,9 @@ impl Node {
         let sets = context.shape.sets;
         let idle = !(self.halted || self.arrived) && self.wait == NodeWait::None;
         match wanted {
-            Some(wanted) => idle && word.0 % sets == wanted.0 % sets && self.may_go(word),
+            Some(wanted) => idle
+                && remainder(word.0, sets) == remainder(wanted.0, sets)
+                && self.may_go(word),
             None => false,
         }
     }

@@ -1,4 +1,7 @@
 -- A bank of the shared memory: what it holds, and what it does with each message.
+--
+-- `is_for_bank` and the functions `after_..` at the end are columns of `bank_gets`, for laws. That each is the column of its row is
+-- what the laws `other_kinds_change_nothing`, `words_change_by_their_own_messages` and `locks_change_by_their_own_messages` prove.
 use Rattle.std.specs.Prelude.{◌≡◌, ℕ, ◌+◌, ◌/◌, ◌%◌, ◌<◌, Bool, true, false, ◌&&◌, ◌==◌, nat_lt, List, [], ◌∷◌, length, map, replicate, slice_get, slice_set, Option, Some, None, if◌then◌else◌}
 use Rattle.dn_base.specs.declared.ids.CoreId.{CoreId}
 use Rattle.dn_base.specs.declared.ids.WordId.{WordId}

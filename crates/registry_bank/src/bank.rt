@@ -4,7 +4,7 @@ ghost use Rattle.message_net.specs.Mail.{to_core};
 ghost use Rattle.registry_bank.specs.declared.bank.BankWord.TheVariants.{Home};
 ghost use Rattle.registry_bank.specs.Bank.{BankParts, initial_bank, own_of, is_here, bank_word, bank_lock, lock_index, with_word, with_lock, reads, registers, takes_back, acquires, releases, grants, hands_on, from_core, bank_gets};
 
-use dn_base::{BankId, CoreId, LockId, Memory, WordId};
+use dn_base::{BankId, CoreId, LockId, Memory, WordId, quotient, remainder};
 use message_net::{Message, Outgoing};
 use queue_lock::LockHome;
 use std::alloc::Global;
@@ -161,8 +161,10 @@ impl Bank {
     pub fn word(&self, word: WordId) -> Option<BankWord>
         ensures { result ≡ bank_word self.now word.0 }
     {
-        if word.0 % self.banks == self.bank.0 {
-            self.words.get((word.0 / self.banks) as usize).copied()
+        if remainder(word.0, self.banks) == self.bank.0 {
+            self.words
+                .get(quotient(word.0, self.banks) as usize)
+                .copied()
         } else {
             None
         }
@@ -173,7 +175,7 @@ impl Bank {
         requires { word.0 / self.old.banks < length self.old.words }
         ensures { self.new ≡ with_word self.old word.0 content }
     {
-        self.words[(word.0 / self.banks) as usize] = content;
+        self.words[quotient(word.0, self.banks) as usize] = content;
     }
 
     /// A core asks for the value of a word: it gets it, or the registrant is told to send it.
@@ -217,8 +219,8 @@ impl Bank {
     fn lock_index(&self, lock: LockId) -> Option<usize>
         ensures { result ≡ lock_index self.now lock.0 }
     {
-        let index = (lock.0 / self.banks) as usize;
-        if lock.0 % self.banks == self.bank.0 && index < self.locks.len() {
+        let index = quotient(lock.0, self.banks) as usize;
+        if remainder(lock.0, self.banks) == self.bank.0 && index < self.locks.len() {
             Some(index)
         } else {
             None
@@ -277,6 +279,7 @@ impl Bank {
 /// Shows that a value goes from thread to thread, and may be shared.
 fn crosses<T: Send + Sync>(_value: &T) {}
 
+/// A bank may be sent to another thread, and shared with it. Nobody calls this; the check of its body proves it.
 fn bank_crosses(bank: &Bank) {
     crosses(bank);
 }

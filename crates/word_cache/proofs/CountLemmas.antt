@@ -6,7 +6,7 @@ use Rattle.std.proofs.lemmas.List.{get_or-take, get_or-drop}
 use Rattle.std.proofs.lemmas.Nat.{mul-le}
 use Rattle.std.proofs.lemmas.Bool.Decides.{nat_tests}
 use Rattle.word_cache.specs.declared.row.Place.{Place}
-use Rattle.std.specs.Option.{is_some, IfNone}
+use Rattle.std.specs.Option.{is_some}
 use Rattle.word_cache.specs.Cache.{Pair, shares_set, set_count, lookup}
 use Rattle.word_cache.proofs.RowLemmas.{get_none}
 use Rattle.word_cache.specs.Row.{pairs_by_use, has_word, IsOfSet, IsPlaceRow}
@@ -114,10 +114,9 @@ is_short sets ways w k d row good within at none =
     let fewer = count-short (is_in_set sets w) (take ways (drop (w % sets * ways) row)) (k - w % sets * ways) d (omega (arith, place, long)) empty in
     omega (arith, set_count-places sets w row, whole.0, fewer, long)
 
--- a set with room has a place without a pair
-pub has_free : (sets ways w : ℕ) (row : List Place) (o : Option ℕ) → IsPlaceRow sets ways row → ((k : ℕ) (d : Place) → k < length row → has_word w (get_or row k d) ≡ false) → (is_some (lookup w (pairs_by_use row)) || nat_lt (set_count sets w (pairs_by_use row)) ways) ≡ true → IfNone o ((k : ℕ) (d : Place) → k < length row → k / ways ≡ w % sets → (get_or row k d).pair ≢ None) → (k : ℕ) × (o ≡ Some k)
-has_free sets ways w row (Some k) good absent room none = (k, refl)
-has_free sets ways w row None good absent room none =
+-- a word that has a pair, or whose set has room, stands somewhere, or a place of its set has no pair
+pub some_spot : (sets ways w : ℕ) (row : List Place) → IsPlaceRow sets ways row → ((k : ℕ) (d : Place) → k < length row → has_word w (get_or row k d) ≡ false) → (is_some (lookup w (pairs_by_use row)) || nat_lt (set_count sets w (pairs_by_use row)) ways) ≡ true → ((k : ℕ) (d : Place) → k < length row → k / ways ≡ w % sets → (get_or row k d).pair ≢ None) → ⊥
+some_spot sets ways w row good absent room none =
     let full = is_full sets ways w row good none in
     let gone = get_none w row absent in
     let never : nat_lt ways ways ≡ true = rw (gone, full) at room in

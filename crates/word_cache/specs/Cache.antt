@@ -8,6 +8,8 @@ use Rattle.region_table.specs.Words.{has}
 use Rattle.write_signature.specs.declared.signature.Signature.{Signature}
 use Rattle.write_signature.specs.Signature.{may_hold}
 use Rattle.word_cache.specs.declared.row.Entry.{Entry}
+use Rattle.word_cache.specs.declared.row.Probe.{Probe}
+use Rattle.word_cache.specs.declared.row.Probe.TheVariants.{Hit, Room, Full}
 use Rattle.word_cache.specs.declared.row.Entry.TheVariants.{Valid, Registered, Leaving}
 
 -- a word and its entry
@@ -73,6 +75,12 @@ set_count sets w ps = count_by (shares_set sets w) ps
 -- whether the word's set has fewer pairs than it may have
 abbrev pub has_room : Cache → ℕ → Bool
 has_room c w = nat_lt (set_count c.sets w c.pairs) c.ways
+
+-- what a probe for a word tells: its entry; or that it has none, and whether its set has room
+abbrev pub IsProbe : Probe → Option Entry → Bool → Type 0
+IsProbe (Hit place e) entry room = entry ≡ Some e
+IsProbe Room entry room = (entry ≡ None) × (room ≡ true)
+IsProbe Full entry room = (entry ≡ None) × (room ≡ false)
 
 -- what holds of every cache: no two pairs are of one word, and no set has more pairs than it may have
 pub record IsCache (c : Cache) : Type 0 where
@@ -145,7 +153,8 @@ is_fresh signature phase words p = not (is_valid p.1 && has words p.0.0 && may_h
 abbrev pub dropped_signed : Signature → ℕ → List Interval → List Pair → List Pair
 dropped_signed signature phase words ps = filter (is_fresh signature phase words) ps
 
--- what is left of a word's entry at a phase's end, and at a grant
+-- what is left of a word's entry at a phase's end, and at a grant: columns of `dropped_written` and `dropped_signed`, for
+-- the law `each_entry_is_judged_alone`
 abbrev pub entry_after_phase : List Interval → ℕ → Option Entry → Option Entry
 entry_after_phase words w None = None
 entry_after_phase words w (Some e) = if is_kept e || not (has words w) then Some (unmarked e) else None

@@ -2,13 +2,14 @@ ghost use Rattle.std.specs.Prelude.{◌≡◌, ◌≢◌, ℕ, ◌+◌, ◌*◌,
 ghost use Rattle.std.specs.Option.{is_some};
 ghost use Rattle.std.specs.Prelude.{length};
 ghost use Rattle.std.specs.List.{filter};
-ghost use Rattle.word_cache.specs.Cache.{Cache, IsCache, in_set, lookup, put, changed, without, touched, has_room, victim_of, may_go, pending_count, dropped_written, dropped_signed};
+ghost use Rattle.word_cache.specs.Cache.{Cache, IsCache, in_set, lookup, put, changed, without, touched, has_room, IsProbe, victim_of, may_go, pending_count, dropped_written, dropped_signed};
 ghost use Rattle.word_cache.specs.Row.{IsCacheRow, HaveDistinctTimes, pairs_by_use};
 
 use crate::edits::{change_entry, recount, take_out, use_again, write_last};
 use crate::grant::drop_stale;
-use crate::looks::{entry_of, has_free, set_of, victim_in};
-use crate::row::{Entry, Place};
+use crate::looks::{entry_of, has_free, probe_of, set_of, victim_in};
+use crate::places::Row;
+use crate::row::{Entry, NO_PLACE, Place, Probe};
 use crate::sweep::sweep_phase;
 use dn_base::{Memory, PhaseId, WordId};
 use region_table::WordSet;
@@ -23,7 +24,7 @@ use write_signature::Signature;
 pub struct WordCache {
     sets: u32,
     ways: u32,
-    places: Vec<Place>,
+    places: Row,
     clock: u64,
     pending: u32,
 }
@@ -34,9 +35,9 @@ impl Model for WordCache {
 
     ghost Value = { Cache };
 
-    ghost view = { λ c. record { sets = c.sets; ways = c.ways; pairs = pairs_by_use c.places.items } };
+    ghost view = { λ c. record { sets = c.sets; ways = c.ways; pairs = pairs_by_use c.places } };
 
-    ghost invariant = { λ c. IsCacheState c.sets c.ways c.clock c.pending c.places.items };
+    ghost invariant = { λ c. IsCacheState c.sets c.ways c.clock c.pending c.places };
 }
 
 /// The places of an empty cache, numbered from 1.
@@ -73,7 +74,7 @@ impl WordCache {
         Ok(WordCache {
             sets,
             ways,
-            places: empty_places(alloc, sets, ways)?,
+            places: Row::new(alloc, empty_places(alloc, sets, ways)?)?,
             clock: u64::from(sets * ways) + 1,
             pending: 0,
         })
@@ -84,6 +85,14 @@ impl WordCache {
         ensures { result ≡ lookup word.0 self.now.pairs }
     {
         entry_of(self.places.as_slice(), self.sets, self.ways, word)
+    }
+
+    /// The word's entry, or whether its set has room where it has none: one pass over the word's set tells what `get` and
+    /// `room` tell. Takes no memory.
+    pub fn probe(&self, word: WordId) -> Probe
+        ensures { IsProbe result (lookup word.0 self.now.pairs) (has_room self.now word.0) }
+    {
+        probe_of(&self.places, self.sets, self.ways, word)
     }
 
     /// Whether the word's set has fewer pairs than it may have. Takes no memory.
@@ -113,10 +122,11 @@ impl WordCache {
         set_of(self.places.as_slice(), self.sets, self.ways, set)
     }
 
-    /// What holds of every cache: a word has one pair at the most, and a set has no more pairs than ways. Does nothing.
+    /// What holds of every cache: a word has one pair at most, and a set has no more pairs than ways. Does nothing.
     pub fn pairs_are_apart(&self)
         ensures { IsCache self.now }
     {
+        // for the proof alone: a read of a field brings the invariant of the cache, which is the law
         let _row = self.places.as_slice();
     }
 
@@ -133,11 +143,21 @@ impl WordCache {
         requires { (is_some (lookup word.0 self.old.pairs) || has_room self.old word.0) ≡ true }
         ensures { self.new ≡ record self.old { pairs = put word entry self.old.pairs } }
     {
+        self.set_at(NO_PLACE, word, entry);
+    }
+
+    /// As `set`, which needs no pass over the word's set where `place` is that of its last probe. Any other number serves
+    /// too.
+    pub fn set_at(&mut self, place: usize, word: WordId, entry: Entry)
+        requires { (is_some (lookup word.0 self.old.pairs) || has_room self.old word.0) ≡ true }
+        ensures { self.new ≡ record self.old { pairs = put word entry self.old.pairs } }
+    {
         let had = write_last(
             &mut self.places,
             &mut self.clock,
             self.sets,
             self.ways,
+            place,
             word,
             entry,
         );
@@ -149,7 +169,16 @@ impl WordCache {
         requires { lookup word.0 self.old.pairs ≢ None }
         ensures { self.new ≡ record self.old { pairs = changed word.0 entry self.old.pairs } }
     {
-        let had = change_entry(&mut self.places, self.sets, self.ways, word, entry);
+        self.change_at(NO_PLACE, word, entry);
+    }
+
+    /// As `change`, which needs no pass over the word's set where `place` is that of its last probe. Any other number serves
+    /// too.
+    pub fn change_at(&mut self, place: usize, word: WordId, entry: Entry)
+        requires { lookup word.0 self.old.pairs ≢ None }
+        ensures { self.new ≡ record self.old { pairs = changed word.0 entry self.old.pairs } }
+    {
+        let had = change_entry(&mut self.places, self.sets, self.ways, place, word, entry);
         self.pending = recount(self.pending, had, Some(entry));
     }
 
@@ -158,11 +187,21 @@ impl WordCache {
         requires { lookup word.0 self.old.pairs ≢ None }
         ensures { self.new ≡ record self.old { pairs = touched word self.old.pairs } }
     {
+        self.touch_at(NO_PLACE, word);
+    }
+
+    /// As `touch`, which needs no pass over the word's set where `place` is that of its last probe. Any other number serves
+    /// too.
+    pub fn touch_at(&mut self, place: usize, word: WordId)
+        requires { lookup word.0 self.old.pairs ≢ None }
+        ensures { self.new ≡ record self.old { pairs = touched word self.old.pairs } }
+    {
         use_again(
             &mut self.places,
             &mut self.clock,
             self.sets,
             self.ways,
+            place,
             word,
         );
     }
@@ -171,7 +210,15 @@ impl WordCache {
     pub fn remove(&mut self, word: WordId)
         ensures { self.new ≡ record self.old { pairs = without word.0 self.old.pairs } }
     {
-        let had = take_out(&mut self.places, self.sets, self.ways, word);
+        self.remove_at(NO_PLACE, word);
+    }
+
+    /// As `remove`, which needs no pass over the word's set where `place` is that of its last probe. Any other number serves
+    /// too.
+    pub fn remove_at(&mut self, place: usize, word: WordId)
+        ensures { self.new ≡ record self.old { pairs = without word.0 self.old.pairs } }
+    {
+        let had = take_out(&mut self.places, self.sets, self.ways, place, word);
         self.pending = recount(self.pending, had, None);
     }
 
@@ -203,6 +250,7 @@ impl WordCache {
 /// Shows that a value goes from thread to thread, and may be shared.
 fn crosses<T: Send + Sync>(_value: &T) {}
 
+/// A cache may be sent to another thread, and shared with it. Nobody calls this; the check of its body proves it.
 fn cache_crosses(cache: &WordCache) {
     crosses(cache);
 }

@@ -3,7 +3,8 @@ ghost use Rattle.std.specs.Option.{is_some};
 ghost use Rattle.word_cache.specs.Cache.{lookup, set_count, put, touched, changed, without, pending_bit};
 ghost use Rattle.word_cache.specs.Row.{IsPlaceRow, IsCacheRow, pairs_by_use};
 
-use crate::row::{Entry, Place, choose, entry_at, place_of};
+use crate::places::Row;
+use crate::row::{Entry, Place, choose_near, entry_at, place_near};
 use crate::times::tick;
 use dn_base::WordId;
 
@@ -26,85 +27,101 @@ pub(crate) fn recount(count: u32, old: Option<Entry>, new: Option<Entry>) -> u32
     count + pending_bit(new) - pending_bit(old)
 }
 
-/// Gives the word this entry, makes its pair the one used last, and hands back the entry that it had.
+/// Gives the word this entry, makes its pair the one used last, and hands back the entry that it had. The hint is where its
+/// pair may stand.
 pub(crate) fn write_last(
-    places: &mut Vec<Place>,
+    places: &mut Row,
     clock: &mut u64,
     sets: u32,
     ways: u32,
+    hint: usize,
     word: WordId,
     entry: Entry,
 ) -> Option<Entry>
-    requires row { IsCacheRow sets ways clock.old places.old.items }
-    requires room { (is_some (lookup word.0 (pairs_by_use places.old.items)) || nat_lt (set_count sets word.0 (pairs_by_use places.old.items)) ways) ≡ true }
-    ensures row { IsCacheRow sets ways clock.new places.new.items }
-    ensures pairs { pairs_by_use places.new.items ≡ put word entry (pairs_by_use places.old.items) }
-    ensures had { result ≡ lookup word.0 (pairs_by_use places.old.items) }
+    requires row { IsCacheRow sets ways clock.old places.old }
+    requires room { (is_some (lookup word.0 (pairs_by_use places.old)) || nat_lt (set_count sets word.0 (pairs_by_use places.old)) ways) ≡ true }
+    ensures row { IsCacheRow sets ways clock.new places.new }
+    ensures pairs { pairs_by_use places.new ≡ put word entry (pairs_by_use places.old) }
+    ensures had { result ≡ lookup word.0 (pairs_by_use places.old) }
 {
     let used = tick(places, clock, sets, ways);
-    let place = choose(places.as_slice(), sets, ways, word);
+    let place = choose_near(places, sets, ways, word, hint);
     let had = entry_at(places.as_slice(), place);
-    places[place] = Place {
-        pair: Some((word, entry)),
-        used,
-    };
+    places.set(
+        place,
+        Place {
+            pair: Some((word, entry)),
+            used,
+        },
+    );
     had
 }
 
-/// Gives the word's pair this entry, and hands back the one that it had.
+/// Gives the word's pair this entry, and hands back the one that it had. The hint is where the pair may stand.
 pub(crate) fn change_entry(
-    places: &mut Vec<Place>,
+    places: &mut Row,
     sets: u32,
     ways: u32,
+    hint: usize,
     word: WordId,
     entry: Entry,
 ) -> Option<Entry>
-    requires row { IsPlaceRow sets ways places.old.items }
-    requires there { lookup word.0 (pairs_by_use places.old.items) ≢ None }
-    ensures row { (clock : ℕ) → IsCacheRow sets ways clock places.old.items → IsCacheRow sets ways clock places.new.items }
-    ensures pairs { pairs_by_use places.new.items ≡ changed word.0 entry (pairs_by_use places.old.items) }
-    ensures had { result ≡ lookup word.0 (pairs_by_use places.old.items) }
+    requires row { IsPlaceRow sets ways places.old }
+    requires there { lookup word.0 (pairs_by_use places.old) ≢ None }
+    ensures row { (clock : ℕ) → IsCacheRow sets ways clock places.old → IsCacheRow sets ways clock places.new }
+    ensures pairs { pairs_by_use places.new ≡ changed word.0 entry (pairs_by_use places.old) }
+    ensures had { result ≡ lookup word.0 (pairs_by_use places.old) }
 {
-    let place = place_of(places.as_slice(), sets, ways, word)?;
+    let place = place_near(places.as_slice(), sets, ways, word, hint)?;
     let had = entry_at(places.as_slice(), place);
-    let Place { pair: _, used } = places[place];
-    places[place] = Place {
-        pair: Some((word, entry)),
-        used,
-    };
+    let Place { pair: _, used } = places.at(place);
+    places.set(
+        place,
+        Place {
+            pair: Some((word, entry)),
+            used,
+        },
+    );
     had
 }
 
-/// Makes the word's pair the one used last.
+/// Makes the word's pair the one used last. The hint is where it may stand.
 pub(crate) fn use_again(
-    places: &mut Vec<Place>,
+    places: &mut Row,
     clock: &mut u64,
     sets: u32,
     ways: u32,
+    hint: usize,
     word: WordId,
 )
-    requires row { IsCacheRow sets ways clock.old places.old.items }
-    requires there { lookup word.0 (pairs_by_use places.old.items) ≢ None }
-    ensures row { IsCacheRow sets ways clock.new places.new.items }
-    ensures pairs { pairs_by_use places.new.items ≡ touched word (pairs_by_use places.old.items) }
+    requires row { IsCacheRow sets ways clock.old places.old }
+    requires there { lookup word.0 (pairs_by_use places.old) ≢ None }
+    ensures row { IsCacheRow sets ways clock.new places.new }
+    ensures pairs { pairs_by_use places.new ≡ touched word (pairs_by_use places.old) }
 {
     let now = tick(places, clock, sets, ways);
-    if let Some(place) = place_of(places.as_slice(), sets, ways, word) {
-        let Place { pair, used: _ } = places[place];
-        places[place] = Place { pair, used: now };
+    if let Some(place) = place_near(places.as_slice(), sets, ways, word, hint) {
+        let Place { pair, used: _ } = places.at(place);
+        places.set(place, Place { pair, used: now });
     }
 }
 
-/// Takes the word's pair out, if it has one, and hands back the entry that it had.
-pub(crate) fn take_out(places: &mut Vec<Place>, sets: u32, ways: u32, word: WordId) -> Option<Entry>
-    requires row { IsPlaceRow sets ways places.old.items }
-    ensures row { (clock : ℕ) → IsCacheRow sets ways clock places.old.items → IsCacheRow sets ways clock places.new.items }
-    ensures pairs { pairs_by_use places.new.items ≡ without word.0 (pairs_by_use places.old.items) }
-    ensures had { result ≡ lookup word.0 (pairs_by_use places.old.items) }
+/// Takes the word's pair out, if it has one, and hands back the entry that it had. The hint is where the pair may stand.
+pub(crate) fn take_out(
+    places: &mut Row,
+    sets: u32,
+    ways: u32,
+    hint: usize,
+    word: WordId,
+) -> Option<Entry>
+    requires row { IsPlaceRow sets ways places.old }
+    ensures row { (clock : ℕ) → IsCacheRow sets ways clock places.old → IsCacheRow sets ways clock places.new }
+    ensures pairs { pairs_by_use places.new ≡ without word.0 (pairs_by_use places.old) }
+    ensures had { result ≡ lookup word.0 (pairs_by_use places.old) }
 {
-    let place = place_of(places.as_slice(), sets, ways, word)?;
+    let place = place_near(places.as_slice(), sets, ways, word, hint)?;
     let had = entry_at(places.as_slice(), place);
-    let Place { pair: _, used } = places[place];
-    places[place] = Place { pair: None, used };
+    let Place { pair: _, used } = places.at(place);
+    places.set(place, Place { pair: None, used });
     had
 }

@@ -6,7 +6,8 @@ ghost use Rattle.word_cache.specs.Row.{IsPlaceRow, IsCacheRow, pairs_by_use, is_
 
 use crate::edits::take_out;
 use crate::looks::entry_of;
-use crate::row::{Entry, Place};
+use crate::places::Row;
+use crate::row::{Entry, NO_PLACE, Place};
 use crate::sweep::sweep_grant;
 use dn_base::{PhaseId, WordId};
 use region_table::{Interval, WordSet};
@@ -39,35 +40,35 @@ fn is_stale(
 
 /// Drops the word's copy, if there is one that may be stale at a grant.
 fn drop_word(
-    places: &mut Vec<Place>,
+    places: &mut Row,
     sets: u32,
     ways: u32,
     signature: &Signature,
     phase: PhaseId,
     word: WordId,
 )
-    requires row { IsPlaceRow sets ways places.old.items }
-    ensures row { (clock : ℕ) → IsCacheRow sets ways clock places.old.items → IsCacheRow sets ways clock places.new.items }
-    ensures pairs { pairs_by_use places.new.items ≡ dropped_signed signature.now phase.0 (record { lo = word.0; hi = word.0 + 1 } ∷ []) (pairs_by_use places.old.items) }
+    requires row { IsPlaceRow sets ways places.old }
+    ensures row { (clock : ℕ) → IsCacheRow sets ways clock places.old → IsCacheRow sets ways clock places.new }
+    ensures pairs { pairs_by_use places.new ≡ dropped_signed signature.now phase.0 (record { lo = word.0; hi = word.0 + 1 } ∷ []) (pairs_by_use places.old) }
 {
     if is_stale(places.as_slice(), sets, ways, signature, phase, word) {
-        take_out(places, sets, ways, word);
+        take_out(places, sets, ways, NO_PLACE, word);
     }
 }
 
 /// Drops what may be stale at a grant of the words of an interval, word by word.
 fn drop_interval(
-    places: &mut Vec<Place>,
+    places: &mut Row,
     sets: u32,
     ways: u32,
     signature: &Signature,
     phase: PhaseId,
     interval: Interval,
 )
-    requires row { IsPlaceRow sets ways places.old.items }
+    requires row { IsPlaceRow sets ways places.old }
     requires order { interval.lo ≤ interval.hi }
-    ensures row { (clock : ℕ) → IsCacheRow sets ways clock places.old.items → IsCacheRow sets ways clock places.new.items }
-    ensures pairs { pairs_by_use places.new.items ≡ dropped_signed signature.now phase.0 (interval ∷ []) (pairs_by_use places.old.items) }
+    ensures row { (clock : ℕ) → IsCacheRow sets ways clock places.old → IsCacheRow sets ways clock places.new }
+    ensures pairs { pairs_by_use places.new ≡ dropped_signed signature.now phase.0 (interval ∷ []) (pairs_by_use places.old) }
 {
     for number in interval.lo..interval.hi {
         drop_word(places, sets, ways, signature, phase, WordId(number));
@@ -76,24 +77,24 @@ fn drop_interval(
 
 /// Drops what may be stale at a grant of the words of intervals, word by word.
 fn drop_each(
-    places: &mut Vec<Place>,
+    places: &mut Row,
     sets: u32,
     ways: u32,
     signature: &Signature,
     phase: PhaseId,
     intervals: &[Interval],
 )
-    requires row { IsPlaceRow sets ways places.old.items }
+    requires row { IsPlaceRow sets ways places.old }
     requires order { All (λ (i : Interval). i.lo ≤ i.hi) intervals.now }
-    ensures row { (clock : ℕ) → IsCacheRow sets ways clock places.old.items → IsCacheRow sets ways clock places.new.items }
-    ensures pairs { pairs_by_use places.new.items ≡ dropped_signed signature.now phase.0 intervals.now (pairs_by_use places.old.items) }
+    ensures row { (clock : ℕ) → IsCacheRow sets ways clock places.old → IsCacheRow sets ways clock places.new }
+    ensures pairs { pairs_by_use places.new ≡ dropped_signed signature.now phase.0 intervals.now (pairs_by_use places.old) }
 {
     for interval in intervals {
         drop_interval(places, sets, ways, signature, phase, *interval);
     }
 }
 
-/// Whether intervals have so many words at the most.
+/// Whether intervals have so many words at most.
 fn are_within(intervals: &[Interval], most: usize) -> bool
     ensures { result ≡ nat_le (interval_words intervals.now) most }
 {
@@ -110,16 +111,16 @@ fn are_within(intervals: &[Interval], most: usize) -> bool
 
 /// Drops what may be stale at a grant: word by word where the words are no more than the places, else place by place.
 pub(crate) fn drop_stale(
-    places: &mut Vec<Place>,
+    places: &mut Row,
     sets: u32,
     ways: u32,
     signature: &Signature,
     phase: PhaseId,
     words: &WordSet,
 )
-    requires row { IsPlaceRow sets ways places.old.items }
-    ensures row { (clock : ℕ) → IsCacheRow sets ways clock places.old.items → IsCacheRow sets ways clock places.new.items }
-    ensures pairs { pairs_by_use places.new.items ≡ dropped_signed signature.now phase.0 words.now (pairs_by_use places.old.items) }
+    requires row { IsPlaceRow sets ways places.old }
+    ensures row { (clock : ℕ) → IsCacheRow sets ways clock places.old → IsCacheRow sets ways clock places.new }
+    ensures pairs { pairs_by_use places.new ≡ dropped_signed signature.now phase.0 words.now (pairs_by_use places.old) }
 {
     if are_within(words.intervals(), places.len()) {
         drop_each(places, sets, ways, signature, phase, words.intervals());

@@ -10,6 +10,7 @@ mod edits;
 mod grant;
 mod laws;
 mod looks;
+mod places;
 mod row;
 mod sweep;
 mod times;
@@ -19,4 +20,4 @@ pub use laws::{
     a_cache_stays_a_cache, a_full_set_waits, an_entry_changes_alone, each_entry_is_judged_alone,
     pending_entries_are_counted,
 };
-pub use row::{Entry, Place};
+pub use row::{Entry, Place, Probe};

@@ -2,10 +2,13 @@ ghost use Rattle.std.specs.Prelude.{◌≡◌, ◌<◌, ◌≤◌, true, IfSome,
 ghost use Rattle.std.specs.List.{find, filter};
 ghost use Rattle.std.specs.Option.{option_map};
 ghost use Rattle.word_cache.specs.declared.row.Place.{Place};
-ghost use Rattle.word_cache.specs.Cache.{Pair, in_set, lookup, set_count, gives_way, may_go};
+ghost use Rattle.word_cache.specs.Cache.{Pair, in_set, lookup, set_count, gives_way, may_go, IsProbe};
 ghost use Rattle.word_cache.specs.Row.{IsPlaceRow, HaveDistinctTimes, pairs_by_use};
 
-use crate::row::{Entry, Place, entry_at, free_place, place_of, victim_place};
+use crate::places::Row;
+use crate::row::{
+    Entry, Place, Probe, Spot, entry_at, free_place, place_of, spot_of, victim_place,
+};
 use dn_base::WordId;
 
 /// The word's entry, if it has a pair. It looks at the word's set alone.
@@ -16,6 +19,21 @@ pub(crate) fn entry_of(row: &[Place], sets: u32, ways: u32, word: WordId) -> Opt
     match place_of(row, sets, ways, word) {
         Some(place) => entry_at(row, place),
         None => None,
+    }
+}
+
+/// What the row has for the word. It looks at the word's set alone, and once.
+pub(crate) fn probe_of(row: &Row, sets: u32, ways: u32, word: WordId) -> Probe
+    requires { IsPlaceRow sets ways row.now }
+    ensures { IsProbe result (lookup word.0 (pairs_by_use row.now)) (nat_lt (set_count sets word.0 (pairs_by_use row.now)) ways) }
+{
+    match spot_of(row, sets, ways, word) {
+        Spot::Pair(place) => match entry_at(row.as_slice(), place) {
+            Some(entry) => Probe::Hit { place, entry },
+            None => Probe::Full,
+        },
+        Spot::Free(_) => Probe::Room,
+        Spot::Nowhere => Probe::Full,
     }
 }
 

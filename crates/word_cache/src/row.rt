@@ -5,9 +5,10 @@ ghost use Rattle.word_cache.specs.Row.{IsPlaceRow, has_word};
 ghost use Rattle.std.specs.Prelude.{◌||◌, nat_lt};
 ghost use Rattle.std.specs.Option.{is_some, option_map};
 ghost use Rattle.word_cache.specs.Cache.{Pair, lookup, set_count};
-ghost use Rattle.word_cache.specs.Row.{pairs_by_use, MayHold, IsLeastUsed, earlier, place_gives_way, place_may_go, is_from};
+ghost use Rattle.word_cache.specs.Row.{pairs_by_use, MayHold, IsSpot, IsLeastUsed, earlier, place_gives_way, place_may_go, is_from};
 
-use dn_base::WordId;
+use crate::places::Row;
+use dn_base::{WordId, remainder};
 
 /// What a core's cache has for a word.
 #[derive(Clone, Copy, Debug, PartialEq, Eq)]
@@ -43,6 +44,20 @@ impl Entry {
     }
 }
 
+/// A hint that fits no place.
+pub(crate) const NO_PLACE: usize = usize::MAX;
+
+/// What a cache has for a word.
+#[derive(Clone, Copy, Debug, PartialEq, Eq)]
+pub enum Probe {
+    /// The word has this entry. `place` is a hint: the calls that take it again find the word's pair at once.
+    Hit { place: usize, entry: Entry },
+    /// The word has no entry, and its set has room for one.
+    Room,
+    /// The word has no entry, and its set has no room for one.
+    Full,
+}
+
 /// A place of a cache: the pair that stands there, if there is one, and the number of its last use.
 #[derive(Clone, Copy, Debug, PartialEq, Eq)]
 pub struct Place {
@@ -67,7 +82,7 @@ pub(crate) fn start_of(sets: u32, ways: u32, word: WordId) -> usize
     requires most_ways { ways ≤ 16 }
     ensures { result ≡ word.0 % sets * ways }
 {
-    (word.0 % sets * ways) as usize
+    (remainder(word.0, sets) * ways) as usize
 }
 
 /// The place of the word's pair, if it has one. It looks at the word's set alone.
@@ -84,6 +99,62 @@ pub(crate) fn place_of(row: &[Place], sets: u32, ways: u32, word: WordId) -> Opt
         }
     }
     None
+}
+
+/// The place of the word's pair, if it has one; the hint is where it may stand.
+pub(crate) fn place_near(
+    row: &[Place],
+    sets: u32,
+    ways: u32,
+    word: WordId,
+    hint: usize,
+) -> Option<usize>
+    requires { IsPlaceRow sets ways row.now }
+    ensures within { IfSome result (λ k. k < length row.now) }
+    ensures some { IfSome result (λ k. (d : Place) → has_word word.0 (slice_index_or row.now k d) ≡ true) }
+    ensures none { IfNone result ((k : ℕ) (d : Place) → k < length row.now → has_word word.0 (slice_index_or row.now k d) ≡ false) }
+{
+    if hint < row.len() && has_word(&row[hint], word) {
+        Some(hint)
+    } else {
+        place_of(row, sets, ways, word)
+    }
+}
+
+/// What one pass over the word's set finds for the word.
+#[derive(Clone, Copy, Debug, PartialEq, Eq)]
+pub(crate) enum Spot {
+    /// The place of its pair.
+    Pair(usize),
+    /// It has no pair, and this place of its set has none.
+    Free(usize),
+    /// It has no pair, and no place of its set is free.
+    Nowhere,
+}
+
+/// Where the word's pair stands, or else a free place of its set. It looks at the word's set alone, and once.
+pub(crate) fn spot_of(row: &Row, sets: u32, ways: u32, word: WordId) -> Spot
+    requires { IsPlaceRow sets ways row.now }
+    ensures { IsSpot sets ways word.0 row.now result }
+{
+    let start = start_of(sets, ways, word);
+    let mut own: Option<usize> = None;
+    let mut free: Option<usize> = None;
+
+    // goes on where the pair is found: an exit that depends on the word costs more than the places behind it
+    for index in start..start + ways as usize {
+        if row.has_word(index, word) {
+            own = Some(index);
+        }
+        if row.is_free(index) {
+            free = Some(index);
+        }
+    }
+    match (own, free) {
+        (Some(place), _) => Spot::Pair(place),
+        (None, Some(place)) => Spot::Free(place),
+        (None, None) => Spot::Nowhere,
+    }
 }
 
 /// A place of the word's set without a pair, if there is one.
@@ -115,7 +186,7 @@ pub(crate) fn entry_at(row: &[Place], place: usize) -> Option<Entry>
 }
 
 /// The place for the word's pair: the one that it has, or a free one of its set. The word has a pair, or its set has room.
-pub(crate) fn choose(row: &[Place], sets: u32, ways: u32, word: WordId) -> usize
+pub(crate) fn choose(row: &Row, sets: u32, ways: u32, word: WordId) -> usize
     requires row { IsPlaceRow sets ways row.now }
     requires room { (is_some (lookup word.0 (pairs_by_use row.now)) || nat_lt (set_count sets word.0 (pairs_by_use row.now)) ways) ≡ true }
     ensures within { result < length row.now }
@@ -123,9 +194,25 @@ pub(crate) fn choose(row: &[Place], sets: u32, ways: u32, word: WordId) -> usize
     ensures may { (d : Place) → MayHold word.0 (slice_index_or row.now result d).pair }
     ensures others { (j : ℕ) (d : Place) → j < length row.now → j ≢ result → has_word word.0 (slice_index_or row.now j d) ≡ false }
 {
-    match place_of(row, sets, ways, word) {
-        Some(place) => place,
-        None => free_place(row, sets, ways, word).unwrap_or(0),
+    match spot_of(row, sets, ways, word) {
+        Spot::Pair(place) | Spot::Free(place) => place,
+        Spot::Nowhere => 0,
+    }
+}
+
+/// The place for the word's pair, as `choose` gives it; the hint is where the word may stand.
+pub(crate) fn choose_near(row: &Row, sets: u32, ways: u32, word: WordId, hint: usize) -> usize
+    requires row { IsPlaceRow sets ways row.now }
+    requires room { (is_some (lookup word.0 (pairs_by_use row.now)) || nat_lt (set_count sets word.0 (pairs_by_use row.now)) ways) ≡ true }
+    ensures within { result < length row.now }
+    ensures set { result / ways ≡ word.0 % sets }
+    ensures may { (d : Place) → MayHold word.0 (slice_index_or row.now result d).pair }
+    ensures others { (j : ℕ) (d : Place) → j < length row.now → j ≢ result → has_word word.0 (slice_index_or row.now j d) ≡ false }
+{
+    if hint < row.len() && row.has_word(hint, word) {
+        hint
+    } else {
+        choose(row, sets, ways, word)
     }
 }
 

@@ -1,6 +1,7 @@
 ghost use Rattle.std.specs.Prelude.{◌≡◌, map};
 ghost use Rattle.word_cache.specs.Row.{pair_after_phase, pair_after_grant, after_phase, after_grant};
 
+use crate::places::Row;
 use crate::row::{Entry, Place};
 use dn_base::{PhaseId, WordId};
 use region_table::WordSet;
@@ -29,15 +30,18 @@ fn pair_kept(pair: Option<(WordId, Entry)>, words: &WordSet) -> Option<(WordId, 
 }
 
 /// Drops what a phase leaves stale, place by place.
-pub(crate) fn sweep_phase(places: &mut Vec<Place>, words: &WordSet)
-    ensures { places.new.items ≡ map (after_phase words.now) places.old.items }
+pub(crate) fn sweep_phase(places: &mut Row, words: &WordSet)
+    ensures { places.new ≡ map (after_phase words.now) places.old }
 {
     for index in 0..places.len() {
-        let Place { pair, used } = places[index];
-        places[index] = Place {
-            pair: pair_kept(pair, words),
-            used,
-        };
+        let Place { pair, used } = places.at(index);
+        places.set(
+            index,
+            Place {
+                pair: pair_kept(pair, words),
+                used,
+            },
+        );
     }
 }
 
@@ -58,19 +62,17 @@ fn pair_trusted(
 }
 
 /// Drops what may be stale at a grant, place by place.
-pub(crate) fn sweep_grant(
-    places: &mut Vec<Place>,
-    signature: &Signature,
-    phase: PhaseId,
-    words: &WordSet,
-)
-    ensures { places.new.items ≡ map (after_grant signature.now phase.0 words.now) places.old.items }
+pub(crate) fn sweep_grant(places: &mut Row, signature: &Signature, phase: PhaseId, words: &WordSet)
+    ensures { places.new ≡ map (after_grant signature.now phase.0 words.now) places.old }
 {
     for index in 0..places.len() {
-        let Place { pair, used } = places[index];
-        places[index] = Place {
-            pair: pair_trusted(pair, signature, phase, words),
-            used,
-        };
+        let Place { pair, used } = places.at(index);
+        places.set(
+            index,
+            Place {
+                pair: pair_trusted(pair, signature, phase, words),
+                used,
+            },
+        );
     }
 }

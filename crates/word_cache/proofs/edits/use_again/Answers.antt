@@ -9,30 +9,30 @@ use Rattle.word_cache.proofs.edits.use_again.Goals as goal
 pub returns-in-Some-clause-row : goal.returns-in-Some-clause-row
 returns-in-Some-clause-row c =
     let within = rw c.as_slice.ensures.value at c.in-Some.ensures.within in
-    let here = rw c.as_slice.ensures.value at (c.in-Some.ensures.some c.index.result.now) in
-    let mine = pair_there c.args.word (get_or c.tick-now.new.places.items c.in-Some.place c.index.result.now).pair here in
-    let same = ap (λ (p : Place). p.pair) c.index.ensures ∙ mine.1 in
-    let did = wrote c.args.sets c.args.ways c.in-Some.place c.tick-now.result c.index.result.now c.args.word mine.0 c.tick-now.new.places.items c.tick-now.ensures.row within c.tick-now.ensures.before
-    (place_of_word c.args.sets c.args.ways c.args.word.0 c.in-Some.place c.index.result.now c.tick-now.new.places.items c.tick-now.ensures.row within here)
-    (may_hold c.args.word.0 (get_or c.tick-now.new.places.items c.in-Some.place c.index.result.now).pair here)
-    (nowhere_else c.args.sets c.args.ways c.args.word.0 c.in-Some.place c.index.result.now c.tick-now.new.places.items c.tick-now.ensures.row within here) in
-    rw (same, c.tick-now.ensures.clock) did.0
+    let here = rw c.as_slice.ensures.value at (c.in-Some.ensures.some c.at-pair.result) in
+    let mine = pair_there c.args.word (get_or c.tick-now.new.places c.in-Some.place c.at-pair.result).pair here in
+    let same = ap (λ (p : Place). p.pair) (c.at-pair.ensures c.at-pair.result) ∙ mine.1 in
+    let did = wrote c.args.sets c.args.ways c.in-Some.place c.tick-now.result c.at-pair.result c.args.word mine.0 c.tick-now.new.places c.tick-now.ensures.row within c.tick-now.ensures.before
+    (place_of_word c.args.sets c.args.ways c.args.word.0 c.in-Some.place c.at-pair.result c.tick-now.new.places c.tick-now.ensures.row within here)
+    (may_hold c.args.word.0 (get_or c.tick-now.new.places c.in-Some.place c.at-pair.result).pair here)
+    (nowhere_else c.args.sets c.args.ways c.args.word.0 c.in-Some.place c.at-pair.result c.tick-now.new.places c.tick-now.ensures.row within here) in
+    rw (c.set.ensures, same, c.tick-now.ensures.clock) did.0
 
 pub returns-in-Some-clause-pairs : goal.returns-in-Some-clause-pairs
 returns-in-Some-clause-pairs c =
     let within = rw c.as_slice.ensures.value at c.in-Some.ensures.within in
-    let here = rw c.as_slice.ensures.value at (c.in-Some.ensures.some c.index.result.now) in
-    let mine = pair_there c.args.word (get_or c.tick-now.new.places.items c.in-Some.place c.index.result.now).pair here in
-    let same = ap (λ (p : Place). p.pair) c.index.ensures ∙ mine.1 in
-    let did = wrote c.args.sets c.args.ways c.in-Some.place c.tick-now.result c.index.result.now c.args.word mine.0 c.tick-now.new.places.items c.tick-now.ensures.row within c.tick-now.ensures.before
-    (place_of_word c.args.sets c.args.ways c.args.word.0 c.in-Some.place c.index.result.now c.tick-now.new.places.items c.tick-now.ensures.row within here)
-    (may_hold c.args.word.0 (get_or c.tick-now.new.places.items c.in-Some.place c.index.result.now).pair here)
-    (nowhere_else c.args.sets c.args.ways c.args.word.0 c.in-Some.place c.index.result.now c.tick-now.new.places.items c.tick-now.ensures.row within here) in
-    let found = get_some c.args.sets c.args.ways c.in-Some.place c.index.result.now c.args.word mine.0 c.tick-now.new.places.items c.tick-now.ensures.row within mine.1 in
-    rw (same, ← c.tick-now.ensures.pairs) (did.1 ∙ sym (touched_is c.args.word mine.0 (pairs_by_use c.tick-now.new.places.items) found))
+    let here = rw c.as_slice.ensures.value at (c.in-Some.ensures.some c.at-pair.result) in
+    let mine = pair_there c.args.word (get_or c.tick-now.new.places c.in-Some.place c.at-pair.result).pair here in
+    let same = ap (λ (p : Place). p.pair) (c.at-pair.ensures c.at-pair.result) ∙ mine.1 in
+    let did = wrote c.args.sets c.args.ways c.in-Some.place c.tick-now.result c.at-pair.result c.args.word mine.0 c.tick-now.new.places c.tick-now.ensures.row within c.tick-now.ensures.before
+    (place_of_word c.args.sets c.args.ways c.args.word.0 c.in-Some.place c.at-pair.result c.tick-now.new.places c.tick-now.ensures.row within here)
+    (may_hold c.args.word.0 (get_or c.tick-now.new.places c.in-Some.place c.at-pair.result).pair here)
+    (nowhere_else c.args.sets c.args.ways c.args.word.0 c.in-Some.place c.at-pair.result c.tick-now.new.places c.tick-now.ensures.row within here) in
+    let found = get_some c.args.sets c.args.ways c.in-Some.place c.at-pair.result c.args.word mine.0 c.tick-now.new.places c.tick-now.ensures.row within mine.1 in
+    rw (c.set.ensures, same, ← c.tick-now.ensures.pairs) (did.1 ∙ sym (touched_is c.args.word mine.0 (pairs_by_use c.tick-now.new.places) found))
 
 pub returns-in_default-clause-pairs : goal.returns-in_default-clause-pairs
 returns-in_default-clause-pairs c =
-    let absent = rw c.as_slice.ensures.value at (rw c.in_default.is at c.place_of.ensures.none) in
-    let none = get_none c.args.word.0 c.tick-now.new.places.items absent in
+    let absent = rw c.as_slice.ensures.value at (rw c.in_default.is at c.place_near.ensures.none) in
+    let none = get_none c.args.word.0 c.tick-now.new.places absent in
     absurd (c.requires.there (ap (lookup c.args.word.0) (sym c.tick-now.ensures.pairs) ∙ none))

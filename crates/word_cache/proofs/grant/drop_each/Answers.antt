@@ -13,14 +13,14 @@ pub loop-interval-init : goal.loop-interval-init
 loop-interval-init c = record {
   still = c.requires.row;
   row = λ clock good. good;
-  pairs = sym (dropped-none c.args.signature.now c.args.phase.0 [] (λ v. refl) (pairs_by_use c.args.places.now.items));
+  pairs = sym (dropped-none c.args.signature.now c.args.phase.0 [] (λ v. refl) (pairs_by_use c.args.places.now));
 }
 
 pub loop-interval-preserved : goal.loop-interval-preserved
 loop-interval-preserved c = record {
-  still = row-stays c.args.sets c.args.ways c.loop-interval.places.items c.drop_interval.new.places.items c.loop-interval.invariant.still c.drop_interval.ensures.row;
+  still = row-stays c.args.sets c.args.ways c.loop-interval.places c.drop_interval.new.places c.loop-interval.invariant.still c.drop_interval.ensures.row;
   row = λ clock good. c.drop_interval.ensures.row clock (c.loop-interval.invariant.row clock good);
   pairs = c.drop_interval.ensures.pairs
       ∙ ap (dropped_signed c.args.signature.now c.args.phase.0 (get_or c.args.intervals.now c.loop-interval.interval-index some_interval ∷ [])) c.loop-interval.invariant.pairs
-      ∙ dropped-both c.args.signature.now c.args.phase.0 (take c.loop-interval.interval-index c.args.intervals.now) (get_or c.args.intervals.now c.loop-interval.interval-index some_interval ∷ []) (take (c.loop-interval.interval-index + 1) c.args.intervals.now) (λ v. has-more c.args.intervals.now c.loop-interval.interval-index some_interval v c.loop-interval-test.true) (pairs_by_use c.args.places.now.items);
+      ∙ dropped-both c.args.signature.now c.args.phase.0 (take c.loop-interval.interval-index c.args.intervals.now) (get_or c.args.intervals.now c.loop-interval.interval-index some_interval ∷ []) (take (c.loop-interval.interval-index + 1) c.args.intervals.now) (λ v. has-more c.args.intervals.now c.loop-interval.interval-index some_interval v c.loop-interval-test.true) (pairs_by_use c.args.places.now);
 }

@@ -10,8 +10,8 @@ drop_each-requires-clause-order c =
 
 pub returns-else-are_within-clause-row : goal.returns-else-are_within-clause-row
 returns-else-are_within-clause-row c clock good =
-    rw c.sweep_grant.ensures (row_after_grant c.args.signature.now c.args.phase.0 c.args.words.now c.args.sets c.args.ways clock c.args.places.now.items good)
+    rw c.sweep_grant.ensures (row_after_grant c.args.signature.now c.args.phase.0 c.args.words.now c.args.sets c.args.ways clock c.args.places.now good)
 
 pub returns-else-are_within-clause-pairs : goal.returns-else-are_within-clause-pairs
 returns-else-are_within-clause-pairs c =
-    ap pairs_by_use c.sweep_grant.ensures ∙ swept_grant c.args.signature.now c.args.phase.0 c.args.words.now c.args.places.now.items
+    ap pairs_by_use c.sweep_grant.ensures ∙ swept_grant c.args.signature.now c.args.phase.0 c.args.words.now c.args.places.now

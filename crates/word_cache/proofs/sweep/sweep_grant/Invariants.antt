@@ -4,4 +4,4 @@ use Rattle.word_cache.proofs.sweep.sweep_grant.Given as goal
 
 abbrev pub invariant-loop-index : goal.invariant-loop-index
 invariant-loop-index l =
-    l.places.items ≡ map (after_grant l.signature l.phase.0 l.words) (take l.index l.initial.places.items) ++ drop l.index l.initial.places.items
+    l.places ≡ map (after_grant l.signature l.phase.0 l.words) (take l.index l.initial.places) ++ drop l.index l.initial.places

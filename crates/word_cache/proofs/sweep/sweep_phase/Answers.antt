@@ -5,5 +5,5 @@ use Rattle.word_cache.proofs.sweep.sweep_phase.Goals as goal
 
 pub loop-index-preserved : goal.loop-index-preserved
 loop-index-preserved c =
-    let within : c.loop-index.index < length c.args.places.now.items = omega (arith, c.loop-index-test.true, c.args.places.now.ok) in
-    rw c.pair_kept.ensures (swept-step (after_phase c.args.words.now) c.args.places.now.items c.loop-index.places.items c.loop-index.index c.index.result.now c.loop-index.invariant c.index.ensures within)
+    let within : c.loop-index.index < length c.args.places.now = omega (arith, c.loop-index-test.true, c.len-index-end.ensures) in
+    rw (c.set.ensures, c.pair_kept.ensures) (swept-step (after_phase c.args.words.now) c.args.places.now c.loop-index.places c.loop-index.index c.at-pair.result c.loop-index.invariant (c.at-pair.ensures c.at-pair.result) within)

@@ -5,11 +5,11 @@ use Rattle.word_cache.proofs.times.renumber.Given as goal
 
 abbrev pub invariant-loop-place : goal.invariant-loop-place
 invariant-loop-place l = record {
-  row : IsPlaceRow l.sets l.ways l.places.items;
-  pairs : pairs_by_use l.places.items ≡ pairs_by_use l.fn.places.items;
-  count : l.time + count_by (is_from l.time) l.places.items ≡ l.sets * l.ways + 1;
+  row : IsPlaceRow l.sets l.ways l.places;
+  pairs : pairs_by_use l.places ≡ pairs_by_use l.fn.places;
+  count : l.time + count_by (is_from l.time) l.places ≡ l.sets * l.ways + 1;
   first : 1 ≤ l.time;
 }
 
 abbrev pub decreases-loop-place : goal.decreases-loop-place
-decreases-loop-place l = count_by (is_from l.time) l.places.items
+decreases-loop-place l = count_by (is_from l.time) l.places

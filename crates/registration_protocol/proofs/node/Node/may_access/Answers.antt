@@ -1,8 +1,8 @@
-use Rattle.std.proofs.Common.{◌≡◌, None, sym, ◌∙◌}
-use Rattle.word_cache.specs.Cache.{lookup}
+use Rattle.std.proofs.Common.{sym}
 use Rattle.registration_protocol.proofs.node.Node.may_access.Goals as goal
 
-pub returns-in-None : goal.returns-in-None
-returns-in-None c =
-    let none : lookup c.args.word.0 c.self.inside.cache.pairs ≡ None = sym c.get.ensures ∙ c.in-None.is in
-    rw (← c.self.view_is, none) c.room.ensures
+pub returns-in-Full : goal.returns-in-Full
+returns-in-Full c = rw (← c.self.view_is, c.in-Full.ensures.0) (sym c.in-Full.ensures.1)
+
+pub returns-in-Room : goal.returns-in-Room
+returns-in-Room c = rw (← c.self.view_is, c.in-Room.ensures.0) (sym c.in-Room.ensures.1)

@@ -9,9 +9,9 @@ pub invariant_of-self : goal.invariant_of-self
 invariant_of-self c =
     rw c.sweep_phase.ensures
     record {
-      row_is = row_after_phase c.args.words.now c.self.inside.sets c.self.inside.ways c.self.inside.clock c.self.inside.places.items c.self.invariant.row_is;
-      counted = c.self.invariant.counted ∙ sym (pending_count-dropped_written c.args.words.now (pairs_by_use c.self.inside.places.items)) ∙ ap pending_count (sym (swept_phase c.args.words.now c.self.inside.places.items));
+      row_is = row_after_phase c.args.words.now c.self.inside.sets c.self.inside.ways c.self.inside.clock c.self.inside.places c.self.invariant.row_is;
+      counted = c.self.invariant.counted ∙ sym (pending_count-dropped_written c.args.words.now (pairs_by_use c.self.inside.places)) ∙ ap pending_count (sym (swept_phase c.args.words.now c.self.inside.places));
     }
 
 pub returns : goal.returns
-returns c = rw (← c.self.view_is, c.sweep_phase.ensures, swept_phase c.args.words.now c.self.inside.places.items) refl
+returns c = rw (← c.self.view_is, c.sweep_phase.ensures, swept_phase c.args.words.now c.self.inside.places) refl
