@@ -1,7 +1,7 @@
 -- A look at an instruction that was decoded before is a look at the word.
 use Rattle.std.proofs.Common.{◌≡◌, ℕ, ◌-◌, ◌/◌, ◌%◌, Bool, true, false, ◌&&◌, ◌==◌, nat_le, cond, List, map, slice_get, Option, Some, None, option_map, refl, sym, ap, ◌∙◌, arith}
 use Rattle.std.proofs.lemmas.Bool.Decides.{nat_tests}
-use Rattle.std.proofs.lemmas.Option.{none-some, same_Some, slice_get-map}
+use Rattle.std.proofs.lemmas.Option.{none-some, slice_get-map}
 use Rattle.region_table.specs.Program.{ProgramParts}
 use Rattle.region_table.specs.declared.declared.TaskDecl.{TaskDecl}
 use Rattle.rv_isa.specs.Encoding.{decoded}
@@ -37,6 +37,7 @@ known-need : (P : ProgramParts) (d : TaskDecl) (t : TaskState) (i : Instr) (o : 
 known-need P d t i None e = absurd (none-some i e)
 known-need P d t i (Some word) e = ap (word_need P d t word) e
 
+-- the look at an instruction that is known, where there is fuel left
 pub known-next : (P : ProgramParts) (d : TaskDecl) (fuel : ℕ) (t : TaskState) (i : Instr) → (t.retired ≡ fuel → ⊥) → instr_at P t ≡ Some i
     → IsNextOf P d fuel t (record { need = instr_need P d t i; instr = Some i })
 unfolding need_of
@@ -49,12 +50,3 @@ known-next P d fuel t i left is = by_test (t.retired == fuel) refl
         let with_instr : Option Instr → Next = λ o. record { need = instr_need P d t i; instr = o } in
         let with_need : Need → Next = λ n. record { need = n; instr = instr_at P t } in
         sym (ap with_need (known-need P d t i (code_at P.code t.pc) is) ∙ ap with_instr is)
-
--- the look by an instruction that is known, and by what it needs
-pub look-known : (P : ProgramParts) (d : TaskDecl) (fuel : ℕ) (t : TaskState) (n : Need) (o : Option Instr) → (t.retired ≡ fuel → ⊥) → o ≡ instr_at P t
-    → Some n ≡ option_map (instr_need P d t) o → IsNextOf P d fuel t (record { need = n; instr = o })
-look-known P d fuel t n None left known is = absurd (none-some n (sym is))
-look-known P d fuel t n (Some i) left known is =
-    let same : n ≡ instr_need P d t i = same_Some n (instr_need P d t i) is in
-    let with_need : Need → Next = λ m. record { need = m; instr = Some i } in
-    ap with_need same ∙ known-next P d fuel t i left (sym known)

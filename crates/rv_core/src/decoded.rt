@@ -1,7 +1,7 @@
-ghost use Rattle.std.specs.Prelude.{◌≡◌, ◌↔◌, None, option_map, IfOk};
+ghost use Rattle.std.specs.Prelude.{◌≡◌, ◌↔◌, None, option_copied, IfOk};
 ghost use Rattle.rv_core.specs.Decoded.{found_at, IsDecoded};
 ghost use Rattle.rv_core.specs.Kinds.{Allowed, EndsByFuel};
-ghost use Rattle.rv_core.specs.Need.{instr_need};
+ghost use Rattle.rv_core.specs.Need.{need_of};
 ghost use Rattle.rv_core.specs.Next.{IsNextOf};
 ghost use Rattle.rv_core.specs.Step.{instr_at};
 
@@ -45,32 +45,17 @@ impl DecodedCode {
     }
 
     /// The instruction at an address, or None where no code word stands there or the word is no instruction.
-    pub(crate) fn at(&self, pc: u32) -> Option<Instr>
-        ensures { result ≡ found_at self.now pc }
+    pub(crate) fn at(&self, pc: u32) -> Option<&Instr>
+        ensures { option_copied result ≡ found_at self.now pc }
     {
         if pc >= CODE && pc % 4 == 0 {
             match self.instrs.as_slice().get(((pc - CODE) / 4) as usize) {
-                Some(instr) => *instr,
+                Some(instr) => instr.as_ref(),
                 None => None,
             }
         } else {
             None
         }
-    }
-}
-
-/// What an instruction needs, if there is one.
-fn known_need(
-    program: &Program,
-    task: &TaskDecl,
-    state: &TaskState,
-    instr: &Option<Instr>,
-) -> Option<Need>
-    ensures { result ≡ option_map (instr_need program.now task.now state.now) instr.now }
-{
-    match instr {
-        Some(instr) => Some(instruction(program, task, state, *instr)),
-        None => None,
     }
 }
 
@@ -81,13 +66,16 @@ impl TaskState {
         program: &Program,
         task: &TaskDecl,
         fuel: u32,
-        instr: Option<Instr>,
+        instr: Option<&Instr>,
     ) -> Next
-        requires { instr ≡ instr_at program.now self.now }
+        requires { option_copied instr ≡ instr_at program.now self.now }
         ensures { IsNextOf program.now task.now fuel self.now result }
     {
-        match known_need(program, task, self, &instr) {
-            Some(need) if self.retired != fuel => Next { need, instr },
+        match instr {
+            Some(instr) if self.retired != fuel => Next {
+                need: instruction(program, task, self, instr),
+                instr: Some(*instr),
+            },
             _ => self.look(program, task, fuel),
         }
     }
@@ -102,4 +90,73 @@ impl TaskState {
     {
         self.look_known(program, task, fuel, code.at(self.pc))
     }
+}
+
+/// A program with its code words decoded, for whoever owns it and runs it instruction by instruction.
+///
+/// Contracts see the program, and the code of every `DecodedProgram` is the program's.
+#[derive(Debug, Drop)]
+pub struct DecodedProgram {
+    program: Program,
+    code: DecodedCode,
+}
+
+impl Model for DecodedProgram {
+    ghost use Rattle.region_table.specs.Program.{ProgramParts};
+    ghost use Rattle.rv_core.specs.Decoded.{IsDecoded};
+
+    ghost Value = { ProgramParts };
+
+    ghost view = { λ d. d.program };
+
+    ghost invariant = { λ d. IsDecoded d.program d.code };
+}
+
+impl DecodedProgram {
+    /// Decodes the code words of the program.
+    ///
+    /// # Errors
+    /// `Memory` where there is no room for the instructions; the program is then dropped.
+    pub fn new(alloc: Global, program: Program) -> Result<DecodedProgram, Memory>
+        ensures { IfOk result (λ decoded. decoded ≡ program) }
+    {
+        let code = DecodedCode::new(alloc, &program)?;
+        Ok(DecodedProgram { program, code })
+    }
+
+    /// The program. Takes no memory.
+    pub fn program(&self) -> &Program
+        ensures { result.now ≡ self.now }
+    {
+        &self.program
+    }
+
+    /// What the next instruction of a task needs, and the instruction, as `TaskState::next` says, with no word decoded again.
+    /// The task goes on, and may retire `fuel` instructions. Takes no memory.
+    pub fn next(&self, state: &TaskState, task: &TaskDecl, fuel: u32) -> Next
+        requires { state.now.end ≡ None }
+        ensures value { IsNextOf self.now task.now fuel state.now result }
+        ensures fuel { EndsByFuel result.need ↔ (state.now.retired ≡ fuel) }
+        ensures allowed { Allowed self.now task.now state.now result.need }
+    {
+        state.next_in(&self.program, task, fuel, &self.code)
+    }
+
+    /// What the next instruction of a task needs, as `TaskState::need` says, with no word decoded again. The task goes on, and
+    /// may retire `fuel` instructions. Takes no memory.
+    pub fn need(&self, state: &TaskState, task: &TaskDecl, fuel: u32) -> Need
+        requires { state.now.end ≡ None }
+        ensures value { result ≡ need_of self.now task.now fuel state.now }
+        ensures fuel { EndsByFuel result ↔ (state.now.retired ≡ fuel) }
+        ensures allowed { Allowed self.now task.now state.now result }
+    {
+        self.next(state, task, fuel).need
+    }
+}
+
+fn crosses<T: Send + Sync>(_value: &T) {}
+
+/// A decoded program may be sent to another thread, and shared with it.
+pub(crate) fn decoded_crosses(decoded: &DecodedProgram) {
+    crosses(decoded);
 }

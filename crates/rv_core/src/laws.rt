@@ -1,4 +1,5 @@
 //! What completing an instruction comes to, for whoever proves something of machines that run tasks.
+//! These are laws: functions that do nothing, whose contracts say it.
 ghost use Rattle.std.specs.Prelude.{◌≡◌, ℕ, ◌^◌, ◌==◌, ◌&&◌, ◌||◌, not, true, bit_or, bit_xor};
 ghost use Rattle.dn_base.specs.declared.ids.WordId.{WordId};
 ghost use Rattle.region_table.specs.Program.{ProgramParts};

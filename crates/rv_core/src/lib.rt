@@ -15,7 +15,7 @@ mod registers;
 mod step;
 mod task;
 
-pub use decoded::DecodedCode;
+pub use decoded::{DecodedCode, DecodedProgram};
 pub use ending::{EndShown, Ending, TaskEnd, outcome};
 pub use laws::{
     a_call_changes_one_lock, a_task_that_finishes_holds_no_lock,

@@ -143,11 +143,11 @@ pub(crate) fn instruction(
     program: &Program,
     task: &TaskDecl,
     state: &TaskState,
-    instr: Instr,
+    instr: &Instr,
 ) -> Need
-    ensures { result ≡ instr_need program.now task.now state.now instr }
+    ensures { result ≡ instr_need program.now task.now state.now instr.now }
 {
-    match instr {
+    match *instr {
         Instr::Jal { rd: _, offset } => jump(state, target(state, offset)),
         Instr::Jalr { base, offset, .. } => jump(state, register_jump(state, base, offset)),
         Instr::Branch { cond, a, b, offset } => {
@@ -190,7 +190,7 @@ fn word_needs(
     ensures { result ≡ word_need program.now task.now state.now word instr.now }
 {
     match instr {
-        Some(instr) => instruction(program, task, state, *instr),
+        Some(instr) => instruction(program, task, state, instr),
         None => trap(state, TrapKind::Illegal, word),
     }
 }

@@ -235,7 +235,7 @@ impl TaskState {
         ensures zero { slice_index self.new.regs 0 ≡ slice_index self.old.regs 0 }
         ensures open { self.new.end ≡ None }
     {
-        // a program has at most 32 locks
+        // for the proof alone: the read brings the program's invariant, by which it has at most 32 locks
         let _locks = &program.locks;
         match next.instr {
             Some(instr) => self.advance_by(instr),
