@@ -27,3 +27,4 @@ pub mod BaseLineLemmas
 pub mod DoubledLemmas
 pub mod RisingLemmas
 pub mod FamilyLemmas
+pub mod RowLemmas

@@ -1,5 +1,5 @@
 -- A table of names in which a name keeps its first meaning.
-use Rattle.std.proofs.Common.{◌≡◌, ℕ, true, false, cond, List, Option, Some, None, refl, bytes_eq, ⊎_elim, is_some}
+use Rattle.std.proofs.Common.{◌≡◌, ℕ, true, false, cond, List, Option, Some, None, refl, ◌∙◌, bytes_eq, ⊎_elim}
 use Rattle.std.specs.Option.{option_or}
 use Rattle.std.proofs.lemmas.Bool.{cases_Bool}
 use Rattle.std.proofs.lemmas.Slice.Eq.{bytes_eq-Decides}
@@ -9,18 +9,20 @@ first-none : (o : Option Meaning) → o ≡ option_or o None
 first-none None = refl
 first-none (Some m) = refl
 
-first-some : (o : Option Meaning) (p : Option Meaning) → is_some o ≡ true → o ≡ option_or o p
-first-some None p e = absurd cc
-first-some (Some m) p e = refl
-
--- a name that has a meaning keeps it
-pub present : (f : List ℕ → Option Meaning) (name q : List ℕ) (m : Meaning) → is_some (f name) ≡ true → f q ≡ option_or (f q) (cond (bytes_eq name q) (Some m) None)
-present f name q m h =
+-- a name that had a meaning has it again once it is given back
+pub restored : (f g h : List ℕ → Option Meaning) (name q : List ℕ) (m first : Meaning) → f name ≡ Some first → g q ≡ cond (bytes_eq name q) (Some m) (f q) → h q ≡ cond (bytes_eq name q) (Some first) (g q)
+    → h q ≡ option_or (f q) (cond (bytes_eq name q) (Some m) None)
+restored f g h name q m first was given back =
     ⊎_elim
     (λ (e : bytes_eq name q ≡ true).
     let s : name ≡ q = (bytes_eq-Decides name q).0 e in
-    first-some (f q) (cond (bytes_eq name q) (Some m) None) (rw s at h))
-    (λ (e : bytes_eq name q ≡ false). rw e (first-none (f q)))
+    let old : f q ≡ Some first = rw s at was in
+    let now : h q ≡ Some first = rw e at back in
+    rw (e, old) now)
+    (λ (e : bytes_eq name q ≡ false).
+    let one : g q ≡ f q = rw e at given in
+    let two : h q ≡ g q = rw e at back in
+    rw e (two ∙ one ∙ first-none (f q)))
     (cases_Bool (bytes_eq name q))
 
 -- a name that has none gets one
@@ -38,7 +40,3 @@ absent f name q m h =
 pub first-group : (a b c : Option Meaning) → option_or (option_or a b) c ≡ option_or a (option_or b c)
 first-group None b c = refl
 first-group (Some m) b c = refl
-
-pub none-of : (o : Option Meaning) → is_some o ≡ false → o ≡ None
-none-of None e = refl
-none-of (Some m) e = absurd cc

@@ -22,6 +22,7 @@ use Rattle.rv_assembler.specs.Placed.{placed_behind}
 use Rattle.rv_assembler.specs.Counts.{is_region, is_lock, is_phase, regions_in, locks_in, phases_in, HasFewBefore}
 use Rattle.rv_assembler.specs.Source.{source}
 use Rattle.rv_assembler.proofs.TableLemmas.{place, code-bound, data-bound}
+use Rattle.rv_assembler.specs.Whole.{IsWholeDraft}
 use Rattle.rv_assembler.proofs.SoundLemmas.{Sound, sound-none, sound-after, IsWithin, within-none, within, whole}
 use Rattle.rv_assembler.proofs.UseLemmas.{both-none, within-limits}
 use Rattle.rv_assembler.proofs.AgreeLemmas.{source-added}
@@ -62,13 +63,17 @@ total-sound v text names d e (Good s ∷ rs) h is =
         let none = both-none (draft_fault text names d s) (limit_fault v adds s.line) o in
         rest (record { sound = sound-after text names d s h.sound h.within none.0; within = within v adds (within-limits v adds s.line none.1) }) is
 
+-- lines without a fault add up to a well-formed program
+pub total-whole : (v : Bool) (text : List ℕ) (names : List ℕ → Option Meaning) (d : Draft) (rs : List Reading) → total v text names no_draft rs ≡ Ok d → IsWholeDraft d
+total-whole v text names d rs is =
+    let sound = total-sound v text names no_draft d rs (record { sound = sound-none names; within = within-none }) is in
+    whole names d sound.sound sound.within
+
 draft-sound : (text : List ℕ) (d : Draft) → draft_of text ≡ Ok d → IsProgram (finished_program d)
 draft-sound text d is =
     let ls = lines_of text in
     let version = version_line text ls in
-    let names = adding.gathered_names text in
-    let sound = total-sound (nat_lt 0 version) text names no_draft d (map (reading_of version text) ls) (record { sound = sound-none names; within = within-none }) is in
-    (whole names d sound.sound sound.within).program
+    (total-whole (nat_lt 0 version) text (adding.gathered_names text) d (map (reading_of version text) ls) is).program
 
 -- a text's program is well formed
 pub source-well-formed : (text : List ℕ) (P : ProgramParts) → source text ≡ Ok P → IsProgram P

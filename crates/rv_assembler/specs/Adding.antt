@@ -37,7 +37,7 @@ with_tasks d entry f =
       family = record { first = wrapped f.core; count = wrapped f.count };
     }
 
--- what a statement adds, but for the count
+-- what a statement adds, except for the count
 abbrev pub draft_with : List ℕ → (List ℕ → Option Meaning) → Draft → Statement → Draft
 draft_with text names d statement.TheVariants.Nothing = d
 draft_with text names d (statement.TheVariants.Instruction k) = record d { code = d.code ++ words_in (emission text names d.count.code k) }

@@ -1,4 +1,5 @@
--- The pseudo-instructions that stand for one instruction, each with the line of that instruction.
+-- The pseudo-instructions that stand for one instruction, each with the line of that instruction, for the law
+-- `a_pseudo_instruction_has_its_base_line`.
 use Rattle.std.specs.Prelude.{◌≡◌, ℕ, ℤ, pos, neg_ℤ, Bool, List, [], ◌∷◌, Option, Some, Ok, codes}
 use Rattle.std.specs.List.{AllZip}
 use Rattle.src_text.specs.Register.{register_of}

@@ -127,7 +127,7 @@ over_limit version_2 d =
     nat_lt 16384 (length d.code) || (nat_lt 65536 d.count.words || (nat_lt (most_regions version_2) (length d.regions)
     || (nat_lt 32 (length d.locks) || (nat_lt 64 d.phases || nat_lt 64 (length d.tasks)))))
 
--- the first fault of a line, but for the limits, where `again` is whether it declares a name that is declared
+-- the first fault of a line, except for the limits, where `again` is whether it declares a name that is declared
 abbrev pub first_fault : Bool → List ℕ → (List ℕ → Option Meaning) → Draft → Saying → Option SourceFault
 first_fault again text names d s =
     if out_of_range text names d s.statement then Some (fault.TheVariants.OutOfRange s.line)

@@ -27,5 +27,6 @@ pub mod Drafting
 pub mod Finishing
 pub mod Testing
 pub mod Adding
+pub mod AddedLine
 pub mod Lookup
 pub mod Whole

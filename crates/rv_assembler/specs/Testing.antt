@@ -39,6 +39,6 @@ label_of_doubled text names line (Some t) = label_doubled (names (bytes_of text 
 abbrev pub doubled_by_meaning : List ℕ → (List ℕ → Option Meaning) → Count → Saying → Bool
 doubled_by_meaning text names c s = label_of_doubled text names s.line s.label || name_doubled text names c s.statement
 
--- the first fault of a line, but for the limits
+-- the first fault of a line, except for the limits
 abbrev pub draft_fault : List ℕ → (List ℕ → Option Meaning) → Draft → Saying → Option SourceFault
 draft_fault text names d s = first_fault (doubled_by_meaning text names d.count s) text names d s

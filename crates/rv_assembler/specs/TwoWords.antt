@@ -1,4 +1,4 @@
--- What the two words of `li` and `la` compute, by the meaning of their instructions.
+-- What the two words of `li` and `la` compute, by the meaning of their instructions, for the law `two_words_make_their_value`.
 use Rattle.std.specs.Prelude.{◌≡◌, ℕ, ◌*◌, ◌%◌, ◌^◌, ℤ, Some}
 use Rattle.rv_isa.specs.Encoding.{decoded}
 use Rattle.rv_isa.specs.Meaning.{alu_of}

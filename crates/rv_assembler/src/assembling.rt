@@ -1,51 +1,85 @@
 //! From a text to its program.
-ghost use Rattle.std.specs.Prelude.{◌≡◌, ◌≢◌, ◌↔◌, ◌<◌, ◌≤◌, ℕ, List, Option, length, Ok, Err, IfOk, IfErr};
+ghost use Rattle.std.specs.Prelude.{◌≡◌, ◌≢◌, ◌↔◌, ◌<◌, ◌≤◌, ℕ, List, Option, length, Ok, Err, IfOk, IfErr, OnOk};
 ghost use Rattle.region_table.specs.Program.{IsProgram};
 ghost use Rattle.rv_assembler.specs.Lookup.{name_lookup};
 ghost use Rattle.rv_assembler.specs.declared.fault.SourceFault as fault;
 ghost use Rattle.rv_assembler.specs.declared.fault.SourceFault.TheVariants.{TooLarge, Memory as NoMemory};
-ghost use Rattle.rv_assembler.specs.Adding.{no_draft, total_of, draft_of, added_program};
+ghost use Rattle.rv_assembler.specs.Adding.{no_draft, total, draft_of, added_program};
 ghost use Rattle.rv_assembler.specs.Whole.{IsWholeDraft};
+ghost use Rattle.rv_assembler.specs.AddedLine.{draft_behind};
 ghost use Rattle.rv_assembler.specs.Source.{source};
 
 use crate::draft::Draft;
+use crate::emission::emission_at;
 use crate::fault::SourceFault;
 use crate::finishing::finish;
 use crate::names::{Names, survey};
-use crate::reading::{Reading, read_line, version_line};
+use crate::reading::{Reading, read_lines, version_line};
 use crate::testing::{early_fault, over_limit};
 use dn_base::MOST_OF_TEXT;
 use region_table::Program;
-use src_text::{Line, tokens};
+use src_text::tokens;
 use std::alloc::Global;
 
-/// What the lines add up to, or the first fault. The version line has the number `version`; 0 stands for version 1.
-fn add_up<'a>(
+/// Adds a line, or tells its first fault.
+fn add_line<'a>(
     alloc: Global,
-    version: u32,
+    version_2: bool,
     text: &'a [u8],
     names: &Names<'a>,
-    lines: &[Line],
+    draft: &mut Draft,
+    reading: &Reading,
+) -> Result<(), SourceFault>
+    ensures ok { OnOk result (draft_behind version_2 text.now (name_lookup names.now) draft.old reading.now ≡ Ok draft.new) }
+    ensures err { IfErr result (λ f. f ≢ NoMemory → draft_behind version_2 text.now (name_lookup names.now) draft.old reading.now ≡ Err f) }
+{
+    let saying = match reading {
+        Reading::Bad(fault) => return Err(*fault),
+        Reading::Good(saying) => saying,
+    };
+    let emission = emission_at(text, names, draft.count.code, &saying.statement);
+    if let Some(fault) = early_fault(text, names, draft, saying, emission) {
+        return Err(fault);
+    }
+    draft.add(alloc, text, names, &saying.statement, emission)?;
+    if over_limit(version_2, draft) {
+        return Err(SourceFault::Limit { line: saying.line });
+    }
+    Ok(())
+}
+
+/// Adds lines up to the first with a fault.
+fn add_lines<'a>(
+    alloc: Global,
+    version_2: bool,
+    text: &'a [u8],
+    names: &Names<'a>,
+    draft: &mut Draft,
+    readings: &[Reading],
+) -> Result<(), SourceFault>
+    ensures ok { OnOk result (total version_2 text.now (name_lookup names.now) draft.old readings.now ≡ Ok draft.new) }
+    ensures err { IfErr result (λ f. f ≢ NoMemory → total version_2 text.now (name_lookup names.now) draft.old readings.now ≡ Err f) }
+{
+    for reading in readings {
+        add_line(alloc, version_2, text, names, draft, reading)?;
+    }
+    Ok(())
+}
+
+/// What the lines add up to, or the first fault.
+fn add_up<'a>(
+    alloc: Global,
+    version_2: bool,
+    text: &'a [u8],
+    names: &Names<'a>,
+    readings: &[Reading],
 ) -> Result<Draft, SourceFault>
-    ensures ok { IfOk result (λ draft. total_of version text.now (name_lookup names.now) no_draft lines.now ≡ Ok draft) }
-    ensures err { IfErr result (λ f. f ≢ NoMemory → total_of version text.now (name_lookup names.now) no_draft lines.now ≡ Err f) }
+    ensures ok { IfOk result (λ draft. total version_2 text.now (name_lookup names.now) no_draft readings.now ≡ Ok draft) }
+    ensures err { IfErr result (λ f. f ≢ NoMemory → total version_2 text.now (name_lookup names.now) no_draft readings.now ≡ Err f) }
     ensures whole { IfOk result IsWholeDraft }
 {
     let mut draft = Draft::new(alloc);
-    for line in lines {
-        match read_line(version, text, line) {
-            Reading::Bad(fault) => return Err(fault),
-            Reading::Good(saying) => {
-                if let Some(fault) = early_fault(text, names, &draft, &saying) {
-                    return Err(fault);
-                }
-                draft.add(alloc, text, names, &saying.statement)?;
-                if over_limit(0 < version, &draft) {
-                    return Err(SourceFault::Limit { line: saying.line });
-                }
-            }
-        }
-    }
+    add_lines(alloc, version_2, text, names, &mut draft, readings)?;
     Ok(draft)
 }
 
@@ -59,8 +93,10 @@ fn draft_in(alloc: Global, text: &[u8]) -> Result<Draft, SourceFault>
     let tokenized = tokens(alloc, text)?;
     let lines = tokenized.as_slice();
     let version = version_line(text, lines);
-    let names = survey(alloc, version, text, lines)?;
-    add_up(alloc, version, text, &names, lines)
+    let read = read_lines(alloc, version, text, lines)?;
+    let readings = read.as_slice();
+    let names = survey(alloc, text, readings)?;
+    add_up(alloc, 0 < version, text, &names, readings)
 }
 
 /// The program that the lines of a text add up to, or else the text's first fault.

@@ -1,7 +1,7 @@
 //! What the lines of a text add up to, before it is a program.
 ghost use Rattle.std.specs.Prelude.{◌≡◌, ℕ, ◌-◌, ◌++◌, ◌∷◌, [], Some, None, OnOk};
 ghost use Rattle.rv_assembler.specs.Lookup.{name_lookup};
-ghost use Rattle.rv_assembler.specs.Emission.{words_in, emission};
+ghost use Rattle.rv_assembler.specs.AddedLine.{emission_at, words_if_any};
 ghost use Rattle.rv_assembler.specs.Operand.{bytes_of};
 ghost use Rattle.rv_assembler.specs.Number.{wrapped};
 ghost use Rattle.rv_assembler.specs.Gathering.{more};
@@ -9,7 +9,7 @@ ghost use Rattle.rv_assembler.specs.Adding.{no_draft, with_tasks, draft_with, dr
 ghost use Rattle.rv_assembler.specs.Named.{region_span, lock_number, usage_of};
 ghost use Rattle.rv_assembler.specs.Drafting.{wrapped_entry, members, extent_start, past_word, step_of, claimed, claims_for, values_for};
 
-use crate::emission::{Emission, emit, label_address};
+use crate::emission::{Emission, label_address};
 use crate::names::{Count, Meaning, NO_COUNT, Names, counted, meaning_of};
 use crate::number::{more, wrapped};
 use crate::operand::bytes;
@@ -246,12 +246,12 @@ impl Draft {
         }
     }
 
-    fn push_code(&mut self, emission: Emission) -> Result<(), Memory>
-        ensures { OnOk result (self.new ≡ record self.old { code = self.old.code ++ words_in emission }) }
+    fn push_code(&mut self, emission: Option<Emission>) -> Result<(), Memory>
+        ensures { OnOk result (self.new ≡ record self.old { code = self.old.code ++ words_if_any emission }) }
     {
         match emission {
-            Emission::One(word) => self.code.push(word),
-            Emission::Two(first, second) => {
+            Some(Emission::One(word)) => self.code.push(word),
+            Some(Emission::Two(first, second)) => {
                 self.code.push(first)?;
                 self.code.push(second)
             }
@@ -335,24 +335,21 @@ impl Draft {
         self.family = NO_CORES;
     }
 
-    /// Adds a statement, but for the count.
+    /// Adds a statement with its code words, except for the count.
     fn extend<'a>(
         &mut self,
         alloc: Global,
         text: &'a [u8],
         names: &Names<'a>,
         statement: &Statement,
+        emission: Option<Emission>,
     ) -> Result<(), Memory>
+        requires { emission ≡ emission_at text.now (name_lookup names.now) self.old.count.code statement.now }
         ensures { OnOk result (self.new ≡ draft_with text.now (name_lookup names.now) self.old statement.now) }
     {
         match *statement {
             Statement::Nothing => Ok(()),
-            Statement::Instruction(code) => self.push_code(emit(
-                text,
-                names,
-                self.count.code,
-                code,
-            )),
+            Statement::Instruction(_) => self.push_code(emission),
             Statement::Region { name, len } => self.push_region(alloc, bytes(text, name), len),
             Statement::Word {
                 region,
@@ -373,18 +370,20 @@ impl Draft {
         }
     }
 
-    /// Adds a statement.
-    pub fn add<'a>(
+    /// Adds a statement with its code words.
+    pub(crate) fn add<'a>(
         &mut self,
         alloc: Global,
         text: &'a [u8],
         names: &Names<'a>,
         statement: &Statement,
+        emission: Option<Emission>,
     ) -> Result<(), Memory>
+        requires { emission ≡ emission_at text.now (name_lookup names.now) self.old.count.code statement.now }
         ensures { OnOk result (self.new ≡ draft_after text.now (name_lookup names.now) self.old statement.now) }
     {
         let count = counted(&self.count, statement);
-        self.extend(alloc, text, names, statement)?;
+        self.extend(alloc, text, names, statement, emission)?;
         self.count = count;
         Ok(())
     }

@@ -6,12 +6,13 @@ ghost use Rattle.rv_assembler.specs.Lookup.{name_lookup};
 ghost use Rattle.rv_assembler.specs.Number.{is_upper, is_jump, is_branch, is_immediate, is_operand};
 ghost use Rattle.rv_assembler.specs.Operand.{bytes_of};
 ghost use Rattle.rv_assembler.specs.Emission.{one_if, upper, jump, branch, store, high, low, loaded, region_address, label_address, offset_of, loaded_address, emission};
+ghost use Rattle.rv_assembler.specs.AddedLine.{emission_at};
 ghost use Rattle.rv_isa.specs.declared.instr.Instr.TheVariants.{Lui, Auipc, Jal, Jalr, Branch, Load, Store, OpImm, Op};
 
 use crate::names::{Meaning, Names};
 use crate::number::{is_branch, is_immediate, is_jump, is_operand, is_upper, wrapped};
 use crate::operand::bytes;
-use crate::statement::Code;
+use crate::statement::{Code, Statement};
 use rv_isa::{AluOp, Cond, Instr, Reg, Width, encode};
 use src_text::{Token, TokenKind};
 
@@ -136,6 +137,14 @@ fn branch(cond: Cond, a: Reg, b: Reg, offset: i64) -> Emission
     }
 }
 
+/// What LUI has to hold for a value: its upper twenty bits, and one more where the low twelve are negative.
+fn high(value: u32) -> u32
+    ensures value { result ≡ high value }
+    ensures fits { result < 2 ^ 20 }
+{
+    value.wrapping_add(2048) / 4096
+}
+
 /// The low twelve bits of a value, read with their sign.
 fn low(value: u32) -> i32
     ensures value { result ≡ low value }
@@ -145,14 +154,13 @@ fn low(value: u32) -> i32
     if bits < 2048 { bits } else { bits - 4096 }
 }
 
-/// Two words that load a value: the second adds its low bits with their sign, so the first holds one more where that
-/// sign is set.
+/// Two words that load a value: the second adds its low bits with their sign.
 fn loaded(rd: Reg, value: u32) -> Emission
     ensures { result ≡ loaded rd value }
 {
     let first = Instr::Lui {
         rd,
-        imm: value.wrapping_add(2048) / 4096,
+        imm: high(value),
     };
     let second = Instr::OpImm {
         op: AluOp::Add,
@@ -202,7 +210,7 @@ fn loaded_address<'a>(text: &'a [u8], names: &Names<'a>, rd: Reg, name: Token) -
 }
 
 /// The code words of a statement that stands at the code word of the number `here`.
-pub(crate) fn emit<'a>(text: &'a [u8], names: &Names<'a>, here: u32, code: Code) -> Emission
+fn emit<'a>(text: &'a [u8], names: &Names<'a>, here: u32, code: Code) -> Emission
     ensures { result ≡ emission text.now (name_lookup names.now) here code }
 {
     match code {
@@ -240,5 +248,20 @@ pub(crate) fn emit<'a>(text: &'a [u8], names: &Names<'a>, here: u32, code: Code)
         Code::LoadNumber { rd, number } => loaded(rd, wrapped(number)),
         Code::LoadAddress { rd, name } => loaded_address(text, names, rd, name),
         Code::Raw { number } => Emission::One(wrapped(number)),
+    }
+}
+
+/// The code words of a statement that stands at the code word of the number `here`; None where it is no instruction.
+pub(crate) fn emission_at<'a>(
+    text: &'a [u8],
+    names: &Names<'a>,
+    here: u32,
+    statement: &Statement,
+) -> Option<Emission>
+    ensures { result ≡ emission_at text.now (name_lookup names.now) here statement.now }
+{
+    match *statement {
+        Statement::Instruction(code) => Some(emit(text, names, here, code)),
+        _ => None,
     }
 }

@@ -1,19 +1,18 @@
 //! The names of a text: labels, regions and locks, and what each means.
-ghost use Rattle.std.specs.Prelude.{◌≡◌, ℕ, List, Option, Some, None, bytes_eq, if◌then◌else◌, OnOk, IfOk, map};
+ghost use Rattle.std.specs.Prelude.{◌≡◌, ℕ, List, Option, Some, None, bytes_eq, if◌then◌else◌, OnOk, IfOk};
 ghost use Rattle.std.specs.Option.{option_or};
 ghost use Rattle.rv_assembler.specs.Lookup.{name_lookup};
 ghost use Rattle.rv_assembler.specs.Operand.{bytes_of};
-ghost use Rattle.rv_assembler.specs.Reading.{reading_of};
 ghost use Rattle.rv_assembler.specs.Size.{code_word_count};
 ghost use Rattle.rv_assembler.specs.Counts.{region_words};
 ghost use Rattle.rv_assembler.specs.Gathering.{no_count, count_behind, count_after, label_means, name_means, declared_by, meaning_in};
 
 use crate::number::{is_length, more, wrapped};
 use crate::operand::bytes;
-use crate::reading::{Reading, Saying, read_line};
+use crate::reading::{Reading, Saying};
 use crate::statement::{Code, Statement};
 use dn_base::Memory;
-use src_text::{Line, Token};
+use src_text::Token;
 use std::alloc::Global;
 use std::collections::BTreeMap;
 
@@ -46,7 +45,7 @@ pub(crate) const NO_COUNT: Count = Count {
 };
 
 /// How many code words a statement gives.
-fn size(code: Code) -> u32
+pub(crate) fn size(code: Code) -> u32
     ensures { result ≡ code_word_count code }
 {
     match code {
@@ -126,10 +125,10 @@ impl<'a> Names<'a> {
     fn declare(&mut self, name: &'a [u8], meaning: Meaning) -> Result<(), Memory>
         ensures { OnOk result ((q : List ℕ) → name_lookup self.new q ≡ option_or (name_lookup self.old q) (if bytes_eq name.now q then Some meaning else None)) }
     {
-        if self.index.contains_key(&name) {
-            return Ok(());
+        // Most names are new, so that one search does. A name that had a meaning gets it back.
+        if let Some(first) = self.index.insert(name, meaning)? {
+            self.index.insert(name, first)?;
         }
-        self.index.insert(name, meaning)?;
         Ok(())
     }
 
@@ -216,18 +215,16 @@ pub(crate) fn meaning_of<'a>(text: &'a [u8], names: &Names<'a>, token: Token) ->
 /// The names that the lines of good form declare.
 pub(crate) fn survey<'a>(
     alloc: Global,
-    version: u32,
     text: &'a [u8],
-    lines: &[Line],
+    readings: &[Reading],
 ) -> Result<Names<'a>, Memory>
-    ensures { IfOk result (λ names. (q : List ℕ) → name_lookup names q ≡ meaning_in text.now no_count (map (reading_of version text.now) lines.now) q) }
+    ensures { IfOk result (λ names. (q : List ℕ) → name_lookup names q ≡ meaning_in text.now no_count readings.now q) }
 {
     let mut names = Names::new(alloc);
     let mut count = NO_COUNT;
-    for line in lines {
-        let reading = read_line(version, text, line);
-        names.declare_line(text, &count, &reading)?;
-        count = count_after(&count, &reading);
+    for reading in readings {
+        names.declare_line(text, &count, reading)?;
+        count = count_after(&count, reading);
     }
     Ok(names)
 }

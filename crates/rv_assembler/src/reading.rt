@@ -1,6 +1,9 @@
 //! What a line says: its label and its statement.
-ghost use Rattle.std.specs.Prelude.{◌≡◌, ◌≤◌};
-ghost use Rattle.rv_assembler.specs.Reading.{extent_for, directive_for, statement_for, statement_in, said, labelled, read_tokens, fault_of_line, reading_of, is_version, is_blank_line, version_line};
+ghost use Rattle.std.specs.Prelude.{◌≡◌, ◌≤◌, not, if◌then◌else◌, Err, IfOk, map};
+ghost use Rattle.rv_assembler.specs.declared.fault.SourceFault.TheVariants.{UnknownWord};
+ghost use Rattle.rv_assembler.specs.Shape.{knows_word, kind_for};
+ghost use Rattle.rv_assembler.specs.Operand.{token_at};
+ghost use Rattle.rv_assembler.specs.Reading.{extent_for, directive_for, statement_for, statement_of, statement_in, said, labelled, read_tokens, fault_of_line, reading_of, is_version, is_blank_line, version_line};
 
 use crate::coding::code_for;
 use crate::fault::SourceFault;
@@ -9,7 +12,9 @@ use crate::number::wrapped;
 use crate::operand::{bytes, number_at, token_at};
 use crate::shape::{is_name, is_plain, kind, knows};
 use crate::statement::{Effect, Extent, Family, Statement};
+use dn_base::Memory;
 use src_text::{Line, LineFault, Token, TokenKind};
+use std::alloc::Global;
 
 /// What a line of good form says, and its number.
 #[derive(Clone, Copy)]
@@ -41,6 +46,25 @@ fn extent_for(operands: &[Token], form: Form, first: usize) -> Extent
             hi,
             step: number_at(operands, first + 6),
         },
+    }
+}
+
+/// An effect whose region stands at the place `first` of the operands, behind its lock if it has one.
+fn effect_for(
+    operands: &[Token],
+    writes: bool,
+    lock: Option<Token>,
+    form: Form,
+    first: usize,
+) -> Effect
+    requires { first ≤ 2 }
+    ensures { result ≡ record { writes = writes; lock = lock; region = token_at operands.now first; extent = extent_for operands.now form first } }
+{
+    Effect {
+        writes,
+        lock,
+        region: token_at(operands, first),
+        extent: extent_for(operands, form, first),
     }
 }
 
@@ -76,18 +100,13 @@ fn directive_for(operands: &[Token], directive: Directive) -> Statement
             arg: wrapped(number_at(operands, 6)),
             step: wrapped(number_at(operands, 8)),
         }),
-        Directive::Uses { writes, form } => Statement::Uses(Effect {
-            writes,
-            lock: None,
-            region: token_at(operands, 0),
-            extent: extent_for(operands, form, 0),
-        }),
-        Directive::Guarded { writes, form } => Statement::Uses(Effect {
-            writes,
-            lock: Some(token_at(operands, 0)),
-            region: token_at(operands, 2),
-            extent: extent_for(operands, form, 2),
-        }),
+        Directive::Uses { writes, form } => {
+            Statement::Uses(effect_for(operands, writes, None, form, 0))
+        }
+        Directive::Guarded { writes, form } => {
+            let lock = token_at(operands, 0);
+            Statement::Uses(effect_for(operands, writes, Some(lock), form, 2))
+        }
     }
 }
 
@@ -98,6 +117,23 @@ fn statement_for(text: &[u8], operands: &[Token], kind: Kind) -> Statement
     match kind {
         Kind::Code(mnemonic) => Statement::Instruction(code_for(text, operands, mnemonic)),
         Kind::Table(directive) => directive_for(operands, directive),
+    }
+}
+
+/// The statement of a word and its operands. Whether some statement has the word is looked for only where none fits.
+fn statement_of(
+    version_2: bool,
+    text: &[u8],
+    line: u32,
+    word: &[u8],
+    operands: &[Token],
+) -> Result<Statement, SourceFault>
+    ensures { result ≡ if not (knows_word version_2 word.now) then Err (UnknownWord line) else statement_of text.now line operands.now (kind_for version_2 text.now word.now operands.now) }
+{
+    match kind(version_2, text, word, operands) {
+        Some(kind) => Ok(statement_for(text, operands, kind)),
+        None if knows(version_2, word) => Err(SourceFault::BadOperand { line }),
+        None => Err(SourceFault::UnknownWord { line }),
     }
 }
 
@@ -116,14 +152,7 @@ fn statement(
             if !is_name(*first) {
                 return Err(SourceFault::BadOperand { line });
             }
-            let word = bytes(text, *first);
-            if !knows(version_2, word) {
-                return Err(SourceFault::UnknownWord { line });
-            }
-            match kind(version_2, text, word, operands) {
-                None => Err(SourceFault::BadOperand { line }),
-                Some(kind) => Ok(statement_for(text, operands, kind)),
-            }
+            statement_of(version_2, text, line, bytes(text, *first), operands)
         }
     }
 }
@@ -191,7 +220,7 @@ fn fault_of_line(line: u32, fault: LineFault) -> SourceFault
 }
 
 /// What a line says, where the version line has the number `version`, or the number is 0 and the version 1.
-pub(crate) fn read_line(version: u32, text: &[u8], line: &Line) -> Reading
+pub fn read_line(version: u32, text: &[u8], line: &Line) -> Reading
     ensures { result ≡ reading_of version text.now line.now }
 {
     if line.number == version {
@@ -205,6 +234,19 @@ pub(crate) fn read_line(version: u32, text: &[u8], line: &Line) -> Reading
         Some(fault) => Reading::Bad(fault_of_line(line.number, fault)),
         None => read_tokens(0 < version, text, line.number, line.tokens.as_slice()),
     }
+}
+
+/// What each line says, where the version line has the number `version`, or the number is 0 and the version 1.
+pub(crate) fn read_lines(
+    alloc: Global,
+    version: u32,
+    text: &[u8],
+    lines: &[Line],
+) -> Result<Vec<Reading>, Memory>
+    ensures { IfOk result (λ readings. readings.items ≡ map (reading_of version text.now) lines.now) }
+{
+    let readings = lines.iter().map(|line| read_line(version, text, line));
+    Ok(readings.collect(alloc)?)
 }
 
 /// Whether the line says that the text is of version 2.
@@ -226,7 +268,7 @@ fn is_blank_line(line: &Line) -> bool
 }
 
 /// The number of the version line, or 0 where the text is of version 1.
-pub(crate) fn version_line(text: &[u8], lines: &[Line]) -> u32
+pub fn version_line(text: &[u8], lines: &[Line]) -> u32
     ensures { result ≡ version_line text.now lines.now }
 {
     for line in lines {

@@ -1,7 +1,7 @@
 //! The table of statements: their words, the shapes of their operands, and the row that a statement fits.
-ghost use Rattle.std.specs.Prelude.{◌≡◌, map, option_map, find};
-ghost use Rattle.rv_assembler.specs.Shape.{memory_rows, operation_rows, short_rows, directive_rows, later_rows, knows_word, kind_for, is_name, is_number, is_comma, is_left, is_right, is_plain, piece_fits, fits, shape_has_word, knows, is_row, kind_in_rows};
-ghost use Rattle.rv_assembler.specs.ShapeRow.{shape_of};
+ghost use Rattle.std.specs.Prelude.{◌≡◌, map, option_map, find, slice_index};
+ghost use Rattle.rv_assembler.specs.Shape.{knows_word, kind_for, is_name, is_number, is_comma, is_left, is_right, is_plain, piece_fits, fits, shape_has_word, knows, is_row, kind_in_rows};
+ghost use Rattle.rv_assembler.specs.ShapeRow.{shape_of, rows_from};
 
 use crate::kind::Piece::{Comma, Left, Name, Number, Register, Right, Target};
 use crate::kind::{Directive, Form, Kind, Mnemonic, Piece};
@@ -58,130 +58,8 @@ const N_N_T_N_N: &[Piece] = &[
     Number, Comma, Number, Comma, Target, Comma, Number, Comma, Number,
 ];
 
-const MEMORY_ROWS: [Row; 18] = [
-    (b"lui", R_N, Kind::Code(Mnemonic::Lui), false),
-    (b"auipc", R_N, Kind::Code(Mnemonic::Auipc), false),
-    (b"jal", R_T, Kind::Code(Mnemonic::Jal), false),
-    (b"jalr", R_AT, Kind::Code(Mnemonic::Jalr), false),
-    (b"beq", R_R_T, Kind::Code(Mnemonic::Branch(Cond::Eq)), false),
-    (b"bne", R_R_T, Kind::Code(Mnemonic::Branch(Cond::Ne)), false),
-    (b"blt", R_R_T, Kind::Code(Mnemonic::Branch(Cond::Lt)), false),
-    (b"bge", R_R_T, Kind::Code(Mnemonic::Branch(Cond::Ge)), false),
-    (
-        b"bltu",
-        R_R_T,
-        Kind::Code(Mnemonic::Branch(Cond::Ltu)),
-        false,
-    ),
-    (
-        b"bgeu",
-        R_R_T,
-        Kind::Code(Mnemonic::Branch(Cond::Geu)),
-        false,
-    ),
-    (b"lb", R_AT, Kind::Code(Mnemonic::Load(Width::B)), false),
-    (b"lh", R_AT, Kind::Code(Mnemonic::Load(Width::H)), false),
-    (b"lw", R_AT, Kind::Code(Mnemonic::Load(Width::W)), false),
-    (b"lbu", R_AT, Kind::Code(Mnemonic::Load(Width::Bu)), false),
-    (b"lhu", R_AT, Kind::Code(Mnemonic::Load(Width::Hu)), false),
-    (b"sb", R_AT, Kind::Code(Mnemonic::Store(Width::B)), false),
-    (b"sh", R_AT, Kind::Code(Mnemonic::Store(Width::H)), false),
-    (b"sw", R_AT, Kind::Code(Mnemonic::Store(Width::W)), false),
-];
-
-const OPERATION_ROWS: [Row; 19] = [
-    (
-        b"addi",
-        R_R_N,
-        Kind::Code(Mnemonic::OpImm(AluOp::Add)),
-        false,
-    ),
-    (
-        b"slti",
-        R_R_N,
-        Kind::Code(Mnemonic::OpImm(AluOp::Slt)),
-        false,
-    ),
-    (
-        b"sltiu",
-        R_R_N,
-        Kind::Code(Mnemonic::OpImm(AluOp::Sltu)),
-        false,
-    ),
-    (
-        b"xori",
-        R_R_N,
-        Kind::Code(Mnemonic::OpImm(AluOp::Xor)),
-        false,
-    ),
-    (b"ori", R_R_N, Kind::Code(Mnemonic::OpImm(AluOp::Or)), false),
-    (
-        b"andi",
-        R_R_N,
-        Kind::Code(Mnemonic::OpImm(AluOp::And)),
-        false,
-    ),
-    (
-        b"slli",
-        R_R_N,
-        Kind::Code(Mnemonic::OpImm(AluOp::Sll)),
-        false,
-    ),
-    (
-        b"srli",
-        R_R_N,
-        Kind::Code(Mnemonic::OpImm(AluOp::Srl)),
-        false,
-    ),
-    (
-        b"srai",
-        R_R_N,
-        Kind::Code(Mnemonic::OpImm(AluOp::Sra)),
-        false,
-    ),
-    (b"add", R_R_R, Kind::Code(Mnemonic::Op(AluOp::Add)), false),
-    (b"sub", R_R_R, Kind::Code(Mnemonic::Op(AluOp::Sub)), false),
-    (b"sll", R_R_R, Kind::Code(Mnemonic::Op(AluOp::Sll)), false),
-    (b"slt", R_R_R, Kind::Code(Mnemonic::Op(AluOp::Slt)), false),
-    (b"sltu", R_R_R, Kind::Code(Mnemonic::Op(AluOp::Sltu)), false),
-    (b"xor", R_R_R, Kind::Code(Mnemonic::Op(AluOp::Xor)), false),
-    (b"srl", R_R_R, Kind::Code(Mnemonic::Op(AluOp::Srl)), false),
-    (b"sra", R_R_R, Kind::Code(Mnemonic::Op(AluOp::Sra)), false),
-    (b"or", R_R_R, Kind::Code(Mnemonic::Op(AluOp::Or)), false),
-    (b"and", R_R_R, Kind::Code(Mnemonic::Op(AluOp::And)), false),
-];
-
-const SHORT_ROWS: [Row; 17] = [
-    (b"fence", NONE, Kind::Code(Mnemonic::Fence), false),
-    (b"ecall", NONE, Kind::Code(Mnemonic::Ecall), false),
-    (b"ebreak", NONE, Kind::Code(Mnemonic::Ebreak), false),
-    (b"nop", NONE, Kind::Code(Mnemonic::Nop), false),
-    (b"mv", R_R, Kind::Code(Mnemonic::Mv), false),
-    (b"not", R_R, Kind::Code(Mnemonic::Not), false),
-    (b"neg", R_R, Kind::Code(Mnemonic::Neg), false),
-    (b"seqz", R_R, Kind::Code(Mnemonic::Seqz), false),
-    (b"snez", R_R, Kind::Code(Mnemonic::Snez), false),
-    (
-        b"beqz",
-        R_T,
-        Kind::Code(Mnemonic::BranchZero(Cond::Eq)),
-        false,
-    ),
-    (
-        b"bnez",
-        R_T,
-        Kind::Code(Mnemonic::BranchZero(Cond::Ne)),
-        false,
-    ),
-    (b"j", T, Kind::Code(Mnemonic::J), false),
-    (b"jr", R, Kind::Code(Mnemonic::Jr), false),
-    (b"ret", NONE, Kind::Code(Mnemonic::Ret), false),
-    (b"li", R_N, Kind::Code(Mnemonic::Li), false),
-    (b"la", R_NAME, Kind::Code(Mnemonic::La), false),
+const DOT_ROWS: &[Row] = &[
     (b".raw", N, Kind::Code(Mnemonic::Raw), false),
-];
-
-const DIRECTIVE_ROWS: [Row; 13] = [
     (b".region", NAME_N, Kind::Table(Directive::Region), false),
     (b".word", NAME_N_N, Kind::Table(Directive::Word), false),
     (b".lock", NAME, Kind::Table(Directive::Lock), false),
@@ -259,9 +137,6 @@ const DIRECTIVE_ROWS: [Row; 13] = [
         }),
         false,
     ),
-];
-
-const LATER_ROWS: [Row; 5] = [
     (b".forall", N_N_T_N_N, Kind::Table(Directive::Forall), true),
     (
         b".reads",
@@ -301,46 +176,183 @@ const LATER_ROWS: [Row; 5] = [
     ),
 ];
 
-/// The rows of upper immediates, jumps, branches, loads and stores.
-fn memory_table() -> [Row; 18]
-    ensures { map shape_of result ≡ memory_rows }
+const A_ROWS: &[Row] = &[
+    (b"auipc", R_N, Kind::Code(Mnemonic::Auipc), false),
+    (
+        b"addi",
+        R_R_N,
+        Kind::Code(Mnemonic::OpImm(AluOp::Add)),
+        false,
+    ),
+    (
+        b"andi",
+        R_R_N,
+        Kind::Code(Mnemonic::OpImm(AluOp::And)),
+        false,
+    ),
+    (b"add", R_R_R, Kind::Code(Mnemonic::Op(AluOp::Add)), false),
+    (b"and", R_R_R, Kind::Code(Mnemonic::Op(AluOp::And)), false),
+];
+
+const B_ROWS: &[Row] = &[
+    (b"beq", R_R_T, Kind::Code(Mnemonic::Branch(Cond::Eq)), false),
+    (b"bne", R_R_T, Kind::Code(Mnemonic::Branch(Cond::Ne)), false),
+    (b"blt", R_R_T, Kind::Code(Mnemonic::Branch(Cond::Lt)), false),
+    (b"bge", R_R_T, Kind::Code(Mnemonic::Branch(Cond::Ge)), false),
+    (
+        b"bltu",
+        R_R_T,
+        Kind::Code(Mnemonic::Branch(Cond::Ltu)),
+        false,
+    ),
+    (
+        b"bgeu",
+        R_R_T,
+        Kind::Code(Mnemonic::Branch(Cond::Geu)),
+        false,
+    ),
+    (
+        b"beqz",
+        R_T,
+        Kind::Code(Mnemonic::BranchZero(Cond::Eq)),
+        false,
+    ),
+    (
+        b"bnez",
+        R_T,
+        Kind::Code(Mnemonic::BranchZero(Cond::Ne)),
+        false,
+    ),
+];
+
+const E_ROWS: &[Row] = &[
+    (b"ecall", NONE, Kind::Code(Mnemonic::Ecall), false),
+    (b"ebreak", NONE, Kind::Code(Mnemonic::Ebreak), false),
+];
+
+const F_ROWS: &[Row] = &[(b"fence", NONE, Kind::Code(Mnemonic::Fence), false)];
+
+const J_ROWS: &[Row] = &[
+    (b"jal", R_T, Kind::Code(Mnemonic::Jal), false),
+    (b"jalr", R_AT, Kind::Code(Mnemonic::Jalr), false),
+    (b"j", T, Kind::Code(Mnemonic::J), false),
+    (b"jr", R, Kind::Code(Mnemonic::Jr), false),
+];
+
+const L_ROWS: &[Row] = &[
+    (b"lui", R_N, Kind::Code(Mnemonic::Lui), false),
+    (b"lb", R_AT, Kind::Code(Mnemonic::Load(Width::B)), false),
+    (b"lh", R_AT, Kind::Code(Mnemonic::Load(Width::H)), false),
+    (b"lw", R_AT, Kind::Code(Mnemonic::Load(Width::W)), false),
+    (b"lbu", R_AT, Kind::Code(Mnemonic::Load(Width::Bu)), false),
+    (b"lhu", R_AT, Kind::Code(Mnemonic::Load(Width::Hu)), false),
+    (b"li", R_N, Kind::Code(Mnemonic::Li), false),
+    (b"la", R_NAME, Kind::Code(Mnemonic::La), false),
+];
+
+const M_ROWS: &[Row] = &[(b"mv", R_R, Kind::Code(Mnemonic::Mv), false)];
+
+const N_ROWS: &[Row] = &[
+    (b"nop", NONE, Kind::Code(Mnemonic::Nop), false),
+    (b"not", R_R, Kind::Code(Mnemonic::Not), false),
+    (b"neg", R_R, Kind::Code(Mnemonic::Neg), false),
+];
+
+const O_ROWS: &[Row] = &[
+    (b"ori", R_R_N, Kind::Code(Mnemonic::OpImm(AluOp::Or)), false),
+    (b"or", R_R_R, Kind::Code(Mnemonic::Op(AluOp::Or)), false),
+];
+
+const R_ROWS: &[Row] = &[(b"ret", NONE, Kind::Code(Mnemonic::Ret), false)];
+
+const S_ROWS: &[Row] = &[
+    (b"sb", R_AT, Kind::Code(Mnemonic::Store(Width::B)), false),
+    (b"sh", R_AT, Kind::Code(Mnemonic::Store(Width::H)), false),
+    (b"sw", R_AT, Kind::Code(Mnemonic::Store(Width::W)), false),
+    (
+        b"slti",
+        R_R_N,
+        Kind::Code(Mnemonic::OpImm(AluOp::Slt)),
+        false,
+    ),
+    (
+        b"sltiu",
+        R_R_N,
+        Kind::Code(Mnemonic::OpImm(AluOp::Sltu)),
+        false,
+    ),
+    (
+        b"slli",
+        R_R_N,
+        Kind::Code(Mnemonic::OpImm(AluOp::Sll)),
+        false,
+    ),
+    (
+        b"srli",
+        R_R_N,
+        Kind::Code(Mnemonic::OpImm(AluOp::Srl)),
+        false,
+    ),
+    (
+        b"srai",
+        R_R_N,
+        Kind::Code(Mnemonic::OpImm(AluOp::Sra)),
+        false,
+    ),
+    (b"sub", R_R_R, Kind::Code(Mnemonic::Op(AluOp::Sub)), false),
+    (b"sll", R_R_R, Kind::Code(Mnemonic::Op(AluOp::Sll)), false),
+    (b"slt", R_R_R, Kind::Code(Mnemonic::Op(AluOp::Slt)), false),
+    (b"sltu", R_R_R, Kind::Code(Mnemonic::Op(AluOp::Sltu)), false),
+    (b"srl", R_R_R, Kind::Code(Mnemonic::Op(AluOp::Srl)), false),
+    (b"sra", R_R_R, Kind::Code(Mnemonic::Op(AluOp::Sra)), false),
+    (b"seqz", R_R, Kind::Code(Mnemonic::Seqz), false),
+    (b"snez", R_R, Kind::Code(Mnemonic::Snez), false),
+];
+
+const X_ROWS: &[Row] = &[
+    (
+        b"xori",
+        R_R_N,
+        Kind::Code(Mnemonic::OpImm(AluOp::Xor)),
+        false,
+    ),
+    (b"xor", R_R_R, Kind::Code(Mnemonic::Op(AluOp::Xor)), false),
+];
+
+/// The rows whose words begin with this byte.
+fn rows_from(first: u8) -> &'static [Row]
+    ensures { map shape_of result.now ≡ rows_from first }
 {
-    MEMORY_ROWS
+    match first {
+        b'.' => DOT_ROWS,
+        b'a' => A_ROWS,
+        b'b' => B_ROWS,
+        b'e' => E_ROWS,
+        b'f' => F_ROWS,
+        b'j' => J_ROWS,
+        b'l' => L_ROWS,
+        b'm' => M_ROWS,
+        b'n' => N_ROWS,
+        b'o' => O_ROWS,
+        b'r' => R_ROWS,
+        b's' => S_ROWS,
+        b'x' => X_ROWS,
+        _ => &[],
+    }
 }
 
-/// The rows of operations on numbers and registers.
-fn operation_table() -> [Row; 19]
-    ensures { map shape_of result ≡ operation_rows }
+/// The first byte of a word; 0 where it has none.
+fn first_byte(word: &[u8]) -> u8
+    ensures { result ≡ slice_index word.now 0 }
 {
-    OPERATION_ROWS
-}
-
-/// The rows of instructions without operands, and those that stand for others.
-fn short_table() -> [Row; 17]
-    ensures { map shape_of result ≡ short_rows }
-{
-    SHORT_ROWS
-}
-
-/// The rows of directives.
-fn directive_table() -> [Row; 13]
-    ensures { map shape_of result ≡ directive_rows }
-{
-    DIRECTIVE_ROWS
-}
-
-/// The rows of what only version 2 has.
-fn later_table() -> [Row; 5]
-    ensures { map shape_of result ≡ later_rows }
-{
-    LATER_ROWS
+    word.first().copied().unwrap_or(0)
 }
 
 /// A name that may be declared: it doesn't begin with `.`.
 pub(crate) fn is_plain(text: &[u8], token: Token) -> bool
     ensures { result ≡ is_plain text.now token }
 {
-    is_name(token) && bytes(text, token).first().copied().unwrap_or(0) != b'.'
+    is_name(token) && first_byte(bytes(text, token)) != b'.'
 }
 
 pub(crate) fn is_name(token: Token) -> bool
@@ -409,11 +421,7 @@ fn knows_in(version_2: bool, word: &[u8], rows: &[Row]) -> bool
 pub(crate) fn knows(version_2: bool, word: &[u8]) -> bool
     ensures { result ≡ knows_word version_2 word.now }
 {
-    knows_in(version_2, word, &memory_table())
-        || knows_in(version_2, word, &operation_table())
-        || knows_in(version_2, word, &short_table())
-        || knows_in(version_2, word, &directive_table())
-        || knows_in(version_2, word, &later_table())
+    knows_in(version_2, word, rows_from(first_byte(word)))
 }
 
 /// What the first row of the word that the operands fit says.
@@ -438,17 +446,5 @@ fn kind_in(
 pub(crate) fn kind(version_2: bool, text: &[u8], word: &[u8], operands: &[Token]) -> Option<Kind>
     ensures { result ≡ kind_for version_2 text.now word.now operands.now }
 {
-    if let Some(kind) = kind_in(version_2, text, word, operands, &memory_table()) {
-        return Some(kind);
-    }
-    if let Some(kind) = kind_in(version_2, text, word, operands, &operation_table()) {
-        return Some(kind);
-    }
-    if let Some(kind) = kind_in(version_2, text, word, operands, &short_table()) {
-        return Some(kind);
-    }
-    if let Some(kind) = kind_in(version_2, text, word, operands, &directive_table()) {
-        return Some(kind);
-    }
-    kind_in(version_2, text, word, operands, &later_table())
+    kind_in(version_2, text, word, operands, rows_from(first_byte(word)))
 }

@@ -2,14 +2,15 @@
 ghost use Rattle.std.specs.Prelude.{◌≡◌, ℕ, ◌-◌, ◌+◌, ◌<◌, ◌≤◌, List, Option, is_none, IsTrue, ℤ, pos, neg_ℤ, ◌+ℤ◌, ◌≤ℤ◌};
 ghost use Rattle.rv_assembler.specs.Lookup.{name_lookup};
 ghost use Rattle.rv_assembler.specs.Number.{is_within};
-ghost use Rattle.rv_assembler.specs.Fault.{is_far, is_lost, stepped_fits, extent_far, family_far, is_address, entry_far, are_cores, word_far, out_of_range, entry_lost, effect_lost, unknown, is_on, core_in_use, misplaced, most_regions, over_limit};
+ghost use Rattle.rv_assembler.specs.Fault.{stepped_fits, extent_far, family_far, is_address, entry_far, are_cores, word_far, out_of_range, entry_lost, effect_lost, unknown, is_on, core_in_use, misplaced, most_regions, over_limit};
 ghost use Rattle.rv_assembler.specs.Testing.{label_doubled, region_doubled, lock_doubled, name_doubled, doubled_by_meaning, draft_fault};
 ghost use Rattle.rv_assembler.specs.Operand.{bytes_of};
-ghost use Rattle.rv_assembler.specs.Emission.{emission, label_index};
+ghost use Rattle.rv_assembler.specs.Emission.{label_index};
+ghost use Rattle.rv_assembler.specs.AddedLine.{emission_at, far_if_any, lost_if_any};
 ghost use Rattle.rv_assembler.specs.Named.{region_span, lock_number};
 
 use crate::draft::{Draft, Span, Start, lock_named, region_named};
-use crate::emission::{Emission, emit};
+use crate::emission::Emission;
 use crate::fault::SourceFault;
 use crate::names::{Count, Meaning, Names, meaning_of};
 use crate::number::{is_interval, is_length, wrapped};
@@ -17,16 +18,16 @@ use crate::reading::Saying;
 use crate::statement::{Effect, Extent, Family, Statement};
 use src_text::{Token, TokenKind};
 
-fn is_far(emission: Emission) -> bool
-    ensures { result ≡ is_far emission }
+fn is_far(emission: Option<Emission>) -> bool
+    ensures { result ≡ far_if_any emission }
 {
-    matches!(emission, Emission::OutOfRange)
+    matches!(emission, Some(Emission::OutOfRange))
 }
 
-fn is_lost(emission: Emission) -> bool
-    ensures { result ≡ is_lost emission }
+fn is_lost(emission: Option<Emission>) -> bool
+    ensures { result ≡ lost_if_any emission }
 {
-    matches!(emission, Emission::Unknown)
+    matches!(emission, Some(Emission::Unknown))
 }
 
 /// Whether the interval is one of the region, and so are `count - 1` more, each a step further than the one before.
@@ -113,11 +114,18 @@ fn family_far(family: Family) -> bool
 }
 
 /// Whether a number is outside its range, or a label too far.
-fn out_of_range<'a>(text: &'a [u8], names: &Names<'a>, draft: &Draft, statement: &Statement) -> bool
+fn out_of_range<'a>(
+    text: &'a [u8],
+    names: &Names<'a>,
+    draft: &Draft,
+    statement: &Statement,
+    emission: Option<Emission>,
+) -> bool
+    requires { emission ≡ emission_at text.now (name_lookup names.now) draft.now.count.code statement.now }
     ensures { result ≡ out_of_range text.now (name_lookup names.now) draft.now statement.now }
 {
     match *statement {
-        Statement::Instruction(code) => is_far(emit(text, names, draft.count.code, code)),
+        Statement::Instruction(_) => is_far(emission),
         Statement::Region { len, .. } => !is_length(len),
         Statement::Word {
             region,
@@ -224,11 +232,18 @@ fn no_region<'a>(text: &'a [u8], names: &Names<'a>, name: Token) -> bool
 }
 
 /// Whether a name isn't declared, or is of another kind.
-fn unknown<'a>(text: &'a [u8], names: &Names<'a>, here: u32, statement: &Statement) -> bool
+fn unknown<'a>(
+    text: &'a [u8],
+    names: &Names<'a>,
+    here: u32,
+    statement: &Statement,
+    emission: Option<Emission>,
+) -> bool
+    requires { emission ≡ emission_at text.now (name_lookup names.now) here statement.now }
     ensures { result ≡ unknown text.now (name_lookup names.now) here statement.now }
 {
     match *statement {
-        Statement::Instruction(code) => is_lost(emit(text, names, here, code)),
+        Statement::Instruction(_) => is_lost(emission),
         Statement::Word {
             region,
             index: _index,
@@ -288,23 +303,25 @@ pub(crate) fn over_limit(version_2: bool, draft: &Draft) -> bool
         || 64 < draft.tasks.len()
 }
 
-/// The first fault of a line, but for the limits.
+/// The first fault of a line whose code words are these, except for the limits.
 pub(crate) fn early_fault<'a>(
     text: &'a [u8],
     names: &Names<'a>,
     draft: &Draft,
     saying: &Saying,
+    emission: Option<Emission>,
 ) -> Option<SourceFault>
+    requires { emission ≡ emission_at text.now (name_lookup names.now) draft.now.count.code saying.now.statement }
     ensures { result ≡ draft_fault text.now (name_lookup names.now) draft.now saying.now }
 {
     let line = saying.line;
-    if out_of_range(text, names, draft, &saying.statement) {
+    if out_of_range(text, names, draft, &saying.statement, emission) {
         return Some(SourceFault::OutOfRange { line });
     }
     if doubled(text, names, &draft.count, saying) {
         return Some(SourceFault::DoubleName { line });
     }
-    if unknown(text, names, draft.count.code, &saying.statement) {
+    if unknown(text, names, draft.count.code, &saying.statement, emission) {
         return Some(SourceFault::UnknownName { line });
     }
     if misplaced(draft, &saying.statement) {

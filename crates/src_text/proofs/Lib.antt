@@ -6,3 +6,4 @@ pub mod CutLemmas
 pub mod LawLemmas
 pub mod SliceLemmas
 pub mod PartLemmas
+pub mod NameLemmas

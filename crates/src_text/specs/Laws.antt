@@ -1,4 +1,4 @@
--- What holds of the lines and the lexemes of every text.
+-- What holds of the lines and the lexemes of every text, for the laws in src/laws.rt.
 use Rattle.std.specs.Prelude.{◌≡◌, ℕ, ◌+◌, ◌<◌, ◌≤◌, ◌==◌, Bool, false, not, ◌&&◌, ◌||◌, List, [], ◌∷◌, ◌++◌, length, take, drop, get_or, slice_get, slice_index, slice_range, nat_le, nat_lt, if◌then◌else◌, IsTrue, IsFalse, Some, All, sum_by, flat_map}
 use Rattle.std.specs.List.{list_any, list_all, AllZip}
 use Rattle.src_text.specs.Byte.{is_newline, is_blank, is_letter, is_word, is_mark, is_token_byte}
@@ -17,7 +17,7 @@ is_open [] = false
 is_open (b ∷ []) = not (is_newline b)
 is_open (b ∷ c ∷ bs) = is_open (c ∷ bs)
 
--- the lines with their newlines are the text, but for the last newline, which may be missing; no line holds one
+-- the lines with their newlines are the text, except for the last newline, which may be missing; no line holds one
 pub record AreLinesOf (text : List ℕ) (lines : List (List ℕ)) : Type 0 where
   pub joined : flat_map ended lines ≡ text ++ (if is_open text then 10 ∷ [] else [])
   pub single : All (λ line. list_any is_newline line ≡ false) lines
@@ -32,7 +32,7 @@ pub record AreNumbered (text : List ℕ) : Type 0 where
   pub each : (k : ℕ) → k < length (cut text) → slice_get (lines_of text) k ≡ Some (line_of (k + 1) (line_start k (cut text)) (get_or (cut text) k []))
   pub bytes : (k : ℕ) → k < length (cut text) → slice_range text (line_start k (cut text)) (line_start k (cut text) + length (get_or (cut text) k [])) ≡ get_or (cut text) k []
 
--- the front of some bytes is as long as it can be: a mark alone, or a byte and all bytes of a word behind it
+-- the prefix of some bytes is as long as it can be: a mark alone, or a byte and all bytes of a word behind it
 pub record IsLongestToken (bytes front : List ℕ) : Type 0 where
   pub first : take (length front) bytes ≡ front
   pub some : 0 < length front
@@ -40,7 +40,7 @@ pub record IsLongestToken (bytes front : List ℕ) : Type 0 where
   pub word : All (λ b. IsTrue (is_word b)) (drop 1 front)
   pub stops : IsFalse (is_mark (slice_index bytes 0)) → IsFalse (is_word (slice_index bytes (length front)))
 
--- the lexeme stands at a byte of the code where a token begins, and is the front of what stands there
+-- the lexeme stands at a byte of the code where a token begins, and is the prefix of what stands there
 pub record StandsAt (place p : ℕ) (code : List ℕ) (l : Lexeme) : Type 0 where
   pub start : l.start ≡ place + p
   pub bytes : l.bytes ≡ front (drop p code)
@@ -55,7 +55,7 @@ AreBehindEachOther from (l ∷ ls) = (from ≤ l.start) × AreBehindEachOther (l
 abbrev pub covers : ℕ → Lexeme → Bool
 covers place l = nat_le l.start place && nat_lt place (l.start + length l.bytes)
 
--- the lexemes of a line stand where tokens begin, one behind the other, and leave out no byte of a token
+-- the lexemes of a line stand where tokens begin, one after the other, and leave out no byte of a token
 pub record AreLexemesOf (place : ℕ) (line : List ℕ) (ls : List Lexeme) : Type 0 where
   pub stand : All (λ l. (p : ℕ) × StandsAt place p (before_comment line) l) ls
   pub apart : AreBehindEachOther place ls

@@ -39,7 +39,7 @@ line_with number tokens (Some fault) = record { number = number; tokens = []; fa
 abbrev pub line_of : ℕ → ℕ → List ℕ → Line
 line_of number place line = line_with number (filter_map token_of (lexemes_of place line)) (fault_of number line)
 
--- lines one behind the other, from a number and a place on
+-- lines one after the other, from a number and a place on
 abbrev pub numbered : ℕ → ℕ → List (List ℕ) → List Line
 numbered number place [] = []
 numbered number place (l ∷ ls) = line_of number place l ∷ numbered (number + 1) (place + (length l + 1)) ls

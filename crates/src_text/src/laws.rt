@@ -5,12 +5,12 @@ ghost use Rattle.src_text.specs.Laws.{AreInOrder, AreLexemesOf, AreLinesOf, AreN
 ghost use Rattle.src_text.specs.Lexeme.{front, lexemes_of};
 ghost use Rattle.src_text.specs.Line.{cut, fault_of, line_of, lines_of};
 
-/// The lines of a text, each with its newline, are the text, but for a last newline that may be missing.
+/// The lines of a text, each with its newline, are the text, except for a last newline that may be missing.
 pub fn lines_make_up_the_text()
     ensures { (text : List ℕ) → AreLinesOf text (cut text) }
 {}
 
-/// Lines are numbered from 1, and stand in the text one behind the other.
+/// Lines are numbered from 1, and stand in the text one after the other.
 pub fn lines_are_numbered()
     ensures { (text : List ℕ) → AreNumbered text }
 {}
@@ -20,7 +20,7 @@ pub fn tokens_are_longest()
     ensures { (b : ℕ) (bs : List ℕ) → IsLongestToken (b ∷ bs) (front (b ∷ bs)) }
 {}
 
-/// The lexemes of a line stand one behind the other, each where one begins, and leave out no byte of a token.
+/// The lexemes of a line stand one after the other, each where one begins, and leave out no byte of a token.
 pub fn tokens_make_up_the_code()
     ensures { (place : ℕ) (line : List ℕ) → AreLexemesOf place line (lexemes_of place line) }
 {}

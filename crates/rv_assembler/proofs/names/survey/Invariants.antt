@@ -1,12 +1,10 @@
-use Rattle.std.proofs.Common.{◌≡◌, ℕ, List, map, drop}
+use Rattle.std.proofs.Common.{◌≡◌, ℕ, List, drop}
 use Rattle.std.specs.Option.{option_or}
 use Rattle.rv_assembler.specs.Lookup.{name_lookup}
-use Rattle.rv_assembler.specs.Reading.{reading_of}
 use Rattle.rv_assembler.specs.Gathering.{no_count, meaning_in}
 use Rattle.rv_assembler.proofs.names.survey.Given as goal
 
 -- what is found already, and else what the lines that are left say
-abbrev pub invariant-loop-line : goal.invariant-loop-line
-invariant-loop-line l =
-    (q : List ℕ) → option_or (name_lookup l.names q) (meaning_in l.text l.count (map (reading_of l.version l.text) (drop l.line-index l.lines)) q)
-    ≡ meaning_in l.text no_count (map (reading_of l.version l.text) l.lines) q
+abbrev pub invariant-loop-reading : goal.invariant-loop-reading
+invariant-loop-reading l =
+    (q : List ℕ) → option_or (name_lookup l.names q) (meaning_in l.text l.count (drop l.reading-index l.readings) q) ≡ meaning_in l.text no_count l.readings q
