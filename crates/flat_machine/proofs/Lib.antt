@@ -14,3 +14,4 @@ pub mod ReachedLaws
 pub mod StartLaws
 pub mod LegalLaws
 pub mod LeastLaws
+pub mod RefusedLemmas

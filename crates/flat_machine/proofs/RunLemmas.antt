@@ -30,9 +30,9 @@ grants-front P fuel o G gs i d within e =
 
 -- the front of a list up to its first grant that isn't legal
 pub stopped-at : (P : ProgramParts) (fuel : ℕ) (F G : Flat) (gs : List Grant) (i : ℕ) (d : Grant) → i < length gs → grants_from P fuel (Some F) (take i gs) ≡ Some G
-    → granted P fuel (get_or gs i d) G ≡ None → IsStoppedAt P fuel F gs G
+    → granted P fuel (get_or gs i d) G ≡ None → IsStoppedAt P fuel F gs G i
 stopped-at P fuel F G gs i d within front illegal =
-    record { place = i; given = get_or gs i d; there = slice_get-get_or gs i d within; front = front; illegal = illegal }
+    record { given = get_or gs i d; there = slice_get-get_or gs i d within; front = front; illegal = illegal }
 
 -- one more grant of the least list
 pub least-more : (P : ProgramParts) (fuel : ℕ) (o : Option Flat) (F G : Flat) (gs rest : List Grant) (g : Grant)

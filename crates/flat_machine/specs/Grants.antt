@@ -72,9 +72,8 @@ grants_from P fuel o (g ∷ gs) = grants_from P fuel (granted_if P fuel o g) gs
 abbrev pub so_far : ProgramParts → ℕ → List Grant → Option Flat
 so_far P fuel gs = grants_from P fuel (Some (initial_flat P fuel)) gs
 
--- from F on the grants of the list were given up to the first that isn't legal, and G is the machine before that one
-pub record IsStoppedAt (P : ProgramParts) (fuel : ℕ) (F : Flat) (gs : List Grant) (G : Flat) : Type 0 where
-  pub place : ℕ
+-- from F on the grants of the list were given up to the first that isn't legal, at this place, and G is the machine before that one
+pub record IsStoppedAt (P : ProgramParts) (fuel : ℕ) (F : Flat) (gs : List Grant) (G : Flat) (place : ℕ) : Type 0 where
   pub given : Grant
   pub there : slice_get gs place ≡ Some given
   pub front : grants_from P fuel (Some F) (take place gs) ≡ Some G

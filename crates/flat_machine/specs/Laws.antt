@@ -1,4 +1,4 @@
--- What the laws of the flat machine speak of.
+-- What the laws of the flat machine, in src/laws.rt, speak of.
 use Rattle.std.specs.Prelude.{◌≡◌, ◌≢◌, ℕ, ◌+◌, ◌<◌, ◌≤◌, Bool, true, false, List, [], ◌++◌, length, map, take, slice_get, slice_index, Option, Some, None}
 use Rattle.std.specs.List.{All, Any, IsAmong}
 use Rattle.dn_base.specs.declared.ids.Grant.{Grant}

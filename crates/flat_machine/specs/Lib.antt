@@ -3,3 +3,4 @@ pub mod Phases
 pub mod Grants
 pub mod Ending
 pub mod Laws
+pub mod Refused

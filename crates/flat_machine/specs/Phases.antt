@@ -72,7 +72,7 @@ initial P = record { begun = 0; past = []; tasks = []; memory = P.memory }
 unfoldable pub initial_flat : ProgramParts → ℕ → Flat
 initial_flat P fuel = settled P fuel (initial P)
 
--- how many instructions and ends are left at the most: of the tasks that have started, and of those of the phases that
+-- how many instructions and ends are left at most: of the tasks that have started, and of those of the phases that
 -- haven't begun
 abbrev pub work : ProgramParts → ℕ → Flat → ℕ
 work P fuel F = sum_by (room fuel) F.tasks + length (tasks_of (drop F.begun P.phases)) * (fuel + 1)

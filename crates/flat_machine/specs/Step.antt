@@ -69,7 +69,7 @@ flat_steps P fuel (suc n) s = flat_steps P fuel n (flat_step P fuel s)
 unfoldable pub segment : ProgramParts → ℕ → At → At
 segment P fuel s = flat_steps P fuel (suc fuel) s
 
--- how many steps a task can still go at the most
+-- how many steps a task can still go at most
 abbrev pub room_by : ℕ → ℕ → Option End → ℕ
 room_by fuel retired None = fuel + 1 - retired
 room_by fuel retired (Some by) = 0

@@ -1,4 +1,5 @@
 //! What segments and lists of grants come to, for whoever compares other machines with the flat one.
+//! These are laws: functions that do nothing, whose contracts say it.
 ghost use Rattle.std.specs.Prelude.{◌≡◌, ◌≢◌, ◌<◌, ◌↔◌, ℕ, List, [], ◌∷◌, ◌++◌, length, slice_get, slice_index, Some, None, true, false};
 ghost use Rattle.std.specs.List.{All, AllPairs, Any, IsAmong};
 ghost use Rattle.dn_base.specs.declared.ids.Grant.{Grant};
@@ -92,7 +93,7 @@ pub fn a_task_can_take_the_free_lock_that_it_wants()
 {}
 
 /// Each front of a list of grants that has a value has one too. Each task that has started then stands at its place later, and
-/// the loads that it has done then are a front of those that it has done later.
+/// the loads that it has done then are a prefix of those that it has done later.
 pub fn a_front_of_a_list_has_a_value()
     ensures { (P : ProgramParts) (fuel : ℕ) (gs hs : List Grant) (F : Flat) → so_far P fuel (gs ++ hs) ≡ Some F → HasFront P fuel gs hs F }
 {}

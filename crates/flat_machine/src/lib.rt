@@ -7,6 +7,7 @@
 mod ending;
 mod laws;
 mod machine;
+mod refused;
 mod running;
 mod runs;
 
@@ -20,4 +21,5 @@ pub use laws::{
     settling_again_changes_nothing, the_end_of_a_run_shows_its_last_state,
     the_least_list_has_a_run, the_tasks_of_a_run_are_its_phases, without_locks_there_is_one_run,
 };
+pub use refused::{FlatRun, a_list_of_grants_comes_to_one_thing, flat_run};
 pub use runs::{LeastRun, flat, least_grants, least_run};

@@ -308,7 +308,8 @@ impl<'a> Machine<'a> {
         Ok(true)
     }
 
-    /// Gives these grants, one after the other. Says whether they are all legal, and stops at the first that isn't.
+    /// Gives these grants, one after the other, and stops at the first that isn't legal. The answer is the place of that one, or
+    /// None where all are legal.
     pub(crate) fn grant_all(
         &mut self,
         alloc: Global,
@@ -316,22 +317,21 @@ impl<'a> Machine<'a> {
         code: &DecodedCode,
         fuel: u32,
         grants: &[Grant],
-    ) -> Result<bool, Memory>
+    ) -> Result<Option<usize>, Memory>
         requires code { IsDecoded program.now code.now }
         requires fuel { fuel ≤ 32768 }
         requires locks { length program.now.locks ≤ 32 }
         requires sound { IsSoundFlat program.now fuel self.old }
-        ensures legal { result ≡ Ok true → grants_from program.now fuel (Some self.old) grants.now ≡ Some self.new }
-        ensures illegal { result ≡ Ok false → grants_from program.now fuel (Some self.old) grants.now ≡ None }
-        ensures stops { result ≡ Ok false → IsStoppedAt program.now fuel self.old grants.now self.new }
-        ensures sound { IfOk result (λ legal. IsSoundFlat program.now fuel self.new) }
+        ensures legal { IfOk result (λ stop. IfNone stop (grants_from program.now fuel (Some self.old) grants.now ≡ Some self.new)) }
+        ensures stops { IfOk result (λ stop. IfSome stop (IsStoppedAt program.now fuel self.old grants.now self.new)) }
+        ensures sound { IfOk result (λ stop. IsSoundFlat program.now fuel self.new) }
     {
-        for given in grants {
+        for (place, given) in grants.iter().enumerate() {
             if !self.grant(alloc, program, code, fuel, *given)? {
-                return Ok(false);
+                return Ok(Some(place));
             }
         }
-        Ok(true)
+        Ok(None)
     }
 
     /// Gives the next grant.
@@ -352,6 +352,7 @@ impl<'a> Machine<'a> {
         ensures sound { IfOk result (λ done. IsSoundFlat program.now fuel self.new) }
         ensures work { IfOk result (λ done. work program.now fuel self.new < work program.now fuel self.old) }
     {
+        // the next grant is always legal, so the answer says nothing
         let _legal = self.grant(alloc, program, code, fuel, next)?;
         Ok(())
     }

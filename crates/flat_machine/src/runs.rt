@@ -4,6 +4,7 @@ ghost use Rattle.flat_machine.specs.Ending.{flat_end};
 
 use crate::ending::FlatEnd;
 use crate::machine::Machine;
+use crate::refused::{FlatRun, flat_run};
 use dn_base::{Grant, Memory};
 use effect_checker::Checked;
 use rv_core::DecodedCode;
@@ -19,12 +20,11 @@ use std::alloc::Global;
 /// one, a core whose task doesn't wait for its lock, or a lock that a task holds, or comes when the run is over; or the list
 /// ends while the lock that some task waits for is free.
 ///
-/// The time is in step with the code words, the instructions that retire and the number of grants, and the memory with the code
+/// The time is in proportion to the code words, the instructions that retire and the number of grants, and the memory with the code
 /// words, the data words and the loads.
 ///
 /// # Errors
 /// `Memory` where there is no room for the code, the memory, the tasks, their loads or the end.
-#[tactic(auto, unfolding(crate::specs::Ending::flat_end))]
 pub fn flat(
     alloc: Global,
     checked: &Checked,
@@ -36,16 +36,10 @@ pub fn flat(
     ensures value { IfOk result (λ end. end ≡ flat_end checked.now fuel grants.now) }
     ensures within { IfOk result (λ end. IfSome end (λ e. (length e.ending.memory ≤ 65536) × (length e.ending.tasks ≤ 64))) }
 {
-    let program = checked.program();
-    let code = DecodedCode::new(alloc, program)?;
-    let mut machine = Machine::open(alloc, program, &code, fuel)?;
-    if !machine.grant_all(alloc, program, &code, fuel, grants)? {
-        return Ok(None);
+    match flat_run(alloc, checked, fuel, grants)? {
+        FlatRun::Whole(end) => Ok(Some(end)),
+        FlatRun::Refused { .. } => Ok(None),
     }
-    if machine.next_grant(program, fuel).is_some() {
-        return Ok(None);
-    }
-    Ok(Some(machine.finish(alloc, program, fuel)?))
 }
 
 /// The list of grants that at each point gives the least core whose wanted lock is free that lock, until no task waits for

@@ -1,0 +1,4 @@
+pub mod Forms
+pub mod Found
+pub mod Single
+pub mod Parts

@@ -1,0 +1,4 @@
+pub mod Claim
+pub mod Faults
+pub mod Rows
+pub mod Refusal

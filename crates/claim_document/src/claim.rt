@@ -1,0 +1,72 @@
+ghost use Rattle.std.specs.Prelude.{◌≡◌};
+
+use dn_base::{Grant, Memory as NoRoom, Sequence};
+use flat_machine::TaskLoads;
+use std::alloc::{AllocError, AllocFailed};
+
+/// What a claim is about: the program of a source text, at most 1,048,576 bytes, each of whose tasks may retire `fuel` instructions,
+/// from 1 to 32,768.
+#[derive(Debug, Drop)]
+pub struct Question {
+    pub fuel: u32,
+    pub text: Sequence<u8>,
+}
+
+/// What a simulator says of a run: in which order locks were granted, the loads of each task that started, in the order of the
+/// phases and cores, or None where nothing is said of loads, and the answer, as the mode run prints it.
+#[derive(Debug, Drop)]
+pub struct Claim {
+    pub question: Question,
+    pub grants: Sequence<Grant>,
+    pub loads: Option<Sequence<TaskLoads>>,
+    pub answer: Sequence<u8>,
+}
+
+/// Why some bytes are no claim. The first of these that is true of the bytes is told.
+#[derive(Clone, Copy, Debug, PartialEq, Eq)]
+pub enum ClaimFault {
+    /// There are more than 536,870,912 bytes.
+    TooLarge,
+    /// The bytes don't begin with a head: the first lines and the source text, up to the line that says how many grants follow.
+    Head,
+    /// The grant line of this number, from 0, isn't there whole in its form; all before it are.
+    Grant { number: u32 },
+    /// Behind the grants there is no line that says of how many tasks the loads are claimed.
+    Loads,
+    /// The line of this task, from 0, isn't there whole in its form.
+    Task { number: u32 },
+    /// Of the loads of this task, from 0, the one of this number, from 0, isn't there whole in its form.
+    Load { task: u32, number: u32 },
+    /// There was no memory.
+    Memory,
+}
+
+impl From<NoRoom> for ClaimFault {
+    ghost use Rattle.claim_document.specs.declared.claim.ClaimFault.TheVariants.{Memory as WantsMemory};
+
+    ghost from_gives = { λ _ fault. fault ≡ WantsMemory };
+
+    fn from(_error: NoRoom) -> ClaimFault {
+        ClaimFault::Memory
+    }
+}
+
+impl From<AllocError> for ClaimFault {
+    ghost use Rattle.claim_document.specs.declared.claim.ClaimFault.TheVariants.{Memory as WantsMemory};
+
+    ghost from_gives = { λ _ fault. fault ≡ WantsMemory };
+
+    fn from(_error: AllocError) -> ClaimFault {
+        ClaimFault::Memory
+    }
+}
+
+impl<T: Drop> From<AllocFailed<T>> for ClaimFault {
+    ghost use Rattle.claim_document.specs.declared.claim.ClaimFault.TheVariants.{Memory as WantsMemory};
+
+    ghost from_gives = { λ _ fault. fault ≡ WantsMemory };
+
+    fn from(_error: AllocFailed<T>) -> ClaimFault {
+        ClaimFault::Memory
+    }
+}

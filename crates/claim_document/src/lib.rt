@@ -1,0 +1,17 @@
+//! The claim of a run: what a simulator says of the run of a text, as a document. It lists the grants in their order, the value of
+//! each load, and the answer. A claim is written, and read back; of bytes that are none the first thing that is wrong is told.
+#![tactic(auto)]
+
+mod claim;
+mod head;
+mod laws;
+mod reading;
+mod refusal;
+mod rows;
+mod writing;
+
+pub use claim::{Claim, ClaimFault, Question};
+pub use laws::{a_document_is_of_one_claim, bytes_have_one_fault};
+pub use reading::read_claim;
+pub use refusal::claim_line;
+pub use writing::claim_text;

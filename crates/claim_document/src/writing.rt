@@ -1,0 +1,148 @@
+ghost use Rattle.std.specs.Prelude.{◌≡◌, ◌≤◌, ◌++◌, All, flat_map, length, IfOk, OnOk};
+ghost use Rattle.claim_document.specs.Claim.{title, question_text, head_text, head_of, three_fields, grant_row, load_row, task_head_row, task_rows, head_of_task, loads_head_row, head_of_loads, tasks_text, loads_text, claim_text as text_of, IsClaim, IsLoads, IsTask};
+
+use crate::claim::{Claim, Question};
+use dn_base::{Grant, LoadSeen, Memory, Sequence};
+use document_parts::{push_field, push_source};
+use flat_machine::TaskLoads;
+use std::alloc::Global;
+use text_pieces::{push, push_hexadecimal};
+
+#[tactic(auto, unfolding(crate::specs::Claim::title))]
+fn push_title(out: &mut Vec<u8>) -> Result<(), Memory>
+    ensures { OnOk result (out.new.items ≡ out.old.items ++ title) }
+{
+    push(out, b"denovo-claim 1\n")
+}
+
+/// Adds what is claimed of.
+#[tactic(auto, unfolding(crate::specs::Claim::question_text))]
+fn push_question(out: &mut Vec<u8>, question: &Question) -> Result<(), Memory>
+    requires { length question.now.text ≤ 1048576 }
+    ensures { OnOk result (out.new.items ≡ out.old.items ++ question_text question.now) }
+{
+    push_title(out)?;
+    push_field(out, b"fuel ", question.fuel, b"\n")?;
+    push_source(out, question.text.as_slice())
+}
+
+/// Adds three numbers, the first behind a name, and the end of their line.
+#[tactic(auto, unfolding(crate::specs::Claim::three_fields))]
+fn push_three(
+    out: &mut Vec<u8>,
+    name: &[u8],
+    first: u32,
+    second: u32,
+    third: u32,
+) -> Result<(), Memory>
+    ensures { OnOk result (out.new.items ≡ out.old.items ++ three_fields name.now first second third) }
+{
+    push_field(out, name, first, b" ")?;
+    push_field(out, b"", second, b" ")?;
+    push_field(out, b"", third, b"\n")
+}
+
+fn push_grants(out: &mut Vec<u8>, grants: &[Grant]) -> Result<(), Memory>
+    ensures { OnOk result (out.new.items ≡ out.old.items ++ flat_map grant_row grants.now) }
+{
+    for grant in grants {
+        push_three(out, b"grant ", grant.phase.0, grant.core.0, grant.lock.0)?;
+    }
+    Ok(())
+}
+
+#[tactic(auto, unfolding(crate::specs::Claim::load_row))]
+fn push_load(out: &mut Vec<u8>, load: LoadSeen) -> Result<(), Memory>
+    ensures { OnOk result (out.new.items ≡ out.old.items ++ load_row load) }
+{
+    push_field(out, b"", load.word.0, b" ")?;
+    push_hexadecimal(out, load.value)?;
+    push(out, b"\n")
+}
+
+fn push_loads(out: &mut Vec<u8>, loads: &[LoadSeen]) -> Result<(), Memory>
+    ensures { OnOk result (out.new.items ≡ out.old.items ++ flat_map load_row loads.now) }
+{
+    for load in loads {
+        push_load(out, *load)?;
+    }
+    Ok(())
+}
+
+/// Adds the line of a task, and those of its loads, of which there are fewer than 2^32.
+#[tactic(auto, unfolding(crate::specs::Claim::task_rows))]
+fn push_task(out: &mut Vec<u8>, task: &TaskLoads) -> Result<(), Memory>
+    requires { length task.now.loads ≤ 4294967295 }
+    ensures { OnOk result (out.new.items ≡ out.old.items ++ task_rows task.now) }
+{
+    let count = task.loads.len() as u32;
+    push_three(out, b"task ", task.phase.0, task.core.0, count)?;
+    push_loads(out, task.loads.as_slice())
+}
+
+fn push_tasks(out: &mut Vec<u8>, tasks: &[TaskLoads]) -> Result<(), Memory>
+    requires { All IsTask tasks.now }
+    ensures { OnOk result (out.new.items ≡ out.old.items ++ flat_map task_rows tasks.now) }
+{
+    for task in tasks {
+        push_task(out, task)?;
+    }
+    Ok(())
+}
+
+/// Adds the line that says of how many tasks the loads are claimed.
+#[tactic(auto, unfolding(crate::specs::Claim::loads_head_row))]
+fn push_loads_head(out: &mut Vec<u8>, count: Option<u32>) -> Result<(), Memory>
+    ensures { OnOk result (out.new.items ≡ out.old.items ++ loads_head_row count) }
+{
+    match count {
+        None => push(out, b"loads none\n"),
+        Some(count) => push_field(out, b"loads ", count, b"\n"),
+    }
+}
+
+/// Adds what is said of loads.
+#[tactic(auto, unfolding(crate::specs::Claim::loads_text))]
+fn push_loads_part(out: &mut Vec<u8>, loads: &Option<Sequence<TaskLoads>>) -> Result<(), Memory>
+    requires { IsLoads loads.now }
+    ensures { OnOk result (out.new.items ≡ out.old.items ++ loads_text loads.now) }
+{
+    match loads {
+        None => push_loads_head(out, None),
+        Some(tasks) => {
+            push_loads_head(out, Some(tasks.len() as u32))?;
+            push_tasks(out, tasks.as_slice())
+        }
+    }
+}
+
+/// Adds what stands before so many grants.
+#[tactic(auto, unfolding(crate::specs::Claim::head_text))]
+fn push_head(out: &mut Vec<u8>, question: &Question, count: u32) -> Result<(), Memory>
+    requires { length question.now.text ≤ 1048576 }
+    ensures { OnOk result (out.new.items ≡ out.old.items ++ head_text (record { question = question.now; count = count })) }
+{
+    push_question(out, question)?;
+    push_field(out, b"grants ", count, b"\n")
+}
+
+/// The document of a claim: its first lines tell the fuel and the source text, then come a line for each grant, the loads task by
+/// task or the line that nothing is claimed of them, and the answer as it is. Numbers are decimal, without leading zeros, and values
+/// are in eight hexadecimal digits.
+///
+/// What it tells is within the limits of `Question`, and there are fewer than 2^32 grants, tasks, and loads of a task.
+///
+/// # Errors
+/// `Memory` where there is no room for the document.
+#[tactic(auto, unfolding(crate::specs::Claim::claim_text))]
+pub fn claim_text(alloc: Global, claim: &Claim) -> Result<Vec<u8>, Memory>
+    requires { IsClaim claim.now }
+    ensures { IfOk result (λ document. document.items ≡ text_of claim.now) }
+{
+    let mut out = Vec::new(alloc);
+    push_head(&mut out, &claim.question, claim.grants.len() as u32)?;
+    push_grants(&mut out, claim.grants.as_slice())?;
+    push_loads_part(&mut out, &claim.loads)?;
+    push(&mut out, claim.answer.as_slice())?;
+    Ok(out)
+}

@@ -1,0 +1,3 @@
+pub mod Base16
+pub mod Field
+pub mod Parts

@@ -1,0 +1,79 @@
+ghost use Rattle.std.specs.Prelude.{◌≡◌, ◌≢◌, ◌≤◌, ◌<◌, ◌++◌, ℕ, List, length, IfSome, IfNone};
+ghost use Rattle.text_pieces.specs.Pieces.{hex_digit, hexadecimal as hexadecimal_of};
+ghost use Rattle.document_parts.specs.Field.{Stands, NoneStands};
+ghost use Rattle.document_parts.specs.Base16.{IsWord, digit_of, seems_word};
+
+use crate::numbers::behind;
+
+/// The value below 16 of a byte that is a digit of base 16, in lower case; of another byte some value below 16.
+fn value_of(byte: u8) -> u32
+    ensures value { result ≡ digit_of byte }
+    ensures below { result < 16 }
+{
+    if byte <= b'9' {
+        u32::from(byte % 16)
+    } else {
+        u32::from((byte - b'0' + 9) % 16)
+    }
+}
+
+/// The number that the third to the tenth byte say, if they are hexadecimal digits.
+#[tactic(auto, unfolding(crate::specs::Base16::seems_word))]
+fn number_of(bytes: &[u8]) -> u32
+    requires { 10 ≤ length bytes.now }
+    ensures { result ≡ seems_word bytes.now }
+{
+    value_of(bytes[2]) * 0x1000_0000
+        + value_of(bytes[3]) * 0x100_0000
+        + value_of(bytes[4]) * 0x10_0000
+        + value_of(bytes[5]) * 0x1_0000
+        + value_of(bytes[6]) * 0x1000
+        + value_of(bytes[7]) * 0x100
+        + value_of(bytes[8]) * 0x10
+        + value_of(bytes[9])
+}
+
+/// A digit of base 16.
+fn digit(value: u32) -> u8
+    requires { value < 16 }
+    ensures { result ≡ hex_digit value }
+{
+    if value < 10 {
+        b'0' + value as u8
+    } else {
+        b'a' + (value as u8 - 10)
+    }
+}
+
+/// A number in `0x` and eight hexadecimal digits.
+#[tactic(auto, unfolding(text_pieces::specs::Pieces::hexadecimal))]
+fn written(number: u32) -> [u8; 10]
+    ensures { result ≡ hexadecimal_of number }
+{
+    [
+        b'0',
+        b'x',
+        digit(number >> 28 & 15),
+        digit(number >> 24 & 15),
+        digit(number >> 20 & 15),
+        digit(number >> 16 & 15),
+        digit(number >> 12 & 15),
+        digit(number >> 8 & 15),
+        digit(number >> 4 & 15),
+        digit(number & 15),
+    ]
+}
+
+/// The number that stands in front of some bytes in `0x` and eight hexadecimal digits, with `a` to `f` in lower case; and what
+/// stands behind it.
+pub fn hexadecimal(bytes: &[u8]) -> Option<(u32, &[u8])>
+    ensures some { IfSome result (λ f. Stands IsWord hexadecimal_of bytes.now f.0 f.1.now) }
+    ensures none { IfNone result (NoneStands IsWord hexadecimal_of bytes.now) }
+{
+    if bytes.len() < 10 {
+        return None;
+    }
+    let number = number_of(bytes);
+    let rest = behind(bytes, &written(number))?;
+    Some((number, rest))
+}
