@@ -1,0 +1,15 @@
+//! Where in a source text things come from: for each code word, region, data word, lock, phase and task of a text's program the line
+//! that it comes from, by the definition of the source language.
+#![tactic(auto)]
+
+mod laws;
+mod lines;
+mod places;
+mod words;
+
+pub use laws::{
+    a_code_word_is_one_of_its_line, each_part_of_a_program_has_a_place, each_word_has_its_region,
+};
+pub use lines::line_text;
+pub use places::{CodePlace, Located, Places, TaskPlace, located_program};
+pub use words::{WordPlace, region_of_word};
