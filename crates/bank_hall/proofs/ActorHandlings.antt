@@ -27,7 +27,6 @@ use Rattle.bank_hall.specs.Inbox.{picked_index, picked_out}
 use Rattle.bank_hall.specs.Note.{KeeperNote}
 use Rattle.bank_hall.specs.Banks as banks
 use Rattle.bank_hall.specs.Banks.{BankState, bank_actor, bank_handles, bank_stepped, bank_call}
-use Rattle.bank_hall.specs.Keepers as keepers
 use Rattle.bank_hall.specs.Keepers.{KeeperState, keeper_handles, keeper_stepped, keeper_call}
 use Rattle.bank_hall.specs.Ports.{port_call}
 use Rattle.bank_hall.specs.Halls.{PortEntry, bank_answer, bank_next, port_answer, port_next, keeper_answer, keeper_next}

@@ -1,4 +1,5 @@
--- What an actor did in a history of its calls: the mails that it handled, in their order, and what it told of each.
+-- What an actor did in a history of its calls: the mails that it handled, in their order, and what it told of each. Only laws
+-- speak of it.
 use Rattle.std.specs.Prelude.{◌≡◌, ℕ, ◌^◌, ◌<◌, ◌≤◌, Bool, true, List, [], ◌∷◌, ◌++◌, All, Option, Some, None}
 use Rattle.std.specs.List.{AllPairs}
 use Rattle.message_net.specs.declared.actor.Actor.{Actor}

@@ -149,6 +149,7 @@ impl Object for BankActor {
     }
 }
 
+/// A bank may be sent to another thread, and shared with it. Nobody calls this; the check of its body proves it.
 fn bank_crosses(bank: &BankActor) {
     crosses(bank);
 }

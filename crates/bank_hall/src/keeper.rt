@@ -177,6 +177,7 @@ impl Object for KeeperActor {
     }
 }
 
+/// The keeper may be sent to another thread, and shared with it. Nobody calls this; the check of its body proves it.
 fn keeper_crosses(keeper: &KeeperActor) {
     crosses(keeper);
 }

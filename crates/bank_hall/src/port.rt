@@ -90,6 +90,7 @@ impl Object for Port {
     }
 }
 
+/// A core's inbox may be sent to another thread, and shared with it. Nobody calls this; the check of its body proves it.
 fn port_crosses(port: &Port) {
     crosses(port);
 }

@@ -1,12 +1,12 @@
 mod Letters
 mod ListItems
 mod OwnRow
+mod Listed
 mod CoreEvents
 mod MailEvents
 pub mod LeftLemmas
 mod KeptLemmas
 mod Opened
-mod PickLemmas
 mod ActorLemmas
 pub mod PartsLemmas
 pub mod PickLaws

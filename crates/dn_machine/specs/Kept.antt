@@ -15,7 +15,7 @@ pub record Made : Type 0 where
   pub state : State
   pub made : ℕ
 
--- events that may come, so many, lead from the opened machine of a checked program to the state, but for the order of its
+-- events that may come, so many, lead from the initial machine of a checked program to the state, except for the order of its
 -- mails in flight
 pub record IsLeftByRun (S : State) (made : ℕ) : Type 0 where
   pub ready : IsReady S.setting
@@ -34,7 +34,7 @@ pub record IsKept (S : State) (made : ℕ) : Type 0 where
   pub coherent : Coherent S
   pub first : made ≡ 0 → S ≡ initial_state S.setting
 
--- the opened machine of a program, a shape and a fuel
+-- the initial machine of a program, a shape and a fuel
 pub record IsInitialMachine (program : ProgramParts) (shape : Shape) (fuel : ℕ) (m : Made) : Type 0 where
   pub state : m.state ≡ initial_state m.state.setting
   pub program_is : m.state.setting.program ≡ program

@@ -1,6 +1,7 @@
 pub mod Content
 pub mod Kept
 pub mod Pick
+pub mod OwnRow
 pub mod Schedule
 pub mod Run
 pub mod Ends

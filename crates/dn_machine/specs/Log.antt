@@ -61,6 +61,13 @@ with_event h log =
       ends = with_end h.end log.ends;
     }
 
+-- an event came in a state, which led to another one, and is the last one of the log now
+pub record CameAndNoted (S T : State) (e : Event) (log more : Log) : Type 0 where
+  pub told : Happened
+  pub event : told.event ≡ e
+  pub came : HasCome S T told
+  pub noted : more ≡ with_event told log
+
 -- a log of the events of a run from a state on
 pub record IsLogOf (S : State) (es : List Event) (log : Log) : Type 0 where
   pub events : log.events ≡ es

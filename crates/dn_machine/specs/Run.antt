@@ -49,7 +49,7 @@ pub record HasFewEvents (S : State) (events : List Event) : Type 0 where
   pub few : length events ≤ 12 * (retired_in S events + started_in S events) + 3 * (S.setting.shape.cores * length S.setting.program.phases)
   pub most : length events ≤ 25169664
 
--- the record of a run from a state on, that of the opened machine of a setting, whoever picked its events
+-- the record of a run from a state on, that of the initial machine of a setting, whoever picked its events
 pub record IsMachinesRun (S : State) (r : RunRecord) : Type 0 where
   -- each event may come in its turn, and after them none
   pub complete : IsCompleteRun S r.events
@@ -59,7 +59,7 @@ pub record IsMachinesRun (S : State) (r : RunRecord) : Type 0 where
   pub is_true : IsRecord S r
   -- after each of them the state is coherent, and shows the stores so far
   pub coherent : OfEachFront (IsTrueAfter S) r.events
-  -- and the loads so far are fronts of the flat machine's by the grants so far
+  -- and the loads so far are prefixes of the flat machine's by the grants so far
   pub agrees : OfEachFront (AgreesAfter S.setting) r.events
   -- at the end the loads and the ending are the flat machine's by the grants
   pub flat : HasFlatEnd S.setting r.events

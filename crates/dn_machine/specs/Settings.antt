@@ -18,6 +18,6 @@ pub record IsSettingOf (P : ProgramParts) (machine : Shape) (most : ℕ) (C : Se
   pub shape : C.shape ≡ machine
   pub fuel : C.fuel ≡ most
 
--- the events are a run of the opened machine of this program, shape and fuel
+-- the events are a run of the initial machine of this program, shape and fuel
 abbrev pub IsRunOn : ProgramParts → Shape → ℕ → List Event → Type 0
 IsRunOn P machine most events = (C : Setting) → IsSettingOf P machine most C → IsRun (initial_state C) events

@@ -13,6 +13,7 @@ fn mail_with(pool: &Pool, id: MailId) -> Mail
     requires { 1 ≤ count_of id pool.now.mails }
     ensures { (removed id pool.now.mails).0 ≡ Some result }
 {
+    // for the proof alone: no two mails in flight have one id, so the mail at this place is the one that was counted
     let _count = pool.count();
     let mut place = 0;
     while pool.at(place).id != id {

@@ -1,5 +1,6 @@
-use dn_base::{MOST_CORES, Sequence};
-use message_net::{Event, Pool};
+use crate::own_row::OwnRow;
+use dn_base::Sequence;
+use message_net::Pool;
 use phase_barrier::Keeper;
 use registration_protocol::Node;
 use registry_bank::Bank;
@@ -13,5 +14,5 @@ pub(crate) struct Content {
     pub(crate) keeper: Keeper,
     pub(crate) pool: Pool,
     pub(crate) numbers: Sequence<u32>,
-    pub(crate) own: [Option<Event>; MOST_CORES],
+    pub(crate) own: OwnRow,
 }

@@ -15,7 +15,7 @@ pub(crate) fn generator(seed: u64) -> Pcg32
 
 /// The next word of a generator, with which it goes on to the word behind.
 #[tactic(auto, unfolding(crate::specs::Schedule::word_of, crate::specs::Schedule::after_word))]
-pub(crate) fn draw(generator: &mut Pcg32) -> u32
+pub fn draw(generator: &mut Pcg32) -> u32
     ensures word { result ≡ word_of generator.old }
     ensures rest { generator.new ≡ after_word generator.old }
 {

@@ -46,7 +46,7 @@ impl Content {
             sent,
         );
         let own = own_at(self.nodes.as_slice(), place, context);
-        self.own[place] = own;
+        self.own.set(place, own);
     }
 
     /// The next instruction of a core, which may go on.
@@ -198,6 +198,7 @@ impl Content {
     }
 
     /// An event, which may come.
+    #[inline(always)]
     pub(crate) fn act(&mut self, context: &Context<'_>, event: Event) -> Stepped
         requires whole { IsWhole (state_of (setting context.now) self.old) }
         requires known { KnowsOwn (setting context.now) self.old }

@@ -10,6 +10,7 @@ fn sets_have_one_form(sets: &[WordSet])
     ensures { All IsCanonical sets.now }
 {
     for set in sets {
+        // for the proof alone: the call says that the intervals of the set are canonical
         let _intervals = set.intervals();
     }
 }
@@ -18,6 +19,7 @@ fn sets_have_one_form(sets: &[WordSet])
 fn plan_has_one_form(plan: &PhasePlan)
     ensures { IsInOneForm plan.now }
 {
+    // for the proof alone: the intervals of each set of the plan are canonical
     let _written = plan.written.intervals();
     sets_have_one_form(plan.guarded.as_slice());
 }

@@ -1,4 +1,5 @@
 //! What a pick tells of a state, and what a complete run comes to, for whoever reasons about runs.
+//! These are laws: functions that do nothing, whose contracts say it.
 ghost use Rattle.std.specs.Prelude.{◌≡◌, ◌↔◌, ℕ, List, Some, None, true};
 ghost use Rattle.message_net.specs.declared.event.Event.{Event};
 ghost use Rattle.registration_protocol.specs.Node.{Setting};
@@ -23,7 +24,7 @@ pub fn a_seed_gives_one_complete_run()
     ensures one { (S : State) (seed : ℕ) (events others : List Event) → IsScheduled S seed events → IsScheduled S seed others → events ≡ others }
 {}
 
-/// Whoever picks the events, a complete run of the opened machine comes to all that is promised of runs, if the record tells what is
+/// Whoever picks the events, a complete run of the initial machine comes to all that is promised of runs, if the record tells what is
 /// read off its events.
 pub fn a_complete_run_keeps_the_promises_of_runs()
     ensures { (C : Setting) (r : RunRecord) → IsReady C → IsCompleteRun (initial_state C) r.events → IsRecord (initial_state C) r → IsMachinesRun (initial_state C) r }

@@ -13,6 +13,7 @@ mod laws;
 mod log;
 mod machine;
 mod noting;
+mod own_row;
 mod parts;
 mod picking;
 mod places;
@@ -22,6 +23,7 @@ mod running;
 mod starting;
 mod words;
 
+pub use draws::draw;
 pub use laws::{
     a_complete_run_keeps_the_promises_of_runs, a_pick_is_an_event_that_may_come,
     a_seed_gives_one_complete_run,

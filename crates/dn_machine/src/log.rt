@@ -1,6 +1,6 @@
-ghost use Rattle.std.specs.Prelude.{◌≡◌, ◌+◌, ◌*◌, ◌<◌, ◌≤◌, ◌++◌, length, slice_get, Some, OnOk, IfOk};
+ghost use Rattle.std.specs.Prelude.{◌≡◌, ◌+◌, ◌*◌, ◌<◌, ◌≤◌, [], ◌∷◌, ◌++◌, length, slice_get, Some, OnOk, IfOk};
 ghost use Rattle.std.specs.List.{filter_map};
-ghost use Rattle.grant_log.specs.Counts.{kind_count};
+ghost use Rattle.grant_log.specs.Counts.{kind_count, added};
 ghost use Rattle.dn_machine.specs.Ends.{no_ends, with_end, end_in, end_index, noted_ends};
 ghost use Rattle.run_agreement.specs.Agreed.{listed};
 ghost use Rattle.dn_machine.specs.Log.{no_log, with_event};
@@ -9,10 +9,14 @@ use crate::record::RunRecord;
 use dn_base::{Grant, MOST_CORES, Memory, Sequence};
 use grant_log::Counts;
 use machine_rules::Stepped;
-use message_net::Event;
+use message_net::{Event, EventKind};
 use region_table::{Phase, TaskDecl};
 use rv_core::{Ending, TaskEnd};
 use std::alloc::Global;
+
+/// For how many events a log has room at first. The system gives memory as it is written: so a short run takes no more, and a
+/// longer one is spared most of the moves of its events to a larger place.
+const FIRST_EVENTS: usize = 65536;
 
 /// An event that came: what was observed of it, and how the task of the core that it changed stands, where it has ended or
 /// waits for a lock.
@@ -47,6 +51,7 @@ fn note_end(table: &mut Sequence<Option<TaskEnd>>, end: Option<TaskEnd>)
 {
     if let Some(end) = end {
         let place = MOST_CORES * end.phase.0 as usize + end.core.0 as usize;
+        // an end of a run always has its place; that any other is passed over is what the definition says
         if place < table.len() {
             table.set(place, Some(end));
         }
@@ -60,28 +65,49 @@ impl Log {
         ensures { IfOk result (λ log. log ≡ no_log phases) }
     {
         Ok(Log {
-            events: Sequence::new(alloc),
+            events: Sequence::from_vec(Vec::with_capacity(alloc, FIRST_EVENTS)?),
             grants: Sequence::new(alloc),
             counts: Counts::none(),
             ends: no_ends(alloc, phases)?,
         })
     }
 
+    /// Notes an event of a kind, the grant that it tells, and how the task of the core that it changed stands. The kind's count is
+    /// below the greatest of its type.
+    ///
+    /// # Errors
+    /// `Memory` where there is no room; the log is then of no more use.
+    #[inline(always)]
+    pub(crate) fn note_event(
+        &mut self,
+        event: Event,
+        kind: EventKind,
+        granted: Option<Grant>,
+        end: Option<TaskEnd>,
+    ) -> Result<(), Memory>
+        requires { kind_count kind self.old.counts < 18446744073709551615 }
+        ensures { OnOk result (self.new ≡ record { events = self.old.events ++ event ∷ []; grants = self.old.grants ++ listed granted; counts = added kind self.old.counts; ends = with_end end self.old.ends }) }
+    {
+        self.events.push(event)?;
+        if let Some(grant) = granted {
+            self.grants.push(grant)?;
+        }
+        self.counts.add(kind);
+        note_end(&mut self.ends, end);
+        Ok(())
+    }
+
     /// Notes an event. Its kind's count is below the greatest of its type.
     ///
     /// # Errors
     /// `Memory` where there is no room; the log is then of no more use.
+    #[inline(always)]
     pub fn note(&mut self, happened: Happened) -> Result<(), Memory>
         requires { kind_count happened.observed.kind self.old.counts < 18446744073709551615 }
         ensures { OnOk result (self.new ≡ with_event happened self.old) }
     {
-        self.events.push(happened.event)?;
-        if let Some(grant) = happened.observed.granted {
-            self.grants.push(grant)?;
-        }
-        self.counts.add(happened.observed.kind);
-        note_end(&mut self.ends, happened.end);
-        Ok(())
+        let told = happened.observed;
+        self.note_event(happened.event, told.kind, told.granted, happened.end)
     }
 
     /// Notes how a task stands, in its place.

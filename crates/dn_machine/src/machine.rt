@@ -85,9 +85,11 @@ impl Machine {
         ensures { IfOk result (IsInitialMachine checked shape fuel) }
     {
         let program = checked.program();
+        // for the proof alone: the program is well formed and needs 1 to 16 cores, as the invariant of a machine says
         a_program_is_well_formed(program);
         let _cores = program.cores();
         let plans = plans(alloc, program)?;
+        // for the proof alone: the plans are in one form, which the clause says of them
         plans_have_one_form(plans.as_slice());
         let context = context_of(&checked, &plans, shape, fuel);
         let content = initial_content(alloc, &context)?;
@@ -163,7 +165,7 @@ impl Machine {
         self.content.task_end(core)
     }
 
-    /// Runs the opened machine until no event may come: each event is the one that the next word of the seed's generator picks.
+    /// Runs the initial machine until no event may come: each event is the one that the next word of the seed's generator picks.
     ///
     /// After each event the state is coherent, and its words are the memory to which the stores were applied as they retired; and
     /// the grants so far lead the flat machine to a state in which the loads of each task begin with those so far. At the end the
@@ -188,10 +190,11 @@ impl Machine {
     }
 }
 
-/// Every machine is what a run of the opened machine of a checked program leaves, but for the order of its mails: so it has 1 to 16
+/// Every machine is what a run of the initial machine of a checked program leaves, except for the order of its mails: so it has 1 to 16
 /// cores, is sound and coherent, and is the opened one where no event has come.
 pub fn a_machine_is_kept(machine: &Machine)
     ensures { IsKept machine.now.state machine.now.made }
 {
+    // for the proof alone: a read of a field brings the invariant of the machine, which is the law
     let _made = &machine.made;
 }

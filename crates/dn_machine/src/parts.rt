@@ -70,10 +70,10 @@ impl Machine {
         }
     }
 
-    /// The machine of these parts. They are what a run of `made` events leaves of the opened machine of a checked program, and their
-    /// mails may stand in any order: `what_a_run_leaves_is_kept` says what follows of them. Takes no memory.
+    /// The machine of these parts. They are what `made` events, each of which might come, leave of the initial machine of a checked
+    /// program, with their mails in any order: `what_a_run_leaves_is_kept` says what follows of that. Takes no memory.
     pub fn join(parts: MachineParts) -> Machine
-        requires { IsKept (made_in parts).state parts.made }
+        requires { IsLeftByRun (made_in parts).state parts.made }
         ensures { result ≡ made_in parts }
     {
         let MachineParts {

@@ -1,33 +1,35 @@
-ghost use Rattle.std.specs.Prelude.{◌≡◌, ◌<◌, ◌≤◌, true, ℕ, length, Some, None, Ok, IfOk, OnOk, slice_get};
+ghost use Rattle.std.specs.Prelude.{◌≡◌, ◌<◌, ◌≤◌, true, false, ℕ, length, Some, None, Ok, IfOk, OnOk, slice_get};
 ghost use Rattle.message_net.specs.declared.message.Mail.{Mail};
+ghost use Rattle.message_net.specs.declared.event.Event.{Event as AnEvent};
 ghost use Rattle.message_net.specs.declared.event.Event.TheVariants.{Handle as HandleOf};
+ghost use Rattle.message_net.specs.declared.event.EventKind.{EventKind};
+ghost use Rattle.grant_log.specs.Counts.{kind_count};
 ghost use Rattle.message_net.specs.Pool.{AreDistinct};
 ghost use Rattle.registration_protocol.specs.Node.{Setting};
 ghost use Rattle.registration_protocol.specs.Setting.{setting};
 ghost use Rattle.machine_rules.specs.State.{initial_state};
 ghost use Rattle.machine_rules.specs.Next.{enabled};
 ghost use Rattle.machine_rules.specs.Sound.{IsMachine};
-ghost use Rattle.dn_machine.specs.declared.log.Happened.{Happened as CameOf};
 ghost use Rattle.dn_machine.specs.Content.{state_of, KnowsOwn, IsWhole};
 ghost use Rattle.dn_machine.specs.Ends.{noted_ending};
 ghost use Rattle.dn_machine.specs.Kept.{IsKept};
-ghost use Rattle.dn_machine.specs.Log.{own_core, core_of, end_there, HasCome, no_log, HasRun};
+ghost use Rattle.dn_machine.specs.Log.{own_core, core_of, end_there, CameAndNoted, no_log, HasRun};
 ghost use Rattle.dn_machine.specs.Pick.{pick};
 ghost use Rattle.dn_machine.specs.Run.{IsSeedsRunOf};
 
 use crate::content::Content;
 use crate::draws::{draw, generator};
-use crate::log::{Happened, Log, listed_ends};
+use crate::log::{Log, listed_ends};
 use crate::picking::{Choice, choose};
 use crate::record::RunRecord;
 use dn_base::{CoreId, Memory, Sequence};
-use machine_rules::Stepped;
 use message_net::{Actor, Event};
 use registration_protocol::Context;
 use rv_core::{Ending, TaskEnd, outcome};
 use std::alloc::Global;
 
 /// The core whose own event it is; None for the handling of a mail.
+#[inline(always)]
 fn own_core(event: Event) -> Option<CoreId>
     ensures { result ≡ own_core event }
 {
@@ -40,6 +42,7 @@ fn own_core(event: Event) -> Option<CoreId>
 }
 
 /// The actor, where it is a core.
+#[inline(always)]
 fn core_of(actor: Actor) -> Option<CoreId>
     ensures { result ≡ core_of (Some actor) }
 {
@@ -52,6 +55,7 @@ fn core_of(actor: Actor) -> Option<CoreId>
 
 impl Content {
     /// How the task of a core stands, where a core is asked for.
+    #[inline(always)]
     fn end_there(&self, core: Option<CoreId>) -> Option<TaskEnd>
         ensures { (C : Setting) → result ≡ end_there (state_of C self.now) core }
     {
@@ -61,87 +65,97 @@ impl Content {
         }
     }
 
-    /// The own event of a core, which may come.
-    fn make_own(&mut self, context: &Context<'_>, event: Event) -> Happened
+    /// The own event of a core, which may come, and is noted.
+    ///
+    /// # Errors
+    /// `Memory` where there is no room for the log.
+    fn make_own(&mut self, context: &Context<'_>, event: Event, log: &mut Log) -> Result<(), Memory>
         requires whole { IsWhole (state_of (setting context.now) self.old) }
         requires known { KnowsOwn (setting context.now) self.old }
         requires may { enabled (state_of (setting context.now) self.old) event ≡ true }
         requires own { (core : CoreId) × (own_core event ≡ Some core) }
         requires spare { (setting context.now).shape.cores ≤ self.old.pool.spare }
-        ensures event { result.event ≡ event }
-        ensures came { HasCome (state_of (setting context.now) self.old) (state_of (setting context.now) self.new) result }
+        requires few { (kind : EventKind) → kind_count kind log.old.counts < 18446744073709551615 }
+        ensures came { OnOk result (CameAndNoted (state_of (setting context.now) self.old) (state_of (setting context.now) self.new) event log.old log.new) }
         ensures known { KnowsOwn (setting context.now) self.new }
     {
         let observed = self.act(context, event);
         let end = self.end_there(own_core(event));
-        Happened {
-            event,
-            observed,
-            end,
-        }
+        log.note_event(event, observed.kind, observed.granted, end)
     }
 
-    /// The handling of the mail at a place of the pool, which is taken from there.
-    fn make_handling(&mut self, context: &Context<'_>, place: u32) -> Happened
+    /// The handling of the mail at a place of the pool, which is taken from there; it is noted.
+    ///
+    /// # Errors
+    /// `Memory` where there is no room for the log.
+    fn make_handling(
+        &mut self,
+        context: &Context<'_>,
+        place: u32,
+        log: &mut Log,
+    ) -> Result<(), Memory>
         requires whole { IsWhole (state_of (setting context.now) self.old) }
         requires known { KnowsOwn (setting context.now) self.old }
         requires distinct { AreDistinct self.old.pool.mails }
         requires place { place < length self.old.pool.mails }
         requires spare { (setting context.now).shape.cores ≤ self.old.pool.spare }
-        ensures event { (m : Mail) → slice_get self.old.pool.mails place ≡ Some m → result.event ≡ HandleOf m.id }
-        ensures came { HasCome (state_of (setting context.now) self.old) (state_of (setting context.now) self.new) result }
+        requires few { (kind : EventKind) → kind_count kind log.old.counts < 18446744073709551615 }
+        ensures came { (m : Mail) → slice_get self.old.pool.mails place ≡ Some m
+            → OnOk result (CameAndNoted (state_of (setting context.now) self.old) (state_of (setting context.now) self.new) (HandleOf m.id) log.old log.new) }
         ensures known { KnowsOwn (setting context.now) self.new }
     {
         let mail = self.pool.take_at(place);
         let granted = self.deliver(context, mail.to, mail.message);
-        let observed = Stepped {
-            kind: mail.message.kind(),
-            seen: None,
-            granted,
-        };
         let end = self.end_there(core_of(mail.to));
-        Happened {
-            event: Event::Handle(mail.id),
-            observed,
-            end,
-        }
+        log.note_event(Event::Handle(mail.id), mail.message.kind(), granted, end)
     }
 
-    /// The event that a draw picks, if one may come; there is room for the mails.
-    fn make(&mut self, context: &Context<'_>, draw: u32) -> Option<Happened>
+    /// The event that a draw picks, if one may come, and is noted; there is room for the mails. Whether one came.
+    ///
+    /// # Errors
+    /// `Memory` where there is no room for the log.
+    fn make(&mut self, context: &Context<'_>, draw: u32, log: &mut Log) -> Result<bool, Memory>
         requires machine { IsMachine (state_of (setting context.now) self.old) }
         requires whole { IsWhole (state_of (setting context.now) self.old) }
-        requires most { length self.old.nodes.items ≤ 16 }
         requires known { KnowsOwn (setting context.now) self.old }
         requires spare { (setting context.now).shape.cores ≤ self.old.pool.spare }
-        ensures none { result ≡ None → (pick (state_of (setting context.now) self.old) draw ≡ None) × (state_of (setting context.now) self.new ≡ state_of (setting context.now) self.old) }
-        ensures some { (h : CameOf) → result ≡ Some h → (pick (state_of (setting context.now) self.old) draw ≡ Some h.event)
-            × HasCome (state_of (setting context.now) self.old) (state_of (setting context.now) self.new) h }
+        requires few { (kind : EventKind) → kind_count kind log.old.counts < 18446744073709551615 }
+        ensures over { result ≡ Ok false → (pick (state_of (setting context.now) self.old) draw ≡ None)
+            × (state_of (setting context.now) self.new ≡ state_of (setting context.now) self.old) × (log.new ≡ log.old) }
+        ensures came { result ≡ Ok true → (e : AnEvent) × (pick (state_of (setting context.now) self.old) draw ≡ Some e)
+            × CameAndNoted (state_of (setting context.now) self.old) (state_of (setting context.now) self.new) e log.old log.new }
         ensures known { KnowsOwn (setting context.now) self.new }
     {
         match choose(&self.own, &self.pool, draw) {
-            Some(Choice::Own(event)) => Some(self.make_own(context, event)),
-            Some(Choice::Mail(place)) => Some(self.make_handling(context, place)),
-            None => None,
+            Some(Choice::Own(event)) => {
+                self.make_own(context, event, log)?;
+                Ok(true)
+            }
+            Some(Choice::Mail(place)) => {
+                self.make_handling(context, place, log)?;
+                Ok(true)
+            }
+            None => Ok(false),
         }
     }
 
-    /// The event that a draw picks, if one may come.
+    /// The event that a draw picks, if one may come, and is noted. Whether one came.
     ///
     /// # Errors
-    /// `Memory` where there is no room for the mails.
-    fn advance(&mut self, context: &Context<'_>, draw: u32) -> Result<Option<Happened>, Memory>
+    /// `Memory` where there is no room for the mails or the log.
+    fn advance(&mut self, context: &Context<'_>, draw: u32, log: &mut Log) -> Result<bool, Memory>
         requires machine { IsMachine (state_of (setting context.now) self.old) }
         requires whole { IsWhole (state_of (setting context.now) self.old) }
-        requires most { length self.old.nodes.items ≤ 16 }
         requires known { KnowsOwn (setting context.now) self.old }
-        ensures none { result ≡ Ok None → (pick (state_of (setting context.now) self.old) draw ≡ None) × (state_of (setting context.now) self.new ≡ state_of (setting context.now) self.old) }
-        ensures some { (h : CameOf) → result ≡ Ok (Some h) → (pick (state_of (setting context.now) self.old) draw ≡ Some h.event)
-            × HasCome (state_of (setting context.now) self.old) (state_of (setting context.now) self.new) h }
+        requires few { (kind : EventKind) → kind_count kind log.old.counts < 18446744073709551615 }
+        ensures over { result ≡ Ok false → (pick (state_of (setting context.now) self.old) draw ≡ None)
+            × (state_of (setting context.now) self.new ≡ state_of (setting context.now) self.old) × (log.new ≡ log.old) }
+        ensures came { result ≡ Ok true → (e : AnEvent) × (pick (state_of (setting context.now) self.old) draw ≡ Some e)
+            × CameAndNoted (state_of (setting context.now) self.old) (state_of (setting context.now) self.new) e log.old log.new }
         ensures known { KnowsOwn (setting context.now) self.new }
     {
         self.reserve(context.shape.cores)?;
-        Ok(self.make(context, draw))
+        self.make(context, draw, log)
     }
 
     /// Makes the events that the words of a seed pick one after another, until none may come, and notes them.
@@ -161,9 +175,7 @@ impl Content {
         ensures { OnOk result (HasRun (initial_state (setting context.now)) seed (state_of (setting context.now) self.new) log.new) }
     {
         let mut words = generator(seed as u64);
-        'events: while let Some(happened) = self.advance(context, draw(&mut words))? {
-            log.note(happened)?;
-        }
+        'events: while self.advance(context, draw(&mut words), log)? {}
         Ok(())
     }
 

@@ -11,9 +11,10 @@ ghost use Rattle.machine_rules.specs.State.{initial_state};
 ghost use Rattle.dn_machine.specs.Content.{state_of, in_row, KnowsOwn};
 
 use crate::content::Content;
+use crate::own_row::OwnRow;
 use crate::places::own_at;
 use dn_base::{BankId, CoreId, MOST_CORES, Memory, Sequence, Shape};
-use message_net::{Event, Pool};
+use message_net::Pool;
 use phase_barrier::Keeper;
 use region_table::Program;
 use registration_protocol::{Context, Node};
@@ -89,7 +90,7 @@ pub(crate) fn zeros(alloc: Global, count: u32) -> Result<Sequence<u32>, Memory>
 }
 
 /// What each node does next by itself. Takes no memory.
-pub(crate) fn own_events(nodes: &[Node], context: &Context<'_>) -> [Option<Event>; MOST_CORES]
+pub(crate) fn own_events(nodes: &[Node], context: &Context<'_>) -> OwnRow
     requires most { length nodes.now ≤ 16 }
     requires context { IsContext (setting context.now) }
     requires fits { (core : ℕ) (n : NodeParts) → slice_get nodes.now core ≡ Some n → Fits (setting context.now) n }
@@ -99,7 +100,7 @@ pub(crate) fn own_events(nodes: &[Node], context: &Context<'_>) -> [Option<Event
     for place in 0..nodes.len() {
         own[place] = own_at(nodes, place, context);
     }
-    own
+    OwnRow::new(own)
 }
 
 /// What changes in a machine, as a run begins.

@@ -1,4 +1,4 @@
--- Worlds by the tasks that a phase declares: how each stands on its core.
+-- Worlds by the tasks that a phase declares: how each stands on its core. Only laws speak of them.
 use Rattle.std.specs.Prelude.{◌≡◌, ◌≢◌, ℕ, ◌+◌, true, List, map, slice_get, Option, Some, None}
 use Rattle.std.specs.List.{IsAmong}
 use Rattle.dn_base.specs.declared.ids.Grant.{Grant}

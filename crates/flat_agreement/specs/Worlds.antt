@@ -1,4 +1,4 @@
--- Worlds, and what it means that one leads to a state of the flat machine.
+-- Worlds, and what it means that one leads to a state of the flat machine. Only laws speak of them.
 use Rattle.std.specs.Prelude.{◌≡◌, ◌≢◌, ℕ, ◌+◌, Bool, true, false, List, ◌++◌, length, map, slice_get, slice_index, Option, Some, None}
 use Rattle.dn_base.specs.declared.ids.Grant.{Grant}
 use Rattle.dn_base.specs.declared.ids.LoadSeen.{LoadSeen}
@@ -96,6 +96,6 @@ pub record HasLoadedFirst (all : List TaskLoads) (i : ℕ) (x : TaskLoads) : Typ
   pub more : List LoadSeen
   pub loads : task.loads ≡ x.loads ++ more
 
--- the loads of each task are a front of those at its place in the second list
+-- the loads of each task are a prefix of those at its place in the second list
 abbrev pub AreFronts : List TaskLoads → List TaskLoads → Type 0
 AreFronts some all = (i : ℕ) (x : TaskLoads) → slice_get some i ≡ Some x → HasLoadedFirst all i x

@@ -1,4 +1,5 @@
 //! What keeps it that a world leads to the flat machine's run by the grants so far, and what that run then tells of the world.
+//! These are laws: functions that do nothing, whose contracts say it.
 ghost use Rattle.std.specs.Prelude.{◌≡◌, ◌≤◌, ◌+◌, ℕ, List, [], ◌∷◌, ◌++◌, length, map, slice_get, slice_index, Some, None, true, false};
 ghost use Rattle.std.specs.List.{IsAmong};
 ghost use Rattle.dn_base.specs.declared.ids.Grant.{Grant};
@@ -43,7 +44,7 @@ pub fn the_beginning_of_a_phase_keeps_the_run()
 {}
 
 /// The grants so far have a run, in which each task that has started stands at its place: the same task of the same phase, and
-/// its loads so far are a front of those that it has done in the run.
+/// its loads so far are a prefix of those that it has done in the run.
 pub fn the_loads_of_a_task_are_a_front_of_its_loads_in_the_run()
     ensures value { (P : ProgramParts) (fuel : ℕ) (gs : List Grant) (W : Flat) → (lead : LeadsToRun P fuel gs W) → so_far P fuel gs ≡ Some (settled P fuel lead.flat) }
     ensures later { (P : ProgramParts) (fuel : ℕ) (gs : List Grant) (W F : Flat) → LeadsToRun P fuel gs W → so_far P fuel gs ≡ Some F → AreLater W F }

@@ -11,7 +11,6 @@ use Rattle.message_net.specs.declared.event.Event.{Event}
 use Rattle.message_net.specs.declared.event.Event.TheVariants.{Instr, Evict, Arrive}
 use Rattle.phase_barrier.specs.Barrier.{all_arrived}
 use Rattle.registration_protocol.specs.declared.node.NodeWait as wait
-use Rattle.registration_protocol.specs.declared.node.NodeWait.{NodeWait}
 use Rattle.registration_protocol.specs.Node.{NodeParts, Setting, is_running}
 use Rattle.registration_protocol.specs.OwnEvents.{may_instr, may_evict, may_arrive, end_of, end_by, shown_by}
 use Rattle.machine_rules.specs.State.{State, initial_state}

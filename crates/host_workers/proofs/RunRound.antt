@@ -8,7 +8,8 @@ use Rattle.std.proofs.lemmas.List.Sorted.{All-permutation}
 use Rattle.std.proofs.lemmas.Option.{slice_get_within, slice_get-get_or}
 use Rattle.message_net.specs.declared.message.Mail.{Mail}
 use Rattle.registration_protocol.specs.Node.{Setting}
-use Rattle.machine_rules.specs.State.{State}
+use Rattle.machine_rules.specs.State.{State, initial_state}
+use Rattle.machine_rules.specs.Runs.{after}
 use Rattle.machine_rules.specs.Sound.{IsMachine}
 use Rattle.dn_machine.specs.Kept.{IsKept}
 use Rattle.dn_machine.specs.Parts.{made_in}
@@ -33,6 +34,12 @@ use Rattle.host_workers.proofs.HallObjects.{mapped-at, ports-long, banks-long}
 use Rattle.host_workers.proofs.Passing.{more-same}
 use Rattle.host_workers.proofs.Redealt.{IsBack, recrewed}
 use Rattle.host_workers.proofs.Workers.{place-all, all-places}
+
+-- a machine stands for the state to which the events lead that left it
+pub stands-kept : (M : State) (made : ℕ) → IsKept M made → (S : State) × StandsFor S M
+stands-kept M made kept =
+    let left = kept.left in
+    (after (initial_state M.setting) left.events, record { reached = record { ready = left.ready; before = left.events; run = left.run; leads = refl }; same = left.leads })
 
 -- what moves in a machine is that of its state
 pub moving-of : (S : State) (p : MachineParts) → StandsFor S (made_in p).state → IsKept (made_in p).state p.made

@@ -25,7 +25,7 @@ use Rattle.round_rules.specs.Acts.{Act, steps_by}
 use Rattle.round_rules.specs.Steps.{Goes}
 use Rattle.round_rules.specs.Passes.{held_member}
 use Rattle.round_rules.specs.Rounds as rules
-use Rattle.round_rules.specs.Rounds.{owner, core_at, bank_at, bank_in, keeper_in, HasSameSizes, IsBankClosed, IsKeeperClosed, IsPortClosed, IsHallClosed, HaveWorked, AreNamed}
+use Rattle.round_rules.specs.Rounds.{owner, core_at, bank_at, bank_in, keeper_in, HasSameSizes, IsBankClosed, IsKeeperClosed, IsPortClosed, IsHallClosed, HaveWorked}
 use Rattle.round_rules.proofs.MachineParts.{there}
 use Rattle.round_rules.proofs.Numbers.{remainder}
 use Rattle.round_rules.proofs.Mapped.{long-map}

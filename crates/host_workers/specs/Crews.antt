@@ -13,7 +13,7 @@ use Rattle.host_workers.specs.declared.crew.BankLog.{BankLog}
 use Rattle.host_workers.specs.declared.crew.Crew.{Crew}
 use Rattle.host_workers.specs.declared.owned.Owned.{Owned}
 
--- an owned core but for its number
+-- an owned core except for its number
 abbrev pub held_of : Owned → Held
 held_of o = record { node = o.node; clock = o.clock; next = o.next; log = o.log.items; ends = o.ends.items }
 

@@ -19,7 +19,7 @@ use Rattle.host_workers.specs.declared.working.Job.{Job}
 use Rattle.host_workers.specs.Inboxes.{InboxParts, AreFirstInboxes, AreObjectsOf, AreAtFirst}
 use Rattle.host_workers.specs.Rosters.{RosterParts, IsFreshRoster, AreCrewsOf}
 
--- a run of the machine leads to S, and M is S but for the order of the mails in flight
+-- a run of the machine leads to S, and M is S except for the order of the mails in flight
 pub record StandsFor (S M : State) : Type 0 where
   pub reached : IsReached M.setting S
   pub same : IsReordered S M

@@ -93,7 +93,7 @@ pub record HasWorked (C : Setting) (old new : PassView) (had has : Crew) (count 
   pub is_pass : AreActsOfPass C acts had
   pub order : AllPairs InTurn acts
 
--- One pass of a worker for which there was no room: what it made until then. The hall's pass has the calls of its acts, but for the
+-- One pass of a worker for which there was no room: what it made until then. The hall's pass has the calls of its acts, except for the
 -- posts of some mails that the last event sent; and the crew is the one after all these acts, so that each mail that a take gave was
 -- handled and noted
 pub record HasWorkedPartly (C : Setting) (old new : PassView) (had has : Crew) : Type 0 where

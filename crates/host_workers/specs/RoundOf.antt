@@ -18,7 +18,7 @@ use Rattle.round_rules.specs.Rounds.{IsReached, events_of, noted_kind, end_obser
 use Rattle.host_workers.specs.declared.round.Round.{Round}
 use Rattle.host_workers.specs.Ends.{with_ends}
 
--- the events of a round are a run from a state on; the machine's state then is the one to which they lead but for the order of the
+-- the events of a round are a run from a state on; the machine's state then is the one to which they lead except for the order of the
 -- mails in flight; and their kinds, their grants and the ends that they tell are the run's
 pub record IsRoundFrom (S : State) (r : Round) : Type 0 where
   pub run : IsRun S (events_of r.merged.items)
@@ -48,7 +48,7 @@ pub record HasNoted (entries : List Stamped) (old new : Log) : Type 0 where
   pub counts : (kinds : List EventKind) → IsTallied kinds old → IsTallied (kinds ++ map noted_kind entries) new
   pub ends : new.ends ≡ old.ends
 
--- rounds so far: their events are a run of the opened machine, the machine is in the state to which they lead but for the order of
+-- rounds so far: their events are a run of the initial machine, the machine is in the state to which they lead except for the order of
 -- the mails in flight, and the log tells of them, with the ends with which tasks arrived
 pub record IsRunSoFar (C : Setting) (m : Made) (log : Log) : Type 0 where
   pub ready : IsReady C

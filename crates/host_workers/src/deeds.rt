@@ -73,6 +73,7 @@ pub(crate) fn act(node: &mut Node, context: &Context<'_>, event: Event) -> NodeC
     ensures came { comes_of (setting context.now) (NodeIs node.old) (Makes event) ≡ came_with node.new result }
     ensures fits { Fits (setting context.now) node.new }
 {
+    // for the proof alone: the law says that the own event may come, as the call of it requires
     an_own_event_may_come();
     match event {
         Event::Instr(_) => sends(node.instr(context).sent),

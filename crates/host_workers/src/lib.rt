@@ -4,7 +4,6 @@
 
 mod crew;
 mod deeds;
-mod draws;
 mod emitting;
 mod ends;
 mod finishing;

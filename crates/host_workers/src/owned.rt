@@ -64,7 +64,7 @@ impl Owned {
         has_numbers_left(self.clock, self.next)
     }
 
-    /// Makes room for what one pass notes, at the most two events, so that no mail is taken that can't be noted.
+    /// Makes room for what one pass notes, at most two events, so that no mail is taken that can't be noted.
     ///
     /// # Errors
     /// `Memory` where there is no such room.

@@ -103,10 +103,10 @@ fn put_together(alloc: Global, fixed: FixedParts, finished: Finished) -> Result<
 
 /// One round: so many workers, each on a thread of its own where one can be made, own the cores and banks whose number is theirs
 /// modulo the workers, and the first one the keeper. They make passes over a hall of the machine's objects until nothing more comes,
-/// 4,096 at the most. What was noted of all events is one list then, and the machine is what its events make of it.
+/// 4,096 at most. What was noted of all events is one list then, and the machine is what its events make of it.
 ///
-/// There are 1 to 16 workers. The machine is one that `Machine::start`, `Machine::step` or a round gave, with fewer than 3,000,000,000
-/// events.
+/// There are 1 to 16 workers, and the machine has made fewer than 3,000,000,000 events. What is promised holds from each state that the
+/// machine stands for: one to which a run leads, and which the machine's is except for the order of its mails.
 ///
 /// # Errors
 /// `Memory` where there is no room; the workers have all ended by then, and the machine is dropped.
@@ -121,7 +121,6 @@ pub fn run_round<R: Threads + Wait + Sync, G: Gate + Sync>(
     requires some { 1 ≤ workers }
     requires few { workers ≤ 16 }
     requires made { machine.made < 3000000000 }
-    requires stands { (S : State) × StandsFor S machine.state }
     ensures { IfOk result (λ round. (S : State) → StandsFor S machine.state → IsMadeRound S machine.state machine.made workers round) }
 {
     let MachineParts {

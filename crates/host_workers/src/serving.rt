@@ -4,11 +4,11 @@ ghost use Rattle.registration_protocol.specs.Setting.{setting};
 ghost use Rattle.host_workers.specs.Crews.{held_of, owned_has_numbers, HasRoom, IsOwned};
 ghost use Rattle.host_workers.specs.Work.{MayAct, KeepsNumber, HasTaken, HasMadeOwn, IsMoved, IsCoreServed, HasDoneActs, HaveDone, HasDonePartly, HaveDonePartly};
 
-use crate::draws::draw;
 use crate::emitting::emit;
 use crate::owned::Owned;
 use bank_hall::{Hall, Pass};
 use dn_base::Memory;
+use dn_machine::draw;
 use rand_pcg::Pcg32;
 use registration_protocol::Context;
 use std::sync::Wait;

@@ -5,10 +5,10 @@ ghost use Rattle.host_workers.specs.declared.crew.BankLog.{BankLog as Noted};
 ghost use Rattle.host_workers.specs.Work.{MayAct, KeepsNumber, IsNotedBank, IsStepped, IsNotedKeeper, IsNotedIf, IsKeeperStep, IsKeeperServed, HasDoneActs, HaveDone, HasDonePartly, HaveDonePartly};
 
 use crate::crew::BankLog;
-use crate::draws::draw;
 use crate::emitting::{emit, emit_letters};
 use bank_hall::{Hall, Pass};
 use dn_base::{Gate, Memory};
+use dn_machine::draw;
 use grant_log::Stamped;
 use rand_pcg::Pcg32;
 use region_table::a_program_is_well_formed;
@@ -94,6 +94,7 @@ fn step_keeper<R: Wait>(
     ensures part { OnErr result (HasDonePartly (IsNotedKeeper (setting context.now)) (setting context.now) pass.old pass.new log.old.items log.new.items) }
     ensures few { IfOk result (λ count. count ≤ 1) }
 {
+    // for the proof alone: a well-formed program needs at most 16 cores, so the keeper sends no more letters
     a_program_is_well_formed(context.program);
     log.reserve(1)?;
     let Some(handled) = hall.keeper_step(rt, pass, pick)? else {

@@ -1,7 +1,6 @@
 -- Every event keeps what is known of copies.
 use Rattle.std.proofs.Common.{ℕ, true, false, Some, None, refl, sym, ap, subst, ◌∙◌, arith}
 use Rattle.rv_core.specs.declared.need.Need as need
-use Rattle.rv_core.specs.declared.need.Need.{Need}
 use Rattle.rv_core.specs.Kinds.{IsLoad}
 use Rattle.rv_core.specs.Step.{advanced, loaded_of}
 use Rattle.rv_core.specs.Task.{stopped}

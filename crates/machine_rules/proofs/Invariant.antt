@@ -20,7 +20,6 @@ use Rattle.queue_lock.specs.Lock.{Lock}
 use Rattle.registry_bank.specs.declared.bank.BankWord.TheVariants.{Home, Reg}
 use Rattle.phase_barrier.specs.Barrier.{all_arrived}
 use Rattle.registration_protocol.specs.declared.node.NodeWait as wait
-use Rattle.registration_protocol.specs.declared.node.NodeWait.{NodeWait}
 use Rattle.registration_protocol.specs.Node.{NodeParts, entry_of}
 use Rattle.registration_protocol.specs.OwnEvents.{task_ended_badly}
 use Rattle.registration_protocol.specs.Parts.{held_locks}

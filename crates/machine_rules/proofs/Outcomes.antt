@@ -33,7 +33,6 @@ use Rattle.registry_bank.specs.declared.bank.BankWord.{BankWord}
 use Rattle.registry_bank.specs.declared.bank.BankWord.TheVariants.{Home, Reg}
 use Rattle.phase_barrier.specs.Barrier.{Barrier, with_arrival, in_next_phase, all_arrived, is_over}
 use Rattle.registration_protocol.specs.declared.node.NodeWait as wait
-use Rattle.registration_protocol.specs.declared.node.NodeWait.{NodeWait}
 use Rattle.registration_protocol.specs.Node.{NodeParts, keeping, signature_of, entry_of, is_settled, is_active, is_ready, is_running}
 use Rattle.registration_protocol.specs.OwnEvents.{task_ended_badly, retires, with_put, stored}
 use Rattle.registration_protocol.specs.Messages.{with_entry, lacking, holds_now, begins}

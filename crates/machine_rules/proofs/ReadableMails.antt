@@ -19,7 +19,6 @@ use Rattle.queue_lock.specs.Lock.{Lock, holder_count}
 use Rattle.machine_rules.proofs.WordGood.{value-le}
 use Rattle.word_cache.specs.declared.row.Entry.TheVariants.{Leaving}
 use Rattle.registration_protocol.specs.declared.node.NodeWait as wait
-use Rattle.registration_protocol.specs.declared.node.NodeWait.{NodeWait}
 use Rattle.registration_protocol.specs.Node.{NodeParts}
 use Rattle.machine_rules.specs.State.{State, entry_at, lock_at}
 use Rattle.machine_rules.specs.Flight.{Test, bit, flight, mail_count, is_reg_req_of, is_reg_fwd_of, is_reg_ack_to, is_write_back_of, is_write_back_with, is_wb_ack_to, is_read_req_of, is_read_fwd_of, is_data_reply_to, is_acquire_of, is_release_of, is_grant_to, is_arrival_of, is_go_to, is_halt_to}

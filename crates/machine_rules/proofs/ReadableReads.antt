@@ -8,7 +8,6 @@ use Rattle.message_net.specs.declared.message.Message.TheVariants.{DataReply}
 use Rattle.registry_bank.specs.declared.bank.BankWord.{BankWord}
 use Rattle.registry_bank.specs.declared.bank.BankWord.TheVariants.{Home, Reg}
 use Rattle.registration_protocol.specs.declared.node.NodeWait as wait
-use Rattle.registration_protocol.specs.declared.node.NodeWait.{NodeWait}
 use Rattle.machine_rules.specs.State.{State, entry_at, home_at}
 use Rattle.machine_rules.specs.Memory.{word_value}
 use Rattle.machine_rules.specs.Flight.{bit, flight, mail_count, is_false_data_reply, is_read_fwd_to}

@@ -7,7 +7,6 @@ use Rattle.dn_base.specs.declared.ids.CoreId.{CoreId}
 use Rattle.region_table.specs.declared.declared.TaskDecl.{TaskDecl}
 use Rattle.rv_core.specs.declared.task.TaskState.{TaskState}
 use Rattle.rv_core.specs.declared.need.Need as need
-use Rattle.rv_core.specs.declared.need.Need.{Need}
 use Rattle.rv_core.specs.Access.{may_store}
 use Rattle.rv_core.specs.Step.{advanced}
 use Rattle.rv_core.proofs.Completions.{advanced-held, store-allowed}

@@ -120,7 +120,7 @@ counts_bad S c = slice_index_or S.keeper.arrived c false && bad_in (slice_get S.
 pub record ArePhases (S : State) : Type 0 where
   pub phase : (c : ℕ) (n : NodeParts) → slice_get S.nodes c ≡ Some n → n.halted ≡ false → IsInPhase S c n
   -- of a core that has arrived and isn't halted its arrival is in flight, or it waits in the keeper's set, or it is told to
-  -- go on or to halt, and just one of these; of another core none
+  -- go on or to halt, and exactly one of these; of another core none
   pub whereabouts : (c : ℕ) → flight S (is_arrival_of c) + waits_at_keeper S c + (flight S (is_go_to c) + flight S (is_halt_to c)) ≡ bit (is_alive (slice_get S.nodes c))
   pub arrived : (c : ℕ) (n : NodeParts) → slice_get S.nodes c ≡ Some n → n.arrived ≡ true → HasArrived n
   -- an arrival says truly whether the task was bad, and so does the keeper of those that it has counted
@@ -134,9 +134,9 @@ pub record ArePhases (S : State) : Type 0 where
 pub record AreLocks (S : State) : Type 0 where
   -- nobody waits for a lock without a holder
   pub free : (l : ℕ) (h : Lock) → lock_at S l ≡ Some h → h.holder ≡ None → h.queue ≡ []
-  -- of the holder's grant, its task's holding and its release just one is under way; of other cores none
+  -- of the holder's grant, its task's holding and its release exactly one is in flight; of other cores none
   pub held : (l c : ℕ) → flight S (is_grant_to l c) + bit (has_lock S c l) + flight S (is_release_of l c) ≡ holder_in c (lock_at S l)
-  -- of a core that waits for the lock its request, its place in the queue and its grant: just one; of other cores none
+  -- of a core that waits for the lock its request, its place in the queue and its grant: exactly one; of other cores none
   pub awaited : (l c : ℕ) → flight S (is_acquire_of l c) + queued_in c (lock_at S l) + flight S (is_grant_to l c) ≡ bit (node_is_locking l (slice_get S.nodes c))
   -- a grant carries the kept signature
   pub granted : (m : Mail) (lock : LockId) (s : Signature) → IsInFlight S m → m.message ≡ Grant lock s

@@ -7,12 +7,12 @@ use Rattle.machine_rules.specs.Memory.{memory_of}
 use Rattle.machine_rules.specs.Runs.{after, IsRun}
 use Rattle.machine_rules.specs.Coherent.{Coherent}
 
--- a state is another one but for the order of its mails in flight
+-- a state is another one except for the order of its mails in flight
 pub record IsReordered (S T : State) : Type 0 where
   pub mails : IsPermutation S.mails T.mails
   pub rest : T ≡ record S { mails = T.mails }
 
--- the machine goes on alike from two states, but for the order of the mails in flight
+-- the machine goes on alike from two states, except for the order of the mails in flight
 pub record GoOnAlike (S T : State) : Type 0 where
   -- an event may come in both states or in neither
   pub comes : (e : Event) → enabled S e ≡ enabled T e

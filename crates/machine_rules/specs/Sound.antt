@@ -50,11 +50,11 @@ pub record IsMachine (S : State) : Type 0 where
   pub distinct : AreDistinct S.mails
   pub numbered : (place : ℕ) (m : Mail) → slice_get S.mails place ≡ Some m → m.id.number < slice_index S.numbers (actor_index_in S m.id.sender)
 
--- how often the keeper has posted letters, at the most
+-- how often the keeper has posted letters, at most
 abbrev pub rounds : State → ℕ
 rounds S = S.keeper.phase + bit (all_arrived S.keeper)
 
--- a state that so many events have led to: each sends one mail, but for those in which the keeper sends one to each core
+-- a state that so many events have led to: each sends one mail, except for those in which the keeper sends one to each core
 pub record IsSound (S : State) (made : ℕ) : Type 0 where
   pub machine : IsMachine S
   pub mails : length S.mails ≤ made + S.setting.shape.cores * rounds S

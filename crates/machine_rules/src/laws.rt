@@ -1,4 +1,5 @@
 //! What holds of the machine's states and runs, for whoever reasons about them.
+//! These are laws: functions that do nothing, whose contracts say it.
 ghost use Rattle.std.specs.Prelude.{◌≡◌, ℕ, ◌+◌, ◌*◌, ◌≤◌, true, List, length, Some, slice_index};
 ghost use Rattle.dn_base.specs.declared.ids.LoadSeen.{LoadSeen};
 ghost use Rattle.message_net.specs.declared.event.Event.{Event};
@@ -54,7 +55,7 @@ pub fn a_run_has_few_events()
         → length events ≤ 12 * (retired_in (initial_state C) events + started_in (initial_state C) events) + 3 * (C.shape.cores * length C.program.phases) }
 {}
 
-/// No run goes on for ever: within the limits of programs and of their fuel none has more events than this.
+/// No run goes on forever: within the limits of programs and of their fuel none has more events than this.
 pub fn no_run_goes_on_for_ever()
     ensures { (C : Setting) (events : List Event) → IsReady C → IsRun (initial_state C) events → length events ≤ 25169664 }
 {}

@@ -184,7 +184,7 @@ pub record AreToldInOrder (C : Setting) (S : State) (r : Round) (told : List Don
   pub parts : (a : Actor) → IsIn C a → filter (done_by a) told ≡ events_by C.shape a (r.work (owner r.workers a))
   pub ends : filter_map end_of_done told ≡ read_off end_observed S (events_of r.merged)
 
--- The round is a run of the machine. Its events may come one after the other from S on, and lead to T but for the order of
+-- The round is a run of the machine. Its events may come one after the other from S on, and lead to T except for the order of
 -- the mails in flight; their kinds, grants and ends are the run's; and each has a stamp that is at most its place
 pub record IsRoundOf (C : Setting) (S T : State) (r : Round) : Type 0 where
   pub run : IsRun S (events_of r.merged)

@@ -1,4 +1,5 @@
 //! What holds of rounds, for whoever lets workers make them.
+//! These are laws: functions that do nothing, whose contracts say it.
 ghost use Rattle.std.specs.Prelude.{◌≡◌, ℕ, ◌≤◌, List, ◌++◌};
 ghost use Rattle.dn_base.specs.declared.ids.CoreId.{CoreId};
 ghost use Rattle.dn_base.specs.declared.ids.Shape.{Shape};

@@ -13,7 +13,6 @@ use Rattle.rv_core.specs.declared.task.TaskState.{TaskState}
 use Rattle.rv_core.specs.declared.task.End.{End}
 use Rattle.rv_core.specs.declared.task.End.TheVariants.{Finished, Fuel, Trap}
 use Rattle.rv_core.specs.declared.need.Need as need
-use Rattle.rv_core.specs.declared.need.Need.{Need}
 use Rattle.rv_core.specs.Need.{need_of}
 use Rattle.rv_core.specs.Access.{is_held}
 use Rattle.rv_core.specs.Task.{started}

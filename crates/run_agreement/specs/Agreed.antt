@@ -1,4 +1,5 @@
--- How the tasks of a run stand, and what it means that a state of the machine agrees with the flat machine's run.
+-- How the tasks of a run stand, and what it means that a state of the machine agrees with the flat machine's run. No contract
+-- cites this: it is what the proofs of the laws keep from event to event.
 use Rattle.std.specs.Prelude.{◌≡◌, ℕ, ◌+◌, ◌<◌, List, [], ◌∷◌, ◌++◌, map, take, slice_get, slice_index, Option, Some, None}
 use Rattle.std.specs.Option.{option_or}
 use Rattle.dn_base.specs.declared.ids.Grant.{Grant}

@@ -1,4 +1,4 @@
--- What it means that the loads of a run are fronts of those of the flat machine's run by the same grants.
+-- What it means that the loads of a run are prefixes of those of the flat machine's run by the same grants.
 use Rattle.std.specs.Prelude.{◌≡◌, ℕ, ◌≤◌, List, ◌++◌, slice_get, Some}
 use Rattle.std.specs.List.{IsAmong}
 use Rattle.dn_base.specs.declared.ids.LoadSeen.{LoadSeen}

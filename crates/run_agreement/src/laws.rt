@@ -1,4 +1,5 @@
 //! What holds of every run of the machine beside the flat machine's run by its grants.
+//! These are laws: functions that do nothing, whose contracts say it.
 ghost use Rattle.std.specs.Prelude.{List};
 ghost use Rattle.flat_machine.specs.Phases.{Flat};
 ghost use Rattle.message_net.specs.declared.event.Event.{Event};
@@ -10,7 +11,7 @@ ghost use Rattle.run_agreement.specs.Ends.{HasFlatEnd};
 ghost use Rattle.run_agreement.specs.Fronts.{IsFrontOf};
 
 /// In every run of the machine of a checked program, whole or not, the grants so far lead the flat machine to a state, and the
-/// loads of each task so far are a front of its loads there.
+/// loads of each task so far are a prefix of its loads there.
 pub fn every_run_agrees_with_the_flat_run_of_its_grants()
     ensures { (C : Setting) (events : List Event) → IsReady C → IsRun (initial_state C) events → (F : Flat) × IsFrontOf C events F }
 {}

@@ -58,12 +58,14 @@ impl<O: Object> Drop for TurnPass<O> {
     }
 }
 
+/// Shows that a value may be sent to another thread.
 fn may_be_sent<T: Send>(_value: &T) {}
 
+/// Shows that a value may be shared by threads.
 fn may_be_shared<T: Sync>(_value: &T) {}
 
 /// A turn and its passes may be sent to another thread, and a turn may be shared by threads, where the object and what
-/// its calls take and answer may be sent.
+/// its calls take and answer may be sent. Nobody calls this; the check of its body proves it.
 fn turn_crosses<O: Object + Send>(turn: &Turn<O>, pass: &TurnPass<O>)
 where
     O::In: Send,

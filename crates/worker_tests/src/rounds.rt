@@ -4,7 +4,7 @@ ghost use Rattle.std.specs.Prelude.{◌≡◌, ◌≤◌};
 use crate::texts::{BANKS, LOCKED_COUNTER, STORE_FIVE, events_of_store_five, machine_of};
 use bank_hall::{BankActor, BankIn};
 use dn_base::{BankId, CoreId, Gate, Memory, OpenGate, PhaseId, WordId};
-use dn_machine::{Machine, a_machine_is_kept};
+use dn_machine::Machine;
 use grant_log::Stamped;
 use host_workers::{Round, run_round};
 use message_net::Event;
@@ -30,7 +30,6 @@ fn first_round<R: Threads + Wait + Sync, G: Gate + Sync>(
     requires some { 1 ≤ workers }
     requires few { workers ≤ 16 }
 {
-    a_machine_is_kept(&machine);
     run_round(rt, alloc, machine, workers, 1, gate)
 }
 

@@ -95,7 +95,6 @@ fn count<R: Threads + Wait + Print + Sync>(
 ) -> io::Result<()>
     requires some { 1 ≤ workers }
     requires few { workers ≤ 16 }
-    requires made { machine.made ≡ 0 }
 {
     let Ok(tally) = count_rounds(rt, alloc, machine, workers, SEED) else {
         return println!(rt; "there was no memory");

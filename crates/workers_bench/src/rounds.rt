@@ -1,11 +1,9 @@
 //! How many rounds a run has, and how many passes each worker makes in them.
-ghost use Rattle.std.specs.Prelude.{◌≡◌, ◌<◌, ◌≤◌, false, IfOk};
-ghost use Rattle.machine_rules.specs.State.{State};
-ghost use Rattle.host_workers.specs.Opening.{StandsFor};
+ghost use Rattle.std.specs.Prelude.{◌≡◌, ◌<◌, ◌≤◌, false};
 
 use bank_hall::{BankActor, BankIn, Port, PortIn};
 use dn_base::{Memory, OpenGate};
-use dn_machine::{Machine, a_machine_is_kept};
+use dn_machine::Machine;
 use host_workers::{Round, run_round};
 use std::alloc::Global;
 use std::sync::Wait;
@@ -65,15 +63,7 @@ fn is_over(machine: &Machine) -> bool
     machine.pick(0).is_none() || machine.made() >= MOST_EVENTS
 }
 
-/// As a run begins, the machine stands for a state.
-fn a_first_machine_stands(machine: &Machine)
-    requires { machine.now.made ≡ 0 }
-    ensures { (S : State) × StandsFor S machine.now.state }
-{
-    a_machine_is_kept(machine);
-}
-
-/// One round. Of what it leaves, the count needs only that another round may follow.
+/// One round. The count needs none of its promises.
 fn next_round<R: Threads + Wait + Sync>(
     rt: &R,
     alloc: Global,
@@ -84,11 +74,8 @@ fn next_round<R: Threads + Wait + Sync>(
     requires some { 1 ≤ workers }
     requires few { workers ≤ 16 }
     requires made { machine.made < 3000000000 }
-    requires stands { (S : State) × StandsFor S machine.state }
-    ensures { IfOk result (λ round. (S : State) × StandsFor S round.machine.state) }
 {
-    let made = run_round(rt, alloc, machine, workers, seed, &OpenGate)?;
-    Ok(made)
+    run_round(rt, alloc, machine, workers, seed, &OpenGate)
 }
 
 /// Makes a run in rounds, as `run_workers` does, and counts. Workers that own no bank and no core are not counted.
@@ -104,9 +91,7 @@ pub fn count_rounds<R: Threads + Wait + Sync>(
 ) -> Result<Tally, Memory>
     requires some { 1 ≤ workers }
     requires few { workers ≤ 16 }
-    requires made { machine.made ≡ 0 }
 {
-    a_first_machine_stands(&machine);
     let mut tally = Tally {
         events: 0,
         rounds: 0,

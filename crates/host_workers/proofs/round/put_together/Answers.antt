@@ -1,6 +1,6 @@
 use Rattle.std.proofs.Common.{◌≡◌, ◌+◌, ◌++◌, ◌<◌, length, map, sym, ap, subst, ◌∙◌, arith}
 use Rattle.grant_log.specs.Log.{IsMerge}
-use Rattle.dn_machine.specs.Kept.{Made, IsKept}
+use Rattle.dn_machine.specs.Kept.{Made, IsLeftByRun}
 use Rattle.machine_rules.specs.State.{State}
 use Rattle.round_rules.specs.Rounds.{mail_in}
 use Rattle.round_rules.proofs.Mapped.{long-map}
@@ -56,7 +56,7 @@ join-requires c =
     let count : length c.in_ok-merged.merged.items ≡ c.len.result = omega (arith, c.len.ensures, c.in_ok-merged.merged.ok.0) in
     let numbers = c.in_ok-extend_from_slice.ensures.items ∙ ap (λ l. c.args.finished.parted.next.items ++ l) c.as_slice-3.ensures.value in
     let is = state-joined c.args.finished c.requires.1.setting _ c.in_ok-pool.field-0.mails c.extend_from_slice.new.self.items c.requires.4 c.in_ok-pool.ensures numbers in
-    subst (λ (U : State). IsKept U (c.args.fixed.made + c.len.result)) is (subst (λ n. IsKept (left_in c.requires.1.setting c.args.finished) (c.args.fixed.made + n)) count kept)
+    subst (λ (U : State). IsLeftByRun U (c.args.fixed.made + c.len.result)) is (subst (λ n. IsLeftByRun (left_in c.requires.1.setting c.args.finished) (c.args.fixed.made + n)) count kept.left)
 
 pub returns : goal.returns
 returns c = λ S M workers left frame.

@@ -12,9 +12,6 @@ pub run_round-requires-clause-made : goal.run_round-requires-clause-made
 run_round-requires-clause-made g c κs within =
     omega (arith, few-events c.args.machine.state.setting c.args.machine c.args.log.now c.requires.far, c.requires.far.made)
 
-pub run_round-requires-clause-stands : goal.run_round-requires-clause-stands
-run_round-requires-clause-stands g c κs within = stands-now c.args.machine.state.setting c.args.machine c.args.log.now c.requires.far
-
 pub note_events-requires-clause-few : goal.note_events-requires-clause-few
 note_events-requires-clause-few g c =
     let m = c.args.machine in
