@@ -18,13 +18,13 @@ pub struct Case {
     pub words: Vec<String>,
     /// What the source holds.
     pub text: Vec<u8>,
-    /// How many bytes a read gives at the most.
+    /// How many bytes a read gives at most.
     pub per_read: u32,
     /// The numbers of the reads that fail.
     pub failing_reads: Vec<u32>,
     /// How many bytes the sink has room for.
     pub room: u32,
-    /// How many bytes a write takes at the most.
+    /// How many bytes a write takes at most.
     pub per_write: u32,
     /// The numbers of the writes and flushes that fail.
     pub failing_writes: Vec<u32>,

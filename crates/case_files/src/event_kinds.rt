@@ -1,32 +1,36 @@
 use crate::block::push_line;
 use crate::numeral::positive;
 use crate::trouble::{BadForm, Trouble};
+use message_net::EventKind;
 use std::alloc::{AllocError, Global};
 
-/// The names of the kinds of event, in the order in which their counts are written.
-pub const KINDS: [&str; 17] = [
-    "instr",
-    "evict",
-    "arrive",
-    "read-req",
-    "read-fwd",
-    "data-reply",
-    "reg-req",
-    "reg-fwd",
-    "reg-ack",
-    "write-back",
-    "wb-ack",
-    "acquire",
-    "release",
-    "grant",
-    "arrived",
-    "go",
-    "halt",
+/// The kinds of event with their names, in the order in which their counts are written. The place of a kind's count is its index.
+pub const KINDS: [(EventKind, &str); 17] = [
+    (EventKind::Instr, "instr"),
+    (EventKind::Evict, "evict"),
+    (EventKind::Arrive, "arrive"),
+    (EventKind::ReadReq, "read-req"),
+    (EventKind::ReadFwd, "read-fwd"),
+    (EventKind::DataReply, "data-reply"),
+    (EventKind::RegReq, "reg-req"),
+    (EventKind::RegFwd, "reg-fwd"),
+    (EventKind::RegAck, "reg-ack"),
+    (EventKind::WriteBack, "write-back"),
+    (EventKind::WbAck, "wb-ack"),
+    (EventKind::Acquire, "acquire"),
+    (EventKind::Release, "release"),
+    (EventKind::Grant, "grant"),
+    (EventKind::Arrived, "arrived"),
+    (EventKind::Go, "go"),
+    (EventKind::Halt, "halt"),
 ];
 
-/// The place of the kind with a name among the seventeen.
-fn place_of(name: &str) -> Option<usize> {
-    KINDS.iter().position(|kind| *kind == name)
+/// The kind with a name.
+fn kind_named(name: &str) -> Option<EventKind> {
+    KINDS
+        .iter()
+        .find(|named| named.1 == name)
+        .map(|named| named.0)
 }
 
 /// The counts of the kinds that are named, each with its number behind it; there are none of the others.
@@ -49,26 +53,22 @@ pub fn counts(text: &str) -> Result<[u64; 17], Trouble> {
 }
 
 /// Sets the count of the kind with a name.
-fn set_count(counts: &mut [u64], name: &str, count: u32) -> Result<(), Trouble> {
-    let Some(place) = place_of(name) else {
+fn set_count(counts: &mut [u64; 17], name: &str, count: u32) -> Result<(), Trouble> {
+    let Some(kind) = kind_named(name) else {
         return Err(Trouble::Form(BadForm::NoKind));
     };
-    match counts.get_mut(place) {
-        Some(number) => *number = u64::from(count),
-        None => return Err(Trouble::Form(BadForm::NoKind)),
-    }
+    counts[kind.index()] = u64::from(count);
     Ok(())
 }
 
-/// Adds the lines of these counts: one for all events, and one for each kind.
-pub fn push_counts(alloc: Global, out: &mut Vec<u8>, counts: &[u64]) -> Result<(), AllocError> {
-    let mut events = 0_u64;
-    for count in counts {
-        events = events.saturating_add(*count);
-    }
+/// Adds the lines of these counts, each at its kind's index: one for all events, and one for each kind.
+pub fn push_counts(alloc: Global, out: &mut Vec<u8>, counts: &[u64; 17]) -> Result<(), AllocError> {
+    let events = counts
+        .iter()
+        .fold(0_u64, |events, count| events.saturating_add(*count));
     push_count(alloc, out, "events", events)?;
-    for (kind, count) in KINDS.iter().zip(counts.iter()) {
-        push_count(alloc, out, kind, *count)?;
+    for named in KINDS.iter() {
+        push_count(alloc, out, named.1, counts[named.0.index()])?;
     }
     Ok(())
 }
@@ -79,11 +79,11 @@ fn push_count(alloc: Global, out: &mut Vec<u8>, name: &str, count: u64) -> Resul
     push_line(out, line.as_str())
 }
 
-/// The place of the kind that a line counts, where it is of some events.
-pub fn counted(line: &str) -> Option<usize> {
+/// The kind that a line counts, where it is of some events.
+pub fn counted(line: &str) -> Option<EventKind> {
     let (kind, count) = line.strip_prefix("count ")?.split_once(' ')?;
     match count.parse::<u64>() {
         Ok(0) | Err(_) => None,
-        Ok(_) => place_of(kind),
+        Ok(_) => kind_named(kind),
     }
 }

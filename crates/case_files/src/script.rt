@@ -24,11 +24,7 @@ pub struct ScriptLine {
 
 /// The words of a line.
 fn words<'a>(alloc: Global, line: &'a str) -> Result<Vec<&'a str>, Trouble> {
-    let mut all = Vec::new(alloc);
-    for word in line.split_whitespace() {
-        all.push(word)?;
-    }
-    Ok(all)
+    Ok(line.split_whitespace().collect(alloc)?)
 }
 
 /// The mail that these words name: who sent it, and its number among the mails of that sender, from 0.

@@ -31,11 +31,9 @@ impl Texts {
 
     /// The text of this name.
     pub fn find(&self, name: &str) -> Option<&[u8]> {
-        for named in &self.all {
-            if named.name.as_str() == name {
-                return Some(named.bytes.as_slice());
-            }
-        }
-        None
+        self.all
+            .iter()
+            .find(|named| named.name.as_str() == name)
+            .map(|named| named.bytes.as_slice())
     }
 }

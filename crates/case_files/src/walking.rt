@@ -42,14 +42,20 @@ struct Walk<'a, C: CaseRunner> {
     alloc: Global,
 }
 
-/// Runs the cases of all files whose names end in `.cases`.
-pub fn run_all<C: CaseRunner>(alloc: Global, files: &[Named], runner: &mut C) -> Result<(), Memory>
-    requires { C.can_run }
-{
+/// The bytes of these files, as texts that a case may begin with.
+fn texts_of(alloc: Global, files: &[Named]) -> Result<Texts, Memory> {
     let mut texts = Texts::new(alloc);
     for file in files {
         texts.add(alloc, file.name.as_str(), file.bytes.as_slice())?;
     }
+    Ok(texts)
+}
+
+/// Runs the cases of all files whose names end in `.cases`.
+pub fn run_all<C: CaseRunner>(alloc: Global, files: &[Named], runner: &mut C) -> Result<(), Memory>
+    requires { C.can_run }
+{
+    let texts = texts_of(alloc, files)?;
     let mut walk = Walk {
         runner,
         texts,

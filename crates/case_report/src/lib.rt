@@ -4,6 +4,7 @@
 
 mod agreement;
 mod comparison;
+mod differing;
 mod reach;
 mod report;
 mod written;

@@ -2,10 +2,11 @@ ghost use Rattle.std.specs.Prelude.{◌↔◌, ◌<◌, IsTrue};
 ghost use Rattle.std.specs.List.{All};
 
 use case_files::{KINDS, counted};
+use message_net::EventKind;
 use std::alloc::{AllocError, Global};
 use std::str;
 
-/// In how many cases events of each kind came.
+/// In how many cases events of each kind came, at its index.
 #[derive(Clone, Copy)]
 pub struct Reach {
     cases: [u64; 17],
@@ -28,10 +29,9 @@ impl Reach {
 
     /// Adds a line of what a case wrote.
     fn add_line(&mut self, line: &str) {
-        if let Some(place) = counted(line) {
-            if let Some(number) = self.cases.get_mut(place) {
-                *number = number.saturating_add(1);
-            }
+        if let Some(kind) = counted(line) {
+            let cases = &mut self.cases[kind.index()];
+            *cases = cases.saturating_add(1);
         }
     }
 
@@ -42,12 +42,24 @@ impl Reach {
         self.cases.iter().all(|number| 0 < *number)
     }
 
+    /// Adds the line of a kind, which has this name.
+    fn push_line(
+        &self,
+        alloc: Global,
+        out: &mut String,
+        kind: EventKind,
+        name: &str,
+    ) -> Result<(), AllocError> {
+        let number = self.cases[kind.index()];
+        let line = format!(in alloc; "{name} came in {number} cases\n")?;
+        out.push_str(line.as_str())
+    }
+
     /// A line for each kind.
     pub fn lines(&self, alloc: Global) -> Result<String, AllocError> {
         let mut out = String::new(alloc);
-        for (kind, number) in KINDS.iter().zip(self.cases.iter()) {
-            let line = format!(in alloc; "{kind} came in {number} cases\n")?;
-            out.push_str(line.as_str())?;
+        for named in KINDS.iter() {
+            self.push_line(alloc, &mut out, named.0, named.1)?;
         }
         Ok(out)
     }

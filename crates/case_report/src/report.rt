@@ -1,5 +1,5 @@
-use crate::agreement::stand_in;
 use crate::comparison::Comparison;
+use crate::differing::{differences, is_as_wanted};
 use crate::reach::Reach;
 use crate::written::Written;
 use case_files::{BadForm, Case};
@@ -41,6 +41,15 @@ impl Report {
         self.reach.add(output);
     }
 
+    /// Adds something that differs, by the lines that say how.
+    fn add_difference(&mut self, lines: &str) -> Result<(), AllocError>
+        ensures { OnOk result (Differs self.old self.new) }
+    {
+        self.lines.push_str(lines)?;
+        self.differ = self.differ.saturating_add(1);
+        Ok(())
+    }
+
     /// Adds a case that isn't of the form of a case.
     pub fn add_bad(
         &mut self,
@@ -53,9 +62,7 @@ impl Report {
     {
         let why = why.message();
         let text = format!(in alloc; "{file}:{line}: {why}\n")?;
-        self.lines.push_str(text.as_str())?;
-        self.differ = self.differ.saturating_add(1);
-        Ok(())
+        self.add_difference(text.as_str())
     }
 
     /// Adds a case that was run.
@@ -69,22 +76,12 @@ impl Report {
         ensures agrees { OnOk result (IsAsWanted case.now got.now → Agrees self.old self.new) }
         ensures differs { OnOk result (¬ IsAsWanted case.now got.now → Differs self.old self.new) }
     {
-        let has_ended = case.exit == got.exit;
-        let has_written = stand_in(case.output.as_slice(), got.bytes.as_slice());
-        if has_ended && has_written {
+        if is_as_wanted(case, got) {
             self.agree = self.agree.saturating_add(1);
             return Ok(());
         }
-        self.differ = self.differ.saturating_add(1);
-        if !has_ended {
-            let line = exit_line(alloc, name, case.exit, got.exit)?;
-            self.lines.push_str(line.as_str())?;
-        }
-        if !has_written {
-            let line = output_line(alloc, name, case, got)?;
-            self.lines.push_str(line.as_str())?;
-        }
-        Ok(())
+        let lines = differences(alloc, name, case, got)?;
+        self.add_difference(lines.as_str())
     }
 
     /// Adds how the run of a case stands to the flat machine's.
@@ -106,10 +103,8 @@ impl Report {
             Comparison::OtherEnding => "the flat machine ends otherwise by the grants",
             Comparison::OtherLoads => "the flat machine's tasks load something else by the grants",
         };
-        self.differ = self.differ.saturating_add(1);
         let line = format!(in alloc; "{name}: {why}\n")?;
-        self.lines.push_str(line.as_str())?;
-        Ok(())
+        self.add_difference(line.as_str())
     }
 
     /// Adds whether the time of a case's run is that of the slowest chain.
@@ -126,10 +121,8 @@ impl Report {
             self.times = self.times.saturating_add(1);
             return Ok(());
         }
-        self.differ = self.differ.saturating_add(1);
         let line = format!(in alloc; "{name}: of all chains the slowest takes another time\n")?;
-        self.lines.push_str(line.as_str())?;
-        Ok(())
+        self.add_difference(line.as_str())
     }
 
     /// Whether each case agrees, and so do each run and each time, and events of each kind came in some case.
@@ -148,35 +141,4 @@ impl Report {
              {times} times are those of the slowest of all chains\n{reach}"
         )
     }
-}
-
-fn exit_line(alloc: Global, name: &str, wanted: u8, got: u8) -> Result<String, AllocError> {
-    format!(in alloc; "{name}: exit code {got}, not {wanted}\n")
-}
-
-/// Names the first line in which the output leaves what is wanted.
-fn output_line(
-    alloc: Global,
-    name: &str,
-    case: &Case,
-    got: &Written,
-) -> Result<String, AllocError> {
-    let wanted: &[u8] = match case.output.first() {
-        Some(part) => part.as_slice(),
-        None => b"",
-    };
-    let mut wanted = wanted.split(|byte| *byte == b'\n');
-    let mut number = 0_u64;
-    for line in got.bytes.split(|byte| *byte == b'\n') {
-        number = number.saturating_add(1);
-        let other = wanted.next();
-        if other != Some(line) {
-            let line = String::from_utf8_lossy(alloc, line)?;
-            let other = String::from_utf8_lossy(alloc, other.unwrap_or(b""))?;
-            return format!(in alloc;
-                "{name}: line {number} of the output is \"{line}\", not \"{other}\"\n"
-            );
-        }
-    }
-    format!(in alloc; "{name}: the output has {number} lines, and not all that is wanted\n")
 }

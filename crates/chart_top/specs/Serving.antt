@@ -10,7 +10,7 @@ use Rattle.chart_top.specs.declared.answering.Output.{Output}
 use Rattle.chart_top.specs.declared.options.Options.{Options}
 use Rattle.chart_top.specs.Answers.{IsAnswer}
 
--- the output, whose status is told, was delivered; or the sink failed and took a front of it
+-- the output, whose status is told, was delivered; or the sink failed and took a prefix of it
 abbrev pub IsWritten : Output → SinkState → SinkState → Status → Type 0
 IsWritten out before after end_status =
     ((end_status ≡ out.status) × Delivered before after out.bytes)

@@ -66,7 +66,7 @@ fn draw<S: Source, K: Sink>(
 /// `Usage` where the words aren't the command's; the source is then left alone. Else the source is read to its end, or one byte past
 /// the most that the document of a run may have, and what was read is answered as `answer` says, with its status. The whole answer is
 /// made, and only then written and flushed. `ReadFault` and `WriteFault` come where the source or the sink failed, and `Memory`
-/// where there was no memory: the sink has then taken no more than a front of the answer, and nothing where it didn't fail.
+/// where there was no memory: the sink has then taken no more than a prefix of the answer, and nothing where it didn't fail.
 pub fn chart_main<S: Source, K: Sink>(
     alloc: Global,
     words: &[String],

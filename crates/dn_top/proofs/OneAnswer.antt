@@ -1,7 +1,6 @@
 -- A text has one answer to options.
 use Rattle.std.proofs.Common.{◌≡◌, ◌⊎◌, inl, inr, ℕ, true, false, List, ◌++◌, Some, refl, sym, ap, ◌∙◌}
 use Rattle.dn_base.specs.declared.ids.Grant.{Grant}
-use Rattle.dn_base.specs.declared.status.Status.{Status}
 use Rattle.dn_base.specs.declared.status.Status as status
 use Rattle.dn_base.specs.Status.{status_of}
 use Rattle.region_table.specs.Program.{ProgramParts}

@@ -66,7 +66,7 @@ pub record IsInConflict (program : ProgramParts) (line : List ℕ) : Type 0 wher
 abbrev pub IsUnfit : List ℕ → List ℕ → Type 0
 IsUnfit text line = IsNoProgram text line ⊎ HasProgram text (λ P. IsInConflict P line)
 
--- a refusal has such a line; want of memory says nothing
+-- a refusal has such a line; out of memory says nothing
 abbrev pub IsStop : (List ℕ → Type 0) → Stop → Type 0
 IsStop IsLine (stop.TheVariants.Refused line) = IsLine line
 IsStop IsLine stop.TheVariants.Memory = Unit {0}

@@ -1,4 +1,4 @@
--- What the laws of the program speak of.
+-- What the laws of the program, in src/laws.rt, speak of.
 use Rattle.std.specs.Prelude.{◌≡◌, ◌≢◌, ◌⊎◌, ℕ, false, List, Some}
 use Rattle.std.specs.List.{All}
 use Rattle.dn_base.specs.declared.status.Status as status

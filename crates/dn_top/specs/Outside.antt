@@ -67,7 +67,7 @@ pub record Delivered (before after : SinkState) (output : List ℕ) : Type 0 whe
   pub flushed : IsFlushed after
   pub faultless : after.faults ≡ before.faults
 
--- the sink took a front of the output
+-- the sink took a prefix of the output
 pub record TookFront (before after : SinkState) (output : List ℕ) : Type 0 where
   pub front : List ℕ
   pub rest : List ℕ

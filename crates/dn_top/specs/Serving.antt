@@ -60,7 +60,7 @@ pub record HasRefused (o : Options) (before after : Devices) (text : List ℕ) :
   pub refusal : IsRefusal o text out
   pub took : Took before.sink after.sink out.bytes
 
--- of a sink that failed: it took a front of the answer
+-- of a sink that failed: it took a prefix of the answer
 pub record HasFailed (o : Options) (before after : Devices) (text : List ℕ) : Type 0 where
   pub out : Output
   pub answer : IsAnswer o text out
@@ -72,7 +72,7 @@ pub record HasStatus (o : Options) (text : List ℕ) (s : Status) : Type 0 where
   pub answer : IsAnswer o text out
   pub ends : s ≡ out.status
 
--- a sink that failed took a front of the line that refuses the words, or of the answer to the text that they ask for
+-- a sink that failed took a prefix of the line that refuses the words, or of the answer to the text that they ask for
 abbrev pub has_stopped : Option Options → Devices → Devices → Type 0
 has_stopped None before after = TookFront before.sink after.sink usage_line
 has_stopped (Some o) before after = IfSome (text_to_answer o before.source) (HasFailed o before after)
@@ -125,7 +125,7 @@ pub record Serves (wanted : Option Options) (before after : Devices) (answer : A
   pub refused : answer.status ≡ status.TheVariants.SourceRefused → ForText wanted before.source (λ o text. HasRefused o before after text)
   -- ReadFault comes only where the source failed; the sink was left alone
   pub read_fault : answer.status ≡ status.TheVariants.ReadFault → SourceFailed before.source after.source × IsUntouched before.sink after.sink
-  -- WriteFault comes only where the sink failed; it took a front of what was to be written
+  -- WriteFault comes only where the sink failed; it took a prefix of what was to be written
   pub write_fault : answer.status ≡ status.TheVariants.WriteFault → SinkFailed before.sink after.sink × has_stopped wanted before after
   -- where there was no memory the sink was left alone
   pub memory : answer.status ≡ status.TheVariants.Memory → IsUntouched before.sink after.sink
@@ -158,7 +158,7 @@ answer_to out = record { status = out.status; run = out.run }
 abbrev pub without_run : Status → Answer
 without_run s = record { status = s; run = None }
 
--- the output was delivered and the answer is its status and run, or the sink failed and took a front of its bytes
+-- the output was delivered and the answer is its status and run, or the sink failed and took a prefix of its bytes
 abbrev pub IsWritten : SinkState → SinkState → Output → Answer → Type 0
 IsWritten before after out answer =
     ((answer ≡ answer_to out) × Delivered before after out.bytes)

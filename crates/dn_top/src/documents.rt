@@ -50,7 +50,7 @@ pub(crate) fn trace_run(
     Ok(handed_back(document, run))
 }
 
-/// The refusal of a document for this fault, which isn't want of memory: `Refused` with its line, or `Memory` where there is no
+/// The refusal of a document for this fault, which isn't out of memory: `Refused` with its line, or `Memory` where there is no
 /// room for that.
 pub fn refused_trace(alloc: Global, why: &TraceRefusal) -> Stop
     requires { why.now ≢ OfFault NoMemory }
@@ -96,6 +96,7 @@ fn run_again(alloc: Global, trace: Trace, checked: Checked) -> Result<Output, St
     ensures stop { IfErr result (IsStop (IsNoRun checked trace)) }
 {
     let program = checked.program();
+    // for the proof alone: a well-formed program has few words and tasks, so the record can be printed
     a_program_is_well_formed(program);
     let shape = shape_told(trace.shape, program);
     let events = trace.events.as_slice();

@@ -95,7 +95,7 @@ fn answer_options<R: Threads + Wait + Sync, S: Source, K: Sink, G: Gate + Sync>(
 
 /// The whole program but its `main`: answers these command words and this source.
 ///
-/// It is `answer_words` but for the workers. With one worker the run is made by this thread alone, by the events that the seed
+/// It is `answer_words` except for the workers. With one worker the run is made by this thread alone, by the events that the seed
 /// picks, and the call waits for nobody. With 2 to 16 it is made by as many host threads, in rounds, and which event comes first
 /// is the host's: what holds of a run of one worker holds of each such run, but two calls may make two runs. The threads wait for
 /// turns, inside which the gate is called, so that what is promised then is promised if the call returns.

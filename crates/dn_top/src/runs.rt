@@ -37,6 +37,7 @@ pub(crate) fn shape_of(options: &Options, program: &Program) -> Shape
 pub(crate) fn has_each_kind(counts: &Counts)
     ensures { length counts.now.kinds ≡ 17 }
 {
+    // for the proof alone: a read of a field brings the invariant of the counts, which is the law
     let _kinds = &counts.kinds;
 }
 
@@ -49,8 +50,10 @@ fn machine_run(alloc: Global, options: &Options, checked: Checked) -> Result<Run
 {
     let shape = shape_of(options, checked.program());
     let machine = Machine::start(alloc, checked, shape, options.fuel)?;
+    // for the proof alone: the machine is the opened one, sound and coherent, so that its run has all that is promised of runs
     a_machine_is_kept(&machine);
     let run = machine.run(alloc, options.seed)?;
+    // for the proof alone: the events are fewer than 2^64, and there is a count of each kind, so that the record can be printed
     let _events = run.events.len();
     has_each_kind(&run.counts);
     Ok(run)

@@ -33,8 +33,10 @@ fn machine_run_by_workers<R: Threads + Wait + Sync, G: Gate + Sync>(
 {
     let shape = shape_of(options, checked.program());
     let machine = Machine::start(alloc, checked, shape, options.fuel)?;
+    // for the proof alone: the machine is the opened one, sound and coherent, so that its run has all that is promised of runs
     a_machine_is_kept(&machine);
     let run = run_workers(rt, alloc, machine, options.workers, options.seed, gate)?;
+    // for the proof alone: the events are fewer than 2^64, and there is a count of each kind, so that the record can be printed
     let _events = run.events.len();
     has_each_kind(&run.counts);
     Ok(run)

@@ -33,7 +33,7 @@ pub record IsCheckedPhase (p : Phase) : Type 0 where
   pub plain : (a b w : ℕ) → IsTrue (core_writes p.tasks a w) → IsTrue (core_uses p.tasks b w) → a ≡ b
   -- a word that a lock guards for some task is used plainly by no task
   pub guarded : (lock core w : ℕ) → IsTrue (lock_guards p.tasks lock w) → IsTrue (core_uses p.tasks core w) → ⊥
-  -- a word is guarded by one lock at the most
+  -- a word is guarded by one lock at most
   pub one_lock : (a b w : ℕ) → IsTrue (lock_guards p.tasks a w) → IsTrue (lock_guards p.tasks b w) → a ≡ b
 
 -- each phase of the program is checked

@@ -12,7 +12,7 @@ use std::marker::Model;
 ///
 /// - a word that a task writes plainly, that is whatever locks it holds, is read or written plainly by no other task,
 /// - a word that a lock guards for some task is read or written plainly by no task, and
-/// - a word is guarded by one lock at the most.
+/// - a word is guarded by one lock at most.
 ///
 /// Contracts see the program, and every `Checked` is checked.
 #[derive(Debug, Drop)]
@@ -73,16 +73,17 @@ impl Checked {
             → IsTrue (task_guards t lock w) → IsTrue (uses_plainly u w) → ⊥ }
     {}
 
-    /// A word is guarded by one lock at the most, whichever tasks it is guarded for, in any phase of a checked program.
+    /// A word is guarded by one lock at most, whichever tasks it is guarded for, in any phase of a checked program.
     pub fn guarded_words_have_one_lock()
         ensures { (program : ProgramParts) (p : Phase) (t u : TaskDecl) (a b w : ℕ) → IsChecked program → IsAmong program.phases p → IsAmong p.tasks t → IsAmong p.tasks u
             → IsTrue (task_guards t a w) → IsTrue (task_guards u b w) → a ≡ b }
     {}
 }
 
+/// Shows that a value goes from thread to thread, and may be shared.
 fn crosses<T: Send + Sync>(_value: &T) {}
 
-/// A checked program may be sent to another thread, and shared with it.
+/// A checked program may be sent to another thread, and shared with it. Nobody calls this; the check of its body proves it.
 pub(crate) fn checked_crosses(checked: &Checked) {
     crosses(checked);
 }

@@ -1,5 +1,5 @@
 -- From the tables of all tasks to the answer for a program.
-use Rattle.std.proofs.Common.{◌≡◌, ◌⊎◌, ℕ, ◌+◌, ◌*◌, ◌<◌, ◌≤◌, Bool, true, false, List, length, get_or, slice_get, Option, Some, None, Result, Ok, Err, IfOk, refl, sym, ap, ◌∙◌, subst, arith, ⊎_elim, Decides}
+use Rattle.std.proofs.Common.{◌≡◌, ◌⊎◌, ℕ, ◌+◌, ◌<◌, ◌≤◌, Bool, true, false, List, length, get_or, slice_get, Option, Some, None, Result, Ok, Err, IfOk, refl, sym, ap, ◌∙◌, subst, arith, ⊎_elim, Decides}
 use Rattle.std.specs.List.{All, AllPairs, IsAmong}
 use Rattle.std.proofs.lemmas.Bool.{false≢true, cases_eq, cases_lt, cases_order}
 use Rattle.std.proofs.lemmas.Option.{none-some, same_Some, slice_get-get_or, slice_get_within, get_or_from_slice_get, slice_get_past}
@@ -12,13 +12,13 @@ use Rattle.region_table.specs.declared.declared.Phase.{Phase}
 use Rattle.region_table.proofs.TaskLemmas.{declared-tells, declared-only}
 use Rattle.rv_isa.specs.declared.instr.Instr.{Instr}
 use Rattle.rv_core.specs.Step.{read_instr}
-use Rattle.effect_checker.specs.Least.{IsFirst, IsFirstPair}
+use Rattle.effect_checker.specs.Least.{IsFirst}
 use Rattle.effect_prover.specs.declared.row.Row.{Row}
 use Rattle.effect_prover.specs.declared.proved.Proved.{Proved}
 use Rattle.effect_prover.specs.declared.proved.Proved.TheVariants.{Inside, Unbounded}
 use Rattle.effect_prover.specs.Table.{Table, row_at, address_at, instr_of, IsLeastTable}
 use Rattle.effect_prover.specs.Inside.{IsInside, IsInsideAt, AreInside, IsOutsideAt, IsFirstOutside}
-use Rattle.effect_prover.specs.Answer.{IsProvenTask, IsProven, IsUnbounded, IsUnprovenTask, IsTaskAnswer, IsUnprovenPhase, IsPhaseAnswer, IsProversAnswer, RunsInside}
+use Rattle.effect_prover.specs.Answer.{IsProvenTask, IsProven, IsUnbounded, IsUnprovenTask, IsTaskAnswer, IsUnprovenPhase, IsProversAnswer, RunsInside}
 use Rattle.effect_prover.proofs.TableLemmas.{one-least}
 
 -- ---- one word

@@ -1,6 +1,5 @@
 -- Joined ranges and rows, and the room that they leave.
-use Rattle.std.proofs.Common.{◌≡◌, ◌≢◌, ℕ, zero, suc, ◌+◌, ◌-◌, ◌*◌, ◌^◌, ◌<◌, ◌≤◌, min, max, Bool, true, false, ◌&&◌, nat_lt, ◌⊎◌, inl, inr, List, [], ◌∷◌, length, slice_index_or, slice_set, sum_by, Option, Some, None, refl, sym, ap, ◌∙◌, subst, arith, ⊎_elim, bit_and}
-use Rattle.std.specs.Int.{bit_at}
+use Rattle.std.proofs.Common.{◌≡◌, ◌≢◌, ℕ, suc, ◌-◌, ◌*◌, ◌<◌, ◌≤◌, min, max, Bool, true, ◌&&◌, ◌⊎◌, inl, inr, List, [], ◌∷◌, length, slice_index_or, sum_by, None, refl, sym, ◌∙◌, subst, arith, ⊎_elim, bit_and}
 use Rattle.std.proofs.lemmas.Bool.{and_parts, and_from, cases_lt}
 use Rattle.std.proofs.lemmas.Bool.Decides.{nat_tests}
 use Rattle.std.proofs.lemmas.List.Sums.{sum_by-cons}
@@ -12,8 +11,8 @@ use Rattle.flat_machine.specs.Laws.{HoldsLess}
 use Rattle.effect_prover.specs.declared.range.Range.{Range}
 use Rattle.effect_prover.specs.declared.row.Row.{Row}
 use Rattle.effect_prover.specs.Range.{LiesWithin, IsRange, one}
-use Rattle.effect_prover.specs.Row.{range_of, IsRow, IsBelow, IsUnder}
-use Rattle.effect_prover.specs.Table.{IsEnd, IsHeadRange}
+use Rattle.effect_prover.specs.Row.{range_of, IsRow, IsBelow}
+use Rattle.effect_prover.specs.Table.{IsHeadRange}
 use Rattle.effect_prover.specs.Sweep.{IsEndUpTo, IsEndFrom, IsJoinedRange, IsRowJoined, range_room, row_room, room_of}
 use Rattle.effect_prover.proofs.RangeLemmas.{in-itself}
 

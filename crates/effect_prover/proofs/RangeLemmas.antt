@@ -1,7 +1,6 @@
 -- What the arithmetic of ranges says of their numbers.
-use Rattle.std.proofs.Common.{◌≡◌, ℕ, ◌+◌, ◌-◌, ◌*◌, ◌/◌, ◌%◌, ◌^◌, ◌<◌, ◌≤◌, min, max, Bool, true, false, ◌&&◌, ◌==◌, nat_lt, if◌then◌else◌, refl, sym, ◌∙◌, subst, arith, bit_and, int_lt, Fits}
-use Rattle.std.proofs.lemmas.Bool.{true≢false, ltb-true, ltb-false, lt-ltb, eqb-true, cond_both, and_parts, eq-eqb, and_from}
-use Rattle.std.proofs.lemmas.Bool.Decides.{nat_tests}
+use Rattle.std.proofs.Common.{◌≡◌, ℕ, ◌+◌, ◌-◌, ◌*◌, ◌/◌, ◌%◌, ◌^◌, ◌<◌, ◌≤◌, Bool, true, false, ◌&&◌, ◌==◌, nat_lt, if◌then◌else◌, sym, ◌∙◌, arith, int_lt, Fits}
+use Rattle.std.proofs.lemmas.Bool.{true≢false, ltb-true, lt-ltb, eqb-true, cond_both, and_parts, eq-eqb, and_from}
 use Rattle.std.proofs.lemmas.Nat.{and_le_l, and_le_r, mul-le, pow_pos, shr_le, le-div, mod_below, xor_of_32, or_of_32}
 use Rattle.std.proofs.Math.Nat.{div-mul-le_self}
 use Rattle.std.proofs.Math.Facts.{sfits_to_z, Fits-of_lt, Fits-of_z}
@@ -13,7 +12,7 @@ use Rattle.rv_isa.specs.Meaning.{amount, signed, alu_of}
 use Rattle.rv_isa.specs.declared.instr.AluOp.{AluOp}
 use Rattle.rv_isa.specs.declared.instr.AluOp.TheVariants.{Add, Sub, Sll, Slt, Sltu, Xor, Srl, Sra, Or, And}
 use Rattle.effect_prover.specs.declared.range.Range.{Range}
-use Rattle.effect_prover.specs.Range.{Has, LiesWithin, IsRange, one, every, is_one, is_empty, wrapped_range, shifted_left, shifted_right, form, form_imm, computed, computed_imm, common, below, above, at_least, at_most}
+use Rattle.effect_prover.specs.Range.{Has, LiesWithin, IsRange, one, every, is_one, wrapped_range, form, form_imm, computed, computed_imm}
 
 -- ---- ranges and numbers
 

@@ -1,6 +1,6 @@
 -- Rows: their registers after a write, their order, and their locks.
-use Rattle.std.proofs.Common.{◌≡◌, ℕ, zero, suc, ◌+◌, ◌*◌, ◌^◌, ◌<◌, ◌≤◌, Bool, true, false, ◌&&◌, ◌||◌, not, ◌==◌, nat_lt, if◌then◌else◌, List, length, replicate, slice_index_or, slice_set, Option, Some, None, refl, sym, ap, ◌∙◌, subst, arith, ⊎_elim, bit_and, bit_or, bit_xor}
-use Rattle.std.proofs.lemmas.Bool.{true≢false, false≢true, eqb-true, eqb-false, eq-eqb, cond_both, cases_eq, and_parts, or_cases, or_left, or_right, and_from, ne_eqb, cases_lt}
+use Rattle.std.proofs.Common.{◌≡◌, ℕ, ◌^◌, ◌<◌, ◌≤◌, Bool, true, false, ◌&&◌, not, ◌==◌, if◌then◌else◌, length, replicate, slice_index_or, slice_set, Option, Some, None, refl, sym, ◌∙◌, subst, arith, ⊎_elim, bit_xor}
+use Rattle.std.proofs.lemmas.Bool.{true≢false, false≢true, eqb-false, eq-eqb, cond_both, cases_eq, and_parts, or_cases, or_left, or_right, and_from, ne_eqb, cases_lt}
 use Rattle.std.proofs.lemmas.List.{length-set, get_or-set_same, get_or-set_other, get_or-replicate, length-replicate}
 use Rattle.std.proofs.lemmas.Nat.{or_lt, xor_lt, pow_below}
 use Rattle.region_table.specs.declared.declared.TaskDecl.{TaskDecl}

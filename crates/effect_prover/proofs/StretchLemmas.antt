@@ -1,5 +1,5 @@
 -- Stretches of words, and the addresses that lie in them.
-use Rattle.std.proofs.Common.{◌≡◌, ℕ, zero, suc, ◌+◌, ◌-◌, ◌*◌, ◌/◌, ◌%◌, ◌^◌, ◌<◌, ◌≤◌, max, Bool, true, false, ◌&&◌, ◌||◌, nat_lt, nat_le, if◌then◌else◌, List, [], ◌∷◌, ◌++◌, length, get_or, take, slice_get, Option, Some, None, IsTrue, refl, sym, ap, ◌∙◌, subst, arith, ⊎_elim, Decides}
+use Rattle.std.proofs.Common.{◌≡◌, ℕ, zero, suc, ◌+◌, ◌-◌, ◌*◌, ◌/◌, ◌%◌, ◌^◌, ◌<◌, ◌≤◌, max, Bool, true, false, ◌&&◌, ◌||◌, nat_lt, nat_le, List, [], ◌∷◌, ◌++◌, length, get_or, take, slice_get, Some, None, refl, sym, ap, ◌∙◌, subst, arith, ⊎_elim, Decides}
 use Rattle.std.proofs.lemmas.Bool.{true≢false, false≢true, cases_lt, or_left, or_right, or_from, and_from, and_left, and_right, le-leb, lt-ltb, le-ltb, lt-leb, cond-true, cond-false}
 use Rattle.std.proofs.lemmas.List.{take_more, take_all, length-take-le}
 use Rattle.std.proofs.lemmas.Option.{none-some, same_Some}
@@ -13,7 +13,6 @@ use Rattle.rv_core.specs.Access.{is_held, under}
 use Rattle.rv_core.proofs.HighLocks.{holds-high}
 use Rattle.rv_core.specs.Address.{data_at, size_of}
 use Rattle.effect_prover.specs.declared.range.Range.{Range}
-use Rattle.effect_prover.specs.Range.{Has}
 use Rattle.effect_prover.specs.Inside.{IsAllowed, AreAllowed}
 use Rattle.effect_prover.specs.Stretch.{IsStretch, may_use, AreUsable, IsLastMultiple, IsFirstMultiple}
 

@@ -1,5 +1,5 @@
 -- The successors of a wider row are wider, and the successors of a row are rows.
-use Rattle.std.proofs.Common.{◌≡◌, ℕ, ◌+◌, ◌-◌, ◌*◌, ◌%◌, ◌^◌, ◌<◌, ◌≤◌, min, max, Bool, true, false, ◌&&◌, ◌||◌, ◌==◌, nat_lt, if◌then◌else◌, Option, Some, None, refl, sym, ap, ◌∙◌, subst, arith, ⊎_elim}
+use Rattle.std.proofs.Common.{◌≡◌, ℕ, ◌+◌, ◌-◌, ◌*◌, ◌%◌, ◌^◌, ◌<◌, ◌≤◌, Bool, true, false, ◌&&◌, ◌||◌, ◌==◌, nat_lt, if◌then◌else◌, Option, Some, None, refl, sym, ◌∙◌, subst, arith, ⊎_elim}
 use Rattle.std.proofs.lemmas.Bool.{true≢false, ltb-true, ltb-false, lt-ltb, eqb-true, eq-eqb, cond_both, and_parts, and_from, or_cases, or_parts}
 use Rattle.std.proofs.lemmas.Bool.Decides.{nat_tests}
 use Rattle.std.proofs.lemmas.Int.{ints}
@@ -9,7 +9,6 @@ use Rattle.rv_isa.specs.Meaning.{taken_of}
 use Rattle.rv_isa.specs.Word.{pattern}
 use Rattle.rv_isa.specs.Range.{IsSigned, IsAmount, IsOperand, IsEncodable, HasRegisters}
 use Rattle.rv_isa.specs.Table.{is_shift}
-use Rattle.rv_isa.specs.declared.instr.AluOp.{AluOp}
 use Rattle.rv_isa.specs.declared.instr.Cond.{Cond}
 use Rattle.rv_isa.specs.declared.instr.Cond.TheVariants.{Eq, Ne, Lt, Ge, Ltu, Geu}
 use Rattle.rv_isa.specs.declared.instr.Width.{Width}
@@ -20,11 +19,11 @@ use Rattle.flat_machine.specs.Laws.{HoldsLess}
 use Rattle.effect_prover.specs.declared.range.Range.{Range}
 use Rattle.effect_prover.specs.declared.row.Row.{Row}
 use Rattle.effect_prover.specs.declared.successors.Successors.{Successors}
-use Rattle.effect_prover.specs.Range.{LiesWithin, IsRange, one, every, is_one, is_empty, computed, computed_imm, common, below, above, at_least, at_most}
+use Rattle.effect_prover.specs.Range.{LiesWithin, IsRange, one, is_one, is_empty, computed, computed_imm, common, below, above, at_least, at_most}
 use Rattle.effect_prover.specs.Row.{a0, a7, range_of, with_range, IsRow, IsBelow, IsUnder}
 use Rattle.effect_prover.specs.Successors.{no_successors, falls_through, jumps, narrowed, where_equal, where_less, where_not_less, where_different, are_low, less_branches, not_less_branches, any_branches, branches, branch_on, loadable, held_with, held_without, held_after_acquire, held_after_release, calls, successors}
 use Rattle.effect_prover.proofs.RangeLemmas.{in-itself, one-range, every-range, computed-range, computed-in, computed_imm-range, computed_imm-in}
-use Rattle.effect_prover.proofs.RowLemmas.{with-row, held-row, below-itself, with-below, narrow-below, held-below, none-less, without-less, with-less, more-less, with-small, without-small}
+use Rattle.effect_prover.proofs.RowLemmas.{with-row, held-row, with-below, narrow-below, held-below, none-less, without-less, with-less, more-less, with-small, without-small}
 
 -- the rows of the second contain those of the first
 pub record AreUnder (s t : Successors) : Type 0 where

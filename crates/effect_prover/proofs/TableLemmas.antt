@@ -1,5 +1,5 @@
 -- Tables to which rows are given, word by word.
-use Rattle.std.proofs.Common.{◌≡◌, ◌≢◌, ◌↔◌, ℕ, ◌+◌, ◌-◌, ◌*◌, ◌^◌, ◌<◌, ◌≤◌, Bool, true, false, Decides, List, length, get_or, replicate, slice_index_or, slice_set, sum_by, Option, Some, None, refl, sym, ap, ◌∙◌, subst, arith, ⊎_elim}
+use Rattle.std.proofs.Common.{◌≡◌, ◌≢◌, ℕ, ◌+◌, ◌-◌, ◌*◌, ◌<◌, ◌≤◌, Bool, true, false, Decides, List, length, get_or, replicate, slice_index_or, slice_set, Option, Some, None, refl, sym, ap, ◌∙◌, subst, arith, ⊎_elim}
 use Rattle.std.proofs.lemmas.Bool.{true≢false, cases_eq, cases_lt, eq-eqb, eqb-true}
 use Rattle.std.proofs.lemmas.List.{length-set, get_or-set_same, get_or-set_other, set-get_or, get_or_past, get_or-replicate, length-replicate, ext_get_or}
 use Rattle.std.proofs.lemmas.List.Sums.{sum_by-set}
@@ -21,14 +21,13 @@ use Rattle.region_table.specs.declared.declared.TaskDecl.{TaskDecl}
 use Rattle.rv_isa.specs.Range.{IsEncodable, HasRegisters}
 use Rattle.rv_isa.specs.declared.instr.Instr.{Instr}
 use Rattle.rv_core.specs.Step.{read_instr}
-use Rattle.effect_prover.specs.declared.range.Range.{Range}
 use Rattle.effect_prover.specs.declared.row.Row.{Row}
 use Rattle.effect_prover.specs.declared.successors.Successors.{Successors}
 use Rattle.effect_prover.specs.Range.{one}
 use Rattle.effect_prover.specs.Row.{range_of, start_row, IsRow, IsBelow, IsUnder}
 use Rattle.effect_prover.specs.Successors.{successors}
 use Rattle.effect_prover.specs.Table.{Table, row_at, address_at, instr_of, target_of, IsLoopHead, IsHeadRange, IsTable, Covers, IsPassedOn, IsClosed, IsLeastTable}
-use Rattle.effect_prover.specs.Sweep.{IsRowJoined, IsJoinedTo, row_room, room_of, table_room, HasHeads, row_is_pending, IsTableUnder, IsBelowAll, HasPassedOn, IsSwept, CoversAt, IsRowGiven, IsPut, IsHeadBefore, AreMarked}
+use Rattle.effect_prover.specs.Sweep.{IsJoinedTo, row_room, room_of, table_room, HasHeads, row_is_pending, IsTableUnder, HasPassedOn, IsSwept, CoversAt, IsRowGiven, IsPut, AreMarked}
 use Rattle.effect_prover.proofs.RowLemmas.{under-itself, under-trans}
 use Rattle.effect_prover.proofs.JoinLemmas.{joined-row, joined-first, joined-second, joined-least, grown-room, row-room, same_row, same_range}
 use Rattle.effect_prover.proofs.SuccessorLemmas.{successors-under, IsRowIn}

@@ -10,7 +10,7 @@ use Rattle.region_table.specs.declared.declared.TaskDecl.{TaskDecl}
 use Rattle.region_table.specs.declared.declared.Phase.{Phase}
 use Rattle.rv_isa.specs.declared.instr.Instr.{Instr}
 use Rattle.rv_core.specs.declared.task.End.{End}
-use Rattle.rv_core.specs.declared.task.End.TheVariants.{Finished, Fuel, Trap}
+use Rattle.rv_core.specs.declared.task.End.TheVariants.{Trap}
 use Rattle.rv_core.specs.declared.task.TrapKind as kind
 use Rattle.effect_checker.specs.Least.{IsFirst}
 use Rattle.flat_machine.specs.Step.{Started}

@@ -1,4 +1,4 @@
--- Words that lie one behind the other and that a task may use.
+-- Words that lie one after the other and that a task may use.
 use Rattle.std.specs.Prelude.{◌≡◌, ℕ, ◌%◌, ◌<◌, ◌≤◌, Bool, true, false}
 use Rattle.rv_isa.specs.declared.instr.Width.{Width}
 use Rattle.region_table.specs.declared.declared.TaskDecl.{TaskDecl}

@@ -6,9 +6,9 @@ use Rattle.rv_isa.specs.declared.instr.Instr.{Instr}
 use Rattle.effect_prover.specs.declared.range.Range.{Range}
 use Rattle.effect_prover.specs.declared.row.Row.{Row}
 use Rattle.effect_prover.specs.Range.{LiesWithin, IsRange}
-use Rattle.effect_prover.specs.Row.{range_of, start_row, IsUnder}
+use Rattle.effect_prover.specs.Row.{range_of, IsUnder}
 use Rattle.effect_prover.specs.Successors.{successors}
-use Rattle.effect_prover.specs.Table.{Table, row_at, address_at, instr_of, target_of, IsLoopHead, IsEnd, IsHeadRange, IsTable, Covers, IsPassedOn, IsClosed}
+use Rattle.effect_prover.specs.Table.{Table, row_at, address_at, instr_of, IsLoopHead, IsEnd, IsHeadRange, IsTable, Covers, IsPassedOn, IsClosed}
 
 -- ---- joined ranges and rows
 
@@ -48,7 +48,7 @@ IsJoinedTo head argument (Some old) given new = IsRowJoined head argument old gi
 abbrev pub range_room : Range → ℕ
 range_room range = range.lo + (4294967295 - range.hi)
 
--- how far a row can grow at the most, and how far a word can that isn't reached yet
+-- how far a row can grow at most, and how far a word can that isn't reached yet
 abbrev pub row_room : Row → ℕ
 row_room row = sum_by range_room row.ranges + row.held
 

@@ -1,4 +1,5 @@
 //! What a task's tables say of every run.
+//! These are laws: functions that do nothing, whose contracts say it.
 ghost use Rattle.std.specs.Prelude.{◌≡◌, ℕ};
 ghost use Rattle.region_table.specs.Program.{ProgramParts, IsProgram};
 ghost use Rattle.region_table.specs.Numbers.{HasWords};

@@ -128,6 +128,7 @@ fn prove_program(alloc: Global, program: &Program) -> Result<Proved, Memory>
     ensures value { IfOk result (IsProversAnswer program.now) }
     ensures sound { IfOk result (λ answer. answer ≡ Inside → RunsInside program.now) }
 {
+    // for the proof alone: the law makes the clause sound of the clause value
     a_proven_program_runs_inside();
     let heads = heads(alloc, program)?;
     check_phases(alloc, program, program.phases.as_slice(), heads.as_slice())
@@ -149,6 +150,7 @@ pub fn prove(alloc: Global, checked: &Checked) -> Result<Proved, Memory>
     ensures sound { IfOk result (λ answer. answer ≡ Inside → RunsInside checked.now) }
 {
     let program = checked.program();
+    // for the proof alone: the program is well formed, and its words have 32 bits, as prove_program requires
     a_program_is_well_formed(program);
     a_program_has_words(program);
     prove_program(alloc, program)

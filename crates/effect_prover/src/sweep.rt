@@ -244,6 +244,7 @@ pub(crate) fn least_table(
     ensures { IfOk result (λ rows. IsLeastTable program.now task.now rows.items) }
 {
     let words = heads.len();
+    // for the proof alone: the read says that the argument has 32 bits
     let _argument = task.arg;
     let mut rows: Vec<Option<Row>> = vec![in alloc; None; words]?;
     let mut pending: Vec<bool> = vec![in alloc; false; words]?;

@@ -1,7 +1,7 @@
 ghost use Rattle.std.specs.Prelude.{◌≡◌};
 
-use dn_base::{BankId, CoreId};
-use message_net::{Actor, EventKind, Mail, Message, Outgoing, Pool};
+use dn_base::CoreId;
+use message_net::{Actor, Mail, Message, Outgoing, Pool};
 use std::test::Fail;
 
 /// A mail of core 0 to the keeper: the core has arrived, and its task was not bad.
@@ -13,15 +13,6 @@ fn arrival(number: u32) -> Mail
         bad: false,
     };
     Outgoing::to_keeper(message).mail(Actor::Core(CoreId(0)), number)
-}
-
-/// Whether cores stand before banks and banks before the keeper, and kinds of messages in the order of messages.
-fn are_in_order() -> bool {
-    Actor::Core(CoreId(2)) < Actor::Bank(BankId(0))
-        && Actor::Bank(BankId(1)) < Actor::Keeper
-        && EventKind::Arrive.index() < EventKind::ReadReq.index()
-        && EventKind::Go.index() < EventKind::Halt.index()
-        && Message::Halt.kind() == EventKind::Halt
 }
 
 #[test]
@@ -36,6 +27,5 @@ fn the_last_mail_moves_into_the_free_place(rt: HostRuntime) -> Result<(), Fail> 
     assert_eq!(rt; pool.count(), 1);
     assert_eq!(rt; pool.at(0), arrival(1));
     assert_eq!(rt; pool.take(first), None);
-    assert!(rt; are_in_order());
     Ok(())
 }

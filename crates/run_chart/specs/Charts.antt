@@ -20,7 +20,7 @@ blank m = record { machine = m; sent = []; event = 0; line = 0; rows = [] }
 abbrev pub chart_in : Shape → Drawing → Chart
 chart_in shape d = record { cores = shape.cores; banks = shape.banks; rows = d.rows; lines = d.line }
 
--- the chart of the events that come from the opened machine on
+-- the chart of the events that come from the initial machine on
 abbrev pub chart_of : Setting → List Event → Range → List ℕ → Chart
 chart_of C events range chain = chart_in C.shape (draw range chain (blank (record { state = initial_state C; made = 0 })) events)
 

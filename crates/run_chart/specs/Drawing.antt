@@ -1,5 +1,6 @@
 -- How a chart is drawn, event by event.
-use Rattle.std.specs.Prelude.{ℕ, ◌+◌, ◌==◌, Bool, true, false, ◌&&◌, ◌||◌, nat_le, nat_lt, List, [], ◌∷◌, ◌++◌, length, Option, Some, None, if◌then◌else◌}
+use Rattle.std.specs.Prelude.{ℕ, ◌+◌, ◌==◌, Bool, ◌&&◌, nat_le, nat_lt, List, [], ◌∷◌, ◌++◌, length, Option, Some, None, if◌then◌else◌}
+use Rattle.std.specs.List.{list_any}
 use Rattle.message_net.specs.declared.actor.Actor.{Actor}
 use Rattle.message_net.specs.declared.actor.Actor.TheVariants.{Keeper}
 use Rattle.message_net.specs.declared.event.Event.{Event}
@@ -11,6 +12,7 @@ use Rattle.message_chart.specs.declared.chart.ChartRow.{ChartRow}
 use Rattle.message_chart.specs.declared.states.WordChange.{WordChange}
 use Rattle.run_chart.specs.declared.drawing.Drawing.{Drawing}
 use Rattle.run_chart.specs.declared.drawing.Range.{Range}
+use Rattle.run_chart.specs.declared.mails.SentMail.{SentMail}
 use Rattle.run_chart.specs.Mails.{noted_mails, origin_of}
 use Rattle.run_chart.specs.Words.{changes_in}
 
@@ -28,8 +30,7 @@ event_maker S e = the_actor (actor_in S e)
 
 -- whether an event is on the chain
 abbrev pub is_on_chain : List ℕ → ℕ → Bool
-is_on_chain [] event = false
-is_on_chain (m ∷ ms) event = (m == event) || is_on_chain ms event
+is_on_chain chain event = list_any (λ (number : ℕ). number == event) chain
 
 -- how many lines a row with these changes has
 abbrev pub height : List WordChange → ℕ
@@ -40,18 +41,21 @@ height (c ∷ cs) = length (c ∷ cs)
 abbrev pub has_row : Range → Drawing → Bool
 has_row range d = nat_le range.first d.event && nat_lt (length d.rows) range.most
 
--- the row of an event
-abbrev pub row_of : List ℕ → Drawing → Event → ChartRow
-row_of chain d e =
+-- the row of event number `event`, on its first line, by the machine and the lines of the mails before it
+abbrev pub row_by : Made → List SentMail → Event → ℕ → ℕ → Bool → ChartRow
+row_by m sent e event line on_chain =
     record {
-      event = d.event;
-      actor = event_maker d.machine.state e;
-      kind = kind_in d.machine.state e;
-      line = d.line;
-      mail = origin_of d.sent e;
-      changes = changes_in d.machine.state (next d.machine.state e) (event_maker d.machine.state e);
-      on_chain = is_on_chain chain d.event;
+      event = event;
+      actor = event_maker m.state e;
+      kind = kind_in m.state e;
+      line = line;
+      mail = origin_of sent e;
+      changes = changes_in m.state (next m.state e) (event_maker m.state e);
+      on_chain = on_chain;
     }
+
+abbrev pub row_of : List ℕ → Drawing → Event → ChartRow
+row_of chain d e = row_by d.machine d.sent e d.event d.line (is_on_chain chain d.event)
 
 -- the drawing with one event more, which has a row
 abbrev pub with_row : List ℕ → Drawing → Event → Drawing

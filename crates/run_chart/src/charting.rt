@@ -27,7 +27,7 @@ fn blank(alloc: Global, machine: Machine) -> Drawing
 ///
 /// A row tells which actor makes the event, its kind, where the mail that it handles comes from, and each data word for which
 /// the actor has something else after the event than before it. The chart goes as far as the events may come one after the other from
-/// the opened machine of the checked program, this shape and this fuel on; those of a run all may.
+/// the initial machine of the checked program, this shape and this fuel on; those of a run all may.
 ///
 /// The shape has the cores that the program needs, 1 to 16 banks, 1 to 256 sets and 1 to 16 ways, a task may retire `fuel`
 /// instructions, 1 to 32,768, there are at most 25,169,664 events, and the range has at most 4,096.
@@ -49,6 +49,7 @@ pub fn chart(
     ensures { IfOk result (IsChartOf checked shape fuel events.now range chain.now) }
 {
     let machine = Machine::start(alloc, checked, shape, fuel)?;
+    // for the proof alone: no event has come, so the machine is the opened one, sound and coherent
     a_machine_is_kept(&machine);
     let Drawing {
         machine: _,

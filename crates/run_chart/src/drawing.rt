@@ -3,7 +3,7 @@ ghost use Rattle.machine_rules.specs.Next.{enabled, kind_in, next};
 ghost use Rattle.dn_machine.specs.Actors.{actor_in};
 ghost use Rattle.dn_machine.specs.Kept.{IsKept};
 ghost use Rattle.dn_machine.specs.Parts.{made_in};
-ghost use Rattle.run_chart.specs.Drawing.{draw, drawn, has_row, height, is_on_chain, event_maker, moved, with_row, without_row};
+ghost use Rattle.run_chart.specs.Drawing.{draw, drawn, has_row, height, is_on_chain, moved, row_by, with_row, without_row};
 ghost use Rattle.run_chart.specs.Words.{changes_in, word_states};
 
 use crate::mails::{SentMail, noted_mails, origin_of};
@@ -76,16 +76,52 @@ fn make(machine: Machine, event: Event) -> Result<Came, Memory>
     })
 }
 
+/// An event that has a row: the row, and the parts of the machine after the event.
+#[derive(Drop)]
+struct Rowed {
+    row: ChartRow,
+    parts: MachineParts,
+}
+
+/// Makes an event, which may come and has this number and this first line, and gives its row.
+fn make_row(
+    alloc: Global,
+    machine: Machine,
+    sent: &[SentMail],
+    event: Event,
+    number: u32,
+    line: u32,
+    on_chain: bool,
+) -> Result<Rowed, Memory>
+    requires may { enabled machine.state event ≡ true }
+    requires made { machine.made < 4000000000 }
+    ensures row { IfOk result (λ rowed. rowed.row ≡ row_by machine sent.now event number line on_chain) }
+    ensures parts { IfOk result (λ rowed. made_in rowed.parts ≡ moved machine event) }
+    ensures kept { IfOk result (λ rowed. IsKept (made_in rowed.parts).state rowed.parts.made) }
+    ensures most { IfOk result (λ rowed. length rowed.row.changes ≤ 65536) }
+{
+    let actor = machine.actor(&event);
+    let mail = origin_of(sent, event);
+    let Look { machine, states } = look_at(alloc, machine, actor)?;
+    let Came { kind, parts } = make(machine, event)?;
+    let changes = changes(alloc, &parts, actor, states.as_slice())?;
+    let row = ChartRow {
+        event: number,
+        actor,
+        kind,
+        line,
+        mail,
+        changes,
+        on_chain,
+    };
+    Ok(Rowed { row, parts })
+}
+
 /// Whether an event is on the chain.
 fn is_on_chain(chain: &[u32], event: u32) -> bool
     ensures { result ≡ is_on_chain chain.now event }
 {
-    for number in chain {
-        if *number == event {
-            return true;
-        }
-    }
-    false
+    chain.iter().any(|number| *number == event)
 }
 
 /// How many lines a row with these changes has.
@@ -148,25 +184,21 @@ impl Drawing {
             sent,
             event: number,
             line,
-            rows,
+            mut rows,
         } = self;
-        let actor = machine.actor(&event);
-        let mail = origin_of(sent.as_slice(), event);
-        let Look { machine, states } = look_at(alloc, machine, actor)?;
-        let Came { kind, parts } = make(machine, event)?;
-        let changes = changes(alloc, &parts, actor, states.as_slice())?;
-        let sent = noted_mails(alloc, &parts.pool, Some(line), sent.as_slice())?;
-        let lines = height(changes.as_slice());
-        let mut rows = rows;
-        rows.push(ChartRow {
-            event: number,
-            actor,
-            kind,
+        let on_chain = is_on_chain(chain, number);
+        let Rowed { row, parts } = make_row(
+            alloc,
+            machine,
+            sent.as_slice(),
+            event,
+            number,
             line,
-            mail,
-            changes,
-            on_chain: is_on_chain(chain, number),
-        })?;
+            on_chain,
+        )?;
+        let lines = height(row.changes.as_slice());
+        let sent = noted_mails(alloc, &parts.pool, Some(line), sent.as_slice())?;
+        rows.push(row)?;
         Ok(Drawing {
             machine: Machine::join(parts),
             sent,

@@ -1,20 +1,14 @@
 -- What is written in one way is read in one way: two values whose texts begin the same bytes are one, and so is what stands behind them.
-use Rattle.std.proofs.Common.{◌≡◌, ℕ, zero, suc, ◌+◌, ◌^◌, ◌<◌, ◌≤◌, Bool, true, false, All, List, [], ◌∷◌, ◌++◌, length, get_or, drop, codes, refl, sym, ap, subst, ◌∙◌, arith, length-append, append_assoc}
+use Rattle.std.proofs.Common.{◌≡◌, ℕ, ◌+◌, ◌^◌, ◌<◌, false, List, [], ◌∷◌, ◌++◌, length, get_or, drop, codes, refl, sym, ap, ◌∙◌, arith, append_assoc}
 use Rattle.std.proofs.lemmas.List.{append_cancel_left}
 use Rattle.std.proofs.lemmas.Fmt.{decimal_injective}
 use Rattle.std.specs.Char.{is_ascii_digit}
 use Rattle.std.specs.Fmt.{decimal}
-use Rattle.dn_base.specs.declared.ids.CoreId.{CoreId}
-use Rattle.message_net.specs.declared.actor.Actor.{Actor}
-use Rattle.message_net.specs.declared.actor.Actor.TheVariants.{Core, Bank, Keeper}
-use Rattle.message_net.specs.declared.actor.MailId.{MailId}
-use Rattle.message_net.specs.declared.event.Event.{Event}
-use Rattle.message_net.specs.declared.event.Event.TheVariants.{Instr, Evict, Arrive, Handle}
 use Rattle.text_pieces.specs.Pieces.{newline, space}
 use Rattle.run_replay.specs.declared.trace.TraceShape.{TraceShape}
 use Rattle.run_replay.specs.Field.{field, IsFrom, Stands}
-use Rattle.run_replay.specs.Document.{IsTraceShape, IsNamed, IsMail, FitsDocument, Head, IsHead, title, shape_line, source_part, head_text, mail_line, event_line, event_lines}
-use Rattle.run_replay.specs.Lines.{IsSource, two_fields, mail_text}
+use Rattle.run_replay.specs.Document.{IsTraceShape, Head, IsHead, title, shape_line, source_part, head_text}
+use Rattle.run_replay.specs.Lines.{IsSource, two_fields}
 use Rattle.run_replay.proofs.Digits.{front, front-decimal}
 use Rattle.run_replay.proofs.Fields.{field-parts}
 

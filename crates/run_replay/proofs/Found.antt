@@ -1,5 +1,5 @@
 -- What was found in front of some bytes is the only such value there; and where the parts of a text aren't found, the text isn't.
-use Rattle.std.proofs.Common.{◌≡◌, ℕ, ◌+◌, ◌^◌, ◌<◌, ◌≤◌, All, List, [], ◌∷◌, ◌++◌, length, take, drop, codes, refl, sym, ap, subst, ◌∙◌, arith, length-append, append_assoc}
+use Rattle.std.proofs.Common.{◌≡◌, ℕ, ◌+◌, ◌^◌, ◌<◌, ◌≤◌, List, [], ◌∷◌, ◌++◌, codes, refl, sym, ap, ◌∙◌, arith, append_assoc}
 use Rattle.std.proofs.lemmas.List.{append_cancel_left}
 use Rattle.std.proofs.lemmas.List.Elements.{All-push}
 use Rattle.std.proofs.lemmas.Grind.{flat_map-append}
@@ -10,7 +10,7 @@ use Rattle.message_net.specs.declared.event.Event.{Event}
 use Rattle.message_net.specs.declared.event.Event.TheVariants.{Instr, Evict, Arrive, Handle}
 use Rattle.text_pieces.specs.Pieces.{newline, space}
 use Rattle.run_replay.specs.Field.{field, IsFrom, Stands, NoneStands}
-use Rattle.run_replay.specs.Document.{IsNamed, IsMail, FitsDocument, Head, IsHead, title, shape_line, source_part, head_text, mail_line, event_line, event_lines}
+use Rattle.run_replay.specs.Document.{IsNamed, IsMail, FitsDocument, Head, title, shape_line, source_part, head_text, mail_line, event_line, event_lines}
 use Rattle.run_replay.specs.Lines.{two_fields, StandTwo, mail_text, AreLines}
 use Rattle.run_replay.proofs.Forms.{IsOne, head-parts}
 

@@ -1,5 +1,5 @@
 -- One document is of one trace at most, and bytes that are none have one fault.
-use Rattle.std.proofs.Common.{◌≡◌, ℕ, zero, suc, ◌+◌, ◌*◌, ◌^◌, ◌<◌, ◌≤◌, All, List, [], ◌∷◌, ◌++◌, length, get_or, drop, codes, Result, Ok, Err, IfOk, IfErr, ◌≢◌, ◌⊎◌, inl, inr, refl, sym, ap, subst, ◌∙◌, arith, length-append, append_assoc}
+use Rattle.std.proofs.Common.{◌≡◌, ℕ, suc, ◌+◌, ◌*◌, ◌^◌, ◌<◌, ◌≤◌, All, List, [], ◌∷◌, ◌++◌, length, get_or, codes, Result, Ok, Err, IfOk, IfErr, ◌≢◌, ◌⊎◌, inl, inr, refl, sym, ap, ◌∙◌, arith, length-append, append_assoc}
 use Rattle.std.proofs.lemmas.Bool.{cases_lt}
 use Rattle.std.proofs.lemmas.Fmt.{length-decimal-le}
 use Rattle.std.specs.Fmt.{decimal}
@@ -12,11 +12,11 @@ use Rattle.run_replay.specs.declared.trace.Trace.{Trace}
 use Rattle.run_replay.specs.declared.trace.TraceShape.{TraceShape}
 use Rattle.run_replay.specs.declared.trace.TraceFault.{TraceFault}
 use Rattle.run_replay.specs.declared.trace.TraceFault.TheVariants.{TooLarge, Head as NoHead, Line, Rest, Memory}
-use Rattle.run_replay.specs.Field.{field, IsFrom, Stands, NoneStands}
-use Rattle.run_replay.specs.Document.{IsTraceShape, IsNamed, IsMail, FitsDocument, Head, IsHead, IsTrace, head_of, title, shape_line, source_part, head_text, mail_line, event_line, event_lines, document_of, IsDocument}
-use Rattle.run_replay.specs.Faults.{most_bytes, BeginsWithEvents, IsBrokenAt, GoesOn, HasFault}
+use Rattle.run_replay.specs.Field.{field, IsFrom, NoneStands}
+use Rattle.run_replay.specs.Document.{IsTraceShape, IsNamed, FitsDocument, Head, IsHead, IsTrace, head_of, title, shape_line, source_part, head_text, mail_line, event_line, event_lines, document_of, IsDocument}
+use Rattle.run_replay.specs.Faults.{most_bytes, BeginsWithEvents, IsBrokenAt, HasFault}
 use Rattle.run_replay.specs.Lines.{two_fields}
-use Rattle.run_replay.proofs.Forms.{IsOne, field-one, two-one, head-one, head-parts, shape-parts, source-parts}
+use Rattle.run_replay.proofs.Forms.{IsOne, field-one, two-one, head-one}
 
 -- ---- an event
 

@@ -1,7 +1,6 @@
 -- How events are replayed: those so far are a run that leads to the machine's state, and they are noted.
-use Rattle.std.proofs.Common.{◌≡◌, ℕ, zero, suc, ◌+◌, ◌*◌, ◌<◌, ◌≤◌, true, false, List, [], ◌∷◌, ◌++◌, length, take, drop, get_or, Option, Some, None, Result, Ok, Err, IfOk, refl, sym, ap, subst, ◌∙◌, arith, length-append}
+use Rattle.std.proofs.Common.{◌≡◌, ℕ, ◌+◌, ◌<◌, ◌≤◌, true, false, List, [], ◌∷◌, ◌++◌, length, take, drop, get_or, Some, Result, Ok, Err, IfOk, refl, sym, ap, subst, ◌∙◌, arith, length-append}
 use Rattle.std.proofs.lemmas.List.{take-append-drop, take_more, take_all, drop_more, length-take-le}
-use Rattle.std.proofs.lemmas.Option.{none-some, same_Some}
 use Rattle.std.proofs.lemmas.Bool.{true≢false}
 use Rattle.region_table.specs.Program.{ProgramParts}
 use Rattle.region_table.specs.Plan.{ArePlans}
@@ -10,12 +9,8 @@ use Rattle.dn_base.specs.declared.ids.Grant.{Grant}
 use Rattle.dn_base.specs.declared.ids.Shape.{Shape}
 use Rattle.rv_core.specs.declared.ending.Ending.{Ending}
 use Rattle.message_net.specs.declared.actor.Actor.{Actor}
-use Rattle.message_net.specs.declared.actor.Actor.TheVariants.{Core}
 use Rattle.message_net.specs.declared.event.Event.{Event}
-use Rattle.message_net.specs.declared.event.Event.TheVariants.{Instr, Evict, Arrive, Handle}
 use Rattle.message_net.specs.declared.event.EventKind.{EventKind}
-use Rattle.message_net.specs.declared.message.Mail.{Mail}
-use Rattle.message_net.specs.Pool.{removed}
 use Rattle.grant_log.specs.declared.counts.Counts.{Counts}
 use Rattle.grant_log.specs.Counts.{kind_count, AreCounts}
 use Rattle.grant_log.proofs.CountLemmas.{length-added}
@@ -23,17 +18,13 @@ use Rattle.grant_log.proofs.TotalLemmas.{one_counts}
 use Rattle.registration_protocol.specs.Node.{Setting}
 use Rattle.machine_rules.specs.State.{State, initial_state}
 use Rattle.machine_rules.specs.Next.{next, enabled}
-use Rattle.machine_rules.specs.Runs.{after, IsRun, IsOver, IsCompleteRun, grants_of, kinds_of, ending_of_run}
+use Rattle.machine_rules.specs.Runs.{after, IsRun, IsOver, IsCompleteRun, kinds_of}
 use Rattle.machine_rules.specs.Sound.{IsReady}
-use Rattle.machine_rules.specs.Bound.{retired_in, started_in}
 use Rattle.machine_rules.proofs.OpenedFacts.{opened-setting}
 use Rattle.machine_rules.proofs.RunsKept.{run-setting}
-use Rattle.machine_rules.proofs.RunsCoherent.{run-rests}
-use Rattle.machine_rules.proofs.BoundRuns.{run-few, run-ends}
-use Rattle.run_agreement.proofs.EndAgrees.{end-agrees}
 use Rattle.dn_machine.specs.declared.log.Happened.{Happened}
 use Rattle.dn_machine.specs.declared.log.Log.{Log}
-use Rattle.dn_machine.specs.Actors.{actor_in, receiver_of}
+use Rattle.dn_machine.specs.Actors.{actor_in}
 use Rattle.dn_machine.specs.Kept.{Made, IsKept, IsInitialMachine}
 use Rattle.dn_machine.specs.Run.{IsRecord}
 use Rattle.dn_machine.specs.Settings.{IsSettingOf}
@@ -43,7 +34,7 @@ use Rattle.dn_machine.proofs.RunLemmas.{in-place, ready-of, ending-true, complet
 use Rattle.dn_machine.proofs.ScheduleLaws.{after-more}
 use Rattle.run_replay.specs.declared.replaying.Replayed.{Replayed}
 use Rattle.run_replay.specs.declared.replaying.Replayed.TheVariants.{Complete, NotEnabled, Incomplete}
-use Rattle.run_replay.specs.Replay.{IsRunWith, IsFirstNotEnabled, IsUnfinished, IsTrueOf, IsReplayOutcome, IsReplayOf}
+use Rattle.run_replay.specs.Replay.{IsRunWith, IsFirstNotEnabled, IsTrueOf, IsReplayOutcome, IsReplayOf}
 
 -- the core that an event changes is the actor that makes it, where that is a core
 pub core-in : (S : State) (e : Event) (a : Actor) → actor_in S e ≡ Some a → core_in S e ≡ core_of (Some a)

@@ -36,7 +36,7 @@ pub record GoesOn (bytes : List ℕ) : Type 0 where
   pub all : length events ≡ head.count
   pub some : 0 < length rest
 
--- the fault is true of the bytes; want of memory says nothing of them
+-- the fault is true of the bytes; out of memory says nothing of them
 abbrev pub HasFault : List ℕ → TraceFault → Type 0
 HasFault bytes TooLarge = most_bytes < length bytes
 HasFault bytes NoHead = (length bytes ≤ most_bytes) × NoneStands IsHead head_text bytes

@@ -7,7 +7,7 @@ use Rattle.run_replay.specs.declared.trace.TraceFault.{TraceFault}
 use Rattle.run_replay.specs.declared.refusal.TraceRefusal as refusal
 use Rattle.run_replay.specs.declared.refusal.TraceRefusal.{TraceRefusal}
 
--- why some bytes are no document; want of memory is no refusal, and has no line
+-- why some bytes are no document; out of memory is no refusal, and has no line
 unfoldable pub fault_text : TraceFault → List ℕ
 fault_text fault.TheVariants.TooLarge = codes "too-large"
 fault_text fault.TheVariants.Head = codes "head"

@@ -17,7 +17,7 @@ use Rattle.dn_machine.specs.Settings.{IsSettingOf}
 use Rattle.run_replay.specs.declared.replaying.Replayed.{Replayed}
 use Rattle.run_replay.specs.declared.replaying.Replayed.TheVariants.{Complete, NotEnabled, Incomplete}
 
--- the events are a complete run of the opened machine, whose record has this ending, these grants and these counts, one of each of
+-- the events are a complete run of the initial machine, whose record has this ending, these grants and these counts, one of each of
 -- the seventeen kinds of event; so it keeps what is promised of runs
 pub record IsRunWith (C : Setting) (events : List Event) (ending : Ending) (grants : List Grant) (counts : Counts) : Type 0 where
   pub run : IsMachinesRun (initial_state C) (record { events = events; grants = grants; counts = counts; ending = ending })

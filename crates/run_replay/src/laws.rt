@@ -1,4 +1,5 @@
 //! What the definitions come to, for whoever reasons about documents and replays.
+//! These are laws: functions that do nothing, whose contracts say it.
 ghost use Rattle.std.specs.Prelude.{◌≡◌, ◌≤◌, List, length};
 ghost use Rattle.std.specs.List.{All};
 ghost use Rattle.message_net.specs.declared.event.Event.{Event};
@@ -27,7 +28,7 @@ pub fn events_have_one_replay()
     ensures { (C : Setting) (events : List Event) (r s : Replayed) → IsTrueOf C events r → IsTrueOf C events s → r ≡ s }
 {}
 
-/// The events of a run of the opened machine are within the limits of a document.
+/// The events of a run of the initial machine are within the limits of a document.
 pub fn what_a_run_tells_fits_a_document()
     ensures { (C : Setting) (events : List Event) → IsReady C → C.shape.cores ≤ 16 → IsRun (initial_state C) events → All FitsDocument events }
 {}

@@ -33,7 +33,7 @@ fn read(alloc: Global, bytes: &[u8]) -> Result<Trace, TraceFault>
 
 /// What a document tells of a run.
 ///
-/// It takes memory in step with the bytes, whatever numbers these tell.
+/// It takes memory in proportion to the bytes, whatever numbers these tell.
 ///
 /// # Errors
 /// `TooLarge`, `Head`, `Line` or `Rest` exactly where that is the fault of the bytes, and `Memory` where there is no room.

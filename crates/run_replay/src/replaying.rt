@@ -57,6 +57,7 @@ fn advance(machine: &mut Machine, event: Event) -> Result<Happened, Memory>
 {
     let actor = machine.actor(&event);
     let observed = machine.step(event)?;
+    // for the proof alone: the machine is sound and coherent after the event too, which is the clause kept
     a_machine_is_kept(machine);
     let end = task_end(machine, actor);
     Ok(Happened {
@@ -71,6 +72,7 @@ fn finish(alloc: Global, machine: &Machine, log: Log) -> Result<Replayed, Memory
     ensures tells { IfOk result (IsReplayOutcome machine.now.state log) }
     ensures kept { IsKept machine.now.state machine.now.made }
 {
+    // for the proof alone: the machine is sound and coherent, which is the clause kept
     a_machine_is_kept(machine);
     if machine.pick(0).is_some() {
         return Ok(Replayed::Incomplete);
@@ -143,6 +145,7 @@ pub fn replay(
     ensures { IfOk result (IsReplayOf checked shape fuel events.now) }
 {
     let machine = Machine::start(alloc, checked, shape, fuel)?;
+    // for the proof alone: no event has come, so the machine is the opened one, sound and coherent
     a_machine_is_kept(&machine);
     follow(alloc, machine, events)
 }

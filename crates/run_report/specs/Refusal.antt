@@ -9,7 +9,7 @@ use Rattle.run_report.specs.declared.refusal.Refusal.{Refusal}
 use Rattle.run_report.specs.declared.refusal.Refusal as refusal
 use Rattle.text_pieces.specs.Pieces.{newline}
 
--- a fault of a line; want of memory is no refusal, and has no line
+-- a fault of a line; out of memory is no refusal, and has no line
 unfoldable pub source_text : SourceFault → List ℕ
 source_text source.TheVariants.TooLarge = codes "too-large"
 source_text (source.TheVariants.BadByte line) = decimal line ++ codes " bad-byte"

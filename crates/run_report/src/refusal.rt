@@ -72,6 +72,7 @@ fn push_conflict(
     push_decimal(out, word.0)
 }
 
+/// Adds what is said of a conflict.
 fn push_check(out: &mut Vec<u8>, fault: CheckFault) -> Result<(), Memory>
     ensures { OnOk result (out.new.items ≡ out.old.items ++ check_text fault) }
 {
@@ -82,14 +83,8 @@ fn push_check(out: &mut Vec<u8>, fault: CheckFault) -> Result<(), Memory>
             core_b,
             word,
         } => {
-            push_conflict(
-                out,
-                phase,
-                b" plain-conflict cores ",
-                (core_a.0, core_b.0),
-                b" ",
-                word,
-            )
+            let cores = (core_a.0, core_b.0);
+            push_conflict(out, phase, b" plain-conflict cores ", cores, b" ", word)
         }
         CheckFault::GuardedPlain {
             phase,
@@ -97,14 +92,8 @@ fn push_check(out: &mut Vec<u8>, fault: CheckFault) -> Result<(), Memory>
             core,
             word,
         } => {
-            push_conflict(
-                out,
-                phase,
-                b" guarded-plain lock ",
-                (lock.0, core.0),
-                b" core ",
-                word,
-            )
+            let both = (lock.0, core.0);
+            push_conflict(out, phase, b" guarded-plain lock ", both, b" core ", word)
         }
         CheckFault::TwoLocks {
             phase,
@@ -112,14 +101,8 @@ fn push_check(out: &mut Vec<u8>, fault: CheckFault) -> Result<(), Memory>
             lock_b,
             word,
         } => {
-            push_conflict(
-                out,
-                phase,
-                b" two-locks locks ",
-                (lock_a.0, lock_b.0),
-                b" ",
-                word,
-            )
+            let locks = (lock_a.0, lock_b.0);
+            push_conflict(out, phase, b" two-locks locks ", locks, b" ", word)
         }
     }
 }

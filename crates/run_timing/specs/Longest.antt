@@ -51,7 +51,7 @@ pub record IsLongest (ticks : Ticks) (S : State) (events : List Event) (timing :
       → IsOwnBefore S events i link.event → IsSender S events j link.event → FinishesAt ticks S events i finish → FinishesAt ticks S events j finish → before.event ≡ i
   pub bound : timing.total < 35184372088832
 
--- the timing of a run of the opened machine of this program, shape and fuel
+-- the timing of a run of the initial machine of this program, shape and fuel
 pub record IsTimingOf (P : ProgramParts) (machine : Shape) (most : ℕ) (events : List Event) (ticks : Ticks) (timing : Timing) : Type 0 where
   pub setting : Setting
   pub setting_is : IsSettingOf P machine most setting

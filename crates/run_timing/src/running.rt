@@ -14,7 +14,7 @@ use dn_machine::{Machine, a_machine_is_kept};
 use message_net::Event;
 use std::alloc::Global;
 
-/// Makes the events of a run one by one on the opened machine, and notes each.
+/// Makes the events of a run one by one on the initial machine, and notes each.
 ///
 /// # Errors
 /// `Memory` where there is no room.
@@ -37,6 +37,7 @@ fn note_run(
     requires senders { tracks.old.senders.items ≡ replicate (shape.cores + shape.banks + 1) [] }
     ensures { OnOk result (AreRowsOf ticks.now machine.old.state events.now rows.new) }
 {
+    // for the proof alone: the setting of the machine is ready, so that its run has few events and mails
     a_machine_is_kept(machine);
     let mut number = 0;
     for event in events {
@@ -51,7 +52,7 @@ fn note_run(
     Ok(())
 }
 
-/// The rows of a run's events, which the opened machine makes one by one.
+/// The rows of a run's events, which the initial machine makes one by one.
 ///
 /// # Errors
 /// `Memory` where there is no room for the rows or the mails.
@@ -77,7 +78,7 @@ fn rows_by(
     Ok(rows)
 }
 
-/// The rows of a run's events, which the opened machine makes one by one. They take 13 bytes for each event, and while they are
+/// The rows of a run's events, which the initial machine makes one by one. They take 13 bytes for each event, and while they are
 /// made 4 more for each mail, of which a run to its end has no more than events: the room for a whole run is taken at once.
 ///
 /// The machine is lent once here, and then dropped: a loop that owned it would be dear to prove.

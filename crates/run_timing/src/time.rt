@@ -17,7 +17,7 @@ use std::alloc::Global;
 /// How long a run takes, and the longest chain of its events, each of which depends on the one before it: that is the event
 /// before it of its own actor, or the one that sent the mail that it handles.
 ///
-/// The events are a run of the opened machine of the checked program, this shape and this fuel, and at most 25,169,664. The shape
+/// The events are a run of the initial machine of the checked program, this shape and this fuel, and at most 25,169,664. The shape
 /// has the cores that the program needs, 1 to 16 banks, 1 to 256 sets and 1 to 16 ways, and a task may retire `fuel`
 /// instructions, 1 to 32,768. An event of each kind takes 1 to 1,000,000 ticks.
 ///
@@ -46,6 +46,7 @@ pub fn time_run(
     ensures { IfOk result (IsTimingOf checked shape fuel events.now ticks.now) }
 {
     let machine = Machine::start(alloc, checked, shape, fuel)?;
+    // for the proof alone: no event has come, so the machine is the opened one, and the events are a run of it
     a_machine_is_kept(&machine);
     let rows = timed_rows(alloc, machine, shape, events, ticks)?;
     let last = rows.latest();

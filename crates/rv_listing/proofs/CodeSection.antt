@@ -4,7 +4,6 @@ use Rattle.std.specs.Prelude.{Ok}
 use Rattle.std.specs.List.{All}
 use Rattle.std.proofs.lemmas.Bool.{le-ltb}
 use Rattle.std.proofs.lemmas.List.Elements.{All-head, All-tail}
-use Rattle.rv_assembler.specs.declared.fault.SourceFault.{SourceFault}
 use Rattle.rv_assembler.specs.declared.fault.SourceFault as fault
 use Rattle.rv_assembler.specs.declared.statement.Code.{Code}
 use Rattle.rv_assembler.specs.declared.draft.Draft.{Draft}
@@ -20,7 +19,7 @@ use Rattle.rv_assembler.specs.Adding.{draft_after, total}
 use Rattle.rv_assembler.specs.Fault.{is_far, is_lost, most_regions, over_limit}
 use Rattle.rv_assembler.specs.Testing.{draft_fault}
 use Rattle.rv_assembler.specs.Finishing.{finished_program}
-use Rattle.rv_assembler.proofs.SourceLemmas.{total-more}
+use Rattle.rv_listing.proofs.MoreLines.{total-more}
 use Rattle.rv_listing.specs.Instruction.{code_line}
 use Rattle.rv_listing.specs.Listing.{text_of}
 use Rattle.rv_listing.specs.Law.{AreCodeWords, FitsSourceLimits}

@@ -15,7 +15,6 @@ use Rattle.src_text.specs.Byte.{is_word}
 use Rattle.src_text.specs.Lexeme.{continues_token}
 use Rattle.src_text.specs.declared.token.Token.{Token}
 use Rattle.src_text.specs.declared.token.TokenKind.TheVariants.{Name}
-use Rattle.rv_assembler.specs.declared.fault.SourceFault.{SourceFault}
 use Rattle.rv_assembler.specs.declared.fault.SourceFault as fault
 use Rattle.rv_assembler.specs.declared.kind.Kind.{Kind}
 use Rattle.rv_assembler.specs.declared.kind.Piece.{Piece}

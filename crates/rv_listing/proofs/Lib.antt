@@ -5,6 +5,7 @@ pub mod TokenLemmas
 pub mod KindLemmas
 pub mod CodeLemmas
 pub mod ReadLemmas
+pub mod MoreLines
 pub mod CodeSection
 pub mod DirectiveLemmas
 pub mod CutSetLemmas

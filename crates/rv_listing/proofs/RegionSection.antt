@@ -6,7 +6,6 @@ use Rattle.std.proofs.lemmas.Bool.Decides.{nat_tests}
 use Rattle.std.proofs.lemmas.Int.{ints}
 use Rattle.src_text.specs.declared.token.Token.{Token}
 use Rattle.region_table.specs.declared.declared.Region.{Region}
-use Rattle.rv_assembler.specs.declared.fault.SourceFault.{SourceFault}
 use Rattle.rv_assembler.specs.declared.fault.SourceFault as fault
 use Rattle.rv_assembler.specs.declared.statement.Statement.{Statement}
 use Rattle.rv_assembler.specs.declared.reading.Reading.{Reading}
@@ -21,7 +20,7 @@ use Rattle.rv_assembler.specs.Counts.{region_words}
 use Rattle.rv_assembler.specs.Adding.{draft_after, total}
 use Rattle.rv_assembler.specs.Fault.{most_regions, over_limit}
 use Rattle.rv_assembler.specs.Testing.{region_doubled, lock_doubled, draft_fault}
-use Rattle.rv_assembler.proofs.SourceLemmas.{total-more}
+use Rattle.rv_listing.proofs.MoreLines.{total-more}
 use Rattle.rv_listing.proofs.CodeLemmas.{wrapped-pos}
 use Rattle.rv_listing.proofs.ReadLemmas.{sayings}
 

@@ -5,7 +5,6 @@ use Rattle.std.specs.List.{list_any}
 use Rattle.std.proofs.lemmas.Bool.Decides.{nat_tests}
 use Rattle.std.proofs.lemmas.Bool.{le-leb}
 use Rattle.src_text.specs.declared.token.TokenKind.TheVariants.{Number}
-use Rattle.rv_assembler.specs.declared.fault.SourceFault.{SourceFault}
 use Rattle.rv_assembler.specs.declared.fault.SourceFault as fault
 use Rattle.rv_assembler.specs.declared.reading.Reading.{Reading}
 use Rattle.rv_assembler.specs.declared.names.Meaning.{Meaning}
@@ -20,7 +19,7 @@ use Rattle.rv_assembler.specs.Adding.{draft_after, total}
 use Rattle.rv_assembler.specs.Fault.{entry_far, are_cores, is_on, core_in_use, over_limit}
 use Rattle.rv_assembler.specs.Testing.{draft_fault}
 use Rattle.rv_assembler.specs.Program.{is_task}
-use Rattle.rv_assembler.proofs.SourceLemmas.{total-more}
+use Rattle.rv_listing.proofs.MoreLines.{total-more}
 use Rattle.rv_listing.specs.Statement.{hexadecimal}
 use Rattle.rv_listing.proofs.TokenLemmas.{token}
 use Rattle.rv_listing.proofs.CodeLemmas.{wrapped-pos}

@@ -3,7 +3,6 @@ use Rattle.std.proofs.Common.{◌≡◌, ℕ, ◌+◌, ◌-◌, ◌%◌, ◌^◌
 use Rattle.std.specs.Prelude.{pos, int_le, int_lt}
 use Rattle.std.proofs.lemmas.Int.{ints}
 use Rattle.region_table.specs.declared.declared.Region.{Region}
-use Rattle.rv_assembler.specs.declared.fault.SourceFault.{SourceFault}
 use Rattle.rv_assembler.specs.declared.fault.SourceFault as fault
 use Rattle.rv_assembler.specs.declared.reading.Reading.{Reading}
 use Rattle.rv_assembler.specs.declared.names.Meaning.{Meaning}
@@ -23,7 +22,7 @@ use Rattle.rv_assembler.specs.Drafting.{claims_for}
 use Rattle.rv_assembler.specs.Adding.{draft_after, total}
 use Rattle.rv_assembler.specs.Fault.{lock_lost, extent_far, over_limit}
 use Rattle.rv_assembler.specs.Testing.{draft_fault}
-use Rattle.rv_assembler.proofs.SourceLemmas.{total-more}
+use Rattle.rv_listing.proofs.MoreLines.{total-more}
 use Rattle.rv_listing.proofs.CodeLemmas.{wrapped-pos}
 use Rattle.rv_listing.proofs.ReadLemmas.{sayings}
 use Rattle.rv_listing.proofs.RegionSection.{IsWithin, within-limits}

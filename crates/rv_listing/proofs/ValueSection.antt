@@ -4,7 +4,6 @@ use Rattle.std.specs.Prelude.{pos, int_le, int_lt}
 use Rattle.std.proofs.lemmas.Int.{ints}
 use Rattle.src_text.specs.declared.token.Token.{Token}
 use Rattle.region_table.specs.declared.declared.Region.{Region}
-use Rattle.rv_assembler.specs.declared.fault.SourceFault.{SourceFault}
 use Rattle.rv_assembler.specs.declared.fault.SourceFault as fault
 use Rattle.rv_assembler.specs.declared.statement.Statement.{Statement}
 use Rattle.rv_assembler.specs.declared.reading.Reading.{Reading}
@@ -19,7 +18,7 @@ use Rattle.rv_assembler.specs.Drafting.{values_for}
 use Rattle.rv_assembler.specs.Adding.{draft_after, total}
 use Rattle.rv_assembler.specs.Fault.{word_far, over_limit}
 use Rattle.rv_assembler.specs.Testing.{draft_fault}
-use Rattle.rv_assembler.proofs.SourceLemmas.{total-more}
+use Rattle.rv_listing.proofs.MoreLines.{total-more}
 use Rattle.rv_listing.proofs.CodeLemmas.{wrapped-pos}
 use Rattle.rv_listing.proofs.ReadLemmas.{sayings}
 use Rattle.rv_listing.proofs.RegionSection.{IsWithin, within-limits}

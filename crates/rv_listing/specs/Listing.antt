@@ -11,7 +11,7 @@ use Rattle.region_table.specs.Program.{ProgramParts}
 use Rattle.rv_listing.specs.Statement.{hexadecimal, statement}
 use Rattle.rv_listing.specs.Instruction.{code_line}
 
--- lines one behind the other, each with its newline
+-- lines one after the other, each with its newline
 abbrev pub text_of : List (List ℕ) → List ℕ
 text_of lines = flat_map ended lines
 

@@ -1,11 +1,12 @@
 //! How a code word is written.
-ghost use Rattle.std.specs.Prelude.{◌≡◌, ◌++◌, OnOk};
+ghost use Rattle.std.specs.Prelude.{◌≡◌, [], ◌∷◌, ◌++◌, OnOk};
 ghost use Rattle.src_text.specs.Laws.{ended};
+ghost use Rattle.rv_listing.specs.Statement.{register, address, statement};
 ghost use Rattle.rv_listing.specs.Instruction.{branch_word, load_word, store_word, immediate_word, operation_word, instruction_line, raw_line, code_line};
 
 use crate::statement::{Operand, push_line};
 use dn_base::Memory;
-use rv_isa::{AluOp, Cond, Instr, Width, decode, encode};
+use rv_isa::{AluOp, Cond, Instr, Reg, Width, decode, encode};
 
 fn branch_word(cond: Cond) -> &'static [u8]
     ensures { result.now ≡ branch_word cond }
@@ -80,19 +81,31 @@ fn operation_word(op: AluOp) -> &'static [u8]
     }
 }
 
+/// Adds the line of an instruction that has a register and an address.
+fn push_access(
+    out: &mut Vec<u8>,
+    word: &[u8],
+    reg: Reg,
+    offset: i32,
+    base: Reg,
+) -> Result<(), Memory>
+    ensures { OnOk result (out.new.items ≡ out.old.items ++ ended (statement word.now (register reg ∷ address offset base ∷ []))) }
+{
+    let operands = [Operand::Register(reg), Operand::Address(offset, base)];
+    push_line(out, word, &operands)
+}
+
 /// Adds the line of an instruction.
 #[tactic(auto, unfolding(crate::specs::Instruction::instruction_line))]
 fn push_instruction(out: &mut Vec<u8>, instr: Instr) -> Result<(), Memory>
     ensures { OnOk result (out.new.items ≡ out.old.items ++ ended (instruction_line instr)) }
 {
-    use Operand::{Address, Number, Offset, Register};
+    use Operand::{Number, Offset, Register};
     match instr {
         Instr::Lui { rd, imm } => push_line(out, b"lui", &[Register(rd), Number(imm)]),
         Instr::Auipc { rd, imm } => push_line(out, b"auipc", &[Register(rd), Number(imm)]),
         Instr::Jal { rd, offset } => push_line(out, b"jal", &[Register(rd), Offset(offset)]),
-        Instr::Jalr { rd, base, offset } => {
-            push_line(out, b"jalr", &[Register(rd), Address(offset, base)])
-        }
+        Instr::Jalr { rd, base, offset } => push_access(out, b"jalr", rd, offset, base),
         Instr::Branch { cond, a, b, offset } => push_line(
             out,
             branch_word(cond),
@@ -103,21 +116,13 @@ fn push_instruction(out: &mut Vec<u8>, instr: Instr) -> Result<(), Memory>
             rd,
             base,
             offset,
-        } => push_line(
-            out,
-            load_word(width),
-            &[Register(rd), Address(offset, base)],
-        ),
+        } => push_access(out, load_word(width), rd, offset, base),
         Instr::Store {
             width,
             src,
             base,
             offset,
-        } => push_line(
-            out,
-            store_word(width),
-            &[Register(src), Address(offset, base)],
-        ),
+        } => push_access(out, store_word(width), src, offset, base),
         Instr::OpImm { op, rd, a, imm } => push_line(
             out,
             immediate_word(op),

@@ -16,7 +16,7 @@ pub(crate) enum Operand<'a> {
     Number(u32),
     /// A number in decimal digits, behind `-` where it is below 0.
     Offset(i32),
-    /// A number in `0x` and eight digits of base 16.
+    /// A number in `0x` and eight hexadecimal digits.
     Word(u32),
     /// An offset, and a register in parentheses.
     Address(i32, Reg),

@@ -1,3 +1,5 @@
+ghost use Rattle.std.specs.Prelude.{◌≡◌, ◌↔◌, ◌<◌, ◌≤◌, length, None, IfOk};
+
 use crate::event_machine::EventMachine;
 use case_files::Trouble;
 use dn_base::Memory;
@@ -6,7 +8,7 @@ use std::alloc::Global;
 use std::str;
 
 /// The most events of which all chains are tried: they have 65,536 sets.
-pub const MOST_TIMED_EVENTS: usize = 16;
+const MOST_TIMED_EVENTS: usize = 16;
 
 /// An event that came: who made it, its ticks, and which of the run's events handle a mail that was in flight before it and
 /// behind it.
@@ -89,7 +91,9 @@ fn all_came<M: EventMachine>(
     machine: &mut M,
     events: &[Event],
     ticks: PlaceTicks,
-) -> Result<Vec<Came>, Trouble> {
+) -> Result<Vec<Came>, Trouble>
+    ensures { IfOk result (λ all. length all.items ≡ length events.now) }
+{
     let mut all = Vec::new(alloc);
     for event in events {
         all.push(come(alloc, machine, *event, events, ticks)?)?;
@@ -99,12 +103,9 @@ fn all_came<M: EventMachine>(
 
 /// Whether no event between an earlier one and one with this number is the actor's.
 fn is_next(all: &[Came], earlier: usize, number: usize, actor: Actor) -> bool {
-    for (place, other) in all.iter().enumerate() {
-        if earlier < place && place < number && other.actor == actor {
-            return false;
-        }
-    }
-    true
+    !all.iter().enumerate().any(|(place, other)| earlier < place
+        && place < number
+        && other.actor == actor)
 }
 
 /// Whether an event depends on an earlier one: both are the same actor's and no event between them is, or the earlier one sent the
@@ -140,40 +141,36 @@ fn cost(all: &[Came], set: u32) -> Option<u64> {
     Some(cost)
 }
 
-/// How many sets of these events there are.
-fn sets(all: &[Came]) -> u32 {
-    let mut sets = 1_u32;
-    for _event in all {
-        sets = sets.saturating_mul(2);
-    }
-    sets
+/// The greatest that a chain of the events takes, by a search of all their sets.
+fn greatest(all: &[Came]) -> u64
+    requires { length all.now ≤ 16 }
+{
+    let sets = 1_u32 << all.len();
+    (0..sets)
+        .filter_map(|set| cost(all, set))
+        .max()
+        .unwrap_or(0)
 }
 
-/// The greatest that a chain of the events takes, by a search of all their sets; there are at most 16 events.
-fn greatest(all: &[Came]) -> u64 {
-    let mut greatest = 0;
-    for set in 0..sets(all) {
-        if let Some(cost) = cost(all, set) {
-            greatest = greatest.max(cost);
-        }
+/// What a line tells as the time.
+fn time_in(line: &[u8]) -> Option<&str> {
+    match str::from_utf8(line) {
+        Ok(line) => line.strip_prefix("time "),
+        Err(_) => None,
     }
-    greatest
 }
 
 /// The time that is told in an output.
 fn told_time(output: &[u8]) -> Option<u64> {
-    for line in output.split(|byte| *byte == b'\n') {
-        if let Ok(line) = str::from_utf8(line) {
-            if let Some(time) = line.strip_prefix("time ") {
-                return time.parse::<u64>().ok();
-            }
-        }
-    }
-    None
+    output
+        .split(|byte| *byte == b'\n')
+        .find_map(time_in)?
+        .parse::<u64>()
+        .ok()
 }
 
-/// Whether an output tells how long a run takes, by a search of all chains of its events, which the opened machine makes once more;
-/// there are at most 16 events.
+/// Whether an output tells how long a run takes, by a search of all chains of its events, which the initial machine makes once more;
+/// None where there are more than 16 events, whose chains are too many.
 ///
 /// # Errors
 /// `NotNow` where an event may not come.
@@ -183,7 +180,12 @@ pub fn is_slowest<M: EventMachine>(
     output: &[u8],
     events: &[Event],
     ticks: PlaceTicks,
-) -> Result<bool, Trouble> {
+) -> Result<Option<bool>, Trouble>
+    ensures { IfOk result (λ told. told ≡ None ↔ 16 < length events.now) }
+{
+    if MOST_TIMED_EVENTS < events.len() {
+        return Ok(None);
+    }
     let all = all_came(alloc, machine, events, ticks)?;
-    Ok(told_time(output) == Some(greatest(all.as_slice())))
+    Ok(Some(told_time(output) == Some(greatest(all.as_slice()))))
 }

@@ -7,7 +7,7 @@ mod event_machine;
 mod replay;
 mod scripted;
 
-pub use chain::{MOST_TIMED_EVENTS, PlaceTicks, is_slowest};
+pub use chain::{PlaceTicks, is_slowest};
 pub use event_machine::EventMachine;
 pub use replay::{TaskLoad, are_loads, is_same, replayed};
 pub use scripted::{Notes, Played, ScriptedRun, play};

@@ -42,7 +42,7 @@ impl Replay {
     }
 }
 
-/// The loads of the events of a run, which the opened machine makes once more.
+/// The loads of the events of a run, which the initial machine makes once more.
 ///
 /// # Errors
 /// `NotNow` where an event may not come.
@@ -90,13 +90,11 @@ fn loads_of(
     phase: PhaseId,
     core: CoreId,
 ) -> Result<Vec<LoadSeen>, Memory> {
-    let mut loads = Vec::new(alloc);
-    for load in all {
-        if let Some(seen) = load_of_task(load, phase, core) {
-            loads.push(seen)?;
-        }
-    }
-    Ok(loads)
+    Ok(
+        all.iter()
+            .filter_map(|load| load_of_task(load, phase, core))
+            .collect(alloc)?,
+    )
 }
 
 /// Whether the loads are those of these tasks, and no others.

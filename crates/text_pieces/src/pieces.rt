@@ -60,7 +60,7 @@ fn digit(value: u32) -> u8
     }
 }
 
-/// Adds a number in `0x` and eight digits of base 16, with `a` to `f` in lower case.
+/// Adds a number in `0x` and eight hexadecimal digits, with `a` to `f` in lower case.
 ///
 /// # Errors
 /// `Memory` where there is no room for them.

@@ -1,4 +1,4 @@
-use Rattle.std.proofs.Common.{ℕ, ◌≡◌, length, ap, ◌∙◌, subst, Decides}
+use Rattle.std.proofs.Common.{length, ap, ◌∙◌, subst, Decides}
 use Rattle.std.specs.Int.{w32}
 use Rattle.std.proofs.lemmas.Int.{to_z-of_z}
 use lib.IntN.{ℤ}

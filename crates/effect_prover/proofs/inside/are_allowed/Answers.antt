@@ -1,4 +1,4 @@
-use Rattle.std.proofs.Common.{◌≡◌, ℕ, ◌<◌, ◌≤◌, length, ap, arith}
+use Rattle.std.proofs.Common.{length, ap, arith}
 use Rattle.region_table.specs.Program.{ProgramParts}
 use Rattle.effect_prover.proofs.StretchLemmas.{allowed-some}
 use Rattle.effect_prover.proofs.inside.are_allowed.Goals as goal

@@ -1,5 +1,4 @@
-use Rattle.std.proofs.Common.{◌≡◌, ℕ, ◌+◌, ◌≤◌, List, length, take, sym, subst, arith}
-use Rattle.region_table.specs.declared.interval.Interval.{Interval}
+use Rattle.std.proofs.Common.{◌+◌, take, sym, subst}
 use Rattle.rv_core.specs.Access.{under}
 use Rattle.effect_prover.specs.Stretch.{IsStretch}
 use Rattle.effect_prover.proofs.StretchLemmas.{stretch-first, stretch-push, stretch-all}

@@ -1,4 +1,4 @@
-use Rattle.std.proofs.Common.{ℕ, take}
+use Rattle.std.proofs.Common.{take}
 use Rattle.rv_core.specs.Access.{under}
 use Rattle.effect_prover.specs.Stretch.{IsStretch}
 use Rattle.effect_prover.proofs.inside.end_under.Given as goal

@@ -1,9 +1,7 @@
-use Rattle.std.proofs.Common.{◌≡◌, ℕ, ◌<◌, List, length, Option, Some, None, sym, ◌∙◌, subst, arith}
-use Rattle.std.specs.List.{All}
+use Rattle.std.proofs.Common.{List, subst}
 use Rattle.region_table.specs.declared.declared.TaskDecl.{TaskDecl}
 use Rattle.region_table.specs.declared.declared.Phase.{Phase}
-use Rattle.effect_prover.specs.declared.prover.Found.{Found}
-use Rattle.effect_prover.specs.Answer.{IsProvenTask, IsPhaseAnswer}
+use Rattle.effect_prover.specs.Answer.{IsPhaseAnswer}
 use Rattle.effect_prover.proofs.AnswerLemmas.{phase-at, first-unbounded, phases-more, phases-all}
 use Rattle.effect_prover.proofs.prover.check_phases.Goals as goal
 

@@ -1,5 +1,4 @@
-use Rattle.std.proofs.Common.{◌≡◌, ℕ}
-use Rattle.effect_prover.proofs.AnswerLemmas.{tasks-more, tasks-all, tasks-first}
+use Rattle.effect_prover.proofs.AnswerLemmas.{tasks-all}
 use Rattle.effect_prover.proofs.prover.check_tasks.Goals as goal
 
 pub returns : goal.returns

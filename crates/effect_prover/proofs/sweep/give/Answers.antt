@@ -1,9 +1,9 @@
-use Rattle.std.proofs.Common.{◌≡◌, ℕ, ◌<◌, ◌≤◌, Bool, true, false, List, length, slice_index_or, slice_set, Option, Some, None, refl, sym, ◌∙◌, subst, ap, arith}
+use Rattle.std.proofs.Common.{ℕ, ◌<◌, ◌≤◌, Bool, true, false, List, slice_index_or, slice_set, Option, Some, sym, ◌∙◌, subst, arith}
 use Rattle.std.specs.Option.{IfSome}
 use Rattle.std.proofs.lemmas.Option.{same_Some}
 use Rattle.effect_prover.specs.declared.row.Row.{Row}
 use Rattle.effect_prover.specs.Row.{IsRow}
-use Rattle.effect_prover.specs.Table.{Table, row_at, address_at}
+use Rattle.effect_prover.specs.Table.{Table}
 use Rattle.effect_prover.specs.Sweep.{IsRowGiven, IsPut, CoversAt}
 use Rattle.effect_prover.proofs.TableLemmas.{nothing-given, put-same, put-covers, put-given}
 use Rattle.effect_prover.proofs.sweep.give.Goals as goal

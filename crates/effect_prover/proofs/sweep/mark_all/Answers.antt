@@ -1,4 +1,4 @@
-use Rattle.std.proofs.Common.{◌≡◌, ℕ, ◌≤◌, length, subst, arith}
+use Rattle.std.proofs.Common.{◌≡◌, ℕ, length, subst, arith}
 use Rattle.effect_prover.specs.Sweep.{AreMarked}
 use Rattle.effect_prover.proofs.TableLemmas.{mark-last}
 use Rattle.effect_prover.proofs.sweep.mark_all.Goals as goal

@@ -1,4 +1,4 @@
-use Rattle.std.proofs.Common.{◌≡◌, ℕ, Some, sym, ◌∙◌, arith}
+use Rattle.std.proofs.Common.{sym, ◌∙◌, arith}
 use Rattle.effect_prover.proofs.TableLemmas.{table-trans, two-passed}
 use Rattle.effect_prover.proofs.sweep.pass.Goals as goal
 

@@ -1,10 +1,6 @@
-use Rattle.std.proofs.Common.{◌≡◌, ℕ, true, false, List, length, slice_set, Option, Some, None, refl, sym, ◌∙◌, subst, Decides}
+use Rattle.std.proofs.Common.{true, false, sym, ◌∙◌}
 use Rattle.std.proofs.lemmas.Bool.{true≢false}
-use Rattle.std.proofs.lemmas.List.{set-get_or}
-use Rattle.effect_prover.specs.declared.row.Row.{Row}
-use Rattle.effect_prover.specs.Row.{IsRow}
-use Rattle.effect_prover.specs.Table.{Table, row_at}
-use Rattle.effect_prover.specs.Sweep.{IsPut, IsJoinedTo}
+use Rattle.effect_prover.specs.Table.{row_at}
 use Rattle.effect_prover.proofs.TableLemmas.{row-known, put-none, put-some, to-count}
 use Rattle.effect_prover.proofs.sweep.put.Goals as goal
 

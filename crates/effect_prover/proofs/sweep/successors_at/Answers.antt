@@ -1,9 +1,5 @@
-use Rattle.std.proofs.Common.{◌≡◌, ℕ, length, sym, subst, arith}
-use Rattle.std.specs.Option.{IfSome}
-use Rattle.effect_prover.specs.declared.successors.Successors.{Successors}
-use Rattle.effect_prover.specs.Row.{IsRow}
+use Rattle.std.proofs.Common.{sym, subst, arith}
 use Rattle.effect_prover.specs.Successors.{successors}
-use Rattle.effect_prover.specs.Table.{address_at}
 use Rattle.effect_prover.proofs.SuccessorLemmas.{AreRows, successors-rows}
 use Rattle.effect_prover.proofs.TableLemmas.{known-rows}
 use Rattle.effect_prover.proofs.sweep.successors_at.Goals as goal

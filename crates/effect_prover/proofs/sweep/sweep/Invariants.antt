@@ -1,4 +1,4 @@
-use Rattle.std.proofs.Common.{◌≡◌, ◌≤◌, ℕ, ◌+◌, ◌-◌, ◌*◌, length, Some}
+use Rattle.std.proofs.Common.{◌≡◌, ◌≤◌, ◌+◌, ◌-◌, ◌*◌, length, Some}
 use Rattle.effect_prover.specs.Row.{start_row}
 use Rattle.effect_prover.specs.Table.{Covers}
 use Rattle.effect_prover.specs.Sweep.{IsSwept, table_room}

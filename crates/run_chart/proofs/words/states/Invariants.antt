@@ -1,4 +1,4 @@
-use Rattle.std.proofs.Common.{◌≡◌, ◌≤◌, ◌-◌, ◌++◌, map}
+use Rattle.std.proofs.Common.{◌≡◌, ◌≤◌, ◌-◌, map}
 use Rattle.std.specs.List.{range_with_len}
 use Rattle.dn_machine.specs.Parts.{made_in}
 use Rattle.run_chart.specs.Words.{word_state}

@@ -1,6 +1,6 @@
-use Rattle.std.proofs.Common.{◌≡◌, ◌++◌, [], ◌∷◌, refl, sym, ap, ◌∙◌, arith}
+use Rattle.std.proofs.Common.{◌++◌, [], refl, sym, ap, ◌∙◌, arith}
 use Rattle.text_pieces.specs.Pieces.{newline, space}
-use Rattle.run_replay.specs.Field.{field, IsFrom}
+use Rattle.run_replay.specs.Field.{field}
 use Rattle.run_replay.proofs.Fields.{if-none}
 use Rattle.run_replay.proofs.Forms.{field-next}
 use Rattle.run_replay.proofs.Found.{two-parts}

@@ -1,6 +1,4 @@
-use Rattle.std.proofs.Common.{◌≡◌, ◌++◌, [], ◌∷◌, codes, refl, sym, ap, ◌∙◌, arith}
-use Rattle.text_pieces.specs.Pieces.{newline}
-use Rattle.run_replay.specs.Field.{field}
+use Rattle.std.proofs.Common.{◌++◌, sym, ap, ◌∙◌}
 use Rattle.run_replay.specs.Document.{title, shape_line, source_part, IsTraceShape}
 use Rattle.run_replay.specs.Lines.{IsSource}
 use Rattle.run_replay.proofs.Fields.{if-none}

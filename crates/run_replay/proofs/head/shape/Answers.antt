@@ -1,5 +1,5 @@
-use Rattle.std.proofs.Common.{◌≡◌, ◌++◌, [], ◌∷◌, codes, refl, sym, ap, ◌∙◌, arith}
-use Rattle.text_pieces.specs.Pieces.{newline, space}
+use Rattle.std.proofs.Common.{◌++◌, codes, refl, sym, ap, ◌∙◌, arith}
+use Rattle.text_pieces.specs.Pieces.{space}
 use Rattle.run_replay.specs.Field.{field}
 use Rattle.run_replay.proofs.Fields.{if-none}
 use Rattle.run_replay.proofs.Forms.{field-next, shape-parts}

@@ -1,4 +1,4 @@
-use Rattle.std.proofs.Common.{◌≡◌, ◌<◌, ◌≤◌, length, refl, sym, ◌∙◌, arith}
+use Rattle.std.proofs.Common.{refl, sym, ◌∙◌, arith}
 use Rattle.run_replay.proofs.UnderWay.{starts, one-more, few-noted, stopped, at-end}
 use Rattle.run_replay.proofs.replaying.follow_on.Goals as goal
 

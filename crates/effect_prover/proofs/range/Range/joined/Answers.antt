@@ -1,4 +1,3 @@
-use Rattle.std.proofs.Common.{min, max}
 use Rattle.effect_prover.proofs.JoinLemmas.{head-joined}
 use Rattle.effect_prover.proofs.range.Range.joined.Goals as goal
 

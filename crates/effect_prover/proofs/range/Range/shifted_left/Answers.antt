@@ -1,7 +1,7 @@
-use Rattle.std.proofs.Common.{◌≡◌, ◌*◌, ◌/◌, ◌-◌, ◌^◌, ◌<◌, ◌≤◌, sym, arith, ⊎_elim, ◌∙◌, cond, nat_lt, refl}
+use Rattle.std.proofs.Common.{◌*◌, ◌/◌, ◌-◌, ◌^◌, ◌<◌, ◌≤◌, sym, arith, ⊎_elim, ◌∙◌, nat_lt}
 use Rattle.std.proofs.lemmas.Bool.{cond-false, le-ltb, cases_lt}
 use Rattle.std.proofs.lemmas.Nat.{le-div, pow_pos}
-use Rattle.effect_prover.specs.Range.{every, shifted_left}
+use Rattle.effect_prover.specs.Range.{every}
 use Rattle.effect_prover.specs.declared.range.Range.{Range}
 use Rattle.effect_prover.proofs.range.Range.shifted_left.Goals as goal
 

@@ -1,4 +1,4 @@
-use Rattle.std.proofs.Common.{◌≡◌, ℕ, ◌<◌, nat_eq, arith}
+use Rattle.std.proofs.Common.{nat_eq, arith}
 use Rattle.std.proofs.lemmas.Bool.Decides.{Decides-eqb}
 use Rattle.effect_prover.proofs.TableLemmas.{same-decided}
 use Rattle.effect_prover.proofs.row.Row.is_same.Goals as goal

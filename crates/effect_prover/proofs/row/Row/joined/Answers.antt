@@ -1,7 +1,6 @@
-use Rattle.std.proofs.Common.{◌≡◌, ℕ, ◌+◌, ◌<◌, length, slice_index_or, slice_set, sym, ◌∙◌, subst, arith, ⊎_elim}
+use Rattle.std.proofs.Common.{◌≡◌, ℕ, slice_index_or, slice_set, sym, ◌∙◌, subst, arith, ⊎_elim}
 use Rattle.std.proofs.lemmas.Bool.{cases_eq}
 use Rattle.std.proofs.lemmas.List.{length-set, get_or-set_same, get_or-set_other}
-use Rattle.effect_prover.specs.declared.range.Range.{Range}
 use Rattle.effect_prover.specs.Range.{one}
 use Rattle.effect_prover.specs.Row.{range_of}
 use Rattle.effect_prover.specs.Sweep.{IsJoinedRange}
