@@ -16,7 +16,7 @@ pub struct Checking<'a, R: Threads + Wait + Sync> {
     pub report: Report,
 }
 
-/// Where a case stops for want of memory.
+/// Where a case stops because there is no memory.
 const NO_MEMORY: Stop = Stop {
     place: 0,
     why: Trouble::Memory,

@@ -1,0 +1,26 @@
+# The tutorial's race: two cores add their half of the words to one sum, and nothing orders them. The check refuses it.
+#   ./denovo < examples/tutorial-race.s
+.region from, 4
+.word from, 0, 10
+.word from, 1, 20
+.word from, 2, 30
+.word from, 3, 40
+.region sum, 1
+.phase
+.task 0, add, 0
+.reads from, 0, 2
+.writes sum
+.task 1, add, 8
+.reads from, 2, 4
+.writes sum
+add: la t0, from
+ add t0, t0, a0
+ lw t1, 0(t0)
+ lw t2, 4(t0)
+ add t1, t1, t2      # the sum of this half
+ la t0, sum
+ lw t2, 0(t0)
+ add t1, t1, t2
+ sw t1, 0(t0)
+ li a7, 0            # finish
+ ecall
