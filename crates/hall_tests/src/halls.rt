@@ -146,7 +146,7 @@ impl OneHall {
 
     /// Posts a mail to the bank, the core or the keeper.
     fn post_here<R: Wait>(&mut self, rt: &R, mail: Posted) -> Result<Told, Memory> {
-        // it has one bank and one port
+        // for the proof alone: the read brings the invariant, by which the hall has one bank and one port
         let _hall = &self.hall;
         if mail.stamp > LAST_STAMP {
             return Err(Memory);

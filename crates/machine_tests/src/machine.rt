@@ -126,6 +126,7 @@ struct Seen {
 }
 
 fn next_mail(machine: &Machine) -> u32 {
+    // for the proof alone: the machine has at least one core, so core 0 is one of its actors
     a_machine_is_kept(machine);
     machine.next_mail(Actor::Core(CoreId(0)))
 }

@@ -3,7 +3,7 @@ use dn_base::{BankId, Gate};
 use std::sync::atomic::{AtomicBool, Ordering};
 use std::thread;
 
-/// How often a worker in its turn looks for the other one, at the most.
+/// How often a worker in its turn looks for the other one, at most.
 const LOOKS: u32 = 100_000_000;
 
 /// So many looks after each other; then the worker lets others run.
