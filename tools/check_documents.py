@@ -6,6 +6,9 @@ the commands of their indented blocks and of the comments in examples/:
 - a path has to be there, from the top, from crates/, or from the folder that the same line names;
 - a name of code (with a capital, or with `_` or `::`) has to be in the code, its contracts or its definitions;
 - a command `./denovo ..` has to read a text that is there;
+- each fenced block of docs/LIBRARY.md, docs/FROM_C.md and docs/TUTORIAL.md has to stand in the file that it quotes, unless it is a
+  command's output;
+- the map of docs/ARCHITECTURE.md has the rooms and crates of crates.txt, in its order, and each crate stands on crates before it;
 - `File.name` of docs/DEFINITION.md has to be defined in that file of the source language's definition.
 Each text of examples/ has to be the same as its copy in crates/worked_rows/data, which the cases run, and the text at the head of
 docs/LANGUAGE.md the same as that of the case language-page.
@@ -63,9 +66,15 @@ for document in documents:
                     if name not in words and name not in names:
                         found.append(f"{document}: no such name: {piece}")
     for path in re.findall(r"\]\(([^)#:]+)\)|^\[\w+\]: (\S+)$", text, re.M):
-        path = path[0] or path[1].removeprefix("../")
+        path = path[0] or path[1].removeprefix("../").split("#")[0]
         if not has_path(path, document):
             found.append(f"{document}: no such link: {path}")
+    for place in re.findall(r"\((\S*#[\w-]+)\)|^\[\w+\]: (\S*#[\w-]+)$", text, re.M):
+        path, anchor = (place[0] or place[1]).split("#")
+        page = pathlib.Path(document).parent / path if path else pathlib.Path(document)
+        heads = re.findall(r"^#+ (.*)$", page.read_text(), re.M) if page.is_file() else []
+        if anchor not in [re.sub(r"[^\w -]", "", head.lower()).replace(" ", "-") for head in heads]:
+            found.append(f"{document}: no such heading: {path}#{anchor}")
 for document in documents + examples:
     for path in re.findall(r"^[# ]+\./denovo[^\n]*< (\S+)", pathlib.Path(document).read_text(), re.M):
         if path not in there and path != "run.trace":
@@ -75,6 +84,31 @@ for file, name in re.findall(r"`([A-Z]\w+)\.(\w+)`", pathlib.Path("docs/DEFINITI
     defined = [path for path in specs if path.exists() and re.search(rf"^[a-z ]*\b{name}\b", path.read_text(), re.M)]
     if not defined:
         found.append(f"docs/DEFINITION.md: no such definition: {file}.{name}")
+# the map: the crates of docs/ARCHITECTURE.md by rooms are those of crates.txt, in the same order, and each stands on crates before it
+rooms, listed = re.findall(r"^# ([a-z ]+): .*\n((?:\w.*\n)+)", pathlib.Path("crates.txt").read_text(), re.M), []
+for room, lines in rooms:
+    for line in lines.splitlines():
+        name, _, libraries = line.partition(":")
+        listed.append((room, name.split()[0]))
+        for library in libraries.split():
+            if f"crates/{library}" in folders and library not in [crate for _, crate in listed]:
+                found.append(f"crates.txt: {name} stands on {library}, which isn't named before it")
+drawn, room = [], ""
+for cell, crates in re.findall(r"^\| ([a-z ]*) \| ((?:`\w+`(?:, )?)+) \|", pathlib.Path("docs/ARCHITECTURE.md").read_text(), re.M):
+    room = cell.strip() or room
+    drawn += [(room, name) for name in re.findall(r"`(\w+)`", crates)]
+if drawn != listed:
+    found.append(f"docs/ARCHITECTURE.md: the map isn't that of crates.txt: {sorted(set(drawn) ^ set(listed)) or 'the order differs'}")
+for crate in sorted({folder for folder in folders if re.fullmatch(r"crates/\w+", folder)} - {"crates/" + crate for _, crate in listed}):
+    found.append(f"crates.txt: {crate} isn't named")
+QUOTED = {"docs/LIBRARY.md": ("crates/library_tour/src/main.rt", "crates/library_tour/stdout"),
+          "docs/FROM_C.md": ("examples/c/histogram.c", "examples/c/histogram.s"),
+          "docs/TUTORIAL.md": tuple(name for name in examples if "tutorial" in name)}
+for document, sources in QUOTED.items():
+    whole = "\n".join(pathlib.Path(source).read_text() for source in sources)
+    for command, block in re.findall(r"^(    \./denovo[^\n]*\n\n)?```\w*\n(.*?)^```$", pathlib.Path(document).read_text(), re.M | re.S):
+        if not command and block not in whole:  # tools/check_programs.py compares what a command prints
+            found.append(f"{document}: a block that isn't in {' or '.join(sources)}: {block.split(chr(10))[0]}")
 for name in examples:
     copy = pathlib.Path("crates/worked_rows/data") / pathlib.PurePath(name).name
     if not copy.exists() or copy.read_text() != pathlib.Path(name).read_text():

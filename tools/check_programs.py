@@ -3,11 +3,12 @@
 .ci/run does, `tools/check_programs.py`. With `--quick` it takes whatever the launchers run, also builds without proof.
 
 It looks that the command words are handed on, that each exit code from 0 to 7 comes out, and 9 for words that aren't UTF-8, that a
-run goes by a pipe into its picture, that standard error helps, and that the proved programs are used exactly where they were made
-of these sources. What a run has to write comes from tools/reference.py. It names each check that fails, and ends with a count."""
+run goes by a pipe into its picture, that standard error helps, that the tutorial shows what its commands print, and that the proved
+programs are used exactly where they were made of these sources. What a run has to write comes from tools/reference.py. It names each check that fails, and ends with a count."""
 import importlib.util
 import os
 import pathlib
+import re
 import shutil
 import subprocess
 import sys
@@ -146,10 +147,22 @@ def proved_programs_are_used_where_they_are_those_of_the_sources():
         check("and not where another program stands in its place", which(copy) == "none")
 
 
+def pages_show_what_is_printed():
+    """Each block behind a command of the tutorial is a part of what the command prints."""
+    page = pathlib.Path("docs/TUTORIAL.md").read_text()
+    for command, block in re.findall(r"^    (\./denovo[^\n]*)\n\n```\n(.*?)^```$", page, re.M | re.S):
+        ran = run(["bash", "-c", command])
+        check(f"docs/TUTORIAL.md: {command}", block.encode() in ran.stdout, ran.stdout[:300])
+    for command in re.findall(r"^    (\./denovo.*) > \S+$", page, re.M):
+        ran = run(["bash", "-o", "pipefail", "-c", command])
+        check(f"docs/TUTORIAL.md: {command}", ran.returncode == 0 and ran.stdout.startswith(b"<svg"))
+
+
 words_are_handed_on()
 every_exit_code_comes()
 a_run_is_drawn_by_a_pipe()
 standard_error_helps()
+pages_show_what_is_printed()
 if kind == "proved":
     proved_programs_are_used_where_they_are_those_of_the_sources()
 print(f"programs: {passed} passed, {failed} failed")

@@ -10,9 +10,15 @@ somewhere else to come from. It takes texts that assemble and check; it refuses 
                                             the same for a script of events (crates/worked_rows/data/README.md has the form)
     tools/reference.py events [WORDS] < TEXT
                                             the events of a run, one a line, in the form of a script
+    tools/reference.py account [run|phase|core|region] < DOCUMENT
+                                            what the run of a document cost and why, as lines `measure,group,count`
     tools/reference.py cases FOLDER [NAME]  runs the cases of the folder's files, of those modes and of scripts, and says which
                                             outputs aren't the computed ones, and how many cases reached each kind of event and
                                             each row of the tables of docs/PROTOCOL.md
+    tools/reference.py claim [WORDS] < TEXT
+                                            the claim of a run, in the form of docs/COMPARING.md: of the mode run, or in the mode flat by
+                                            the least grants
+    tools/reference.py judge < CLAIM        whether one thread on one memory does what a claim says, and else where it differs first
     tools/reference.py text SIZE            the text that the mode work runs for the size
     tools/reference.py rows                 what a run of the small examples below has to come to, for the seeds 1 to 50
     tools/reference.py --help               this page
@@ -1005,9 +1011,9 @@ class Machine:
         return sorted(ends), [self.word(word) for word in range(len(self.program.memory))]
 
 
-def flat(program, fuel, grants=None):
+def flat(program, fuel, grants=None, stops=None):
     """The run on one memory: by these grants, or by the least ones. The ending, the loads and the grants; None for a list of
-    grants that isn't a whole legal one."""
+    grants that isn't a whole legal one, and then the list `stops`, if there is one, is told the first grant that may not come."""
     memory, decoded = list(program.memory), [decode(word) for word in program.code]
     holders, ends, loads, used, rest = {}, [], {}, [], list(grants or [])
     for number, phase in enumerate(program.phases):
@@ -1043,9 +1049,9 @@ def flat(program, fuel, grants=None):
             if grants is None:
                 core = able[0]
             else:
-                if not rest:
-                    return None
-                if rest[0][0] != number or rest[0][1] not in able or tasks[rest[0][1]].need()[1] != rest[0][2]:
+                if not rest or rest[0][0] != number or rest[0][1] not in able or tasks[rest[0][1]].need()[1] != rest[0][2]:
+                    if stops is not None:
+                        stops.append(len(used))
                     return None
                 core = rest.pop(0)[1]
             task = tasks[core]
@@ -1060,6 +1066,8 @@ def flat(program, fuel, grants=None):
         if any(task.end != "finished" for task in tasks.values()):
             break
     if rest:
+        if stops is not None:
+            stops.append(len(used))
         return None
     return (ends, memory), loads, used
 
@@ -1375,6 +1383,154 @@ def replayed(data):
     return STATUS[outcome(machine.ending()[0])], run_text(machine)
 
 
+# ---------------------------------------------------------------- the account of a run
+
+MEASURES = ["loads", "stores", "loads-local", "stores-silent", "registers", "misses", "misses-first", "misses-phase", "misses-lock",
+            "misses-evicted", "misses-taken", "dropped-phase", "dropped-lock", "dropped-phase-current", "dropped-lock-current",
+            "kept-touched", "kept-signature", "untold-copies", "taken", "replies-home", "replies-core", "bounces", "evicted-copies",
+            "evicted-registered", "grants-at-once", "grants-queued"]
+
+
+class Account:
+    """What a run cost, and why: each event is looked at with the state before it. A row is a measure, the phase and the core that it
+    belongs to, and the word, if it has one."""
+
+    def __init__(self, machine):
+        self.machine, self.rows = machine, []
+        # why a core's last entry of a word went, and at which event the mail of a grant was sent
+        self.gone, self.sent_at = {}, {}
+
+    def note(self, measure, node, word=None, times=1):
+        self.rows += [(measure, node.phase, node.core, word)] * times
+
+    def went(self, node, word, why):
+        self.gone[node.core, word] = why
+
+    def see(self, event):
+        """Looks at an event that comes next."""
+        if event[0] == "handle":
+            sender, _, to, message = next(mail for mail in self.machine.pool if mail[:2] == event[1:])
+            if to != "keeper" and to[0] == "core":
+                self.message(self.machine.nodes[to[1]], sender, event[1:], message)
+            elif message[0] in ("acquire", "release"):
+                number = self.machine.numbers.get(to, 0)
+                self.sent_at[to, number] = "grants-at-once" if message[0] == "acquire" else "grants-queued"
+            return
+        node = self.machine.nodes[event[1]]
+        if event[0] == "instr" and node.next[0] in ("load", "store"):
+            self.access(node, node.next[0], node.next[1], node.next[0] == "load" or not node.next[2])
+        elif event[0] == "evict":
+            state = node.entry(event[2])[0]
+            self.note("evicted-copies" if state == "V" else "evicted-registered", node, event[2])
+            if state == "V":
+                self.went(node, event[2], "misses-evicted")
+
+    def access(self, node, kind, word, needs_value):
+        entry = node.entry(word)
+        if entry is None and needs_value:
+            self.note("misses", node, word)
+            self.note(self.gone.get((node.core, word), "misses-first"), node, word)
+            return
+        self.note(kind + "s", node, word)
+        if kind == "load" and node.wait is None:
+            self.note("loads-local", node, word)
+        if kind == "store" and entry is not None and entry[0] == "R":
+            self.note("stores-silent", node, word)
+        elif kind == "store":
+            self.note("registers", node, word)
+            others = sum(1 for other in self.machine.nodes if other is not node and (other.entry(word) or " ")[0] == "V")
+            self.note("untold-copies", node, word, others)
+
+    def copies(self, node):
+        return [(word, entry) for places in node.cache for word, entry in places.items() if entry[0] == "V"]
+
+    def dropped(self, node, why, goes):
+        for word, entry in self.copies(node):
+            if goes(word, entry):
+                self.note("dropped-" + why, node, word)
+                if entry[1] == self.machine.word(word):
+                    self.note("dropped-%s-current" % why, node, word)
+                self.went(node, word, "misses-" + why)
+
+    def message(self, node, sender, mail, message):
+        kind = message[0]
+        if kind == "go" and node.has_arrived and not node.is_halted:
+            written = self.machine.plans[node.phase][0]
+            for word, entry in self.copies(node):
+                if word in written and entry[2]:
+                    self.note("kept-touched", node, word)
+            self.dropped(node, "phase", lambda word, entry: word in written and not entry[2])
+        elif kind == "grant" and node.wait == ("locking", message[1]):
+            self.note(self.sent_at[mail], node)
+            guarded = self.machine.plans[node.phase][1][message[1]]
+            for word, _ in self.copies(node):
+                if word in guarded and not may_hold(message[2], word, node.phase):
+                    self.note("kept-signature", node, word)
+            self.dropped(node, "lock", lambda word, _: word in guarded and may_hold(message[2], word, node.phase))
+        elif kind == "data-reply":
+            self.note("replies-core" if sender[0] == "core" else "replies-home", node, message[1])
+        elif kind == "reg-fwd":
+            entry = node.entry(message[1])
+            if entry and entry[0] == "R" and not entry[2]:
+                self.note("taken", node, message[1])
+                self.went(node, message[1], "misses-taken")
+        elif kind == "read-fwd" and (node.entry(message[1]) or " ")[0] not in "RL":
+            self.note("bounces", node, message[1])
+        elif kind == "wb-ack" and (node.entry(message[1]) or " ")[0] == "L":
+            self.went(node, message[1], "misses-evicted")
+
+    def groups(self, by):
+        """Each measure of each group, with its count: 0 is there too, but by region."""
+        regions = self.machine.program.regions
+        if by == "region":
+            def group(row):
+                return next((name for name, (start, length) in regions.items()
+                             if row[3] is not None and start <= row[3] < start + length), None)
+            names = list(regions)
+        else:
+            def group(row):
+                return {"run": "run", "phase": row[1], "core": row[2]}[by]
+            names = {"run": ["run"], "phase": range(len(self.machine.program.phases)), "core": range(self.machine.cores)}[by]
+        counts = {}
+        for row in self.rows:
+            counts[row[0], group(row)] = counts.get((row[0], group(row)), 0) + 1
+        return [(measure, name, counts.get((measure, name), 0)) for measure in MEASURES for name in names
+                if by != "region" or (measure, name) in counts]
+
+    def agree(self):
+        """That the sums agree that have to."""
+        run = {measure: count for measure, _, count in self.groups("run")}
+        assert run["misses"] == sum(run["misses-" + why] for why in ("first", "phase", "lock", "evicted", "taken"))
+        assert run["loads-local"] <= run["loads"] and run["stores"] == run["stores-silent"] + run["registers"]
+        counts = self.machine.counts
+        assert run["grants-at-once"] + run["grants-queued"] == counts["grant"]
+        assert run["replies-home"] + run["replies-core"] == counts["data-reply"]
+        assert run["evicted-copies"] + run["evicted-registered"] == counts["evict"]
+        for by in ("phase", "core", "region"):
+            for measure in MEASURES:
+                if by != "region" or not measure.startswith("grants"):
+                    assert sum(count for other, _, count in self.groups(by) if other == measure) == run[measure]
+
+
+def account(data, by):
+    """The exit code and the account of a document's run, a line `measure,group,count` for each."""
+    told = read_document(data)
+    if isinstance(told, str):
+        return 2, ["refused trace " + told]
+    sizes, text, events = told
+    machine = Machine(assemble(text.decode("utf-8", "replace")), *sizes)
+    kept = Account(machine)
+    for number, event in enumerate(events):
+        if not machine.enabled(event):
+            return 2, ["refused trace not-enabled %d" % number]
+        kept.see(event)
+        machine.step(event)
+    if machine.pick(0)[0] is not None:
+        return 2, ["refused trace incomplete"]
+    kept.agree()
+    return 0, ["measure,group,count"] + ["%s,%s,%d" % row for row in kept.groups(by)]
+
+
 # ---------------------------------------------------------------- what is written
 
 def outcome(ends):
@@ -1469,6 +1625,108 @@ def answer(words, text):
     else:
         raise Unfit("mode")
     return STATUS[outcome(ending[0])], lines
+
+
+# ---------------------------------------------------------------- claims
+
+def claim_text(text, fuel, grants, loads, answer):
+    """The bytes of a claim: the text as bytes, the grants, the loads by task or None, and the lines of the answer."""
+    lines = ["grants %d" % len(grants)] + grant_text(grants)
+    if loads is None:
+        lines.append("loads none")
+    else:
+        lines.append("loads %d" % len(loads))
+        for (phase, core), seen in sorted(loads.items()):
+            lines.append("task %d %d %d" % (phase, core, len(seen)))
+            lines += ["%d 0x%08x" % load for load in seen]
+    head = b"denovo-claim 1\nfuel %d\nsource %d\n" % (fuel, len(text)) + text + b"\n"
+    return head + "".join(line + "\n" for line in lines + answer).encode()
+
+
+def claim(words, text):
+    """The claim of the run that the words ask for: of the machine in the mode run, of the least grants in the mode flat."""
+    o = options(words)
+    program = assemble(text.decode("latin-1"))
+    if o["mode"] == "flat":
+        grants = None
+    elif o["mode"] == "run":
+        machine = opened(program, o)
+        machine.run(o["seed"], lambda event: None)
+        grants = machine.grants
+    else:
+        raise Unfit("mode")
+    ending, loads, used = flat(program, o["fuel"], grants)
+    return claim_text(text, o["fuel"], used, loads, answer_text(ending))
+
+
+class Broken(Exception):
+    """The first thing that is wrong with the bytes of a claim."""
+
+
+class ClaimReader:
+    """Reads lines of a claim one after the other; numbers are below 2^32."""
+
+    def __init__(self, data):
+        self.data, self.at = data, 0
+
+    def line(self, form, wrong):
+        found = re.compile(form.replace(b"N", NUMBER)).match(self.data, self.at)
+        if not found or any(int(group, 16 if group[:2] == b"0x" else 10) >= 2 ** 32 for group in found.groups()):
+            raise Broken(wrong)
+        self.at = found.end()
+        return [int(group, 16 if group[:2] == b"0x" else 10) for group in found.groups()]
+
+
+def read_claim(data):
+    """What a claim tells: fuel, text, grants, loads by task or None, and the bytes of the answer."""
+    if len(data) > 536870912:
+        raise Broken("too-large")
+    reader = ClaimReader(data)
+    fuel, length = reader.line(rb"denovo-claim 1\nfuel N\nsource N\n", "head")
+    if not 1 <= fuel <= 32768 or length > 1048576:
+        raise Broken("head")
+    text = data[reader.at:reader.at + length]
+    reader.at += length
+    (count,) = reader.line(rb"\ngrants N\n", "head")
+    grants = [tuple(reader.line(rb"grant N N N\n", "grant %d" % number)) for number in range(count)]
+    loads = None
+    if data[reader.at:reader.at + 11] == b"loads none\n":
+        reader.at += 11
+    else:
+        (count,) = reader.line(rb"loads N\n", "loads")
+        loads = []
+        for number in range(count):
+            phase, core, many = reader.line(rb"task N N N\n", "task %d" % number)
+            loads.append(((phase, core), [tuple(reader.line(rb"N (0x[0-9a-f]{8})\n", "load %d %d" % (number, load)))
+                                          for load in range(many)]))
+    return fuel, text, grants, loads, data[reader.at:]
+
+
+def judged(data):
+    """The exit code and the lines that say whether one thread on one memory does what a claim says."""
+    try:
+        fuel, text, grants, loads, claimed = read_claim(data)
+    except Broken as what:
+        return 2, ["refused claim %s" % what]
+    stops = []
+    run = flat(assemble(text.decode("latin-1")), fuel, grants, stops)
+    if run is None:
+        return 3, ["differs grants %d" % stops[0]]
+    ending, right, _ = run
+    if loads is not None:
+        if [task for task, _ in loads] != sorted(right):
+            return 3, ["differs tasks"]
+        for task, seen in loads:
+            for at in range(max(len(seen), len(right[task]))):
+                if seen[at:at + 1] != right[task][at:at + 1]:
+                    rest = "word %d value 0x%08x" % right[task][at] if at < len(right[task]) else "end"
+                    return 3, ["differs load %d %d %d %s" % (*task, at, rest)]
+    answer = "".join(line + "\n" for line in answer_text(ending)).encode()
+    if claimed == answer:
+        return 0, ["agrees"]
+    alike = next((at for at, (a, b) in enumerate(zip(claimed, answer)) if a != b), min(len(claimed), len(answer)))
+    at = answer[:alike].count(b"\n")
+    return 3, ["differs answer %d" % at] + answer_text(ending)[at:at + 1]
 
 
 # ---------------------------------------------------------------- scripts
@@ -1905,10 +2163,21 @@ def command(words):
     if words[:1] == ["text"]:
         print(work_text(int(words[1])), end="")
         return 0
+    if words[:1] == ["judge"]:
+        status, out = judged(sys.stdin.buffer.read())
+        print("".join(line + "\n" for line in out), end="")
+        return status
+    if words[:1] == ["claim"]:
+        sys.stdout.buffer.write(claim(words[1:], sys.stdin.buffer.read()))
+        return 0
     if words[:1] == ["events"]:
         o = options(words[1:])
         opened(assemble(sys.stdin.read()), o).run(o["seed"], lambda event: print(event_line(event)))
         return 0
+    if words[:1] == ["account"]:
+        status, out = account(sys.stdin.buffer.read(), words[1] if words[1:] else "run")
+        print("".join(line + "\n" for line in out), end="")
+        return status
     if words[:1] == ["script"]:
         with open(words[1]) as file:
             lines = [line.strip() for line in file if line.strip() and line[0] != "#"]
