@@ -1,8 +1,8 @@
 ghost use Rattle.std.specs.Prelude.{◌≡◌, ◌<◌, ◌/◌, ◌%◌};
 
-/// What is left of a number in a division by another, which isn't 0.
+/// The remainder of a number in a division by another, which isn't 0.
 ///
-/// Banks and sets are mostly powers of two: a mask then takes the place of the division, which costs far more.
+/// Banks and sets are mostly powers of two: a mask then does, at far less cost than a division.
 #[inline(always)]
 pub fn remainder(number: u32, divisor: u32) -> u32
     requires { 0 < divisor }
@@ -15,7 +15,7 @@ pub fn remainder(number: u32, divisor: u32) -> u32
     }
 }
 
-/// How often a number has another, which isn't 0. Where that is a power of two, a shift takes the place of the division.
+/// The quotient of a number by another, which isn't 0, rounded down. Where the divisor is a power of two, a shift does.
 #[inline(always)]
 pub fn quotient(number: u32, divisor: u32) -> u32
     requires { 0 < divisor }

@@ -68,7 +68,7 @@ impl TextSource {
         })
     }
 
-    /// Copies the next bytes to the prefix of `buf`, and says how many.
+    /// Copies the next bytes to the front of `buf`, and says how many.
     fn give(&mut self, buf: &mut [u8]) -> usize
         ensures count { result ≡ min self.old.per_read (min (length buf.old) (length self.old.left)) }
         ensures state { self.new ≡ record self.old { left = drop result self.old.left } }

@@ -1,7 +1,9 @@
 ghost use Rattle.std.specs.Prelude.{◌≡◌, ◌≢◌, ◌≤◌, ◌<◌, ◌++◌, ℕ, List, length, IfSome, IfNone};
-ghost use Rattle.text_pieces.specs.Pieces.{hex_digit, hexadecimal as hexadecimal_of};
+ghost use Rattle.text_pieces.specs.Pieces.{hexadecimal as hexadecimal_of};
 ghost use Rattle.document_parts.specs.Field.{Stands, NoneStands};
 ghost use Rattle.document_parts.specs.Base16.{IsWord, digit_of, seems_word};
+
+use text_pieces::to_hexadecimal;
 
 use crate::numbers::behind;
 
@@ -33,37 +35,6 @@ fn number_of(bytes: &[u8]) -> u32
         + value_of(bytes[9])
 }
 
-/// A digit of base 16.
-fn digit(value: u32) -> u8
-    requires { value < 16 }
-    ensures { result ≡ hex_digit value }
-{
-    if value < 10 {
-        b'0' + value as u8
-    } else {
-        b'a' + (value as u8 - 10)
-    }
-}
-
-/// A number in `0x` and eight hexadecimal digits.
-#[tactic(auto, unfolding(text_pieces::specs::Pieces::hexadecimal))]
-fn written(number: u32) -> [u8; 10]
-    ensures { result ≡ hexadecimal_of number }
-{
-    [
-        b'0',
-        b'x',
-        digit(number >> 28 & 15),
-        digit(number >> 24 & 15),
-        digit(number >> 20 & 15),
-        digit(number >> 16 & 15),
-        digit(number >> 12 & 15),
-        digit(number >> 8 & 15),
-        digit(number >> 4 & 15),
-        digit(number & 15),
-    ]
-}
-
 /// The number that stands in front of some bytes in `0x` and eight hexadecimal digits, with `a` to `f` in lower case; and what
 /// stands behind it.
 pub fn hexadecimal(bytes: &[u8]) -> Option<(u32, &[u8])>
@@ -74,6 +45,6 @@ pub fn hexadecimal(bytes: &[u8]) -> Option<(u32, &[u8])>
         return None;
     }
     let number = number_of(bytes);
-    let rest = behind(bytes, &written(number))?;
+    let rest = behind(bytes, &to_hexadecimal(number))?;
     Some((number, rest))
 }

@@ -5,4 +5,4 @@
 
 mod pieces;
 
-pub use pieces::{push, push_decimal, push_hexadecimal, push_long, push_signed};
+pub use pieces::{push, push_decimal, push_hexadecimal, push_long, push_signed, to_hexadecimal};

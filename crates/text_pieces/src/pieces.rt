@@ -60,15 +60,12 @@ fn digit(value: u32) -> u8
     }
 }
 
-/// Adds a number in `0x` and eight hexadecimal digits, with `a` to `f` in lower case.
-///
-/// # Errors
-/// `Memory` where there is no room for them.
+/// A number in `0x` and eight hexadecimal digits, with `a` to `f` in lower case.
 #[tactic(auto, unfolding(crate::specs::Pieces::hexadecimal))]
-pub fn push_hexadecimal(out: &mut Vec<u8>, number: u32) -> Result<(), Memory>
-    ensures { OnOk result (out.new.items ≡ out.old.items ++ hexadecimal number) }
+pub fn to_hexadecimal(number: u32) -> [u8; 10]
+    ensures { result ≡ hexadecimal number }
 {
-    let bytes = [
+    [
         b'0',
         b'x',
         digit(number >> 28 & 15),
@@ -79,6 +76,15 @@ pub fn push_hexadecimal(out: &mut Vec<u8>, number: u32) -> Result<(), Memory>
         digit(number >> 8 & 15),
         digit(number >> 4 & 15),
         digit(number & 15),
-    ];
-    push(out, &bytes)
+    ]
+}
+
+/// Adds a number in `0x` and eight hexadecimal digits, with `a` to `f` in lower case.
+///
+/// # Errors
+/// `Memory` where there is no room for them.
+pub fn push_hexadecimal(out: &mut Vec<u8>, number: u32) -> Result<(), Memory>
+    ensures { OnOk result (out.new.items ≡ out.old.items ++ hexadecimal number) }
+{
+    push(out, &to_hexadecimal(number))
 }
