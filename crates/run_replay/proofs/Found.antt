@@ -9,16 +9,14 @@ use Rattle.message_net.specs.declared.actor.MailId.{MailId}
 use Rattle.message_net.specs.declared.event.Event.{Event}
 use Rattle.message_net.specs.declared.event.Event.TheVariants.{Instr, Evict, Arrive, Handle}
 use Rattle.text_pieces.specs.Pieces.{newline, space}
-use Rattle.run_replay.specs.Field.{field, IsFrom, Stands, NoneStands}
-use Rattle.run_replay.specs.Document.{IsNamed, IsMail, FitsDocument, Head, title, shape_line, source_part, head_text, mail_line, event_line, event_lines}
+use Rattle.document_parts.specs.Field.{field, IsFrom, Stands, NoneStands}
+use Rattle.document_parts.specs.Parts.{source_part}
+use Rattle.run_replay.specs.Document.{IsNamed, IsMail, FitsDocument, Head, title, shape_line, head_text, mail_line, event_line, event_lines}
 use Rattle.run_replay.specs.Lines.{two_fields, StandTwo, mail_text, AreLines}
-use Rattle.run_replay.proofs.Forms.{IsOne, head-parts}
+use Rattle.document_parts.proofs.Forms.{IsOne}
+use Rattle.run_replay.proofs.Forms.{head-parts}
 
 -- ---- one after another
-
-pub next : {X : Type 0} (Fits : X → Type 0) (write : X → List ℕ) → IsOne Fits write → (bytes : List ℕ) (x : X) (r : List ℕ) → Stands Fits write bytes x r
-    → (y : X) (q : List ℕ) → Fits y → bytes ≡ write y ++ q → (x ≡ y) × (r ≡ q)
-next Fits write one bytes x r found y q fits is = one x y r q found.fits fits (sym found.parts ∙ is)
 
 pub two-parts : (name : List ℕ) (a b : ℕ) (r : List ℕ) → two_fields name a b ++ r ≡ field name space a ++ (field [] newline b ++ r)
 unfolding two_fields

@@ -1,5 +1,3 @@
-pub mod Digits
-pub mod Fields
 pub mod Forms
 pub mod Found
 pub mod Single

@@ -8,7 +8,8 @@ use Rattle.message_net.specs.declared.event.Event.TheVariants.{Instr, Evict, Arr
 use Rattle.text_pieces.specs.Pieces.{newline, space}
 use Rattle.run_replay.specs.declared.trace.TraceShape.{TraceShape}
 use Rattle.run_replay.specs.declared.trace.Trace.{Trace}
-use Rattle.run_replay.specs.Field.{field, IsFrom}
+use Rattle.document_parts.specs.Field.{field, IsFrom}
+use Rattle.document_parts.specs.Parts.{source_part}
 
 -- ---- what may be told
 
@@ -59,10 +60,6 @@ pub record IsTrace (t : Trace) : Type 0 where
 unfoldable pub shape_line : TraceShape → List ℕ
 shape_line s =
     field (codes "banks ") space s.banks ++ field (codes "sets ") space s.sets ++ field (codes "ways ") space s.ways ++ field (codes "fuel ") newline s.fuel
-
--- the line that says how many bytes the text has, the text, and a newline
-unfoldable pub source_part : List ℕ → List ℕ
-source_part text = field (codes "source ") newline (length text) ++ text ++ newline
 
 -- the first line: what the bytes are, and in which version
 unfoldable pub title : List ℕ

@@ -1,4 +1,3 @@
-pub mod Field
 pub mod Document
 pub mod Faults
 pub mod Lines

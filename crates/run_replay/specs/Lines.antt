@@ -5,13 +5,9 @@ use Rattle.message_net.specs.declared.event.Event.{Event}
 use Rattle.run_replay.specs.declared.head.Heading.{Heading}
 use Rattle.run_replay.specs.declared.trace.TraceFault.{TraceFault}
 use Rattle.run_replay.specs.declared.trace.TraceFault.TheVariants.{TooLarge, Head as NoHead, Line, Rest, Memory}
-use Rattle.run_replay.specs.Field.{field, IsFrom, NoneStands}
+use Rattle.document_parts.specs.Field.{field, IsFrom, NoneStands}
 use Rattle.run_replay.specs.Document.{Head, FitsDocument, mail_line, event_line, event_lines}
 use Rattle.text_pieces.specs.Pieces.{newline, space}
-
--- a source text has at most 1,048,576 bytes
-abbrev pub IsSource : List ℕ → Type 0
-IsSource text = length text ≤ 1048576
 
 abbrev pub told_by : Heading → Head
 told_by h = record { shape = h.shape; text = h.text.now; count = h.count }

@@ -1,11 +1,11 @@
 ghost use Rattle.std.specs.Prelude.{◌≡◌, ℕ, List, [], length, IfSome, IfNone, IfOk, IfErr};
-ghost use Rattle.run_replay.specs.Field.{Stands, NoneStands};
+ghost use Rattle.document_parts.specs.Field.{Stands, NoneStands};
 ghost use Rattle.run_replay.specs.Document.{event_line, IsMail, FitsDocument};
 ghost use Rattle.run_replay.specs.Lines.{StandTwo, mail_text, AreLines, FailsLines};
 
-use crate::field::field;
 use crate::trace::TraceFault;
 use dn_base::{BankId, CoreId, Sequence, WordId};
+use document_parts::field;
 use message_net::{Actor, Event, MailId};
 use std::alloc::Global;
 

@@ -1,11 +1,11 @@
 ghost use Rattle.std.specs.Prelude.{◌≡◌, ◌≢◌, List, ℕ, ◌++◌, IfSome, IfNone};
-ghost use Rattle.run_replay.specs.Field.{Stands, NoneStands};
-ghost use Rattle.run_replay.specs.Document.{title, shape_line, source_part, head_text, IsTraceShape, IsHead};
-ghost use Rattle.run_replay.specs.Lines.{IsSource, told_by};
+ghost use Rattle.document_parts.specs.Field.{Stands, NoneStands};
+ghost use Rattle.run_replay.specs.Document.{title, shape_line, head_text, IsTraceShape, IsHead};
+ghost use Rattle.run_replay.specs.Lines.{told_by};
 
-use crate::field::{behind, field};
 use crate::trace::TraceShape;
-use dn_base::{MOST_EVENTS, MOST_OF_TEXT};
+use dn_base::MOST_EVENTS;
+use document_parts::{behind, field, source};
 
 /// What stands before the events of a document, and the bytes behind it.
 #[derive(Clone, Copy)]
@@ -41,17 +41,6 @@ fn shape(bytes: &[u8]) -> Option<(TraceShape, &[u8])>
         fuel,
     };
     Some((shape, bytes))
-}
-
-/// The source text that stands in front of some bytes behind the number of its bytes, and what stands behind it.
-fn source(bytes: &[u8]) -> Option<(&[u8], &[u8])>
-    ensures some { IfSome result (λ f. Stands IsSource source_part bytes.now f.0.now f.1.now) }
-    ensures none { IfNone result (NoneStands IsSource source_part bytes.now) }
-{
-    let (count, bytes) = field(bytes, b"source ", 0, MOST_OF_TEXT as u32, b'\n')?;
-    let (text, bytes) = bytes.split_at_checked(count as usize)?;
-    let rest = behind(bytes, b"\n")?;
-    Some((text, rest))
 }
 
 /// What stands before the events of a document, and the bytes behind it.

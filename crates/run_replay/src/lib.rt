@@ -5,7 +5,6 @@
 #![tactic(auto)]
 
 mod events;
-mod field;
 mod head;
 mod laws;
 mod reading;

@@ -1,22 +1,12 @@
 ghost use Rattle.std.specs.Prelude.{◌≡◌, ◌≤◌, ◌++◌, length, IfOk, OnOk};
-ghost use Rattle.run_replay.specs.Field.{field};
-ghost use Rattle.run_replay.specs.Document.{title, shape_line, source_part, head_text, mail_line, event_line, event_lines, IsTrace, IsDocument};
+ghost use Rattle.run_replay.specs.Document.{title, shape_line, head_text, mail_line, event_line, event_lines, IsTrace, IsDocument};
 
 use crate::trace::TraceShape;
 use dn_base::Memory;
+use document_parts::{push_field, push_source};
 use message_net::{Actor, Event, MailId};
 use std::alloc::Global;
-use text_pieces::{push, push_decimal};
-
-/// Adds a number in decimal digits between a name and an end.
-#[tactic(auto, unfolding(crate::specs::Field::field))]
-fn push_field(out: &mut Vec<u8>, name: &[u8], number: u32, end: &[u8]) -> Result<(), Memory>
-    ensures { OnOk result (out.new.items ≡ out.old.items ++ field name.now end.now number) }
-{
-    push(out, name)?;
-    push_decimal(out, number)?;
-    push(out, end)
-}
+use text_pieces::push;
 
 #[tactic(auto, unfolding(crate::specs::Document::shape_line))]
 fn push_shape(out: &mut Vec<u8>, shape: TraceShape) -> Result<(), Memory>
@@ -26,16 +16,6 @@ fn push_shape(out: &mut Vec<u8>, shape: TraceShape) -> Result<(), Memory>
     push_field(out, b"sets ", shape.sets, b" ")?;
     push_field(out, b"ways ", shape.ways, b" ")?;
     push_field(out, b"fuel ", shape.fuel, b"\n")
-}
-
-#[tactic(auto, unfolding(crate::specs::Document::source_part))]
-fn push_source(out: &mut Vec<u8>, text: &[u8]) -> Result<(), Memory>
-    requires { length text.now ≤ 1048576 }
-    ensures { OnOk result (out.new.items ≡ out.old.items ++ source_part text.now) }
-{
-    push_field(out, b"source ", text.len() as u32, b"\n")?;
-    push(out, text)?;
-    push(out, b"\n")
 }
 
 #[tactic(auto, unfolding(crate::specs::Document::title))]

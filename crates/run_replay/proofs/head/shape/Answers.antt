@@ -1,8 +1,9 @@
 use Rattle.std.proofs.Common.{◌++◌, codes, refl, sym, ap, ◌∙◌, arith}
 use Rattle.text_pieces.specs.Pieces.{space}
-use Rattle.run_replay.specs.Field.{field}
-use Rattle.run_replay.proofs.Fields.{if-none}
-use Rattle.run_replay.proofs.Forms.{field-next, shape-parts}
+use Rattle.document_parts.specs.Field.{field}
+use Rattle.document_parts.proofs.Fields.{if-none}
+use Rattle.document_parts.proofs.Forms.{field-next}
+use Rattle.run_replay.proofs.Forms.{shape-parts}
 use Rattle.run_replay.proofs.head.shape.Goals as goal
 
 pub returns-in_err-banks-clause-none : goal.returns-in_err-banks-clause-none
