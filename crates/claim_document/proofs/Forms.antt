@@ -1,13 +1,11 @@
 -- The lines of a claim are read in one way.
-use Rattle.std.proofs.Common.{◌≡◌, ℕ, ◌+◌, ◌^◌, ◌<◌, ◌≤◌, All, List, [], ◌∷◌, ◌++◌, flat_map, length, get_or, drop, codes, Option, Some, None, refl, sym, ap, subst, ◌∙◌, arith, append_assoc}
+use Rattle.std.proofs.Common.{◌≡◌, ℕ, ◌^◌, ◌<◌, List, [], ◌∷◌, ◌++◌, flat_map, length, drop, codes, Some, None, refl, sym, ap, ◌∙◌, arith, append_assoc}
 use Rattle.std.proofs.lemmas.List.{append_cancel_left}
-use Rattle.dn_base.specs.declared.ids.Grant.{Grant}
 use Rattle.dn_base.specs.declared.ids.LoadSeen.{LoadSeen}
 use Rattle.flat_machine.specs.declared.ending.TaskLoads.{TaskLoads}
 use Rattle.text_pieces.specs.Pieces.{newline, space, hexadecimal}
-use Rattle.document_parts.specs.Base16.{IsWord}
-use Rattle.document_parts.specs.Field.{field, IsFrom, Stands, NoneStands}
-use Rattle.document_parts.specs.Parts.{IsSource, source_part, StandAll, IsBrokenAt}
+use Rattle.document_parts.specs.Field.{field, Stands, NoneStands}
+use Rattle.document_parts.specs.Parts.{source_part, StandAll}
 use Rattle.std.specs.Fmt.{decimal}
 use Rattle.document_parts.proofs.Digits.{front, front-decimal, decimal-plain}
 use Rattle.document_parts.proofs.Fields.{field-parts}
@@ -17,7 +15,6 @@ use Rattle.document_parts.proofs.Words.{word-one}
 use Rattle.claim_document.specs.declared.claim.Question.{Question}
 use Rattle.claim_document.specs.declared.rows.TaskHead.{TaskHead}
 use Rattle.claim_document.specs.Claim.{IsNumber, IsQuestion, Head, IsHead, title, question_text, head_text, IsGrant, IsLoad, IsTaskHead, IsTask, head_of_task, IsLoadsHead, three_fields, grant_row, load_row, task_head_row, task_rows, loads_head_row}
-use Rattle.claim_document.specs.Rows.{StandThree}
 use Rattle.claim_document.specs.Faults.{IsBrokenLoad}
 
 -- ---- three numbers

@@ -1,5 +1,5 @@
 -- What was found of a claim's lines on loads.
-use Rattle.std.proofs.Common.{◌≡◌, ◌≢◌, ℕ, List, [], ◌∷◌, ◌++◌, codes, Option, Some, None, refl, sym, ap, ◌∙◌, arith}
+use Rattle.std.proofs.Common.{◌≡◌, ◌≢◌, ℕ, List, [], ◌∷◌, ◌++◌, codes, Some, None}
 use Rattle.document_parts.specs.Field.{field, IsFrom, Stands, NoneStands}
 use Rattle.claim_document.specs.Claim.{IsLoadsHead, loads_head_row}
 

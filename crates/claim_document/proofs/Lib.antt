@@ -1,3 +1,4 @@
+pub mod Fronts
 pub mod Forms
 pub mod Found
 pub mod Single

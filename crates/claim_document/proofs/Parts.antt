@@ -1,18 +1,18 @@
 -- What the reader puts together of what it found.
-use Rattle.std.proofs.Common.{◌≡◌, ◌≢◌, ℕ, ◌≤◌, List, [], ◌∷◌, ◌++◌, flat_map, length, Option, Some, None, refl, sym, ap, subst, ◌∙◌, ◌<◌, arith, append_assoc}
+use Rattle.std.proofs.Common.{◌≡◌, ◌≢◌, ℕ, ◌≤◌, List, [], ◌++◌, flat_map, length, Option, Some, None, refl, sym, ap, subst, ◌∙◌, ◌<◌, arith, append_assoc}
 use Rattle.dn_base.specs.declared.ids.Grant.{Grant}
 use Rattle.dn_base.specs.declared.ids.LoadSeen.{LoadSeen}
 use Rattle.flat_machine.specs.declared.ending.TaskLoads.{TaskLoads}
-use Rattle.document_parts.specs.Field.{Stands, NoneStands}
+use Rattle.document_parts.specs.Field.{Stands}
 use Rattle.document_parts.specs.Parts.{StandAll, IsBrokenAt}
 use Rattle.claim_document.specs.declared.claim.Claim.{Claim}
 use Rattle.claim_document.specs.declared.claim.ClaimFault.{ClaimFault}
-use Rattle.claim_document.specs.declared.claim.ClaimFault.TheVariants.{TooLarge, Head as NoHead, Grant as NoGrant, Loads as NoLoads, Task as NoTask, Load as NoLoad, Memory}
+use Rattle.claim_document.specs.declared.claim.ClaimFault.TheVariants.{TooLarge, Head as NoHead, Grant as NoGrant, Loads as NoLoads, Task as NoTask, Load as NoLoad, Behind, Memory}
 use Rattle.claim_document.specs.declared.head.Heading.{Heading}
 use Rattle.claim_document.specs.declared.rows.TaskHead.{TaskHead}
-use Rattle.claim_document.specs.Claim.{most_bytes, Head, IsHead, head_of, head_text, IsGrant, grant_row, IsLoads, IsLoadsHead, head_of_loads, loads_head_row, loads_text, tasks_text, IsTask, task_rows, head_of_task, IsTaskHead, task_head_row, IsLoad, load_row, IsClaimDocument, claim_text}
-use Rattle.claim_document.specs.Faults.{BeginsWithHead, BeginsWithGrants, BeginsWithLoads, IsBrokenTask, IsBrokenLoad, HasFault}
-use Rattle.claim_document.specs.Rows.{told_by, AreCounted, IsTaskMore, IsLoadsPart, FailsGrants, FailsLoads, FailsTask, FailsTasks, FailsPart, HasTasks, HasBrokenTasks}
+use Rattle.claim_document.specs.Claim.{most_bytes, Head, IsHead, head_of, head_text, IsGrant, grant_row, IsLoads, IsLoadsHead, loads_head_row, loads_text, IsTask, task_rows, IsTaskHead, task_head_row, IsLoad, load_row, IsClaimDocument, claim_text}
+use Rattle.claim_document.specs.Faults.{BeginsWithHead, BeginsWithGrants, IsBrokenTask, HasFault}
+use Rattle.claim_document.specs.Rows.{told_by, AreCounted, IsLoadsPart, FailsGrants, FailsLoads, FailsTask, FailsTasks, FailsPart}
 use Rattle.claim_document.proofs.Forms.{task-parts, no-task-head, no-task-load}
 
 -- ---- a task
@@ -34,6 +34,7 @@ pub task-fails : (bytes behind : List ℕ) (h : TaskHead) (place : ℕ) (f : Cla
 task-fails bytes behind h place (NoLoad task number) head fails = (fails.0, record { task = h; behind = behind; rest = fails.1; head = head; broken = fails.2 })
 task-fails bytes behind h place Memory head fails = tt
 task-fails bytes behind h place TooLarge head fails = fails
+task-fails bytes behind h place Behind head fails = fails
 task-fails bytes behind h place NoHead head fails = fails
 task-fails bytes behind h place NoLoads head fails = fails
 task-fails bytes behind h place (NoGrant number) head fails = fails
@@ -47,6 +48,7 @@ tasks_fail bytes rest count place before (NoLoad task number) stand at' low fail
     (rest, record { before = before; stand = stand; place = at' ∙ sym fails.0; announced = omega (arith, fails.0); none = no-task-load rest number fails.1 }, fails.1)
 tasks_fail bytes rest count place before Memory stand at' low fails = tt
 tasks_fail bytes rest count place before TooLarge stand at' low fails = fails
+tasks_fail bytes rest count place before Behind stand at' low fails = fails
 tasks_fail bytes rest count place before NoHead stand at' low fails = fails
 tasks_fail bytes rest count place before NoLoads stand at' low fails = fails
 tasks_fail bytes rest count place before (NoGrant number) stand at' low fails = fails
@@ -58,6 +60,7 @@ part-fails bytes behind count (NoTask number) head fails = record { count = coun
 part-fails bytes behind count (NoLoad task number) head fails = record { count = count; behind = behind; head = head; fails = fails }
 part-fails bytes behind count Memory head fails = tt
 part-fails bytes behind count TooLarge head fails = fails
+part-fails bytes behind count Behind head fails = fails
 part-fails bytes behind count NoHead head fails = fails
 part-fails bytes behind count NoLoads head fails = absurd fails
 part-fails bytes behind count (NoGrant number) head fails = fails
@@ -76,6 +79,7 @@ module _ (bytes : List ℕ) (h : Heading) (within : length bytes ≤ most_bytes)
   grants_fail (NoGrant number) fails some = (told_by h, h.rest.now, fails.0, begun, fails.1)
   grants_fail Memory fails some = absurd (some refl)
   grants_fail TooLarge fails some = absurd fails
+  grants_fail Behind fails some = absurd fails
   grants_fail NoHead fails some = absurd fails
   grants_fail NoLoads fails some = absurd fails
   grants_fail (NoTask number) fails some = absurd fails
@@ -104,6 +108,7 @@ module _ (bytes : List ℕ) (h : Heading) (within : length bytes ≤ most_bytes)
         (broken.0, broken-task fails.count task fails.behind broken.0 fails.head broken.1, broken.2)
     loads_fail Memory fails some = absurd (some refl)
     loads_fail TooLarge fails some = absurd fails
+    loads_fail Behind fails some = absurd fails
     loads_fail NoHead fails some = absurd fails
     loads_fail (NoGrant number) fails some = absurd fails
 

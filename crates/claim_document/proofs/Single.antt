@@ -1,28 +1,27 @@
 -- One document is of one claim at most, and bytes that are none have one fault.
-use Rattle.std.proofs.Common.{◌≡◌, ◌≢◌, ◌⊎◌, ℕ, ◌+◌, ◌<◌, ◌≤◌, All, List, [], ◌∷◌, ◌++◌, flat_map, length, Option, Some, None, Result, Ok, Err, IfOk, IfErr, inl, inr, refl, sym, ap, subst, ◌∙◌, arith, append_assoc}
+use Rattle.std.proofs.Common.{◌≡◌, ◌≢◌, ◌⊎◌, ℕ, ◌<◌, List, ◌++◌, flat_map, length, Option, Some, None, Result, Ok, Err, IfOk, IfErr, inl, inr, refl, sym, ap, subst, ◌∙◌, arith, append_assoc}
 use Rattle.std.proofs.lemmas.Option.{none-some, same_Some}
 use Rattle.dn_base.specs.declared.ids.Grant.{Grant}
-use Rattle.dn_base.specs.declared.ids.LoadSeen.{LoadSeen}
 use Rattle.flat_machine.specs.declared.ending.TaskLoads.{TaskLoads}
-use Rattle.document_parts.specs.Field.{Stands, NoneStands}
+use Rattle.document_parts.specs.Field.{NoneStands}
 use Rattle.document_parts.specs.Parts.{StandAll, IsBrokenAt}
 use Rattle.document_parts.proofs.Rows.{all-one, all-broken, broken-one}
 use Rattle.claim_document.specs.declared.claim.Claim.{Claim}
 use Rattle.claim_document.specs.declared.claim.ClaimFault.{ClaimFault}
-use Rattle.claim_document.specs.declared.claim.ClaimFault.TheVariants.{TooLarge, Head as NoHead, Grant as NoGrant, Loads as NoLoads, Task as NoTask, Load as NoLoad, Memory}
+use Rattle.claim_document.specs.declared.claim.ClaimFault.TheVariants.{TooLarge, Head as NoHead, Grant as NoGrant, Loads as NoLoads, Task as NoTask, Load as NoLoad, Behind, Memory}
 use Rattle.claim_document.specs.declared.rows.TaskHead.{TaskHead}
 use Rattle.claim_document.specs.Claim.{most_bytes, Head, IsHead, head_of, head_text, IsGrant, grant_row, IsLoads, IsLoadsHead, head_of_loads, loads_head_row, loads_text, tasks_text, IsTask, task_rows, IsTaskHead, task_head_row, IsLoad, load_row, IsClaimDocument, claim_text}
 use Rattle.claim_document.specs.Faults.{BeginsWithHead, BeginsWithGrants, BeginsWithLoads, IsBrokenTask, IsBrokenLoad, HasFault}
-use Rattle.claim_document.proofs.Forms.{head-one, grant-one, loads-head-one, task-one, task-head-one, load-one, no-task-head, no-task-load}
+use Rattle.claim_document.proofs.Forms.{head-one, grant-one, loads-head-one, task-one, task-head-one, load-one}
 
 -- what the record of a claim's loads makes of what is written
 module _ (bytes : List ℕ) where
   -- ---- each front is one
 
-  heads-one : (g h : Head) (r q : List ℕ) → BeginsWithHead bytes g r → BeginsWithHead bytes h q → (g ≡ h) × (r ≡ q)
+  pub heads-one : (g h : Head) (r q : List ℕ) → BeginsWithHead bytes g r → BeginsWithHead bytes h q → (g ≡ h) × (r ≡ q)
   heads-one g h r q a b = head-one g h r q a.head.fits b.head.fits (sym a.head.parts ∙ b.head.parts)
 
-  grants-one : (g h : Head) (gs hs : List Grant) (r q : List ℕ) → BeginsWithGrants bytes g gs r → BeginsWithGrants bytes h hs q → (g ≡ h) × (gs ≡ hs) × (r ≡ q)
+  pub grants-one : (g h : Head) (gs hs : List Grant) (r q : List ℕ) → BeginsWithGrants bytes g gs r → BeginsWithGrants bytes h hs q → (g ≡ h) × (gs ≡ hs) × (r ≡ q)
   grants-one g h gs hs r q a b =
       let heads = heads-one g h a.behind b.behind a.head b.head in
       let mine : StandAll IsGrant grant_row b.behind gs r = subst (λ bs. StandAll IsGrant grant_row bs gs r) heads.1 a.grants in
@@ -44,7 +43,7 @@ module _ (bytes : List ℕ) where
 
   -- ---- a fault excludes what goes on behind it
 
-  grant-broken : (g h : Head) (gs : List Grant) (behind rest r : List ℕ) (number : ℕ) → BeginsWithHead bytes g behind → IsBrokenAt IsGrant grant_row behind g.count number rest → BeginsWithGrants bytes h gs r → ⊥
+  pub grant-broken : (g h : Head) (gs : List Grant) (behind rest r : List ℕ) (number : ℕ) → BeginsWithHead bytes g behind → IsBrokenAt IsGrant grant_row behind g.count number rest → BeginsWithGrants bytes h gs r → ⊥
   grant-broken g h gs behind rest r number a broken b =
       let heads = heads-one g h behind b.behind a b.head in
       let mine : StandAll IsGrant grant_row behind gs r = subst (λ bs. StandAll IsGrant grant_row bs gs r) (sym heads.1) b.grants in
@@ -58,7 +57,7 @@ module _ (bytes : List ℕ) where
   begun-head : (h : Head) (gs : List Grant) (r : List ℕ) → BeginsWithGrants bytes h gs r → NoneStands IsHead head_text bytes → ⊥
   begun-head h gs r a none = none h a.behind a.head.head
 
-  head-excludes : (h : Head) (r : List ℕ) → BeginsWithHead bytes h r → NoneStands IsHead head_text bytes → ⊥
+  pub head-excludes : (h : Head) (r : List ℕ) → BeginsWithHead bytes h r → NoneStands IsHead head_text bytes → ⊥
   head-excludes h r a none = none h r a.head
 
   -- no task line and a task line with a broken load
@@ -76,12 +75,14 @@ module _ (bytes : List ℕ) where
   -- ---- how far a fault lets the bytes go
 
   -- the bytes of a fault in a task begin with a line on loads
-  begun-within : (h : Head) (r : List ℕ) → BeginsWithHead bytes h r → most_bytes < length bytes → ⊥
+  pub begun-within : (h : Head) (r : List ℕ) → BeginsWithHead bytes h r → most_bytes < length bytes → ⊥
   begun-within h r a large = omega (arith, a.within, large)
 
   pub one-fault : (f g : ClaimFault) → HasFault bytes f → HasFault bytes g → f ≡ g
   one-fault Memory g a b = absurd a
   one-fault f Memory a b = absurd b
+  one-fault Behind g a b = absurd a
+  one-fault f Behind a b = absurd b
   one-fault TooLarge TooLarge a b = refl
   one-fault TooLarge NoHead a b = absurd (omega (arith, a, b.0))
   one-fault TooLarge (NoGrant n) a b = absurd (begun-within b.0 b.1 b.3 a)
@@ -208,6 +209,7 @@ module _ (bytes : List ℕ) where
   claim-fault c NoLoads doc fault = loads-broken fault.0 fault.1 fault.2 (tasks_text c.loads ++ c.answer) (head_of_loads c.loads) fault.3 fault.4 (claim-loads c doc)
   claim-fault c (NoTask n) doc fault = no-broken_task c doc n fault.0 fault.1
   claim-fault c (NoLoad t n) doc fault = no-broken_task c doc t fault.0 fault.1
+  claim-fault c Behind doc fault = fault
   claim-fault c Memory doc fault = fault
 
 -- ---- what an answer that is true says of all answers
@@ -225,6 +227,7 @@ at-fault bytes (NoGrant n) P told then' other = then' (told (λ (e : NoGrant n �
 at-fault bytes NoLoads P told then' other = then' (told (λ (e : NoLoads ≡ Memory). absurd (cc)))
 at-fault bytes (NoTask n) P told then' other = then' (told (λ (e : NoTask n ≡ Memory). absurd (cc)))
 at-fault bytes (NoLoad t n) P told then' other = then' (told (λ (e : NoLoad t n ≡ Memory). absurd (cc)))
+at-fault bytes Behind P told then' other = then' (told (λ (e : Behind ≡ Memory). absurd (cc)))
 at-fault bytes Memory P told then' other = other
 
 pub reads : (bytes : List ℕ) (r : Result Claim ClaimFault) → AnswersOk bytes r → AnswersErr bytes r → (c : Claim) → IsClaimDocument bytes c → (r ≡ Ok c) ⊎ (r ≡ Err Memory)

@@ -1,5 +1,5 @@
 -- The claim of a run: what it may tell, and how that is written.
-use Rattle.std.specs.Prelude.{◌≡◌, ℕ, ◌<◌, ◌≤◌, ◌^◌, All, List, [], ◌++◌, length, codes, flat_map, Option, Some, None, IfSome}
+use Rattle.std.specs.Prelude.{◌≡◌, ℕ, ◌≤◌, All, List, [], ◌++◌, length, codes, flat_map, Option, Some, None, IfSome}
 use Rattle.dn_base.specs.declared.ids.Grant.{Grant}
 use Rattle.dn_base.specs.declared.ids.LoadSeen.{LoadSeen}
 use Rattle.flat_machine.specs.declared.ending.TaskLoads.{TaskLoads}

@@ -1,11 +1,10 @@
 -- What stands in front of bytes that should be a claim, part by part, and why some bytes are none.
-use Rattle.std.specs.Prelude.{◌≡◌, ℕ, ◌<◌, ◌≤◌, All, List, [], Option, Some, None, length}
+use Rattle.std.specs.Prelude.{◌≡◌, ℕ, ◌<◌, ◌≤◌, List, Option, Some, length}
 use Rattle.dn_base.specs.declared.ids.Grant.{Grant}
-use Rattle.flat_machine.specs.declared.ending.TaskLoads.{TaskLoads}
 use Rattle.document_parts.specs.Field.{Stands, NoneStands}
 use Rattle.document_parts.specs.Parts.{StandAll, IsBrokenAt}
 use Rattle.claim_document.specs.declared.claim.ClaimFault.{ClaimFault}
-use Rattle.claim_document.specs.declared.claim.ClaimFault.TheVariants.{TooLarge, Head as NoHead, Grant as NoGrant, Loads as NoLoads, Task as NoTask, Load as NoLoad, Memory}
+use Rattle.claim_document.specs.declared.claim.ClaimFault.TheVariants.{TooLarge, Head as NoHead, Grant as NoGrant, Loads as NoLoads, Task as NoTask, Load as NoLoad, Behind, Memory}
 use Rattle.claim_document.specs.declared.rows.TaskHead.{TaskHead}
 use Rattle.claim_document.specs.Claim.{most_bytes, Head, IsHead, head_text, IsGrant, grant_row, IsLoadsHead, loads_head_row, IsTask, task_rows, IsTaskHead, task_head_row, IsLoad, load_row}
 
@@ -53,4 +52,5 @@ HasFault bytes (NoGrant number) = (h : Head) × (behind : List ℕ) × (rest : L
 HasFault bytes NoLoads = (h : Head) × (gs : List Grant) × (rest : List ℕ) × BeginsWithGrants bytes h gs rest × NoneStands IsLoadsHead loads_head_row rest
 HasFault bytes (NoTask number) = (rest : List ℕ) × IsBrokenTask bytes number rest × NoneStands IsTaskHead task_head_row rest
 HasFault bytes (NoLoad task number) = (rest : List ℕ) × IsBrokenTask bytes task rest × IsBrokenLoad rest number
+HasFault bytes Behind = ⊥
 HasFault bytes Memory = ⊥

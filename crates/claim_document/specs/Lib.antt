@@ -1,3 +1,4 @@
+pub mod Alone
 pub mod Claim
 pub mod Faults
 pub mod Rows

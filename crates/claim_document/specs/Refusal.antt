@@ -13,6 +13,7 @@ fault_text (fault.TheVariants.Grant number) = codes "grant " ++ decimal number
 fault_text fault.TheVariants.Loads = codes "loads"
 fault_text (fault.TheVariants.Task number) = codes "task " ++ decimal number
 fault_text (fault.TheVariants.Load task number) = codes "load " ++ decimal task ++ space ++ decimal number
+fault_text fault.TheVariants.Behind = codes "behind"
 fault_text fault.TheVariants.Memory = codes "memory"
 
 unfoldable pub refusal_text : ClaimFault → List ℕ

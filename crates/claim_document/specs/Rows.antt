@@ -4,7 +4,7 @@ use Rattle.flat_machine.specs.declared.ending.TaskLoads.{TaskLoads}
 use Rattle.document_parts.specs.Field.{Stands, NoneStands}
 use Rattle.document_parts.specs.Parts.{StandAll, IsBrokenAt}
 use Rattle.claim_document.specs.declared.claim.ClaimFault.{ClaimFault}
-use Rattle.claim_document.specs.declared.claim.ClaimFault.TheVariants.{TooLarge, Head as NoHead, Grant as NoGrant, Loads as NoLoads, Task as NoTask, Load as NoLoad, Memory}
+use Rattle.claim_document.specs.declared.claim.ClaimFault.TheVariants.{TooLarge, Head as NoHead, Grant as NoGrant, Loads as NoLoads, Task as NoTask, Load as NoLoad, Behind, Memory}
 use Rattle.claim_document.specs.declared.head.Heading.{Heading}
 use Rattle.claim_document.specs.declared.head.Opening.{Opening}
 use Rattle.claim_document.specs.declared.claim.Question.{Question}
@@ -40,6 +40,7 @@ abbrev pub FailsGrants : List ℕ → ℕ → ClaimFault → Type 0
 FailsGrants bytes count (NoGrant number) = (rest : List ℕ) × IsBrokenAt IsGrant grant_row bytes count number rest
 FailsGrants bytes count Memory = Unit {0}
 FailsGrants bytes count TooLarge = ⊥
+FailsGrants bytes count Behind = ⊥
 FailsGrants bytes count NoHead = ⊥
 FailsGrants bytes count NoLoads = ⊥
 FailsGrants bytes count (NoTask number) = ⊥
@@ -50,6 +51,7 @@ abbrev pub FailsLoads : List ℕ → ℕ → ℕ → ClaimFault → Type 0
 FailsLoads bytes count place (NoLoad task number) = (task ≡ place) × (rest : List ℕ) × IsBrokenAt IsLoad load_row bytes count number rest
 FailsLoads bytes count place Memory = Unit {0}
 FailsLoads bytes count place TooLarge = ⊥
+FailsLoads bytes count place Behind = ⊥
 FailsLoads bytes count place NoHead = ⊥
 FailsLoads bytes count place NoLoads = ⊥
 FailsLoads bytes count place (NoGrant number) = ⊥
@@ -61,6 +63,7 @@ FailsTask bytes place (NoTask number) = (number ≡ place) × NoneStands IsTaskH
 FailsTask bytes place (NoLoad task number) = (task ≡ place) × IsBrokenLoad bytes number
 FailsTask bytes place Memory = Unit {0}
 FailsTask bytes place TooLarge = ⊥
+FailsTask bytes place Behind = ⊥
 FailsTask bytes place NoHead = ⊥
 FailsTask bytes place NoLoads = ⊥
 FailsTask bytes place (NoGrant number) = ⊥
@@ -71,6 +74,7 @@ FailsTasks bytes count (NoTask number) = (rest : List ℕ) × IsBrokenAt IsTask 
 FailsTasks bytes count (NoLoad task number) = (rest : List ℕ) × IsBrokenAt IsTask task_rows bytes count task rest × IsBrokenLoad rest number
 FailsTasks bytes count Memory = Unit {0}
 FailsTasks bytes count TooLarge = ⊥
+FailsTasks bytes count Behind = ⊥
 FailsTasks bytes count NoHead = ⊥
 FailsTasks bytes count NoLoads = ⊥
 FailsTasks bytes count (NoGrant number) = ⊥
@@ -100,5 +104,6 @@ FailsPart bytes (NoTask number) = HasBrokenTasks bytes (NoTask number)
 FailsPart bytes (NoLoad task number) = HasBrokenTasks bytes (NoLoad task number)
 FailsPart bytes Memory = Unit {0}
 FailsPart bytes TooLarge = ⊥
+FailsPart bytes Behind = ⊥
 FailsPart bytes NoHead = ⊥
 FailsPart bytes (NoGrant number) = ⊥

@@ -12,6 +12,13 @@ pub struct Question {
     pub text: Sequence<u8>,
 }
 
+/// What a run is asked for by: a question, and the order in which locks are granted.
+#[derive(Debug, Drop)]
+pub struct GrantOrder {
+    pub question: Question,
+    pub grants: Sequence<Grant>,
+}
+
 /// What a simulator says of a run: in which order locks were granted, the loads of each task that started, in the order of the
 /// phases and cores, or None where nothing is said of loads, and the answer, as the mode run prints it.
 #[derive(Debug, Drop)]
@@ -22,12 +29,13 @@ pub struct Claim {
     pub answer: Sequence<u8>,
 }
 
-/// Why some bytes are no claim. The first of these that is true of the bytes is told.
+/// Why some bytes are no claim, or no front of one that stands alone. The first of these that is true of the bytes is told.
 #[derive(Clone, Copy, Debug, PartialEq, Eq)]
 pub enum ClaimFault {
     /// There are more than 536,870,912 bytes.
     TooLarge,
-    /// The bytes don't begin with a head: the first lines and the source text, up to the line that says how many grants follow.
+    /// The bytes don't begin with a head: the first lines and the source text, up to the line that says how many grants follow. Where
+    /// a question is read, the head is the question.
     Head,
     /// The grant line of this number, from 0, isn't there whole in its form; all before it are.
     Grant { number: u32 },
@@ -37,6 +45,8 @@ pub enum ClaimFault {
     Task { number: u32 },
     /// Of the loads of this task, from 0, the one of this number, from 0, isn't there whole in its form.
     Load { task: u32, number: u32 },
+    /// Something stands behind the question, or the grants, that should stand alone. It is no fault of a claim.
+    Behind,
     /// There was no memory.
     Memory,
 }

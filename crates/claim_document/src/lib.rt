@@ -2,6 +2,7 @@
 //! each load, and the answer. A claim is written, and read back; of bytes that are none the first thing that is wrong is told.
 #![tactic(auto)]
 
+mod alone;
 mod claim;
 mod head;
 mod laws;
@@ -10,7 +11,8 @@ mod refusal;
 mod rows;
 mod writing;
 
-pub use claim::{Claim, ClaimFault, Question};
+pub use alone::{read_order, read_question};
+pub use claim::{Claim, ClaimFault, GrantOrder, Question};
 pub use laws::{a_document_is_of_one_claim, bytes_have_one_fault};
 pub use reading::read_claim;
 pub use refusal::claim_line;

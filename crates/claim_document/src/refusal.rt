@@ -29,6 +29,7 @@ fn push_fault(out: &mut Vec<u8>, fault: ClaimFault) -> Result<(), Memory>
             push(out, b" ")?;
             push_decimal(out, number)
         }
+        ClaimFault::Behind => push(out, b"behind"),
         ClaimFault::Memory => push(out, b"memory"),
     }
 }

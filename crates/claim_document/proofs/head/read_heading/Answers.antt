@@ -1,4 +1,4 @@
-use Rattle.std.proofs.Common.{◌≡◌, ◌++◌, [], ◌∷◌, codes, refl, sym, ap, ◌∙◌, arith}
+use Rattle.std.proofs.Common.{◌++◌, sym, ap, ◌∙◌}
 use Rattle.document_parts.proofs.Fields.{if-none}
 use Rattle.document_parts.proofs.Forms.{next}
 use Rattle.claim_document.specs.Claim.{IsQuestion, question_text}

@@ -1,5 +1,5 @@
-use Rattle.std.proofs.Common.{◌≡◌, ◌++◌, [], ◌∷◌, drop, refl, sym, ap, ◌∙◌, arith}
-use Rattle.text_pieces.specs.Pieces.{newline, space, hexadecimal}
+use Rattle.std.proofs.Common.{◌++◌, [], refl, sym, ap, ◌∙◌, arith}
+use Rattle.text_pieces.specs.Pieces.{space, hexadecimal}
 use Rattle.document_parts.specs.Base16.{IsWord}
 use Rattle.document_parts.specs.Field.{field}
 use Rattle.document_parts.proofs.Fields.{if-none}

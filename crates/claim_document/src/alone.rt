@@ -1,0 +1,85 @@
+ghost use Rattle.std.specs.Prelude.{◌≡◌, ◌≢◌, ◌⊎◌, Ok, Err, IfOk, IfErr};
+ghost use Rattle.claim_document.specs.declared.claim.Question.{Question as QuestionOf};
+ghost use Rattle.claim_document.specs.declared.claim.GrantOrder.{GrantOrder as OrderOf};
+ghost use Rattle.claim_document.specs.declared.claim.ClaimFault.{ClaimFault as FaultOf};
+ghost use Rattle.claim_document.specs.declared.claim.ClaimFault.TheVariants.{Memory as NoMemory};
+ghost use Rattle.claim_document.specs.Alone.{IsQuestionDocument, HasQuestionFault, IsOrderDocument, HasOrderFault};
+
+use crate::claim::{ClaimFault, GrantOrder, Question};
+use crate::head::{read_heading, read_opening};
+use crate::rows::push_grants;
+use dn_base::{MOST_OF_DOCUMENT, Sequence};
+use std::alloc::Global;
+
+/// The question that some bytes tell alone, or their fault.
+fn question(alloc: Global, bytes: &[u8]) -> Result<Question, ClaimFault>
+    ensures ok { IfOk result (IsQuestionDocument bytes.now) }
+    ensures err { IfErr result (λ f. f ≢ NoMemory → HasQuestionFault bytes.now f) }
+{
+    if bytes.len() > MOST_OF_DOCUMENT {
+        return Err(ClaimFault::TooLarge);
+    }
+    let Some(opening) = read_opening(bytes) else {
+        return Err(ClaimFault::Head);
+    };
+    if opening.rest.len() > 0 {
+        return Err(ClaimFault::Behind);
+    }
+    let text = Vec::from_slice(alloc, opening.text)?;
+    Ok(Question {
+        fuel: opening.fuel,
+        text: Sequence::from_vec(text),
+    })
+}
+
+/// The question and the order of the grants that some bytes tell alone, or their fault.
+fn order(alloc: Global, bytes: &[u8]) -> Result<GrantOrder, ClaimFault>
+    ensures ok { IfOk result (IsOrderDocument bytes.now) }
+    ensures err { IfErr result (λ f. f ≢ NoMemory → HasOrderFault bytes.now f) }
+{
+    if bytes.len() > MOST_OF_DOCUMENT {
+        return Err(ClaimFault::TooLarge);
+    }
+    let Some(heading) = read_heading(bytes) else {
+        return Err(ClaimFault::Head);
+    };
+    let mut grants = Sequence::new(alloc);
+    let rest = push_grants(&mut grants, heading.count, heading.rest)?;
+    if rest.len() > 0 {
+        return Err(ClaimFault::Behind);
+    }
+    let text = Vec::from_slice(alloc, heading.text)?;
+    let question = Question {
+        fuel: heading.fuel,
+        text: Sequence::from_vec(text),
+    };
+    Ok(GrantOrder { question, grants })
+}
+
+/// The question that a document tells: the first three parts of a claim, alone.
+///
+/// # Errors
+/// `TooLarge`, `Head` or `Behind` exactly where that is the fault of the bytes, and `Memory` where there is no room.
+pub fn read_question(alloc: Global, bytes: &[u8]) -> Result<Question, ClaimFault>
+    ensures ok { IfOk result (IsQuestionDocument bytes.now) }
+    ensures err { IfErr result (λ f. f ≢ NoMemory → HasQuestionFault bytes.now f) }
+    ensures read { (q : QuestionOf) → IsQuestionDocument bytes.now q → (result ≡ Ok q) ⊎ (result ≡ Err NoMemory) }
+    ensures refused { (f : FaultOf) → HasQuestionFault bytes.now f → (result ≡ Err f) ⊎ (result ≡ Err NoMemory) }
+{
+    question(alloc, bytes)
+}
+
+/// The question and the order of the grants that a document tells: the first four parts of a claim, alone.
+///
+/// It takes memory in proportion to the bytes, whatever numbers these tell.
+///
+/// # Errors
+/// `TooLarge`, `Head`, `Grant` or `Behind` exactly where that is the fault of the bytes, and `Memory` where there is no room.
+pub fn read_order(alloc: Global, bytes: &[u8]) -> Result<GrantOrder, ClaimFault>
+    ensures ok { IfOk result (IsOrderDocument bytes.now) }
+    ensures err { IfErr result (λ f. f ≢ NoMemory → HasOrderFault bytes.now f) }
+    ensures read { (o : OrderOf) → IsOrderDocument bytes.now o → (result ≡ Ok o) ⊎ (result ≡ Err NoMemory) }
+    ensures refused { (f : FaultOf) → HasOrderFault bytes.now f → (result ≡ Err f) ⊎ (result ≡ Err NoMemory) }
+{
+    order(alloc, bytes)
+}
