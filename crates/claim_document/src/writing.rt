@@ -1,5 +1,5 @@
-ghost use Rattle.std.specs.Prelude.{◌≡◌, ◌≤◌, ◌++◌, All, flat_map, length, IfOk, OnOk};
-ghost use Rattle.claim_document.specs.Claim.{title, question_text, head_text, head_of, three_fields, grant_row, load_row, task_head_row, task_rows, head_of_task, loads_head_row, head_of_loads, tasks_text, loads_text, claim_text as text_of, IsClaim, IsLoads, IsTask};
+ghost use Rattle.std.specs.Prelude.{◌≡◌, ◌≤◌, ◌++◌, flat_map, length, IfOk, OnOk};
+ghost use Rattle.claim_document.specs.Claim.{title, question_text, head_text, head_of, three_fields, grant_row, load_row, task_head_row, task_rows, head_of_task, loads_head_row, head_of_loads, tasks_text, loads_text, claim_text as text_of};
 
 use crate::claim::{Claim, Question};
 use dn_base::{Grant, LoadSeen, Memory, Sequence};
@@ -42,6 +42,19 @@ fn push_three(
     push_field(out, b"", third, b"\n")
 }
 
+/// A number of lines, which a document tells in 32 bits.
+///
+/// # Errors
+/// `Memory` where there are 2^32 or more: no document has room for so many lines.
+fn told(lines: usize) -> Result<u32, Memory>
+    ensures { IfOk result (λ count. count ≡ lines) }
+{
+    if lines > u32::MAX as usize {
+        return Err(Memory);
+    }
+    Ok(lines as u32)
+}
+
 fn push_grants(out: &mut Vec<u8>, grants: &[Grant]) -> Result<(), Memory>
     ensures { OnOk result (out.new.items ≡ out.old.items ++ flat_map grant_row grants.now) }
 {
@@ -69,19 +82,17 @@ fn push_loads(out: &mut Vec<u8>, loads: &[LoadSeen]) -> Result<(), Memory>
     Ok(())
 }
 
-/// Adds the line of a task, and those of its loads, of which there are fewer than 2^32.
+/// Adds the line of a task, and those of its loads.
 #[tactic(auto, unfolding(crate::specs::Claim::task_rows))]
 fn push_task(out: &mut Vec<u8>, task: &TaskLoads) -> Result<(), Memory>
-    requires { length task.now.loads ≤ 4294967295 }
     ensures { OnOk result (out.new.items ≡ out.old.items ++ task_rows task.now) }
 {
-    let count = task.loads.len() as u32;
+    let count = told(task.loads.len())?;
     push_three(out, b"task ", task.phase.0, task.core.0, count)?;
     push_loads(out, task.loads.as_slice())
 }
 
 fn push_tasks(out: &mut Vec<u8>, tasks: &[TaskLoads]) -> Result<(), Memory>
-    requires { All IsTask tasks.now }
     ensures { OnOk result (out.new.items ≡ out.old.items ++ flat_map task_rows tasks.now) }
 {
     for task in tasks {
@@ -104,13 +115,12 @@ fn push_loads_head(out: &mut Vec<u8>, count: Option<u32>) -> Result<(), Memory>
 /// Adds what is said of loads.
 #[tactic(auto, unfolding(crate::specs::Claim::loads_text))]
 fn push_loads_part(out: &mut Vec<u8>, loads: &Option<Sequence<TaskLoads>>) -> Result<(), Memory>
-    requires { IsLoads loads.now }
     ensures { OnOk result (out.new.items ≡ out.old.items ++ loads_text loads.now) }
 {
     match loads {
         None => push_loads_head(out, None),
         Some(tasks) => {
-            push_loads_head(out, Some(tasks.len() as u32))?;
+            push_loads_head(out, Some(told(tasks.len())?))?;
             push_tasks(out, tasks.as_slice())
         }
     }
@@ -130,17 +140,17 @@ fn push_head(out: &mut Vec<u8>, question: &Question, count: u32) -> Result<(), M
 /// task or the line that nothing is claimed of them, and the answer as it is. Numbers are decimal, without leading zeros, and values
 /// are in eight hexadecimal digits.
 ///
-/// What it tells is within the limits of `Question`, and there are fewer than 2^32 grants, tasks, and loads of a task.
+/// The text has at most 1,048,576 bytes.
 ///
 /// # Errors
-/// `Memory` where there is no room for the document.
+/// `Memory` where there is no room for the document. A document never has room for 2^32 grants, tasks or loads of a task.
 #[tactic(auto, unfolding(crate::specs::Claim::claim_text))]
 pub fn claim_text(alloc: Global, claim: &Claim) -> Result<Vec<u8>, Memory>
-    requires { IsClaim claim.now }
+    requires { length claim.now.question.text ≤ 1048576 }
     ensures { IfOk result (λ document. document.items ≡ text_of claim.now) }
 {
     let mut out = Vec::new(alloc);
-    push_head(&mut out, &claim.question, claim.grants.len() as u32)?;
+    push_head(&mut out, &claim.question, told(claim.grants.len())?)?;
     push_grants(&mut out, claim.grants.as_slice())?;
     push_loads_part(&mut out, &claim.loads)?;
     push(&mut out, claim.answer.as_slice())?;
