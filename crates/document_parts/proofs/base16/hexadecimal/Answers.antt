@@ -14,4 +14,4 @@ pub returns-in_err-rest-clause-none : goal.returns-in_err-rest-clause-none
 returns-in_err-rest-clause-none c =
     if-none c.from_residual.result _ (λ n rest st.
     let same : c.number_of-number.result ≡ n = c.number_of-number.ensures ∙ ap seems_word st.parts ∙ word-read n rest st.fits in
-    c.in_err-rest.ensures.none rest (st.parts ∙ ap (λ k. hexadecimal k ++ rest) (sym same) ∙ ap (λ t. t ++ rest) (sym c.written.ensures)))
+    c.in_err-rest.ensures.none rest (st.parts ∙ ap (λ k. hexadecimal k ++ rest) (sym same) ∙ ap (λ t. t ++ rest) (sym c.to_hexadecimal.ensures)))
