@@ -1,0 +1,7 @@
+//! Sentences on a conflict of two tasks: where in the text they stand, which word they contend for, and how that is mended.
+#![tactic(auto)]
+
+mod guards;
+mod sentences;
+
+pub use sentences::push_conflict;
