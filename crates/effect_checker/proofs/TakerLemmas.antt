@@ -33,14 +33,6 @@ AreTaken-kept test taker before after some h k w p =
     let e : taker_of before w ≡ taker = h w p in
     k.taken w (λ z. let bad : ⊥ = omega arith in bad) ∙ e
 
--- the words of either of two tests
-pub AreTaken-or : (s t : ℕ → Bool) (taker : ℕ) (takers : List ℕ) → AreTaken s taker takers → AreTaken t taker takers → AreTaken (λ w. s w || t w) taker takers
-AreTaken-or s t taker takers hs ht w p = ⊎_elim (λ a. hs w a) (λ b. ht w b) (or_cases (s w) (t w) p)
-
--- two takings, one after the other
-pub AreTaken-both : (s t : ℕ → Bool) (taker : ℕ) (before after : List ℕ) → 0 < taker → AreTaken s taker before → KeepTakers before after → AreTaken t taker after → AreTaken (λ w. s w || t w) taker after
-AreTaken-both s t taker before after some hs k ht = AreTaken-or s t taker after (AreTaken-kept s taker before after some hs k) ht
-
 -- one interval more
 pub has_taken-more : (is : List Interval) (k : ℕ) (d : Interval) (taker : ℕ) (before after : List ℕ) → k < length is → 0 < taker
     → AreTaken (has (take k is)) taker before → KeepTakers before after → AreTaken (in_interval (get_or is k d)) taker after → AreTaken (has (take (k + 1) is)) taker after
@@ -95,12 +87,25 @@ none_two_locks tasks locks takers have own a b w h =
     let y : taker_of takers w ≡ b + 2 = own b (have b w h.2) w h.2 in
     omega arith
 
--- one lock more
-pub own_more : (tasks : List TaskDecl) (k : ℕ) (before after : List ℕ) → AreOwn tasks k before → KeepTakers before after → AreTaken (lock_guards tasks k) (k + 2) after → AreOwn tasks (k + 1) after
-own_more tasks k before after own keep here lock l =
-    ⊎_elim (λ (m : lock < k). AreTaken-kept (lock_guards tasks lock) (lock + 2) before after (omega arith) (own lock m) keep)
-    (λ (m : k ≤ lock). let e : lock ≡ k = omega arith in rw e here)
-    (cases_lt lock k)
+-- what one lock guards, and what is used plainly
+pub none_plain : (tasks : List TaskDecl) (lock : ℕ) (plain takers : List ℕ) → AreTaken (λ w. list_any (λ (t : TaskDecl). uses_plainly t w) tasks) 1 plain → KeepTakers plain takers
+    → AreTaken (lock_guards tasks lock) 2 takers → (core w : ℕ) → IsGuardedPlain tasks lock core w → ⊥
+none_plain tasks lock plain takers used keep own core w h =
+    let a : taker_of takers w ≡ 1 = AreTaken-kept (λ w. list_any (λ (t : TaskDecl). uses_plainly t w) tasks) 1 plain takers (omega arith) used keep w (used_by-some tasks lock core w h) in
+    let b : taker_of takers w ≡ 2 = own w h.0 in
+    omega arith
+
+-- the words of each of the locks behind a lock are the others'
+abbrev pub AreOthers : List TaskDecl → ℕ → ℕ → List ℕ → Type 0
+AreOthers tasks lock locks takers = (other : ℕ) → lock < other → other < locks → AreTaken (lock_guards tasks other) 2 takers
+
+-- what one lock guards, and what the locks behind it guard
+pub none_later : (tasks : List TaskDecl) (lock locks : ℕ) (own takers : List ℕ) → HaveLocks locks tasks → AreTaken (lock_guards tasks lock) 1 own → KeepTakers own takers
+    → AreOthers tasks lock locks takers → (other w : ℕ) → AreTwoLocks tasks lock other w → ⊥
+none_later tasks lock locks own takers have mine keep others other w h =
+    let a : taker_of takers w ≡ 1 = AreTaken-kept (lock_guards tasks lock) 1 own takers (omega arith) mine keep w h.1 in
+    let b : taker_of takers w ≡ 2 = others other h.0 (have other w h.2) w h.2 in
+    omega arith
 
 LiesIn-more : (words more : ℕ) (set : List Interval) → words ≤ more → LiesIn words set → LiesIn more set
 LiesIn-more words more set l h = λ k d m. let i = h k d m in omega arith

@@ -66,8 +66,8 @@ fn first_fault(program: &Program) -> Option<CheckFault>
 /// Checks the declared effects of a program: see `Checked` for the three rules. Takes no memory.
 ///
 /// In each phase it goes along two lists of intervals a few times for each pair of tasks, and then along the words that the
-/// tasks use. Only where a word that a lock guards is used plainly or guarded by another lock does it go along two lists
-/// for each lock and pair of tasks, and for each pair of locks and of tasks.
+/// tasks use. Where two of these are taken, it goes along the words once more for each lock, and along two lists of
+/// intervals for each pair of tasks and other lock, of the first lock with a fault alone.
 ///
 /// # Errors
 /// The least fault in the order of `CheckFault`; it comes exactly where the program is not checked.

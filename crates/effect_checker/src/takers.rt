@@ -19,6 +19,12 @@ const MOST_WORDS: usize = 65536;
 /// The taker of what tasks use plainly.
 const PLAIN: u8 = 1;
 
+/// The taker of what a lock guards, where it is compared with others.
+const OWN: u8 = 1;
+
+/// The taker of what the others guard.
+const OTHERS: u8 = 2;
+
 /// Whether a word that has one taker, or none, may be taken by another.
 fn may_take(before: u8, taker: u8) -> bool
     ensures { result ≡ (before == 0 || before == taker) }
@@ -143,4 +149,40 @@ pub(crate) fn are_apart(tasks: &[TaskDecl], locks: u32) -> bool
 {
     let mut takers = [0; MOST_WORDS];
     take_all_plain(&mut takers, tasks) && take_locks(&mut takers, tasks, locks)
+}
+
+/// True only where no word that the lock guards is used plainly.
+pub(crate) fn is_never_plain(tasks: &[TaskDecl], lock: u32) -> bool
+    requires { UseWordsBelow 65536 tasks.now }
+    ensures { IsTrue result → (core w : ℕ) → IsGuardedPlain tasks.now lock core w → ⊥ }
+{
+    let mut takers = [0; MOST_WORDS];
+    take_all_plain(&mut takers, tasks) && take_all_guarded(&mut takers, tasks, lock, OTHERS)
+}
+
+/// Takes the words of the locks with greater numbers, all for one taker. False where another one has taken some of them.
+fn take_later_locks(takers: &mut [u8], tasks: &[TaskDecl], lock: u32, locks: u32) -> bool
+    requires within { UseWordsBelow (length takers.old) tasks.now }
+    requires among { lock < locks }
+    ensures taken { IsTrue result → (other : ℕ) → lock < other → other < locks → AreTaken (lock_guards tasks.now other) 2 takers.new }
+    ensures kept { KeepTakers takers.old takers.new }
+{
+    for other in lock + 1..locks {
+        if !take_all_guarded(takers, tasks, other, OTHERS) {
+            return false;
+        }
+    }
+    true
+}
+
+/// True only where no lock with a greater number guards a word that this lock guards.
+pub(crate) fn is_apart_from_later(tasks: &[TaskDecl], lock: u32, locks: u32) -> bool
+    requires within { UseWordsBelow 65536 tasks.now }
+    requires among { lock < locks }
+    requires locks { HaveLocks locks tasks.now }
+    ensures { IsTrue result → (other w : ℕ) → AreTwoLocks tasks.now lock other w → ⊥ }
+{
+    let mut takers = [0; MOST_WORDS];
+    take_all_guarded(&mut takers, tasks, lock, OWN)
+        && take_later_locks(&mut takers, tasks, lock, locks)
 }
