@@ -60,7 +60,7 @@ conflict_first tasks k second word writer rising at' none h = record {
 }
 
 -- a core whose task exposes a word of the lock uses a guarded word plainly
-exposes-guarded : (tasks : List TaskDecl) (lock core w : ℕ) → IsTrue (on_core (exposes tasks lock) tasks core w) → IsGuardedPlain tasks lock core w
+pub exposes-guarded : (tasks : List TaskDecl) (lock core w : ℕ) → IsTrue (on_core (exposes tasks lock) tasks core w) → IsGuardedPlain tasks lock core w
 exposes-guarded tasks lock core w h =
     let p = on_core-some (exposes tasks lock) tasks core w h in
     let parts = and_parts (lock_guards tasks lock w) (uses_plainly p.task w) p.passes in

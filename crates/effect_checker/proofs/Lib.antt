@@ -3,3 +3,4 @@ pub mod CoreLemmas
 pub mod FirstLemmas
 pub mod FaultLemmas
 pub mod SeparationLemmas
+pub mod TakerLemmas

@@ -1,12 +1,14 @@
-ghost use Rattle.std.specs.Prelude.{◌≡◌, ◌↔◌, ℕ, IsOk, IfOk, IfErr, IfSome, IfNone};
+ghost use Rattle.std.specs.Prelude.{◌≡◌, ◌↔◌, ℕ, ◌≤◌, IsOk, IfOk, IfErr, IfSome, IfNone};
 ghost use Rattle.region_table.specs.declared.declared.Phase.{Phase};
 ghost use Rattle.effect_checker.specs.Checked.{IsChecked, IsCheckedPhase};
 ghost use Rattle.effect_checker.specs.Faults.{IsLeastFault};
 ghost use Rattle.effect_checker.specs.Least.{IsFirstAmong, AreRising, HaveLocks};
+ghost use Rattle.effect_checker.specs.Takers.{UseWordsBelow};
 
 use crate::checked::Checked;
 use crate::fault::CheckFault;
 use crate::searching::{first_guarded_plain, first_plain_conflict, first_two_locks};
+use crate::takers::are_apart;
 use dn_base::PhaseId;
 use region_table::{Program, TaskDecl};
 
@@ -14,6 +16,8 @@ use region_table::{Program, TaskDecl};
 fn phase_fault(phase: PhaseId, tasks: &[TaskDecl], locks: u32) -> Option<CheckFault>
     requires rising { AreRising tasks.now }
     requires locks { HaveLocks locks tasks.now }
+    requires few { locks ≤ 32 }
+    requires words { UseWordsBelow 65536 tasks.now }
     ensures some { IfSome result (IsFirstAmong phase.0 tasks.now) }
     ensures none { IfNone result (IsCheckedPhase (record { tasks = tasks.now })) }
 {
@@ -24,6 +28,9 @@ fn phase_fault(phase: PhaseId, tasks: &[TaskDecl], locks: u32) -> Option<CheckFa
             core_b,
             word,
         });
+    }
+    if are_apart(tasks, locks) {
+        return None;
     }
     if let Some((lock, core, word)) = first_guarded_plain(tasks, locks) {
         return Some(CheckFault::GuardedPlain {
@@ -58,8 +65,9 @@ fn first_fault(program: &Program) -> Option<CheckFault>
 
 /// Checks the declared effects of a program: see `Checked` for the three rules. Takes no memory.
 ///
-/// In each phase it goes along two lists of intervals a few times for each pair of tasks, for each lock and pair of
-/// tasks, and for each pair of locks and of tasks.
+/// In each phase it goes along two lists of intervals a few times for each pair of tasks, and then along the words that the
+/// tasks use. Where two of these are taken, it goes along the words once more for each lock, and along two lists of
+/// intervals for each pair of tasks and other lock, of the first lock with a fault alone.
 ///
 /// # Errors
 /// The least fault in the order of `CheckFault`; it comes exactly where the program is not checked.

@@ -7,6 +7,7 @@ mod checking;
 mod fault;
 mod least;
 mod searching;
+mod takers;
 
 pub use checked::Checked;
 pub use checking::check;

@@ -2,8 +2,10 @@ ghost use Rattle.std.specs.Prelude.{◌≡◌, ℕ, ◌<◌, IsTrue, IfSome, IfN
 ghost use Rattle.effect_checker.specs.Checked.{on_core};
 ghost use Rattle.effect_checker.specs.Faults.{IsPlainConflict, IsGuardedPlain, AreTwoLocks};
 ghost use Rattle.effect_checker.specs.Least.{IsFirstPair, IsFirst, AreRising, HaveLocks, contends, exposes};
+ghost use Rattle.effect_checker.specs.Takers.{UseWordsBelow};
 
 use crate::least::{contended_word, exposed_word, twice_guarded_word};
+use crate::takers::{is_apart_from_later, is_never_plain};
 use dn_base::{CoreId, LockId, WordId};
 use region_table::TaskDecl;
 
@@ -39,9 +41,13 @@ pub(crate) fn first_plain_conflict(tasks: &[TaskDecl]) -> Option<(CoreId, CoreId
 /// The first core whose task uses plainly a word that the lock guards for some task, and the least such word.
 fn first_exposer(tasks: &[TaskDecl], lock: u32) -> Option<(CoreId, WordId)>
     requires rising { AreRising tasks.now }
+    requires words { UseWordsBelow 65536 tasks.now }
     ensures some { IfSome result (λ f. IsFirstPair (λ core w. IsTrue (on_core (exposes tasks.now lock) tasks.now core w)) f.0.0 f.1.0) }
     ensures none { IfNone result ((core w : ℕ) → IsTrue (on_core (exposes tasks.now lock) tasks.now core w) → ⊥) }
 {
+    if is_never_plain(tasks, lock) {
+        return None;
+    }
     for user in tasks {
         if let Some(word) = exposed_word(tasks, lock, user) {
             return Some((user.core, word));
@@ -58,6 +64,7 @@ pub(crate) fn first_guarded_plain(
 ) -> Option<(LockId, CoreId, WordId)>
     requires rising { AreRising tasks.now }
     requires locks { HaveLocks locks tasks.now }
+    requires words { UseWordsBelow 65536 tasks.now }
     ensures some { IfSome result (λ f. IsFirst (IsGuardedPlain tasks.now) f.0.0 f.1.0 f.2.0) }
     ensures none { IfNone result ((lock core w : ℕ) → IsGuardedPlain tasks.now lock core w → ⊥) }
 {
@@ -73,9 +80,13 @@ pub(crate) fn first_guarded_plain(
 fn first_other_lock(tasks: &[TaskDecl], lock: u32, locks: u32) -> Option<(LockId, WordId)>
     requires locks { HaveLocks locks tasks.now }
     requires within { lock < locks }
+    requires words { UseWordsBelow 65536 tasks.now }
     ensures some { IfSome result (λ f. IsFirstPair (AreTwoLocks tasks.now lock) f.0.0 f.1.0) }
     ensures none { IfNone result ((other w : ℕ) → AreTwoLocks tasks.now lock other w → ⊥) }
 {
+    if is_apart_from_later(tasks, lock, locks) {
+        return None;
+    }
     for other in lock + 1..locks {
         if let Some(word) = twice_guarded_word(tasks, lock, other) {
             return Some((LockId(other), word));
@@ -88,6 +99,7 @@ fn first_other_lock(tasks: &[TaskDecl], lock: u32, locks: u32) -> Option<(LockId
 /// least such word.
 pub(crate) fn first_two_locks(tasks: &[TaskDecl], locks: u32) -> Option<(LockId, LockId, WordId)>
     requires locks { HaveLocks locks tasks.now }
+    requires words { UseWordsBelow 65536 tasks.now }
     ensures some { IfSome result (λ f. IsFirst (AreTwoLocks tasks.now) f.0.0 f.1.0 f.2.0) }
     ensures none { IfNone result ((a b w : ℕ) → AreTwoLocks tasks.now a b w → ⊥) }
 {

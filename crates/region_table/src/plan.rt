@@ -2,7 +2,7 @@ ghost use Rattle.std.specs.Prelude.{◌≡◌, ◌↔◌, ℕ, ◌+◌, ◌<◌,
 ghost use Rattle.std.specs.Option.{unwrap_or, option_copied};
 ghost use Rattle.std.specs.List.{list_any};
 ghost use Rattle.region_table.specs.declared.interval.Interval.{Interval};
-ghost use Rattle.region_table.specs.Words.{has};
+ghost use Rattle.region_table.specs.Words.{has, IsUnion};
 ghost use Rattle.region_table.specs.Program.{AreTiled};
 ghost use Rattle.region_table.specs.Plan.{ArePlans, IsPlan, phase_writes, phase_guards};
 
@@ -27,13 +27,23 @@ pub(crate) fn plan_crosses(plan: &PhasePlan) {
     crate::program::crosses(plan);
 }
 
+/// The words of both sets. It gives `words` back where `other` is empty, as most sets by lock are: a union would copy it.
+fn joined(words: WordSet, other: &WordSet) -> Result<WordSet, Memory>
+    ensures { IfOk result (IsUnion words other.now) }
+{
+    match other.intervals() {
+        [] => Ok(words),
+        _ => words.union(other),
+    }
+}
+
 /// The words of `words` and of all the sets.
 fn union_of(words: WordSet, sets: &[WordSet]) -> Result<WordSet, Memory>
     ensures { IfOk result (λ all. (w : ℕ) → has all w ≡ (has words w || list_any (λ (set : List Interval). has set w) sets.now)) }
 {
     let mut all = words;
     for set in sets {
-        all = all.union(set)?;
+        all = joined(all, set)?;
     }
     Ok(all)
 }
@@ -44,7 +54,7 @@ fn words_written(alloc: Global, phase: &Phase) -> Result<WordSet, Memory>
 {
     let mut all = WordSet::new(alloc);
     for task in phase.tasks.as_slice() {
-        let plain = all.union(&task.effects.writes)?;
+        let plain = joined(all, &task.effects.writes)?;
         all = union_of(plain, task.effects.guarded_writes.as_slice())?;
     }
     Ok(all)
@@ -67,7 +77,7 @@ fn union_with(words: WordSet, other: Option<&WordSet>) -> Result<WordSet, Memory
     ensures { IfOk result (λ all. (w : ℕ) → has all w ≡ (has words w || has (unwrap_or (option_copied other.entry) []) w)) }
 {
     match other {
-        Some(set) => words.union(set),
+        Some(set) => joined(words, set),
         None => Ok(words),
     }
 }
@@ -97,7 +107,7 @@ fn plan_of(alloc: Global, program: &Program, phase: &Phase) -> Result<PhasePlan,
 /// The plans of the program's phases, in their order: for each phase the words of the whole regions in which some task
 /// writes, plainly or under a lock, and for each lock the words that it guards for some task.
 ///
-/// It makes at most one union for each task and lock, each in the time of the intervals joined so far, and then halves
+/// It unites those sets of the tasks that have words, each in the time of the intervals joined so far, and then halves
 /// these intervals once for each region.
 ///
 /// # Errors

@@ -3,6 +3,7 @@ ghost use Rattle.std.specs.Fmt.{decimal, signed_decimal};
 ghost use Rattle.text_pieces.specs.Pieces.{hexadecimal, hex_digit};
 
 use dn_base::Memory;
+use itoa::Buffer;
 
 /// Adds bytes at the end.
 ///
@@ -22,8 +23,8 @@ pub fn push(out: &mut Vec<u8>, bytes: &[u8]) -> Result<(), Memory>
 pub fn push_decimal(out: &mut Vec<u8>, number: u32) -> Result<(), Memory>
     ensures { OnOk result (out.new.items ≡ out.old.items ++ decimal number) }
 {
-    let digits = number.to_string(*out.allocator())?;
-    push(out, digits.as_bytes())
+    let mut digits = Buffer::new();
+    push(out, digits.format(number).as_bytes())
 }
 
 /// Adds a number of 64 bits in decimal digits.
@@ -33,8 +34,8 @@ pub fn push_decimal(out: &mut Vec<u8>, number: u32) -> Result<(), Memory>
 pub fn push_long(out: &mut Vec<u8>, number: u64) -> Result<(), Memory>
     ensures { OnOk result (out.new.items ≡ out.old.items ++ decimal number) }
 {
-    let digits = number.to_string(*out.allocator())?;
-    push(out, digits.as_bytes())
+    let mut digits = Buffer::new();
+    push(out, digits.format(number).as_bytes())
 }
 
 /// Adds a number in decimal digits, behind `-` where it is below 0.
@@ -44,8 +45,8 @@ pub fn push_long(out: &mut Vec<u8>, number: u64) -> Result<(), Memory>
 pub fn push_signed(out: &mut Vec<u8>, number: i32) -> Result<(), Memory>
     ensures { OnOk result (out.new.items ≡ out.old.items ++ signed_decimal number) }
 {
-    let digits = number.to_string(*out.allocator())?;
-    push(out, digits.as_bytes())
+    let mut digits = Buffer::new();
+    push(out, digits.format(number).as_bytes())
 }
 
 /// A digit of base 16.

@@ -3,7 +3,9 @@ use Rattle.region_table.specs.declared.declared.Phase.{Phase}
 use Rattle.region_table.specs.Program.{ProgramParts, IsProgram, IsPhase}
 use Rattle.region_table.proofs.ProgramLemmas.{phase-at}
 use Rattle.effect_checker.specs.Least.{AreRising, HaveLocks}
+use Rattle.effect_checker.specs.Takers.{UseWordsBelow}
 use Rattle.effect_checker.proofs.FaultLemmas.{phase-locks}
+use Rattle.effect_checker.proofs.TakerLemmas.{phase-words}
 use Rattle.effect_checker.proofs.checking.first_fault.Goals as goal
 
 -- the phase at hand is well formed
@@ -22,3 +24,9 @@ phase_fault-requires-clause-locks c =
     let phase = well_formed _ c.as_slice-phase-items.result.now c.loop-number.number c.phase-item.result c.program.invariant c.as_slice-phase-items.ensures c.loop-number-test.true c.phase-item.is in
     let locks : HaveLocks c.len-locks.result c.as_slice.result.now = rw (c.as_slice.ensures, c.len-locks.ensures) (phase-locks _ _ c.phase-item.result phase) in
     locks
+
+pub phase_fault-requires-clause-words : goal.phase_fault-requires-clause-words
+phase_fault-requires-clause-words c =
+    let phase = well_formed _ c.as_slice-phase-items.result.now c.loop-number.number c.phase-item.result c.program.invariant c.as_slice-phase-items.ensures c.loop-number-test.true c.phase-item.is in
+    let words : UseWordsBelow 65536 c.as_slice.result.now = rw c.as_slice.ensures (phase-words _ _ c.phase-item.result c.program.invariant.memory phase) in
+    words
