@@ -1,7 +1,7 @@
 -- Blocks: their leaders, and what the row at a leader tells of the other words.
-use Rattle.std.proofs.Common.{◌≡◌, ℕ, zero, suc, ◌+◌, ◌<◌, ◌≤◌, Bool, true, false, ◌⊎◌, inl, inr, List, length, slice_get, slice_index_or, slice_set, Option, Some, None, refl, sym, ap, ◌∙◌, subst, arith, ⊎_elim}
+use Rattle.std.proofs.Common.{◌≡◌, ℕ, zero, suc, ◌+◌, ◌<◌, ◌≤◌, Bool, true, false, ◌⊎◌, inl, inr, List, length, slice_get, slice_set, Option, Some, None, refl, sym, ap, ◌∙◌, subst, arith, ⊎_elim}
 use Rattle.std.proofs.lemmas.Bool.{true≢false, false≢true, cond-true, cond-false, cond_both, cases_eq, cases_lt, cases_order}
-use Rattle.std.proofs.lemmas.Option.{none-some, same_Some}
+use Rattle.std.proofs.lemmas.Option.{none-some}
 use Rattle.std.proofs.lemmas.List.{length-set, get_or-set_same, get_or-set_other, get_or_past}
 use Rattle.std.proofs.lemmas.List.FromFn.{length-map-range_with_len, get_or-map-range_with_len}
 use Rattle.region_table.specs.Program.{ProgramParts, IsProgram}

@@ -18,9 +18,11 @@ fn is_plain(instr: &Instr) -> bool
     ensures { result ≡ is_plain instr.now }
 {
     match *instr {
-        Instr::Jal { .. } | Instr::Jalr { .. } | Instr::Branch { .. } | Instr::Ecall | Instr::Ebreak => {
-            false
-        }
+        Instr::Jal { .. }
+        | Instr::Jalr { .. }
+        | Instr::Branch { .. }
+        | Instr::Ecall
+        | Instr::Ebreak => { false }
         _ => true,
     }
 }
@@ -123,7 +125,11 @@ fn mark_words(program: &Program, leaders: &mut [bool])
 ///
 /// # Errors
 /// `Memory` where there is no room for the marks.
-pub(crate) fn leaders(alloc: Global, program: &Program, task: &TaskDecl) -> Result<Vec<bool>, Memory>
+pub(crate) fn leaders(
+    alloc: Global,
+    program: &Program,
+    task: &TaskDecl,
+) -> Result<Vec<bool>, Memory>
     requires { IsProgram program.now }
     ensures { IfOk result (λ leaders. HasLeaders program.now task.now leaders.items) }
 {
