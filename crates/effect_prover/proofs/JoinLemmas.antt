@@ -1,5 +1,5 @@
 -- Joined ranges and rows, and the room that they leave.
-use Rattle.std.proofs.Common.{◌≡◌, ◌≢◌, ℕ, suc, ◌-◌, ◌*◌, ◌<◌, ◌≤◌, min, max, Bool, true, ◌&&◌, ◌⊎◌, inl, inr, List, [], ◌∷◌, length, slice_index_or, sum_by, None, refl, sym, ◌∙◌, subst, arith, ⊎_elim, bit_and}
+use Rattle.std.proofs.Common.{◌≡◌, ◌≢◌, ℕ, suc, ◌*◌, ◌<◌, ◌≤◌, min, max, Bool, true, ◌&&◌, inl, inr, List, [], ◌∷◌, length, slice_index_or, sum_by, None, refl, sym, ◌∙◌, subst, arith, ⊎_elim, bit_and}
 use Rattle.std.proofs.lemmas.Bool.{and_parts, and_from, cases_lt}
 use Rattle.std.proofs.lemmas.Bool.Decides.{nat_tests}
 use Rattle.std.proofs.lemmas.List.Sums.{sum_by-cons}

@@ -8,6 +8,7 @@ pub mod FollowSteps
 pub mod SoundNeeds
 pub mod Sound
 pub mod JoinLemmas
+pub mod BlockLemmas
 pub mod TableLemmas
 pub mod AnswerLemmas
 pub mod StretchLemmas

@@ -1,5 +1,5 @@
 -- Tables to which rows are given, word by word.
-use Rattle.std.proofs.Common.{◌≡◌, ◌≢◌, ℕ, ◌+◌, ◌-◌, ◌*◌, ◌<◌, ◌≤◌, Bool, true, false, Decides, List, length, get_or, replicate, slice_index_or, slice_set, Option, Some, None, refl, sym, ap, ◌∙◌, subst, arith, ⊎_elim}
+use Rattle.std.proofs.Common.{◌≡◌, ◌≢◌, ℕ, zero, suc, ◌+◌, ◌-◌, ◌*◌, ◌<◌, ◌≤◌, ◌⊎◌, inl, inr, Bool, true, false, Decides, List, length, get_or, replicate, slice_index_or, slice_set, Option, Some, None, refl, sym, ap, ◌∙◌, subst, arith, ⊎_elim}
 use Rattle.std.proofs.lemmas.Bool.{true≢false, cases_eq, cases_lt, eq-eqb, eqb-true}
 use Rattle.std.proofs.lemmas.List.{length-set, get_or-set_same, get_or-set_other, set-get_or, get_or_past, get_or-replicate, length-replicate, ext_get_or}
 use Rattle.std.proofs.lemmas.List.Sums.{sum_by-set}
@@ -16,9 +16,8 @@ use Rattle.flat_machine.specs.Laws.{HoldsLess}
 use Rattle.effect_prover.specs.Answer.{IsProvenTask, IsProven, IsUnbounded}
 use Rattle.std.specs.Option.{IfSome}
 use Rattle.std.proofs.lemmas.Option.{none-some, same_Some, slice_get_past, get_or_from_slice_get}
-use Rattle.region_table.specs.Program.{ProgramParts}
+use Rattle.region_table.specs.Program.{ProgramParts, IsProgram}
 use Rattle.region_table.specs.declared.declared.TaskDecl.{TaskDecl}
-use Rattle.rv_isa.specs.Range.{IsEncodable, HasRegisters}
 use Rattle.rv_isa.specs.declared.instr.Instr.{Instr}
 use Rattle.rv_core.specs.Step.{read_instr}
 use Rattle.effect_prover.specs.declared.row.Row.{Row}
@@ -27,10 +26,12 @@ use Rattle.effect_prover.specs.Range.{one}
 use Rattle.effect_prover.specs.Row.{range_of, start_row, IsRow, IsBelow, IsUnder}
 use Rattle.effect_prover.specs.Successors.{successors}
 use Rattle.effect_prover.specs.Table.{Table, row_at, address_at, instr_of, target_of, IsLoopHead, IsHeadRange, IsTable, Covers, IsPassedOn, IsClosed, IsLeastTable}
+use Rattle.effect_prover.specs.Blocks.{is_plain, IsPlainAt, is_leader, HasLeaders, leader_of, IsLast, row_behind, filled_row, filled_before, filled}
 use Rattle.effect_prover.specs.Sweep.{IsJoinedTo, row_room, room_of, table_room, HasHeads, row_is_pending, IsTableUnder, HasPassedOn, IsSwept, CoversAt, IsRowGiven, IsPut, AreMarked}
 use Rattle.effect_prover.proofs.RowLemmas.{under-itself, under-trans}
 use Rattle.effect_prover.proofs.JoinLemmas.{joined-row, joined-first, joined-second, joined-least, grown-room, row-room, same_row, same_range}
-use Rattle.effect_prover.proofs.SuccessorLemmas.{successors-under, IsRowIn}
+use Rattle.effect_prover.proofs.SuccessorLemmas.{IsRowIn}
+use Rattle.effect_prover.proofs.BlockLemmas.{is-either, next-suc, leader-below, leader-is, last-same, plain-nowhere, instr-fits, filled-leads, filled-behind, filled-same, filled-none, filled-in, gives-below, filled-below, filled-at, filled-length, filled-past, filled-within}
 
 -- ---- tables
 
@@ -119,6 +120,16 @@ nothing-given P d t p address given cursor shape covers =
 pub row-known : (o : Option Row) → ((row : Row) → o ≡ Some row → IsRow row) → IfSome o IsRow
 row-known None h = tt
 row-known (Some row) h = h row refl
+
+-- what a filled table has at a word, and at the word before
+pub filled-known : (P : ProgramParts) (L : List Bool) (t : Table) (i : ℕ) → i < length P.code → ((k : ℕ) (row : Row) → row_at (filled P L t) k ≡ Some row → IsRow row)
+    → IfSome (filled_row P L t i) IsRow
+filled-known P L t i within rows = row-known (filled_row P L t i) (λ row e. rows i row (filled-at P L t i within ∙ e))
+
+pub before-known : (P : ProgramParts) (L : List Bool) (t : Table) (i : ℕ) → i ≤ length P.code → ((k : ℕ) (row : Row) → row_at (filled P L t) k ≡ Some row → IsRow row)
+    → IfSome (filled_before P L t i) IsRow
+before-known P L t zero within rows = tt
+before-known P L t (suc i) within rows = filled-known P L t i (omega arith) rows
 
 pub put-none : (head : Bool) (argument : ℕ) (t : Table) (place : ℕ) (given row : Row) → IsJoinedTo head argument (row_at t place) given row → row_at t place ≡ Some row
     → IsPut head argument t place given t false
@@ -218,82 +229,103 @@ put-given P d heads old new was place address given cursor next known shape mark
 
 -- ---- a word passes its row on
 
--- the word at the cursor isn't pending any more, as it has passed its row on
-pub swept-next : (P : ProgramParts) (d : TaskDecl) (t : Table) (p q : List Bool) (cursor : ℕ) → IsSwept P d t p cursor → length q ≡ length p
-    → ((i : ℕ) → i ≢ cursor → row_is_pending q i ≡ row_is_pending p i) → row_is_pending q cursor ≡ false → HasPassedOn P t cursor → IsSwept P d t q (cursor + 1)
-swept-next P d t p q cursor h same others here passed =
+-- no leader that is pending stands at the cursor
+pub swept-skip : (P : ProgramParts) (d : TaskDecl) (L : List Bool) (t : Table) (p : List Bool) (cursor : ℕ) → IsSwept P d L t p cursor
+    → (is_leader L cursor ≡ true → row_is_pending p cursor ≡ false) → IsSwept P d L t p (cursor + 1)
+swept-skip P d L t p cursor h none =
     record {
       shape = h.shape;
       least = h.least;
-      marks = same ∙ h.marks;
-      passed = λ i e.
+      marks = h.marks;
+      passed = h.passed;
+      before = λ i l e.
           ⊎_elim
-          (λ (s : i ≡ cursor). subst (HasPassedOn P t) (sym s) passed)
-          (λ (apart : i ≡ cursor → ⊥). h.passed i (sym (others i apart) ∙ e))
-          (cases_eq i cursor);
-      before = λ i l.
-          ⊎_elim
-          (λ (s : i ≡ cursor). subst (λ (k : ℕ). row_is_pending q k ≡ false) (sym s) here)
-          (λ (apart : i ≡ cursor → ⊥). others i apart ∙ h.before i (omega arith))
+          (λ (s : i ≡ cursor). subst (λ (k : ℕ). row_is_pending p k ≡ false) (sym s) (none (subst (λ (k : ℕ). is_leader L k ≡ true) s e)))
+          (λ (apart : i ≡ cursor → ⊥). h.before i (omega arith) e)
           (cases_eq i cursor);
     }
 
--- what a word gives is covered by each closed table above it
-gives-below : (P : ProgramParts) (d : TaskDecl) (t all : Table) (i : ℕ) (row : Row) (instr : Instr) → HasRegisters instr → IsEncodable instr → IsTable P d t → IsClosed P d all → IsTableUnder t all
-    → row_at t i ≡ Some row → instr_of P.code i ≡ Some instr → IsPassedOn all (address_at i) instr (successors (length P.locks) (address_at i) row instr)
-gives-below P d t all i row instr regs fits shape closed under reached there = by_row (row_at all i) refl (subst (λ (o : Option Row). IsUnder o (row_at all i)) reached (under i))
-  where
-    by_row : (o : Option Row) → row_at all i ≡ o → IsUnder (Some row) o → IsPassedOn all (address_at i) instr (successors (length P.locks) (address_at i) row instr)
-    by_row None e h = absurd h
-    by_row (Some wide) e h =
-        let passed = closed.passes i wide instr e there in
-        let less = successors-under (length P.locks) (address_at i) row wide instr regs fits (shape.rows i row reached) (closed.shape.rows i wide e) h in
-        let s : Successors = successors (length P.locks) (address_at i) row instr in
-        let w : Successors = successors (length P.locks) (address_at i) wide instr in
-        record {
-          next = covers-less all (address_at i + 4) s.next w.next less.next passed.next;
-          target = λ address aims. covers-less all address s.target w.target less.target (passed.target address aims);
-        }
+-- the leader at the cursor isn't pending any more, as its block has passed its row on
+swept-next : (P : ProgramParts) (d : TaskDecl) (L : List Bool) (t : Table) (p : List Bool) (cursor : ℕ) → IsSwept P d L t p cursor → cursor < length p
+    → ((i : ℕ) → IsLast L (length P.code) i → leader_of L i ≡ cursor → HasPassedOn P L t i) → IsSwept P d L t (slice_set p cursor false) (cursor + 1)
+swept-next P d L t p cursor h within gone =
+    record {
+      shape = h.shape;
+      least = h.least;
+      marks = length-set p cursor false ∙ h.marks;
+      passed = λ i last e.
+          ⊎_elim
+          (λ (s : leader_of L i ≡ cursor). gone i last s)
+          (λ (apart : leader_of L i ≡ cursor → ⊥). h.passed i last (sym (get_or-set_other p cursor (leader_of L i) false false apart) ∙ e))
+          (cases_eq (leader_of L i) cursor);
+      before = λ i l e.
+          ⊎_elim
+          (λ (s : i ≡ cursor). subst (λ (k : ℕ). row_is_pending (slice_set p cursor false) k ≡ false) (sym s) (get_or-set_same p cursor false false within))
+          (λ (apart : i ≡ cursor → ⊥). get_or-set_other p cursor i false false apart ∙ h.before i (omega arith) e)
+          (cases_eq i cursor);
+    }
 
--- a word whose row was given to both its successors has passed it on, unless it grew itself
-pub two-given : (P : ProgramParts) (d : TaskDecl) (t t1 t2 : Table) (p q q1 q2 : List Bool) (cursor c1 c2 : ℕ) (row : Row) (instr : Instr) → HasRegisters instr → IsEncodable instr
-    → IsSwept P d t p cursor → length q ≡ length p → ((i : ℕ) → i ≢ cursor → row_is_pending q i ≡ row_is_pending p i) → row_is_pending q cursor ≡ false
-    → row_at t cursor ≡ Some row → instr_of P.code cursor ≡ Some instr
-    → IsRowGiven P d t q (Some (address_at cursor + 4)) (successors (length P.locks) (address_at cursor) row instr).next (cursor + 1) t1 q1 c1
-    → IsRowGiven P d t1 q1 (target_of (address_at cursor) instr) (successors (length P.locks) (address_at cursor) row instr).target c1 t2 q2 c2
-    → IsSwept P d t2 q2 c2
-two-given P d t t1 t2 p q q1 q2 cursor c1 c2 row instr regs fits h same others here reached there g1 g2 =
+-- the leader at the cursor isn't reached
+pub swept-none : (P : ProgramParts) (d : TaskDecl) (L : List Bool) (t : Table) (p : List Bool) (cursor : ℕ) → IsSwept P d L t p cursor → cursor < length p
+    → row_at t cursor ≡ None → IsSwept P d L t (slice_set p cursor false) (cursor + 1)
+swept-none P d L t p cursor h within none =
+    swept-next P d L t p cursor h within
+    (λ i last s row instr is read. absurd (none-some row (sym (filled-none P L t i (subst (λ (k : ℕ). row_at t k ≡ None) (sym s) none)) ∙ is)))
+
+-- the last word of the cursor's block is no instruction
+pub swept-stop : (P : ProgramParts) (d : TaskDecl) (L : List Bool) (t : Table) (p : List Bool) (cursor last : ℕ) → IsSwept P d L t p cursor → cursor < length p
+    → IsLast L (length P.code) last → leader_of L last ≡ cursor → instr_of P.code last ≡ None → IsSwept P d L t (slice_set p cursor false) (cursor + 1)
+swept-stop P d L t p cursor last h within ends own none =
+    swept-next P d L t p cursor h within
+    (λ i end s row instr is read.
+    let same : i ≡ last = last-same L (length P.code) i last end ends (s ∙ sym own) in
+    absurd (none-some instr (sym none ∙ subst (λ (k : ℕ). instr_of P.code k ≡ Some instr) same read)))
+
+-- a block whose last word's row was given to both its successors has passed it on, unless its leader grew itself
+pub two-given : (P : ProgramParts) (d : TaskDecl) (L : List Bool) (t t1 t2 : Table) (p q1 q2 : List Bool) (cursor last c1 c2 : ℕ) (row : Row) (instr : Instr) → IsProgram P
+    → IsSwept P d L t p cursor → cursor < length p → IsLast L (length P.code) last → leader_of L last ≡ cursor
+    → filled_row P L t last ≡ Some row → instr_of P.code last ≡ Some instr
+    → IsRowGiven P d t (slice_set p cursor false) (Some (address_at last + 4)) (successors (length P.locks) (address_at last) row instr).next (cursor + 1) t1 q1 c1
+    → IsRowGiven P d t1 q1 (target_of (address_at last) instr) (successors (length P.locks) (address_at last) row instr).target c1 t2 q2 c2
+    → IsSwept P d L t2 q2 c2
+two-given P d L t t1 t2 p q1 q2 cursor last c1 c2 row instr good h within ends own reached there g1 g2 =
     record {
       shape = g2.shape;
       least = λ all closed.
-          let gives = gives-below P d t all cursor row instr regs fits h.shape closed (h.least all closed) reached there in
+          let fits = instr-fits P.code last instr there in
+          let is : IsRow row = subst IsRowIn reached (filled-in P d L t last good h.shape ends.within) in
+          let under : IsUnder (Some row) (row_at all last) =
+          subst (λ (o : Option Row). IsUnder o (row_at all last)) reached (filled-below P d L t all last good h.shape closed (h.least all closed) ends.within) in
+          let gives = gives-below P d all last row instr fits.0 fits.1 is closed under there in
           g2.least all closed.shape
-          (g1.least all closed.shape (h.least all closed) (λ a e. subst (λ (k : ℕ). Covers all k s.next) (same_Some (address_at cursor + 4) a e) gives.next))
+          (g1.least all closed.shape (h.least all closed) (λ a e. subst (λ (k : ℕ). Covers all k s.next) (same_Some (address_at last + 4) a e) gives.next))
           gives.target;
-      marks = g2.marks ∙ g1.marks ∙ same ∙ h.marks ∙ sym g1.words ∙ sym g2.words;
-      passed = λ i e.
-          let e1 = g2.unmarked i e in
-          let e0 = g1.unmarked i e1 in
-          let kept : row_at t2 i ≡ row_at t i = g2.same i e ∙ g1.same i e1 in
+      marks = g2.marks ∙ g1.marks ∙ length-set p cursor false ∙ h.marks ∙ sym g1.words ∙ sym g2.words;
+      passed = λ i end e.
+          let e1 = g2.unmarked (leader_of L i) e in
+          let e0 = g1.unmarked (leader_of L i) e1 in
+          let kept : filled_row P L t2 i ≡ filled_row P L t i = filled-same P L t t2 i (g2.same (leader_of L i) e ∙ g1.same (leader_of L i) e1) in
           ⊎_elim
-          (λ (at' : i ≡ cursor). subst (HasPassedOn P t2) (sym at') (passed (subst (λ (k : ℕ). row_at t2 k ≡ row_at t k) at' kept)))
-          (λ (apart : i ≡ cursor → ⊥). λ x j is read.
+          (λ (s : leader_of L i ≡ cursor).
+          let at' : i ≡ last = last-same L (length P.code) i last end ends (s ∙ sym own) in
+          subst (HasPassedOn P L t2) (sym at') (passed (subst (λ (k : ℕ). filled_row P L t2 k ≡ filled_row P L t k) at' kept)))
+          (λ (apart : leader_of L i ≡ cursor → ⊥). λ x j is read.
           passed-grows t t2 (address_at i) j (successors (length P.locks) (address_at i) x j) words grows
-          (h.passed i (sym (others i apart) ∙ e0) x j (sym kept ∙ is) read))
-          (cases_eq i cursor);
-      before = λ i l.
+          (h.passed i end (sym (get_or-set_other p cursor (leader_of L i) false false apart) ∙ e0) x j (sym kept ∙ is) read))
+          (cases_eq (leader_of L i) cursor);
+      before = λ i l e.
           let w2 = g2.within in
           let w1 = g1.within in
           let unmarked = g2.before i l ∙ g1.before i (omega arith) in
           unmarked
           ∙ ⊎_elim
-          (λ (at' : i ≡ cursor). subst (λ (k : ℕ). row_is_pending q k ≡ false) (sym at') here)
-          (λ (apart : i ≡ cursor → ⊥). others i apart ∙ h.before i (omega arith))
+          (λ (at' : i ≡ cursor). subst (λ (k : ℕ). row_is_pending (slice_set p cursor false) k ≡ false) (sym at') (get_or-set_same p cursor false false within))
+          (λ (apart : i ≡ cursor → ⊥). get_or-set_other p cursor i false false apart ∙ h.before i (omega arith) e)
           (cases_eq i cursor);
     }
   where
     s : Successors
-    s = successors (length P.locks) (address_at cursor) row instr
+    s = successors (length P.locks) (address_at last) row instr
 
     words : length t2 ≡ length t
     words = g2.words ∙ g1.words
@@ -301,14 +333,14 @@ two-given P d t t1 t2 p q q1 q2 cursor c1 c2 row instr regs fits h same others h
     grows : IsTableUnder t t2
     grows = table-trans t t1 t2 g1.grows g2.grows
 
-    passed : row_at t2 cursor ≡ row_at t cursor → HasPassedOn P t2 cursor
+    passed : filled_row P L t2 last ≡ filled_row P L t last → HasPassedOn P L t2 last
     passed kept x j is read =
         let row_is : row ≡ x = same_Some row x (sym reached ∙ sym kept ∙ is) in
         let instr_is : instr ≡ j = same_Some instr j (sym there ∙ read) in
-        subst (λ (y : Row). IsPassedOn t2 (address_at cursor) j (successors (length P.locks) (address_at cursor) y j)) row_is
-        (subst (λ (k : Instr). IsPassedOn t2 (address_at cursor) k (successors (length P.locks) (address_at cursor) row k)) instr_is
+        subst (λ (y : Row). IsPassedOn t2 (address_at last) j (successors (length P.locks) (address_at last) y j)) row_is
+        (subst (λ (k : Instr). IsPassedOn t2 (address_at last) k (successors (length P.locks) (address_at last) row k)) instr_is
         (record {
-          next = covers-grows t1 t2 (address_at cursor + 4) s.next g2.words g2.grows (g1.covers (address_at cursor + 4) refl);
+          next = covers-grows t1 t2 (address_at last + 4) s.next g2.words g2.grows (g1.covers (address_at last + 4) refl);
           target = g2.covers;
         }))
 
@@ -326,18 +358,18 @@ sweep-falls n before after at' next within step falls less =
     (cases_lt at' next)
 
 -- the same with names for the successors and the addresses
-pub two-passed : (P : ProgramParts) (d : TaskDecl) (t t1 t2 : Table) (p q1 q2 : List Bool) (cursor c1 c2 : ℕ) (row : Row) (instr : Instr) (pc : ℕ) (aim : Option ℕ) (s : Successors)
-    → HasRegisters instr → IsEncodable instr → IsSwept P d t p cursor → cursor < length p → row_at t cursor ≡ Some row → instr_of P.code cursor ≡ Some instr
-    → pc ≡ address_at cursor → aim ≡ target_of pc instr → s ≡ successors (length P.locks) (address_at cursor) row instr
+pub two-passed : (P : ProgramParts) (d : TaskDecl) (L : List Bool) (t t1 t2 : Table) (p q1 q2 : List Bool) (cursor last c1 c2 : ℕ) (row : Row) (instr : Instr) (pc : ℕ) (aim : Option ℕ) (s : Successors)
+    → IsProgram P → IsSwept P d L t p cursor → cursor < length p → IsLast L (length P.code) last → leader_of L last ≡ cursor
+    → filled_row P L t last ≡ Some row → instr_of P.code last ≡ Some instr
+    → pc ≡ address_at last → aim ≡ target_of pc instr → s ≡ successors (length P.locks) (address_at last) row instr
     → IsRowGiven P d t (slice_set p cursor false) (Some (pc + 4)) s.next (cursor + 1) t1 q1 c1
     → IsRowGiven P d t1 q1 aim s.target c1 t2 q2 c2
-    → IsSwept P d t2 q2 c2
-two-passed P d t t1 t2 p q1 q2 cursor c1 c2 row instr pc aim s regs fits h within reached there at' aims is g1 g2 =
-    two-given P d t t1 t2 p (slice_set p cursor false) q1 q2 cursor c1 c2 row instr regs fits h
-    (length-set p cursor false) (λ i apart. get_or-set_other p cursor i false false apart) (get_or-set_same p cursor false false within) reached there
-    (subst (λ (z : Successors). IsRowGiven P d t (slice_set p cursor false) (Some (address_at cursor + 4)) z.next (cursor + 1) t1 q1 c1) is
+    → IsSwept P d L t2 q2 c2
+two-passed P d L t t1 t2 p q1 q2 cursor last c1 c2 row instr pc aim s good h within ends own reached there at' aims is g1 g2 =
+    two-given P d L t t1 t2 p q1 q2 cursor last c1 c2 row instr good h within ends own reached there
+    (subst (λ (z : Successors). IsRowGiven P d t (slice_set p cursor false) (Some (address_at last + 4)) z.next (cursor + 1) t1 q1 c1) is
     (subst (λ (k : ℕ). IsRowGiven P d t (slice_set p cursor false) (Some (k + 4)) s.next (cursor + 1) t1 q1 c1) at' g1))
-    (subst (λ (z : Successors). IsRowGiven P d t1 q1 (target_of (address_at cursor) instr) z.target c1 t2 q2 c2) is
+    (subst (λ (z : Successors). IsRowGiven P d t1 q1 (target_of (address_at last) instr) z.target c1 t2 q2 c2) is
     (subst (λ (o : Option ℕ). IsRowGiven P d t1 q1 o s.target c1 t2 q2 c2) (aims ∙ ap (λ (k : ℕ). target_of k instr) at') g2))
 
 pub known-rows : (o : Option Row) → IsRowIn o → IfSome o IsRow
@@ -378,41 +410,119 @@ empty-table P d n e =
       heads = λ i row head is. absurd (none-some row (sym (replicated n i) ∙ is));
     }
 
-pub swept-first : (P : ProgramParts) (d : TaskDecl) (n : ℕ) (t : Table) (p : List Bool) (cursor : ℕ) (start : Row) → n ≡ length P.code → start ≡ start_row d
-    → IsRowGiven P d (replicate n None) (replicate n false) (Some d.entry) (Some start) n t p cursor → IsSwept P d t p cursor
-swept-first P d n t p cursor start count is g =
-    record {
-      shape = g.shape;
-      least = λ all closed.
-          g.least all closed.shape (λ i. subst (λ (o : Option Row). IsUnder o (row_at all i)) (sym (replicated n i)) tt)
-          (λ a e. subst (λ (k : ℕ). Covers all k (Some start)) (same_Some d.entry a e) (subst (λ (x : Row). Covers all d.entry (Some x)) (sym is) closed.entry));
-      marks = g.marks ∙ length-replicate n false ∙ sym (length-replicate {A = Option Row} n None) ∙ sym g.words;
-      passed = λ i e row instr reached. absurd (none-some row (sym (replicated n i) ∙ sym (g.same i e) ∙ reached));
-      before = λ i l. g.before i l ∙ unmarked n i;
-    }
-
--- once no word is pending the table is the least closed one
-pub swept-least : (P : ProgramParts) (d : TaskDecl) (t : Table) (p : List Bool) (cursor : ℕ) → IsSwept P d t p cursor → length t ≤ cursor → Covers t d.entry (Some (start_row d)) → IsLeastTable P d t
-swept-least P d t p cursor h past entry =
-    record {
-      closed = record {
-        shape = h.shape;
-        entry = entry;
-        passes = λ i row instr reached there.
-            h.passed i (h.before i (⊎_elim (λ (inside : i < cursor). inside)
-            (λ (late : cursor ≤ i). absurd (none-some row (sym (get_or_past t i None (omega arith)) ∙ reached))) (cases_lt i cursor))) row instr reached there;
-      };
-      least = h.least;
-    }
-
--- ---- heads
-
 head-within : (code : List ℕ) (i : ℕ) (h : IsLoopHead code i) → h.place < length code
 head-within code i h =
     ⊎_elim
     (λ (inside : h.place < length code). inside)
     (λ (past : length code ≤ h.place). absurd (none-some h.instr (sym (ap read_instr (slice_get_past code h.place past)) ∙ h.there)))
     (cases_lt h.place (length code))
+
+pub swept-first : (P : ProgramParts) (d : TaskDecl) (L : List Bool) (n : ℕ) (t : Table) (p : List Bool) (cursor : ℕ) (start : Row) → n ≡ length P.code → start ≡ start_row d
+    → IsRowGiven P d (replicate n None) (replicate n false) (Some d.entry) (Some start) n t p cursor → IsSwept P d L t p cursor
+swept-first P d L n t p cursor start count is g =
+    record {
+      shape = g.shape;
+      least = λ all closed.
+          g.least all closed.shape (λ i. subst (λ (o : Option Row). IsUnder o (row_at all i)) (sym (replicated n i)) tt)
+          (λ a e. subst (λ (k : ℕ). Covers all k (Some start)) (same_Some d.entry a e) (subst (λ (x : Row). Covers all d.entry (Some x)) (sym is) closed.entry));
+      marks = g.marks ∙ length-replicate n false ∙ sym (length-replicate {A = Option Row} n None) ∙ sym g.words;
+      passed = λ i last e row instr reached.
+          absurd (none-some row (sym (filled-none P L t i (g.same (leader_of L i) e ∙ replicated n (leader_of L i))) ∙ reached));
+      before = λ i l e. g.before i l ∙ unmarked n i;
+    }
+
+-- a word is the last of its block, or the next belongs to that too
+last-or-not : (L : List Bool) (n i : ℕ) → i < n → IsLast L n i ⊎ ((suc i < n) × (is_leader L (suc i) ≡ false))
+last-or-not L n i within =
+    ⊎_elim
+    (λ (more : suc i < n).
+    ⊎_elim (λ (y : is_leader L (suc i) ≡ true). inl (record { within = within; behind = λ l. subst (λ (k : ℕ). is_leader L k ≡ true) (sym (next-suc i)) y }))
+    (λ (none : is_leader L (suc i) ≡ false). inr (more, none)) (is-either (is_leader L (suc i))))
+    (λ (past : n ≤ suc i). inl (record { within = within; behind = λ l. absurd (omega arith) }))
+    (cases_lt (suc i) n)
+
+-- once no leader is pending the table that the leaders' rows fill up is the least closed one
+pub swept-least : (P : ProgramParts) (d : TaskDecl) (L : List Bool) (t : Table) (p : List Bool) (cursor : ℕ) → IsProgram P → HasLeaders P d L → IsSwept P d L t p cursor → length t ≤ cursor
+    → Covers t d.entry (Some (start_row d)) → IsLeastTable P d (filled P L t)
+swept-least P d L t p cursor good leads h past entry =
+    record {
+      closed = record {
+        shape = record { words = filled-length P L t; rows = rows; heads = heads };
+        entry = covers d.entry (Some (start_row d)) leads.entry entry;
+        passes = passes;
+      };
+      least = least;
+    }
+  where
+    n : ℕ
+    n = length P.code
+
+    at-leader : (i : ℕ) → i < n → is_leader L i ≡ true → row_at (filled P L t) i ≡ row_at t i
+    at-leader i within e = filled-at P L t i within ∙ filled-leads P L t i e
+
+    rows : (i : ℕ) (row : Row) → row_at (filled P L t) i ≡ Some row → IsRow row
+    rows i row e =
+        let within = filled-within P L t i row e in
+        subst IsRowIn (sym (filled-at P L t i within) ∙ e) (filled-in P d L t i good h.shape within)
+
+    heads : (i : ℕ) (row : Row) → IsLoopHead P.code i → row_at (filled P L t) i ≡ Some row → (r : ℕ) → r < 32 → IsHeadRange d.arg (range_of row r)
+    heads i row head e =
+        let within = filled-within P L t i row e in
+        h.shape.heads i row head (sym (at-leader i within (leads.led.aimed head.place i head.instr (head-within P.code i head) within head.there head.aims)) ∙ e)
+
+    covers : (address : ℕ) (given : Option Row) → ((i : ℕ) → i < n → address ≡ address_at i → is_leader L i ≡ true) → Covers t address given → Covers (filled P L t) address given
+    covers address given leader k i within at' =
+        let words = filled-length P L t in
+        let all = h.shape.words in
+        let inside : i < n = omega arith in
+        subst (IsUnder given) (sym (at-leader i inside (leader i inside at'))) (k i (omega arith) at')
+
+    by_last : (i : ℕ) (row : Row) (instr : Instr) → i < n → filled_row P L t i ≡ Some row → instr_of P.code i ≡ Some instr → IsLast L n i
+        → IsPassedOn (filled P L t) (address_at i) instr (successors (length P.locks) (address_at i) row instr)
+    by_last i row instr within is there last =
+        let s : Successors = successors (length P.locks) (address_at i) row instr in
+        let below = leader-below L i in
+        let words = h.shape.words in
+        let passed = h.passed i last (h.before (leader_of L i) (omega arith) (leader-is L i (leads.led.first (omega arith)))) row instr is there in
+        record {
+          next = covers (address_at i + 4) s.next (λ j inside at'. let here : i + 1 ≡ j = omega arith in subst (λ (k : ℕ). is_leader L k ≡ true) here (last.behind (omega arith))) passed.next;
+          target = λ address aims. covers address s.target (λ j inside at'. leads.led.aimed i j instr within inside there (aims ∙ ap Some at')) (passed.target address aims);
+        }
+
+    by_next : (i : ℕ) (row : Row) (instr : Instr) → i < n → filled_row P L t i ≡ Some row → instr_of P.code i ≡ Some instr → suc i < n → is_leader L (suc i) ≡ false
+        → IsPassedOn (filled P L t) (address_at i) instr (successors (length P.locks) (address_at i) row instr)
+    by_next i row instr within is there inside none =
+        let s : Successors = successors (length P.locks) (address_at i) row instr in
+        let gives : row_behind P i (filled_row P L t i) (instr_of P.code i) ≡ s.next =
+        ap (λ (o : Option Row). row_behind P i o (instr_of P.code i)) is ∙ ap (row_behind P i (Some row)) there in
+        let same : row_at (filled P L t) (suc i) ≡ s.next = filled-at P L t (suc i) inside ∙ filled-behind P L t i none ∙ gives in
+        let plain : is_plain instr ≡ true =
+        ⊎_elim (λ (k : IsPlainAt P.code i). subst (λ (x : Instr). is_plain x ≡ true) (same_Some k.instr instr (sym k.there ∙ there)) k.plain)
+        (λ (y : is_leader L (i + 1) ≡ true). absurd (true≢false (sym (subst (λ (k : ℕ). is_leader L k ≡ true) (next-suc i) y) ∙ none)))
+        (leads.led.behind i within (omega arith)) in
+        record {
+          next = λ j l at'. let here : suc i ≡ j = omega arith in
+              subst (λ (k : ℕ). IsUnder s.next (row_at (filled P L t) k)) here (subst (IsUnder s.next) (sym same) (under-itself s.next));
+          target = λ address aims. absurd (plain-nowhere (address_at i) instr address plain aims);
+        }
+
+    passes : (i : ℕ) (row : Row) (instr : Instr) → row_at (filled P L t) i ≡ Some row → instr_of P.code i ≡ Some instr
+        → IsPassedOn (filled P L t) (address_at i) instr (successors (length P.locks) (address_at i) row instr)
+    passes i row instr e there =
+        let within = filled-within P L t i row e in
+        let is : filled_row P L t i ≡ Some row = sym (filled-at P L t i within) ∙ e in
+        ⊎_elim (λ (last : IsLast L n i). by_last i row instr within is there last)
+        (λ (inner : (suc i < n) × (is_leader L (suc i) ≡ false)). by_next i row instr within is there inner.0 inner.1)
+        (last-or-not L n i within)
+
+    least : (all : Table) → IsClosed P d all → (i : ℕ) → IsUnder (row_at (filled P L t) i) (row_at all i)
+    least all closed i =
+        ⊎_elim
+        (λ (inside : i < n). subst (λ (o : Option Row). IsUnder o (row_at all i)) (sym (filled-at P L t i inside)) (filled-below P d L t all i good h.shape closed (h.least all closed) inside))
+        (λ (out : n ≤ i). subst (λ (o : Option Row). IsUnder o (row_at all i)) (sym (filled-past P L t i out)) tt)
+        (cases_lt i n)
+
+-- ---- heads
 
 pub mark-first : (code : List ℕ) (n : ℕ) → AreMarked code 0 (replicate n false)
 mark-first code n i l = (λ e. absurd (true≢false (sym e ∙ unmarked n i)), λ h. absurd (let b = h.before in omega arith))

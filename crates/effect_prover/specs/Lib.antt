@@ -2,6 +2,7 @@ pub mod Range
 pub mod Row
 pub mod Successors
 pub mod Table
+pub mod Blocks
 pub mod Inside
 pub mod Answer
 pub mod Sweep

@@ -9,6 +9,7 @@ use Rattle.effect_prover.specs.Range.{LiesWithin, IsRange}
 use Rattle.effect_prover.specs.Row.{range_of, IsUnder}
 use Rattle.effect_prover.specs.Successors.{successors}
 use Rattle.effect_prover.specs.Table.{Table, row_at, address_at, instr_of, IsLoopHead, IsEnd, IsHeadRange, IsTable, Covers, IsPassedOn, IsClosed}
+use Rattle.effect_prover.specs.Blocks.{is_leader, leader_of, IsLast, filled_row}
 
 -- ---- joined ranges and rows
 
@@ -90,18 +91,19 @@ abbrev pub IsBelowAll : ProgramParts → TaskDecl → Table → Type 0
 IsBelowAll P d table = (all : Table) → IsClosed P d all → IsTableUnder table all
 
 -- the rows of the word's successors contain what it gives them
-abbrev pub HasPassedOn : ProgramParts → Table → ℕ → Type 0
-HasPassedOn P table i =
-    (row : Row) (instr : Instr) → row_at table i ≡ Some row → instr_of P.code i ≡ Some instr
+abbrev pub HasPassedOn : ProgramParts → List Bool → Table → ℕ → Type 0
+HasPassedOn P leaders table i =
+    (row : Row) (instr : Instr) → filled_row P leaders table i ≡ Some row → instr_of P.code i ≡ Some instr
     → IsPassedOn table (address_at i) instr (successors (length P.locks) (address_at i) row instr)
 
--- the state of the sweep: each word that isn't pending has passed on, and none before the cursor is pending
-pub record IsSwept (P : ProgramParts) (d : TaskDecl) (table : Table) (pending : List Bool) (cursor : ℕ) : Type 0 where
+-- the state of the sweep, whose table has the rows at the leaders: the last word of each block whose leader isn't pending has
+-- passed on, and no leader before the cursor is pending
+pub record IsSwept (P : ProgramParts) (d : TaskDecl) (leaders : List Bool) (table : Table) (pending : List Bool) (cursor : ℕ) : Type 0 where
   pub shape : IsTable P d table
   pub least : IsBelowAll P d table
   pub marks : length pending ≡ length table
-  pub passed : (i : ℕ) → row_is_pending pending i ≡ false → HasPassedOn P table i
-  pub before : (i : ℕ) → i < cursor → row_is_pending pending i ≡ false
+  pub passed : (i : ℕ) → IsLast leaders (length P.code) i → row_is_pending pending (leader_of leaders i) ≡ false → HasPassedOn P leaders table i
+  pub before : (i : ℕ) → i < cursor → is_leader leaders i ≡ true → row_is_pending pending i ≡ false
 
 -- what is given to an address, if there is one, is covered there
 abbrev pub CoversAt : Table → Option ℕ → Option Row → Type 0

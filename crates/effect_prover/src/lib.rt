@@ -7,6 +7,7 @@
 //! are those of the RISC-V unprivileged manual, RV32I.
 #![tactic(auto)]
 
+mod blocks;
 mod inside;
 mod join;
 mod laws;

@@ -1,15 +1,17 @@
 //! The prover: each task's least table, and the first place of it that isn't inside.
-ghost use Rattle.std.specs.Prelude.{◌≡◌, ℕ, ◌<◌, Some, Decides, length, IfOk};
+ghost use Rattle.std.specs.Prelude.{◌≡◌, ℕ, ◌<◌, Some, Decides, length, IfOk, IfSome};
 ghost use Rattle.region_table.specs.Program.{IsProgram};
 ghost use Rattle.region_table.specs.Numbers.{HasWords};
 ghost use Rattle.effect_prover.specs.declared.row.Row.{Row};
 ghost use Rattle.effect_prover.specs.declared.proved.Proved.TheVariants.{Inside};
 ghost use Rattle.effect_prover.specs.Row.{IsRow};
 ghost use Rattle.effect_prover.specs.Table.{row_at};
+ghost use Rattle.effect_prover.specs.Blocks.{HasLeaders, filled_row, filled};
 ghost use Rattle.effect_prover.specs.Inside.{IsInsideAt, IsFirstOutside};
 ghost use Rattle.effect_prover.specs.Sweep.{HasHeads};
 ghost use Rattle.effect_prover.specs.Answer.{IsProversAnswer, RunsInside, IsTaskAnswer, IsPhaseAnswer};
 
+use crate::blocks::{leaders, row_here};
 use crate::inside::is_inside;
 use crate::laws::a_proven_program_runs_inside;
 use crate::proved::Proved;
@@ -21,32 +23,47 @@ use region_table::{Phase, Program, TaskDecl, a_program_has_words, a_program_is_w
 use std::alloc::Global;
 
 /// Whether what a word's row says of its instruction is inside.
-fn place_is_inside(program: &Program, task: &TaskDecl, rows: &[Option<Row>], place: usize) -> bool
+fn place_is_inside(
+    program: &Program,
+    task: &TaskDecl,
+    leaders: &[bool],
+    rows: &[Option<Row>],
+    row: &Option<Row>,
+    place: usize,
+) -> bool
     requires program { IsProgram program.now }
-    requires words { length rows.now ≡ length program.now.code }
-    requires rows { (i : ℕ) (row : Row) → row_at rows.now i ≡ Some row → IsRow row }
-    requires within { place < length rows.now }
-    ensures { Decides result (IsInsideAt program.now task.now rows.now place) }
+    requires within { place < length program.now.code }
+    requires row { IfSome row.now IsRow }
+    requires here { row.now ≡ filled_row program.now leaders.now rows.now place }
+    ensures { Decides result (IsInsideAt program.now task.now (filled program.now leaders.now rows.now) place) }
 {
-    let Some(row) = rows[place] else {
+    let Some(row) = row else {
         return true;
     };
     let Some(instr) = instr_at(program, place) else {
         return true;
     };
-    is_inside(program, task, &row, &instr)
+    is_inside(program, task, row, &instr)
 }
 
-/// The first word of a table that isn't inside.
+/// The first word of a table that isn't inside, where these are the table's rows at the leaders.
 #[tactic(auto, using(crate::proofs::AnswerLemmas::answers))]
-fn first_outside(program: &Program, task: &TaskDecl, rows: &[Option<Row>]) -> Option<usize>
+fn first_outside(
+    program: &Program,
+    task: &TaskDecl,
+    leaders: &[bool],
+    rows: &[Option<Row>],
+) -> Option<usize>
     requires program { IsProgram program.now }
+    requires leaders { HasLeaders program.now task.now leaders.now }
     requires words { length rows.now ≡ length program.now.code }
-    requires rows { (i : ℕ) (row : Row) → row_at rows.now i ≡ Some row → IsRow row }
-    ensures { IsFirstOutside program.now task.now rows.now result }
+    requires rows { (i : ℕ) (row : Row) → row_at (filled program.now leaders.now rows.now) i ≡ Some row → IsRow row }
+    ensures { IsFirstOutside program.now task.now (filled program.now leaders.now rows.now) result }
 {
+    let mut row = None;
     for place in 0..rows.len() {
-        if !place_is_inside(program, task, rows, place) {
+        row = row_here(program, leaders, rows, place, row);
+        if !place_is_inside(program, task, leaders, rows, &row, place) {
             return Some(place);
         }
     }
@@ -64,8 +81,9 @@ fn check_task(
     requires heads { HasHeads program.now.code heads.now }
     ensures { IfOk result (IsTaskAnswer program.now task.now) }
 {
-    let rows = least_table(alloc, program, task, heads)?;
-    Ok(first_outside(program, task, rows.as_slice()))
+    let leaders = leaders(alloc, program, task)?;
+    let rows = least_table(alloc, program, task, heads, leaders.as_slice())?;
+    Ok(first_outside(program, task, leaders.as_slice(), rows.as_slice()))
 }
 
 /// A word that isn't inside: the core whose task reaches it, and its place.

@@ -39,16 +39,24 @@ impl Row {
         self.ranges[reg.number() as usize]
     }
 
-    /// The row with another range of a register; a write to x0 is dropped.
+    /// Gives a register another range; a write to x0 is dropped.
+    pub(crate) fn set(&mut self, reg: Reg, range: Range)
+        requires { IsRow self.old }
+        ensures { self.new ≡ with_range self.old reg range }
+    {
+        let number = reg.number() as usize;
+        if number != 0 {
+            self.ranges[number] = range;
+        }
+    }
+
+    /// The row with another range of a register.
     pub(crate) fn with(&self, reg: Reg, range: Range) -> Row
         requires { IsRow self.now }
         ensures { result ≡ with_range self.now reg range }
     {
         let mut row = *self;
-        let number = reg.number() as usize;
-        if number != 0 {
-            row.ranges[number] = range;
-        }
+        row.set(reg, range);
         row
     }
 

@@ -1,7 +1,8 @@
 //! Where a task can go on from an instruction, by the form of the instruction.
-ghost use Rattle.std.specs.Prelude.{◌≡◌, ◌^◌, ◌≤◌, ◌<◌, ◌+◌};
+ghost use Rattle.std.specs.Prelude.{◌≡◌, ℕ, true, ◌^◌, ◌≤◌, ◌<◌, ◌+◌};
 ghost use Rattle.rv_isa.specs.Range.{IsEncodable, HasRegisters};
-ghost use Rattle.effect_prover.specs.Row.{with_range, IsRow};
+ghost use Rattle.effect_prover.specs.Row.{IsRow};
+ghost use Rattle.effect_prover.specs.Blocks.{is_plain};
 ghost use Rattle.effect_prover.specs.Successors.{no_successors, falls_through, jumps, where_equal, where_less, where_not_less, where_different, are_low, less_branches, not_less_branches, any_branches, branches, branch_on, loadable, held_with, held_without, held_after_acquire, held_after_release, calls, successors};
 
 use crate::join::{greater, lesser};
@@ -249,12 +250,36 @@ impl Row {
         }
     }
 
-    /// The row with another range of a register, at the next word.
-    fn falls_through_with(&self, rd: Reg, range: Range) -> Successors
-        requires { IsRow self.now }
-        ensures { result ≡ falls_through (with_range self.now rd range) }
+    /// Takes the row past an instruction at the address `pc` that goes on to the next word, and nowhere else.
+    pub(crate) fn step(&mut self, pc: u32, instr: &Instr)
+        requires row { IsRow self.old }
+        requires plain { is_plain instr.now ≡ true }
+        ensures { (locks : ℕ) → successors locks pc self.old instr.now ≡ falls_through self.new }
     {
-        Successors::falls_through(&self.with(rd, range))
+        match *instr {
+            Instr::Lui { rd, imm } => self.set(rd, Range::one(imm << 12)),
+            Instr::Auipc { rd, imm } => self.set(rd, Range::one(pc.wrapping_add(imm << 12))),
+            Instr::Load { width, rd, .. } => self.set(rd, loadable(width)),
+            Instr::OpImm { op, rd, a, imm } => {
+                let results = Range::computed_with(op, self.range(a), imm.cast_unsigned());
+                self.set(rd, results);
+            }
+            Instr::Op { op, rd, a, b } => {
+                self.set(rd, Range::computed(op, self.range(a), self.range(b)));
+            }
+            _ => {}
+        }
+    }
+
+    /// The row behind such an instruction.
+    fn stepped(&self, pc: u32, instr: &Instr) -> Successors
+        requires row { IsRow self.now }
+        requires plain { is_plain instr.now ≡ true }
+        ensures { (locks : ℕ) → result ≡ successors locks pc self.now instr.now }
+    {
+        let mut row = *self;
+        row.step(pc, instr);
+        Successors::falls_through(&row)
     }
 
     /// The successors of an instruction at the address `pc`, in a program with so many locks.
@@ -265,24 +290,11 @@ impl Row {
         ensures { result ≡ successors locks pc self.now instr.now }
     {
         match *instr {
-            Instr::Lui { rd, imm } => self.falls_through_with(rd, Range::one(imm << 12)),
-            Instr::Auipc { rd, imm } => self.falls_through_with(
-                rd,
-                Range::one(pc.wrapping_add(imm << 12)),
-            ),
             Instr::Jal { rd, .. } => Successors::jumps(&self.with(rd, Range::one(pc + 4))),
             Instr::Branch { cond, a, b, .. } => self.branch_on(cond, a, b),
-            Instr::Load { width, rd, .. } => self.falls_through_with(rd, loadable(width)),
-            Instr::OpImm { op, rd, a, imm } => {
-                let results = Range::computed_with(op, self.range(a), imm.cast_unsigned());
-                self.falls_through_with(rd, results)
-            }
-            Instr::Op { op, rd, a, b } => {
-                self.falls_through_with(rd, Range::computed(op, self.range(a), self.range(b)))
-            }
-            Instr::Store { .. } | Instr::Fence => Successors::falls_through(self),
             Instr::Ecall => self.calls(locks, self.ranges[A7], self.ranges[A0]),
             Instr::Jalr { .. } | Instr::Ebreak => Successors::stays(),
+            _ => self.stepped(pc, instr),
         }
     }
 }

@@ -6,8 +6,10 @@ ghost use Rattle.effect_prover.specs.Row.{start_row, IsRow};
 ghost use Rattle.effect_prover.specs.Successors.{successors};
 ghost use Rattle.effect_prover.specs.declared.row.Row.{Row};
 ghost use Rattle.effect_prover.specs.Table.{row_at, address_at, instr_of, target_of, Covers, IsTable, IsLeastTable};
+ghost use Rattle.effect_prover.specs.Blocks.{HasLeaders, filled};
 ghost use Rattle.effect_prover.specs.Sweep.{HasHeads, IsJoinedTo, IsPut, IsTableUnder, IsSwept, IsRowGiven, AreMarked, table_room};
 
+use crate::blocks::last_of_block;
 use crate::row::Row;
 use crate::successors::Successors;
 use dn_base::Memory;
@@ -27,7 +29,7 @@ pub(crate) fn address(place: usize) -> u32
 }
 
 /// The place of the code word at an address, among so many.
-fn place_of(address: u32, words: usize) -> Option<usize>
+pub(crate) fn place_of(address: u32, words: usize) -> Option<usize>
     ensures some { IfSome result (λ place. (place < words) × (address ≡ address_at place)) }
     ensures none { IfNone result ((i : ℕ) → i < words → address ≡ address_at i → ⊥) }
 {
@@ -39,7 +41,7 @@ fn place_of(address: u32, words: usize) -> Option<usize>
 }
 
 /// The address at which a branch or JAL aims.
-fn target(pc: u32, instr: &Instr) -> Option<u32>
+pub(crate) fn target(pc: u32, instr: &Instr) -> Option<u32>
     ensures { result ≡ target_of pc instr.now }
 {
     match *instr {
@@ -145,34 +147,44 @@ fn successors_at(program: &Program, place: usize, row: &Row, instr: &Instr) -> S
     row.successors(program.locks.len() as u32, address(place), instr)
 }
 
-/// Passes a word's row on to its successors, where that is pending, and says where the sweep goes on.
+/// Passes the row of a block's leader through the block, and on to the successors of its last word, where the leader is
+/// pending, and says where the sweep goes on.
 fn pass(
     program: &Program,
     task: &TaskDecl,
     heads: &[bool],
+    leaders: &[bool],
     rows: &mut [Option<Row>],
     pending: &mut [bool],
     at: usize,
 ) -> usize
     requires program { IsProgram program.now }
     requires heads { HasHeads program.now.code heads.now }
+    requires leaders { HasLeaders program.now task.now leaders.now }
     requires within { at < length program.now.code }
-    requires swept { IsSwept program.now task.now rows.old pending.old at }
-    ensures swept { IsSwept program.now task.now rows.new pending.new result }
+    requires swept { IsSwept program.now task.now leaders.now rows.old pending.old at }
+    ensures swept { IsSwept program.now task.now leaders.now rows.new pending.new result }
     ensures grows { IsTableUnder rows.old rows.new }
     ensures next { result ≤ at + 1 }
     ensures room_falls { table_room rows.new ≤ table_room rows.old }
     ensures room_less { result ≤ at → table_room rows.new < table_room rows.old }
 {
+    if !leaders[at] {
+        return at + 1;
+    }
     if !pending[at] {
         return at + 1;
     }
     pending[at] = false;
-    let (Some(row), Some(instr)) = (rows[at], instr_at(program, at)) else {
+    let Some(row) = rows[at] else {
         return at + 1;
     };
-    let pc = address(at);
-    let next = successors_at(program, at, &row, &instr);
+    let last = last_of_block(program, leaders, at, &row);
+    let Some(instr) = instr_at(program, last.place) else {
+        return at + 1;
+    };
+    let pc = address(last.place);
+    let next = successors_at(program, last.place, &last.row, &instr);
     let cursor = give(
         program,
         task,
@@ -195,20 +207,22 @@ fn pass(
     )
 }
 
-/// Sweeps the words from the task's entry on, upwards, and back where a row before grew, until no word is pending.
+/// Sweeps the blocks from the task's entry on, upwards, and back where a leader's row before grew, until none is pending.
 fn sweep(
     program: &Program,
     task: &TaskDecl,
     heads: &[bool],
+    leaders: &[bool],
     rows: &mut [Option<Row>],
     pending: &mut [bool],
 )
     requires program { IsProgram program.now }
     requires argument { task.now.arg < 2 ^ 32 }
     requires heads { HasHeads program.now.code heads.now }
+    requires leaders { HasLeaders program.now task.now leaders.now }
     requires rows { rows.old ≡ replicate (length program.now.code) None }
     requires pending { pending.old ≡ replicate (length program.now.code) false }
-    ensures { IsLeastTable program.now task.now rows.new }
+    ensures { IsLeastTable program.now task.now (filled program.now leaders.now rows.new) }
 {
     let words = rows.len();
     let start = Some(Row::start(task));
@@ -223,13 +237,13 @@ fn sweep(
         words,
     );
     while at < words {
-        at = pass(program, task, heads, rows, pending, at);
+        at = pass(program, task, heads, leaders, rows, pending, at);
     }
 }
 
-/// The least closed table of a task.
+/// The rows of the least closed table of a task at the leaders of its blocks, which fill it up.
 ///
-/// Its time grows with how often rows change, and where they change at a head, with the words from there on.
+/// A block is passed again only where its leader's row grew. README.md says how often that can be.
 ///
 /// # Errors
 /// `Memory` where there is no room for the table.
@@ -238,10 +252,13 @@ pub(crate) fn least_table(
     program: &Program,
     task: &TaskDecl,
     heads: &[bool],
+    leaders: &[bool],
 ) -> Result<Vec<Option<Row>>, Memory>
     requires program { IsProgram program.now }
     requires heads { HasHeads program.now.code heads.now }
-    ensures { IfOk result (λ rows. IsLeastTable program.now task.now rows.items) }
+    requires leaders { HasLeaders program.now task.now leaders.now }
+    ensures least { IfOk result (λ rows. IsLeastTable program.now task.now (filled program.now leaders.now rows.items)) }
+    ensures words { IfOk result (λ rows. length rows.items ≡ length program.now.code) }
 {
     let words = heads.len();
     // for the proof alone: the read says that the argument has 32 bits
@@ -252,6 +269,7 @@ pub(crate) fn least_table(
         program,
         task,
         heads,
+        leaders,
         rows.as_mut_slice(),
         pending.as_mut_slice(),
     );

@@ -1,4 +1,4 @@
-use Rattle.std.proofs.Common.{true, false, sym, ◌∙◌}
+use Rattle.std.proofs.Common.{sym, ◌∙◌}
 use Rattle.std.proofs.lemmas.Bool.{true≢false}
 use Rattle.effect_prover.specs.Table.{row_at}
 use Rattle.effect_prover.proofs.TableLemmas.{row-known, put-none, put-some, to-count}

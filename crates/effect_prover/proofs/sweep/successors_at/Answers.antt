@@ -1,5 +1,4 @@
 use Rattle.std.proofs.Common.{sym, subst, arith}
-use Rattle.effect_prover.specs.Successors.{successors}
 use Rattle.effect_prover.proofs.SuccessorLemmas.{AreRows, successors-rows}
 use Rattle.effect_prover.proofs.TableLemmas.{known-rows}
 use Rattle.effect_prover.proofs.sweep.successors_at.Goals as goal

@@ -26,7 +26,7 @@ loop-at-init c =
     (subst (λ (p : List Bool). IsRowGiven P d (replicate n None) p (Some d.entry) (Some start) (length c.args.rows.now) c.give-at.new.rows c.give-at.new.pending c.give-at.result) c.requires.pending
     (subst (λ (t : Table). IsRowGiven P d t c.args.pending.now (Some d.entry) (Some start) (length c.args.rows.now) c.give-at.new.rows c.give-at.new.pending c.give-at.result) c.requires.rows c.give-at.ensures)) in
     record {
-      swept = swept-first P d n c.give-at.new.rows c.give-at.new.pending c.give-at.result start refl c.start.ensures given;
+      swept = swept-first P d c.args.leaders.now n c.give-at.new.rows c.give-at.new.pending c.give-at.result start refl c.start.ensures given;
       entry = subst (λ (x : Row). Covers c.give-at.new.rows d.entry (Some x)) c.start.ensures (given.covers d.entry refl);
       within = c.give-at.ensures.within;
       words = words;
@@ -58,4 +58,4 @@ returns c =
     let rows = c.loop-at.invariant.swept.shape.words in
     let words = c.loop-at.invariant.words in
     let past = c.loop-at-test.false in
-    swept-least c.args.program.now c.args.task.now c.loop-at.rows c.loop-at.pending c.loop-at.at c.loop-at.invariant.swept (omega arith) c.loop-at.invariant.entry
+    swept-least c.args.program.now c.args.task.now c.args.leaders.now c.loop-at.rows c.loop-at.pending c.loop-at.at c.requires.program c.requires.leaders c.loop-at.invariant.swept (omega arith) c.loop-at.invariant.entry

@@ -7,7 +7,7 @@ use Rattle.effect_prover.proofs.sweep.sweep.Given as goal
 abbrev pub invariant-loop-at : goal.invariant-loop-at
 invariant-loop-at l =
     record {
-      swept : IsSwept l.program l.task l.rows l.pending l.at;
+      swept : IsSwept l.program l.task l.leaders l.rows l.pending l.at;
       entry : Covers l.rows l.task.entry (Some (start_row l.task));
       within : l.at ≤ l.words;
       words : l.words ≡ length l.program.code;

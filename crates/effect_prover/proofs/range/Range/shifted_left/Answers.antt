@@ -1,4 +1,4 @@
-use Rattle.std.proofs.Common.{◌*◌, ◌/◌, ◌-◌, ◌^◌, ◌<◌, ◌≤◌, sym, arith, ⊎_elim, ◌∙◌, nat_lt}
+use Rattle.std.proofs.Common.{◌*◌, ◌/◌, ◌^◌, ◌<◌, ◌≤◌, sym, arith, ⊎_elim, ◌∙◌, nat_lt}
 use Rattle.std.proofs.lemmas.Bool.{cond-false, le-ltb, cases_lt}
 use Rattle.std.proofs.lemmas.Nat.{le-div, pow_pos}
 use Rattle.effect_prover.specs.Range.{every}

@@ -1,0 +1,33 @@
+use Rattle.std.proofs.Common.{Option, sym, subst, arith}
+use Rattle.std.specs.Option.{IfSome}
+use Rattle.effect_prover.specs.declared.row.Row.{Row}
+use Rattle.effect_prover.specs.Row.{IsRow}
+use Rattle.effect_prover.specs.Blocks.{filled}
+use Rattle.effect_prover.proofs.AnswerLemmas.{all-inside}
+use Rattle.effect_prover.proofs.TableLemmas.{filled-known, before-known}
+use Rattle.effect_prover.proofs.BlockLemmas.{filled-length}
+use Rattle.effect_prover.proofs.prover.first_outside.Goals as goal
+
+pub row_here-row-requires-clause-row : goal.row_here-row-requires-clause-row
+row_here-row-requires-clause-row c =
+    let words = c.requires.words in
+    let within = c.loop-place-test.true in
+    subst (λ (o : Option Row). IfSome o IsRow) (sym c.loop-place.invariant.row)
+    (before-known c.args.program.now c.args.leaders.now c.args.rows.now c.loop-place.place (omega arith) c.requires.rows)
+
+pub place_is_inside-requires-clause-row : goal.place_is_inside-requires-clause-row
+place_is_inside-requires-clause-row c =
+    let words = c.requires.words in
+    let within = c.loop-place-test.true in
+    subst (λ (o : Option Row). IfSome o IsRow) (sym c.row_here-row.ensures)
+    (filled-known c.args.program.now c.args.leaders.now c.args.rows.now c.loop-place.place (omega arith) c.requires.rows)
+
+pub returns : goal.returns
+returns c =
+    let P = c.args.program.now in
+    let L = c.args.leaders.now in
+    let t = c.args.rows.now in
+    let past = c.loop-place-test.false in
+    let words = c.requires.words in
+    let all = filled-length P L t in
+    all-inside P c.args.task.now (filled P L t) c.loop-place.place (omega arith) c.loop-place.invariant.inside
