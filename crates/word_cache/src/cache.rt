@@ -1,11 +1,12 @@
 ghost use Rattle.std.specs.Prelude.{◌≡◌, ◌≢◌, ℕ, ◌+◌, ◌*◌, ◌<◌, ◌≤◌, ◌||◌, true, None, [], IfOk, IfSome};
 ghost use Rattle.std.specs.Option.{is_some};
-ghost use Rattle.std.specs.Prelude.{length};
+ghost use Rattle.std.specs.Prelude.{length, slice_index_or};
+ghost use Rattle.word_cache.specs.declared.row.Place.{Place};
 ghost use Rattle.std.specs.List.{filter};
 ghost use Rattle.word_cache.specs.Cache.{Cache, IsCache, in_set, lookup, put, changed, without, touched, has_room, IsProbe, victim_of, may_go, pending_count, dropped_written, dropped_signed};
 ghost use Rattle.word_cache.specs.Row.{IsCacheRow, HaveDistinctTimes, pairs_by_use};
 
-use crate::edits::{change_entry, recount, take_out, use_again, write_last};
+use crate::edits::{change_entry, take_out, use_again, write_last};
 use crate::grant::drop_stale;
 use crate::looks::{entry_of, has_free, probe_of, set_of, victim_in};
 use crate::places::Row;
@@ -26,18 +27,17 @@ pub struct WordCache {
     ways: u32,
     places: Row,
     clock: u64,
-    pending: u32,
 }
 
 impl Model for WordCache {
     ghost use Rattle.word_cache.specs.Cache.{Cache};
-    ghost use Rattle.word_cache.specs.Row.{IsCacheState, pairs_by_use};
+    ghost use Rattle.word_cache.specs.Row.{IsCacheRow, pairs_by_use};
 
     ghost Value = { Cache };
 
     ghost view = { λ c. record { sets = c.sets; ways = c.ways; pairs = pairs_by_use c.places } };
 
-    ghost invariant = { λ c. IsCacheState c.sets c.ways c.clock c.pending c.places };
+    ghost invariant = { λ c. IsCacheRow c.sets c.ways c.clock c.places };
 }
 
 /// The places of an empty cache, numbered from 1.
@@ -48,6 +48,7 @@ fn empty_places(alloc: Global, sets: u32, ways: u32) -> Result<Vec<Place>, Memor
     requires most_ways { ways ≤ 16 }
     ensures row { IfOk result (λ places. IsCacheRow sets ways (sets * ways + 1) places.items) }
     ensures pairs { IfOk result (λ places. pairs_by_use places.items ≡ []) }
+    ensures free { IfOk result (λ places. (i : ℕ) (d : Place) → i < length places.items → (slice_index_or places.items i d).pair ≡ None) }
 {
     let mut places = Vec::new(alloc);
     for before in 0..u64::from(sets * ways) {
@@ -76,7 +77,6 @@ impl WordCache {
             ways,
             places: Row::new(alloc, empty_places(alloc, sets, ways)?)?,
             clock: u64::from(sets * ways) + 1,
-            pending: 0,
         })
     }
 
@@ -134,7 +134,7 @@ impl WordCache {
     pub fn pending(&self) -> u32
         ensures { result ≡ pending_count self.now.pairs }
     {
-        self.pending
+        self.places.pending() as u32
     }
 
     /// Gives the word this entry; its pair is the one used last then. The word has a pair, or its set has room. Takes no
@@ -152,7 +152,7 @@ impl WordCache {
         requires { (is_some (lookup word.0 self.old.pairs) || has_room self.old word.0) ≡ true }
         ensures { self.new ≡ record self.old { pairs = put word entry self.old.pairs } }
     {
-        let had = write_last(
+        write_last(
             &mut self.places,
             &mut self.clock,
             self.sets,
@@ -161,7 +161,6 @@ impl WordCache {
             word,
             entry,
         );
-        self.pending = recount(self.pending, had, Some(entry));
     }
 
     /// Gives the word's pair this entry; the pair keeps its place in the order of use. The word has a pair. Takes no memory.
@@ -178,8 +177,7 @@ impl WordCache {
         requires { lookup word.0 self.old.pairs ≢ None }
         ensures { self.new ≡ record self.old { pairs = changed word.0 entry self.old.pairs } }
     {
-        let had = change_entry(&mut self.places, self.sets, self.ways, place, word, entry);
-        self.pending = recount(self.pending, had, Some(entry));
+        change_entry(&mut self.places, self.sets, self.ways, place, word, entry);
     }
 
     /// Makes the word's pair the one used last. The word has a pair. Takes no memory.
@@ -218,8 +216,7 @@ impl WordCache {
     pub fn remove_at(&mut self, place: usize, word: WordId)
         ensures { self.new ≡ record self.old { pairs = without word.0 self.old.pairs } }
     {
-        let had = take_out(&mut self.places, self.sets, self.ways, place, word);
-        self.pending = recount(self.pending, had, None);
+        take_out(&mut self.places, self.sets, self.ways, place, word);
     }
 
     /// Drops what a phase leaves stale: the Valid pairs that aren't marked and whose word is in the set. Every other Valid
@@ -231,8 +228,9 @@ impl WordCache {
     }
 
     /// Drops what may be stale at a grant: the Valid pairs whose word is in the set and may have been written in this phase
-    /// under the lock, as the signature says. All other pairs keep their order. It looks up the set's words where they are
-    /// no more than the places, and else looks at every place. Takes no memory.
+    /// under the lock, as the signature says. All other pairs keep their order. It looks at no place where the cache has no
+    /// Valid pair or the signature holds no word of this phase. Else it looks up the set's words where they are no more than
+    /// the cache's sets, and at every place where they are more. Takes no memory.
     pub fn drop_signed(&mut self, signature: &Signature, phase: PhaseId, words: &WordSet)
         ensures { self.new ≡ record self.old { pairs = dropped_signed signature.now phase.0 words.now self.old.pairs } }
     {

@@ -1,31 +1,34 @@
-ghost use Rattle.std.specs.Prelude.{◌≡◌, ◌↔◌, ℕ, ◌<◌, ◌+◌, ◌*◌, IsTrue, IfOk, None, length, map, slice_index_or, slice_set};
+ghost use Rattle.std.specs.Prelude.{◌≡◌, ◌↔◌, ℕ, ◌<◌, ◌≤◌, ◌+◌, ◌*◌, IsTrue, IfOk, None, length, map, count_by, slice_index_or, slice_set, if◌then◌else◌};
 ghost use Rattle.word_cache.specs.declared.row.Place.{Place};
-ghost use Rattle.word_cache.specs.Row.{has_word, place_word};
+ghost use Rattle.word_cache.specs.Row.{has_word, place_word, has_pending, has_copy};
 
-use crate::row::Place;
+use crate::row::{Entry, Place};
 use dn_base::{Memory, WordId};
 use std::alloc::Global;
 use std::marker::Model;
 
-/// The places of a cache, and beside them the words alone: a pass over a set reads those, which lie closer together.
+/// The places of a cache. Beside them are kept the words alone, since a pass over a set reads those, which lie closer
+/// together; and how many places have a pending entry, and how many a copy.
 ///
 /// A contract sees the list of places.
 #[derive(Debug, Drop)]
 pub(crate) struct Row {
     places: Vec<Place>,
     words: Vec<Option<WordId>>,
+    pending: usize,
+    copies: usize,
 }
 
 impl Model for Row {
-    ghost use Rattle.std.specs.Prelude.{◌≡◌, List, map};
+    ghost use Rattle.std.specs.Prelude.{List};
     ghost use Rattle.word_cache.specs.declared.row.Place.{Place};
-    ghost use Rattle.word_cache.specs.Row.{place_word};
+    ghost use Rattle.word_cache.specs.Row.{IsTallied};
 
     ghost Value = { List Place };
 
     ghost view = { λ r. r.places.items };
 
-    ghost invariant = { λ r. r.words.items ≡ map place_word r.places.items };
+    ghost invariant = { λ r. IsTallied r.places.items r.words.items r.pending r.copies };
 }
 
 /// The word whose pair stands at the place, if there is one.
@@ -36,6 +39,32 @@ fn place_word(place: &Place) -> Option<WordId>
         Some((word, _)) => Some(word),
         None => None,
     }
+}
+
+/// Whether the place has a pending entry.
+fn has_pending(place: &Place) -> bool
+    ensures { result ≡ has_pending place.now }
+{
+    match place.pair {
+        Some((_, entry)) => entry.is_pending(),
+        None => false,
+    }
+}
+
+/// Whether the place has a copy.
+fn has_copy(place: &Place) -> bool
+    ensures { result ≡ has_copy place.now }
+{
+    matches!(place.pair, Some((_, Entry::Valid { .. })))
+}
+
+/// How many places pass a test, once one that did or didn't is replaced by one that does or doesn't.
+fn recount(count: usize, did: bool, does: bool) -> usize
+    requires did { (if did then 1 else 0) ≤ count }
+    requires count { count < 9223372036854775808 }
+    ensures { result + (if did then 1 else 0) ≡ count + (if does then 1 else 0) }
+{
+    count + usize::from(does) - usize::from(did)
 }
 
 /// The words of places.
@@ -50,15 +79,21 @@ fn words_of(alloc: Global, places: &[Place]) -> Result<Vec<Option<WordId>>, Memo
 }
 
 impl Row {
-    /// The row of these places.
+    /// The row of these places, of which none has a pair.
     ///
     /// # Errors
     /// `Memory` where there is no room for the words.
     pub(crate) fn new(alloc: Global, places: Vec<Place>) -> Result<Row, Memory>
+        requires { (i : ℕ) (d : Place) → i < length places.items → (slice_index_or places.items i d).pair ≡ None }
         ensures { IfOk result (λ row. row ≡ places.items) }
     {
         let words = words_of(alloc, places.as_slice())?;
-        Ok(Row { places, words })
+        Ok(Row {
+            places,
+            words,
+            pending: 0,
+            copies: 0,
+        })
     }
 
     /// How many places there are.
@@ -66,6 +101,20 @@ impl Row {
         ensures { result ≡ length self.now }
     {
         self.places.len()
+    }
+
+    /// How many places have a pending entry.
+    pub(crate) fn pending(&self) -> usize
+        ensures { result ≡ count_by has_pending self.now }
+    {
+        self.pending
+    }
+
+    /// How many places have a copy.
+    pub(crate) fn copies(&self) -> usize
+        ensures { result ≡ count_by has_copy self.now }
+    {
+        self.copies
     }
 
     /// The places.
@@ -104,6 +153,11 @@ impl Row {
         requires { index < length self.old }
         ensures { self.new ≡ slice_set self.old index place }
     {
+        let old = self.at(index);
+        let pending = recount(self.pending, has_pending(&old), has_pending(&place));
+        let copies = recount(self.copies, has_copy(&old), has_copy(&place));
+        self.pending = pending;
+        self.copies = copies;
         self.words[index] = place_word(&place);
         self.places[index] = place;
     }
