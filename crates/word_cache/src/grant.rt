@@ -6,8 +6,7 @@ ghost use Rattle.word_cache.specs.Row.{IsPlaceRow, IsCacheRow, pairs_by_use, is_
 
 use crate::edits::take_out;
 use crate::looks::entry_of;
-use crate::places::Row;
-use crate::row::{Entry, NO_PLACE, Place};
+use crate::row::{Entry, Row};
 use crate::sweep::sweep_grant;
 use dn_base::{PhaseId, WordId};
 use region_table::{Interval, WordSet};
@@ -25,7 +24,7 @@ fn is_copy(entry: Option<Entry>) -> bool
 
 /// Whether the word has a copy that may be stale at a grant.
 fn is_stale(
-    row: &[Place],
+    row: &Row,
     sets: u32,
     ways: u32,
     signature: &Signature,
@@ -51,8 +50,8 @@ fn drop_word(
     ensures row { (clock : ℕ) → IsCacheRow sets ways clock places.old → IsCacheRow sets ways clock places.new }
     ensures pairs { pairs_by_use places.new ≡ dropped_signed signature.now phase.0 (record { lo = word.0; hi = word.0 + 1 } ∷ []) (pairs_by_use places.old) }
 {
-    if is_stale(places.as_slice(), sets, ways, signature, phase, word) {
-        take_out(places, sets, ways, NO_PLACE, word);
+    if is_stale(places, sets, ways, signature, phase, word) {
+        take_out(places, sets, ways, None, word);
     }
 }
 

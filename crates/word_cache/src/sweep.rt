@@ -1,8 +1,7 @@
 ghost use Rattle.std.specs.Prelude.{◌≡◌, true, false, None, map};
 ghost use Rattle.word_cache.specs.Row.{pair_after_phase, pair_after_grant, after_phase, after_grant};
 
-use crate::places::Row;
-use crate::row::{Entry, Place};
+use crate::row::{Entry, Place, Row};
 use dn_base::{PhaseId, WordId};
 use region_table::WordSet;
 use write_signature::Signature;

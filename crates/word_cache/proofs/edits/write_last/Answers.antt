@@ -10,8 +10,8 @@ some_place = record { pair = None; used = 0 }
 
 pub returns : goal.returns
 returns c =
-    let within = c.choose_near-place.ensures.within in
-    let may = c.choose_near-place.ensures.may some_place in
-    let others = c.choose_near-place.ensures.others in
-    let did = wrote c.args.sets c.args.ways c.choose_near-place.result c.tick-used.result some_place c.args.word c.args.entry c.tick-used.new.places c.tick-used.ensures.row within c.tick-used.ensures.before c.choose_near-place.ensures.set may others in
+    let within = c.choose-place.ensures.within in
+    let may = c.choose-place.ensures.may some_place in
+    let others = c.choose-place.ensures.others in
+    let did = wrote c.args.sets c.args.ways c.choose-place.result c.tick-used.result some_place c.args.word c.args.entry c.tick-used.new.places c.tick-used.ensures.row within c.tick-used.ensures.before c.choose-place.ensures.set may others in
     record { row = rw (c.set.ensures, c.tick-used.ensures.clock) did.0; pairs = rw c.set.ensures (did.1 ∙ ap (put c.args.word c.args.entry) c.tick-used.ensures.pairs) }

@@ -1,7 +1,7 @@
 use Rattle.std.proofs.Common.{refl, sym, rules}
 use Rattle.word_cache.specs.Row.{has_pending, has_copy}
 use Rattle.word_cache.proofs.CountLemmas.{count-zero}
-use Rattle.word_cache.proofs.places.Row.new.Goals as goal
+use Rattle.word_cache.proofs.row.Row.new.Goals as goal
 
 pub invariant_of-result : goal.invariant_of-result
 invariant_of-result c = record {

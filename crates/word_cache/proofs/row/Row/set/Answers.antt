@@ -2,7 +2,7 @@ use Rattle.std.proofs.Common.{◌≡◌, ◌<◌, length, get_or, ap, sym, ◌�
 use Rattle.std.proofs.lemmas.List.{map-set}
 use Rattle.word_cache.specs.Row.{place_word, has_pending, has_copy}
 use Rattle.word_cache.proofs.CountLemmas.{countable, recounted, count-most}
-use Rattle.word_cache.proofs.places.Row.set.Goals as goal
+use Rattle.word_cache.proofs.row.Row.set.Goals as goal
 
 pub recount-pending-requires : goal.recount-pending-requires
 recount-pending-requires c =
