@@ -8,7 +8,7 @@ ghost use Rattle.rv_core.specs.declared.task.TaskState.{TaskState};
 ghost use Rattle.message_net.specs.declared.message.Message.TheVariants.{Acquire as AcquireOf, Release as ReleaseOf};
 ghost use Rattle.message_net.specs.Mail.{to_home};
 ghost use Rattle.word_cache.specs.declared.row.Entry.TheVariants.{Registered as AsRegistered};
-ghost use Rattle.word_cache.specs.Cache.{has_room};
+ghost use Rattle.word_cache.specs.Cache.{has_room, IsProbe, lookup, put};
 ghost use Rattle.registration_protocol.specs.Fit.{IsContext, Fits, IsLook};
 ghost use Rattle.registration_protocol.specs.Node.{entry_of, signature_of};
 ghost use Rattle.registration_protocol.specs.declared.node.NodeWait.TheVariants.{None as WaitsForNothing, Locking};
@@ -22,7 +22,7 @@ use dn_base::{LoadSeen, LockId, PhaseId, Sequence, WordId};
 use message_net::{Message, Outgoing};
 use region_table::TaskDecl;
 use rv_core::{End, Need, Next, TaskState};
-use word_cache::{Entry, Probe};
+use word_cache::{Entry, Probe, WordCache};
 use write_signature::Signature;
 
 /// What an instruction gives that sends nothing and reads nothing.
@@ -106,12 +106,25 @@ fn sign(
     }
 }
 
-/// A word to which a store goes: its value so far, and where its pair may stand in the cache.
+/// A word to which a store goes: its value so far, and what the cache's probe for it told.
 #[derive(Clone, Copy, Debug)]
 struct Target {
     word: WordId,
-    place: usize,
+    probe: Probe,
     old: u32,
+}
+
+/// Gives the word this entry, at the place that the probe told.
+fn enter(cache: &mut WordCache, word: WordId, probe: Probe, entry: Entry)
+    requires probe { IsProbe probe (lookup word.0 cache.old.pairs) (has_room cache.old word.0) }
+    requires room { (is_some (lookup word.0 cache.old.pairs) || has_room cache.old word.0) ≡ true }
+    ensures { cache.new ≡ record cache.old { pairs = put word entry cache.old.pairs } }
+{
+    match probe {
+        Probe::Hit { place, .. } => cache.set_at(Some(place), word, entry),
+        Probe::Room { place } => cache.add_at(Some(place), word, entry),
+        Probe::Full => unreachable!(),
+    }
 }
 
 impl Node {
@@ -171,11 +184,11 @@ impl Node {
                     value,
                     marked: marked || is_plain(declared, word),
                 };
-                self.cache.set_at(place, word, entry);
+                self.cache.set_at(Some(place), word, entry);
                 self.see(context, declared, next, word, value)
             }
             Entry::Registered { value, .. } => {
-                self.cache.touch_at(place, word);
+                self.cache.touch_at(Some(place), word);
                 self.see(context, declared, next, word, value)
             }
             Entry::Leaving(_) => silence(),
@@ -206,15 +219,16 @@ impl Node {
         requires look { IfSome self.old.task (IsLook (setting context.now) declared.now next.now) }
         requires kind { IsStore next.now.need }
         requires locks { length self.old.signatures ≤ 32 }
+        requires probe { IsProbe target.probe (entry_of self.old target.word.0) (has_room self.old.cache target.word.0) }
         requires room { (is_some (entry_of self.old target.word.0) || has_room self.old.cache target.word.0) ≡ true }
         ensures { (t : TaskState) → self.old.task ≡ Some t
             → self.new ≡ stored (setting context.now) self.old declared.now t target.word (AsRegistered (merged_of (setting context.now).program target.old t) pending) }
     {
-        let Target { word, place, old } = target;
+        let Target { word, probe, old } = target;
         let value = self.merged(context, declared, next, old);
         sign(&mut self.signatures, &self.task, declared, word, self.phase);
-        self.cache
-            .set_at(place, word, Entry::Registered { value, pending });
+        let entry = Entry::Registered { value, pending };
+        enter(&mut self.cache, word, probe, entry);
         advance(&mut self.task, context, declared, next);
         self.wait = NodeWait::None;
     }
@@ -231,6 +245,7 @@ impl Node {
         requires look { IfSome self.old.task (IsLook (setting context.now) declared.now next.now) }
         requires kind { IsStore next.now.need }
         requires locks { length self.old.signatures ≤ 32 }
+        requires probe { IsProbe target.probe (entry_of self.old target.word.0) (has_room self.old.cache target.word.0) }
         requires room { (is_some (entry_of self.old target.word.0) || has_room self.old.cache target.word.0) ≡ true }
         ensures node { (t : TaskState) → self.old.task ≡ Some t
             → self.new ≡ (registers_word (setting context.now) self.old declared.now t target.word (merged_of (setting context.now).program target.old t)).0 }
@@ -250,12 +265,14 @@ impl Node {
         declared: &TaskDecl,
         next: &Next,
         word: WordId,
+        probe: Probe,
         whole: bool,
     ) -> Step
         requires banks { 0 < (setting context.now).shape.banks }
         requires look { IfSome self.old.task (IsLook (setting context.now) declared.now next.now) }
         requires kind { IsStore next.now.need }
         requires locks { length self.old.signatures ≤ 32 }
+        requires probe { IsProbe probe (entry_of self.old word.0) (has_room self.old.cache word.0) }
         requires room { has_room self.old.cache word.0 ≡ true }
         ensures node { (t : TaskState) → self.old.task ≡ Some t → self.new ≡ (store_row (setting context.now) self.old declared.now t word whole None).0 }
         ensures step { (t : TaskState) → self.old.task ≡ Some t → result ≡ (store_row (setting context.now) self.old declared.now t word whole None).1 }
@@ -264,10 +281,9 @@ impl Node {
             return self.miss(context, word);
         }
 
-        // no place has the word's pair, so any number serves as the hint
         let target = Target {
             word,
-            place: 0,
+            probe,
             old: 0,
         };
         self.register(context, declared, next, target)
@@ -290,14 +306,15 @@ impl Node {
         ensures node { (t : TaskState) → self.old.task ≡ Some t → self.new ≡ (store_row (setting context.now) self.old declared.now t word whole (entry_of self.old word.0)).0 }
         ensures step { (t : TaskState) → self.old.task ≡ Some t → result ≡ (store_row (setting context.now) self.old declared.now t word whole (entry_of self.old word.0)).1 }
     {
-        let Probe::Hit { place, entry } = self.cache.probe(word) else {
-            return self.store_new(context, declared, next, word, whole);
+        let probe = self.cache.probe(word);
+        let Probe::Hit { entry, .. } = probe else {
+            return self.store_new(context, declared, next, word, probe, whole);
         };
         match entry {
             Entry::Valid { value, .. } => {
                 let target = Target {
                     word,
-                    place,
+                    probe,
                     old: value,
                 };
                 self.register(context, declared, next, target)
@@ -305,7 +322,7 @@ impl Node {
             Entry::Registered { value, pending } => {
                 let target = Target {
                     word,
-                    place,
+                    probe,
                     old: value,
                 };
                 self.write(context, declared, next, target, pending);

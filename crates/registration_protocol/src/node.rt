@@ -8,10 +8,8 @@ ghost use Rattle.registration_protocol.specs.Messages.{fills, read_fwd_row, data
 
 use crate::setting::{Context, declaration, start};
 use crate::signatures::empty_signatures;
-use dn_base::{
-    BankId, CoreId, Grant, LoadSeen, LockId, Memory, PhaseId, Sequence, WordId, remainder,
-};
-use message_net::{Actor, Message, Outgoing};
+use dn_base::{CoreId, Grant, LoadSeen, LockId, Memory, PhaseId, Sequence, WordId};
+use message_net::{Message, Outgoing};
 use rv_core::{End, Need, TaskState};
 use std::alloc::Global;
 use std::marker::Model;
@@ -81,10 +79,7 @@ fn send(core: CoreId, message: Message) -> Received
     ensures { result ≡ record { sent = to_core core message; granted = None } }
 {
     Received {
-        sent: Some(Outgoing {
-            to: Actor::Core(core),
-            message,
-        }),
+        sent: Some(Outgoing::to_core(core, message)),
         granted: None,
     }
 }
@@ -94,10 +89,7 @@ pub(crate) fn send_home(context: &Context<'_>, number: u32, message: Message) ->
     requires { 0 < (setting context.now).shape.banks }
     ensures { Some result ≡ to_home (setting context.now).shape.banks number message }
 {
-    Outgoing {
-        to: Actor::Bank(BankId(remainder(number, context.shape.banks))),
-        message,
-    }
+    Outgoing::to_home(context.shape.banks, number, message)
 }
 
 impl Node {
@@ -178,7 +170,7 @@ impl Node {
                 Entry::Valid { .. } | Entry::Registered { .. } => true,
                 Entry::Leaving(_) => false,
             },
-            Probe::Room => true,
+            Probe::Room { .. } => true,
             Probe::Full => false,
         }
     }
@@ -222,31 +214,26 @@ impl Node {
             None => false,
         };
         self.arrived = true;
-        Outgoing {
-            to: Actor::Keeper,
-            message: Message::Arrived {
-                core: self.core,
-                bad,
-            },
-        }
+        let core = self.core;
+        Outgoing::to_keeper(Message::Arrived { core, bad })
     }
 
     /// The value of a word that the node waits for comes: it becomes a copy, where the word has no entry and its set has room.
     fn fill(&mut self, word: WordId, value: u32)
         ensures { self.new ≡ (fills self.old word value (entry_of self.old word.0)).0 }
     {
-        if self.cache.get(word).is_some() {
-            return;
+        match self.cache.probe(word) {
+            Probe::Room { place } => {
+                let entry = Entry::Valid {
+                    value,
+                    marked: false,
+                };
+                self.cache.add_at(Some(place), word, entry);
+                self.wait = NodeWait::Filled(word);
+            }
+            Probe::Hit { .. } => {}
+            Probe::Full => {}
         }
-        if !self.cache.room(word) {
-            return;
-        }
-        let entry = Entry::Valid {
-            value,
-            marked: false,
-        };
-        self.cache.set(word, entry);
-        self.wait = NodeWait::Filled(word);
     }
 
     /// The value of a word comes.
@@ -284,23 +271,24 @@ impl Node {
         ensures node { self.new ≡ (evicted (setting context.now) self.old word).0 }
         ensures sent { result ≡ (evicted (setting context.now) self.old word).1 }
     {
-        let Probe::Hit { place, entry } = self.cache.probe(word) else {
-            return None;
-        };
-        match entry {
-            Entry::Valid { .. } => {
-                self.cache.remove_at(place, word);
-                None
-            }
-            Entry::Registered {
-                value,
-                pending: false,
-            } => {
-                self.cache.change_at(place, word, Entry::Leaving(value));
-                let core = self.core;
-                Some(send_home(context, word.0, Message::WriteBack { word, value, core }))
-            }
-            _ => None,
+        match self.cache.probe(word) {
+            Probe::Hit { place, entry } => match entry {
+                Entry::Valid { .. } => {
+                    self.cache.remove_at(Some(place), word);
+                    None
+                }
+                Entry::Registered {
+                    value,
+                    pending: false,
+                } => {
+                    self.cache
+                        .change_at(Some(place), word, Entry::Leaving(value));
+                    let core = self.core;
+                    Some(send_home(context, word.0, Message::WriteBack { word, value, core }))
+                }
+                _ => None,
+            },
+            Probe::Room { .. } | Probe::Full => None,
         }
     }
 
@@ -320,19 +308,17 @@ impl Node {
         ensures node { self.new ≡ (reg_ack_row self.old word (entry_of self.old word.0)).0 }
         ensures received { result ≡ (reg_ack_row self.old word (entry_of self.old word.0)).1 }
     {
-        let Probe::Hit { place, entry } = self.cache.probe(word) else {
-            return nothing();
-        };
-        if let Entry::Registered {
-            value,
-            pending: true,
-        } = entry
+        if let Probe::Hit { place, entry } = self.cache.probe(word)
+            && let Entry::Registered {
+                value,
+                pending: true,
+            } = entry
         {
             let entry = Entry::Registered {
                 value,
                 pending: false,
             };
-            self.cache.change_at(place, word, entry);
+            self.cache.change_at(Some(place), word, entry);
         }
         nothing()
     }
@@ -342,14 +328,12 @@ impl Node {
         ensures node { self.new ≡ (reg_fwd_row self.old word core (entry_of self.old word.0)).0 }
         ensures received { result ≡ (reg_fwd_row self.old word core (entry_of self.old word.0)).1 }
     {
-        let reply = send(core, Message::RegAck { word });
-        let Probe::Hit { place, entry } = self.cache.probe(word) else {
-            return reply;
-        };
-        if let Entry::Registered { pending: false, .. } = entry {
-            self.cache.remove_at(place, word);
+        if let Probe::Hit { place, entry } = self.cache.probe(word)
+            && let Entry::Registered { pending: false, .. } = entry
+        {
+            self.cache.remove_at(Some(place), word);
         }
-        reply
+        send(core, Message::RegAck { word })
     }
 
     /// The home of a word has had it back.
@@ -357,11 +341,10 @@ impl Node {
         ensures node { self.new ≡ (wb_ack_row self.old word (entry_of self.old word.0)).0 }
         ensures received { result ≡ (wb_ack_row self.old word (entry_of self.old word.0)).1 }
     {
-        let Probe::Hit { place, entry } = self.cache.probe(word) else {
-            return nothing();
-        };
-        if let Entry::Leaving(_) = entry {
-            self.cache.remove_at(place, word);
+        if let Probe::Hit { place, entry } = self.cache.probe(word)
+            && let Entry::Leaving(_) = entry
+        {
+            self.cache.remove_at(Some(place), word);
         }
         nothing()
     }

@@ -31,7 +31,7 @@ impl Node {
         ensures { result ≡ crowded self.now word }
     {
         match self.cache.probe(word) {
-            Probe::Hit { .. } | Probe::Room => None,
+            Probe::Hit { .. } | Probe::Room { .. } => None,
             Probe::Full => Some(word),
         }
     }

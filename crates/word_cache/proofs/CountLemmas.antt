@@ -1,7 +1,7 @@
 -- How many pairs a set has.
-use Rattle.std.proofs.Common.{◌≡◌, ◌≢◌, ℕ, ◌+◌, ◌-◌, ◌*◌, ◌/◌, ◌%◌, ◌<◌, ◌≤◌, ◌||◌, Bool, true, false, cond, nat_lt, List, [], ◌∷◌, length, get_or, take, drop, Option, Some, None, refl, arith, ◌∙◌, zero, suc, length-drop, length-take}
+use Rattle.std.proofs.Common.{◌≡◌, ◌≢◌, ℕ, ◌+◌, ◌-◌, ◌*◌, ◌/◌, ◌%◌, ◌<◌, ◌≤◌, ◌||◌, Bool, true, false, cond, nat_lt, List, [], ◌∷◌, length, get_or, set, take, drop, Option, Some, None, refl, arith, ◌∙◌, zero, suc, length-drop, length-take}
 use Rattle.std.specs.Prelude.{count_by}
-use Rattle.std.proofs.lemmas.List.Sums.{sum_by-cons, sum_by-take-drop}
+use Rattle.std.proofs.lemmas.List.Sums.{sum_by-cons, sum_by-set, sum_by-take-drop}
 use Rattle.std.proofs.lemmas.List.{get_or-take, get_or-drop}
 use Rattle.std.proofs.lemmas.Nat.{mul-le}
 use Rattle.std.proofs.lemmas.Bool.Decides.{nat_tests}
@@ -9,8 +9,8 @@ use Rattle.word_cache.specs.declared.row.Place.{Place}
 use Rattle.std.specs.Option.{is_some}
 use Rattle.word_cache.specs.Cache.{Pair, shares_set, set_count, lookup}
 use Rattle.word_cache.proofs.RowLemmas.{get_none}
-use Rattle.word_cache.specs.Row.{pairs_by_use, has_word, IsOfSet, IsPlaceRow}
-use Rattle.word_cache.proofs.OrderLemmas.{passes, count-by_use}
+use Rattle.word_cache.specs.Row.{pairs_by_use, has_word, IsOfSet, IsPlaceRow, passes}
+use Rattle.word_cache.proofs.OrderLemmas.{count-by_use}
 use Rattle.word_cache.proofs.SetLemmas.{in_set, from_start}
 
 -- what passes a test weighs 1
@@ -52,6 +52,23 @@ count-short p (q ∷ qs) zero d within not_it =
     omega (arith, first, count-cons p q qs, count-most p qs)
 count-short p (q ∷ qs) (suc k) d within not_it =
     omega (arith, one p q, count-cons p q qs, count-short p qs k d (omega (arith, within)) not_it)
+
+-- a place that passes counts among those that do, and so does what it is replaced by
+counts-place : (p : Place → Bool) (qs : List Place) (k : ℕ) (d : Place) → k < length qs → cond (p (get_or qs k d)) 1 0 ≤ count_by p qs
+counts-place p [] k d within = absurd (omega arith)
+counts-place p (q ∷ qs) zero d within = omega (arith, count-cons p q qs)
+counts-place p (q ∷ qs) (suc k) d within = omega (arith, count-cons p q qs, counts-place p qs k d (omega (arith, within)))
+
+pub countable : (p : Place → Bool) (qs : List Place) (k : ℕ) (d : Place) (n : ℕ) (did : Bool) → k < length qs → n ≡ count_by p qs → did ≡ p (get_or qs k d) → cond did 1 0 ≤ n
+countable p qs k d n did within counts was = rw (was, counts) (counts-place p qs k d within)
+
+count-set : (p : Place → Bool) (qs : List Place) (k : ℕ) (y d : Place) → k < length qs → count_by p (set qs k y) + cond (p (get_or qs k d)) 1 0 ≡ count_by p qs + cond (p y) 1 0
+count-set p qs k y d within = sum_by-set (λ (q : Place). cond (p q) 1 0) qs k y d within
+
+pub recounted : (p : Place → Bool) (qs : List Place) (k : ℕ) (y d : Place) (n m : ℕ) (did does : Bool) → k < length qs → n ≡ count_by p qs → did ≡ p (get_or qs k d) → does ≡ p y → m + cond did 1 0 ≡ n + cond does 1 0 → m ≡ count_by p (set qs k y)
+recounted p qs k y d n m did does within counts was is sum =
+    let sums = rw (was, is) at sum in
+    omega (arith, sums, count-set p qs k y d within, counts)
 
 -- whether a place has a pair of a word's set
 abbrev pub is_in_set : ℕ → ℕ → Place → Bool

@@ -1,21 +1,21 @@
 -- What each edit of a cache's row comes to: its invariant, and its pairs.
-use Rattle.std.proofs.Common.{◌≡◌, ◌≢◌, ℕ, ◌+◌, ◌*◌, ◌/◌, ◌%◌, ◌<◌, ◌≤◌, ◌==◌, Bool, true, false, nat_lt, List, [], ◌∷◌, ◌++◌, length, get_or, set, Option, Some, None, refl, arith, ap, ◌∙◌, sym, zero, suc}
+use Rattle.std.proofs.Common.{◌≡◌, ◌≢◌, ℕ, ◌+◌, ◌*◌, ◌/◌, ◌%◌, ◌<◌, ◌≤◌, Bool, true, false, nat_lt, List, [], ◌∷◌, ◌++◌, length, get_or, set, Option, Some, None, refl, arith, ap, ◌∙◌, sym, zero, suc}
 use Rattle.std.specs.Prelude.{count_by}
 use Rattle.std.specs.List.{find}
 use Rattle.std.specs.Option.{option_map}
 use Rattle.std.proofs.lemmas.Nat.{mul-le}
-use Rattle.std.proofs.lemmas.Bool.{eqb-true, eqb-false}
+use Rattle.std.proofs.lemmas.Bool.{eqb-true}
 use Rattle.std.proofs.lemmas.Bool.Decides.{nat_tests}
 use Rattle.dn_base.specs.declared.ids.WordId.{WordId}
 use Rattle.word_cache.specs.declared.row.Entry.{Entry}
 use Rattle.word_cache.specs.declared.row.Place.{Place}
 use Rattle.word_cache.specs.Cache.{Pair, lookup, put, touched, shares_set, is_pending, pending_count, gives_way}
-use Rattle.word_cache.specs.Row.{by_use, pairs_of, pairs_by_use, has_word, pair_is_of, IsOfSet, MayHold, IsPlaceRow, AreBefore, IsCacheRow, IsLeastUsed, pair_gives_way, place_gives_way, pair_may_go, place_may_go}
-use Rattle.word_cache.proofs.OrderLemmas.{Each, Each-get, Each-by_use, Each-others, passes, count-by_use}
+use Rattle.word_cache.specs.Row.{by_use, pairs_of, pairs_by_use, has_word, pair_is_of, IsOfSet, MayHold, IsPlaceRow, AreBefore, IsCacheRow, IsLeastUsed, pair_gives_way, place_gives_way, pair_may_go, place_may_go, passes}
+use Rattle.word_cache.proofs.OrderLemmas.{Each, Each-get, Each-by_use, Each-others, count-by_use}
 use Rattle.word_cache.proofs.SetLemmas.{from_start}
 use Rattle.word_cache.proofs.CountLemmas.{counted, count-most}
-use Rattle.word_cache.proofs.TimeLemmas.{find_first, find_no, same_read}
-use Rattle.word_cache.proofs.RowLemmas.{of_other, pair_there, get_some, get_none, written_last, IsRow-set, AreBefore-set}
+use Rattle.word_cache.proofs.TimeLemmas.{find_first, find_no}
+use Rattle.word_cache.proofs.RowLemmas.{of_other, pair_there, get_some, written_last, IsRow-set, AreBefore-set}
 use Rattle.word_cache.proofs.SweepLemmas.{Keeps, keeps_apart, keeps_set}
 
 -- a row as a cache begins
@@ -68,20 +68,6 @@ pub entry_found : (sets ways k : ℕ) (d : Place) (word : WordId) (row : List Pl
 entry_found sets ways k d word row good within here =
     let mine = pair_there word (get_or row k d).pair here in
     ap (option_map (λ (p : Pair). p.1)) mine.1 ∙ sym (get_some sets ways k d word mine.0 row good within mine.1)
-
--- the entry at a place that may get the word's pair
-pub entry_held : (sets ways k : ℕ) (d : Place) (word : WordId) (row : List Place) → IsPlaceRow sets ways row → k < length row → MayHold word.0 (get_or row k d).pair → ((j : ℕ) (f : Place) → j < length row → j ≢ k → has_word word.0 (get_or row j f) ≡ false) → option_map (λ (p : Pair). p.1) (get_or row k d).pair ≡ lookup word.0 (pairs_by_use row)
-entry_held sets ways k d word row good within may absent = by_pair (get_or row k d).pair refl may where
-  lacking : (get_or row k d).pair ≡ None → (j : ℕ) (f : Place) → j < length row → has_word word.0 (get_or row j f) ≡ false
-  lacking none j f below = by_test (j == k) refl where
-    by_test : (t : Bool) → (j == k) ≡ t → has_word word.0 (get_or row j f) ≡ false
-    by_test true e = rw (eqb-true j k e, same_read row k f d within, none) refl
-    by_test false e = absent j f below (eqb-false j k e)
-
-  by_pair : (o : Option Pair) → (get_or row k d).pair ≡ o → MayHold word.0 o → option_map (λ (p : Pair). p.1) o ≡ lookup word.0 (pairs_by_use row)
-  by_pair None is may = sym (get_none word.0 row (lacking is))
-  by_pair (Some a) is may =
-      ap (option_map (λ (p : Pair). p.1)) (sym is) ∙ entry_found sets ways k d word row good within (ap (pair_is_of word.0) is ∙ may)
 
 -- the word's pair is written, and is the one used last
 pub wrote : (sets ways k time : ℕ) (d : Place) (word : WordId) (e : Entry) (row : List Place) → IsPlaceRow sets ways row → k < length row → AreBefore time row → k / ways ≡ word.0 % sets → MayHold word.0 (get_or row k d).pair → ((j : ℕ) (f : Place) → j < length row → j ≢ k → has_word word.0 (get_or row j f) ≡ false) → IsCacheRow sets ways (time + 1) (set row k (record { pair = Some (word, e); used = time })) × (pairs_by_use (set row k (record { pair = Some (word, e); used = time })) ≡ put word e (pairs_by_use row))

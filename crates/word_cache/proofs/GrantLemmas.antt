@@ -1,12 +1,15 @@
 -- What is dropped at a grant, word by word.
 use Rattle.std.proofs.Common.{◌≡◌, ℕ, ◌+◌, ◌<◌, ◌≤◌, ◌==◌, ◌||◌, ◌&&◌, Bool, true, false, not, cond, nat_le, nat_lt, List, [], ◌∷◌, take, length, get_or, Some, None, refl, arith, ap, sym, ◌∙◌, zero, suc}
 use Rattle.std.specs.List.{filter}
+use Rattle.std.specs.Prelude.{count_by}
+use Rattle.std.proofs.lemmas.List.Sums.{sum_by-cons}
 use Rattle.std.proofs.lemmas.Bool.{eqb-true}
 use Rattle.std.proofs.lemmas.Bool.Decides.{nat_tests}
 use Rattle.region_table.specs.declared.interval.Interval.{Interval}
 use Rattle.region_table.specs.Words.{has, in_interval, AreApart}
 use Rattle.write_signature.specs.declared.signature.Signature.{Signature}
-use Rattle.write_signature.specs.Signature.{may_hold}
+use Rattle.write_signature.specs.Signature.{empty, in_phase, may_hold}
+use Rattle.write_signature.proofs.SignatureLemmas.{holds-empty, holds-in_phase}
 use Rattle.word_cache.specs.Cache.{Pair, AreDifferent, lookup, without, is_valid, is_fresh, dropped_signed}
 use Rattle.word_cache.specs.declared.row.Place.{Place}
 use Rattle.word_cache.specs.Row.{IsPlaceRow, IsCacheRow, AreBefore, is_copy}
@@ -48,6 +51,45 @@ other-word false held = refl
 
 pub dropped-none : (s : Signature) (phase : ℕ) (words : List Interval) → ((w : ℕ) → has words w ≡ false) → (ps : List Pair) → dropped_signed s phase words ps ≡ ps
 dropped-none s phase words none ps = filter-all (is_fresh s phase words) (λ p. rw (none p.0.0) (other-word (is_valid p.1) (may_hold s p.0.0 phase))) ps
+
+-- nothing is dropped where no pair is a copy, nor where the signature holds no word of the phase
+abbrev pub is_copied : Pair → Bool
+is_copied p = is_valid p.1
+
+pub dropped-copyless : (s : Signature) (phase : ℕ) (words : List Interval) (ps : List Pair) → count_by is_copied ps ≡ 0 → dropped_signed s phase words ps ≡ ps
+dropped-copyless s phase words [] none = refl
+dropped-copyless s phase words (p ∷ ps) none = by_test (is_valid p.1) (sum_by-cons (λ (q : Pair). cond (is_copied q) 1 0) p ps) (dropped-copyless s phase words ps) where
+  by_test : (t : Bool) → count_by is_copied (p ∷ ps) ≡ cond t 1 0 + count_by is_copied ps → (count_by is_copied ps ≡ 0 → dropped_signed s phase words ps ≡ ps)
+      → cond (not (t && has words p.0.0 && may_hold s p.0.0 phase)) (p ∷ dropped_signed s phase words ps) (dropped_signed s phase words ps) ≡ p ∷ ps
+  by_test true count rest = absurd (omega (arith, none, count))
+  by_test false count rest = ap (λ (qs : List Pair). p ∷ qs) (rest (omega (arith, none, count)))
+
+pub dropped-unheld : (s : Signature) (phase : ℕ) (words : List Interval) (ps : List Pair) → in_phase phase s ≡ empty phase → dropped_signed s phase words ps ≡ ps
+dropped-unheld s phase words ps bare =
+    filter-all (is_fresh s phase words) (λ p. rw (unheld p.0.0) (by_tests (is_valid p.1) (has words p.0.0))) ps where
+      unheld : (w : ℕ) → may_hold s w phase ≡ false
+      unheld w = sym (holds-in_phase phase s w) ∙ ap (λ (t : Signature). may_hold t w phase) bare ∙ holds-empty w phase phase
+
+      by_tests : (valid guarded : Bool) → not (valid && guarded && false) ≡ true
+      by_tests true true = refl
+      by_tests true false = refl
+      by_tests false guarded = refl
+
+-- signatures whose parts pass the tests of their equality
+pub same-signature : (a b : Signature) → not ((a.low == b.low) && ((a.high == b.high) && (a.phase.0 == b.phase.0))) ≡ false → a ≡ b
+same-signature a b alike = by_tests (a.low == b.low) (a.high == b.high) (a.phase.0 == b.phase.0) refl refl refl alike where
+  of_parts : ℕ → ℕ → ℕ → Signature
+  of_parts low high phase = record { low = low; high = high; phase = record { 0 = phase } }
+
+  made : (l h p m i q : ℕ) → l ≡ m → h ≡ i → p ≡ q → of_parts l h p ≡ of_parts m i q
+  made l h p m i q e f g = rw (e, f, g) refl
+
+  by_tests : (x y z : Bool) → (a.low == b.low) ≡ x → (a.high == b.high) ≡ y → (a.phase.0 == b.phase.0) ≡ z → not (x && (y && z)) ≡ false → a ≡ b
+  by_tests true true true e f g is =
+      made a.low a.high a.phase.0 b.low b.high b.phase.0 (eqb-true a.low b.low e) (eqb-true a.high b.high f) (eqb-true a.phase.0 b.phase.0 g)
+  by_tests true true false e f g is = absurd (cc)
+  by_tests true false z e f g is = absurd (cc)
+  by_tests false y z e f g is = absurd (cc)
 
 -- one word
 abbrev pub only : ℕ → List Interval

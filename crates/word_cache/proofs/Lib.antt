@@ -11,5 +11,4 @@ pub mod ApartLemmas
 pub mod DifferLemmas
 pub mod WeightLemmas
 pub mod CacheLaws
-pub mod KeptLemmas
 pub mod GrantLemmas

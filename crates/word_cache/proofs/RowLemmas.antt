@@ -67,6 +67,16 @@ get_none w row none =
     lookup-none w (by_use row) (Each-by_use (λ (q : Place). has_word w q ≡ false) row (all_lack w row none))
 
 -- what stands beside a place lacks its word, in the order of use too
+-- where a word has no pair, no place has it
+pub has-none : (sets ways w : ℕ) (row : List Place) → IsPlaceRow sets ways row → lookup w (pairs_by_use row) ≡ None → (k : ℕ) (d : Place) → k < length row → has_word w (get_or row k d) ≡ false
+has-none sets ways w row good none k d within = by_test (has_word w (get_or row k d)) refl where
+  by_test : (t : Bool) → has_word w (get_or row k d) ≡ t → t ≡ false
+  by_test false e = refl
+  by_test true e =
+      let mine = pair_there (record { 0 = w }) (get_or row k d).pair e in
+      let never : None ≡ Some mine.0 = sym none ∙ get_some sets ways k d (record { 0 = w }) mine.0 row good within mine.1 in
+      absurd (cc)
+
 beside : (w : ℕ) (row : List Place) (k : ℕ) → Lacks w (others row k) → Lacks w (by_use (others row k))
 beside w row k lacks = Each-by_use (λ (q : Place). has_word w q ≡ false) (others row k) lacks
 

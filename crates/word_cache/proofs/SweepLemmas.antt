@@ -1,6 +1,6 @@
 -- What a change of every place comes to.
 use Rattle.std.proofs.Common.{◌≡◌, ℕ, ◌+◌, ◌/◌, ◌<◌, Bool, true, false, cond, List, [], ◌∷◌, ◌++◌, map, length, get_or, set, take, drop, Option, Some, None, refl, arith, ap, ◌∙◌, sym, zero, suc, add-one}
-use Rattle.std.proofs.lemmas.List.{length-map}
+use Rattle.std.proofs.lemmas.List.{length-map, set-get_or}
 use Rattle.std.specs.List.{cons_option}
 use Rattle.region_table.specs.declared.interval.Interval.{Interval}
 use Rattle.write_signature.specs.declared.signature.Signature.{Signature}
@@ -25,6 +25,12 @@ pub swept-step : {X : Type 0} (f : X → X) (xs ys : List X) (i : ℕ) (x : X) �
 swept-step f xs ys i x at here within =
     let first : x ≡ get_or xs i x = here ∙ rw at (swept-get f xs i x within) in
     rw (at, add-one) (ap (λ z. set (map f (take i xs) ++ drop i xs) i (f z)) first ∙ swept-more f xs i x within)
+
+-- a place that the change leaves as it is
+pub swept-kept : {X : Type 0} (f : X → X) (xs ys : List X) (i : ℕ) (x : X) → ys ≡ map f (take i xs) ++ drop i xs → x ≡ get_or ys i x → i < length xs → f x ≡ x → ys ≡ map f (take (i + 1) xs) ++ drop (i + 1) xs
+swept-kept {X = X} f xs ys i x at here within same =
+    let kept : set ys i x ≡ ys = ap (set ys i) here ∙ set-get_or ys i x in
+    sym kept ∙ ap (set ys i) (sym same) ∙ swept-step f xs ys i x at here within
 
 get_or-map : (f : Place → Place) (row : List Place) (i : ℕ) (d e : Place) → i < length row → get_or (map f row) i d ≡ f (get_or row i e)
 get_or-map f [] i d e within = absurd (omega arith)

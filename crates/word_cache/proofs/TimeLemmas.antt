@@ -6,8 +6,8 @@ use Rattle.std.proofs.lemmas.List.Sums.{sum_by-cons}
 use Rattle.std.proofs.lemmas.Bool.Decides.{nat_tests}
 use Rattle.word_cache.specs.declared.row.Place.{Place}
 use Rattle.word_cache.specs.Cache.{Pair}
-use Rattle.word_cache.specs.Row.{by_use, pairs_of, pairs_by_use, IsPlaceRow, AreFrom, IsLeastUsed, earlier, is_from}
-use Rattle.word_cache.proofs.OrderLemmas.{Each-get, Each-by_use, Each-others, others, by_use-set, by_use-at, passes, find-none, find-put, renumbered}
+use Rattle.word_cache.specs.Row.{by_use, pairs_of, pairs_by_use, IsPlaceRow, AreFrom, IsLeastUsed, earlier, is_from, passes}
+use Rattle.word_cache.proofs.OrderLemmas.{Each-get, Each-by_use, Each-others, others, by_use-set, by_use-at, find-none, find-put, renumbered}
 use Rattle.word_cache.proofs.RowLemmas.{IsRow-set, others_apart}
 
 -- the next place of a row does not pass, or it does

@@ -79,7 +79,7 @@ has_room c w = nat_lt (set_count c.sets w c.pairs) c.ways
 -- what a probe for a word tells: its entry; or that it has none, and whether its set has room
 abbrev pub IsProbe : Probe → Option Entry → Bool → Type 0
 IsProbe (Hit place e) entry room = entry ≡ Some e
-IsProbe Room entry room = (entry ≡ None) × (room ≡ true)
+IsProbe (Room place) entry room = (entry ≡ None) × (room ≡ true)
 IsProbe Full entry room = (entry ≡ None) × (room ≡ false)
 
 -- what holds of every cache: no two pairs are of one word, and no set has more pairs than it may have

@@ -1,15 +1,15 @@
 ghost use Rattle.std.specs.Prelude.{◌≡◌, ◌≢◌, ℕ, ◌+◌, ◌*◌, ◌<◌, ◌≤◌, ◌||◌, true, None, [], IfOk, IfSome};
 ghost use Rattle.std.specs.Option.{is_some};
-ghost use Rattle.std.specs.Prelude.{length};
+ghost use Rattle.std.specs.Prelude.{length, slice_index_or};
+ghost use Rattle.word_cache.specs.declared.row.Place.{Place};
 ghost use Rattle.std.specs.List.{filter};
 ghost use Rattle.word_cache.specs.Cache.{Cache, IsCache, in_set, lookup, put, changed, without, touched, has_room, IsProbe, victim_of, may_go, pending_count, dropped_written, dropped_signed};
 ghost use Rattle.word_cache.specs.Row.{IsCacheRow, HaveDistinctTimes, pairs_by_use};
 
-use crate::edits::{change_entry, recount, take_out, use_again, write_last};
+use crate::edits::{change_entry, take_out, use_again, write_last, write_new};
 use crate::grant::drop_stale;
 use crate::looks::{entry_of, has_free, probe_of, set_of, victim_in};
-use crate::places::Row;
-use crate::row::{Entry, NO_PLACE, Place, Probe};
+use crate::row::{Entry, Place, Probe, Row};
 use crate::sweep::sweep_phase;
 use dn_base::{Memory, PhaseId, WordId};
 use region_table::WordSet;
@@ -26,18 +26,17 @@ pub struct WordCache {
     ways: u32,
     places: Row,
     clock: u64,
-    pending: u32,
 }
 
 impl Model for WordCache {
     ghost use Rattle.word_cache.specs.Cache.{Cache};
-    ghost use Rattle.word_cache.specs.Row.{IsCacheState, pairs_by_use};
+    ghost use Rattle.word_cache.specs.Row.{IsCacheRow, pairs_by_use};
 
     ghost Value = { Cache };
 
     ghost view = { λ c. record { sets = c.sets; ways = c.ways; pairs = pairs_by_use c.places } };
 
-    ghost invariant = { λ c. IsCacheState c.sets c.ways c.clock c.pending c.places };
+    ghost invariant = { λ c. IsCacheRow c.sets c.ways c.clock c.places };
 }
 
 /// The places of an empty cache, numbered from 1.
@@ -48,6 +47,7 @@ fn empty_places(alloc: Global, sets: u32, ways: u32) -> Result<Vec<Place>, Memor
     requires most_ways { ways ≤ 16 }
     ensures row { IfOk result (λ places. IsCacheRow sets ways (sets * ways + 1) places.items) }
     ensures pairs { IfOk result (λ places. pairs_by_use places.items ≡ []) }
+    ensures free { IfOk result (λ places. (i : ℕ) (d : Place) → i < length places.items → (slice_index_or places.items i d).pair ≡ None) }
 {
     let mut places = Vec::new(alloc);
     for before in 0..u64::from(sets * ways) {
@@ -76,7 +76,6 @@ impl WordCache {
             ways,
             places: Row::new(alloc, empty_places(alloc, sets, ways)?)?,
             clock: u64::from(sets * ways) + 1,
-            pending: 0,
         })
     }
 
@@ -84,7 +83,7 @@ impl WordCache {
     pub fn get(&self, word: WordId) -> Option<Entry>
         ensures { result ≡ lookup word.0 self.now.pairs }
     {
-        entry_of(self.places.as_slice(), self.sets, self.ways, word)
+        entry_of(&self.places, self.sets, self.ways, word)
     }
 
     /// The word's entry, or whether its set has room where it has none: one pass over the word's set tells what `get` and
@@ -99,7 +98,7 @@ impl WordCache {
     pub fn room(&self, word: WordId) -> bool
         ensures { result ≡ has_room self.now word.0 }
     {
-        has_free(self.places.as_slice(), self.sets, self.ways, word)
+        has_free(&self.places, self.sets, self.ways, word)
     }
 
     /// The word that was used least recently among those of the word's set that are Valid, or Registered and not pending;
@@ -134,7 +133,7 @@ impl WordCache {
     pub fn pending(&self) -> u32
         ensures { result ≡ pending_count self.now.pairs }
     {
-        self.pending
+        self.places.pending() as u32
     }
 
     /// Gives the word this entry; its pair is the one used last then. The word has a pair, or its set has room. Takes no
@@ -143,25 +142,43 @@ impl WordCache {
         requires { (is_some (lookup word.0 self.old.pairs) || has_room self.old word.0) ≡ true }
         ensures { self.new ≡ record self.old { pairs = put word entry self.old.pairs } }
     {
-        self.set_at(NO_PLACE, word, entry);
+        self.set_at(None, word, entry);
     }
 
-    /// As `set`, which needs no pass over the word's set where `place` is that of its last probe. Any other number serves
-    /// too.
-    pub fn set_at(&mut self, place: usize, word: WordId, entry: Entry)
+    /// As `set`. Where the hint is the place that the last probe of the word gave, no other place is looked at; none and any
+    /// other number serve too.
+    pub fn set_at(&mut self, hint: Option<usize>, word: WordId, entry: Entry)
         requires { (is_some (lookup word.0 self.old.pairs) || has_room self.old word.0) ≡ true }
         ensures { self.new ≡ record self.old { pairs = put word entry self.old.pairs } }
     {
-        let had = write_last(
+        write_last(
             &mut self.places,
             &mut self.clock,
             self.sets,
             self.ways,
-            place,
+            hint,
             word,
             entry,
         );
-        self.pending = recount(self.pending, had, Some(entry));
+    }
+
+    /// Gives the word, which has no pair, this entry; its pair is the one used last then. Its set has room. Where the hint is the
+    /// place that the last probe of the word gave, no other place is looked at; none and any other number serve too. Takes no
+    /// memory.
+    pub fn add_at(&mut self, hint: Option<usize>, word: WordId, entry: Entry)
+        requires none { lookup word.0 self.old.pairs ≡ None }
+        requires room { has_room self.old word.0 ≡ true }
+        ensures { self.new ≡ record self.old { pairs = put word entry self.old.pairs } }
+    {
+        write_new(
+            &mut self.places,
+            &mut self.clock,
+            self.sets,
+            self.ways,
+            hint,
+            word,
+            entry,
+        );
     }
 
     /// Gives the word's pair this entry; the pair keeps its place in the order of use. The word has a pair. Takes no memory.
@@ -169,17 +186,16 @@ impl WordCache {
         requires { lookup word.0 self.old.pairs ≢ None }
         ensures { self.new ≡ record self.old { pairs = changed word.0 entry self.old.pairs } }
     {
-        self.change_at(NO_PLACE, word, entry);
+        self.change_at(None, word, entry);
     }
 
-    /// As `change`, which needs no pass over the word's set where `place` is that of its last probe. Any other number serves
-    /// too.
-    pub fn change_at(&mut self, place: usize, word: WordId, entry: Entry)
+    /// As `change`. Where the hint is the place that the last probe of the word gave, no other place is looked at; none and any
+    /// other number serve too.
+    pub fn change_at(&mut self, hint: Option<usize>, word: WordId, entry: Entry)
         requires { lookup word.0 self.old.pairs ≢ None }
         ensures { self.new ≡ record self.old { pairs = changed word.0 entry self.old.pairs } }
     {
-        let had = change_entry(&mut self.places, self.sets, self.ways, place, word, entry);
-        self.pending = recount(self.pending, had, Some(entry));
+        change_entry(&mut self.places, self.sets, self.ways, hint, word, entry);
     }
 
     /// Makes the word's pair the one used last. The word has a pair. Takes no memory.
@@ -187,12 +203,12 @@ impl WordCache {
         requires { lookup word.0 self.old.pairs ≢ None }
         ensures { self.new ≡ record self.old { pairs = touched word self.old.pairs } }
     {
-        self.touch_at(NO_PLACE, word);
+        self.touch_at(None, word);
     }
 
-    /// As `touch`, which needs no pass over the word's set where `place` is that of its last probe. Any other number serves
-    /// too.
-    pub fn touch_at(&mut self, place: usize, word: WordId)
+    /// As `touch`. Where the hint is the place that the last probe of the word gave, no other place is looked at; none and any
+    /// other number serve too.
+    pub fn touch_at(&mut self, hint: Option<usize>, word: WordId)
         requires { lookup word.0 self.old.pairs ≢ None }
         ensures { self.new ≡ record self.old { pairs = touched word self.old.pairs } }
     {
@@ -201,7 +217,7 @@ impl WordCache {
             &mut self.clock,
             self.sets,
             self.ways,
-            place,
+            hint,
             word,
         );
     }
@@ -210,16 +226,15 @@ impl WordCache {
     pub fn remove(&mut self, word: WordId)
         ensures { self.new ≡ record self.old { pairs = without word.0 self.old.pairs } }
     {
-        self.remove_at(NO_PLACE, word);
+        self.remove_at(None, word);
     }
 
-    /// As `remove`, which needs no pass over the word's set where `place` is that of its last probe. Any other number serves
-    /// too.
-    pub fn remove_at(&mut self, place: usize, word: WordId)
+    /// As `remove`. Where the hint is the place that the last probe of the word gave, no other place is looked at; none and any
+    /// other number serve too.
+    pub fn remove_at(&mut self, hint: Option<usize>, word: WordId)
         ensures { self.new ≡ record self.old { pairs = without word.0 self.old.pairs } }
     {
-        let had = take_out(&mut self.places, self.sets, self.ways, place, word);
-        self.pending = recount(self.pending, had, None);
+        take_out(&mut self.places, self.sets, self.ways, hint, word);
     }
 
     /// Drops what a phase leaves stale: the Valid pairs that aren't marked and whose word is in the set. Every other Valid
@@ -231,8 +246,9 @@ impl WordCache {
     }
 
     /// Drops what may be stale at a grant: the Valid pairs whose word is in the set and may have been written in this phase
-    /// under the lock, as the signature says. All other pairs keep their order. It looks up the set's words where they are
-    /// no more than the places, and else looks at every place. Takes no memory.
+    /// under the lock, as the signature says. All other pairs keep their order. It looks at no place where the cache has no
+    /// Valid pair or the signature holds no word of this phase. Else it looks up the set's words where they are no more than
+    /// the cache's sets, and at every place where they are more. Takes no memory.
     pub fn drop_signed(&mut self, signature: &Signature, phase: PhaseId, words: &WordSet)
         ensures { self.new ≡ record self.old { pairs = dropped_signed signature.now phase.0 words.now self.old.pairs } }
     {

@@ -1,4 +1,4 @@
-ghost use Rattle.std.specs.Prelude.{◌≡◌, ℕ, ◌+◌, ◌≤◌, ◌&&◌, nat_le, [], ◌∷◌, All};
+ghost use Rattle.std.specs.Prelude.{◌≡◌, ℕ, ◌+◌, ◌≤◌, ◌&&◌, nat_le, false, List, [], ◌∷◌, All};
 ghost use Rattle.write_signature.specs.Signature.{may_hold};
 ghost use Rattle.region_table.specs.declared.interval.Interval.{Interval};
 ghost use Rattle.word_cache.specs.Cache.{lookup, dropped_signed};
@@ -6,8 +6,7 @@ ghost use Rattle.word_cache.specs.Row.{IsPlaceRow, IsCacheRow, pairs_by_use, is_
 
 use crate::edits::take_out;
 use crate::looks::entry_of;
-use crate::places::Row;
-use crate::row::{Entry, NO_PLACE, Place};
+use crate::row::{Entry, Row};
 use crate::sweep::sweep_grant;
 use dn_base::{PhaseId, WordId};
 use region_table::{Interval, WordSet};
@@ -25,7 +24,7 @@ fn is_copy(entry: Option<Entry>) -> bool
 
 /// Whether the word has a copy that may be stale at a grant.
 fn is_stale(
-    row: &[Place],
+    row: &Row,
     sets: u32,
     ways: u32,
     signature: &Signature,
@@ -51,8 +50,8 @@ fn drop_word(
     ensures row { (clock : ℕ) → IsCacheRow sets ways clock places.old → IsCacheRow sets ways clock places.new }
     ensures pairs { pairs_by_use places.new ≡ dropped_signed signature.now phase.0 (record { lo = word.0; hi = word.0 + 1 } ∷ []) (pairs_by_use places.old) }
 {
-    if is_stale(places.as_slice(), sets, ways, signature, phase, word) {
-        take_out(places, sets, ways, NO_PLACE, word);
+    if is_stale(places, sets, ways, signature, phase, word) {
+        take_out(places, sets, ways, None, word);
     }
 }
 
@@ -109,7 +108,35 @@ fn are_within(intervals: &[Interval], most: usize) -> bool
     true
 }
 
-/// Drops what may be stale at a grant: word by word where the words are no more than the places, else place by place.
+/// Drops what may be stale at a grant. A word takes a look at one set and a sweep at all of them, so it goes word by word
+/// where the words are no more than the sets, else place by place.
+fn drop_listed(
+    places: &mut Row,
+    sets: u32,
+    ways: u32,
+    signature: &Signature,
+    phase: PhaseId,
+    words: &WordSet,
+)
+    requires row { IsPlaceRow sets ways places.old }
+    ensures row { (clock : ℕ) → IsCacheRow sets ways clock places.old → IsCacheRow sets ways clock places.new }
+    ensures pairs { pairs_by_use places.new ≡ dropped_signed signature.now phase.0 words.now (pairs_by_use places.old) }
+{
+    if are_within(words.intervals(), sets as usize) {
+        drop_each(places, sets, ways, signature, phase, words.intervals());
+    } else {
+        sweep_grant(places, signature, phase, words);
+    }
+}
+
+/// Whether a pair may be stale at a grant: there is a copy, and the signature has a bit of this phase.
+fn may_have_stale(places: &Row, signature: &Signature, phase: PhaseId) -> bool
+    ensures { result ≡ false → (words : List Interval) → dropped_signed signature.now phase.0 words (pairs_by_use places.now) ≡ pairs_by_use places.now }
+{
+    places.copies() != 0 && signature.in_phase(phase) != Signature::empty(phase)
+}
+
+/// Drops what may be stale at a grant.
 pub(crate) fn drop_stale(
     places: &mut Row,
     sets: u32,
@@ -122,9 +149,7 @@ pub(crate) fn drop_stale(
     ensures row { (clock : ℕ) → IsCacheRow sets ways clock places.old → IsCacheRow sets ways clock places.new }
     ensures pairs { pairs_by_use places.new ≡ dropped_signed signature.now phase.0 words.now (pairs_by_use places.old) }
 {
-    if are_within(words.intervals(), places.len()) {
-        drop_each(places, sets, ways, signature, phase, words.intervals());
-    } else {
-        sweep_grant(places, signature, phase, words);
+    if may_have_stale(places, signature, phase) {
+        drop_listed(places, sets, ways, signature, phase, words);
     }
 }

@@ -5,19 +5,17 @@ ghost use Rattle.word_cache.specs.declared.row.Place.{Place};
 ghost use Rattle.word_cache.specs.Cache.{Pair, in_set, lookup, set_count, gives_way, may_go, IsProbe};
 ghost use Rattle.word_cache.specs.Row.{IsPlaceRow, HaveDistinctTimes, pairs_by_use};
 
-use crate::places::Row;
-use crate::row::{
-    Entry, Place, Probe, Spot, entry_at, free_place, place_of, spot_of, victim_place,
-};
+use crate::places::{Spot, entry_at, find_word, spot_of, victim_place};
+use crate::row::{Entry, Place, Probe, Row};
 use dn_base::WordId;
 
 /// The word's entry, if it has a pair. It looks at the word's set alone.
-pub(crate) fn entry_of(row: &[Place], sets: u32, ways: u32, word: WordId) -> Option<Entry>
+pub(crate) fn entry_of(row: &Row, sets: u32, ways: u32, word: WordId) -> Option<Entry>
     requires { IsPlaceRow sets ways row.now }
     ensures { result ≡ lookup word.0 (pairs_by_use row.now) }
 {
-    match place_of(row, sets, ways, word) {
-        Some(place) => entry_at(row, place),
+    match find_word(row, sets, ways, word).own {
+        Some(place) => entry_at(row.as_slice(), place),
         None => None,
     }
 }
@@ -30,19 +28,19 @@ pub(crate) fn probe_of(row: &Row, sets: u32, ways: u32, word: WordId) -> Probe
     match spot_of(row, sets, ways, word) {
         Spot::Pair(place) => match entry_at(row.as_slice(), place) {
             Some(entry) => Probe::Hit { place, entry },
-            None => Probe::Full,
+            None => unreachable!(),
         },
-        Spot::Free(_) => Probe::Room,
+        Spot::Free(place) => Probe::Room { place },
         Spot::Nowhere => Probe::Full,
     }
 }
 
 /// Whether the word's set has a place without a pair.
-pub(crate) fn has_free(row: &[Place], sets: u32, ways: u32, word: WordId) -> bool
+pub(crate) fn has_free(row: &Row, sets: u32, ways: u32, word: WordId) -> bool
     requires { IsPlaceRow sets ways row.now }
     ensures { result ≡ nat_lt (set_count sets word.0 (pairs_by_use row.now)) ways }
 {
-    match free_place(row, sets, ways, word) {
+    match find_word(row, sets, ways, word).free {
         Some(_) => true,
         None => false,
     }

@@ -1,110 +1,211 @@
-ghost use Rattle.std.specs.Prelude.{◌≡◌, ◌↔◌, ℕ, ◌<◌, ◌+◌, ◌*◌, IsTrue, IfOk, None, length, map, slice_index_or, slice_set};
+ghost use Rattle.std.specs.Prelude.{◌≡◌, ℕ, ◌+◌, ◌*◌, ◌/◌, ◌%◌, ◌<◌, ◌≤◌, ◌≢◌, ◌||◌, true, false, Some, None, IfSome, nat_lt, length, slice_index_or};
+ghost use Rattle.std.specs.Option.{is_some, option_map};
 ghost use Rattle.word_cache.specs.declared.row.Place.{Place};
-ghost use Rattle.word_cache.specs.Row.{has_word, place_word};
+ghost use Rattle.word_cache.specs.Cache.{Pair, lookup, set_count};
+ghost use Rattle.word_cache.specs.Row.{IsPlaceRow, has_word, pairs_by_use, MayHold, IsOwnPlace, IsFreePlace, IsSpot, IsLeastUsed, earlier, place_gives_way, place_may_go, is_from};
 
-use crate::row::Place;
-use dn_base::{Memory, WordId};
-use std::alloc::Global;
-use std::marker::Model;
+use crate::row::{Entry, Place, Row};
+use dn_base::{WordId, remainder};
 
-/// The places of a cache, and beside them the words alone: a pass over a set reads those, which lie closer together.
-///
-/// A contract sees the list of places.
-#[derive(Debug, Drop)]
-pub(crate) struct Row {
-    places: Vec<Place>,
-    words: Vec<Option<WordId>>,
-}
-
-impl Model for Row {
-    ghost use Rattle.std.specs.Prelude.{◌≡◌, List, map};
-    ghost use Rattle.word_cache.specs.declared.row.Place.{Place};
-    ghost use Rattle.word_cache.specs.Row.{place_word};
-
-    ghost Value = { List Place };
-
-    ghost view = { λ r. r.places.items };
-
-    ghost invariant = { λ r. r.words.items ≡ map place_word r.places.items };
-}
-
-/// The word whose pair stands at the place, if there is one.
-fn place_word(place: &Place) -> Option<WordId>
-    ensures { result ≡ place_word place.now }
+/// Where the word's set begins.
+pub(crate) fn start_of(sets: u32, ways: u32, word: WordId) -> usize
+    requires sets { 0 < sets }
+    requires most_sets { sets ≤ 256 }
+    requires most_ways { ways ≤ 16 }
+    ensures { result ≡ word.0 % sets * ways }
 {
-    match place.pair {
-        Some((word, _)) => Some(word),
+    (remainder(word.0, sets) * ways) as usize
+}
+
+/// What one pass over a word's set finds.
+#[derive(Clone, Copy, Debug)]
+pub(crate) struct Found {
+    /// The place of the word's pair.
+    pub own: Option<usize>,
+    /// A place of the set without a pair.
+    pub free: Option<usize>,
+}
+
+/// Where the word's pair stands, and a free place of its set. It looks at the word's set alone, and once.
+pub(crate) fn find_word(row: &Row, sets: u32, ways: u32, word: WordId) -> Found
+    requires { IsPlaceRow sets ways row.now }
+    ensures own { IsOwnPlace word.0 row.now result.own }
+    ensures free { IsFreePlace sets ways word.0 row.now result.free }
+{
+    let start = start_of(sets, ways, word);
+    let mut own: Option<usize> = None;
+    let mut free: Option<usize> = None;
+
+    // goes on where the pair is found: an exit that depends on the word costs more than the places behind it
+    for index in start..start + ways as usize {
+        if row.has_word(index, word) {
+            own = Some(index);
+        }
+        if row.is_free(index) {
+            free = Some(index);
+        }
+    }
+    Found { own, free }
+}
+
+/// Where a word's pair stands or may stand.
+#[derive(Clone, Copy, Debug)]
+pub(crate) enum Spot {
+    /// The place of its pair.
+    Pair(usize),
+    /// It has no pair, and this place of its set has none.
+    Free(usize),
+    /// It has no pair, and no place of its set is free.
+    Nowhere,
+}
+
+/// Where the word's pair stands, or else a free place of its set. It looks at the word's set alone, and once.
+pub(crate) fn spot_of(row: &Row, sets: u32, ways: u32, word: WordId) -> Spot
+    requires { IsPlaceRow sets ways row.now }
+    ensures { IsSpot sets ways word.0 row.now result }
+{
+    match find_word(row, sets, ways, word) {
+        Found {
+            own: Some(place),
+            free: _,
+        } => Spot::Pair(place),
+        Found {
+            own: None,
+            free: Some(place),
+        } => Spot::Free(place),
+        Found {
+            own: None,
+            free: None,
+        } => Spot::Nowhere,
+    }
+}
+
+/// As `spot_of`. The hint is where the word's pair may stand: where it stands there, no other place is looked at.
+pub(crate) fn spot_near(row: &Row, sets: u32, ways: u32, word: WordId, hint: Option<usize>) -> Spot
+    requires { IsPlaceRow sets ways row.now }
+    ensures { IsSpot sets ways word.0 row.now result }
+{
+    match hint {
+        Some(place) if place < row.len() && row.has_word(place, word) => Spot::Pair(place),
+        _ => spot_of(row, sets, ways, word),
+    }
+}
+
+/// The place of the word's pair, if it has one. The hint is where it may stand.
+pub(crate) fn place_near(
+    row: &Row,
+    sets: u32,
+    ways: u32,
+    word: WordId,
+    hint: Option<usize>,
+) -> Option<usize>
+    requires { IsPlaceRow sets ways row.now }
+    ensures { IsOwnPlace word.0 row.now result }
+{
+    match spot_near(row, sets, ways, word, hint) {
+        Spot::Pair(place) => Some(place),
+        Spot::Free(_) | Spot::Nowhere => None,
+    }
+}
+
+/// The entry at a place; None where no pair stands there.
+pub(crate) fn entry_at(row: &[Place], place: usize) -> Option<Entry>
+    requires { place < length row.now }
+    ensures { (d : Place) → result ≡ option_map (λ (p : Pair). p.1) (slice_index_or row.now place d).pair }
+{
+    match row[place].pair {
+        Some((_, entry)) => Some(entry),
         None => None,
     }
 }
 
-/// The words of places.
-fn words_of(alloc: Global, places: &[Place]) -> Result<Vec<Option<WordId>>, Memory>
-    ensures { IfOk result (λ words. words.items ≡ map place_word places.now) }
+/// The place for the word's pair: the one that it has, or a free one of its set. The word has a pair, or its set has room. The
+/// hint is where its pair may stand.
+pub(crate) fn choose(row: &Row, sets: u32, ways: u32, word: WordId, hint: Option<usize>) -> usize
+    requires row { IsPlaceRow sets ways row.now }
+    requires room { (is_some (lookup word.0 (pairs_by_use row.now)) || nat_lt (set_count sets word.0 (pairs_by_use row.now)) ways) ≡ true }
+    ensures within { result < length row.now }
+    ensures set { result / ways ≡ word.0 % sets }
+    ensures may { (d : Place) → MayHold word.0 (slice_index_or row.now result d).pair }
+    ensures others { (j : ℕ) (d : Place) → j < length row.now → j ≢ result → has_word word.0 (slice_index_or row.now j d) ≡ false }
 {
-    let mut words = Vec::new(alloc);
-    for place in places {
-        words.push(place_word(place))?;
+    match spot_near(row, sets, ways, word, hint) {
+        Spot::Pair(place) | Spot::Free(place) => place,
+        Spot::Nowhere => unreachable!(),
     }
-    Ok(words)
 }
 
-impl Row {
-    /// The row of these places.
-    ///
-    /// # Errors
-    /// `Memory` where there is no room for the words.
-    pub(crate) fn new(alloc: Global, places: Vec<Place>) -> Result<Row, Memory>
-        ensures { IfOk result (λ row. row ≡ places.items) }
-    {
-        let words = words_of(alloc, places.as_slice())?;
-        Ok(Row { places, words })
+/// A place for the pair of a word that has none, whose set has room. The hint is a place of the set that may be free: where it
+/// is, no other place is looked at.
+pub(crate) fn choose_free(
+    row: &Row,
+    sets: u32,
+    ways: u32,
+    word: WordId,
+    hint: Option<usize>,
+) -> usize
+    requires row { IsPlaceRow sets ways row.now }
+    requires none { lookup word.0 (pairs_by_use row.now) ≡ None }
+    requires room { nat_lt (set_count sets word.0 (pairs_by_use row.now)) ways ≡ true }
+    ensures within { result < length row.now }
+    ensures set { result / ways ≡ word.0 % sets }
+    ensures may { (d : Place) → MayHold word.0 (slice_index_or row.now result d).pair }
+    ensures others { (j : ℕ) (d : Place) → j < length row.now → j ≢ result → has_word word.0 (slice_index_or row.now j d) ≡ false }
+{
+    let start = start_of(sets, ways, word);
+    match hint {
+        Some(place) if start <= place && place < start + ways as usize && row.is_free(place) =>
+            place,
+        _ => choose(row, sets, ways, word, None),
     }
+}
 
-    /// How many places there are.
-    pub(crate) fn len(&self) -> usize
-        ensures { result ≡ length self.now }
-    {
-        self.places.len()
+/// The one that was used earlier of the best place so far and this one.
+fn earlier_of(row: &[Place], best: Option<usize>, index: usize) -> usize
+    requires index { index < length row.now }
+    requires best { IfSome best (λ k. k < length row.now) }
+    ensures { (d : Place) → result ≡ earlier row.now best index d }
+{
+    match best {
+        Some(other) if row[other].used <= row[index].used => other,
+        _ => index,
     }
+}
 
-    /// The places.
-    pub(crate) fn as_slice(&self) -> &[Place]
-        ensures value { result.now ≡ self.now }
-    {
-        self.places.as_slice()
+/// Whether the place has a pair that may be evicted.
+fn may_go(place: &Place) -> bool
+    ensures { result ≡ place_may_go place.now }
+{
+    match place.pair {
+        Some((_, entry)) => entry.is_evictable(),
+        None => false,
     }
+}
 
-    /// A place.
-    pub(crate) fn at(&self, index: usize) -> Place
-        requires { index < length self.now }
-        ensures { (d : Place) → result ≡ slice_index_or self.now index d }
-    {
-        self.places[index]
+/// The place of the word's set that was used least recently among those with a pair that may be evicted.
+pub(crate) fn victim_place(row: &[Place], sets: u32, ways: u32, word: WordId) -> Option<usize>
+    requires { IsPlaceRow sets ways row.now }
+    ensures { IsLeastUsed (place_gives_way sets word.0) row.now (word.0 % sets * ways) (word.0 % sets * ways + ways) result }
+{
+    let start = start_of(sets, ways, word);
+    let mut best: Option<usize> = None;
+    for index in start..start + ways as usize {
+        if may_go(&row[index]) {
+            best = Some(earlier_of(row, best, index));
+        }
     }
+    best
+}
 
-    /// Whether the word's pair stands at a place.
-    pub(crate) fn has_word(&self, index: usize, word: WordId) -> bool
-        requires { index < length self.now }
-        ensures { (d : Place) → result ≡ has_word word.0 (slice_index_or self.now index d) }
-    {
-        self.words[index] == Some(word)
+/// The place with the least time from this one on; None where every place was used before it.
+pub(crate) fn least_from(row: &[Place], time: u64) -> Option<usize>
+    ensures { IsLeastUsed (is_from time) row.now 0 (length row.now) result }
+{
+    let mut best: Option<usize> = None;
+    for index in 0..row.len() {
+        if row[index].used >= time {
+            best = Some(earlier_of(row, best, index));
+        }
     }
-
-    /// Whether no pair stands at a place.
-    pub(crate) fn is_free(&self, index: usize) -> bool
-        requires { index < length self.now }
-        ensures { (d : Place) → IsTrue result ↔ ((slice_index_or self.now index d).pair ≡ None) }
-    {
-        self.words[index].is_none()
-    }
-
-    /// Gives a place another content.
-    pub(crate) fn set(&mut self, index: usize, place: Place)
-        requires { index < length self.old }
-        ensures { self.new ≡ slice_set self.old index place }
-    {
-        self.words[index] = place_word(&place);
-        self.places[index] = place;
-    }
+    best
 }

@@ -1,14 +1,11 @@
-ghost use Rattle.std.specs.Prelude.{◌≡◌, ℕ, ◌+◌, ◌*◌, ◌/◌, ◌%◌, ◌<◌, ◌≤◌, ◌≢◌, true, false, Some, None, IfSome, IfNone, length, slice_index_or};
+ghost use Rattle.std.specs.Prelude.{◌≡◌, ◌↔◌, ℕ, ◌<◌, ◌≤◌, ◌+◌, IsTrue, IfOk, None, length, map, count_by, slice_index_or, slice_set, if◌then◌else◌};
 ghost use Rattle.word_cache.specs.declared.row.Place.{Place};
 ghost use Rattle.word_cache.specs.Cache.{is_pending, is_evictable};
-ghost use Rattle.word_cache.specs.Row.{IsPlaceRow, has_word};
-ghost use Rattle.std.specs.Prelude.{◌||◌, nat_lt};
-ghost use Rattle.std.specs.Option.{is_some, option_map};
-ghost use Rattle.word_cache.specs.Cache.{Pair, lookup, set_count};
-ghost use Rattle.word_cache.specs.Row.{pairs_by_use, MayHold, IsSpot, IsLeastUsed, earlier, place_gives_way, place_may_go, is_from};
+ghost use Rattle.word_cache.specs.Row.{has_word, place_word, has_pending, has_copy};
 
-use crate::places::Row;
-use dn_base::{WordId, remainder};
+use dn_base::{Memory, WordId};
+use std::alloc::Global;
+use std::marker::Model;
 
 /// What a core's cache has for a word.
 #[derive(Clone, Copy, Debug, PartialEq, Eq)]
@@ -44,16 +41,13 @@ impl Entry {
     }
 }
 
-/// A hint that fits no place.
-pub(crate) const NO_PLACE: usize = usize::MAX;
-
 /// What a cache has for a word.
 #[derive(Clone, Copy, Debug, PartialEq, Eq)]
 pub enum Probe {
-    /// The word has this entry. `place` is a hint: the calls that take it again find the word's pair at once.
+    /// The word has this entry. `place` is a hint: the calls that take it find the word's pair at once.
     Hit { place: usize, entry: Entry },
-    /// The word has no entry, and its set has room for one.
-    Room,
+    /// The word has no entry, and its set has room for one. `place` is a hint: `add_at` finds the room at once.
+    Room { place: usize },
     /// The word has no entry, and its set has no room for one.
     Full,
 }
@@ -65,203 +59,158 @@ pub struct Place {
     pub used: u64,
 }
 
-/// Whether the place has the word's pair.
-pub(crate) fn has_word(place: &Place, word: WordId) -> bool
-    ensures { result ≡ has_word word.0 place.now }
+/// The places of a cache. Beside them are kept the words alone, since a pass over a set reads those, which lie closer
+/// together; and how many places have a pending entry, and how many a copy.
+///
+/// A contract sees the list of places.
+#[derive(Debug, Drop)]
+pub(crate) struct Row {
+    places: Vec<Place>,
+    words: Vec<Option<WordId>>,
+    pending: usize,
+    copies: usize,
+}
+
+impl Model for Row {
+    ghost use Rattle.std.specs.Prelude.{List};
+    ghost use Rattle.word_cache.specs.declared.row.Place.{Place};
+    ghost use Rattle.word_cache.specs.Row.{IsTallied};
+
+    ghost Value = { List Place };
+
+    ghost view = { λ r. r.places.items };
+
+    ghost invariant = { λ r. IsTallied r.places.items r.words.items r.pending r.copies };
+}
+
+/// The word whose pair stands at the place, if there is one.
+fn place_word(place: &Place) -> Option<WordId>
+    ensures { result ≡ place_word place.now }
 {
     match place.pair {
-        Some((other, _)) => other.0 == word.0,
-        None => false,
-    }
-}
-
-/// Where the word's set begins.
-pub(crate) fn start_of(sets: u32, ways: u32, word: WordId) -> usize
-    requires sets { 0 < sets }
-    requires most_sets { sets ≤ 256 }
-    requires most_ways { ways ≤ 16 }
-    ensures { result ≡ word.0 % sets * ways }
-{
-    (remainder(word.0, sets) * ways) as usize
-}
-
-/// The place of the word's pair, if it has one. It looks at the word's set alone.
-pub(crate) fn place_of(row: &[Place], sets: u32, ways: u32, word: WordId) -> Option<usize>
-    requires { IsPlaceRow sets ways row.now }
-    ensures within { IfSome result (λ k. k < length row.now) }
-    ensures some { IfSome result (λ k. (d : Place) → has_word word.0 (slice_index_or row.now k d) ≡ true) }
-    ensures none { IfNone result ((k : ℕ) (d : Place) → k < length row.now → has_word word.0 (slice_index_or row.now k d) ≡ false) }
-{
-    let start = start_of(sets, ways, word);
-    for index in start..start + ways as usize {
-        if has_word(&row[index], word) {
-            return Some(index);
-        }
-    }
-    None
-}
-
-/// The place of the word's pair, if it has one; the hint is where it may stand.
-pub(crate) fn place_near(
-    row: &[Place],
-    sets: u32,
-    ways: u32,
-    word: WordId,
-    hint: usize,
-) -> Option<usize>
-    requires { IsPlaceRow sets ways row.now }
-    ensures within { IfSome result (λ k. k < length row.now) }
-    ensures some { IfSome result (λ k. (d : Place) → has_word word.0 (slice_index_or row.now k d) ≡ true) }
-    ensures none { IfNone result ((k : ℕ) (d : Place) → k < length row.now → has_word word.0 (slice_index_or row.now k d) ≡ false) }
-{
-    if hint < row.len() && has_word(&row[hint], word) {
-        Some(hint)
-    } else {
-        place_of(row, sets, ways, word)
-    }
-}
-
-/// What one pass over the word's set finds for the word.
-#[derive(Clone, Copy, Debug, PartialEq, Eq)]
-pub(crate) enum Spot {
-    /// The place of its pair.
-    Pair(usize),
-    /// It has no pair, and this place of its set has none.
-    Free(usize),
-    /// It has no pair, and no place of its set is free.
-    Nowhere,
-}
-
-/// Where the word's pair stands, or else a free place of its set. It looks at the word's set alone, and once.
-pub(crate) fn spot_of(row: &Row, sets: u32, ways: u32, word: WordId) -> Spot
-    requires { IsPlaceRow sets ways row.now }
-    ensures { IsSpot sets ways word.0 row.now result }
-{
-    let start = start_of(sets, ways, word);
-    let mut own: Option<usize> = None;
-    let mut free: Option<usize> = None;
-
-    // goes on where the pair is found: an exit that depends on the word costs more than the places behind it
-    for index in start..start + ways as usize {
-        if row.has_word(index, word) {
-            own = Some(index);
-        }
-        if row.is_free(index) {
-            free = Some(index);
-        }
-    }
-    match (own, free) {
-        (Some(place), _) => Spot::Pair(place),
-        (None, Some(place)) => Spot::Free(place),
-        (None, None) => Spot::Nowhere,
-    }
-}
-
-/// A place of the word's set without a pair, if there is one.
-pub(crate) fn free_place(row: &[Place], sets: u32, ways: u32, word: WordId) -> Option<usize>
-    requires { IsPlaceRow sets ways row.now }
-    ensures within { IfSome result (λ k. k < length row.now) }
-    ensures some { IfSome result (λ k. (d : Place) → (slice_index_or row.now k d).pair ≡ None) }
-    ensures set { IfSome result (λ k. k / ways ≡ word.0 % sets) }
-    ensures none { IfNone result ((k : ℕ) (d : Place) → k < length row.now → k / ways ≡ word.0 % sets → (slice_index_or row.now k d).pair ≢ None) }
-{
-    let start = start_of(sets, ways, word);
-    for index in start..start + ways as usize {
-        if row[index].pair.is_none() {
-            return Some(index);
-        }
-    }
-    None
-}
-
-/// The entry at a place; None where no pair stands there.
-pub(crate) fn entry_at(row: &[Place], place: usize) -> Option<Entry>
-    requires { place < length row.now }
-    ensures { (d : Place) → result ≡ option_map (λ (p : Pair). p.1) (slice_index_or row.now place d).pair }
-{
-    match row[place].pair {
-        Some((_, entry)) => Some(entry),
+        Some((word, _)) => Some(word),
         None => None,
     }
 }
 
-/// The place for the word's pair: the one that it has, or a free one of its set. The word has a pair, or its set has room.
-pub(crate) fn choose(row: &Row, sets: u32, ways: u32, word: WordId) -> usize
-    requires row { IsPlaceRow sets ways row.now }
-    requires room { (is_some (lookup word.0 (pairs_by_use row.now)) || nat_lt (set_count sets word.0 (pairs_by_use row.now)) ways) ≡ true }
-    ensures within { result < length row.now }
-    ensures set { result / ways ≡ word.0 % sets }
-    ensures may { (d : Place) → MayHold word.0 (slice_index_or row.now result d).pair }
-    ensures others { (j : ℕ) (d : Place) → j < length row.now → j ≢ result → has_word word.0 (slice_index_or row.now j d) ≡ false }
-{
-    match spot_of(row, sets, ways, word) {
-        Spot::Pair(place) | Spot::Free(place) => place,
-        Spot::Nowhere => 0,
-    }
-}
-
-/// The place for the word's pair, as `choose` gives it; the hint is where the word may stand.
-pub(crate) fn choose_near(row: &Row, sets: u32, ways: u32, word: WordId, hint: usize) -> usize
-    requires row { IsPlaceRow sets ways row.now }
-    requires room { (is_some (lookup word.0 (pairs_by_use row.now)) || nat_lt (set_count sets word.0 (pairs_by_use row.now)) ways) ≡ true }
-    ensures within { result < length row.now }
-    ensures set { result / ways ≡ word.0 % sets }
-    ensures may { (d : Place) → MayHold word.0 (slice_index_or row.now result d).pair }
-    ensures others { (j : ℕ) (d : Place) → j < length row.now → j ≢ result → has_word word.0 (slice_index_or row.now j d) ≡ false }
-{
-    if hint < row.len() && row.has_word(hint, word) {
-        hint
-    } else {
-        choose(row, sets, ways, word)
-    }
-}
-
-/// The one that was used earlier of the best place so far and this one.
-fn earlier_of(row: &[Place], best: Option<usize>, index: usize) -> usize
-    requires index { index < length row.now }
-    requires best { IfSome best (λ k. k < length row.now) }
-    ensures { (d : Place) → result ≡ earlier row.now best index d }
-{
-    match best {
-        Some(other) if row[other].used <= row[index].used => other,
-        _ => index,
-    }
-}
-
-/// Whether the place has a pair that may be evicted.
-fn may_go(place: &Place) -> bool
-    ensures { result ≡ place_may_go place.now }
+/// Whether the place has a pending entry.
+fn has_pending(place: &Place) -> bool
+    ensures { result ≡ has_pending place.now }
 {
     match place.pair {
-        Some((_, entry)) => entry.is_evictable(),
+        Some((_, entry)) => entry.is_pending(),
         None => false,
     }
 }
 
-/// The place of the word's set that was used least recently among those with a pair that may be evicted.
-pub(crate) fn victim_place(row: &[Place], sets: u32, ways: u32, word: WordId) -> Option<usize>
-    requires { IsPlaceRow sets ways row.now }
-    ensures { IsLeastUsed (place_gives_way sets word.0) row.now (word.0 % sets * ways) (word.0 % sets * ways + ways) result }
+/// Whether the place has a copy.
+fn has_copy(place: &Place) -> bool
+    ensures { result ≡ has_copy place.now }
 {
-    let start = start_of(sets, ways, word);
-    let mut best: Option<usize> = None;
-    for index in start..start + ways as usize {
-        if may_go(&row[index]) {
-            best = Some(earlier_of(row, best, index));
-        }
-    }
-    best
+    matches!(place.pair, Some((_, Entry::Valid { .. })))
 }
 
-/// The place with the least time from this one on; None where every place was used before it.
-pub(crate) fn least_from(row: &[Place], time: u64) -> Option<usize>
-    ensures { IsLeastUsed (is_from time) row.now 0 (length row.now) result }
+/// How many places pass a test, once one that did or didn't is replaced by one that does or doesn't.
+fn recount(count: usize, did: bool, does: bool) -> usize
+    requires did { (if did then 1 else 0) ≤ count }
+    requires count { count < 9223372036854775808 }
+    ensures { result + (if did then 1 else 0) ≡ count + (if does then 1 else 0) }
 {
-    let mut best: Option<usize> = None;
-    for index in 0..row.len() {
-        if row[index].used >= time {
-            best = Some(earlier_of(row, best, index));
-        }
+    count + usize::from(does) - usize::from(did)
+}
+
+/// The words of places.
+fn words_of(alloc: Global, places: &[Place]) -> Result<Vec<Option<WordId>>, Memory>
+    ensures { IfOk result (λ words. words.items ≡ map place_word places.now) }
+{
+    let mut words = Vec::new(alloc);
+    for place in places {
+        words.push(place_word(place))?;
     }
-    best
+    Ok(words)
+}
+
+impl Row {
+    /// The row of these places, of which none has a pair.
+    ///
+    /// # Errors
+    /// `Memory` where there is no room for the words.
+    pub(crate) fn new(alloc: Global, places: Vec<Place>) -> Result<Row, Memory>
+        requires { (i : ℕ) (d : Place) → i < length places.items → (slice_index_or places.items i d).pair ≡ None }
+        ensures { IfOk result (λ row. row ≡ places.items) }
+    {
+        let words = words_of(alloc, places.as_slice())?;
+        Ok(Row {
+            places,
+            words,
+            pending: 0,
+            copies: 0,
+        })
+    }
+
+    /// How many places there are.
+    pub(crate) fn len(&self) -> usize
+        ensures { result ≡ length self.now }
+    {
+        self.places.len()
+    }
+
+    /// How many places have a pending entry.
+    pub(crate) fn pending(&self) -> usize
+        ensures { result ≡ count_by has_pending self.now }
+    {
+        self.pending
+    }
+
+    /// How many places have a copy.
+    pub(crate) fn copies(&self) -> usize
+        ensures { result ≡ count_by has_copy self.now }
+    {
+        self.copies
+    }
+
+    /// The places.
+    pub(crate) fn as_slice(&self) -> &[Place]
+        ensures value { result.now ≡ self.now }
+    {
+        self.places.as_slice()
+    }
+
+    /// A place.
+    pub(crate) fn at(&self, index: usize) -> Place
+        requires { index < length self.now }
+        ensures { (d : Place) → result ≡ slice_index_or self.now index d }
+    {
+        self.places[index]
+    }
+
+    /// Whether the word's pair stands at a place.
+    pub(crate) fn has_word(&self, index: usize, word: WordId) -> bool
+        requires { index < length self.now }
+        ensures { (d : Place) → result ≡ has_word word.0 (slice_index_or self.now index d) }
+    {
+        self.words[index] == Some(word)
+    }
+
+    /// Whether no pair stands at a place.
+    pub(crate) fn is_free(&self, index: usize) -> bool
+        requires { index < length self.now }
+        ensures { (d : Place) → IsTrue result ↔ ((slice_index_or self.now index d).pair ≡ None) }
+    {
+        self.words[index].is_none()
+    }
+
+    /// Gives a place another content.
+    pub(crate) fn set(&mut self, index: usize, place: Place)
+        requires { index < length self.old }
+        ensures { self.new ≡ slice_set self.old index place }
+    {
+        let old = self.at(index);
+        let pending = recount(self.pending, has_pending(&old), has_pending(&place));
+        let copies = recount(self.copies, has_copy(&old), has_copy(&place));
+        self.pending = pending;
+        self.copies = copies;
+        self.words[index] = place_word(&place);
+        self.places[index] = place;
+    }
 }

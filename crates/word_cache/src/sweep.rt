@@ -1,8 +1,7 @@
-ghost use Rattle.std.specs.Prelude.{◌≡◌, map};
+ghost use Rattle.std.specs.Prelude.{◌≡◌, true, false, None, map};
 ghost use Rattle.word_cache.specs.Row.{pair_after_phase, pair_after_grant, after_phase, after_grant};
 
-use crate::places::Row;
-use crate::row::{Entry, Place};
+use crate::row::{Entry, Place, Row};
 use dn_base::{PhaseId, WordId};
 use region_table::WordSet;
 use write_signature::Signature;
@@ -45,19 +44,20 @@ pub(crate) fn sweep_phase(places: &mut Row, words: &WordSet)
     }
 }
 
-/// What is left of a pair at a grant.
-fn pair_trusted(
+/// Whether the pair may be stale at a grant.
+fn is_stale(
     pair: Option<(WordId, Entry)>,
     signature: &Signature,
     phase: PhaseId,
     words: &WordSet,
-) -> Option<(WordId, Entry)>
-    ensures { result ≡ pair_after_grant signature.now phase.0 words.now pair }
+) -> bool
+    ensures stale { result ≡ true → pair_after_grant signature.now phase.0 words.now pair ≡ None }
+    ensures kept { result ≡ false → pair_after_grant signature.now phase.0 words.now pair ≡ pair }
 {
-    match pair? {
-        (word, Entry::Valid { .. }) if words.contains(word) && signature.may_hold(word, phase) =>
-            None,
-        other => Some(other),
+    match pair {
+        Some((word, Entry::Valid { .. })) => signature.may_hold(word, phase)
+            && words.contains(word),
+        _ => false,
     }
 }
 
@@ -67,12 +67,8 @@ pub(crate) fn sweep_grant(places: &mut Row, signature: &Signature, phase: PhaseI
 {
     for index in 0..places.len() {
         let Place { pair, used } = places.at(index);
-        places.set(
-            index,
-            Place {
-                pair: pair_trusted(pair, signature, phase, words),
-                used,
-            },
-        );
+        if is_stale(pair, signature, phase, words) {
+            places.set(index, Place { pair: None, used });
+        }
     }
 }

@@ -1,8 +1,8 @@
 ghost use Rattle.std.specs.Prelude.{◌≡◌, ℕ, ◌+◌, ◌*◌, ◌<◌, ◌≤◌, length};
 ghost use Rattle.word_cache.specs.Row.{pairs_by_use, IsPlaceRow, AreFrom, AreBefore, IsCacheRow, last_time};
 
-use crate::places::Row;
-use crate::row::{Place, least_from};
+use crate::places::least_from;
+use crate::row::{Place, Row};
 
 /// The last time of the clock.
 pub(crate) const LAST: u64 = u64::MAX;

@@ -8,8 +8,8 @@ use Rattle.word_cache.proofs.edits.use_again.Goals as goal
 
 pub returns-in-Some-clause-row : goal.returns-in-Some-clause-row
 returns-in-Some-clause-row c =
-    let within = rw c.as_slice.ensures.value at c.in-Some.ensures.within in
-    let here = rw c.as_slice.ensures.value at (c.in-Some.ensures.some c.at-pair.result) in
+    let within = c.in-Some.ensures.0 in
+    let here = c.in-Some.ensures.1 c.at-pair.result in
     let mine = pair_there c.args.word (get_or c.tick-now.new.places c.in-Some.place c.at-pair.result).pair here in
     let same = ap (λ (p : Place). p.pair) (c.at-pair.ensures c.at-pair.result) ∙ mine.1 in
     let did = wrote c.args.sets c.args.ways c.in-Some.place c.tick-now.result c.at-pair.result c.args.word mine.0 c.tick-now.new.places c.tick-now.ensures.row within c.tick-now.ensures.before
@@ -20,8 +20,8 @@ returns-in-Some-clause-row c =
 
 pub returns-in-Some-clause-pairs : goal.returns-in-Some-clause-pairs
 returns-in-Some-clause-pairs c =
-    let within = rw c.as_slice.ensures.value at c.in-Some.ensures.within in
-    let here = rw c.as_slice.ensures.value at (c.in-Some.ensures.some c.at-pair.result) in
+    let within = c.in-Some.ensures.0 in
+    let here = c.in-Some.ensures.1 c.at-pair.result in
     let mine = pair_there c.args.word (get_or c.tick-now.new.places c.in-Some.place c.at-pair.result).pair here in
     let same = ap (λ (p : Place). p.pair) (c.at-pair.ensures c.at-pair.result) ∙ mine.1 in
     let did = wrote c.args.sets c.args.ways c.in-Some.place c.tick-now.result c.at-pair.result c.args.word mine.0 c.tick-now.new.places c.tick-now.ensures.row within c.tick-now.ensures.before
@@ -33,6 +33,6 @@ returns-in-Some-clause-pairs c =
 
 pub returns-in_default-clause-pairs : goal.returns-in_default-clause-pairs
 returns-in_default-clause-pairs c =
-    let absent = rw c.as_slice.ensures.value at (rw c.in_default.is at c.place_near.ensures.none) in
+    let absent = rw c.in_default.is at c.place_near.ensures in
     let none = get_none c.args.word.0 c.tick-now.new.places absent in
     absurd (c.requires.there (ap (lookup c.args.word.0) (sym c.tick-now.ensures.pairs) ∙ none))

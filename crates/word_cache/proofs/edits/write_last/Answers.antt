@@ -1,7 +1,7 @@
 use Rattle.std.proofs.Common.{None, ap, ◌∙◌}
 use Rattle.word_cache.specs.declared.row.Place.{Place}
-use Rattle.word_cache.specs.Cache.{lookup, put}
-use Rattle.word_cache.proofs.EditLemmas.{wrote, entry_held}
+use Rattle.word_cache.specs.Cache.{put}
+use Rattle.word_cache.proofs.EditLemmas.{wrote}
 use Rattle.word_cache.proofs.edits.write_last.Goals as goal
 
 -- any place
@@ -10,9 +10,8 @@ some_place = record { pair = None; used = 0 }
 
 pub returns : goal.returns
 returns c =
-    let within = c.choose_near-place.ensures.within in
-    let may = c.choose_near-place.ensures.may some_place in
-    let others = c.choose_near-place.ensures.others in
-    let did = wrote c.args.sets c.args.ways c.choose_near-place.result c.tick-used.result some_place c.args.word c.args.entry c.tick-used.new.places c.tick-used.ensures.row within c.tick-used.ensures.before c.choose_near-place.ensures.set may others in
-    let held = entry_held c.args.sets c.args.ways c.choose_near-place.result some_place c.args.word c.tick-used.new.places c.tick-used.ensures.row within may others in
-    record { row = rw (c.set.ensures, c.tick-used.ensures.clock) did.0; pairs = rw c.set.ensures (did.1 ∙ ap (put c.args.word c.args.entry) c.tick-used.ensures.pairs); had = rw c.as_slice.ensures.value at (c.entry_at-had.ensures some_place) ∙ held ∙ ap (lookup c.args.word.0) c.tick-used.ensures.pairs }
+    let within = c.choose-place.ensures.within in
+    let may = c.choose-place.ensures.may some_place in
+    let others = c.choose-place.ensures.others in
+    let did = wrote c.args.sets c.args.ways c.choose-place.result c.tick-used.result some_place c.args.word c.args.entry c.tick-used.new.places c.tick-used.ensures.row within c.tick-used.ensures.before c.choose-place.ensures.set may others in
+    record { row = rw (c.set.ensures, c.tick-used.ensures.clock) did.0; pairs = rw c.set.ensures (did.1 ∙ ap (put c.args.word c.args.entry) c.tick-used.ensures.pairs) }

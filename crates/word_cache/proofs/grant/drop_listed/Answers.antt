@@ -2,7 +2,7 @@ use Rattle.std.proofs.Common.{ap, ◌∙◌}
 use Rattle.word_cache.specs.Row.{pairs_by_use}
 use Rattle.word_cache.proofs.SweepLemmas.{row_after_grant, swept_grant}
 use Rattle.word_cache.proofs.GrantLemmas.{ordered}
-use Rattle.word_cache.proofs.grant.drop_stale.Goals as goal
+use Rattle.word_cache.proofs.grant.drop_listed.Goals as goal
 
 pub drop_each-requires-clause-order : goal.drop_each-requires-clause-order
 drop_each-requires-clause-order c =

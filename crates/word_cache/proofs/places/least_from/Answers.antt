@@ -3,8 +3,8 @@ use Rattle.std.proofs.lemmas.Bool.Decides.{nat_tests}
 use Rattle.word_cache.specs.declared.row.Place.{Place}
 use Rattle.word_cache.specs.Row.{is_from}
 use Rattle.word_cache.proofs.TimeLemmas.{first_more, first_pass, same_read}
-use Rattle.word_cache.proofs.row.least_from.Goals as goal
-use Rattle.word_cache.proofs.row.least_from.Goals.{then-row-index, else-row-index}
+use Rattle.word_cache.proofs.places.least_from.Goals as goal
+use Rattle.word_cache.proofs.places.least_from.Goals.{then-row-index, else-row-index}
 
 pub loop-index-preserved : goal.loop-index-preserved
 loop-index-preserved c =

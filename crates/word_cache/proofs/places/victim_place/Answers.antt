@@ -5,8 +5,8 @@ use Rattle.word_cache.proofs.TimeLemmas.{first_more, first_pass, same_read}
 use Rattle.word_cache.proofs.SetLemmas.{in_set}
 use Rattle.word_cache.proofs.CountLemmas.{counted}
 use Rattle.word_cache.proofs.EditLemmas.{way_given}
-use Rattle.word_cache.proofs.row.victim_place.Goals as goal
-use Rattle.word_cache.proofs.row.victim_place.Goals.{then-may_go, else-may_go}
+use Rattle.word_cache.proofs.places.victim_place.Goals as goal
+use Rattle.word_cache.proofs.places.victim_place.Goals.{then-may_go, else-may_go}
 
 pub loop-index-preserved : goal.loop-index-preserved
 loop-index-preserved c =

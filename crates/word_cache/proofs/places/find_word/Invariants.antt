@@ -1,7 +1,7 @@
 use Rattle.std.proofs.Common.{◌≡◌, ◌≢◌, ℕ, ◌<◌, ◌≤◌, true, false, List, get_or, length, Option, Some, None}
 use Rattle.word_cache.specs.declared.row.Place.{Place}
 use Rattle.word_cache.specs.Row.{has_word}
-use Rattle.word_cache.proofs.row.spot_of.Given as goal
+use Rattle.word_cache.proofs.places.find_word.Given as goal
 
 -- the place of the word's pair so far
 abbrev pub IsOwn : ℕ → List Place → ℕ → ℕ → Option ℕ → Type 0

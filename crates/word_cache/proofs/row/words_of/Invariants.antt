@@ -1,6 +1,6 @@
 use Rattle.std.proofs.Common.{◌≡◌, ◌++◌, map, drop}
 use Rattle.word_cache.specs.Row.{place_word}
-use Rattle.word_cache.proofs.places.words_of.Given as goal
+use Rattle.word_cache.proofs.row.words_of.Given as goal
 
 abbrev pub invariant-loop-place : goal.invariant-loop-place
 invariant-loop-place l =

@@ -1,5 +1,5 @@
 use Rattle.word_cache.specs.Row.{IsLeastUsed, is_from}
-use Rattle.word_cache.proofs.row.least_from.Given as goal
+use Rattle.word_cache.proofs.places.least_from.Given as goal
 
 abbrev pub invariant-loop-index : goal.invariant-loop-index
 invariant-loop-index l = IsLeastUsed (is_from l.time) l.row 0 l.index l.best
