@@ -1,0 +1,79 @@
+//! What is said of each kind of fault.
+ghost use Rattle.std.specs.Prelude.{◌≡◌};
+ghost use Rattle.fault_sentences.specs.Sentences.{faulty_line, complaint, amendment};
+
+use rv_assembler::SourceFault;
+
+/// The line that has the fault; None where it is no line's.
+pub(crate) fn faulty_line(fault: SourceFault) -> Option<u32>
+    ensures { result ≡ faulty_line fault }
+{
+    match fault {
+        SourceFault::TooLarge | SourceFault::Memory => None,
+        SourceFault::BadByte { line }
+        | SourceFault::BadNumber { line }
+        | SourceFault::LineLimit { line }
+        | SourceFault::UnknownWord { line }
+        | SourceFault::BadOperand { line }
+        | SourceFault::OutOfRange { line }
+        | SourceFault::DoubleName { line }
+        | SourceFault::UnknownName { line }
+        | SourceFault::Misplaced { line }
+        | SourceFault::Limit { line } => Some(line),
+    }
+}
+
+/// What is wrong.
+pub(crate) fn complaint(fault: SourceFault) -> &'static [u8]
+    ensures { result.now ≡ complaint fault }
+{
+    match fault {
+        SourceFault::TooLarge => b"The text has more than 1048576 bytes.",
+        SourceFault::BadByte { .. } =>
+            b"Outside of comments only blanks, letters, digits and `_ . , : ( ) -` may stand.",
+        SourceFault::BadNumber { .. } =>
+            b"What begins with a digit or `-` is to be a number from -2147483648 to 4294967295.",
+        SourceFault::LineLimit { .. } =>
+            b"A line has at most 1024 bytes, and a text at most 65536 lines.",
+        SourceFault::UnknownWord { .. } => b"No statement begins with this word.",
+        SourceFault::BadOperand { .. } =>
+            b"This isn't the form of the statement, or a declared name begins with `.`.",
+        SourceFault::OutOfRange { .. } =>
+            b"A number is out of its range, or a label is too far away.",
+        SourceFault::DoubleName { .. } => b"The name that this line declares is declared already.",
+        SourceFault::UnknownName { .. } => b"No line declares this name as what is wanted here.",
+        SourceFault::Misplaced { .. } => b"This statement may not stand here.",
+        SourceFault::Limit { .. } =>
+            b"With this line the program is larger than a program may be.",
+        SourceFault::Memory => b"There was no memory.",
+    }
+}
+
+/// How it is mended.
+pub(crate) fn amendment(fault: SourceFault) -> &'static [u8]
+    ensures { result.now ≡ amendment fault }
+{
+    match fault {
+        SourceFault::TooLarge => b"Leave out blanks and comments, or make two programs of it.",
+        SourceFault::BadByte { .. } =>
+            b"Leave the byte out. If it belongs to a comment, put `#` before it.",
+        SourceFault::BadNumber { .. } =>
+            b"Write decimal digits, or `0x` and hexadecimal digits. A name may not begin with a digit.",
+        SourceFault::LineLimit { .. } => b"Shorten the line, or leave out lines before it.",
+        SourceFault::UnknownWord { .. } =>
+            b"Words are in lower case. A label has `:` behind it. `.forall` needs `.version 2` in the first line.",
+        SourceFault::BadOperand { .. } =>
+            b"Write the operands as the table of statements has them, with a comma between two.",
+        SourceFault::OutOfRange { .. } =>
+            b"Write a number of the range, or make a larger one by `li` in a register.",
+        SourceFault::DoubleName { .. } =>
+            b"Labels, regions and locks share one set of names: choose another name.",
+        SourceFault::UnknownName { .. } =>
+            b"Declare it, or look how it is spelled: names are case-sensitive.",
+        SourceFault::Misplaced { .. } =>
+            b"Tasks stand behind a `.phase`, each core has one task in a phase, and effects stand behind their task.",
+        SourceFault::Limit { .. } =>
+            b"A program has at most 16384 code words, 65536 data words, 256 regions (4096 in version 2), 32 locks, 64 phases and 64 tasks.",
+        SourceFault::Memory => b"Give it more memory.",
+    }
+}
