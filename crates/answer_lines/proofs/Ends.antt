@@ -21,7 +21,7 @@ use Rattle.answer_lines.specs.declared.line.AnswerLine as line
 use Rattle.answer_lines.specs.declared.line.AnswerLine.{AnswerLine}
 use Rattle.answer_lines.specs.declared.line.Count as count
 use Rattle.answer_lines.specs.declared.line.Count.{Count}
-use Rattle.answer_lines.specs.Parts.{IsNumber, two_fields, StandTwo}
+use Rattle.answer_lines.specs.Parts.{IsNumber, pair_fields, StandPair}
 use Rattle.answer_lines.specs.Lines.{HasGrantNumbers, HasTrapNumbers, HasEndNumbers, HasStopNumbers, HasTaskNumbers, IsShownWord, IsAnswerLine, answer_line, trap_front, trap_rest, stop_by, stop_text, all_traps, count_front, count_line_of, NoCount, all_counts}
 
 -- what holds of all kinds in a list of them holds of each
@@ -73,7 +73,7 @@ counts-length = refl
 
 -- no end of a task's line stands there where none of its forms does
 no-stop-by : (bytes : List ℕ) → NoneStands IsNumber (field (codes "finished retired ") newline) bytes → NoneStands IsNumber (field (codes "fuel retired ") newline) bytes
-    → ((a b : ℕ) (rest : List ℕ) → StandTwo (codes "waits ") (codes "retired ") 10 bytes a b rest → ⊥)
+    → ((a b : ℕ) (rest : List ℕ) → StandPair (codes "waits ") (codes "retired ") 10 bytes a b rest → ⊥)
     → ((k : TrapKind) → NoneStands HasTrapNumbers (trap_rest (trap_front k)) bytes)
     → (e : EndShown) (n : ℕ) (rest : List ℕ) → HasEndNumbers e n → bytes ≡ stop_by e n ++ rest → ⊥
 no-stop-by bytes done spent waits traps shown.TheVariants.Finished n rest fits is = done n rest (record { fits = fits; parts = is })
@@ -82,7 +82,7 @@ no-stop-by bytes done spent waits traps (shown.TheVariants.Trap k pc value) n re
 no-stop-by bytes done spent waits traps (shown.TheVariants.Waits lock) n rest fits is = waits lock.0 n rest (record { first_from = fits.0; second_from = fits.1; parts = is })
 
 pub no-stop : (bytes : List ℕ) → NoneStands IsNumber (field (codes "finished retired ") newline) bytes → NoneStands IsNumber (field (codes "fuel retired ") newline) bytes
-    → ((a b : ℕ) (rest : List ℕ) → StandTwo (codes "waits ") (codes "retired ") 10 bytes a b rest → ⊥)
+    → ((a b : ℕ) (rest : List ℕ) → StandPair (codes "waits ") (codes "retired ") 10 bytes a b rest → ⊥)
     → ((k : TrapKind) → NoneStands HasTrapNumbers (trap_rest (trap_front k)) bytes)
     → NoneStands HasStopNumbers stop_text bytes
 no-stop bytes done spent waits traps s rest st = no-stop-by bytes done spent waits traps s.end s.retired rest st.fits st.parts
@@ -95,7 +95,7 @@ trap-regroup x t n e = simp append_assoc
 
 -- the end of a task's line is written as a task's line is
 stop-is : (e : EndShown) (n : ℕ) → end_text e ++ codes " retired " ++ decimal n ++ newline ≡ stop_by e n
-unfolding two_fields field trap_rest
+unfolding pair_fields field trap_rest
 stop-is shown.TheVariants.Finished n = refl
 stop-is shown.TheVariants.Fuel n = refl
 stop-is (shown.TheVariants.Trap k pc value) n =
@@ -106,8 +106,8 @@ task-regroup : (name a b e t n r : List ℕ) → (name ++ a ++ space ++ b ++ spa
 task-regroup name a b e t n r = simp append_assoc
 
 -- a task's line begins with its phase and core
-pub task-parts : (t : TaskEnd) (r : List ℕ) → task_line t ++ r ≡ two_fields (codes "task ") [] 32 t.phase.0 t.core.0 ++ (stop_by t.end t.retired ++ r)
-unfolding task_line two_fields field
+pub task-parts : (t : TaskEnd) (r : List ℕ) → task_line t ++ r ≡ pair_fields (codes "task ") [] 32 t.phase.0 t.core.0 ++ (stop_by t.end t.retired ++ r)
+unfolding task_line pair_fields field
 task-parts t r =
     task-regroup (codes "task ") (decimal t.phase.0) (decimal t.core.0) (end_text t.end) (codes " retired ") (decimal t.retired) r
     ∙ ap (λ xs. ((codes "task " ++ decimal t.phase.0 ++ space) ++ (decimal t.core.0 ++ space)) ++ (xs ++ r)) (stop-is t.end t.retired)

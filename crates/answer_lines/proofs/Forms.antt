@@ -12,16 +12,16 @@ use Rattle.document_parts.proofs.Words.{word-one}
 use Rattle.run_report.specs.Answer.{word_line}
 use Rattle.run_report.specs.Grants.{grant_line}
 use Rattle.answer_lines.specs.declared.tasks.Trapped.{Trapped}
-use Rattle.answer_lines.specs.Parts.{IsNumber, two_fields, StandTwo}
+use Rattle.answer_lines.specs.Parts.{IsNumber, pair_fields, StandPair}
 use Rattle.answer_lines.specs.Lines.{trap_rest, address_line, IsShownWord, StandWord}
 
-pub two-parts : (first second : List ℕ) (e a b : ℕ) (r : List ℕ) → two_fields first second e a b ++ r ≡ field first space a ++ (field second (e ∷ []) b ++ r)
-unfolding two_fields
+pub two-parts : (first second : List ℕ) (e a b : ℕ) (r : List ℕ) → pair_fields first second e a b ++ r ≡ field first space a ++ (field second (e ∷ []) b ++ r)
+unfolding pair_fields
 two-parts first second e a b r = append_assoc (field first space a) (field second (e ∷ []) b) r
 
 -- where two numbers were found in front of some bytes, other two there are the same
-pub two-next : (first second : List ℕ) (e : ℕ) → is_ascii_digit e ≡ false → (bytes : List ℕ) (a b : ℕ) (r : List ℕ) → StandTwo first second e bytes a b r
-    → (x y : ℕ) (q : List ℕ) → IsNumber x → IsNumber y → bytes ≡ two_fields first second e x y ++ q → (a ≡ x) × (b ≡ y) × (r ≡ q)
+pub two-next : (first second : List ℕ) (e : ℕ) → is_ascii_digit e ≡ false → (bytes : List ℕ) (a b : ℕ) (r : List ℕ) → StandPair first second e bytes a b r
+    → (x y : ℕ) (q : List ℕ) → IsNumber x → IsNumber y → bytes ≡ pair_fields first second e x y ++ q → (a ≡ x) × (b ≡ y) × (r ≡ q)
 two-next first second e other bytes a b r found x y q fx fy is =
     let parts = sym (two-parts first second e a b r) ∙ sym found.parts ∙ is ∙ two-parts first second e x y q in
     let one = field-one first 32 0 4294967295 refl (omega arith) a x _ _ found.first_from fx parts in
@@ -35,8 +35,8 @@ two-regroup name a b tail r = simp append_assoc
 two-regroup-line : (name a b l r : List ℕ) → (name ++ a ++ space ++ b ++ space ++ l ++ newline) ++ r ≡ ((name ++ a ++ space) ++ (b ++ space)) ++ ((l ++ newline) ++ r)
 two-regroup-line name a b l r = simp append_assoc
 
-pub grant-parts : (g : Grant) (r : List ℕ) → grant_line g ++ r ≡ two_fields (codes "grant ") [] 32 g.phase.0 g.core.0 ++ (field [] newline g.lock.0 ++ r)
-unfolding grant_line two_fields field
+pub grant-parts : (g : Grant) (r : List ℕ) → grant_line g ++ r ≡ pair_fields (codes "grant ") [] 32 g.phase.0 g.core.0 ++ (field [] newline g.lock.0 ++ r)
+unfolding grant_line pair_fields field
 grant-parts g r = two-regroup-line (codes "grant ") (decimal g.phase.0) (decimal g.core.0) (decimal g.lock.0) r
 
 pub trap-parts : (front : List ℕ) (t : Trapped) (r : List ℕ)

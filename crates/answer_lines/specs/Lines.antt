@@ -21,7 +21,7 @@ use Rattle.answer_lines.specs.declared.line.Count as count
 use Rattle.answer_lines.specs.declared.line.Count.{Count}
 use Rattle.answer_lines.specs.declared.tasks.Trapped.{Trapped}
 use Rattle.answer_lines.specs.declared.tasks.Stopped.{Stopped}
-use Rattle.answer_lines.specs.Parts.{IsNumber, two_fields}
+use Rattle.answer_lines.specs.Parts.{IsNumber, pair_fields}
 
 -- ---- the numbers of a line
 
@@ -93,7 +93,7 @@ abbrev pub stop_by : EndShown → ℕ → List ℕ
 stop_by shown.TheVariants.Finished retired = field (codes "finished retired ") newline retired
 stop_by shown.TheVariants.Fuel retired = field (codes "fuel retired ") newline retired
 stop_by (shown.TheVariants.Trap k pc value) retired = trap_rest (trap_front k) (record { pc = pc; value = value; retired = retired })
-stop_by (shown.TheVariants.Waits lock) retired = two_fields (codes "waits ") (codes "retired ") 10 lock.0 retired
+stop_by (shown.TheVariants.Waits lock) retired = pair_fields (codes "waits ") (codes "retired ") 10 lock.0 retired
 
 abbrev pub stop_text : Stopped → List ℕ
 stop_text s = stop_by s.end s.retired

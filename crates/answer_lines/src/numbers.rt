@@ -3,7 +3,7 @@ ghost use Rattle.std.specs.Prelude.{◌≡◌, ℕ, List, false, IfSome, IfNone}
 ghost use Rattle.std.specs.Char.{is_ascii_digit};
 ghost use Rattle.run_report.specs.Grants.{grant_line};
 ghost use Rattle.document_parts.specs.Field.{Stands, NoneStands};
-ghost use Rattle.answer_lines.specs.Parts.{StandTwo};
+ghost use Rattle.answer_lines.specs.Parts.{StandPair};
 ghost use Rattle.answer_lines.specs.Lines.{HasGrantNumbers};
 
 use dn_base::{CoreId, Grant, LockId, PhaseId};
@@ -18,8 +18,8 @@ pub(crate) fn two_numbers<'a>(
     stop: u8,
 ) -> Option<(u32, u32, &'a [u8])>
     requires { is_ascii_digit stop ≡ false }
-    ensures some { IfSome result (λ f. StandTwo first.now second.now stop bytes.now f.0 f.1 f.2.now) }
-    ensures none { IfNone result ((a b : ℕ) (rest : List ℕ) → StandTwo first.now second.now stop bytes.now a b rest → ⊥) }
+    ensures some { IfSome result (λ f. StandPair first.now second.now stop bytes.now f.0 f.1 f.2.now) }
+    ensures none { IfNone result ((a b : ℕ) (rest : List ℕ) → StandPair first.now second.now stop bytes.now a b rest → ⊥) }
 {
     let (one, behind) = field(bytes, first, 0, u32::MAX, b' ')?;
     let (other, rest) = field(behind, second, 0, u32::MAX, stop)?;

@@ -3,7 +3,7 @@ use Rattle.dn_base.specs.declared.ids.Grant.{Grant}
 use Rattle.text_pieces.specs.Pieces.{newline}
 use Rattle.document_parts.specs.Field.{field}
 use Rattle.document_parts.proofs.Fields.{if-none}
-use Rattle.answer_lines.specs.Parts.{two_fields}
+use Rattle.answer_lines.specs.Parts.{pair_fields}
 use Rattle.answer_lines.proofs.Forms.{two-next, grant-parts}
 use Rattle.answer_lines.proofs.numbers.grant.Goals as goal
 
@@ -25,6 +25,6 @@ returns-clause-some c =
     record {
       fits = record { phase = c.in_ok-phase.ensures.some.first_from; core = c.in_ok-phase.ensures.some.second_from; lock = c.in_ok-lock.ensures.some.fits };
       parts =
-          c.in_ok-phase.ensures.some.parts ∙ ap (λ bs. two_fields (codes "grant ") [] 32 c.in_ok-phase.phase c.in_ok-phase.core ++ bs) c.in_ok-lock.ensures.some.parts
+          c.in_ok-phase.ensures.some.parts ∙ ap (λ bs. pair_fields (codes "grant ") [] 32 c.in_ok-phase.phase c.in_ok-phase.core ++ bs) c.in_ok-lock.ensures.some.parts
           ∙ sym (grant-parts g c.in_ok-lock.rest.now);
     }

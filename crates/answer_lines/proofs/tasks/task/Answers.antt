@@ -1,7 +1,7 @@
 use Rattle.std.proofs.Common.{◌≡◌, ◌++◌, [], ◌∷◌, codes, refl, sym, ap, ◌∙◌, arith}
 use Rattle.rv_core.specs.declared.ending.TaskEnd.{TaskEnd}
 use Rattle.document_parts.proofs.Fields.{if-none}
-use Rattle.answer_lines.specs.Parts.{two_fields}
+use Rattle.answer_lines.specs.Parts.{pair_fields}
 use Rattle.answer_lines.proofs.Forms.{two-next}
 use Rattle.answer_lines.proofs.Ends.{task-parts}
 use Rattle.answer_lines.proofs.tasks.task.Goals as goal
@@ -25,6 +25,6 @@ returns-clause-some c =
     record {
       fits = record { phase = c.in_ok-phase.ensures.some.first_from; core = c.in_ok-phase.ensures.some.second_from; ended = c.in_ok-stopped.ensures.some.fits };
       parts =
-          c.in_ok-phase.ensures.some.parts ∙ ap (λ bs. two_fields (codes "task ") [] 32 c.in_ok-phase.phase c.in_ok-phase.core ++ bs) c.in_ok-stopped.ensures.some.parts
+          c.in_ok-phase.ensures.some.parts ∙ ap (λ bs. pair_fields (codes "task ") [] 32 c.in_ok-phase.phase c.in_ok-phase.core ++ bs) c.in_ok-stopped.ensures.some.parts
           ∙ sym (task-parts t c.in_ok-stopped.rest.now);
     }
