@@ -1,5 +1,6 @@
 ghost use Rattle.std.specs.Prelude.{◌≡◌, ℕ, ◌<◌, ◌≤◌, ◌||◌, ◌⊎◌, IfOk, OnOk, IfSome, IfNone, length, true, false};
 ghost use Rattle.std.specs.List.{All};
+ghost use Rattle.std.specs.List.Sorted.{IsNonDecreasingBy, IsPermutation};
 ghost use Rattle.region_table.specs.declared.interval.Interval.{Interval};
 ghost use Rattle.region_table.specs.Merging.{IsNext};
 ghost use Rattle.region_table.specs.Words.{has, in_interval, IsCanonical, IsUnion, IsCommon, IsLeastCommon};
@@ -31,6 +32,29 @@ pub(crate) fn join(out: &mut Vec<Interval>, next: Interval) -> Result<(), Memory
         Some(last) => out.push(last)?,
     }
     Ok(())
+}
+
+/// The same intervals, by their starts.
+pub(crate) fn by_starts(mut intervals: Vec<Interval>) -> Vec<Interval>
+    ensures same { IsPermutation intervals.items result.items }
+    ensures rising { IsNonDecreasingBy (λ (i : Interval). i.lo) result.items }
+{
+    intervals.sort_unstable_by_key(|interval| interval.lo);
+    intervals
+}
+
+/// The intervals that have the words of these, which rise by their starts.
+pub(crate) fn all_joined(alloc: Global, rising: &[Interval]) -> Result<Vec<Interval>, Memory>
+    requires some { All (λ (i : Interval). i.lo < i.hi) rising.now }
+    requires rising { IsNonDecreasingBy (λ (i : Interval). i.lo) rising.now }
+    ensures canonical { IfOk result (λ out. IsCanonical out.items) }
+    ensures words { IfOk result (λ out. (w : ℕ) → has out.items w ≡ has rising.now w) }
+{
+    let mut out = Vec::new(alloc);
+    for interval in rising {
+        join(&mut out, *interval)?;
+    }
+    Ok(out)
 }
 
 /// Whether interval `i` of `a` comes before interval `j` of `b`: the one that begins earlier does.

@@ -1,9 +1,10 @@
 ghost use Rattle.std.specs.Prelude.{◌≡◌, ◌↔◌, ℕ, ◌<◌, ◌≤◌, List, [], ◌∷◌, IsTrue, IfOk, IfSome, IfNone};
+ghost use Rattle.std.specs.List.{All};
 ghost use Rattle.region_table.specs.declared.interval.Interval.{Interval};
 ghost use Rattle.region_table.specs.Words.{has, IsCanonical, IsUnion, IsCommon, Meet, IsLeastCommon};
 
 use crate::interval::Interval;
-use crate::merging::{least_common_word, merged};
+use crate::merging::{all_joined, by_starts, least_common_word, merged};
 use crate::searching::first_past;
 use dn_base::{Memory, WordId};
 use std::alloc::Global;
@@ -60,6 +61,19 @@ impl WordSet {
         ensures { result ≡ intervals.items }
     {
         WordSet { intervals }
+    }
+
+    /// The words of all these intervals, of which each has a word. Its time grows with their number times its logarithm.
+    ///
+    /// # Errors
+    /// `Memory` where there is no room.
+    pub fn of_all(alloc: Global, intervals: Vec<Interval>) -> Result<WordSet, Memory>
+        requires { All (λ (i : Interval). i.lo < i.hi) intervals.items }
+        ensures { IfOk result (λ set. (w : ℕ) → has set w ≡ has intervals.items w) }
+    {
+        let rising = by_starts(intervals);
+        let intervals = all_joined(alloc, rising.as_slice())?;
+        Ok(WordSet { intervals })
     }
 
     /// The words of either set. Its time grows with the intervals of the two.

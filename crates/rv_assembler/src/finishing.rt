@@ -91,7 +91,7 @@ fn words_of(alloc: Global, words: u32, claims: &[Claim], usage: Usage) -> Result
     ensures { IfOk result (λ set. set ≡ words_within words claims.now usage) }
 {
     let intervals = intervals(alloc, words, claims, usage)?;
-    united(alloc, intervals.as_slice())
+    united(alloc, intervals)
 }
 
 /// By the number of a lock, the words that claims have under it, to read.
