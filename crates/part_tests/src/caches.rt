@@ -3,7 +3,7 @@ ghost use Rattle.std.specs.Prelude.{◌≤◌};
 use dn_base::{Memory, WordId};
 use std::alloc::Global;
 use std::test::Fail;
-use word_cache::{Entry, Place, WordCache};
+use word_cache::{Entry, Place, Probe, WordCache};
 
 /// A copy of 0 that is not marked.
 const COPY: Entry = Entry::Valid {
@@ -29,6 +29,16 @@ enum Act {
     Set(Entry),
     Change(Entry),
     Touch,
+    Remove,
+}
+
+/// Which calls do it: those that take a word alone, or those that take a hint too, which is the place that a probe of the word
+/// gives, or a neighbour of that place.
+#[derive(Clone, Copy)]
+enum Calls {
+    ByWord,
+    Probed,
+    Misled,
 }
 
 /// Does this with the word, where the cache has a place for it.
@@ -43,27 +53,59 @@ fn apply(cache: &mut WordCache, word: WordId, what: Act) {
         Act::Change(entry) if is_there => cache.change(word, entry),
         Act::Touch if is_there => cache.touch(word),
         Act::Change(_) | Act::Touch => {}
+        Act::Remove => cache.remove(word),
+    }
+}
+
+/// Does this with the word, where the cache has a place for it. The hint is the probe's place, with these bits turned.
+fn apply_at(cache: &mut WordCache, word: WordId, what: Act, turned: usize) {
+    match cache.probe(word) {
+        Probe::Hit { place, .. } => {
+            let hint = Some(place ^ turned);
+            match what {
+                Act::Set(entry) => cache.set_at(hint, word, entry),
+                Act::Change(entry) => cache.change_at(hint, word, entry),
+                Act::Touch => cache.touch_at(hint, word),
+                Act::Remove => cache.remove_at(hint, word),
+            }
+        }
+        Probe::Room { place } => {
+            if let Act::Set(entry) = what {
+                cache.add_at(Some(place ^ turned), word, entry);
+            }
+        }
+        Probe::Full => {}
     }
 }
 
 /// A cache of two ways to a set after these acts, each with its word.
-fn after(alloc: Global, sets: u32, acts: &[(u32, Act)]) -> Result<WordCache, Memory>
+fn after(
+    alloc: Global,
+    sets: u32,
+    acts: &[(u32, Act)],
+    calls: Calls,
+) -> Result<WordCache, Memory>
     requires some { 1 ≤ sets }
     requires few { sets ≤ 2 }
 {
     let mut cache = WordCache::new(alloc, sets, 2)?;
     for (word, what) in acts {
-        apply(&mut cache, WordId(*word), *what);
+        match calls {
+            Calls::ByWord => apply(&mut cache, WordId(*word), *what),
+            Calls::Probed => apply_at(&mut cache, WordId(*word), *what, 0),
+            Calls::Misled => apply_at(&mut cache, WordId(*word), *what, 1),
+        }
     }
     Ok(cache)
 }
 
 /// A set of two ways: copies of 5 and then 7 as its own. The one that is used least recently gives way, if it isn't pending.
-const ONE_SET: [(u32, Act); 4] = [
+const ONE_SET: [(u32, Act); 5] = [
     (5, Act::Set(COPY)),
     (7, Act::Set(OWN)),
     (5, Act::Touch),
     (7, Act::Change(PENDING)),
+    (5, Act::Remove),
 ];
 
 /// Copies of 4, 5 and 6 in two sets of two ways, and then a use of 4.
@@ -93,16 +135,30 @@ fn last_use(places: &[Place], word: u32) -> Option<u64> {
 
 #[test]
 fn the_least_recently_used_gives_way(rt: HostRuntime) -> Result<(), Fail> {
-    for (acts, gone) in [(2, 5), (3, 7), (4, 5)] {
-        let cache = after(rt.alloc(), 1, &ONE_SET[..acts])?;
-        assert_eq!(rt; victim(&cache, 9), Some(gone));
-        assert!(rt; !cache.room(WordId(9)));
+    for calls in [Calls::ByWord, Calls::Probed, Calls::Misled] {
+        for (acts, gone, room) in [
+            (2, Some(5), false),
+            (3, Some(7), false),
+            (4, Some(5), false),
+            (5, None, true),
+        ] {
+            let cache = after(rt.alloc(), 1, &ONE_SET[..acts], calls)?;
+            assert_eq!(rt; victim(&cache, 9), gone);
+            assert_eq!(rt; cache.room(WordId(9)), room);
+        }
     }
-    let cache = after(rt.alloc(), 2, &TWO_SETS)?;
-    assert_eq!(rt; (victim(&cache, 8), victim(&cache, 7)), (Some(6), Some(5)));
-    let places = cache.places(0);
-    assert_eq!(rt; places.len(), 2);
-    assert!(rt; last_use(places, 6).is_some());
-    assert!(rt; last_use(places, 6) < last_use(places, 4));
+    Ok(())
+}
+
+#[test]
+fn each_set_has_its_own_order(rt: HostRuntime) -> Result<(), Fail> {
+    for calls in [Calls::ByWord, Calls::Probed, Calls::Misled] {
+        let cache = after(rt.alloc(), 2, &TWO_SETS, calls)?;
+        assert_eq!(rt; (victim(&cache, 8), victim(&cache, 7)), (Some(6), Some(5)));
+        let places = cache.places(0);
+        assert_eq!(rt; places.len(), 2);
+        assert!(rt; last_use(places, 6).is_some());
+        assert!(rt; last_use(places, 6) < last_use(places, 4));
+    }
     Ok(())
 }

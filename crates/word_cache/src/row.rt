@@ -74,13 +74,13 @@ pub(crate) struct Row {
 impl Model for Row {
     ghost use Rattle.std.specs.Prelude.{List};
     ghost use Rattle.word_cache.specs.declared.row.Place.{Place};
-    ghost use Rattle.word_cache.specs.Row.{IsTallied};
+    ghost use Rattle.word_cache.specs.Row.{IsCountedRow};
 
     ghost Value = { List Place };
 
     ghost view = { λ r. r.places.items };
 
-    ghost invariant = { λ r. IsTallied r.places.items r.words.items r.pending r.copies };
+    ghost invariant = { λ r. IsCountedRow r.places.items r.words.items r.pending r.copies };
 }
 
 /// The word whose pair stands at the place, if there is one.
