@@ -1,0 +1,33 @@
+//! What the definitions come to, for whoever reasons about claims and their verdicts.
+ghost use Rattle.std.specs.Prelude.{◌≡◌, ◌↔◌, ℕ, List};
+ghost use Rattle.dn_base.specs.declared.ids.Grant.{Grant as GrantOf};
+ghost use Rattle.region_table.specs.Program.{ProgramParts};
+ghost use Rattle.claim_document.specs.declared.claim.Claim.{Claim as ClaimOf};
+ghost use Rattle.claim_document.specs.declared.claim.Question.{Question as QuestionOf};
+ghost use Rattle.claim_document.specs.Claim.{IsClaimDocument};
+ghost use Rattle.claim_verdict.specs.declared.verdict.Verdict.{Verdict as VerdictOf};
+ghost use Rattle.claim_verdict.specs.declared.verdict.Verdict.TheVariants.{Agrees as SaysAgrees};
+ghost use Rattle.claim_judge.specs.Judge.{IsJudgeable, IsVerdict, AgreesWithRun};
+ghost use Rattle.claim_judge.specs.Right.{IsRightClaim};
+
+/// One verdict is to be said of a claim.
+pub fn a_claim_has_one_verdict()
+    ensures some { (P : ProgramParts) (c : ClaimOf) → (v : VerdictOf) × IsVerdict P c v }
+    ensures one { (P : ProgramParts) (c : ClaimOf) (v w : VerdictOf) → IsVerdict P c v → IsVerdict P c w → v ≡ w }
+{}
+
+/// A claim is said to agree exactly where the run by its grants has an end, with the claimed loads, where loads are claimed, and
+/// the claimed answer.
+pub fn a_claim_agrees_where_its_run_does()
+    ensures { (P : ProgramParts) (c : ClaimOf) → IsVerdict P c SaysAgrees ↔ AgreesWithRun P c }
+{}
+
+/// The claim that `right_claim` gives is said to agree.
+pub fn a_right_claim_agrees()
+    ensures { (P : ProgramParts) (q : QuestionOf) (gs : List GrantOf) (c : ClaimOf) → IsRightClaim P q gs c → IsVerdict P c SaysAgrees }
+{}
+
+/// The claim of a document can be judged.
+pub fn a_claim_of_a_document_can_be_judged()
+    ensures { (bytes : List ℕ) (c : ClaimOf) → IsClaimDocument bytes c → IsJudgeable c }
+{}
