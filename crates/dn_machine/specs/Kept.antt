@@ -25,7 +25,7 @@ pub record IsLeftByRun (S : State) (made : ℕ) : Type 0 where
   pub leads : IsReordered (after (initial_state S.setting) events) S
 
 -- what is true of every machine: a run leaves it. So it has 1 to 16 cores, its state is sound and coherent, and it is the
--- opened one where no event has come
+-- initial one where no event has come
 pub record IsKept (S : State) (made : ℕ) : Type 0 where
   pub left : IsLeftByRun S made
   pub some : 1 ≤ S.setting.shape.cores

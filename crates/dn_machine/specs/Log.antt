@@ -1,11 +1,13 @@
 -- What a picked event comes to, and what a run notes of its events.
 use Rattle.std.specs.Prelude.{◌≡◌, ℕ, List, [], ◌∷◌, ◌++◌, slice_get, Option, Some, None}
 use Rattle.dn_base.specs.declared.ids.CoreId.{CoreId}
+use Rattle.dn_base.specs.declared.ids.Grant.{Grant}
 use Rattle.rv_core.specs.declared.ending.TaskEnd.{TaskEnd}
 use Rattle.message_net.specs.declared.actor.Actor.{Actor}
 use Rattle.message_net.specs.declared.actor.Actor.TheVariants.{Core, Bank, Keeper}
 use Rattle.message_net.specs.declared.event.Event.{Event}
 use Rattle.message_net.specs.declared.event.Event.TheVariants.{Instr, Evict, Arrive, Handle}
+use Rattle.message_net.specs.declared.event.EventKind.{EventKind}
 use Rattle.grant_log.specs.Counts.{no_counts, added, AreCounts}
 use Rattle.machine_rules.specs.State.{State}
 use Rattle.machine_rules.specs.Next.{next, observed}
@@ -51,15 +53,19 @@ pub record HasCome (S T : State) (h : Happened) : Type 0 where
 abbrev pub no_log : ℕ → Log
 no_log phases = record { events = []; grants = []; counts = no_counts; ends = no_ends phases }
 
--- the log with one event more
-abbrev pub with_event : Happened → Log → Log
-with_event h log =
+-- the log with one event more, its kind, the grant that it tells, and how the task of the core that it changed stands
+abbrev pub with_told : Event → EventKind → Option Grant → Option TaskEnd → Log → Log
+with_told event kind granted end log =
     record {
-      events = log.events ++ h.event ∷ [];
-      grants = log.grants ++ listed h.observed.granted;
-      counts = added h.observed.kind log.counts;
-      ends = with_end h.end log.ends;
+      events = log.events ++ event ∷ [];
+      grants = log.grants ++ listed granted;
+      counts = added kind log.counts;
+      ends = with_end end log.ends;
     }
+
+-- the same, of an event with what was observed of it
+abbrev pub with_event : Happened → Log → Log
+with_event h log = with_told h.event h.observed.kind h.observed.granted h.end log
 
 -- an event came in a state, which led to another one, and is the last one of the log now
 pub record CameAndNoted (S T : State) (e : Event) (log more : Log) : Type 0 where

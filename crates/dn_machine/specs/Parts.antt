@@ -9,7 +9,7 @@ made_in p =
     record {
       state =
           record {
-            setting = record { program = p.checked; plans = p.plans.items; shape = p.shape; fuel = p.fuel };
+            setting = record { program = p.decoded; plans = p.plans.items; shape = p.shape; fuel = p.fuel };
             nodes = p.nodes.items;
             banks = p.banks.items;
             keeper = p.keeper;

@@ -23,7 +23,7 @@ pub record IsRecord (S : State) (r : RunRecord) : Type 0 where
   pub counted : AreCounts (kinds_of S r.events) r.counts
   pub ends : r.ending ≡ ending_of_run S r.events
 
--- this holds of every front of the events, the empty one and the whole among them
+-- this holds of every prefix of the events, the empty one and the whole among them
 abbrev pub OfEachFront : (List Event → Type 0) → List Event → Type 0
 OfEachFront Holds events = (front rest : List Event) → events ≡ front ++ rest → Holds front
 

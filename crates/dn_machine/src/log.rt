@@ -1,9 +1,9 @@
 ghost use Rattle.std.specs.Prelude.{◌≡◌, ◌+◌, ◌*◌, ◌<◌, ◌≤◌, [], ◌∷◌, ◌++◌, length, slice_get, Some, OnOk, IfOk};
 ghost use Rattle.std.specs.List.{filter_map};
-ghost use Rattle.grant_log.specs.Counts.{kind_count, added};
+ghost use Rattle.grant_log.specs.Counts.{kind_count};
 ghost use Rattle.dn_machine.specs.Ends.{no_ends, with_end, end_in, end_index, noted_ends};
 ghost use Rattle.run_agreement.specs.Agreed.{listed};
-ghost use Rattle.dn_machine.specs.Log.{no_log, with_event};
+ghost use Rattle.dn_machine.specs.Log.{no_log, with_told, with_event};
 
 use crate::record::RunRecord;
 use dn_base::{Grant, MOST_CORES, Memory, Sequence};
@@ -59,7 +59,10 @@ fn note_end(table: &mut Sequence<Option<TaskEnd>>, end: Option<TaskEnd>)
 }
 
 impl Log {
-    /// The log of no event, for a program of so many phases.
+    /// The log of no event, for a program of so many phases. Asks for room for 65,536 events at once.
+    ///
+    /// # Errors
+    /// `Memory` where there is no room.
     pub(crate) fn new(alloc: Global, phases: usize) -> Result<Log, Memory>
         requires { phases ≤ 64 }
         ensures { IfOk result (λ log. log ≡ no_log phases) }
@@ -86,7 +89,7 @@ impl Log {
         end: Option<TaskEnd>,
     ) -> Result<(), Memory>
         requires { kind_count kind self.old.counts < 18446744073709551615 }
-        ensures { OnOk result (self.new ≡ record { events = self.old.events ++ event ∷ []; grants = self.old.grants ++ listed granted; counts = added kind self.old.counts; ends = with_end end self.old.ends }) }
+        ensures { OnOk result (self.new ≡ with_told event kind granted end self.old) }
     {
         self.events.push(event)?;
         if let Some(grant) = granted {

@@ -21,17 +21,17 @@ use machine_rules::Stepped;
 use message_net::Event;
 use region_table::{PhasePlan, a_program_is_well_formed, plans};
 use registration_protocol::Context;
-use rv_core::TaskEnd;
+use rv_core::{DecodedProgram, TaskEnd};
 use std::alloc::Global;
 use std::marker::Model;
 
-/// The multicore machine: a checked program with the plans of its phases, the machine's size, the fuel of each task, what
-/// changes as events come, and how many have come.
+/// The multicore machine: a checked program with its decoded code and the plans of its phases, the machine's size, the fuel of each
+/// task, what changes as events come, and how many have come.
 ///
 /// A contract sees the state, and the number of events that have led to it.
 #[derive(Drop)]
 pub struct Machine {
-    pub(crate) checked: Checked,
+    pub(crate) decoded: DecodedProgram,
     pub(crate) plans: Vec<PhasePlan>,
     pub(crate) shape: Shape,
     pub(crate) fuel: u32,
@@ -45,23 +45,23 @@ impl Model for Machine {
 
     ghost Value = { Made };
 
-    ghost view = { λ m. record { state = state_of (record { program = m.checked; plans = m.plans.items; shape = m.shape; fuel = m.fuel }) m.content; made = m.made } };
+    ghost view = { λ m. record { state = state_of (record { program = m.decoded; plans = m.plans.items; shape = m.shape; fuel = m.fuel }) m.content; made = m.made } };
 
-    ghost invariant = { λ m. IsKept (state_of (record { program = m.checked; plans = m.plans.items; shape = m.shape; fuel = m.fuel }) m.content) m.made
-        × KnowsOwn (record { program = m.checked; plans = m.plans.items; shape = m.shape; fuel = m.fuel }) m.content };
+    ghost invariant = { λ m. IsKept (state_of (record { program = m.decoded; plans = m.plans.items; shape = m.shape; fuel = m.fuel }) m.content) m.made
+        × KnowsOwn (record { program = m.decoded; plans = m.plans.items; shape = m.shape; fuel = m.fuel }) m.content };
 }
 
 /// What the nodes of a machine are told.
 pub(crate) fn context_of<'a>(
-    checked: &'a Checked,
+    decoded: &'a DecodedProgram,
     plans: &'a Vec<PhasePlan>,
     shape: Shape,
     fuel: u32,
 ) -> Context<'a>
-    ensures { setting result ≡ record { program = checked.now; plans = plans.now.items; shape = shape; fuel = fuel } }
+    ensures { setting result ≡ record { program = decoded.now; plans = plans.now.items; shape = shape; fuel = fuel } }
 {
     Context {
-        program: checked.program(),
+        decoded,
         plans: plans.as_slice(),
         shape,
         fuel,
@@ -91,10 +91,11 @@ impl Machine {
         let plans = plans(alloc, program)?;
         // for the proof alone: the plans are in one form, which the clause says of them
         plans_have_one_form(plans.as_slice());
-        let context = context_of(&checked, &plans, shape, fuel);
+        let decoded = DecodedProgram::new(alloc, checked.into_program())?;
+        let context = context_of(&decoded, &plans, shape, fuel);
         let content = initial_content(alloc, &context)?;
         Ok(Machine {
-            checked,
+            decoded,
             plans,
             shape,
             fuel,
@@ -114,7 +115,7 @@ impl Machine {
     pub fn enabled(&self, event: &Event) -> bool
         ensures { result ≡ enabled self.now.state event.now }
     {
-        let context = context_of(&self.checked, &self.plans, self.shape, self.fuel);
+        let context = context_of(&self.decoded, &self.plans, self.shape, self.fuel);
         self.content.enabled(&context, event)
     }
 
@@ -132,7 +133,7 @@ impl Machine {
         ensures err { OnErr result (self.new ≡ self.old) }
     {
         self.content.reserve(self.shape.cores)?;
-        let context = context_of(&self.checked, &self.plans, self.shape, self.fuel);
+        let context = context_of(&self.decoded, &self.plans, self.shape, self.fuel);
         let stepped = self.content.act(&context, event);
         self.made += 1;
         Ok(stepped)
@@ -154,7 +155,7 @@ impl Machine {
     pub fn word(&self, word: WordId) -> u32
         ensures { result ≡ word_value self.now.state word.0 }
     {
-        let context = context_of(&self.checked, &self.plans, self.shape, self.fuel);
+        let context = context_of(&self.decoded, &self.plans, self.shape, self.fuel);
         self.content.word(&context, word)
     }
 
@@ -178,20 +179,20 @@ impl Machine {
         ensures { IfOk result (IsSeedsRunOf self.state seed) }
     {
         let Machine {
-            checked,
+            decoded,
             plans,
             shape,
             fuel,
             content,
             made: _,
         } = self;
-        let context = context_of(&checked, &plans, shape, fuel);
+        let context = context_of(&decoded, &plans, shape, fuel);
         run_from_start(alloc, &context, content, seed)
     }
 }
 
 /// Every machine is what a run of the initial machine of a checked program leaves, except for the order of its mails: so it has 1 to 16
-/// cores, is sound and coherent, and is the opened one where no event has come.
+/// cores, is sound and coherent, and is the initial one where no event has come.
 pub fn a_machine_is_kept(machine: &Machine)
     ensures { IsKept machine.now.state machine.now.made }
 {

@@ -10,14 +10,14 @@ use rv_core::Ending;
 use std::alloc::Global;
 
 impl Machine {
-    /// The log of no event, for a run of the machine.
+    /// The log of no event, for a run of the machine. Asks for room for 65,536 events at once.
     ///
     /// # Errors
     /// `Memory` where there is no room.
     pub fn log(&self, alloc: Global) -> Result<Log, Memory>
         ensures { IfOk result (λ log. log ≡ no_log (length self.now.state.setting.program.phases)) }
     {
-        let program = self.checked.program();
+        let program = self.decoded.program();
         Log::new(alloc, program.phases.len())
     }
 
@@ -28,7 +28,7 @@ impl Machine {
     pub fn ending(&self, alloc: Global, log: &Log) -> Result<Ending, Memory>
         ensures { IfOk result (λ ending. ending ≡ noted_ending log.now.ends self.now.state) }
     {
-        let context = context_of(&self.checked, &self.plans, self.shape, self.fuel);
+        let context = context_of(&self.decoded, &self.plans, self.shape, self.fuel);
         self.content.ending(alloc, &context, &log.ends)
     }
 }

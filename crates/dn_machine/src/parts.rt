@@ -11,18 +11,18 @@ use crate::content::Content;
 use crate::machine::{Machine, context_of};
 use crate::starting::own_events;
 use dn_base::{Sequence, Shape};
-use effect_checker::Checked;
 use message_net::Pool;
 use phase_barrier::Keeper;
 use region_table::PhasePlan;
 use registration_protocol::Node;
 use registry_bank::Bank;
+use rv_core::DecodedProgram;
 
 /// The parts of a machine, for whoever lets its actors work side by side: nodes and banks stand in the order of their numbers,
 /// and `next` has the number of each actor's next mail, of cores, then banks, then the keeper.
 #[derive(Drop)]
 pub struct MachineParts {
-    pub checked: Checked,
+    pub decoded: DecodedProgram,
     pub plans: Vec<PhasePlan>,
     pub shape: Shape,
     pub fuel: u32,
@@ -41,7 +41,7 @@ impl Machine {
         ensures kept { IsKept (made_in result).state result.made }
     {
         let Machine {
-            checked,
+            decoded,
             plans,
             shape,
             fuel,
@@ -57,7 +57,7 @@ impl Machine {
             own: _,
         } = content;
         MachineParts {
-            checked,
+            decoded,
             plans,
             shape,
             fuel,
@@ -70,14 +70,14 @@ impl Machine {
         }
     }
 
-    /// The machine of these parts. They are what `made` events, each of which might come, leave of the initial machine of a checked
-    /// program, with their mails in any order: `what_a_run_leaves_is_kept` says what follows of that. Takes no memory.
+    /// The machine of these parts. They are what a run of `made` events leaves of the initial machine of a checked program, with
+    /// their mails in any order: `what_a_run_leaves_is_kept` says what follows of that. Takes no memory.
     pub fn join(parts: MachineParts) -> Machine
         requires { IsLeftByRun (made_in parts).state parts.made }
         ensures { result ≡ made_in parts }
     {
         let MachineParts {
-            checked,
+            decoded,
             plans,
             shape,
             fuel,
@@ -88,7 +88,7 @@ impl Machine {
             next,
             made,
         } = parts;
-        let context = context_of(&checked, &plans, shape, fuel);
+        let context = context_of(&decoded, &plans, shape, fuel);
         let own = own_events(nodes.as_slice(), &context);
         let content = Content {
             nodes,
@@ -99,7 +99,7 @@ impl Machine {
             own,
         };
         Machine {
-            checked,
+            decoded,
             plans,
             shape,
             fuel,

@@ -192,7 +192,7 @@ impl Content {
         requires machine { IsMachine (state_of (setting context.now) self.now) }
         ensures { IfOk result (λ ending. ending ≡ noted_ending ends.now (state_of (setting context.now) self.now)) }
     {
-        let program = context.program;
+        let program = context.decoded.program();
         let phases = program.phases.as_slice();
         let begun = (self.keeper.phase().0 as usize + 1).min(phases.len());
         let tasks = listed_ends(alloc, ends.as_slice(), &phases[..begun])?;
@@ -221,7 +221,7 @@ pub(crate) fn run_from_start(
     ensures { IfOk result (IsSeedsRunOf (initial_state (setting context.now)) seed) }
 {
     let mut content = content;
-    let program = context.program;
+    let program = context.decoded.program();
     let mut log = Log::new(alloc, program.phases.len())?;
     content.run(context, seed, &mut log)?;
     let ending = content.ending(alloc, context, &log.ends)?;

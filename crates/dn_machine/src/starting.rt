@@ -114,7 +114,7 @@ pub(crate) fn initial_content(alloc: Global, context: &Context<'_>) -> Result<Co
     ensures known { IfOk result (KnowsOwn (setting context.now)) }
 {
     let shape = context.shape;
-    let program = context.program;
+    let program = context.decoded.program();
     let nodes = new_nodes(alloc, context)?;
     let banks = new_banks(alloc, shape, memory_of(program), locks_of(program))?;
     let keeper = Keeper::new(shape.cores, phases_of(program));

@@ -5,7 +5,7 @@ ghost use Rattle.machine_rules.specs.Memory.{pending_among, value_in_entry, kept
 ghost use Rattle.dn_machine.specs.Content.{state_of};
 
 use crate::content::Content;
-use dn_base::{CoreId, Memory, WordId};
+use dn_base::{CoreId, Memory, WordId, remainder};
 use registration_protocol::{Context, Node};
 use registry_bank::BankWord;
 use std::alloc::Global;
@@ -57,7 +57,7 @@ impl Content {
         requires banks { 0 < (setting context.now).shape.banks }
         ensures { result ≡ kept_value (state_of (setting context.now) self.now) word.0 (home_at (state_of (setting context.now) self.now) word.0) }
     {
-        let place = word.0 % context.shape.banks;
+        let place = remainder(word.0, context.shape.banks);
         match self.banks.as_slice().get(place as usize) {
             None => 0,
             Some(bank) => match bank.word(word) {
@@ -88,7 +88,7 @@ impl Content {
         requires banks { 0 < (setting context.now).shape.banks }
         ensures { IfOk result (λ memory. memory.items ≡ memory_of (state_of (setting context.now) self.now)) }
     {
-        let program = context.program;
+        let program = context.decoded.program();
         let words = program.memory.len() as u32;
         let mut memory = Vec::new(alloc);
         for word in 0..words {

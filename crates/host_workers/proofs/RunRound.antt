@@ -12,8 +12,6 @@ use Rattle.machine_rules.specs.State.{State, initial_state}
 use Rattle.machine_rules.specs.Runs.{after}
 use Rattle.machine_rules.specs.Sound.{IsMachine}
 use Rattle.dn_machine.specs.Kept.{IsKept}
-use Rattle.dn_machine.specs.Parts.{made_in}
-use Rattle.dn_machine.specs.declared.parts.MachineParts.{MachineParts}
 use Rattle.bank_hall.specs.Halls.{HallView, IsHallPass}
 use Rattle.bank_hall.specs.Closing.{AreAllHallPasses}
 use Rattle.round_rules.specs.Members.{IsIn}
@@ -24,11 +22,14 @@ use Rattle.round_rules.proofs.MachineParts.{there}
 use Rattle.host_workers.specs.declared.crew.BankLog.{BankLog}
 use Rattle.host_workers.specs.declared.crew.Crew.{Crew}
 use Rattle.host_workers.specs.declared.owned.Owned.{Owned}
+use Rattle.host_workers.specs.declared.opening.Moving.{Moving}
+use Rattle.host_workers.specs.declared.round.FixedParts.{FixedParts}
 use Rattle.host_workers.specs.declared.working.Job.{Job}
 use Rattle.host_workers.specs.Crews.{IsOwned, IsCrew, keeper_log}
 use Rattle.host_workers.specs.Rosters.{RosterParts, IsRoster, AreCrewsOf, IsCrewOf, core_actor, bank_actor}
 use Rattle.host_workers.specs.Opening.{StandsFor, IsMovingOf, IsInitialRound, crew_of, pass_of}
 use Rattle.host_workers.specs.Finishing.{IsReadyJob, HaveDoneJobs}
+use Rattle.host_workers.specs.MadeRounds.{fixed_setting, made_of}
 use Rattle.host_workers.proofs.Chosen.{taken-stands}
 use Rattle.host_workers.proofs.HallObjects.{mapped-at, ports-long, banks-long}
 use Rattle.host_workers.proofs.Passing.{more-same}
@@ -42,9 +43,9 @@ stands-kept M made kept =
     (after (initial_state M.setting) left.events, record { reached = record { ready = left.ready; before = left.events; run = left.run; leads = refl }; same = left.leads })
 
 -- what moves in a machine is that of its state
-pub moving-of : (S : State) (p : MachineParts) → StandsFor S (made_in p).state → IsKept (made_in p).state p.made
-    → IsMovingOf p.shape (made_in p).state (record { nodes = p.nodes; banks = p.banks; keeper = p.keeper; pool = p.pool; next = p.next })
-moving-of S p stands kept = record {
+pub moving-of : (S : State) (fixed : FixedParts) (moving : Moving) → StandsFor S (made_of fixed moving).state → IsKept (made_of fixed moving).state fixed.made
+    → IsMovingOf fixed.shape (made_of fixed moving).state moving
+moving-of S fixed moving stands kept = record {
   machine = kept.sound.machine;
   shape_is = refl;
   some = kept.some;
@@ -54,7 +55,7 @@ moving-of S p stands kept = record {
   keeper = refl;
   mails = refl;
   numbers = refl;
-  addressed = All-permutation (λ (m : Mail). IsIn (made_in p).state.setting m.to) S.mails p.pool.mails stands.same.mails (reached-inside (made_in p).state.setting S stands.reached);
+  addressed = All-permutation (λ (m : Mail). IsIn (fixed_setting fixed) m.to) S.mails moving.pool.mails stands.same.mails (reached-inside (fixed_setting fixed) S stands.reached);
 }
 
 -- ---- what workers begin with

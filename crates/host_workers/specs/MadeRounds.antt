@@ -1,9 +1,11 @@
 -- What a round of workers comes to.
 use Rattle.std.specs.Prelude.{◌≡◌, ℕ, ◌+◌, length, map, AllPairs}
 use Rattle.message_net.specs.declared.actor.Actor.{Actor}
+use Rattle.registration_protocol.specs.Node.{Setting}
 use Rattle.machine_rules.specs.State.{State}
 use Rattle.machine_rules.specs.Runs.{after, read_off}
 use Rattle.grant_log.specs.Order.{IsBefore}
+use Rattle.dn_machine.specs.Kept.{Made}
 use Rattle.bank_hall.specs.Closing.{history_of}
 use Rattle.round_rules.specs.Rounds as rules
 use Rattle.round_rules.specs.Rounds.{IsJoined, IsRoundOf, end_observed, events_of}
@@ -12,14 +14,35 @@ use Rattle.round_rules.specs.Unspent.{AreUnspent}
 use Rattle.round_rules.specs.Owners.{AreOwners}
 use Rattle.round_rules.specs.Entries.{AreAnswers, AreGivenMails}
 use Rattle.round_rules.specs.NextNumbers.{AreNumbersLow}
+use Rattle.host_workers.specs.declared.opening.Moving.{Moving}
 use Rattle.host_workers.specs.declared.round.FixedParts.{FixedParts}
 use Rattle.host_workers.specs.declared.round.Round.{Round}
 use Rattle.host_workers.specs.Inboxes.{inbox_at_first}
 use Rattle.host_workers.specs.Opening.{StandsFor}
 
+-- the setting of a machine, which a round leaves as it is
+abbrev pub fixed_setting : FixedParts → Setting
+fixed_setting fixed = record { program = fixed.decoded; plans = fixed.plans.items; shape = fixed.shape; fuel = fixed.fuel }
+
+-- the machine of the parts that a round leaves as they are, and of those that it changes
+abbrev pub made_of : FixedParts → Moving → Made
+made_of fixed moving =
+    record {
+      state =
+          record {
+            setting = fixed_setting fixed;
+            nodes = moving.nodes.items;
+            banks = moving.banks.items;
+            keeper = moving.keeper;
+            mails = moving.pool.mails;
+            numbers = moving.next.items;
+          };
+      made = fixed.made;
+    }
+
 -- what a round leaves of a machine in a state as it is
 abbrev pub AreFixedPartsOf : State → FixedParts → Type 0
-AreFixedPartsOf M fixed = M.setting ≡ record { program = fixed.checked; plans = fixed.plans.items; shape = fixed.shape; fuel = fixed.fuel }
+AreFixedPartsOf M fixed = M.setting ≡ fixed_setting fixed
 
 -- The round that workers made of a machine in state M, which stands for S: what each did, and which calls its hall had. It is a
 -- run of the machine from S on, to a state for which the machine stands that is handed back. The entries of the one list stand by

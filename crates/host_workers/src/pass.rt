@@ -41,7 +41,7 @@ pub fn worker_pass<R: Wait, G: Gate>(
     ensures part { OnErr result (HasWorkedPartly (setting context.now) pass.old pass.new crew.old crew.new) }
 {
     // for the proof alone: a well-formed program needs at most 16 cores, so the crew has no more
-    a_program_is_well_formed(context.program);
+    a_program_is_well_formed(context.decoded.program());
     let served = serve_cores(rt, hall, pass, context, &mut crew.cores, draws)?;
     let worker = crew.worker;
     let stepped = step_banks(

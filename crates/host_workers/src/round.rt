@@ -1,27 +1,26 @@
 //! One round of host workers.
-ghost use Rattle.std.specs.Prelude.{◌≤◌, ◌<◌, ℕ, IfOk};
+ghost use Rattle.std.specs.Prelude.{◌≡◌, ◌+◌, ◌≤◌, ◌<◌, ℕ, IfOk};
+ghost use Rattle.registration_protocol.specs.Setting.{setting};
 ghost use Rattle.machine_rules.specs.State.{State};
+ghost use Rattle.dn_machine.specs.Kept.{IsKept, IsLeftByRun};
 ghost use Rattle.host_workers.specs.Opening.{StandsFor};
 ghost use Rattle.host_workers.specs.Finishing.{IsRoundLeft};
-ghost use Rattle.host_workers.specs.MadeRounds.{AreFixedPartsOf, IsMadeRound};
+ghost use Rattle.host_workers.specs.MadeRounds.{fixed_setting, made_of, AreFixedPartsOf, IsMadeRound};
 
 use crate::ends::ends_in;
 use crate::finishing::{Finished, finish};
-use crate::inboxes::Objects;
 use crate::opening::{Moving, Opened, open};
-use crate::roster::Parted;
 use crate::working::work_all;
 use bank_hall::{BankActor, KeeperActor, Port};
 use dn_base::{Gate, Memory, Shape};
 use dn_machine::{Machine, MachineParts};
-use effect_checker::Checked;
 use grant_log::{Stamped, merge};
 use region_table::PhasePlan;
 use registration_protocol::Context;
 use round_rules::{
     a_round_is_a_run, no_object_is_spent, steps_are_of_owners, whoever_has_something_to_do_acts,
 };
-use rv_core::TaskEnd;
+use rv_core::{DecodedProgram, TaskEnd};
 use std::alloc::Global;
 use std::sync::Wait;
 use std::thread::Threads;
@@ -39,14 +38,73 @@ pub struct Round {
     pub keeper: Vec<Entry<KeeperActor>>,
 }
 
-/// What a round leaves of a machine as it is: the program with its plans, the size, and the fuel.
+/// What a round leaves of a machine as it is: the program with its decoded code and its plans, the size, and the fuel. How many
+/// events the machine had made before the round stands with them.
 #[derive(Drop)]
 struct FixedParts {
-    checked: Checked,
+    decoded: DecodedProgram,
     plans: Vec<PhasePlan>,
     shape: Shape,
     fuel: u32,
     made: u64,
+}
+
+/// Takes a machine apart: what a round leaves as it is, and what it changes. Takes no memory.
+fn parts_of(machine: Machine) -> (FixedParts, Moving)
+    ensures parts { made_of result.0 result.1 ≡ machine }
+    ensures kept { IsKept (made_of result.0 result.1).state result.0.made }
+{
+    let parts = machine.split();
+    let fixed = FixedParts {
+        decoded: parts.decoded,
+        plans: parts.plans,
+        shape: parts.shape,
+        fuel: parts.fuel,
+        made: parts.made,
+    };
+    let moving = Moving {
+        nodes: parts.nodes,
+        banks: parts.banks,
+        keeper: parts.keeper,
+        pool: parts.pool,
+        next: parts.next,
+    };
+    (fixed, moving)
+}
+
+impl FixedParts {
+    /// What the nodes of the machine are told.
+    fn context(&self) -> Context<'_>
+        ensures { setting result ≡ fixed_setting self.now }
+    {
+        Context {
+            decoded: &self.decoded,
+            plans: self.plans.as_slice(),
+            shape: self.shape,
+            fuel: self.fuel,
+        }
+    }
+
+    /// The machine of these parts and of those that the round changed, after so many events more. Takes no memory.
+    fn machine(self, moving: Moving, more: u64) -> Machine
+        requires most { self.made + more < 18446744073709551616 }
+        requires left { IsLeftByRun (made_of self moving).state (self.made + more) }
+        ensures state { result.state ≡ (made_of self moving).state }
+        ensures made { result.made ≡ self.made + more }
+    {
+        Machine::join(MachineParts {
+            decoded: self.decoded,
+            plans: self.plans,
+            shape: self.shape,
+            fuel: self.fuel,
+            nodes: moving.nodes,
+            banks: moving.banks,
+            keeper: moving.keeper,
+            pool: moving.pool,
+            next: moving.next,
+            made: self.made + more,
+        })
+    }
 }
 
 /// Puts a round together of what is left of it: what was noted is merged, and the machine is joined again.
@@ -64,35 +122,19 @@ fn put_together(alloc: Global, fixed: FixedParts, finished: Finished) -> Result<
         ports,
         keeper,
     } = finished;
-    let Parted {
-        nodes,
-        mut next,
-        ends,
-        logs,
-    } = parted;
-    let Objects {
-        banks: kept_banks,
-        keeper: kept_keeper,
-        next: more,
-        inboxes,
-    } = objects;
-    let merged = merge(alloc, logs)?;
-    let ends = ends_in(alloc, merged.as_slice(), ends.as_slice())?;
-    next.extend_from_slice(more.as_slice())?;
-    let parts = MachineParts {
-        checked: fixed.checked,
-        plans: fixed.plans,
-        shape: fixed.shape,
-        fuel: fixed.fuel,
-        nodes,
-        banks: kept_banks,
-        keeper: kept_keeper,
-        pool: inboxes.pool(alloc)?,
+    let merged = merge(alloc, parted.logs)?;
+    let ends = ends_in(alloc, merged.as_slice(), parted.ends.as_slice())?;
+    let mut next = parted.next;
+    next.extend_from_slice(objects.next.as_slice())?;
+    let moving = Moving {
+        nodes: parted.nodes,
+        banks: objects.banks,
+        keeper: objects.keeper,
+        pool: objects.inboxes.pool(alloc)?,
         next,
-        made: fixed.made + merged.len() as u64,
     };
     Ok(Round {
-        machine: Machine::join(parts),
+        machine: fixed.machine(moving, merged.len() as u64),
         merged,
         ends,
         banks,
@@ -105,8 +147,9 @@ fn put_together(alloc: Global, fixed: FixedParts, finished: Finished) -> Result<
 /// modulo the workers, and the first one the keeper. They make passes over a hall of the machine's objects until nothing more comes,
 /// 4,096 at most. What was noted of all events is one list then, and the machine is what its events make of it.
 ///
-/// There are 1 to 16 workers, and the machine has made fewer than 3,000,000,000 events. What is promised holds from each state that the
-/// machine stands for: one to which a run leads, and which the machine's is except for the order of its mails.
+/// There are 1 to 16 workers, and the machine has made fewer than 3,000,000,000 events. What is promised holds from each state S that
+/// stands for the machine: a run leads to S, and the machine's state is S except for the order of its mails. Every machine has such a
+/// state (`a_machine_is_kept`).
 ///
 /// # Errors
 /// `Memory` where there is no room; the workers have all ended by then, and the machine is dropped.
@@ -123,40 +166,10 @@ pub fn run_round<R: Threads + Wait + Sync, G: Gate + Sync>(
     requires made { machine.made < 3000000000 }
     ensures { IfOk result (λ round. (S : State) → StandsFor S machine.state → IsMadeRound S machine.state machine.made workers round) }
 {
-    let MachineParts {
-        checked,
-        plans,
-        shape,
-        fuel,
-        nodes,
-        banks,
-        keeper,
-        pool,
-        next,
-        made,
-    } = machine.split();
-    let moving = Moving {
-        nodes,
-        banks,
-        keeper,
-        pool,
-        next,
-    };
-    let Opened { hall, jobs } = open(alloc, moving, shape, workers, seed)?;
-    let context = Context {
-        program: checked.program(),
-        plans: plans.as_slice(),
-        shape,
-        fuel,
-    };
+    let (fixed, moving) = parts_of(machine);
+    let Opened { hall, jobs } = open(alloc, moving, fixed.shape, workers, seed)?;
+    let context = fixed.context();
     let dones = work_all(rt, alloc, &hall, &context, jobs, gate)?;
-    let finished = finish(alloc, hall, dones, shape)?;
-    let fixed = FixedParts {
-        checked,
-        plans,
-        shape,
-        fuel,
-        made,
-    };
+    let finished = finish(alloc, hall, dones, fixed.shape)?;
     put_together(alloc, fixed, finished)
 }

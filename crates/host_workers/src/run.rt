@@ -108,7 +108,7 @@ pub fn run_workers<R: Threads + Wait + Sync, G: Gate + Sync>(
     ensures { IfOk result (IsMachinesRun machine.state) }
 {
     keep_freed_memory(alloc);
-    // for the proof alone: no event has come, so the machine is the opened one, with which a run begins
+    // for the proof alone: no event has come, so the machine is the initial one, with which a run begins
     a_machine_is_kept(&machine);
     let mut log = machine.log(alloc)?;
     let mut current = machine;

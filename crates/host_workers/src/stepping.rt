@@ -95,7 +95,7 @@ fn step_keeper<R: Wait>(
     ensures few { IfOk result (λ count. count ≤ 1) }
 {
     // for the proof alone: a well-formed program needs at most 16 cores, so the keeper sends no more letters
-    a_program_is_well_formed(context.program);
+    a_program_is_well_formed(context.decoded.program());
     log.reserve(1)?;
     let Some(handled) = hall.keeper_step(rt, pass, pick)? else {
         return Ok(0);

@@ -134,7 +134,8 @@ pub record ArePhases (S : State) : Type 0 where
 pub record AreLocks (S : State) : Type 0 where
   -- nobody waits for a lock without a holder
   pub free : (l : ℕ) (h : Lock) → lock_at S l ≡ Some h → h.holder ≡ None → h.queue ≡ []
-  -- of the holder's grant, its task's holding and its release exactly one is in flight; of other cores none
+  -- of the core that the home has as the lock's holder the grant is in flight, or its task holds the lock, or its release is in
+  -- flight, and exactly one of these; of another core none
   pub held : (l c : ℕ) → flight S (is_grant_to l c) + bit (has_lock S c l) + flight S (is_release_of l c) ≡ holder_in c (lock_at S l)
   -- of a core that waits for the lock its request, its place in the queue and its grant: exactly one; of other cores none
   pub awaited : (l c : ℕ) → flight S (is_acquire_of l c) + queued_in c (lock_at S l) + flight S (is_grant_to l c) ≡ bit (node_is_locking l (slice_get S.nodes c))

@@ -59,7 +59,7 @@ fn advance(task: &mut Option<TaskState>, context: &Context<'_>, declared: &TaskD
     ensures { task.new ≡ option_map (advanced (setting context.now).program) task.old }
 {
     if let Some(task) = task {
-        task.complete(context.program, declared, context.fuel, next);
+        task.complete(context.decoded.program(), declared, context.fuel, next);
     }
 }
 
@@ -76,7 +76,7 @@ fn load(
     ensures { task.new ≡ option_map (loaded_of (setting context.now).program value) task.old }
 {
     if let Some(task) = task {
-        task.complete_load(context.program, declared, context.fuel, next, value);
+        task.complete_load(context.decoded.program(), declared, context.fuel, next, value);
     }
 }
 
@@ -202,7 +202,7 @@ impl Node {
         ensures { (t : TaskState) → self.now.task ≡ Some t → result ≡ merged_of (setting context.now).program old t }
     {
         match &self.task {
-            Some(task) => task.merged_by(context.program, declared, context.fuel, next, old),
+            Some(task) => task.merged_by(context.decoded.program(), declared, context.fuel, next, old),
             None => old,
         }
     }
@@ -412,13 +412,13 @@ impl Node {
         let Some(task) = &self.task else {
             return silence();
         };
-        let Some(declared) = declaration(context.program, self.phase, self.core) else {
+        let Some(declared) = declaration(context.decoded.program(), self.phase, self.core) else {
             return silence();
         };
         if task.end.is_some() {
             return silence();
         }
-        let next = task.next(context.program, declared, context.fuel);
+        let next = context.decoded.next(task, declared, context.fuel);
         self.perform(context, declared, &next)
     }
 

@@ -104,7 +104,7 @@ impl Node {
         ensures node { IfOk result (λ n. n ≡ initial_node (setting context.now) core.0) }
         ensures fits { IfOk result (Fits (setting context.now)) }
     {
-        let program = context.program;
+        let program = context.decoded.program();
         Ok(Node {
             core,
             phase: PhaseId(0),
@@ -157,8 +157,8 @@ impl Node {
         if task.end.is_some() {
             return None;
         }
-        let declared = declaration(context.program, self.phase, self.core)?;
-        Some(task.need(context.program, declared, context.fuel))
+        let declared = declaration(context.decoded.program(), self.phase, self.core)?;
+        Some(context.decoded.need(task, declared, context.fuel))
     }
 
     /// Whether an access of the word may go on.

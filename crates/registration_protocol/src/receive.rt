@@ -59,10 +59,10 @@ impl Node {
         let Some(task) = &mut self.task else {
             return nothing();
         };
-        let Some(declared) = declaration(context.program, self.phase, self.core) else {
+        let Some(declared) = declaration(context.decoded.program(), self.phase, self.core) else {
             return nothing();
         };
-        task.advance(context.program, declared, context.fuel);
+        task.advance(context.decoded.program(), declared, context.fuel);
         self.signatures
             .set(lock.0 as usize, own_phase(signature, self.phase));
         self.drop_signed(context, lock, &signature);
@@ -107,7 +107,7 @@ impl Node {
     {
         self.drop_written(context);
         empty_all(&mut self.signatures, phase);
-        self.task = start(context.program, phase, self.core);
+        self.task = start(context.decoded.program(), phase, self.core);
         self.phase = phase;
         self.wait = NodeWait::None;
         self.arrived = false;
@@ -120,7 +120,7 @@ impl Node {
         ensures node { self.new ≡ (go_row (setting context.now) self.old phase.0).0 }
         ensures received { result ≡ (go_row (setting context.now) self.old phase.0).1 }
     {
-        let program = context.program;
+        let program = context.decoded.program();
         let is_next = self.phase.0.checked_add(1) == Some(phase.0);
         let is_there = (phase.0 as usize) < program.phases.len();
         if self.arrived && !self.halted && is_next && is_there {

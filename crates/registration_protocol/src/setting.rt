@@ -6,16 +6,16 @@ ghost use Rattle.rv_core.specs.Task.{started};
 
 use dn_base::{CoreId, PhaseId, Shape};
 use region_table::{PhasePlan, Program, TaskDecl};
-use rv_core::TaskState;
+use rv_core::{DecodedProgram, TaskState};
 
-/// What a node's calls are told: the program, the plans of its phases, the machine's size, and how many instructions a task
-/// may retire.
+/// What a node's calls are told: the program with its decoded code, the plans of its phases, the machine's size, and how many
+/// instructions a task may retire.
 ///
 /// The calls ask that the plans are the program's, that there are as many cores as the program needs, 1 to 16 banks, 1 to 256
 /// sets and 1 to 16 ways, and that the fuel is 1 to 32,768.
 #[derive(Clone, Copy)]
 pub struct Context<'a> {
-    pub program: &'a Program,
+    pub decoded: &'a DecodedProgram,
     pub plans: &'a [PhasePlan],
     pub shape: Shape,
     pub fuel: u32,

@@ -154,9 +154,10 @@ impl DecodedProgram {
     }
 }
 
+/// Shows that a value goes from thread to thread, and may be shared.
 fn crosses<T: Send + Sync>(_value: &T) {}
 
-/// A decoded program may be sent to another thread, and shared with it.
+/// A decoded program may be sent to another thread, and shared with it. Nobody calls this; the check of its body proves it.
 pub(crate) fn decoded_crosses(decoded: &DecodedProgram) {
     crosses(decoded);
 }

@@ -18,6 +18,7 @@ use rand_pcg::Pcg32;
 use region_table::plans;
 use registration_protocol::{Context, Node};
 use registry_bank::Bank;
+use rv_core::DecodedProgram;
 use std::alloc::Global;
 use std::sync::Wait;
 use std::test::Fail;
@@ -143,15 +144,16 @@ fn eight_passes<R: Wait>(
 }
 
 /// The first eight passes over a program of one core, or the error where it has more.
-fn first_passes<R: Wait>(rt: &R, alloc: Global, checked: &Checked) -> Result<Passes, Memory> {
-    let program = checked.program();
+fn first_passes<R: Wait>(rt: &R, alloc: Global, checked: Checked) -> Result<Passes, Memory> {
+    let decoded = DecodedProgram::new(alloc, checked.into_program())?;
+    let program = decoded.program();
     let cores = program.cores();
     if cores != 1 {
         return Err(Memory);
     }
     let plans = plans(alloc, program)?;
     let context = Context {
-        program,
+        decoded: &decoded,
         plans: plans.as_slice(),
         shape: Shape {
             cores,
@@ -191,7 +193,7 @@ fn wanted() -> [Stamped; 10] {
 fn one_worker_makes_the_run_in_seven_passes(rt: HostRuntime) -> Result<(), Fail> {
     let alloc = rt.alloc();
     let checked = checked_of(alloc, STORE_FIVE)?;
-    let Passes { made, crew } = first_passes(&rt, alloc, &checked)?;
+    let Passes { made, crew } = first_passes(&rt, alloc, checked)?;
     assert_eq!(rt; made, [1, 1, 2, 2, 1, 2, 1, 0]);
     assert_eq!(rt; noted(alloc, crew)?.as_slice(), wanted().as_slice());
     Ok(())

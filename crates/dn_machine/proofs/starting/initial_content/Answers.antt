@@ -14,4 +14,4 @@ own_events-own-requires-clause-fits c = λ core n here.
 
 pub returns-clause-state : goal.returns-clause-state
 returns-clause-state c =
-    opened-from (setting c.args.context.now) _ _ _ _ _ _ _ _ c.memory_of.ensures.is c.locks_of.ensures.is c.phases_of.ensures.is c.in_ok-nodes.ensures c.in_ok-banks.ensures c.new-keeper.ensures c.new.ensures.mails c.in_ok-numbers.ensures
+    opened-from (setting c.args.context.now) _ _ _ _ _ _ _ _ (rw c.program-program.ensures at c.memory_of.ensures.is) (rw c.program-program.ensures at c.locks_of.ensures.is) (rw c.program-program.ensures at c.phases_of.ensures.is) c.in_ok-nodes.ensures c.in_ok-banks.ensures c.new-keeper.ensures c.new.ensures.mails c.in_ok-numbers.ensures

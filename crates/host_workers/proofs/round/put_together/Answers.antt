@@ -1,6 +1,6 @@
 use Rattle.std.proofs.Common.{◌≡◌, ◌+◌, ◌++◌, ◌<◌, length, map, sym, ap, subst, ◌∙◌, arith}
 use Rattle.grant_log.specs.Log.{IsMerge}
-use Rattle.dn_machine.specs.Kept.{Made, IsLeftByRun}
+use Rattle.dn_machine.specs.Kept.{IsLeftByRun}
 use Rattle.machine_rules.specs.State.{State}
 use Rattle.round_rules.specs.Rounds.{mail_in}
 use Rattle.round_rules.proofs.Mapped.{long-map}
@@ -41,15 +41,15 @@ pool-requires-clause-few c =
     subst (λ n. n < 4294967295) (long-map mail_in (all_posted (inboxes_of c.args.finished.objects.inboxes)))
     (room-then c.requires.0 c.requires.1 c.args.fixed.made c.requires.2 c.args.finished left c.in_ok-merged.merged.items merge)
 
-pub overflow_add-parts : goal.overflow_add-parts
-overflow_add-parts c =
+pub machine-requires-clause-most : goal.machine-requires-clause-most
+machine-requires-clause-most c =
     let left = c.requires.3 in
     let merge = subst (λ ls. IsMerge ls c.in_ok-merged.merged.items) left.finished.logs c.in_ok-merged.ensures in
     let few = few-events c.requires.0 c.requires.1 c.args.fixed.made c.requires.2 c.args.finished left c.in_ok-merged.merged.items merge in
     omega (arith, left.far, few, c.len.ensures, c.in_ok-merged.merged.ok.0)
 
-pub join-requires : goal.join-requires
-join-requires c =
+pub machine-requires-clause-left : goal.machine-requires-clause-left
+machine-requires-clause-left c =
     let left = c.requires.3 in
     let merge = subst (λ ls. IsMerge ls c.in_ok-merged.merged.items) left.finished.logs c.in_ok-merged.ensures in
     let kept = kept-then c.requires.0 c.requires.1 c.args.fixed.made c.requires.2 c.args.finished left c.in_ok-merged.merged.items merge in
@@ -64,9 +64,9 @@ returns c = λ S M workers left frame.
     let count : length c.in_ok-merged.merged.items ≡ c.len.result = omega (arith, c.len.ensures, c.in_ok-merged.merged.ok.0) in
     let numbers = c.in_ok-extend_from_slice.ensures.items ∙ ap (λ l. c.args.finished.parted.next.items ++ l) c.as_slice-3.ensures.value in
     let is = state-joined c.args.finished M.setting _ c.in_ok-pool.field-0.mails c.extend_from_slice.new.self.items frame c.in_ok-pool.ensures numbers in
-    made-round S M c.args.fixed.made workers c.args.finished left c.in_ok-merged.merged c.in_ok-ends.ends c.join.result merge
-    (ap (λ (m : Made). m.state) c.join.ensures ∙ sym is)
-    (ap (λ (m : Made). m.made) c.join.ensures ∙ ap (λ n. c.args.fixed.made + n) (sym count))
+    made-round S M c.args.fixed.made workers c.args.finished left c.in_ok-merged.merged c.in_ok-ends.ends c.machine.result merge
+    (c.machine.ensures.state ∙ sym is)
+    (c.machine.ensures.made ∙ ap (λ n. c.args.fixed.made + n) (sym count))
     (λ told are. c.in_ok-ends.ensures told
     (subst (λ m. AreEndsOf m (map (λ e. e.items) c.as_slice-2.result.now) told) (sym c.as_slice.ensures.value)
     (subst (λ es. AreEndsOf c.in_ok-merged.merged.items es told) (sym (ap (map (λ e. e.items)) c.as_slice-2.ensures.value ∙ left.finished.ends)) are)))

@@ -15,7 +15,7 @@ machine-of c = rw (← c.self.view_is) c.self.invariant.0.sound.machine
 picked-in : (c : goal.After-pick_from) → c.pick_from.result ≡ pick c.args.self.now.state c.args.draw
 unfolding pick
 picked-in c =
-    let P : Setting = record { program = c.self.inside.checked; plans = c.self.inside.plans.items; shape = c.self.inside.shape; fuel = c.self.inside.fuel } in
+    let P : Setting = record { program = c.self.inside.decoded; plans = c.self.inside.plans.items; shape = c.self.inside.shape; fuel = c.self.inside.fuel } in
     let known : known_events c.self.inside.content.own ≡ known_events (map (own_event P) c.self.inside.content.nodes.items) =
     ap known_events c.self.invariant.1 ∙ known-row (map (own_event P) c.self.inside.content.nodes.items)
     in

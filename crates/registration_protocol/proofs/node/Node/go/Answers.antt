@@ -9,5 +9,5 @@ begin-requires-clause-phase c =
     let going = c.if-not-self.true in
     let halted : c.args.self.now.halted ≡ false = grind (arith, nat_tests) in
     let below = c.requires.fits.phase halted in
-    let same = AllZip-long (IsPlan c.args.context.now.program.now) c.args.context.now.program.now.phases c.args.context.now.plans.now c.requires.context.plans in
+    let same = AllZip-long (IsPlan c.args.context.now.decoded.now) c.args.context.now.decoded.now.phases c.args.context.now.plans.now c.requires.context.plans in
     omega arith
