@@ -17,7 +17,7 @@ use Rattle.effect_prover.specs.declared.successors.Successors.{Successors}
 use Rattle.effect_prover.specs.Row.{IsRow, IsUnder}
 use Rattle.effect_prover.specs.Successors.{successors}
 use Rattle.effect_prover.specs.Table.{Table, row_at, address_at, instr_of, target_of, IsTable, IsPassedOn, IsClosed}
-use Rattle.effect_prover.specs.Blocks.{is_plain, IsPlainAt, is_leader, AreLed, HasMoreLeaders, leader_of, IsLast, row_behind, filled_row, filled}
+use Rattle.effect_prover.specs.Blocks.{is_straight, IsStraightAt, is_leader, AreLed, HasMoreLeaders, leader_of, IsLast, row_behind, filled_row, filled}
 use Rattle.effect_prover.specs.Sweep.{IsTableUnder}
 use Rattle.effect_prover.proofs.RowLemmas.{under-trans}
 use Rattle.effect_prover.proofs.SuccessorLemmas.{IsRowIn, successors-under, successors-rows}
@@ -83,11 +83,11 @@ led-more code n L M more h =
       words = more.words ∙ h.words;
       first = λ l. more.all 0 (h.first l);
       behind = λ i l inside.
-          ⊎_elim (λ (plain : IsPlainAt code i). inl plain) (λ (e : is_leader L (i + 1) ≡ true). inr (more.all (i + 1) e)) (h.behind i l inside);
+          ⊎_elim (λ (plain : IsStraightAt code i). inl plain) (λ (e : is_leader L (i + 1) ≡ true). inr (more.all (i + 1) e)) (h.behind i l inside);
       aimed = λ i j instr l inside there aims. more.all j (h.aimed i j instr l inside there aims);
     }
 
-pub led-next : (code : List ℕ) (n : ℕ) (L : List Bool) → AreLed code n L → (n + 1 < length code → IsPlainAt code n ⊎ (is_leader L (n + 1) ≡ true))
+pub led-next : (code : List ℕ) (n : ℕ) (L : List Bool) → AreLed code n L → (n + 1 < length code → IsStraightAt code n ⊎ (is_leader L (n + 1) ≡ true))
     → ((j : ℕ) (instr : Instr) → j < length code → instr_of code n ≡ Some instr → target_of (address_at n) instr ≡ Some (address_at j) → is_leader L j ≡ true)
     → AreLed code (n + 1) L
 led-next code n L h behind aimed =
@@ -96,7 +96,7 @@ led-next code n L h behind aimed =
       first = h.first;
       behind = λ i l inside.
           ⊎_elim
-          (λ (here : i ≡ n). subst (λ (k : ℕ). IsPlainAt code k ⊎ (is_leader L (k + 1) ≡ true)) (sym here) (behind (subst (λ (k : ℕ). k + 1 < length code) here inside)))
+          (λ (here : i ≡ n). subst (λ (k : ℕ). IsStraightAt code k ⊎ (is_leader L (k + 1) ≡ true)) (sym here) (behind (subst (λ (k : ℕ). k + 1 < length code) here inside)))
           (λ (apart : i ≡ n → ⊥). h.behind i (omega arith) inside)
           (cases_eq i n);
       aimed = λ i j instr l inside there aims.
@@ -111,10 +111,10 @@ pub led-first : (code : List ℕ) (L : List Bool) → length L ≡ length code �
 led-first code L words first =
     record { words = words; first = λ l. first (omega arith); behind = λ i l. absurd (omega arith); aimed = λ i j instr l. absurd (omega arith) }
 
--- a plain instruction stands before a word that isn't a leader
-pub plain-inside : (code : List ℕ) (L : List Bool) (i : ℕ) → AreLed code (length code) L → i + 1 < length code → is_leader L (i + 1) ≡ false → IsPlainAt code i
+-- a straight instruction stands before a word that isn't a leader
+pub plain-inside : (code : List ℕ) (L : List Bool) (i : ℕ) → AreLed code (length code) L → i + 1 < length code → is_leader L (i + 1) ≡ false → IsStraightAt code i
 plain-inside code L i led inside none =
-    ⊎_elim (λ (plain : IsPlainAt code i). plain) (λ (y : is_leader L (i + 1) ≡ true). absurd (true≢false (sym y ∙ none))) (led.behind i (omega arith) inside)
+    ⊎_elim (λ (plain : IsStraightAt code i). plain) (λ (y : is_leader L (i + 1) ≡ true). absurd (true≢false (sym y ∙ none))) (led.behind i (omega arith) inside)
 
 -- a word is the last of its block where the next one is a leader, or isn't there
 pub last-here : (L : List Bool) (n i : ℕ) → i < n → length L ≡ n → (((i + 1 < length L) × (is_leader L (i + 1) ≡ false)) → ⊥) → IsLast L n i
@@ -145,9 +145,9 @@ more-set L place within =
 pub leads-set : (L : List Bool) (place : ℕ) → place < length L → is_leader (slice_set L place true) place ≡ true
 leads-set L place within = get_or-set_same L place true false within
 
--- ---- plain instructions
+-- ---- straight instructions
 
-pub plain-nowhere : (pc : ℕ) (instr : Instr) (a : ℕ) → is_plain instr ≡ true → target_of pc instr ≡ Some a → ⊥
+pub plain-nowhere : (pc : ℕ) (instr : Instr) (a : ℕ) → is_straight instr ≡ true → target_of pc instr ≡ Some a → ⊥
 plain-nowhere pc (Lui rd imm) a p e = none-some a e
 plain-nowhere pc (Auipc rd imm) a p e = none-some a e
 plain-nowhere pc (Jal rd offset) a p e = false≢true p

@@ -4,7 +4,7 @@ ghost use Rattle.region_table.specs.Program.{IsProgram};
 ghost use Rattle.rv_isa.specs.declared.instr.Instr.{Instr};
 ghost use Rattle.effect_prover.specs.Row.{IsRow};
 ghost use Rattle.effect_prover.specs.Table.{Table, row_at, address_at, instr_of, target_of};
-ghost use Rattle.effect_prover.specs.Blocks.{is_plain, IsPlainAt, is_leader, AreLed, HasMoreLeaders, HasLeaders, leader_of, IsLast, row_behind, filled_row, filled_before};
+ghost use Rattle.effect_prover.specs.Blocks.{is_straight, IsStraightAt, is_leader, AreLed, HasMoreLeaders, HasLeaders, leader_of, IsLast, row_behind, filled_row, filled_before};
 
 use crate::row::Row;
 use crate::sweep::{address, instr_at, place_of, target};
@@ -14,8 +14,8 @@ use rv_isa::Instr;
 use std::alloc::Global;
 
 /// Whether an instruction goes on to the next word, and nowhere else.
-fn is_plain(instr: &Instr) -> bool
-    ensures { result ≡ is_plain instr.now }
+fn is_straight(instr: &Instr) -> bool
+    ensures { result ≡ is_straight instr.now }
 {
     match *instr {
         Instr::Jal { .. }
@@ -27,13 +27,13 @@ fn is_plain(instr: &Instr) -> bool
     }
 }
 
-/// Whether a plain instruction stands at a code word.
-fn is_plain_at(program: &Program, place: usize) -> bool
+/// Whether a straight instruction stands at a code word.
+fn is_straight_at(program: &Program, place: usize) -> bool
     requires { place < length program.now.code }
-    ensures { Decides result (IsPlainAt program.now.code place) }
+    ensures { Decides result (IsStraightAt program.now.code place) }
 {
     match instr_at(program, place) {
-        Some(instr) => is_plain(&instr),
+        Some(instr) => is_straight(&instr),
         None => false,
     }
 }
@@ -62,9 +62,9 @@ fn mark_behind(program: &Program, leaders: &mut [bool], place: usize)
     requires words { length leaders.old ≡ length program.now.code }
     requires within { place < length program.now.code }
     ensures more { HasMoreLeaders leaders.old leaders.new }
-    ensures behind { place + 1 < length program.now.code → IsPlainAt program.now.code place ⊎ (is_leader leaders.new (place + 1) ≡ true) }
+    ensures behind { place + 1 < length program.now.code → IsStraightAt program.now.code place ⊎ (is_leader leaders.new (place + 1) ≡ true) }
 {
-    if is_plain_at(program, place) {
+    if is_straight_at(program, place) {
         return;
     }
     if place + 1 < leaders.len() {
@@ -148,11 +148,11 @@ fn goes_on(leaders: &[bool], place: usize) -> bool
     place + 1 < leaders.len() && !leaders[place + 1]
 }
 
-/// Takes a row past a plain instruction.
+/// Takes a row past a straight instruction.
 fn step_at(program: &Program, place: usize, row: &mut Row)
     requires program { IsProgram program.now }
     requires within { place < length program.now.code }
-    requires plain { IsPlainAt program.now.code place }
+    requires plain { IsStraightAt program.now.code place }
     requires row { IsRow row.old }
     ensures value { row_behind program.now place (Some row.old) (instr_of program.now.code place) ≡ Some row.new }
     ensures row { IsRow row.new }
