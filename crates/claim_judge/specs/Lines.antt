@@ -1,8 +1,6 @@
 -- The lines of a text.
-use Rattle.std.specs.Prelude.{ℕ, zero, suc, ◌+◌, ◌==◌, Bool, if◌then◌else◌, List, length, take, drop, position, unwrap_or, count_by, Option, Some, None}
-
-abbrev pub is_newline : ℕ → Bool
-is_newline byte = byte == 10
+use Rattle.std.specs.Prelude.{ℕ, zero, suc, ◌+◌, ◌==◌, if◌then◌else◌, List, length, take, drop, position, unwrap_or, count_by, Option, Some, None}
+use Rattle.src_text.specs.Byte.{is_newline}
 
 -- how many newlines stand before a place
 abbrev pub newlines_before : ℕ → List ℕ → ℕ
@@ -26,5 +24,5 @@ abbrev pub first_line : List ℕ → Option (List ℕ)
 first_line text = if length text == 0 then None else Some (take (line_end text) text)
 
 -- the line of this number, from 0, without its newline, where the text has so many
-unfoldable pub numbered_line : ℕ → List ℕ → Option (List ℕ)
-numbered_line number text = first_line (behind_lines number text)
+unfoldable pub line_of_number : ℕ → List ℕ → Option (List ℕ)
+line_of_number number text = first_line (behind_lines number text)

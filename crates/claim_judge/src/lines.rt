@@ -1,5 +1,6 @@
 ghost use Rattle.std.specs.Prelude.{◌≡◌, ◌≤◌, length, position, IfOk};
-ghost use Rattle.claim_judge.specs.Lines.{is_newline, newlines_before, line_end, behind_line, behind_lines, numbered_line};
+ghost use Rattle.src_text.specs.Byte.{is_newline};
+ghost use Rattle.claim_judge.specs.Lines.{newlines_before, line_end, behind_line, behind_lines, line_of_number};
 
 use dn_base::{Memory, Sequence};
 use std::alloc::Global;
@@ -55,13 +56,13 @@ fn behind_lines(text: &[u8], count: u32) -> &[u8]
 ///
 /// # Errors
 /// `Memory` where there is no room for the line.
-#[tactic(auto, unfolding(crate::specs::Lines::numbered_line))]
-pub(crate) fn numbered_line(
+#[tactic(auto, unfolding(crate::specs::Lines::line_of_number))]
+pub(crate) fn line_of_number(
     alloc: Global,
     text: &[u8],
     number: u32,
 ) -> Result<Option<Sequence<u8>>, Memory>
-    ensures { IfOk result (λ line. line ≡ numbered_line number text.now) }
+    ensures { IfOk result (λ line. line ≡ line_of_number number text.now) }
 {
     let rest = behind_lines(text, number);
     if rest.is_empty() {
