@@ -14,7 +14,7 @@ use Rattle.claim_document.specs.Claim.{IsClaim, most_bytes}
 use Rattle.claim_verdict.specs.declared.verdict.Verdict.{Verdict}
 use Rattle.claim_verdict.specs.declared.verdict.Verdict.TheVariants.{Agrees, Grants, Tasks, Load, Answer}
 use Rattle.claim_judge.specs.Differences.{first_difference, is_same_load, is_same_task}
-use Rattle.claim_judge.specs.Lines.{newlines_before, line_of_answer}
+use Rattle.claim_judge.specs.Lines.{newlines_before, line_of_number}
 
 -- a claim that can be judged: what it tells is within its limits, and the answer is no longer than a whole claim may be
 pub record IsJudgeable (c : Claim) : Type 0 where
@@ -51,7 +51,7 @@ loads_verdict (Some claimed) right =
 abbrev pub line_verdict : List ℕ → Option ℕ → Verdict
 line_verdict right None = Agrees
 line_verdict right (Some place) =
-    Answer (newlines_before place right) (line_of_answer (newlines_before place right) right)
+    Answer (newlines_before place right) (line_of_number (newlines_before place right) right)
 
 unfoldable pub answer_verdict : List ℕ → List ℕ → Verdict
 answer_verdict claimed right = line_verdict right (first_difference nat_eq claimed right)

@@ -24,5 +24,5 @@ abbrev pub first_line : List ℕ → Option (List ℕ)
 first_line text = if length text == 0 then None else Some (take (line_end text) text)
 
 -- the line of this number, from 0, without its newline, where the text has so many
-unfoldable pub line_of_answer : ℕ → List ℕ → Option (List ℕ)
-line_of_answer number text = first_line (behind_lines number text)
+unfoldable pub line_of_number : ℕ → List ℕ → Option (List ℕ)
+line_of_number number text = first_line (behind_lines number text)

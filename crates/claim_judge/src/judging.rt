@@ -4,7 +4,7 @@ ghost use Rattle.claim_verdict.specs.declared.verdict.Verdict.TheVariants.{Agree
 ghost use Rattle.claim_judge.specs.Judge.{IsJudgeable, task_verdict, tasks_verdict, loads_verdict, answer_verdict, end_verdict, IsVerdict, AgreesWithRun};
 
 use crate::alike::first_difference;
-use crate::lines::{newlines_before, line_of_answer};
+use crate::lines::{line_of_number, newlines_before};
 use claim_document::Claim;
 use claim_verdict::{LoadPlace, Verdict};
 use dn_base::{Memory, Sequence};
@@ -73,7 +73,7 @@ fn judge_answer(alloc: Global, claimed: &[u8], right: &[u8]) -> Result<Verdict, 
         return Ok(Verdict::Agrees);
     };
     let line = newlines_before(right, place) as u32;
-    let right = line_of_answer(alloc, right, line)?;
+    let right = line_of_number(alloc, right, line)?;
     Ok(Verdict::Answer { line, right })
 }
 

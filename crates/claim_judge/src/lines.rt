@@ -1,6 +1,6 @@
 ghost use Rattle.std.specs.Prelude.{◌≡◌, ◌≤◌, length, position, IfOk};
 ghost use Rattle.src_text.specs.Byte.{is_newline};
-ghost use Rattle.claim_judge.specs.Lines.{newlines_before, line_end, behind_line, behind_lines, line_of_answer};
+ghost use Rattle.claim_judge.specs.Lines.{newlines_before, line_end, behind_line, behind_lines, line_of_number};
 
 use dn_base::{Memory, Sequence};
 use std::alloc::Global;
@@ -56,13 +56,13 @@ fn behind_lines(text: &[u8], count: u32) -> &[u8]
 ///
 /// # Errors
 /// `Memory` where there is no room for the line.
-#[tactic(auto, unfolding(crate::specs::Lines::line_of_answer))]
-pub(crate) fn line_of_answer(
+#[tactic(auto, unfolding(crate::specs::Lines::line_of_number))]
+pub(crate) fn line_of_number(
     alloc: Global,
     text: &[u8],
     number: u32,
 ) -> Result<Option<Sequence<u8>>, Memory>
-    ensures { IfOk result (λ line. line ≡ line_of_answer number text.now) }
+    ensures { IfOk result (λ line. line ≡ line_of_number number text.now) }
 {
     let rest = behind_lines(text, number);
     if rest.is_empty() {
