@@ -17,7 +17,7 @@ use Rattle.effect_prover.specs.declared.successors.Successors.{Successors}
 use Rattle.effect_prover.specs.Row.{IsRow, IsUnder}
 use Rattle.effect_prover.specs.Successors.{successors}
 use Rattle.effect_prover.specs.Table.{Table, row_at, address_at, instr_of, target_of, IsTable, IsPassedOn, IsClosed}
-use Rattle.effect_prover.specs.Blocks.{is_plain, IsPlainAt, is_leader, AreLed, HasMoreLeaders, leader_of, IsLast, row_behind, filled_row, filled}
+use Rattle.effect_prover.specs.Blocks.{is_straight, IsPlainAt, is_leader, AreLed, HasMoreLeaders, leader_of, IsLast, row_behind, filled_row, filled}
 use Rattle.effect_prover.specs.Sweep.{IsTableUnder}
 use Rattle.effect_prover.proofs.RowLemmas.{under-trans}
 use Rattle.effect_prover.proofs.SuccessorLemmas.{IsRowIn, successors-under, successors-rows}
@@ -147,7 +147,7 @@ leads-set L place within = get_or-set_same L place true false within
 
 -- ---- plain instructions
 
-pub plain-nowhere : (pc : ℕ) (instr : Instr) (a : ℕ) → is_plain instr ≡ true → target_of pc instr ≡ Some a → ⊥
+pub plain-nowhere : (pc : ℕ) (instr : Instr) (a : ℕ) → is_straight instr ≡ true → target_of pc instr ≡ Some a → ⊥
 plain-nowhere pc (Lui rd imm) a p e = none-some a e
 plain-nowhere pc (Auipc rd imm) a p e = none-some a e
 plain-nowhere pc (Jal rd offset) a p e = false≢true p

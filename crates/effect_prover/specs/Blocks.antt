@@ -10,26 +10,26 @@ use Rattle.effect_prover.specs.declared.row.Row.{Row}
 use Rattle.effect_prover.specs.Successors.{successors}
 use Rattle.effect_prover.specs.Table.{Table, row_at, address_at, instr_of, target_of}
 
--- the instruction goes on to the next word, and nowhere else
-abbrev pub is_plain : Instr → Bool
-is_plain (Lui rd imm) = true
-is_plain (Auipc rd imm) = true
-is_plain (Jal rd offset) = false
-is_plain (Jalr rd base offset) = false
-is_plain (Branch test a b offset) = false
-is_plain (Load width rd base offset) = true
-is_plain (Store width src base offset) = true
-is_plain (OpImm op rd a imm) = true
-is_plain (Op op rd a b) = true
-is_plain Fence = true
-is_plain Ecall = false
-is_plain Ebreak = false
+-- the instruction is of straight-line code: it goes on to the next word, and nowhere else
+abbrev pub is_straight : Instr → Bool
+is_straight (Lui rd imm) = true
+is_straight (Auipc rd imm) = true
+is_straight (Jal rd offset) = false
+is_straight (Jalr rd base offset) = false
+is_straight (Branch test a b offset) = false
+is_straight (Load width rd base offset) = true
+is_straight (Store width src base offset) = true
+is_straight (OpImm op rd a imm) = true
+is_straight (Op op rd a b) = true
+is_straight Fence = true
+is_straight Ecall = false
+is_straight Ebreak = false
 
 -- a plain instruction stands at the code word
 pub record IsPlainAt (code : List ℕ) (i : ℕ) : Type 0 where
   pub instr : Instr
   pub there : instr_of code i ≡ Some instr
-  pub plain : is_plain instr ≡ true
+  pub plain : is_straight instr ≡ true
 
 -- whether a code word is marked as the first of a block
 abbrev pub is_leader : List Bool → ℕ → Bool

@@ -2,7 +2,7 @@
 ghost use Rattle.std.specs.Prelude.{◌≡◌, ℕ, true, ◌^◌, ◌≤◌, ◌<◌, ◌+◌};
 ghost use Rattle.rv_isa.specs.Range.{IsEncodable, HasRegisters};
 ghost use Rattle.effect_prover.specs.Row.{IsRow};
-ghost use Rattle.effect_prover.specs.Blocks.{is_plain};
+ghost use Rattle.effect_prover.specs.Blocks.{is_straight};
 ghost use Rattle.effect_prover.specs.Successors.{no_successors, falls_through, jumps, where_equal, where_less, where_not_less, where_different, are_low, less_branches, not_less_branches, any_branches, branches, branch_on, loadable, held_with, held_without, held_after_acquire, held_after_release, calls, successors};
 
 use crate::join::{greater, lesser};
@@ -253,7 +253,7 @@ impl Row {
     /// Takes the row past an instruction at the address `pc` that goes on to the next word, and nowhere else.
     pub(crate) fn step(&mut self, pc: u32, instr: &Instr)
         requires row { IsRow self.old }
-        requires plain { is_plain instr.now ≡ true }
+        requires plain { is_straight instr.now ≡ true }
         ensures { (locks : ℕ) → successors locks pc self.old instr.now ≡ falls_through self.new }
     {
         match *instr {
@@ -274,7 +274,7 @@ impl Row {
     /// The row behind such an instruction.
     fn stepped(&self, pc: u32, instr: &Instr) -> Successors
         requires row { IsRow self.now }
-        requires plain { is_plain instr.now ≡ true }
+        requires plain { is_straight instr.now ≡ true }
         ensures { (locks : ℕ) → result ≡ successors locks pc self.now instr.now }
     {
         let mut row = *self;
