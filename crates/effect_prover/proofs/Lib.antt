@@ -10,5 +10,6 @@ pub mod Sound
 pub mod JoinLemmas
 pub mod BlockLemmas
 pub mod TableLemmas
+pub mod KeptLemmas
 pub mod AnswerLemmas
 pub mod StretchLemmas

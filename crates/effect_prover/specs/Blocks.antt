@@ -10,7 +10,7 @@ use Rattle.effect_prover.specs.declared.row.Row.{Row}
 use Rattle.effect_prover.specs.Successors.{successors}
 use Rattle.effect_prover.specs.Table.{Table, row_at, address_at, instr_of, target_of}
 
--- the instruction goes on to the next word, and nowhere else
+-- the instruction is of straight-line code: it goes on to the next word, and nowhere else
 abbrev pub is_straight : Instr → Bool
 is_straight (Lui rd imm) = true
 is_straight (Auipc rd imm) = true

@@ -6,4 +6,5 @@ pub mod Blocks
 pub mod Inside
 pub mod Answer
 pub mod Sweep
+pub mod Kept
 pub mod Stretch

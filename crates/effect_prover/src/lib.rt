@@ -17,6 +17,7 @@ mod range;
 mod row;
 mod successors;
 mod sweep;
+mod task_table;
 
 pub use laws::{a_proven_program_runs_inside, a_task_has_one_least_table};
 pub use proved::{Proved, prove_text};

@@ -6,17 +6,19 @@ ghost use Rattle.effect_prover.specs.declared.row.Row.{Row};
 ghost use Rattle.effect_prover.specs.declared.proved.Proved.TheVariants.{Inside};
 ghost use Rattle.effect_prover.specs.Row.{IsRow};
 ghost use Rattle.effect_prover.specs.Table.{row_at};
-ghost use Rattle.effect_prover.specs.Blocks.{HasLeaders, filled_row, filled};
+ghost use Rattle.effect_prover.specs.Blocks.{AreLed, filled_row, filled};
 ghost use Rattle.effect_prover.specs.Inside.{IsInsideAt, IsFirstOutside};
 ghost use Rattle.effect_prover.specs.Sweep.{HasHeads};
+ghost use Rattle.effect_prover.specs.Kept.{IsTableKept, IsTableReady};
 ghost use Rattle.effect_prover.specs.Answer.{IsProversAnswer, RunsInside, IsTaskAnswer, IsPhaseAnswer};
 
-use crate::blocks::{leaders, row_here};
+use crate::blocks::row_here;
 use crate::inside::is_inside;
 use crate::laws::a_proven_program_runs_inside;
 use crate::proved::Proved;
 use crate::row::Row;
-use crate::sweep::{address, heads, instr_at, least_table};
+use crate::sweep::{address, heads, instr_at};
+use crate::task_table::{TaskTable, keep};
 use dn_base::{CoreId, Memory, PhaseId};
 use effect_checker::Checked;
 use region_table::{Phase, Program, TaskDecl, a_program_has_words, a_program_is_well_formed};
@@ -55,7 +57,7 @@ fn first_outside(
     rows: &[Option<Row>],
 ) -> Option<usize>
     requires program { IsProgram program.now }
-    requires leaders { HasLeaders program.now task.now leaders.now }
+    requires led { AreLed program.now.code (length program.now.code) leaders.now }
     requires words { length rows.now ≡ length program.now.code }
     requires rows { (i : ℕ) (row : Row) → row_at (filled program.now leaders.now rows.now) i ≡ Some row → IsRow row }
     ensures { IsFirstOutside program.now task.now (filled program.now leaders.now rows.now) result }
@@ -70,20 +72,34 @@ fn first_outside(
     None
 }
 
-/// The first word of a task's least table that isn't inside. The table is given back.
+/// The first word of a task's least table that isn't inside, where that table is kept.
+fn check_kept(program: &Program, task: &TaskDecl, kept: &Option<TaskTable>) -> Option<usize>
+    requires program { IsProgram program.now }
+    requires ready { IsTableReady program.now task.now kept.now }
+    ensures { IsTaskAnswer program.now task.now result }
+{
+    let Some(table) = kept else {
+        return None;
+    };
+    first_outside(program, task, table.leaders.as_slice(), table.rows.as_slice())
+}
+
+/// The first word of a task's least table that isn't inside. The table is kept.
 fn check_task(
     alloc: Global,
     program: &Program,
     task: &TaskDecl,
     heads: &[bool],
+    kept: &mut Option<TaskTable>,
 ) -> Result<Option<usize>, Memory>
     requires program { IsProgram program.now }
     requires heads { HasHeads program.now.code heads.now }
-    ensures { IfOk result (IsTaskAnswer program.now task.now) }
+    requires kept { IsTableKept program.now kept.old }
+    ensures kept { IsTableKept program.now kept.new }
+    ensures answer { IfOk result (IsTaskAnswer program.now task.now) }
 {
-    let leaders = leaders(alloc, program, task)?;
-    let rows = least_table(alloc, program, task, heads, leaders.as_slice())?;
-    Ok(first_outside(program, task, leaders.as_slice(), rows.as_slice()))
+    keep(alloc, program, task, heads, kept)?;
+    Ok(check_kept(program, task, kept))
 }
 
 /// A word that isn't inside: the core whose task reaches it, and its place.
@@ -99,13 +115,16 @@ fn check_tasks(
     program: &Program,
     tasks: &[TaskDecl],
     heads: &[bool],
+    kept: &mut Option<TaskTable>,
 ) -> Result<Option<Found>, Memory>
     requires program { IsProgram program.now }
     requires heads { HasHeads program.now.code heads.now }
-    ensures { IfOk result (IsPhaseAnswer program.now tasks.now) }
+    requires kept { IsTableKept program.now kept.old }
+    ensures kept { IsTableKept program.now kept.new }
+    ensures answer { IfOk result (IsPhaseAnswer program.now tasks.now) }
 {
     for task in tasks {
-        if let Some(place) = check_task(alloc, program, task, heads)? {
+        if let Some(place) = check_task(alloc, program, task, heads, kept)? {
             return Ok(Some(Found {
                 core: task.core,
                 place,
@@ -115,7 +134,33 @@ fn check_tasks(
     Ok(None)
 }
 
-/// The answer for a program, by its phases.
+/// The answer for a program, by its phases in turn.
+fn check_in_turn(
+    alloc: Global,
+    program: &Program,
+    phases: &[Phase],
+    heads: &[bool],
+    kept: &mut Option<TaskTable>,
+) -> Result<Proved, Memory>
+    requires program { IsProgram program.now }
+    requires phases { phases.now ≡ program.now.phases }
+    requires heads { HasHeads program.now.code heads.now }
+    requires kept { IsTableKept program.now kept.old }
+    ensures { IfOk result (IsProversAnswer program.now) }
+{
+    for (number, phase) in phases.iter().enumerate() {
+        if let Some(found) = check_tasks(alloc, program, phase.tasks.as_slice(), heads, kept)? {
+            return Ok(Proved::Unbounded {
+                phase: PhaseId(number as u32),
+                core: found.core,
+                pc: address(found.place),
+            });
+        }
+    }
+    Ok(Proved::Inside)
+}
+
+/// The answer for a program. It starts with no table.
 fn check_phases(
     alloc: Global,
     program: &Program,
@@ -127,16 +172,8 @@ fn check_phases(
     requires heads { HasHeads program.now.code heads.now }
     ensures { IfOk result (IsProversAnswer program.now) }
 {
-    for (number, phase) in phases.iter().enumerate() {
-        if let Some(found) = check_tasks(alloc, program, phase.tasks.as_slice(), heads)? {
-            return Ok(Proved::Unbounded {
-                phase: PhaseId(number as u32),
-                core: found.core,
-                pc: address(found.place),
-            });
-        }
-    }
-    Ok(Proved::Inside)
+    let mut kept: Option<TaskTable> = None;
+    check_in_turn(alloc, program, phases, heads, &mut kept)
 }
 
 /// The answer for a program, and what it says of every run.
@@ -155,8 +192,8 @@ fn prove_program(alloc: Global, program: &Program) -> Result<Proved, Memory>
 /// Whether every load and store that a task of the program can reach stays within what its task declares.
 ///
 /// For each task it finds the least closed table (see `IsLeastTable`), and answers `Inside` exactly where no table reaches
-/// an instruction that isn't inside. A table is given back before the next is made. Tasks of one entry with different
-/// arguments have tables of their own.
+/// an instruction that isn't inside. Tasks that follow each other with one entry and one argument share a table; another is
+/// given back before the next is made.
 ///
 /// # Errors
 /// `Memory` where there is no room for a table.
