@@ -22,17 +22,13 @@ unfoldable pub line_text : Option (List ℕ) → List ℕ
 line_text None = []
 line_text (Some line) = line ++ newline
 
--- a line that ends with a number
-unfoldable pub line_with_number : List ℕ → ℕ → List ℕ
-line_with_number name number = name ++ decimal number ++ newline
-
 -- a line that ends with a place and the load that should stand there
 unfoldable pub load_line : List ℕ → LoadPlace → Option LoadSeen → List ℕ
 load_line name place right = name ++ place_text place ++ space ++ load_text right ++ newline
 
 unfoldable pub verdict_text : Verdict → List ℕ
 verdict_text verdict.TheVariants.Agrees = codes "agrees\n"
-verdict_text (verdict.TheVariants.Grants grant) = line_with_number (codes "differs grants ") grant
+verdict_text (verdict.TheVariants.Grants grant) = field (codes "differs grants ") newline grant
 verdict_text verdict.TheVariants.Tasks = codes "differs tasks\n"
 verdict_text (verdict.TheVariants.Load place right) = load_line (codes "differs load ") place right
-verdict_text (verdict.TheVariants.Answer line right) = line_with_number (codes "differs answer ") line ++ line_text right
+verdict_text (verdict.TheVariants.Answer line right) = field (codes "differs answer ") newline line ++ line_text right

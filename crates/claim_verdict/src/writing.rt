@@ -1,5 +1,5 @@
 ghost use Rattle.std.specs.Prelude.{◌≡◌, ◌++◌, OnOk};
-ghost use Rattle.claim_verdict.specs.Verdict.{load_line, load_text, line_text, line_with_number, place_text, verdict_text};
+ghost use Rattle.claim_verdict.specs.Verdict.{load_line, load_text, line_text, place_text, verdict_text};
 
 use crate::verdict::{LoadPlace, Verdict};
 use dn_base::{LoadSeen, Memory, Sequence};
@@ -48,16 +48,6 @@ fn push_line(out: &mut Vec<u8>, line: &Option<Sequence<u8>>) -> Result<(), Memor
     }
 }
 
-/// Adds a line that ends with a number.
-#[tactic(auto, unfolding(crate::specs::Verdict::line_with_number))]
-fn push_line_with_number(out: &mut Vec<u8>, name: &[u8], number: u32) -> Result<(), Memory>
-    ensures { OnOk result (out.new.items ≡ out.old.items ++ line_with_number name.now number) }
-{
-    push(out, name)?;
-    push_decimal(out, number)?;
-    push(out, b"\n")
-}
-
 /// Adds a line that ends with a place and the load that should stand there.
 #[tactic(auto, unfolding(crate::specs::Verdict::load_line))]
 fn push_load_line(
@@ -85,11 +75,11 @@ pub fn push_verdict(out: &mut Vec<u8>, verdict: &Verdict) -> Result<(), Memory>
 {
     match verdict {
         Verdict::Agrees => push(out, b"agrees\n"),
-        Verdict::Grants { grant } => push_line_with_number(out, b"differs grants ", *grant),
+        Verdict::Grants { grant } => push_field(out, b"differs grants ", *grant, b"\n"),
         Verdict::Tasks => push(out, b"differs tasks\n"),
         Verdict::Load { place, right } => push_load_line(out, b"differs load ", *place, *right),
         Verdict::Answer { line, right } => {
-            push_line_with_number(out, b"differs answer ", *line)?;
+            push_field(out, b"differs answer ", *line, b"\n")?;
             push_line(out, right)
         }
     }

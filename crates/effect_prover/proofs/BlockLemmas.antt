@@ -17,7 +17,7 @@ use Rattle.effect_prover.specs.declared.successors.Successors.{Successors}
 use Rattle.effect_prover.specs.Row.{IsRow, IsUnder}
 use Rattle.effect_prover.specs.Successors.{successors}
 use Rattle.effect_prover.specs.Table.{Table, row_at, address_at, instr_of, target_of, IsTable, IsPassedOn, IsClosed}
-use Rattle.effect_prover.specs.Blocks.{is_straight, IsPlainAt, is_leader, AreLed, HasMoreLeaders, leader_of, IsLast, row_behind, filled_row, filled}
+use Rattle.effect_prover.specs.Blocks.{is_straight, IsStraightAt, is_leader, AreLed, HasMoreLeaders, leader_of, IsLast, row_behind, filled_row, filled}
 use Rattle.effect_prover.specs.Sweep.{IsTableUnder}
 use Rattle.effect_prover.proofs.RowLemmas.{under-trans}
 use Rattle.effect_prover.proofs.SuccessorLemmas.{IsRowIn, successors-under, successors-rows}

@@ -26,7 +26,7 @@ use Rattle.effect_prover.specs.Range.{one}
 use Rattle.effect_prover.specs.Row.{range_of, start_row, IsRow, IsBelow, IsUnder}
 use Rattle.effect_prover.specs.Successors.{successors}
 use Rattle.effect_prover.specs.Table.{Table, row_at, address_at, instr_of, target_of, IsLoopHead, IsHeadRange, IsTable, Covers, IsPassedOn, IsClosed, IsLeastTable}
-use Rattle.effect_prover.specs.Blocks.{is_straight, IsPlainAt, is_leader, HasLeaders, leader_of, IsLast, row_behind, filled_row, filled_before, filled}
+use Rattle.effect_prover.specs.Blocks.{is_straight, IsStraightAt, is_leader, HasLeaders, leader_of, IsLast, row_behind, filled_row, filled_before, filled}
 use Rattle.effect_prover.specs.Sweep.{IsJoinedTo, row_room, room_of, table_room, HasHeads, row_is_pending, IsTableUnder, HasPassedOn, IsSwept, CoversAt, IsRowGiven, IsPut, AreMarked}
 use Rattle.effect_prover.proofs.RowLemmas.{under-itself, under-trans}
 use Rattle.effect_prover.proofs.JoinLemmas.{joined-row, joined-first, joined-second, joined-least, grown-room, row-room, same_row, same_range}
@@ -497,7 +497,7 @@ swept-least P d L t p cursor good leads h past entry =
         ap (λ (o : Option Row). row_behind P i o (instr_of P.code i)) is ∙ ap (row_behind P i (Some row)) there in
         let same : row_at (filled P L t) (suc i) ≡ s.next = filled-at P L t (suc i) inside ∙ filled-behind P L t i none ∙ gives in
         let plain : is_straight instr ≡ true =
-        ⊎_elim (λ (k : IsPlainAt P.code i). subst (λ (x : Instr). is_straight x ≡ true) (same_Some k.instr instr (sym k.there ∙ there)) k.plain)
+        ⊎_elim (λ (k : IsStraightAt P.code i). subst (λ (x : Instr). is_straight x ≡ true) (same_Some k.instr instr (sym k.there ∙ there)) k.plain)
         (λ (y : is_leader L (i + 1) ≡ true). absurd (true≢false (sym (subst (λ (k : ℕ). is_leader L k ≡ true) (next-suc i) y) ∙ none)))
         (leads.led.behind i within (omega arith)) in
         record {

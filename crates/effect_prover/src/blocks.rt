@@ -4,7 +4,7 @@ ghost use Rattle.region_table.specs.Program.{IsProgram};
 ghost use Rattle.rv_isa.specs.declared.instr.Instr.{Instr};
 ghost use Rattle.effect_prover.specs.Row.{IsRow};
 ghost use Rattle.effect_prover.specs.Table.{Table, row_at, address_at, instr_of, target_of};
-ghost use Rattle.effect_prover.specs.Blocks.{is_straight, IsPlainAt, is_leader, AreLed, HasMoreLeaders, HasLeaders, leader_of, IsLast, row_behind, filled_row, filled_before};
+ghost use Rattle.effect_prover.specs.Blocks.{is_straight, IsStraightAt, is_leader, AreLed, HasMoreLeaders, HasLeaders, leader_of, IsLast, row_behind, filled_row, filled_before};
 
 use crate::row::Row;
 use crate::sweep::{address, instr_at, place_of, target};
