@@ -1,4 +1,5 @@
-use Rattle.std.proofs.Common.{refl, arith}
+use Rattle.std.proofs.Common.{refl, subst, arith}
+use Rattle.region_table.specs.Program.{IsProgram}
 use Rattle.registration_protocol.specs.Setting.{setting}
 use Rattle.host_workers.specs.declared.crew.BankLog.{BankLog}
 use Rattle.host_workers.specs.declared.owned.Owned.{Owned}
@@ -13,7 +14,7 @@ pub serve_cores-requires-clause-most : goal.serve_cores-requires-clause-most
 serve_cores-requires-clause-most g c =
     let C = setting c.args.context.now in
     let few = rising-few (λ (o : Owned). o.core.0) c.args.crew.now.cores.items 0 C.shape.cores c.requires.crew.cores_rise (λ k d within. omega arith) (λ k d within. (c.requires.crew.cores k d within).inside) in
-    let most = few-cores C.program c.a_program_is_well_formed.ensures in
+    let most = few-cores C.program (subst IsProgram c.program.ensures c.a_program_is_well_formed.ensures) in
     omega (arith, few, most, c.requires.may.context.cores)
 
 pub step_banks-requires-clause-most : goal.step_banks-requires-clause-most

@@ -1,5 +1,6 @@
 use Rattle.std.proofs.Common.{List, ◌∷◌, [], ◌++◌, sym, ap, ◌∙◌, subst, arith}
 use Rattle.grant_log.specs.declared.log.Stamped.{Stamped}
+use Rattle.region_table.specs.Program.{IsProgram}
 use Rattle.registration_protocol.specs.Setting.{setting}
 use Rattle.bank_hall.specs.Note.{KeeperNote}
 use Rattle.host_workers.proofs.Cores.{few-cores}
@@ -16,7 +17,7 @@ returns-in_default-clause-stepped g c =
 
 pub emit_letters-requires-clause-cores : goal.emit_letters-requires-clause-cores
 emit_letters-requires-clause-cores g c =
-    let most = few-cores (setting c.args.context.now).program c.a_program_is_well_formed.ensures in
+    let most = few-cores (setting c.args.context.now).program (subst IsProgram c.program.ensures c.a_program_is_well_formed.ensures) in
     omega (arith, most, c.requires.may.context.cores)
 
 pub emit_letters-requires-clause-early : goal.emit_letters-requires-clause-early
