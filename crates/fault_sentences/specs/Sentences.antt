@@ -1,10 +1,25 @@
 -- What is said of a text that is refused: the line that has the fault, what is wrong on it, and how that is mended. Each line is
 -- indented, so that it can be told from the lines of an answer.
-use Rattle.std.specs.Prelude.{ℕ, List, [], ◌++◌, Option, Some, None, codes}
+use Rattle.std.specs.Prelude.{ℕ, ℤ, ◌||◌, nat_lt, List, [], ◌++◌, length, Option, Some, None, codes, if◌then◌else◌}
+use Rattle.std.specs.Fmt.{decimal, signed_decimal}
 use Rattle.text_pieces.specs.Pieces.{newline}
 use Rattle.rv_assembler.specs.declared.fault.SourceFault.{SourceFault}
 use Rattle.rv_assembler.specs.declared.fault.SourceFault as fault
+use Rattle.text_places.specs.Lines.{numbered_line}
 use Rattle.place_texts.specs.Texts.{quoted_line}
+use Rattle.fault_sentences.specs.declared.known.Sort.{Sort}
+use Rattle.fault_sentences.specs.declared.known.Sort as sort
+use Rattle.fault_sentences.specs.declared.findings.Wanted.{Wanted}
+use Rattle.fault_sentences.specs.declared.findings.Wanted as wanted
+use Rattle.fault_sentences.specs.declared.findings.Cause.{Cause}
+use Rattle.fault_sentences.specs.declared.findings.Cause as cause
+use Rattle.fault_sentences.specs.declared.findings.Finding.{Finding}
+use Rattle.fault_sentences.specs.Marks.{mark_line, marked_text}
+use Rattle.fault_sentences.specs.declared.examples.Form.{Form}
+use Rattle.fault_sentences.specs.declared.examples.Form as form
+use Rattle.fault_sentences.specs.Examples.{operands_as}
+use Rattle.fault_sentences.specs.Findings.{finding_of}
+use Rattle.fault_sentences.specs.Others.{others}
 
 -- the line that has the fault; none where it is no line's
 abbrev pub faulty_line : SourceFault → Option ℕ
@@ -54,14 +69,147 @@ amendment fault.TheVariants.Memory = codes "Give it more memory."
 unfoldable pub indented_line : List ℕ → ℕ → List ℕ
 indented_line text line = codes "  " ++ quoted_line text line
 
-abbrev pub line_if_any : List ℕ → Option ℕ → List ℕ
-line_if_any text None = []
-line_if_any text (Some line) = indented_line text line
-
 -- a sentence as a line
 unfoldable pub sentence : List ℕ → List ℕ
 sentence words = codes "  " ++ words ++ newline
 
+-- what a name is declared as
+abbrev pub sort_text : Sort → List ℕ
+sort_text sort.TheVariants.Label = codes "a label."
+sort_text (sort.TheVariants.Region len) = codes "a region."
+sort_text sort.TheVariants.Lock = codes "a lock."
+
+-- what a name is wanted as
+abbrev pub wanted_text : Wanted → List ℕ
+wanted_text wanted.TheVariants.Label = codes "a label, and "
+wanted_text wanted.TheVariants.Address = codes "a label or a region, and "
+wanted_text wanted.TheVariants.Region = codes "a region, and "
+wanted_text wanted.TheVariants.Lock = codes "a lock, and "
+
+unfoldable pub has_operands : List ℕ
+has_operands = codes " has operands as in `"
+
+unfoldable pub example_text : Form → List ℕ
+example_text f = has_operands ++ operands_as f ++ codes "`."
+
+abbrev pub form_text : Form → List ℕ
+form_text form.TheVariants.Nothing = codes " has no operands."
+form_text f = example_text f
+
+abbrev pub operands_text : Option Form → List ℕ
+operands_text None = codes " has other operands than these."
+operands_text (Some f) = form_text f
+
+unfoldable pub bound_text : ℤ → List ℕ
+bound_text z = signed_decimal z
+
+unfoldable pub bounds_text : ℤ → ℤ → List ℕ
+bounds_text low high = bound_text low ++ codes " to " ++ bound_text high ++ codes "."
+
+unfoldable pub isnt_number : List ℕ
+isnt_number = codes " isn't a number from "
+
+unfoldable pub is_too_far : List ℕ
+is_too_far = codes " is out of reach: an offset is an even number of bytes from "
+
+unfoldable pub range_text : ℤ → ℤ → List ℕ
+range_text low high = isnt_number ++ bounds_text low high
+
+unfoldable pub offset_text : ℤ → ℤ → List ℕ
+offset_text low high = is_too_far ++ bounds_text low high
+
+unfoldable pub index_text : ℕ → List ℕ
+index_text words = codes " isn't the index of a word of the region, which has " ++ decimal words ++ codes ", counted from 0."
+
+unfoldable pub interval_text : ℕ → List ℕ
+interval_text words =
+    codes " doesn't begin an interval of the region for each of the tasks: it has " ++ decimal words
+    ++ codes " words, counted from 0, and an interval has at least one of them."
+
+-- which line declares a name, and as what
+unfoldable pub declared_as : ℕ → Sort → List ℕ
+declared_as line s = codes "line " ++ decimal line ++ codes " declares it as " ++ sort_text s
+
+unfoldable pub again_text : ℕ → Sort → List ℕ
+again_text line s = codes " is declared before: " ++ declared_as line s
+
+unfoldable pub wants_core_of : List ℕ
+wants_core_of = codes " wants a core for which line "
+
+unfoldable pub has_task_there : List ℕ
+has_task_there = codes " declares a task in this phase."
+
+unfoldable pub taken_text : ℕ → List ℕ
+taken_text line = wants_core_of ++ decimal line ++ has_task_there
+
+unfoldable pub is_wanted : Wanted → List ℕ
+is_wanted w = codes " is wanted as " ++ wanted_text w
+
+unfoldable pub undeclared_text : Wanted → List ℕ
+undeclared_text w = is_wanted w ++ codes "no line declares it."
+
+unfoldable pub unfit_text : Wanted → ℕ → Sort → List ℕ
+unfit_text w line s = is_wanted w ++ declared_as line s
+
+-- what is wrong with a part of the line, where the sentence has no number and no name in it
+abbrev pub plain_cause : Cause → List ℕ
+plain_cause cause.TheVariants.Byte = codes " may not stand here. Outside of comments only blanks, letters, digits and `_ . , : ( ) -` may."
+plain_cause cause.TheVariants.Word = codes " is the word of no statement."
+plain_cause cause.TheVariants.NoWord = codes " stands where the word of a statement is to stand."
+plain_cause cause.TheVariants.Dotted = codes " may not be a label: a name that is declared doesn't begin with `.`."
+plain_cause cause.TheVariants.NoNumber = codes " is no number from -2147483648 to 4294967295."
+plain_cause cause.TheVariants.Cores = codes " can't be the first core of these tasks: there is at least one, and all are on cores from 0 to 15."
+plain_cause cause.TheVariants.Address = codes " isn't the address of an instruction: it is to be a multiple of 4 from 0 to 4294967292."
+plain_cause cause.TheVariants.NoPhase = codes " stands before any `.phase`."
+plain_cause cause.TheVariants.NoTask = codes " stands behind no task of its phase."
+plain_cause cause.TheVariants.CodeWords = codes " makes more than 16384 code words: `li` and `la` give two, and every other instruction one."
+plain_cause cause.TheVariants.Regions = codes " makes more than 256 regions (4096 in version 2), or more than 65536 data words."
+plain_cause cause.TheVariants.Locks = codes " makes more than 32 locks."
+plain_cause cause.TheVariants.Phases = codes " makes more than 64 phases."
+plain_cause cause.TheVariants.Tasks = codes " makes more than 64 tasks."
+plain_cause _ = []
+
+-- what is wrong with a part of the line; the sentence begins with the part
+abbrev pub cause_text : Cause → List ℕ
+cause_text (cause.TheVariants.Operands f) = operands_text f
+cause_text (cause.TheVariants.Range low high) = range_text low high
+cause_text (cause.TheVariants.Offset low high) = offset_text low high
+cause_text (cause.TheVariants.Index words) = index_text words
+cause_text (cause.TheVariants.Interval words) = interval_text words
+cause_text (cause.TheVariants.Declared s line) = again_text line s
+cause_text (cause.TheVariants.Undeclared w) = undeclared_text w
+cause_text (cause.TheVariants.Unfit w s line) = unfit_text w line s
+cause_text (cause.TheVariants.CoreInUse line) = taken_text line
+cause_text c = plain_cause c
+
+-- the mark under the part, and what is wrong with it
+unfoldable pub finding_text : ℕ → List ℕ → Finding → List ℕ
+finding_text line bytes x = mark_line line bytes x.part ++ marked_text bytes x.part ++ cause_text x.cause ++ newline
+
+-- what is wrong: by the finding, and where there is none by the kind of the fault
+abbrev pub finding_or_kind : ℕ → List ℕ → SourceFault → Option Finding → List ℕ
+finding_or_kind line bytes f None = sentence (complaint f)
+finding_or_kind line bytes f (Some x) = finding_text line bytes x
+
+-- nothing is found in a text that is too large
+abbrev pub finding_if_small : List ℕ → List ℕ → SourceFault → Option Finding
+finding_if_small text bytes f = if nat_lt 1048576 (length text) || nat_lt 1048576 (length bytes) then None else finding_of text bytes f
+
+-- the line, what is wrong on it, and the names beside one that isn't declared as what is wanted
+abbrev pub finding_sentences : List ℕ → SourceFault → ℕ → List ℕ → Option Finding → List ℕ
+finding_sentences text f line bytes x = indented_line text line ++ finding_or_kind line bytes f x ++ others text x
+
+unfoldable pub line_sentences : List ℕ → SourceFault → ℕ → List ℕ → List ℕ
+line_sentences text f line bytes = finding_sentences text f line bytes (finding_if_small text bytes f)
+
+abbrev pub line_or_kind : List ℕ → SourceFault → ℕ → Option (List ℕ) → List ℕ
+line_or_kind text f line None = sentence (complaint f)
+line_or_kind text f line (Some bytes) = line_sentences text f line bytes
+
+abbrev pub what_is_wrong : List ℕ → SourceFault → Option ℕ → List ℕ
+what_is_wrong text f None = sentence (complaint f)
+what_is_wrong text f (Some line) = line_or_kind text f line (numbered_line text line)
+
 -- what is said of a refused text
 abbrev pub refusal_sentences : List ℕ → SourceFault → List ℕ
-refusal_sentences text f = line_if_any text (faulty_line f) ++ sentence (complaint f) ++ sentence (amendment f)
+refusal_sentences text f = what_is_wrong text f (faulty_line f) ++ sentence (amendment f)

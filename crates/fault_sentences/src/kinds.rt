@@ -43,8 +43,7 @@ pub(crate) fn complaint(fault: SourceFault) -> &'static [u8]
         SourceFault::DoubleName { .. } => b"The name that this line declares is declared already.",
         SourceFault::UnknownName { .. } => b"No line declares this name as what is wanted here.",
         SourceFault::Misplaced { .. } => b"This statement may not stand here.",
-        SourceFault::Limit { .. } =>
-            b"With this line the program is larger than a program may be.",
+        SourceFault::Limit { .. } => b"With this line the program is larger than a program may be.",
         SourceFault::Memory => b"There was no memory.",
     }
 }

@@ -1,13 +1,20 @@
 //! The sentences on a refused text.
-ghost use Rattle.std.specs.Prelude.{◌≡◌, ◌++◌, OnOk, Err};
+ghost use Rattle.std.specs.Prelude.{◌≡◌, ◌++◌, OnOk, IfOk, Err};
+ghost use Rattle.std.specs.Option.{option_copied};
+ghost use Rattle.text_places.specs.Lines.{numbered_line};
 ghost use Rattle.rv_assembler.specs.Source.{source};
-ghost use Rattle.fault_sentences.specs.Sentences.{indented_line, line_if_any, sentence, refusal_sentences};
+ghost use Rattle.fault_sentences.specs.Sentences.{indented_line, sentence, finding_or_kind, finding_if_small, line_sentences, line_or_kind, what_is_wrong, refusal_sentences};
 
+use crate::findings::{Finding, finding_of};
 use crate::kinds::{amendment, complaint, faulty_line};
-use dn_base::Memory;
+use crate::others::push_others;
+use crate::sentences::push_finding;
+use dn_base::{MOST_OF_TEXT, Memory};
 use place_texts::push_quoted_line;
 use rv_assembler::SourceFault;
+use std::alloc::Global;
 use text_pieces::push;
+use text_places::line_text;
 
 #[tactic(auto, unfolding(crate::specs::Sentences::indented_line))]
 fn push_indented_line(out: &mut Vec<u8>, text: &[u8], line: u32) -> Result<(), Memory>
@@ -15,15 +22,6 @@ fn push_indented_line(out: &mut Vec<u8>, text: &[u8], line: u32) -> Result<(), M
 {
     push(out, b"  ")?;
     push_quoted_line(out, text, line)
-}
-
-fn push_line(out: &mut Vec<u8>, text: &[u8], line: Option<u32>) -> Result<(), Memory>
-    ensures { OnOk result (out.new.items ≡ out.old.items ++ line_if_any text.now line) }
-{
-    match line {
-        Some(line) => push_indented_line(out, text, line),
-        None => Ok(()),
-    }
 }
 
 #[tactic(auto, unfolding(crate::specs::Sentences::sentence))]
@@ -35,16 +33,90 @@ fn push_sentence(out: &mut Vec<u8>, words: &[u8]) -> Result<(), Memory>
     push(out, b"\n")
 }
 
+/// What is wrong on a line, where the text isn't too large.
+fn finding_if_small(
+    alloc: Global,
+    text: &[u8],
+    bytes: &[u8],
+    fault: SourceFault,
+) -> Result<Option<Finding>, Memory>
+    ensures { IfOk result (λ finding. finding ≡ finding_if_small text.now bytes.now fault) }
+{
+    if MOST_OF_TEXT < text.len() || MOST_OF_TEXT < bytes.len() {
+        return Ok(None);
+    }
+    finding_of(alloc, text, bytes, fault)
+}
+
+/// Adds what is wrong: by the finding, and where there is none by the kind of the fault.
+fn push_finding_or_kind(
+    out: &mut Vec<u8>,
+    line: u32,
+    bytes: &[u8],
+    fault: SourceFault,
+    finding: Option<Finding>,
+) -> Result<(), Memory>
+    ensures { OnOk result (out.new.items ≡ out.old.items ++ finding_or_kind line bytes.now fault finding) }
+{
+    match finding {
+        Some(finding) => push_finding(out, line, bytes, finding),
+        None => push_sentence(out, complaint(fault)),
+    }
+}
+
+#[tactic(auto, unfolding(crate::specs::Sentences::line_sentences))]
+fn push_line_sentences(
+    out: &mut Vec<u8>,
+    text: &[u8],
+    fault: SourceFault,
+    line: u32,
+    bytes: &[u8],
+) -> Result<(), Memory>
+    ensures { OnOk result (out.new.items ≡ out.old.items ++ line_sentences text.now fault line bytes.now) }
+{
+    let finding = finding_if_small(*out.allocator(), text, bytes, fault)?;
+    push_indented_line(out, text, line)?;
+    push_finding_or_kind(out, line, bytes, fault, finding)?;
+    push_others(out, text, finding)
+}
+
+fn push_line_or_kind(
+    out: &mut Vec<u8>,
+    text: &[u8],
+    fault: SourceFault,
+    line: u32,
+) -> Result<(), Memory>
+    ensures { OnOk result (out.new.items ≡ out.old.items ++ line_or_kind text.now fault line (numbered_line text.now line)) }
+{
+    match line_text(text, line as usize) {
+        Some(bytes) => push_line_sentences(out, text, fault, line, bytes),
+        None => push_sentence(out, complaint(fault)),
+    }
+}
+
+fn push_what_is_wrong(
+    out: &mut Vec<u8>,
+    text: &[u8],
+    fault: SourceFault,
+    line: Option<u32>,
+) -> Result<(), Memory>
+    ensures { OnOk result (out.new.items ≡ out.old.items ++ what_is_wrong text.now fault line) }
+{
+    match line {
+        Some(line) => push_line_or_kind(out, text, fault, line),
+        None => push_sentence(out, complaint(fault)),
+    }
+}
+
 fn push_sentences(out: &mut Vec<u8>, text: &[u8], fault: SourceFault) -> Result<(), Memory>
     ensures { OnOk result (out.new.items ≡ out.old.items ++ refusal_sentences text.now fault) }
 {
-    push_line(out, text, faulty_line(fault))?;
-    push_sentence(out, complaint(fault))?;
+    push_what_is_wrong(out, text, fault, faulty_line(fault))?;
     push_sentence(out, amendment(fault))
 }
 
-/// Adds what is said of a text that the assembler refuses with this fault: the line that has the fault behind its number, what is wrong
-/// on it, and how that is mended.
+/// Adds what is said of a text that the assembler refuses with this fault: the line that has the fault behind its number, a mark under
+/// the part that is wrong, why it is, and how that is mended.
 ///
 /// # Errors
 /// `Memory` where there is no room; what is then added is no part of a text.
