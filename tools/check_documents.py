@@ -1,7 +1,7 @@
 #!/usr/bin/env python3
 """Says which names in the documents are nowhere in the repository: run it at the top of the repository, `tools/check_documents.py`.
 
-Of README.md, docs/*.md, each crate's README.md, examples/README.md and crates/worked_rows/data/README.md it looks at all that stands between backquotes, and at
+Of README.md, docs/*.md, the README.md of each crate and of each folder of experiments/, examples/README.md and crates/worked_rows/data/README.md it looks at all that stands between backquotes, and at
 the commands of their indented blocks and of the comments in examples/:
 - a path has to be there, from the top, from crates/, or from the folder that the same line names;
 - a name of code (with a capital, or with `_` or `::`) has to be in the code, its contracts or its definitions;
@@ -13,6 +13,7 @@ the commands of their indented blocks and of the comments in examples/:
 Each text of examples/ has to be the same as its copy in crates/worked_rows/data, which the cases run, and the text at the head of
 docs/LANGUAGE.md the same as that of the case language-page.
 It exits 0 where it found nothing, 1 otherwise."""
+import os
 import pathlib
 import re
 import subprocess
@@ -23,10 +24,10 @@ folders = {str(parent) for name in tracked for parent in pathlib.PurePath(name).
 there = set(tracked) | folders
 names = {pathlib.PurePath(name).name for name in there} | {pathlib.PurePath(name).stem for name in there if name.endswith(".edit")}
 code = "\n".join(pathlib.Path(name).read_text() for name in tracked
-                 if name.endswith((".rt", ".antt", ".py", ".txt", ".cases", ".s")) or name.startswith(("bench/", ".ci/")))
+                 if name.endswith((".rt", ".antt", ".py", ".txt", ".cases", ".s")) or name.startswith(("bench/", "experiments/", ".ci/")) and not name.endswith((".svg", ".csv", ".md")))
 words = set(re.findall(r"[A-Za-z_]\w*(?:-\w+)*'?", code))
 documents = ["README.md", "examples/README.md", "crates/worked_rows/data/README.md"] + [
-    n for n in tracked if re.fullmatch(r"docs/\w+\.md|crates/\w+/README\.md", n)]
+    n for n in tracked if re.fullmatch(r"docs/\w+\.md|(?:crates|experiments)/[\w-]+/README\.md", n)]
 examples = sorted(n for n in tracked if re.fullmatch(r"examples/[\w-]+\.s", n))
 found = []
 
@@ -43,11 +44,11 @@ def with_braces(piece):
 
 def has_path(piece, document):
     bare = piece.rstrip("/")
-    beside = str(pathlib.PurePath(document).parent / bare)
+    beside = os.path.normpath(pathlib.PurePath(document).parent / bare)
     if any(place in there for place in (bare, "crates/" + bare, beside)):
         return True
     ends = [name for name in there if name.endswith("/" + bare)]
-    return bool(ends) or "*" in bare or bare in ("run.trace", ".quick") or bare.startswith("crates/") and "/out" in bare or "NAME" in bare
+    return bool(ends) or "*" in bare or bare in ("run.trace", ".quick", "generated") or bare.startswith("crates/") and "/out" in bare or "NAME" in bare
 
 
 for document in documents:
