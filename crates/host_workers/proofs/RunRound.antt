@@ -29,7 +29,7 @@ use Rattle.host_workers.specs.Crews.{IsOwned, IsCrew, keeper_log}
 use Rattle.host_workers.specs.Rosters.{RosterParts, IsRoster, AreCrewsOf, IsCrewOf, core_actor, bank_actor}
 use Rattle.host_workers.specs.Opening.{StandsFor, IsMovingOf, IsInitialRound, crew_of, pass_of}
 use Rattle.host_workers.specs.Finishing.{IsReadyJob, HaveDoneJobs}
-use Rattle.host_workers.specs.MadeRounds.{fixed_setting, made_of}
+use Rattle.host_workers.specs.MadeRounds.{fixed_setting, made_from_parts}
 use Rattle.host_workers.proofs.Chosen.{taken-stands}
 use Rattle.host_workers.proofs.HallObjects.{mapped-at, ports-long, banks-long}
 use Rattle.host_workers.proofs.Passing.{more-same}
@@ -43,8 +43,8 @@ stands-kept M made kept =
     (after (initial_state M.setting) left.events, record { reached = record { ready = left.ready; before = left.events; run = left.run; leads = refl }; same = left.leads })
 
 -- what moves in a machine is that of its state
-pub moving-of : (S : State) (fixed : FixedParts) (moving : Moving) → StandsFor S (made_of fixed moving).state → IsKept (made_of fixed moving).state fixed.made
-    → IsMovingOf fixed.shape (made_of fixed moving).state moving
+pub moving-of : (S : State) (fixed : FixedParts) (moving : Moving) → StandsFor S (made_from_parts fixed moving).state → IsKept (made_from_parts fixed moving).state fixed.made
+    → IsMovingOf fixed.shape (made_from_parts fixed moving).state moving
 moving-of S fixed moving stands kept = record {
   machine = kept.sound.machine;
   shape_is = refl;

@@ -25,8 +25,8 @@ abbrev pub fixed_setting : FixedParts → Setting
 fixed_setting fixed = record { program = fixed.decoded; plans = fixed.plans.items; shape = fixed.shape; fuel = fixed.fuel }
 
 -- the machine of the parts that a round leaves as they are, and of those that it changes
-abbrev pub made_of : FixedParts → Moving → Made
-made_of fixed moving =
+abbrev pub made_from_parts : FixedParts → Moving → Made
+made_from_parts fixed moving =
     record {
       state =
           record {

@@ -5,7 +5,7 @@ ghost use Rattle.machine_rules.specs.State.{State};
 ghost use Rattle.dn_machine.specs.Kept.{IsKept, IsLeftByRun};
 ghost use Rattle.host_workers.specs.Opening.{StandsFor};
 ghost use Rattle.host_workers.specs.Finishing.{IsRoundLeft};
-ghost use Rattle.host_workers.specs.MadeRounds.{fixed_setting, made_of, AreFixedPartsOf, IsMadeRound};
+ghost use Rattle.host_workers.specs.MadeRounds.{fixed_setting, made_from_parts, AreFixedPartsOf, IsMadeRound};
 
 use crate::ends::ends_in;
 use crate::finishing::{Finished, finish};
@@ -51,8 +51,8 @@ struct FixedParts {
 
 /// Takes a machine apart: what a round leaves as it is, and what it changes. Takes no memory.
 fn parts_of(machine: Machine) -> (FixedParts, Moving)
-    ensures parts { made_of result.0 result.1 ≡ machine }
-    ensures kept { IsKept (made_of result.0 result.1).state result.0.made }
+    ensures parts { made_from_parts result.0 result.1 ≡ machine }
+    ensures kept { IsKept (made_from_parts result.0 result.1).state result.0.made }
 {
     let parts = machine.split();
     let fixed = FixedParts {
@@ -88,8 +88,8 @@ impl FixedParts {
     /// The machine of these parts and of those that the round changed, after so many events more. Takes no memory.
     fn machine(self, moving: Moving, more: u64) -> Machine
         requires most { self.made + more < 18446744073709551616 }
-        requires left { IsLeftByRun (made_of self moving).state (self.made + more) }
-        ensures state { result.state ≡ (made_of self moving).state }
+        requires left { IsLeftByRun (made_from_parts self moving).state (self.made + more) }
+        ensures state { result.state ≡ (made_from_parts self moving).state }
         ensures made { result.made ≡ self.made + more }
     {
         Machine::join(MachineParts {

@@ -5,7 +5,7 @@ use Rattle.dn_machine.specs.Kept.{Made}
 use Rattle.machine_rules.specs.State.{State}
 use Rattle.registration_protocol.specs.Node.{Setting}
 use Rattle.host_workers.specs.Opening.{StandsFor}
-use Rattle.host_workers.specs.MadeRounds.{IsMadeRound, made_of}
+use Rattle.host_workers.specs.MadeRounds.{IsMadeRound, made_from_parts}
 use Rattle.host_workers.specs.Finishing.{IsReadyJob, HaveDoneJobs}
 use Rattle.host_workers.proofs.RunRound.{stands-kept, moving-of, ready-jobs, some-dones, passes-back, crews-back}
 use Rattle.host_workers.proofs.round.run_round.Goals as goal
@@ -14,7 +14,7 @@ pub open-requires-clause-machine : goal.open-requires-clause-machine
 open-requires-clause-machine g c =
     let fixed = c.parts_of-fixed.result.0 in
     let moving = c.parts_of-fixed.result.1 in
-    let M = (made_of fixed moving).state in
+    let M = (made_from_parts fixed moving).state in
     let stands = stands-kept M fixed.made c.parts_of-fixed.ensures.kept in
     (M, moving-of stands.0 fixed moving stands.1 c.parts_of-fixed.ensures.kept)
 
@@ -22,7 +22,7 @@ pub work_all-requires-after_bounds : goal.work_all-requires-after_bounds
 work_all-requires-after_bounds g c κs within =
     let fixed = c.parts_of-fixed.result.0 in
     let moving = c.parts_of-fixed.result.1 in
-    let M = (made_of fixed moving).state in
+    let M = (made_from_parts fixed moving).state in
     let stands = stands-kept M fixed.made c.parts_of-fixed.ensures.kept in
     let opened = c.in_ok-hall.ensures M (moving-of stands.0 fixed moving stands.1 c.parts_of-fixed.ensures.kept) in
     subst (λ (D : Setting). All (IsReadyJob D c.in_ok-hall.field-0.hall) c.in_ok-hall.field-0.jobs.items) (sym c.context-context.ensures)
@@ -32,7 +32,7 @@ pub finish-requires-clause-some : goal.finish-requires-clause-some
 finish-requires-clause-some g c =
     let fixed = c.parts_of-fixed.result.0 in
     let moving = c.parts_of-fixed.result.1 in
-    let M = (made_of fixed moving).state in
+    let M = (made_from_parts fixed moving).state in
     let stands = stands-kept M fixed.made c.parts_of-fixed.ensures.kept in
     let opened = c.in_ok-hall.ensures M (moving-of stands.0 fixed moving stands.1 c.parts_of-fixed.ensures.kept) in
     let done = subst (λ (D : Setting). HaveDoneJobs D c.in_ok-hall.field-0.hall c.in_ok-hall.field-0.jobs.items c.in_ok-dones.dones.items) c.context-context.ensures c.in_ok-dones.ensures in
@@ -42,7 +42,7 @@ pub finish-requires-clause-passes : goal.finish-requires-clause-passes
 finish-requires-clause-passes g c =
     let fixed = c.parts_of-fixed.result.0 in
     let moving = c.parts_of-fixed.result.1 in
-    let M = (made_of fixed moving).state in
+    let M = (made_from_parts fixed moving).state in
     let stands = stands-kept M fixed.made c.parts_of-fixed.ensures.kept in
     let opened = c.in_ok-hall.ensures M (moving-of stands.0 fixed moving stands.1 c.parts_of-fixed.ensures.kept) in
     let done = subst (λ (D : Setting). HaveDoneJobs D c.in_ok-hall.field-0.hall c.in_ok-hall.field-0.jobs.items c.in_ok-dones.dones.items) c.context-context.ensures c.in_ok-dones.ensures in
@@ -52,7 +52,7 @@ pub finish-requires-clause-crews : goal.finish-requires-clause-crews
 finish-requires-clause-crews g c =
     let fixed = c.parts_of-fixed.result.0 in
     let moving = c.parts_of-fixed.result.1 in
-    let M = (made_of fixed moving).state in
+    let M = (made_from_parts fixed moving).state in
     let stands = stands-kept M fixed.made c.parts_of-fixed.ensures.kept in
     let opened = c.in_ok-hall.ensures M (moving-of stands.0 fixed moving stands.1 c.parts_of-fixed.ensures.kept) in
     let done = subst (λ (D : Setting). HaveDoneJobs D c.in_ok-hall.field-0.hall c.in_ok-hall.field-0.jobs.items c.in_ok-dones.dones.items) c.context-context.ensures c.in_ok-dones.ensures in
@@ -62,7 +62,7 @@ pub put_together-requires : goal.put_together-requires
 put_together-requires g c =
     let fixed = c.parts_of-fixed.result.0 in
     let moving = c.parts_of-fixed.result.1 in
-    let M = (made_of fixed moving).state in
+    let M = (made_from_parts fixed moving).state in
     let stands = stands-kept M fixed.made c.parts_of-fixed.ensures.kept in
     let opened = c.in_ok-hall.ensures M (moving-of stands.0 fixed moving stands.1 c.parts_of-fixed.ensures.kept) in
     let done = subst (λ (D : Setting). HaveDoneJobs D c.in_ok-hall.field-0.hall c.in_ok-hall.field-0.jobs.items c.in_ok-dones.dones.items) c.context-context.ensures c.in_ok-dones.ensures in (
@@ -89,7 +89,7 @@ pub returns : goal.returns
 returns g c =
     let fixed = c.parts_of-fixed.result.0 in
     let moving = c.parts_of-fixed.result.1 in
-    let M = (made_of fixed moving).state in
+    let M = (made_from_parts fixed moving).state in
     let done = subst (λ (D : Setting). HaveDoneJobs D c.in_ok-hall.field-0.hall c.in_ok-hall.field-0.jobs.items c.in_ok-dones.dones.items) c.context-context.ensures c.in_ok-dones.ensures in
     IfOk-weaker c.put_together.result _ (λ round. (S : State) → StandsFor S c.args.machine.state → IsMadeRound S c.args.machine.state c.args.machine.made c.args.workers round)
     (λ round made S there.
