@@ -3,9 +3,8 @@ ghost use Rattle.text_pieces.specs.Pieces.{hexadecimal as hexadecimal_of};
 ghost use Rattle.document_parts.specs.Field.{Stands, NoneStands};
 ghost use Rattle.document_parts.specs.Base16.{IsWord, digit_of, seems_word};
 
-use text_pieces::to_hexadecimal;
-
 use crate::numbers::behind;
+use text_pieces::to_hexadecimal;
 
 /// The value below 16 of a byte that is a digit of base 16, in lower case; of another byte some value below 16.
 fn value_of(byte: u8) -> u32

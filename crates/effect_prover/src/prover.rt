@@ -81,7 +81,12 @@ fn check_kept(program: &Program, task: &TaskDecl, kept: &Option<TaskTable>) -> O
     let Some(table) = kept else {
         return None;
     };
-    first_outside(program, task, table.leaders.as_slice(), table.rows.as_slice())
+    first_outside(
+        program,
+        task,
+        table.leaders.as_slice(),
+        table.rows.as_slice(),
+    )
 }
 
 /// The first word of a task's least table that isn't inside. The table is kept.

@@ -79,12 +79,7 @@ fn apply_at(cache: &mut WordCache, word: WordId, what: Act, turned: usize) {
 }
 
 /// A cache of two ways to a set after these acts, each with its word.
-fn after(
-    alloc: Global,
-    sets: u32,
-    acts: &[(u32, Act)],
-    calls: Calls,
-) -> Result<WordCache, Memory>
+fn after(alloc: Global, sets: u32, acts: &[(u32, Act)], calls: Calls) -> Result<WordCache, Memory>
     requires some { 1 ≤ sets }
     requires few { sets ≤ 2 }
 {

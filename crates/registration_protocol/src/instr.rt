@@ -76,7 +76,13 @@ fn load(
     ensures { task.new ≡ option_map (loaded_of (setting context.now).program value) task.old }
 {
     if let Some(task) = task {
-        task.complete_load(context.decoded.program(), declared, context.fuel, next, value);
+        task.complete_load(
+            context.decoded.program(),
+            declared,
+            context.fuel,
+            next,
+            value,
+        );
     }
 }
 
@@ -202,7 +208,13 @@ impl Node {
         ensures { (t : TaskState) → self.now.task ≡ Some t → result ≡ merged_of (setting context.now).program old t }
     {
         match &self.task {
-            Some(task) => task.merged_by(context.decoded.program(), declared, context.fuel, next, old),
+            Some(task) => task.merged_by(
+                context.decoded.program(),
+                declared,
+                context.fuel,
+                next,
+                old,
+            ),
             None => old,
         }
     }
