@@ -1,11 +1,10 @@
 use Rattle.std.proofs.Common.{◌++◌, sym, ap, ◌∙◌}
-use Rattle.document_parts.specs.Parts.{source_part}
+use Rattle.document_parts.specs.Parts.{IsSource, source_part}
 use Rattle.run_replay.specs.Document.{title, shape_line, IsTraceShape}
-use Rattle.document_parts.specs.Parts.{IsSource}
 use Rattle.document_parts.proofs.Fields.{if-none}
-use Rattle.document_parts.proofs.Forms.{source-one}
+use Rattle.document_parts.proofs.Forms.{source-one, next}
 use Rattle.run_replay.proofs.Forms.{head-parts, shape-one, count-from}
-use Rattle.run_replay.proofs.Found.{next, behind-title}
+use Rattle.run_replay.proofs.Found.{behind-title}
 use Rattle.run_replay.proofs.head.read_heading.Goals as goal
 
 pub returns-in_err-bytes-clause-none : goal.returns-in_err-bytes-clause-none
