@@ -14,7 +14,7 @@ use Rattle.fault_sentences.specs.Sentences.{refusal_sentences}
 use Rattle.conflict_sentences.specs.Sentences.{conflict_sentences}
 use Rattle.explained_answer.specs.declared.explaining.Explained.{Explained}
 use Rattle.explained_answer.specs.declared.explaining.Explained as explained
-use Rattle.explained_answer.specs.Lines.{AreAllLinesExplained, IsStoppedAt}
+use Rattle.explained_answer.specs.Lines.{AreAllLinesExplained, IsRefusedAt}
 
 -- the program of the text, with the places of its parts in the text
 pub record IsLocated (text : List ℕ) (l : Located) : Type 0 where
@@ -47,7 +47,7 @@ pub record IsConflictExplained (text answer : List ℕ) (e : Explained) : Type 0
 -- all its lines are lines of answers of the program, or one isn't
 abbrev pub AreAllExplained : List ℕ → Located → List ℕ → Explained → Type 0
 AreAllExplained text l answer (explained.TheVariants.Text out) = AreAllLinesExplained text l answer [] out
-AreAllExplained text l answer (explained.TheVariants.Refused number) = (out : List ℕ) × IsStoppedAt text l answer number [] out
+AreAllExplained text l answer (explained.TheVariants.Refused number) = (out : List ℕ) × IsRefusedAt text l answer number [] out
 
 -- the text's program is checked, and the answer is looked at line by line
 pub record IsRunExplained (text answer : List ℕ) (e : Explained) : Type 0 where

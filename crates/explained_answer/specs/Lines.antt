@@ -40,8 +40,8 @@ explained_line text l x = answer_line x ++ line_sentences text l x
 abbrev pub has_task : Located → ℕ → ℕ → Bool
 has_task l phase core = is_some (find (is_task_of phase core) l.places.tasks)
 
-abbrev pub has_lock : Located → ℕ → Bool
-has_lock l lock = nat_lt lock (length l.program.locks)
+abbrev pub has_named_lock : Located → ℕ → Bool
+has_named_lock l lock = nat_lt lock (length l.program.locks)
 
 abbrev pub count_is_of : Located → Count → ℕ → Bool
 count_is_of l count.TheVariants.Words number = number == length l.program.memory
@@ -49,23 +49,23 @@ count_is_of l count.TheVariants.Events number = true
 count_is_of l (count.TheVariants.Kind k) number = true
 
 -- whether an answer of the text's program may have the line
-abbrev pub is_of : Located → AnswerLine → Bool
-is_of l (line.TheVariants.Outcome o) = true
-is_of l (line.TheVariants.Task t) = has_task l t.phase.0 t.core.0
-is_of l (line.TheVariants.Word word value) = nat_lt word (length l.program.memory)
-is_of l (line.TheVariants.Grant g) = has_task l g.phase.0 g.core.0 && has_lock l g.lock.0
-is_of l (line.TheVariants.Count c number) = count_is_of l c number
+abbrev pub fits_program : Located → AnswerLine → Bool
+fits_program l (line.TheVariants.Outcome o) = true
+fits_program l (line.TheVariants.Task t) = has_task l t.phase.0 t.core.0
+fits_program l (line.TheVariants.Word word value) = nat_lt word (length l.program.memory)
+fits_program l (line.TheVariants.Grant g) = has_task l g.phase.0 g.core.0 && has_named_lock l g.lock.0
+fits_program l (line.TheVariants.Count c number) = count_is_of l c number
 
 pub record IsLineOf (l : Located) (x : AnswerLine) : Type 0 where
   pub fits : IsAnswerLine x
-  pub of : is_of l x ≡ true
+  pub of : fits_program l x ≡ true
 
 -- in front of some bytes stands a line, but none of this program's answers
 pub record StandsOther (l : Located) (bytes : List ℕ) : Type 0 where
   pub line : AnswerLine
   pub rest : List ℕ
   pub stands : Stands IsAnswerLine answer_line bytes line rest
-  pub other : is_of l line ≡ false
+  pub other : fits_program l line ≡ false
 
 -- no line of an answer of this program stands in front of some bytes
 abbrev pub NoLineOf : Located → List ℕ → Type 0
@@ -80,7 +80,7 @@ pub record AreLinesExplained (text : List ℕ) (l : Located) (bytes behind : Lis
   pub said : after ≡ before ++ flat_map (explained_line text l) lines
 
 -- so many lines in front of some bytes were explained, and the one of this number, from 1, is no line of an answer of this program
-pub record IsStoppedAt (text : List ℕ) (l : Located) (bytes : List ℕ) (number : ℕ) (before after : List ℕ) : Type 0 where
+pub record IsRefusedAt (text : List ℕ) (l : Located) (bytes : List ℕ) (number : ℕ) (before after : List ℕ) : Type 0 where
   pub earlier : ℕ
   pub rest : List ℕ
   pub lines : AreLinesExplained text l bytes rest earlier before after

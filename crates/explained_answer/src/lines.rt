@@ -2,7 +2,7 @@
 ghost use Rattle.std.specs.Prelude.{◌≡◌, ◌++◌, OnOk, IfOk, IfSome, IfNone, MatchOption};
 ghost use Rattle.document_parts.specs.Field.{Stands};
 ghost use Rattle.answer_lines.specs.Lines.{answer_line};
-ghost use Rattle.explained_answer.specs.Lines.{named_word, named_lock, line_sentences, explained_line, has_task, has_lock, count_is_of, is_of, IsLineOf, NoLineOf, AreAllLinesExplained, IsStoppedAt};
+ghost use Rattle.explained_answer.specs.Lines.{named_word, named_lock, line_sentences, explained_line, has_task, has_named_lock, count_is_of, fits_program, IsLineOf, NoLineOf, AreAllLinesExplained, IsRefusedAt};
 
 use answer_lines::{AnswerLine, Count, read_line};
 use dn_base::Memory;
@@ -54,8 +54,8 @@ fn has_task(located: &Located, phase: u32, core: u32) -> bool
     located.places.task(phase as usize, core).is_some()
 }
 
-fn has_lock(located: &Located, lock: u32) -> bool
-    ensures { result ≡ has_lock located.now lock }
+fn has_named_lock(located: &Located, lock: u32) -> bool
+    ensures { result ≡ has_named_lock located.now lock }
 {
     (lock as usize) < located.program.locks.len()
 }
@@ -71,15 +71,15 @@ fn count_is_of(located: &Located, of: Count, number: u32) -> bool
 }
 
 /// Whether an answer of the text's program may have the line.
-fn is_of(located: &Located, line: AnswerLine) -> bool
-    ensures { result ≡ is_of located.now line }
+fn fits_program(located: &Located, line: AnswerLine) -> bool
+    ensures { result ≡ fits_program located.now line }
 {
     match line {
         AnswerLine::Outcome(_) => true,
         AnswerLine::Task(task) => has_task(located, task.phase.0, task.core.0),
         AnswerLine::Word { word, value: _ } => (word as usize) < located.program.memory.len(),
         AnswerLine::Grant(grant) => {
-            has_task(located, grant.phase.0, grant.core.0) && has_lock(located, grant.lock.0)
+            has_task(located, grant.phase.0, grant.core.0) && has_named_lock(located, grant.lock.0)
         }
         AnswerLine::Count { of, number } => count_is_of(located, of, number),
     }
@@ -91,7 +91,7 @@ fn line_of<'a>(located: &Located, bytes: &'a [u8]) -> Option<(AnswerLine, &'a [u
     ensures none { IfNone result (NoLineOf located.now bytes.now) }
 {
     let (line, behind) = read_line(bytes)?;
-    if is_of(located, line) {
+    if fits_program(located, line) {
         Some((line, behind))
     } else {
         None
@@ -123,7 +123,7 @@ pub(crate) fn explain_lines(
     bytes: &[u8],
 ) -> Result<Option<usize>, Memory>
     ensures { IfOk result (λ stop. MatchOption stop (AreAllLinesExplained text.now located.now bytes.now out.old.items out.new.items)
-        (λ number. IsStoppedAt text.now located.now bytes.now number out.old.items out.new.items)) }
+        (λ number. IsRefusedAt text.now located.now bytes.now number out.old.items out.new.items)) }
 {
     let mut rest = bytes;
     let mut number = 0;
