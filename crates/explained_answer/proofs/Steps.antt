@@ -1,0 +1,82 @@
+-- One line more of an answer.
+use Rattle.std.proofs.Common.{◌≡◌, ℕ, ◌+◌, ◌*◌, ◌-◌, ◌<◌, ◌≤◌, List, [], ◌∷◌, ◌++◌, length, take, flat_map, codes, Result, Ok, Err, IfOk, refl, sym, ap, ◌∙◌, arith, length-append, append_assoc}
+use Rattle.std.proofs.lemmas.List.Elements.{All-append, All-cons, All-nil}
+use Rattle.std.proofs.lemmas.Grind.{flat_map-append}
+use Rattle.std.proofs.lemmas.List.{append-nil}
+use Rattle.std.proofs.Math.Seq.{take-append_seam}
+use Rattle.text_places.specs.declared.places.Located.{Located}
+use Rattle.document_parts.specs.Field.{Stands}
+use Rattle.text_pieces.specs.Pieces.{newline, space, hexadecimal}
+use Rattle.std.specs.Fmt.{decimal}
+use Rattle.run_report.specs.Answer.{outcome_word, outcome_line, end_text, task_line, words_line}
+use Rattle.run_report.specs.Grants.{grant_line}
+use Rattle.run_report.specs.Run.{event_word, counted_line}
+use Rattle.answer_lines.specs.declared.line.AnswerLine as line
+use Rattle.answer_lines.specs.declared.line.AnswerLine.{AnswerLine}
+use Rattle.answer_lines.specs.declared.line.Count as count
+use Rattle.answer_lines.specs.Lines.{IsAnswerLine, answer_line, address_line}
+use Rattle.answer_lines.proofs.Forms.{word-is}
+use Rattle.explained_answer.specs.Lines.{IsLineOf, explained_line, AreLinesExplained}
+
+-- what stands in front of a rest is as long as the rest leaves it
+pub front_of : (xs front rest : List ℕ) → xs ≡ front ++ rest → take (length xs - length rest) xs ≡ front
+front_of xs front rest is =
+    let size : length xs - length rest ≡ length front = omega (arith, ap length is, length-append front rest) in
+    ap (λ k. take k xs) size ∙ ap (take (length front)) is ∙ take-append_seam front rest
+
+pub no_longer : (xs front rest : List ℕ) → xs ≡ front ++ rest → length rest ≤ length xs
+no_longer xs front rest is = omega (arith, ap length is, length-append front rest)
+
+-- a line has a byte
+behind-line : (xs : List ℕ) → 0 < length (xs ++ newline)
+behind-line xs = omega (arith, length-append xs newline)
+
+word-some : (a v : ℕ) → 0 < length (address_line a v)
+unfolding address_line
+word-some a v = behind-line (codes "word " ++ hexadecimal a ++ space ++ hexadecimal v)
+
+pub line-some : (x : AnswerLine) → IsAnswerLine x → 0 < length (answer_line x)
+unfolding outcome_line task_line words_line counted_line grant_line
+line-some (line.TheVariants.Outcome o) fits = behind-line (codes "outcome " ++ outcome_word o)
+line-some (line.TheVariants.Task t) fits =
+    behind-line (codes "task " ++ decimal t.phase.0 ++ space ++ decimal t.core.0 ++ space ++ end_text t.end ++ codes " retired " ++ decimal t.retired)
+line-some (line.TheVariants.Word w v) fits = rw (word-is w v fits.some) (word-some (268435456 + 4 * w) v)
+line-some (line.TheVariants.Grant g) fits = behind-line (codes "grant " ++ decimal g.phase.0 ++ space ++ decimal g.core.0 ++ space ++ decimal g.lock.0)
+line-some (line.TheVariants.Count count.TheVariants.Words n) fits = behind-line (codes "words " ++ decimal n)
+line-some (line.TheVariants.Count count.TheVariants.Events n) fits = behind-line (codes "count " ++ codes "events" ++ space ++ decimal n)
+line-some (line.TheVariants.Count (count.TheVariants.Kind k) n) fits = behind-line (codes "count " ++ event_word k ++ space ++ decimal n)
+
+-- no line so far
+pub none-yet : (text : List ℕ) (l : Located) (bytes before : List ℕ) → AreLinesExplained text l bytes bytes 0 before before
+none-yet text l bytes before = record { lines = []; are = All-nil (IsLineOf l); parts = refl; many = refl; said = sym (append-nil before) }
+
+one-line : {X : Type 0} (f : X → List ℕ) (xs : List X) (x : X) → flat_map f (xs ++ x ∷ []) ≡ flat_map f xs ++ f x
+one-line f xs x = flat_map-append f xs (x ∷ []) ∙ ap (λ ys. flat_map f xs ++ ys) (append-nil (f x))
+
+-- one more line
+pub one-more : (text : List ℕ) (l : Located) (bytes rest behind : List ℕ) (number : ℕ) (before between after : List ℕ)
+    → AreLinesExplained text l bytes rest number before between → (x : AnswerLine) → Stands (IsLineOf l) answer_line rest x behind → after ≡ between ++ explained_line text l x
+    → AreLinesExplained text l bytes behind (number + 1) before after
+one-more text l bytes rest behind number before between after so_far x more said =
+    let xs = so_far.lines in
+    record {
+      lines = xs ++ x ∷ [];
+      are = All-append (IsLineOf l) xs (x ∷ []) so_far.are (All-cons (IsLineOf l) x [] more.fits (All-nil (IsLineOf l)));
+      parts =
+          so_far.parts ∙ ap (λ bs. flat_map answer_line xs ++ bs) more.parts ∙ sym (append_assoc (flat_map answer_line xs) (answer_line x) behind)
+          ∙ ap (λ bs. bs ++ behind) (sym (one-line answer_line xs x));
+      many = omega (arith, length-append xs (x ∷ []), so_far.many);
+      said =
+          said ∙ ap (λ bs. bs ++ explained_line text l x) so_far.said
+          ∙ append_assoc before (flat_map (explained_line text l) xs) (explained_line text l x)
+          ∙ ap (λ bs. before ++ bs) (sym (one-line (explained_line text l) xs x));
+    }
+
+pub shorter : (l : Located) (rest : List ℕ) (x : AnswerLine) (behind : List ℕ) → Stands (IsLineOf l) answer_line rest x behind → length behind + 1 ≤ length rest
+shorter l rest x behind more = omega (arith, line-some x more.fits.fits, ap length more.parts, length-append (answer_line x) behind)
+
+-- ---- results
+
+pub if-ok : {X E : Type 0} (r : Result X E) (P Q : X → Type 0) → ((x : X) → P x → Q x) → IfOk r P → IfOk r Q
+if-ok (Ok x) P Q more h = more x h
+if-ok (Err e) P Q more h = tt

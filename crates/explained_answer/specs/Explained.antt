@@ -1,0 +1,67 @@
+-- What an answer of a text comes to.
+use Rattle.std.specs.Prelude.{◌≡◌, ◌≢◌, ◌⊎◌, ℕ, List, [], ◌++◌, Ok, Err, Option, Some, None}
+use Rattle.region_table.specs.Program.{ProgramParts}
+use Rattle.rv_assembler.specs.declared.fault.SourceFault.{SourceFault}
+use Rattle.rv_assembler.specs.Source.{source}
+use Rattle.effect_checker.specs.declared.fault.CheckFault.{CheckFault}
+use Rattle.effect_checker.specs.Checked.{IsChecked}
+use Rattle.effect_checker.specs.Faults.{IsLeastFault}
+use Rattle.text_places.specs.declared.places.Located.{Located}
+use Rattle.text_places.specs.Places.{text_places}
+use Rattle.run_report.specs.declared.refusal.Refusal.TheVariants.{Source as OfSource, Check as OfCheck}
+use Rattle.run_report.specs.Refusal.{refusal_of}
+use Rattle.fault_sentences.specs.Sentences.{refusal_sentences}
+use Rattle.conflict_sentences.specs.Sentences.{conflict_sentences}
+use Rattle.explained_answer.specs.declared.explaining.Explained.{Explained}
+use Rattle.explained_answer.specs.declared.explaining.Explained as explained
+use Rattle.explained_answer.specs.Lines.{AreAllLinesExplained, IsRefusedAt}
+
+-- the program of the text, with the places of its parts in the text
+pub record IsLocated (text : List ℕ) (l : Located) : Type 0 where
+  pub program : source text ≡ Ok l.program
+  pub places : l.places ≡ text_places text
+
+-- ---- the answer to a text that is refused
+
+-- the answer is the text's refusal, or its first line isn't
+abbrev pub IsRefusalExplained : (line sentences answer : List ℕ) → Explained → Type 0
+IsRefusalExplained line sentences answer (explained.TheVariants.Text out) = (answer ≡ line) × (out ≡ line ++ sentences)
+IsRefusalExplained line sentences answer (explained.TheVariants.Refused number) = (answer ≢ line) × (number ≡ 1)
+
+-- the text has this fault
+pub record IsFaultExplained (text answer : List ℕ) (e : Explained) : Type 0 where
+  pub fault : SourceFault
+  pub is : source text ≡ Err fault
+  pub answer_is : IsRefusalExplained (refusal_of (OfSource fault)) (refusal_sentences text fault) answer e
+
+-- the text's program has this conflict, and none before it
+pub record IsConflictExplained (text answer : List ℕ) (e : Explained) : Type 0 where
+  pub located : Located
+  pub is_located : IsLocated text located
+  pub fault : CheckFault
+  pub is : IsLeastFault located.program fault
+  pub answer_is : IsRefusalExplained (refusal_of (OfCheck fault)) (conflict_sentences located fault) answer e
+
+-- ---- the answer of a run
+
+-- all its lines are lines of answers of the program, or one isn't
+abbrev pub AreAllExplained : List ℕ → Located → List ℕ → Explained → Type 0
+AreAllExplained text l answer (explained.TheVariants.Text out) = AreAllLinesExplained text l answer [] out
+AreAllExplained text l answer (explained.TheVariants.Refused number) = (out : List ℕ) × IsRefusedAt text l answer number [] out
+
+-- the text's program is checked, and the answer is looked at line by line
+pub record IsRunExplained (text answer : List ℕ) (e : Explained) : Type 0 where
+  pub located : Located
+  pub is_located : IsLocated text located
+  pub is_checked : IsChecked located.program
+  pub answer_is : AreAllExplained text located answer e
+
+-- an answer to a text, explained; or the number of its first line that is no line of an answer to this text
+abbrev pub IsExplained : (text answer : List ℕ) → Explained → Type 0
+IsExplained text answer e = IsFaultExplained text answer e ⊎ (IsConflictExplained text answer e ⊎ IsRunExplained text answer e)
+
+-- ---- the conflict of a program, if it has one
+
+abbrev pub IsConflictOf : ProgramParts → Option CheckFault → Type 0
+IsConflictOf p None = IsChecked p
+IsConflictOf p (Some fault) = IsLeastFault p fault

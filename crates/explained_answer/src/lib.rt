@@ -1,0 +1,8 @@
+//! An answer explained: each of its lines, and behind each line that speaks of a place sentences on where that is in the text.
+#![tactic(auto)]
+
+mod explaining;
+mod lines;
+mod refusals;
+
+pub use explaining::{Explained, explain};

@@ -1,0 +1,140 @@
+//! The lines of the answer of a run.
+ghost use Rattle.std.specs.Prelude.{◌≡◌, ◌++◌, OnOk, IfOk, IfSome, IfNone, MatchOption};
+ghost use Rattle.document_parts.specs.Field.{Stands};
+ghost use Rattle.answer_lines.specs.Lines.{answer_line};
+ghost use Rattle.explained_answer.specs.Lines.{named_word, named_lock, line_sentences, explained_line, has_task, has_named_lock, count_is_of, fits_program, IsLineOf, NoLineOf, AreAllLinesExplained, IsRefusedAt};
+
+use answer_lines::{AnswerLine, Count, read_line};
+use dn_base::Memory;
+use ending_sentences::push_ending;
+use place_texts::{push_lock, push_word};
+use text_pieces::push;
+use text_places::Located;
+
+#[tactic(auto, unfolding(crate::specs::Lines::named_word))]
+fn push_named_word(out: &mut Vec<u8>, located: &Located, word: u32) -> Result<(), Memory>
+    ensures { OnOk result (out.new.items ≡ out.old.items ++ named_word located.now word) }
+{
+    push(out, b"  ")?;
+    push_word(out, located.program.regions.as_slice(), word)?;
+    push(out, b"\n")
+}
+
+#[tactic(auto, unfolding(crate::specs::Lines::named_lock))]
+fn push_named_lock(out: &mut Vec<u8>, located: &Located, lock: u32) -> Result<(), Memory>
+    ensures { OnOk result (out.new.items ≡ out.old.items ++ named_lock located.now lock) }
+{
+    push(out, b"  ")?;
+    push_lock(out, located.program.locks.as_slice(), lock as usize)?;
+    push(out, b"\n")
+}
+
+/// Adds what is said behind a line of an answer.
+fn push_sentences(
+    out: &mut Vec<u8>,
+    text: &[u8],
+    located: &Located,
+    line: AnswerLine,
+) -> Result<(), Memory>
+    ensures { OnOk result (out.new.items ≡ out.old.items ++ line_sentences text.now located.now line) }
+{
+    match line {
+        AnswerLine::Outcome(_) => Ok(()),
+        AnswerLine::Task(task) => push_ending(out, text, located, task),
+        AnswerLine::Word { word, value: _ } => push_named_word(out, located, word),
+        AnswerLine::Grant(grant) => push_named_lock(out, located, grant.lock.0),
+        AnswerLine::Count { of: _, number: _ } => Ok(()),
+    }
+}
+
+/// Whether the text has a task for the core in the phase.
+fn has_task(located: &Located, phase: u32, core: u32) -> bool
+    ensures { result ≡ has_task located.now phase core }
+{
+    located.places.task(phase as usize, core).is_some()
+}
+
+fn has_named_lock(located: &Located, lock: u32) -> bool
+    ensures { result ≡ has_named_lock located.now lock }
+{
+    (lock as usize) < located.program.locks.len()
+}
+
+fn count_is_of(located: &Located, of: Count, number: u32) -> bool
+    ensures { result ≡ count_is_of located.now of number }
+{
+    match of {
+        Count::Words => number as usize == located.program.memory.len(),
+        Count::Events => true,
+        Count::Kind(_) => true,
+    }
+}
+
+/// Whether an answer of the text's program may have the line.
+fn fits_program(located: &Located, line: AnswerLine) -> bool
+    ensures { result ≡ fits_program located.now line }
+{
+    match line {
+        AnswerLine::Outcome(_) => true,
+        AnswerLine::Task(task) => has_task(located, task.phase.0, task.core.0),
+        AnswerLine::Word { word, value: _ } => (word as usize) < located.program.memory.len(),
+        AnswerLine::Grant(grant) => {
+            has_task(located, grant.phase.0, grant.core.0) && has_named_lock(located, grant.lock.0)
+        }
+        AnswerLine::Count { of, number } => count_is_of(located, of, number),
+    }
+}
+
+/// The line of an answer of this program that stands in front of some bytes, and what stands behind it.
+fn line_of<'a>(located: &Located, bytes: &'a [u8]) -> Option<(AnswerLine, &'a [u8])>
+    ensures some { IfSome result (λ f. Stands (IsLineOf located.now) answer_line bytes.now f.0 f.1.now) }
+    ensures none { IfNone result (NoLineOf located.now bytes.now) }
+{
+    let (line, behind) = read_line(bytes)?;
+    if fits_program(located, line) {
+        Some((line, behind))
+    } else {
+        None
+    }
+}
+
+/// Adds a line, which is written so, and what is said of it.
+fn push_explained(
+    out: &mut Vec<u8>,
+    text: &[u8],
+    located: &Located,
+    line: AnswerLine,
+    written: &[u8],
+) -> Result<(), Memory>
+    requires { written.now ≡ answer_line line }
+    ensures { OnOk result (out.new.items ≡ out.old.items ++ explained_line text.now located.now line) }
+{
+    push(out, written)?;
+    push_sentences(out, text, located, line)
+}
+
+/// Explains the lines in front of some bytes, one after the other. The number of the first that is no line of an answer of this
+/// program, counted from 1; None where all are.
+#[tactic(auto, using(crate::proofs::Steps::front_of, crate::proofs::Steps::no_longer))]
+pub(crate) fn explain_lines(
+    out: &mut Vec<u8>,
+    text: &[u8],
+    located: &Located,
+    bytes: &[u8],
+) -> Result<Option<usize>, Memory>
+    ensures { IfOk result (λ stop. MatchOption stop (AreAllLinesExplained text.now located.now bytes.now out.old.items out.new.items)
+        (λ number. IsRefusedAt text.now located.now bytes.now number out.old.items out.new.items)) }
+{
+    let mut rest = bytes;
+    let mut number = 0;
+    'lines: while !rest.is_empty() {
+        let Some((line, behind)) = line_of(located, rest) else {
+            return Ok(Some(number + 1));
+        };
+        let written = &rest[..rest.len() - behind.len()];
+        push_explained(out, text, located, line, written)?;
+        rest = behind;
+        number += 1;
+    }
+    Ok(None)
+}
