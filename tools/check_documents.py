@@ -9,6 +9,7 @@ the commands of their indented blocks and of the comments in examples/:
 - each fenced block of docs/LIBRARY.md, docs/FROM_C.md and docs/TUTORIAL.md has to stand in the file that it quotes, unless it is a
   command's output;
 - the map of docs/ARCHITECTURE.md has the rooms and crates of crates.txt, in its order, and each crate stands on crates before it;
+- what a table of docs/LANGUAGE.md says under "How it is mended" has to be a sentence of a program;
 - `File.name` of docs/DEFINITION.md has to be defined in that file of the source language's definition.
 Each text of examples/ has to be the same as its copy in crates/worked_rows/data, which the cases run, and the text at the head of
 docs/LANGUAGE.md the same as that of the case language-page.
@@ -85,6 +86,10 @@ for file, name in re.findall(r"`([A-Z]\w+)\.(\w+)`", pathlib.Path("docs/DEFINITI
     defined = [path for path in specs if path.exists() and re.search(rf"^[a-z ]*\b{name}\b", path.read_text(), re.M)]
     if not defined:
         found.append(f"docs/DEFINITION.md: no such definition: {file}.{name}")
+for rows in re.findall(r"^\|[^|\n]*\| How it is mended \|\n\|---\|---\|\n((?:\|.*\n)+)", pathlib.Path("docs/LANGUAGE.md").read_text(), re.M):
+    for sentence in re.findall(r"\| ([^|]*) \|$", rows, re.M):
+        if sentence + '"' not in code:
+            found.append(f"docs/LANGUAGE.md: no program says: {sentence}")
 # the map: the crates of docs/ARCHITECTURE.md by rooms are those of crates.txt, in the same order, and each stands on crates before it
 rooms, listed = re.findall(r"^# ([a-z ]+): .*\n((?:\w.*\n)+)", pathlib.Path("crates.txt").read_text(), re.M), []
 for room, lines in rooms:

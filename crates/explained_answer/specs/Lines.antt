@@ -24,15 +24,15 @@ unfoldable pub named_lock : Located → ℕ → List ℕ
 named_lock l lock = indent ++ lock_text l.program.locks lock ++ newline
 
 -- what is said behind a line: of a task that didn't finish why that is, and else the names of words and locks
-abbrev pub line_sentences : List ℕ → Located → AnswerLine → List ℕ
-line_sentences text l (line.TheVariants.Outcome o) = []
-line_sentences text l (line.TheVariants.Task t) = ending_text text l t
-line_sentences text l (line.TheVariants.Word word value) = named_word l word
-line_sentences text l (line.TheVariants.Grant g) = named_lock l g.lock.0
-line_sentences text l (line.TheVariants.Count c number) = []
+abbrev pub sentences_behind : List ℕ → Located → AnswerLine → List ℕ
+sentences_behind text l (line.TheVariants.Outcome o) = []
+sentences_behind text l (line.TheVariants.Task t) = ending_text text l t
+sentences_behind text l (line.TheVariants.Word word value) = named_word l word
+sentences_behind text l (line.TheVariants.Grant g) = named_lock l g.lock.0
+sentences_behind text l (line.TheVariants.Count c number) = []
 
 abbrev pub explained_line : List ℕ → Located → AnswerLine → List ℕ
-explained_line text l x = answer_line x ++ line_sentences text l x
+explained_line text l x = answer_line x ++ sentences_behind text l x
 
 -- ---- which lines an answer may have
 

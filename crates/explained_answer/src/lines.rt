@@ -2,7 +2,7 @@
 ghost use Rattle.std.specs.Prelude.{◌≡◌, ◌++◌, OnOk, IfOk, IfSome, IfNone, MatchOption};
 ghost use Rattle.document_parts.specs.Field.{Stands};
 ghost use Rattle.answer_lines.specs.Lines.{answer_line};
-ghost use Rattle.explained_answer.specs.Lines.{named_word, named_lock, line_sentences, explained_line, has_task, has_named_lock, count_is_of, fits_program, IsLineOf, NoLineOf, AreAllLinesExplained, IsRefusedAt};
+ghost use Rattle.explained_answer.specs.Lines.{named_word, named_lock, sentences_behind, explained_line, has_task, has_named_lock, count_is_of, fits_program, IsLineOf, NoLineOf, AreAllLinesExplained, IsRefusedAt};
 
 use answer_lines::{AnswerLine, Count, read_line};
 use dn_base::Memory;
@@ -36,7 +36,7 @@ fn push_sentences(
     located: &Located,
     line: AnswerLine,
 ) -> Result<(), Memory>
-    ensures { OnOk result (out.new.items ≡ out.old.items ++ line_sentences text.now located.now line) }
+    ensures { OnOk result (out.new.items ≡ out.old.items ++ sentences_behind text.now located.now line) }
 {
     match line {
         AnswerLine::Outcome(_) => Ok(()),
