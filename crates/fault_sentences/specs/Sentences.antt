@@ -57,9 +57,9 @@ amendment fault.TheVariants.TooLarge = codes "Leave out blanks and comments, or 
 amendment (fault.TheVariants.BadByte line) = codes "Leave the byte out. If it belongs to a comment, put `#` before it."
 amendment (fault.TheVariants.BadNumber line) = codes "Write decimal digits, or `0x` and hexadecimal digits. A name may not begin with a digit."
 amendment (fault.TheVariants.LineLimit line) = codes "Shorten the line, or leave out lines before it."
-amendment (fault.TheVariants.UnknownWord line) = codes "Words are in lower case. A label has `:` behind it. `.forall` needs `.version 2` in the first line."
+amendment (fault.TheVariants.UnknownWord line) = codes "Words are in lower case. A line has one label at most, with `:` behind it. `.forall` needs `.version 2` as the first line that isn't blank."
 amendment (fault.TheVariants.BadOperand line) = codes "Write the operands as the table of statements has them, with a comma between two."
-amendment (fault.TheVariants.OutOfRange line) = codes "Write a number of the range, or make a larger one by `li` in a register."
+amendment (fault.TheVariants.OutOfRange line) = codes "Write a number of the range; `li` makes a larger one in a register. Or use words of the region, cores from 0 to 15, or a label that is nearer."
 amendment (fault.TheVariants.DoubleName line) = codes "Labels, regions and locks share one set of names: choose another name."
 amendment (fault.TheVariants.UnknownName line) = codes "Declare it, or look how it is spelled: names are case-sensitive."
 amendment (fault.TheVariants.Misplaced line) = codes "Tasks stand behind a `.phase`, each core has one task in a phase, and effects stand behind their task."
@@ -123,7 +123,7 @@ index_text words = codes " isn't the index of a word of the region, which has " 
 
 unfoldable pub interval_text : ℕ → List ℕ
 interval_text words =
-    codes " doesn't begin an interval of the region for each of the tasks: it has " ++ decimal words
+    codes " begins an interval that isn't in the region for each of the tasks: the region has " ++ decimal words
     ++ codes " words, counted from 0, and an interval has at least one of them."
 
 -- which line declares a name, and as what
@@ -158,7 +158,7 @@ plain_cause cause.TheVariants.Word = codes " is the word of no statement."
 plain_cause cause.TheVariants.NoWord = codes " stands where the word of a statement is to stand."
 plain_cause cause.TheVariants.Dotted = codes " may not be a label: a name that is declared doesn't begin with `.`."
 plain_cause cause.TheVariants.NoNumber = codes " is no number from -2147483648 to 4294967295."
-plain_cause cause.TheVariants.Cores = codes " can't be the first core of these tasks: there is at least one, and all are on cores from 0 to 15."
+plain_cause cause.TheVariants.Cores = codes " is the first core of these tasks: there is to be at least one task, and all are to be on cores from 0 to 15."
 plain_cause cause.TheVariants.Address = codes " isn't the address of an instruction: it is to be a multiple of 4 from 0 to 4294967292."
 plain_cause cause.TheVariants.NoPhase = codes " stands before any `.phase`."
 plain_cause cause.TheVariants.NoTask = codes " stands behind no task of its phase."

@@ -60,11 +60,11 @@ pub(crate) fn amendment(fault: SourceFault) -> &'static [u8]
             b"Write decimal digits, or `0x` and hexadecimal digits. A name may not begin with a digit.",
         SourceFault::LineLimit { .. } => b"Shorten the line, or leave out lines before it.",
         SourceFault::UnknownWord { .. } =>
-            b"Words are in lower case. A label has `:` behind it. `.forall` needs `.version 2` in the first line.",
+            b"Words are in lower case. A line has one label at most, with `:` behind it. `.forall` needs `.version 2` as the first line that isn't blank.",
         SourceFault::BadOperand { .. } =>
             b"Write the operands as the table of statements has them, with a comma between two.",
         SourceFault::OutOfRange { .. } =>
-            b"Write a number of the range, or make a larger one by `li` in a register.",
+            b"Write a number of the range; `li` makes a larger one in a register. Or use words of the region, cores from 0 to 15, or a label that is nearer.",
         SourceFault::DoubleName { .. } =>
             b"Labels, regions and locks share one set of names: choose another name.",
         SourceFault::UnknownName { .. } =>

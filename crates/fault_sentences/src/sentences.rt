@@ -131,7 +131,7 @@ fn push_interval(out: &mut Vec<u8>, words: u64) -> Result<(), Memory>
 {
     push(
         out,
-        b" doesn't begin an interval of the region for each of the tasks: it has ",
+        b" begins an interval that isn't in the region for each of the tasks: the region has ",
     )?;
     push_long(out, words)?;
     push(
@@ -218,7 +218,7 @@ fn plain_cause(cause: Cause) -> &'static [u8]
         Cause::Dotted => b" may not be a label: a name that is declared doesn't begin with `.`.",
         Cause::NoNumber => b" is no number from -2147483648 to 4294967295.",
         Cause::Cores =>
-            b" can't be the first core of these tasks: there is at least one, and all are on cores from 0 to 15.",
+            b" is the first core of these tasks: there is to be at least one task, and all are to be on cores from 0 to 15.",
         Cause::Address =>
             b" isn't the address of an instruction: it is to be a multiple of 4 from 0 to 4294967292.",
         Cause::NoPhase => b" stands before any `.phase`.",
