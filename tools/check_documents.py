@@ -58,7 +58,7 @@ for document in documents:
     for number, line in enumerate(prose.split("\n"), 1):
         if line.startswith("    "):
             continue
-        bare = re.findall(r"(?<![\w`/.])((?:docs|crates|tools|bench|examples)/[\w./-]*\w)", line)
+        bare = re.findall(r"(?<![\w`/.])((?:docs|crates|tools|bench|examples|experiments)/[\w./-]*\w)", line)
         for piece in [whole for piece in re.findall(r"`([^`]+)`", line) + bare for whole in with_braces(piece)]:
             if is_path(piece):
                 if not has_path(piece, document):
@@ -86,10 +86,12 @@ for file, name in re.findall(r"`([A-Z]\w+)\.(\w+)`", pathlib.Path("docs/DEFINITI
     defined = [path for path in specs if path.exists() and re.search(rf"^[a-z ]*\b{name}\b", path.read_text(), re.M)]
     if not defined:
         found.append(f"docs/DEFINITION.md: no such definition: {file}.{name}")
+said = {kind.lower(): sentence for kind, sentence in
+        re.findall(r"^(?:amendment|remedy) \(?\w+\.TheVariants\.(\w+).* = codes \"(.*)\"$", code, re.M)}
 for rows in re.findall(r"^\|[^|\n]*\| How it is mended \|\n\|---\|---\|\n((?:\|.*\n)+)", pathlib.Path("docs/LANGUAGE.md").read_text(), re.M):
-    for sentence in re.findall(r"\| ([^|]*) \|$", rows, re.M):
-        if sentence + '"' not in code:
-            found.append(f"docs/LANGUAGE.md: no program says: {sentence}")
+    for kind, sentence in re.findall(r"^\| `([^|`]*)` \| ([^|]*) \|$", rows, re.M):
+        if said.get(kind.replace("-", ""), sentence) != sentence or sentence + '"' not in code:
+            found.append(f"docs/LANGUAGE.md: of {kind} no program says: {sentence}")
 # the map: the crates of docs/ARCHITECTURE.md by rooms are those of crates.txt, in the same order, and each stands on crates before it
 rooms, listed = re.findall(r"^# ([a-z ]+): .*\n((?:\w.*\n)+)", pathlib.Path("crates.txt").read_text(), re.M), []
 for room, lines in rooms:
