@@ -34,8 +34,8 @@ impl Model for Checked {
 impl Checked {
     ghost use Rattle.effect_checker.specs.Checked.{IsChecked, writes_plainly};
 
-    /// The checked program; takes no memory.
-    pub(crate) fn of_program(program: Program) -> Checked
+    /// A program that is checked, as such; for a caller that took a `Checked` apart. Takes no memory.
+    pub fn of_program(program: Program) -> Checked
         requires { IsChecked program }
         ensures { result ≡ program }
     {

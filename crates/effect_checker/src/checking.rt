@@ -49,8 +49,9 @@ fn phase_fault(phase: PhaseId, tasks: &[TaskDecl], locks: u32) -> Option<CheckFa
     })
 }
 
-/// The first fault of the program.
-fn first_fault(program: &Program) -> Option<CheckFault>
+/// The least fault of the program in the order of `CheckFault`, or None where the program is checked. `check` answers the same,
+/// and takes the program. Takes no memory.
+pub fn first_fault(program: &Program) -> Option<CheckFault>
     ensures some { IfSome result (IsLeastFault program.now) }
     ensures none { IfNone result (IsChecked program.now) }
 {
@@ -65,9 +66,10 @@ fn first_fault(program: &Program) -> Option<CheckFault>
 
 /// Checks the declared effects of a program: see `Checked` for the three rules. Takes no memory.
 ///
-/// In each phase it goes along two lists of intervals a few times for each pair of tasks, and then along the words that the
-/// tasks use. Where two of these are taken, it goes along the words once more for each lock, and along two lists of
-/// intervals for each pair of tasks and other lock, of the first lock with a fault alone.
+/// In each phase it goes along two lists of intervals a few times for each pair of tasks, and then along the words of the tasks'
+/// sets, where a word counts once for each set that has it. Each such pass begins with 64 KiB of notes to clear. Where two tasks
+/// contend for a word, it makes one more pass for each lock, and goes along two lists of intervals for each pair of tasks and
+/// other lock, of the first lock with a fault alone.
 ///
 /// # Errors
 /// The least fault in the order of `CheckFault`; it comes exactly where the program is not checked.

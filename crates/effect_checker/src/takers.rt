@@ -1,5 +1,6 @@
 //! A pass over the words that tells whether any of them is guarded and used otherwise: it notes who takes each word. It takes
-//! no memory, and its time grows with the words that the tasks use, however many locks and tasks there are.
+//! no memory. Its time grows with the words of the tasks' sets, where a word counts once for each set that has it, and it clears
+//! 64 KiB of notes first.
 ghost use Rattle.std.specs.Prelude.{◌≡◌, ℕ, ◌+◌, ◌<◌, ◌≤◌, ◌==◌, ◌||◌, IsTrue, [], length, slice_index_or};
 ghost use Rattle.std.specs.List.{All, list_any};
 ghost use Rattle.region_table.specs.declared.declared.TaskDecl.{TaskDecl};

@@ -131,6 +131,23 @@ impl DecodedProgram {
         &self.program
     }
 
+    /// Puts a program and its decoded code words together. Takes no memory.
+    pub fn of_parts(program: Program, code: DecodedCode) -> DecodedProgram
+        requires { IsDecoded program code }
+        ensures { result ≡ program }
+    {
+        DecodedProgram { program, code }
+    }
+
+    /// Gives the program and its decoded code words back. Takes no memory.
+    pub fn into_parts(self) -> (Program, DecodedCode)
+        ensures program { result.0 ≡ self }
+        ensures code { IsDecoded result.0 result.1 }
+    {
+        let DecodedProgram { program, code } = self;
+        (program, code)
+    }
+
     /// What the next instruction of a task needs, and the instruction, as `TaskState::next` says, with no word decoded again.
     /// The task goes on, and may retire `fuel` instructions. Takes no memory.
     pub fn next(&self, state: &TaskState, task: &TaskDecl, fuel: u32) -> Next
