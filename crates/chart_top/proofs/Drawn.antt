@@ -5,9 +5,10 @@ use Rattle.rv_assembler.specs.Source.{source}
 use Rattle.effect_checker.specs.Checked.{IsChecked}
 use Rattle.run_replay.specs.declared.trace.Trace.{Trace}
 use Rattle.run_replay.specs.Document.{IsDocument}
-use Rattle.dn_top.specs.declared.programs.Stop.{Stop}
-use Rattle.dn_top.specs.declared.programs.Stop.TheVariants.{Refused, Memory}
-use Rattle.dn_top.specs.Answers.{IsRefusedDocument, IsStop}
+use Rattle.front_end.specs.declared.programs.Stop.{Stop}
+use Rattle.front_end.specs.declared.programs.Stop.TheVariants.{Refused, Memory}
+use Rattle.dn_top.specs.Answers.{IsRefusedDocument}
+use Rattle.front_end.specs.Texts.{IsStop}
 use Rattle.dn_top.specs.Documents.{IsNoRun}
 use Rattle.chart_top.specs.declared.answering.Output.{Output}
 use Rattle.chart_top.specs.declared.options.Options.{Options}

@@ -16,7 +16,8 @@ use Rattle.message_chart.specs.declared.chart.Chart.{Chart}
 use Rattle.message_chart.specs.Picture.{svg_of}
 use Rattle.run_chart.specs.declared.drawing.Range.{Range}
 use Rattle.run_chart.specs.Charts.{IsChartOf}
-use Rattle.dn_top.specs.Answers.{HasChecked, IsRefusedDocument}
+use Rattle.dn_top.specs.Answers.{IsRefusedDocument}
+use Rattle.front_end.specs.Texts.{HasChecked}
 use Rattle.dn_top.specs.Documents.{HasTrace, IsReplayIn, shape_told}
 use Rattle.chart_top.specs.declared.answering.Output.{Output}
 use Rattle.chart_top.specs.declared.options.Options.{Options}

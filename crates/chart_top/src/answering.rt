@@ -2,14 +2,16 @@ ghost use Rattle.std.specs.Prelude.{◌≡◌, IfOk, IfErr};
 ghost use Rattle.run_replay.specs.Document.{IsTrace};
 ghost use Rattle.run_timing.specs.Longest.{numbers_in};
 ghost use Rattle.run_timing.specs.Ticks.{AreWithinLimits};
-ghost use Rattle.dn_top.specs.Answers.{IsRefusedDocument, IsStop};
+ghost use Rattle.dn_top.specs.Answers.{IsRefusedDocument};
+ghost use Rattle.front_end.specs.Texts.{IsStop};
 ghost use Rattle.dn_top.specs.Documents.{IsNoRun, shape_told};
 ghost use Rattle.chart_top.specs.Answers.{IsAnswer, IsDrawn, IsPicture, IsCompleteTrace, range_for, chart_ticks};
 ghost use Rattle.chart_top.specs.Command.{ViewOptionsInRange};
 
 use crate::options::Options;
 use dn_base::{Memory, Sequence, Shape, Status};
-use dn_top::{Stop, checked_of, refused_trace, shape_told, trace_in};
+use dn_top::{refused_trace, shape_told, trace_in};
+use front_end::{Stop, checked_of};
 use effect_checker::Checked;
 use message_chart::chart_text;
 use region_table::a_program_is_well_formed;

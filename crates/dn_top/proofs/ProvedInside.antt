@@ -28,7 +28,8 @@ use Rattle.flat_machine.proofs.CauseLemmas.{run-ended}
 use Rattle.dn_machine.specs.declared.record.RunRecord.{RunRecord}
 use Rattle.command_words.specs.declared.options.Mode.{Mode}
 use Rattle.dn_top.specs.declared.output.Output.{Output}
-use Rattle.dn_top.specs.Answers.{HasChecked, IsAnswer, IsProof, answered, done_in}
+use Rattle.dn_top.specs.Answers.{IsAnswer, IsProof, answered, done_in}
+use Rattle.front_end.specs.Texts.{HasChecked}
 use Rattle.dn_top.specs.Laws.{IsProvedInside, IsTameEnd, IsTameRun}
 use Rattle.dn_top.specs.Runs.{IsRunOf}
 

@@ -28,48 +28,12 @@ use Rattle.command_words.specs.declared.options.Mode.{Mode}
 use Rattle.command_words.specs.declared.options.Mode as mode
 use Rattle.command_words.specs.declared.options.Options.{Options}
 use Rattle.dn_top.specs.declared.output.Output.{Output}
-use Rattle.dn_top.specs.declared.programs.Stop.{Stop}
-use Rattle.dn_top.specs.declared.programs.Stop as stop
+use Rattle.front_end.specs.declared.programs.Stop.{Stop}
+use Rattle.front_end.specs.declared.programs.Stop as stop
 use Rattle.dn_machine.specs.declared.record.RunRecord.{RunRecord}
 use Rattle.dn_top.specs.Causes.{IsCaused}
 use Rattle.dn_top.specs.Runs.{IsAnyRunFor, IsRunFor, IsMachineRun, IsTimedRun, reported, summed_up}
 use Rattle.dn_top.specs.Documents.{IsTracedRun, HasTrace, IsNoDocument, IsReplayedRun, IsNoRun}
-
--- ---- a text, its program and its check
-
--- the text has a program, of which this holds
-pub record HasProgram (text : List ℕ) (Holds : ProgramParts → Type 0) : Type 0 where
-  pub program : ProgramParts
-  pub is : source text ≡ Ok program
-  pub holds : Holds program
-
--- the text has a program whose tasks keep out of each other's words, and of which this holds
-pub record HasChecked (text : List ℕ) (Holds : ProgramParts → Type 0) : Type 0 where
-  pub program : ProgramParts
-  pub is : source text ≡ Ok program
-  pub checked : IsChecked program
-  pub holds : Holds program
-
--- the text has no program, and the line says its first fault
-pub record IsNoProgram (text line : List ℕ) : Type 0 where
-  pub fault : SourceFault
-  pub is : source text ≡ Err fault
-  pub says : line ≡ refusal_of (refusal.TheVariants.Source fault)
-
--- the tasks of the program contend for a word, and the line says the least conflict
-pub record IsInConflict (program : ProgramParts) (line : List ℕ) : Type 0 where
-  pub fault : CheckFault
-  pub least : IsLeastFault program fault
-  pub says : line ≡ refusal_of (refusal.TheVariants.Check fault)
-
--- the text has no program that could be run, and the line says why
-abbrev pub IsUnfit : List ℕ → List ℕ → Type 0
-IsUnfit text line = IsNoProgram text line ⊎ HasProgram text (λ P. IsInConflict P line)
-
--- a refusal has such a line; out of memory says nothing
-abbrev pub IsStop : (List ℕ → Type 0) → Stop → Type 0
-IsStop IsLine (stop.TheVariants.Refused line) = IsLine line
-IsStop IsLine stop.TheVariants.Memory = Unit {0}
 
 -- ---- what is done with a program
 
@@ -215,10 +179,6 @@ pub record IsRefusal (o : Options) (text : List ℕ) (out : Output) : Type 0 whe
 -- the answer to options and a text
 abbrev pub IsAnswer : Options → List ℕ → Output → Type 0
 IsAnswer o text out = IsDone o text out ⊎ IsRefusal o text out
-
--- the line that refuses command words
-abbrev pub usage_line : List ℕ
-usage_line = refusal_of refusal.TheVariants.Usage
 
 -- the status is that of an outcome
 abbrev pub IsOutcome : Status → Type 0

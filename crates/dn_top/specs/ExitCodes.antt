@@ -6,7 +6,7 @@ use Rattle.dn_base.specs.declared.status.Status.{Status}
 use Rattle.dn_base.specs.Status.{exit_code_of}
 use Rattle.command_words.specs.declared.options.Options.{Options}
 use Rattle.dn_top.specs.declared.serving.Answer.{Answer}
-use Rattle.dn_top.specs.Outside.{Devices}
+use Rattle.front_end.specs.Outside.{Devices}
 use Rattle.dn_top.specs.Serving.{Serves}
 
 -- the exit code of a status

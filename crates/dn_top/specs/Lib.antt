@@ -3,6 +3,5 @@ pub mod Causes
 pub mod Documents
 pub mod ExitCodes
 pub mod Laws
-pub mod Outside
 pub mod Runs
 pub mod Serving

@@ -4,11 +4,12 @@ ghost use Rattle.rv_assembler.specs.Names.{AreDeclaredNames};
 ghost use Rattle.run_report.specs.Summary.{checked_of as counts_of};
 ghost use Rattle.command_words.specs.Command.{OptionsInRange};
 ghost use Rattle.dn_top.specs.Runs.{with_one_worker};
-ghost use Rattle.dn_top.specs.Answers.{IsAnswer, IsFlatRun, IsListing, IsOutputOf, IsProof, IsStop, answered, done_in, refused_in};
+ghost use Rattle.dn_top.specs.Answers.{IsAnswer, IsFlatRun, IsListing, IsOutputOf, IsProof, answered, done_in, refused_in};
+ghost use Rattle.front_end.specs.Texts.{IsStop};
 
 use crate::documents::{replay_document, trace_run};
 use crate::output::{Output, ended};
-use crate::programs::{Stop, checked_of, program_of};
+use front_end::{Stop, checked_of, program_of};
 use crate::runs::{report_run, run_alone, sum_up_run, time_text_run};
 use crate::workers::run_by_workers;
 use command_words::{Mode, Options};

@@ -3,12 +3,13 @@ ghost use Rattle.run_replay.specs.declared.trace.TraceFault.TheVariants.{Memory 
 ghost use Rattle.run_replay.specs.declared.refusal.TraceRefusal.TheVariants.{Fault as OfFault};
 ghost use Rattle.run_replay.specs.Document.{IsDocument, IsTrace, document_of};
 ghost use Rattle.run_replay.specs.Refusal.{refusal_text};
-ghost use Rattle.dn_top.specs.Answers.{IsRefusedDocument, IsReplayed, IsStop};
+ghost use Rattle.dn_top.specs.Answers.{IsRefusedDocument, IsReplayed};
+ghost use Rattle.front_end.specs.Texts.{IsStop};
 ghost use Rattle.dn_top.specs.Documents.{IsNoDocument, IsNoRun, IsReplayedRun, shape_told, sizes_of, trace_of};
 ghost use Rattle.dn_top.specs.Runs.{output_of_run};
 
 use crate::output::Output;
-use crate::programs::{Stop, checked_of};
+use front_end::{Stop, checked_of};
 use crate::runs::{handed_back, report_run};
 use command_words::Options;
 use dn_base::{Memory, Sequence, Shape};

@@ -5,7 +5,7 @@ ghost use Rattle.std.specs.Prelude.{◌≡◌, map, string_bytes, None, IfSome};
 ghost use Rattle.std.specs.Option.{option_map};
 ghost use Rattle.command_words.specs.Command.{OptionsInRange, options_of};
 ghost use Rattle.dn_top.specs.Answers.{most_read};
-ghost use Rattle.dn_top.specs.Outside.{GaveAtMost, IsUntouched, devices, source_at};
+ghost use Rattle.front_end.specs.Outside.{GaveAtMost, IsUntouched, devices, source_at};
 ghost use Rattle.dn_top.specs.Runs.{with_one_worker};
 ghost use Rattle.dn_top.specs.Serving.{IsDoneBy, Serves};
 
@@ -19,12 +19,10 @@ mod documents;
 mod laws;
 mod output;
 mod program;
-mod programs;
 mod reading;
 mod runs;
 mod serving;
 mod workers;
-mod writing;
 
 pub use command_words::{Mode, Options, WordsFault, read_words};
 pub use dn_machine::RunRecord;
@@ -34,11 +32,8 @@ pub use laws::{
     the_output_is_a_function_of_source_and_options, without_locks_every_run_ends_alike,
 };
 pub use program::denovo_program;
-pub use programs::{Stop, checked_of};
-pub use reading::{ReadError, read_text};
 pub use serving::Answer;
 use serving::{answer_alone, answer_by_workers, refuse_words, status_only};
-pub use writing::write_text;
 
 /// Answers these command words and this source on one thread, whatever number of workers is asked for.
 ///

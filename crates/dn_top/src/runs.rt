@@ -4,12 +4,13 @@ ghost use Rattle.run_report.specs.Summary.{summary_of};
 ghost use Rattle.run_replay.specs.Document.{FitsDocument, IsTrace};
 ghost use Rattle.run_timing.specs.Text.{timing_of};
 ghost use Rattle.run_timing.specs.Ticks.{AreWithinLimits};
-ghost use Rattle.dn_top.specs.Answers.{HasAnyRun, HasChecked, IsRunOfText, IsStop, IsUnfit};
+ghost use Rattle.dn_top.specs.Answers.{HasAnyRun, IsRunOfText};
+ghost use Rattle.front_end.specs.Texts.{HasChecked, IsStop, IsUnfit};
 ghost use Rattle.dn_top.specs.Documents.{trace_of};
 ghost use Rattle.dn_top.specs.Runs.{IsAnyRunFor, IsPrintable, IsRunFor, IsTimedFor, with_one_worker, output_of_run, reported, shape_for, summed_up, ticks_for};
 
 use crate::output::Output;
-use crate::programs::{Stop, checked_of};
+use front_end::{Stop, checked_of};
 use command_words::Options;
 use dn_base::{Memory, Sequence, Shape, Status};
 use dn_machine::{Machine, RunRecord, a_machine_is_kept};

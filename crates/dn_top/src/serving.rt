@@ -1,18 +1,19 @@
 ghost use Rattle.std.specs.Prelude.{◌≡◌, ◌≢◌, ℕ, List, None, IfOk, IfSome};
 ghost use Rattle.command_words.specs.declared.options.Options.{Options as OptionsOf};
 ghost use Rattle.command_words.specs.Command.{OptionsInRange};
-ghost use Rattle.dn_top.specs.Answers.{IsAnswer, answered, most_read, usage_line};
-ghost use Rattle.dn_top.specs.Outside.{GaveAtMost, IsUntouched, devices, sink_at, source_at};
+ghost use Rattle.dn_top.specs.Answers.{IsAnswer, answered, most_read};
+ghost use Rattle.front_end.specs.Texts.{usage_line};
+ghost use Rattle.front_end.specs.Outside.{GaveAtMost, IsUntouched, devices, sink_at, source_at};
 ghost use Rattle.dn_top.specs.Runs.{with_one_worker};
 ghost use Rattle.dn_top.specs.Serving.{without_run, IsDoneBy, IsWritten, IsReplied, status_of_read};
 
 use crate::answers::{output_alone, output_by_workers};
 use crate::output::Output;
-use crate::reading::{ReadError, take_text};
-use crate::writing::write_text;
+use crate::reading::take_text;
 use command_words::Options;
 use dn_base::{Gate, Memory, Sink, Source, Status};
 use dn_machine::RunRecord;
+use front_end::{ReadError, write_text};
 use std::alloc::Global;
 use std::sync::Wait;
 use std::thread::Threads;

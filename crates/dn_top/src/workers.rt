@@ -2,11 +2,12 @@
 ghost use Rattle.std.specs.Prelude.{◌≢◌, All, IfOk, IfErr};
 ghost use Rattle.command_words.specs.Command.{OptionsInRange};
 ghost use Rattle.run_replay.specs.Document.{FitsDocument, IsTrace};
-ghost use Rattle.dn_top.specs.Answers.{IsRunOfText, IsStop, IsUnfit};
+ghost use Rattle.dn_top.specs.Answers.{IsRunOfText};
+ghost use Rattle.front_end.specs.Texts.{IsStop, IsUnfit};
 ghost use Rattle.dn_top.specs.Documents.{trace_of};
 ghost use Rattle.dn_top.specs.Runs.{IsPrintable, IsRunFor};
 
-use crate::programs::{Stop, checked_of};
+use front_end::{Stop, checked_of};
 use crate::runs::{has_each_kind, shape_of};
 use command_words::Options;
 use dn_base::{Gate, Memory};

@@ -6,7 +6,7 @@ ghost use Rattle.rv_assembler.specs.Source.{source};
 ghost use Rattle.effect_checker.specs.Checked.{IsChecked};
 ghost use Rattle.run_report.specs.declared.refusal.Refusal.TheVariants.{Source as OfSource};
 ghost use Rattle.run_report.specs.Refusal.{refusal_of};
-ghost use Rattle.dn_top.specs.Answers.{IsNoProgram, IsStop, IsUnfit};
+ghost use Rattle.front_end.specs.Texts.{IsNoProgram, IsStop, IsUnfit};
 
 use dn_base::{Memory, Sequence};
 use effect_checker::{Checked, check};
@@ -25,7 +25,7 @@ pub enum Stop {
 }
 
 impl From<Memory> for Stop {
-    ghost use Rattle.dn_top.specs.declared.programs.Stop.TheVariants.{Memory as NoRoom};
+    ghost use Rattle.front_end.specs.declared.programs.Stop.TheVariants.{Memory as NoRoom};
 
     ghost from_gives = { λ _ stop. stop ≡ NoRoom };
 
@@ -45,8 +45,11 @@ fn refusal(alloc: Global, why: &Refusal) -> Stop
     }
 }
 
-/// The program of a text.
-pub(crate) fn program_of(alloc: Global, text: &[u8]) -> Result<Program, Stop>
+/// The program of a text, unchecked.
+///
+/// # Errors
+/// `Refused` with the line of the text's first fault, and `Memory` where there is no room.
+pub fn program_of(alloc: Global, text: &[u8]) -> Result<Program, Stop>
     ensures ok { IfOk result (λ program. source text.now ≡ Ok program) }
     ensures names { IfOk result (λ program. AreDeclaredNames (names_of program)) }
     ensures stop { IfErr result (IsStop (IsNoProgram text.now)) }

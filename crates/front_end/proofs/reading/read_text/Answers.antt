@@ -2,7 +2,7 @@ use Rattle.std.proofs.Common.{◌≤◌, ◌-◌, ◌++◌, length, take, arith,
 use Rattle.std.proofs.lemmas.Grind.{common_steps}
 use Rattle.std.proofs.KnownBytes.{Consumes-trans}
 use Rattle.std.proofs.lemmas.List.{length-take}
-use Rattle.dn_top.proofs.reading.read_text.Goals as goal
+use Rattle.front_end.proofs.reading.read_text.Goals as goal
 
 pub returns-in_err-extend_from_slice-in-Ok-clause-few : goal.returns-in_err-extend_from_slice-in-Ok-clause-few
 returns-in_err-extend_from_slice-in-Ok-clause-few g c =

@@ -1,6 +1,6 @@
 use Rattle.std.proofs.Common.{◌≡◌, ◌≤◌, ◌-◌, vec_len, length}
 use Rattle.std.specs.Io.KnownBytes.{Consumes}
-use Rattle.dn_top.proofs.reading.read_text.Given as goal
+use Rattle.front_end.proofs.reading.read_text.Given as goal
 
 abbrev pub invariant-loop-buf : goal.invariant-loop-buf
 invariant-loop-buf g l =

@@ -1,5 +1,5 @@
 ghost use Rattle.std.specs.Prelude.{◌≡◌, ◌≤◌, OnOk, OnErr};
-ghost use Rattle.dn_top.specs.Outside.{SinkFailed, Took, Delivered, TookFront, sink_at};
+ghost use Rattle.front_end.specs.Outside.{SinkFailed, Took, Delivered, TookFront, sink_at};
 
 use dn_base::{Failed, Sink};
 

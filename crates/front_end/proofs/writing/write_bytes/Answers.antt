@@ -3,7 +3,7 @@ use Rattle.std.proofs.lemmas.List.{take-append-drop, take_rest, length-take, len
 use Rattle.std.proofs.Math.Seq.{take-add}
 use Rattle.std.proofs.KnownBytes.{Appends-trans, Appends-kept}
 use Rattle.std.specs.Io.KnownBytes.{Appends}
-use Rattle.dn_top.proofs.writing.write_bytes.Goals as goal
+use Rattle.front_end.proofs.writing.write_bytes.Goals as goal
 
 -- a front of the bytes, and then as many more
 appends_more : (a b c : Option (List ℕ)) (done count : ℕ) (bytes : List ℕ) → Appends a b (take done bytes) → Appends b c (take count (drop done bytes))
