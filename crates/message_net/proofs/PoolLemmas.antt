@@ -1,6 +1,6 @@
 -- What posts and takes come to.
-use Rattle.std.proofs.Common.{◌≡◌, ℕ, ◌+◌, ◌<◌, ◌≤◌, ◌↔◌, Bool, true, false, cond, nat_lt, List, [], ◌∷◌, length, get_or, take, slice_get, Option, Some, None, refl, ◌∙◌, arith, length-append, length-set, suc}
-use Rattle.std.specs.Prelude.{sum_by, count_by, position, IsNone}
+use Rattle.std.proofs.Common.{◌≡◌, ℕ, ◌+◌, ◌<◌, ◌≤◌, ◌↔◌, Bool, true, false, cond, nat_lt, List, [], ◌∷◌, length, get_or, take, slice_get, Option, Some, None, refl, ◌∙◌, subst, sym, arith, length-append, length-set, suc}
+use Rattle.std.specs.Prelude.{sum_by, count_by, position, IsNone, IfSome}
 use Rattle.std.specs.List.{position_or_len}
 use Rattle.std.proofs.lemmas.List.{get_or-take, length-take-le, length-take}
 use Rattle.std.proofs.lemmas.List.Sums.{sum_by-swap_remove, sum_by_push, sum_by-cons, sum_by-take-drop, sum_by-drop_more, get_or-le-sum_by, position_or_len_is, passes_at_first}
@@ -180,21 +180,35 @@ pub passes-somewhere : (p : Mail → Bool) (mails : List Mail) → (1 ≤ count_
 passes-somewhere p mails =
     (counted-place p mails, λ found. place-counted p mails found.0 found.1 found.2 found.3)
 
+-- a mail that is found by its id is taken by it
+pub position-found : (id : MailId) (mails : List Mail) (place : ℕ) → position (of_id id) mails ≡ Some place → (m : Mail) × IsFound id mails place m
+position-found id mails place e = by_mail (slice_get mails place) refl where
+  by_mail : (o : Option Mail) → slice_get mails place ≡ o → (m : Mail) × IsFound id mails place m
+  by_mail None f =
+      let cases = slice_get_cases mails place in
+      absurd (grind (arith, nat_tests))
+  by_mail (Some m) f =
+      let is : removed id mails ≡ (Some m, without_mail_at place mails) = rw (e, f) refl in
+      (m, record { here = f; named = found_has_id id mails place m e f; takes = is })
+
+pub position-IsFound : (id : MailId) (mails : List Mail) (o : Option ℕ) → o ≡ position (of_id id) mails → IfSome o (λ place. (m : Mail) × IsFound id mails place m)
+position-IsFound id mails None e = record {}
+position-IsFound id mails (Some place) e = position-found id mails place (sym e)
+
 -- a mail that is counted by its id is found by it
 pub found-counted : (id : MailId) (mails : List Mail) → 1 ≤ count_of id mails → (place : ℕ) × (m : Mail) × IsFound id mails place m
 found-counted id mails some = by_place (position (of_id id) mails) refl where
-  by_mail : (place : ℕ) (o : Option Mail) → position (of_id id) mails ≡ Some place → slice_get mails place ≡ o → (at : ℕ) × (m : Mail) × IsFound id mails at m
-  by_mail place None e f =
-      let cases = slice_get_cases mails place in
-      absurd (grind (arith, nat_tests))
-  by_mail place (Some m) e f =
-      let is : removed id mails ≡ (Some m, without_mail_at place mails) = rw (e, f) refl in
-      (place, m, record { here = f; named = found_has_id id mails place m e f; takes = is })
-
   by_place : (o : Option ℕ) → position (of_id id) mails ≡ o → (place : ℕ) × (m : Mail) × IsFound id mails place m
   by_place None e =
       absurd (omega (arith, some, (position-none (of_id id) mails).0 (rw e refl)))
-  by_place (Some place) e = by_mail place (slice_get mails place) e refl
+  by_place (Some place) e =
+      let found = position-found id mails place e in
+      (place, found.0, found.1)
+
+-- a place where a mail with an id stands is the one that is found by it
+pub place-of_id : (id : MailId) (mails : List Mail) (place : ℕ) → AreDistinct mails → (m : Mail) × (slice_get mails place ≡ Some m) × (m.id ≡ id) → position (of_id id) mails ≡ Some place
+place-of_id id mails place distinct (m, here, named) =
+    subst (λ (x : MailId). position (of_id x) mails ≡ Some place) named (position-of_id mails place m distinct here)
 
 -- what is taken stood at a place
 pub taken-place : (id : MailId) (mails : List Mail) (m : Mail) → (removed id mails).0 ≡ Some m → (place : ℕ) × IsFound id mails place m

@@ -9,6 +9,7 @@ mod actor;
 mod event;
 mod laws;
 mod message;
+mod places;
 mod pool;
 
 pub use actor::{Actor, MailId};

@@ -1,19 +1,24 @@
 ghost use Rattle.std.specs.Prelude.{◌≡◌, ◌+◌, ◌<◌, ◌≤◌, ◌↔◌, [], length, slice_get, position, Some, vec_len, OnOk, OnErr, IfSome, IfNone, IsNone};
 ghost use Rattle.std.specs.Vec.{vec_capacity};
-ghost use Rattle.message_net.specs.Pool.{of_id, count_of, has_id, AreDistinct, posted, without_mail_at, removed};
+ghost use Rattle.message_net.specs.declared.message.Mail.{Mail as AMail};
+ghost use Rattle.message_net.specs.Pool.{of_id, count_of, has_id, AreDistinct, IsFound, posted, without_mail_at, removed};
 
 use crate::actor::{MailId, is_same};
 use crate::message::Mail;
+use crate::places::Places;
 use dn_base::Memory;
 use std::alloc::Global;
 use std::marker::Model;
 
 /// The mails in flight, in an order that its calls say. No two have one id, and there are at most 4,294,967,295.
 ///
+/// A mail is found by its id in constant time where the pool keeps the places of ids (`keep_places`). Else all mails are searched.
+///
 /// A contract sees the list of the mails, and the spare: for how many more mails there is room.
 #[derive(Debug, Drop)]
 pub struct Pool {
     row: Vec<Mail>,
+    places: Option<Places>,
 }
 
 impl Model for Pool {
@@ -35,12 +40,45 @@ fn first_with(mails: &[Mail], id: MailId) -> Option<usize>
     mails.iter().position(|mail| is_same(mail.id, id))
 }
 
-/// The place of the mail with this id, or None where there is none.
-fn place_of(mails: &[Mail], id: MailId) -> Option<usize>
-    ensures place { result ≡ position (of_id id) mails.now }
-    ensures none { IsNone result ↔ (count_of id mails.now ≡ 0) }
+/// The place of the mail with this id, where the places tell it.
+fn told_by(places: &Option<Places>, mails: &[Mail], id: MailId) -> Option<u32>
+    ensures { IfSome result (λ place. (m : AMail) × (slice_get mails.now place ≡ Some m) × (m.id ≡ id)) }
 {
-    first_with(mails, id)
+    match places {
+        Some(places) => places.find(mails, id),
+        None => None,
+    }
+}
+
+/// The place of the mail with this id, or None where there is none; no two mails have one id.
+fn found_place(places: &Option<Places>, mails: &[Mail], id: MailId) -> Option<u32>
+    requires distinct { AreDistinct mails.now }
+    requires few { length mails.now ≤ 4294967295 }
+    ensures { result ≡ position (of_id id) mails.now }
+{
+    match told_by(places, mails, id) {
+        Some(place) => Some(place),
+        None => Some(first_with(mails, id)? as u32),
+    }
+}
+
+/// The places, where they are kept, tell that a mail with this id stands at this place.
+#[inline(always)]
+fn note_place(places: &mut Option<Places>, id: MailId, place: u32) {
+    if let Some(places) = places {
+        places.note(id, place);
+    }
+}
+
+/// The places, where they are kept, tell that the mail at this place leaves, and the last one moves there.
+#[inline(always)]
+fn free_place(places: &mut Option<Places>, mails: &[Mail], place: u32)
+    requires place { place < length mails.now }
+    requires few { length mails.now ≤ 4294967295 }
+{
+    if let Some(places) = places {
+        places.free(mails, place);
+    }
 }
 
 /// Takes the mail at this place out of the row; the last mail moves into the free place.
@@ -62,6 +100,7 @@ impl Pool {
     {
         Pool {
             row: Vec::new(alloc),
+            places: None,
         }
     }
 
@@ -94,6 +133,26 @@ impl Pool {
         Ok(())
     }
 
+    /// From now on the pool keeps where the mail with each id stands, so that `place_of`, `has` and `take` find it in constant time.
+    /// This holds for as many mails as there is room for now: call it again after each `reserve`. Where nothing is to be done it
+    /// costs nothing.
+    ///
+    /// # Errors
+    /// `Memory` where there is no room for the places.
+    pub fn keep_places(&mut self) -> Result<(), Memory>
+        ensures { self.new ≡ self.old }
+    {
+        let room = self.row.capacity();
+        match &mut self.places {
+            Some(places) => places.reserve(room),
+            None => {
+                let alloc = *self.row.allocator();
+                self.places = Some(Places::new(alloc, self.row.as_slice(), room)?);
+                Ok(())
+            }
+        }
+    }
+
     /// Adds a mail at the end, in the room that was made for it; takes no memory.
     pub fn post_reserved(&mut self, mail: Mail)
         requires new { count_of mail.id self.old.mails ≡ 0 }
@@ -102,6 +161,8 @@ impl Pool {
         ensures mails { self.new.mails ≡ posted mail self.old.mails }
         ensures spare { self.new.spare + 1 ≡ self.old.spare }
     {
+        let place = self.row.len() as u32;
+        note_place(&mut self.places, mail.id, place);
         self.row.push_reserved(mail);
     }
 
@@ -116,8 +177,8 @@ impl Pool {
         ensures never_less { self.old.spare ≤ self.new.spare }
         ensures same { IfNone result (self.new ≡ self.old) }
     {
-        let place = place_of(self.row.as_slice(), id)?;
-        Some(take_out(&mut self.row, place))
+        let place = self.place_of(id)?;
+        Some(self.take_at(place))
     }
 
     /// Takes the mail at this place out; the last mail moves into the free place, and the room of the mail is spare. It looks
@@ -128,14 +189,24 @@ impl Pool {
         ensures rest { self.new.mails ≡ without_mail_at place self.old.mails }
         ensures spare { self.new.spare ≡ self.old.spare + 1 }
     {
+        free_place(&mut self.places, self.row.as_slice(), place);
         take_out(&mut self.row, place as usize)
+    }
+
+    /// The place of the mail with this id; None where there is none.
+    pub fn place_of(&self, id: MailId) -> Option<u32>
+        ensures place { result ≡ position (of_id id) self.now.mails }
+        ensures none { IsNone result ↔ (count_of id self.now.mails ≡ 0) }
+        ensures found { IfSome result (λ place. (m : AMail) × IsFound id self.now.mails place m) }
+    {
+        found_place(&self.places, self.row.as_slice(), id)
     }
 
     /// Whether there is a mail with this id.
     pub fn has(&self, id: MailId) -> bool
         ensures { result ≡ has_id id self.now.mails }
     {
-        place_of(self.row.as_slice(), id).is_some()
+        self.place_of(id).is_some()
     }
 
     /// How many mails there are.

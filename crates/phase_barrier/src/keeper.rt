@@ -1,5 +1,5 @@
 ghost use Rattle.std.specs.Prelude.{◌≡◌, ◌+◌, ◌<◌, ◌≤◌, ◌||◌, Some, None, false, length, slice_get, IsTrue};
-ghost use Rattle.phase_barrier.specs.Barrier.{initial_barrier, all_arrived, is_over, in_next_phase, answer_to_all, decided, with_arrival, keeper_arrives, keeper_gets};
+ghost use Rattle.phase_barrier.specs.Barrier.{has_arrived, initial_barrier, all_arrived, is_over, in_next_phase, answer_to_all, decided, with_arrival, keeper_arrives, keeper_gets};
 ghost use Rattle.phase_barrier.specs.Letters.{letter_of};
 
 use dn_base::{CoreId, MOST_CORES, PhaseId};
@@ -84,6 +84,30 @@ impl Keeper {
         ensures { result.0 ≡ self.now.phase }
     {
         PhaseId(self.phase)
+    }
+
+    /// How many phases there are, at most 64. Takes no memory.
+    pub fn phases(&self) -> u32
+        ensures { result ≡ self.now.phases }
+    {
+        self.phases
+    }
+
+    /// Whether a core has arrived in the current phase; it hasn't where the machine has no such core. Takes no memory.
+    pub fn has_arrived(&self, core: CoreId) -> bool
+        ensures { result ≡ has_arrived core.0 self.now }
+    {
+        match self.flags().get(core.0 as usize) {
+            Some(arrived) => *arrived,
+            None => false,
+        }
+    }
+
+    /// Whether a core was bad that has arrived, in the current phase or in an earlier one. Takes no memory.
+    pub fn is_bad(&self) -> bool
+        ensures { result ≡ self.now.bad }
+    {
+        self.bad
     }
 
     /// Whether each core has arrived.

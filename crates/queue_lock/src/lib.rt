@@ -7,6 +7,7 @@
 
 mod laws;
 mod lock;
+mod reading;
 
 pub use laws::{
     a_queue_without_a_core_has_room, a_release_hands_the_lock_on,

@@ -13,9 +13,9 @@ use write_signature::Signature;
 /// empty queue, and no core stands in a queue twice.
 #[derive(Drop)]
 pub struct LockHome {
-    holder: Option<CoreId>,
-    queue: HeapCircularBuffer<CoreId>,
-    kept: Signature,
+    pub(crate) holder: Option<CoreId>,
+    pub(crate) queue: HeapCircularBuffer<CoreId>,
+    pub(crate) kept: Signature,
 }
 
 impl Model for LockHome {

@@ -355,8 +355,9 @@ impl Node {
         sending(send_home(context, lock.0, Message::Acquire { lock, core }))
     }
 
-    /// The signature that the node keeps for a lock.
-    fn signature(&self, lock: LockId) -> Signature
+    /// The signature that the node keeps for a lock; the empty one of its phase for a lock that the program doesn't have. Takes no
+    /// memory.
+    pub fn signature(&self, lock: LockId) -> Signature
         ensures { result ≡ signature_of self.now lock.0 }
     {
         match self.signatures.get(lock.0 as usize) {

@@ -7,6 +7,7 @@ mod instr;
 mod laws;
 mod node;
 mod own;
+mod reading;
 mod receive;
 mod setting;
 mod signatures;

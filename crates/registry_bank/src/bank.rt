@@ -1,4 +1,4 @@
-ghost use Rattle.std.specs.Prelude.{◌≡◌, ℕ, map, replicate, ◌+◌, ◌*◌, ◌/◌, ◌%◌, ◌<◌, ◌≤◌, ◌&&◌, ◌==◌, nat_lt, Some, None, IfOk, length, slice_get, slice_set, if◌then◌else◌};
+ghost use Rattle.std.specs.Prelude.{◌≡◌, ℕ, map, replicate, ◌+◌, ◌*◌, ◌/◌, ◌%◌, ◌<◌, ◌≤◌, ◌&&◌, ◌==◌, nat_lt, Some, None, IfOk, length, slice_get, slice_set, option_copied, if◌then◌else◌};
 ghost use Rattle.queue_lock.specs.Lock.{Lock, free_lock, acquired, released};
 ghost use Rattle.message_net.specs.Mail.{to_core};
 ghost use Rattle.registry_bank.specs.declared.bank.BankWord.TheVariants.{Home};
@@ -165,6 +165,17 @@ impl Bank {
             self.words
                 .get(quotient(word.0, self.banks) as usize)
                 .copied()
+        } else {
+            None
+        }
+    }
+
+    /// A lock at its home; None exactly where the lock isn't one of this bank's. Takes no memory.
+    pub fn lock(&self, lock: LockId) -> Option<&LockHome>
+        ensures { option_copied result ≡ bank_lock self.now lock.0 }
+    {
+        if remainder(lock.0, self.banks) == self.bank.0 {
+            self.locks.get(quotient(lock.0, self.banks) as usize)
         } else {
             None
         }

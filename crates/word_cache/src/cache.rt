@@ -79,6 +79,20 @@ impl WordCache {
         })
     }
 
+    /// How many sets there are, from 1 to 256. Takes no memory.
+    pub fn sets(&self) -> u32
+        ensures { result ≡ self.now.sets }
+    {
+        self.sets
+    }
+
+    /// How many pairs a set may have, from 1 to 16. Takes no memory.
+    pub fn ways(&self) -> u32
+        ensures { result ≡ self.now.ways }
+    {
+        self.ways
+    }
+
     /// The word's entry; None exactly where the word has no pair. It looks at the word's set alone, and takes no memory.
     pub fn get(&self, word: WordId) -> Option<Entry>
         ensures { result ≡ lookup word.0 self.now.pairs }

@@ -1,0 +1,58 @@
+//! What a node is, for whoever shows it. No call takes memory.
+ghost use Rattle.std.specs.Prelude.{◌≡◌, option_copied};
+
+use crate::node::{Node, NodeWait};
+use dn_base::{CoreId, PhaseId};
+use rv_core::TaskState;
+use word_cache::WordCache;
+
+impl Node {
+    /// The core.
+    pub fn core(&self) -> CoreId
+        ensures { result.0 ≡ self.now.core }
+    {
+        self.core
+    }
+
+    /// The phase that the node is in.
+    pub fn phase(&self) -> PhaseId
+        ensures { result.0 ≡ self.now.phase }
+    {
+        self.phase
+    }
+
+    /// The state of the core's task in the phase; None where the program declares none.
+    pub fn task(&self) -> Option<&TaskState>
+        ensures { option_copied result ≡ self.now.task }
+    {
+        self.task.as_ref()
+    }
+
+    /// The private cache.
+    pub fn cache(&self) -> &WordCache
+        ensures { result.now ≡ self.now.cache }
+    {
+        &self.cache
+    }
+
+    /// What the node waits for.
+    pub fn wait(&self) -> NodeWait
+        ensures { result ≡ self.now.waiting }
+    {
+        self.wait
+    }
+
+    /// Whether the core has arrived at the barrier, and waits there.
+    pub fn has_arrived(&self) -> bool
+        ensures { result ≡ self.now.arrived }
+    {
+        self.arrived
+    }
+
+    /// Whether the run is over for the core.
+    pub fn has_halted(&self) -> bool
+        ensures { result ≡ self.now.halted }
+    {
+        self.halted
+    }
+}
