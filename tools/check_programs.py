@@ -118,11 +118,64 @@ def standard_error_helps():
     check("a chart of a refusal", b"its input is a refusal: refused source 1 unknown-word" in ran.stderr, ran.stderr)
     for example, words in (("conflict", b"Conflicts"), ("trap", b"Traps"), ("endless", b"Traps")):
         check(f"the page on {example}", words in run(["./denovo"], text_of(example)).stderr)
+    for example, words in (("conflict", []), ("trap", []), ("endless", []), ("crossed-locks", ["--seed", "1"])):
+        wanted = " ".join(["./denovo", *words, "< TEXT | ./explain TEXT"]).encode()
+        check(f"explain is named behind {example}", wanted in run(["./denovo", *words], text_of(example)).stderr)
+    check("and behind unknown words", b"./explain TEXT" in run(["./denovo", "--sed", "3"]).stderr)
     slow = run(["bash", "-c", "{ head -c 40; sleep 4; cat; } < examples/store-five.s | ./denovo"])
     check("a pipe from a slow program", slow.stdout == run(["./denovo"], text_of("store-five")).stdout and slow.returncode == 0)
     with tempfile.TemporaryDirectory() as room:
         run(["./denovo"], text_of("trap"), env={**os.environ, "TMPDIR": room})
         check("no file is left", not os.listdir(room), os.listdir(room))
+
+
+def explained_cases():
+    """The cases of tools/explained.txt: for each its name, its text, denovo's words, and all that explain has to write. A text may be
+    the file that stands behind `< `, and `{8 x}` stands for eight times x."""
+    def grown(piece):
+        return re.sub(r"\{(\d+) (.)\}", lambda found: found[2] * int(found[1]), piece)
+
+    for case in re.split(r"^==== ", pathlib.Path("tools/explained.txt").read_text(), flags=re.M)[1:]:
+        name, rest = case.split("\n", 1)
+        text, words, output = re.split(r"^----(.*)\n", rest, flags=re.M)
+        text = pathlib.Path(text[2:-1]).read_text() if text.startswith("< ") else grown(text)
+        yield name, text, words.split(), grown(output)
+
+
+def answers_are_explained():
+    """Each case: the lines that aren't indented are denovo's answer, and explain puts the others behind them."""
+    with tempfile.TemporaryDirectory() as room:
+        for name, text, words, output in explained_cases():
+            answer = "".join(line + "\n" for line in output.splitlines() if not line.startswith("  "))
+            file = pathlib.Path(room, "a text.s")
+            file.write_text(text)
+            ran = run(programs("denovo")[0] + words, text.encode())
+            check(f"the answer to {name}", ran.stdout == answer.encode(), ran.stdout)
+            if not answer.startswith("refused "):
+                check(f"the answer to {name}, by the reference", reference.answer(words, text)[1] == answer.splitlines())
+            ran = run(programs("explain")[0] + [str(file)], answer.encode())
+            check(f"{name}, explained", (ran.returncode, ran.stdout) == (0, output.encode()), ran.stdout)
+    line = "./denovo < examples/trap.s | ./explain examples/trap.s"
+    ran = run(["bash", "-c", line])
+    check(line, ran.returncode == 0 and b"\n  18 |  sw t1, 8(t0)\n" in ran.stdout, ran.stdout)
+
+
+def every_exit_code_of_explain_comes():
+    for program in programs("explain"):
+        label, text = program[0], "examples/trap.s"
+        for words, stdin, status, output in (
+                (["--help"], b"", 1, b"refused usage\n"), ([], b"", 1, b"refused usage\n"),
+                ([text, text], b"", 1, b"refused usage\n"), ([text], b"outcome dne\n", 2, b"refused answer 1\n"),
+                (["examples/conflict.s"], b"outcome done\n", 2, b"refused answer 1\n"),
+                (["no such file"], b"", 6, b""), (["examples"], b"", 6, b""), ([b"\xff"], b"", 9, b""), (["--", text], b"", 0, b"")):
+            ran = run(program + words, stdin)
+            check(f"{label} {words}: exit code {status}", (ran.returncode, ran.stdout) == (status, output), (ran.returncode, ran.stdout))
+        folder = os.open("/", os.O_RDONLY)
+        ran = run(program + [text], folder)
+        os.close(folder)
+        check(f"{label}: exit code 6, of a folder", (ran.returncode, ran.stdout) == (6, b""))
+        ran = run(["sh", "-c", '"$@" >&-', "sh", *program, text], b"outcome done\n")
+        check(f"{label}: exit code 7, of a closed standard output", ran.returncode == 7, ran.returncode)
 
 
 def proved_programs_are_used_where_they_are_those_of_the_sources():
@@ -161,6 +214,8 @@ def pages_show_what_is_printed():
 words_are_handed_on()
 every_exit_code_comes()
 a_run_is_drawn_by_a_pipe()
+answers_are_explained()
+every_exit_code_of_explain_comes()
 standard_error_helps()
 pages_show_what_is_printed()
 if kind == "proved":

@@ -1,0 +1,4 @@
+pub mod Command
+pub mod Texts
+pub mod Answers
+pub mod Serving

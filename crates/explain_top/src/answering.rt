@@ -1,0 +1,62 @@
+ghost use Rattle.std.specs.Prelude.{◌≡◌, ◌++◌, OnOk, IfOk};
+ghost use Rattle.explain_top.specs.Answers.{IsOutput, refused_line, output_of};
+
+use dn_base::{MOST_OF_DOCUMENT, Memory, Sequence, Status};
+use explained_answer::{Explained, explain};
+use std::alloc::Global;
+use text_pieces::{push, push_long};
+
+/// A status, and all that is to be written.
+#[derive(Debug, Drop)]
+pub struct Output {
+    pub status: Status,
+    pub bytes: Sequence<u8>,
+}
+
+/// A refusal with this line.
+fn refused(line: Vec<u8>) -> Output
+    ensures { result ≡ record { status = Status.SourceRefused; bytes = line.items } }
+{
+    Output {
+        status: Status::SourceRefused,
+        bytes: Sequence::from_vec(line),
+    }
+}
+
+/// The line that refuses an answer at its line of this number.
+#[tactic(auto, unfolding(crate::specs::Answers::refused_line))]
+fn refused_line(alloc: Global, number: usize) -> Result<Vec<u8>, Memory>
+    ensures { IfOk result (λ line. line.items ≡ refused_line number) }
+{
+    let mut line = Vec::new(alloc);
+    push(&mut line, b"refused answer ")?;
+    push_long(&mut line, number as u64)?;
+    push(&mut line, b"\n")?;
+    Ok(line)
+}
+
+/// What is written of an explained answer.
+fn output_of(alloc: Global, explained: Explained) -> Result<Output, Memory>
+    ensures { IfOk result (λ output. output ≡ output_of explained) }
+{
+    match explained {
+        Explained::Text(bytes) => Ok(Output {
+            status: Status::Done,
+            bytes,
+        }),
+        Explained::Refused { line } => Ok(refused(refused_line(alloc, line)?)),
+    }
+}
+
+/// The output for a text and the answer that denovo printed for it: the answer explained, or the line that refuses it.
+///
+/// # Errors
+/// `Memory` where there is no room.
+pub fn answer(alloc: Global, text: &[u8], answer: &[u8]) -> Result<Output, Memory>
+    ensures { IfOk result (IsOutput text.now answer.now) }
+{
+    if answer.len() > MOST_OF_DOCUMENT {
+        return Ok(refused(Vec::from_slice(alloc, b"refused answer too-large\n")?));
+    }
+    output_of(alloc, explain(alloc, text, answer)?)
+}

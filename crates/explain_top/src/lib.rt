@@ -1,0 +1,16 @@
+//! The program explain, all but its `main`: from a text and the answer that denovo printed for it to the answer explained.
+#![tactic(auto)]
+
+mod answering;
+mod command;
+mod program;
+mod serving;
+mod texts;
+
+pub use answering::{Output, answer};
+pub use command::text_name;
+pub use command_words::WordsFault;
+pub use program::explain_program;
+pub use program_outside::ReadError;
+pub use serving::explain_main;
+pub use texts::Texts;

@@ -1,0 +1,67 @@
+ghost use Rattle.std.specs.Prelude.{◌≡◌, ◌≤◌, ℕ, List, Option, None, length, IfOk, IfErr, OnOk};
+ghost use Rattle.dn_base.specs.Faults.{Rose};
+ghost use Rattle.explain_top.specs.Texts.{IsTextRead};
+
+use dn_base::StdSource;
+use program_outside::{ReadError, read_text};
+use std::alloc::Global;
+use std::fs;
+use std::rt::Files;
+
+/// Where texts stand under names.
+///
+/// `text` is the bytes of the text of a name, where that is told; `faults` is a count of failures that never falls.
+pub trait Texts {
+    ghost text: { Self → List ℕ → Option (List ℕ) };
+
+    ghost faults: { Self → ℕ };
+
+    /// Reads the text of this name to its end, or until `most` bytes have come. The count of faults then stays.
+    ///
+    /// # Errors
+    /// `Failed` only where the count of faults rose: there is no text of this name, or it can't be read. `NoMemory` where there is no
+    /// room for it; the count of faults then stays.
+    fn read(&mut self, alloc: Global, name: &str, most: usize) -> Result<Vec<u8>, ReadError>
+        ensures text { IfOk result (λ found. IsTextRead (text self.old name.now) most found.items) }
+        ensures faultless { OnOk result (faults self.new ≡ faults self.old) }
+        ensures failed { IfErr result (λ error. error ≡ ReadError.Failed → Rose (faults self.old) (faults self.new)) }
+        ensures memory { IfErr result (λ error. error ≡ ReadError.NoMemory → faults self.new ≡ faults self.old) };
+}
+
+/// The files of the host. It counts each file that it can't read as a fault, and tells contracts nothing of their bytes.
+#[derive(Drop)]
+pub(crate) struct HostFiles<'r, R> {
+    rt: &'r R,
+    faults: u64,
+}
+
+impl<'r, R: Files> HostFiles<'r, R> {
+    /// The files of this runtime, with no fault so far.
+    pub(crate) fn new(rt: &'r R) -> HostFiles<'r, R> {
+        HostFiles { rt, faults: 0 }
+    }
+}
+
+/// The file of this name, or its first `most` bytes.
+fn read_file<R: Files>(rt: &R, alloc: Global, name: &str, most: usize) -> Result<Vec<u8>, ReadError>
+    ensures { IfOk result (λ found. length found.items ≤ most) }
+{
+    match fs::open(rt, name) {
+        Ok(file) => read_text(alloc, most, &mut StdSource::new(file)),
+        Err(_) => Err(ReadError::Failed),
+    }
+}
+
+impl<'r, R: Files> Texts for HostFiles<'r, R> {
+    ghost text = { λ _ _. None };
+
+    ghost faults = { λ s. s.faults };
+
+    fn read(&mut self, alloc: Global, name: &str, most: usize) -> Result<Vec<u8>, ReadError> {
+        let read = read_file(self.rt, alloc, name, most);
+        if let Err(ReadError::Failed) = read {
+            self.faults = self.faults.saturating_add(1);
+        }
+        read
+    }
+}
