@@ -4,8 +4,8 @@ use Rattle.std.specs.declared.process.ExitCode.{ExitCode}
 use Rattle.dn_base.specs.declared.status.Status.{Status}
 use Rattle.dn_base.specs.declared.status.Status as status
 use Rattle.front_end.specs.Texts.{usage_line}
-use Rattle.dn_top.specs.ExitCodes.{IsCodeOf}
-use Rattle.front_end.specs.Outside.{SinkState, Devices, SourceFailed, SinkFailed, GaveAtMost, IsUntouched, IsRead, Delivered, TookFront}
+use Rattle.program_outside.specs.ExitCodes.{IsCodeOf}
+use Rattle.program_outside.specs.Outside.{SinkState, Devices, SourceFailed, SinkFailed, GaveAtMost, IsUntouched, IsRead, Delivered, TookFront}
 use Rattle.chart_top.specs.declared.answering.Output.{Output}
 use Rattle.chart_top.specs.declared.options.Options.{Options}
 use Rattle.chart_top.specs.Answers.{IsAnswer}

@@ -1,6 +1,6 @@
 ghost use Rattle.std.specs.Prelude.{map, string_bytes};
-ghost use Rattle.dn_top.specs.ExitCodes.{IsExitCode};
-ghost use Rattle.front_end.specs.Outside.{devices};
+ghost use Rattle.program_outside.specs.ExitCodes.{IsExitCode};
+ghost use Rattle.program_outside.specs.Outside.{devices};
 ghost use Rattle.chart_top.specs.Command.{chart_options_of};
 ghost use Rattle.chart_top.specs.Serving.{HasEnded};
 

@@ -1,5 +1,5 @@
 ghost use Rattle.std.specs.Prelude.{ℕ, List, Some, IfOk, map, string_bytes};
-ghost use Rattle.front_end.specs.Outside.{devices, sink_at};
+ghost use Rattle.program_outside.specs.Outside.{devices, sink_at};
 ghost use Rattle.chart_top.specs.declared.options.Options.{Options as OptionsOf};
 ghost use Rattle.chart_top.specs.Answers.{IsAnswer};
 ghost use Rattle.chart_top.specs.Command.{ViewOptionsInRange, chart_options_of};
@@ -10,7 +10,7 @@ use crate::options::Options;
 use crate::reading::read_words;
 use command_words::WordsFault;
 use dn_base::{MOST_OF_DOCUMENT, Memory, Sink, Source, Status};
-use front_end::{ReadError, read_text, write_text};
+use program_outside::{ReadError, read_text, write_text};
 use std::alloc::Global;
 
 /// Writes the bytes, and tells this status, or `WriteFault` where the sink failed.

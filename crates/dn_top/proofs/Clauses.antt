@@ -8,7 +8,7 @@ use Rattle.command_words.specs.declared.options.Options.{Options}
 use Rattle.dn_top.specs.declared.output.Output.{Output}
 use Rattle.dn_top.specs.declared.serving.Answer.{Answer}
 use Rattle.dn_top.specs.Answers.{most_read, IsRefusal, IsAnswer, IsOutcome}
-use Rattle.front_end.specs.Outside.{SourceState, SinkState, Devices, SourceFailed, SinkFailed, GaveAtMost, IsUntouched, IsFlushed, Delivered, TookFront}
+use Rattle.program_outside.specs.Outside.{SourceState, SinkState, Devices, SourceFailed, SinkFailed, GaveAtMost, IsUntouched, IsFlushed, Delivered, TookFront}
 use Rattle.dn_top.specs.Serving.{text_to_answer, most_asked, IsOutcomeOrRefusal, IsRunWithStatus, HandsBack, HasDone, HasRefused, HasFailed, HasStatus, has_stopped, Serves, IsWritten, IsReplied, IsUnread, IsUnheld, IsObtained, obtained_by, IsDoneBy, without_run}
 use Rattle.dn_top.proofs.Statuses.{fails, outcome_or_refusal-fails, other, outcome-other, answer-other, answer-done, answer-refused, answer-no_run, done-comes, done-plain, done-run}
 use Rattle.dn_top.proofs.Fronts.{AnswersAlike, taken-alike}

@@ -5,7 +5,7 @@ use Rattle.command_words.specs.declared.options.Options.{Options}
 use Rattle.dn_top.specs.declared.output.Output.{Output}
 use Rattle.dn_top.specs.declared.serving.Answer.{Answer}
 use Rattle.dn_top.specs.Answers.{IsAnswer, IsOutcome}
-use Rattle.front_end.specs.Outside.{Devices, Took}
+use Rattle.program_outside.specs.Outside.{Devices, Took}
 use Rattle.dn_top.specs.Serving.{text_to_answer, ForText, HasDone, HasRefused, answer_to}
 use Rattle.dn_top.specs.Laws.{Call, IsTextAnswered, IsDecided, GaveOneOutput}
 use Rattle.dn_top.proofs.Statuses.{outcome_refused}

@@ -12,7 +12,7 @@ use Rattle.command_words.specs.declared.options.Mode as mode
 use Rattle.command_words.specs.declared.options.Options.{Options}
 use Rattle.dn_top.specs.declared.serving.Answer.{Answer}
 use Rattle.dn_top.specs.Answers.{IsAnswer, IsOutcome, answered, picks_events}
-use Rattle.front_end.specs.Outside.{Devices, Took}
+use Rattle.program_outside.specs.Outside.{Devices, Took}
 use Rattle.dn_top.specs.Serving.{text_to_answer, Serves}
 
 -- ---- what is decided

@@ -5,7 +5,7 @@ ghost use Rattle.std.specs.Prelude.{◌≡◌, map, string_bytes, None, IfSome};
 ghost use Rattle.std.specs.Option.{option_map};
 ghost use Rattle.command_words.specs.Command.{OptionsInRange, options_of};
 ghost use Rattle.dn_top.specs.Answers.{most_read};
-ghost use Rattle.front_end.specs.Outside.{GaveAtMost, IsUntouched, devices, source_at};
+ghost use Rattle.program_outside.specs.Outside.{GaveAtMost, IsUntouched, devices, source_at};
 ghost use Rattle.dn_top.specs.Runs.{with_one_worker};
 ghost use Rattle.dn_top.specs.Serving.{IsDoneBy, Serves};
 

@@ -1,7 +1,8 @@
 ghost use Rattle.std.specs.Prelude.{map, string_bytes};
 ghost use Rattle.command_words.specs.Command.{options_of};
-ghost use Rattle.dn_top.specs.ExitCodes.{HasEnded, IsExitCode};
-ghost use Rattle.front_end.specs.Outside.{devices};
+ghost use Rattle.dn_top.specs.ExitCodes.{HasEnded};
+ghost use Rattle.program_outside.specs.ExitCodes.{IsExitCode};
+ghost use Rattle.program_outside.specs.Outside.{devices};
 
 use crate::denovo_main;
 use command_words::{NO_WORDS, given_words};

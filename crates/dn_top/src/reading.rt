@@ -1,12 +1,12 @@
 ghost use Rattle.std.specs.Prelude.{◌≡◌, ◌+◌, IfOk, IfErr, IfSome};
 ghost use Rattle.command_words.specs.Command.{OptionsInRange};
-ghost use Rattle.front_end.specs.Outside.{SourceFailed, GaveAtMost, IsUntouched, source_at};
+ghost use Rattle.program_outside.specs.Outside.{SourceFailed, GaveAtMost, IsUntouched, source_at};
 ghost use Rattle.dn_top.specs.Answers.{most_read};
 ghost use Rattle.dn_top.specs.Serving.{IsObtained};
 
 use command_words::{Mode, Options};
 use dn_base::{MOST_OF_DOCUMENT, MOST_OF_TEXT, Source};
-use front_end::{ReadError, read_text};
+use program_outside::{ReadError, read_text};
 use std::alloc::Global;
 use work_gen::work;
 

@@ -3,7 +3,7 @@ ghost use Rattle.command_words.specs.declared.options.Options.{Options as Option
 ghost use Rattle.command_words.specs.Command.{OptionsInRange};
 ghost use Rattle.dn_top.specs.Answers.{IsAnswer, answered, most_read};
 ghost use Rattle.front_end.specs.Texts.{usage_line};
-ghost use Rattle.front_end.specs.Outside.{GaveAtMost, IsUntouched, devices, sink_at, source_at};
+ghost use Rattle.program_outside.specs.Outside.{GaveAtMost, IsUntouched, devices, sink_at, source_at};
 ghost use Rattle.dn_top.specs.Runs.{with_one_worker};
 ghost use Rattle.dn_top.specs.Serving.{without_run, IsDoneBy, IsWritten, IsReplied, status_of_read};
 
@@ -13,7 +13,7 @@ use crate::reading::take_text;
 use command_words::Options;
 use dn_base::{Gate, Memory, Sink, Source, Status};
 use dn_machine::RunRecord;
-use front_end::{ReadError, write_text};
+use program_outside::{ReadError, write_text};
 use std::alloc::Global;
 use std::sync::Wait;
 use std::thread::Threads;

@@ -1,7 +1,7 @@
 use Rattle.std.proofs.Common.{map, string_bytes, ap}
 use Rattle.std.specs.Option.{option_map}
 use Rattle.command_words.specs.Command.{options_of}
-use Rattle.front_end.specs.Outside.{devices}
+use Rattle.program_outside.specs.Outside.{devices}
 use Rattle.dn_top.specs.Runs.{with_one_worker}
 use Rattle.dn_top.proofs.Clauses.{serves-options}
 use Rattle.dn_top.proofs.answer_words.Goals as goal

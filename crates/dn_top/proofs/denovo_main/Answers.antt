@@ -1,6 +1,6 @@
 use Rattle.std.proofs.Common.{map, string_bytes}
 use Rattle.command_words.specs.Command.{options_of}
-use Rattle.front_end.specs.Outside.{devices}
+use Rattle.program_outside.specs.Outside.{devices}
 use Rattle.dn_top.proofs.Clauses.{serves-options}
 use Rattle.dn_top.proofs.denovo_main.Goals as goal
 
