@@ -9,7 +9,6 @@ ghost use Rattle.front_end.specs.Texts.{IsStop};
 
 use crate::documents::{replay_document, trace_run};
 use crate::output::{Output, ended};
-use front_end::{Stop, checked_of, program_of};
 use crate::runs::{report_run, run_alone, sum_up_run, time_text_run};
 use crate::workers::run_by_workers;
 use command_words::{Mode, Options};
@@ -17,6 +16,7 @@ use dn_base::{Gate, Memory, Outcome, Status};
 use effect_checker::Checked;
 use effect_prover::{prove, prove_text};
 use flat_machine::least_run;
+use front_end::{Stop, checked_of, program_of};
 use region_table::Program;
 use run_report::{answer_text, checked_line, grant_text};
 use rv_listing::listing;

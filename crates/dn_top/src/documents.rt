@@ -9,12 +9,12 @@ ghost use Rattle.dn_top.specs.Documents.{IsNoDocument, IsNoRun, IsReplayedRun, s
 ghost use Rattle.dn_top.specs.Runs.{output_of_run};
 
 use crate::output::Output;
-use front_end::{Stop, checked_of};
 use crate::runs::{handed_back, report_run};
 use command_words::Options;
 use dn_base::{Memory, Sequence, Shape};
 use dn_machine::RunRecord;
 use effect_checker::Checked;
+use front_end::{Stop, checked_of};
 use region_table::{Program, a_program_is_well_formed};
 use run_replay::{
     Replayed, Trace, TraceFault, TraceRefusal, TraceShape, read_trace, replay, trace_line,

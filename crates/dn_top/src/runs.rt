@@ -10,11 +10,11 @@ ghost use Rattle.dn_top.specs.Documents.{trace_of};
 ghost use Rattle.dn_top.specs.Runs.{IsAnyRunFor, IsPrintable, IsRunFor, IsTimedFor, with_one_worker, output_of_run, reported, shape_for, summed_up, ticks_for};
 
 use crate::output::Output;
-use front_end::{Stop, checked_of};
 use command_words::Options;
 use dn_base::{Memory, Sequence, Shape, Status};
 use dn_machine::{Machine, RunRecord, a_machine_is_kept};
 use effect_checker::Checked;
+use front_end::{Stop, checked_of};
 use grant_log::Counts;
 use region_table::Program;
 use run_report::{report, summary};

@@ -7,12 +7,12 @@ ghost use Rattle.front_end.specs.Texts.{IsStop, IsUnfit};
 ghost use Rattle.dn_top.specs.Documents.{trace_of};
 ghost use Rattle.dn_top.specs.Runs.{IsPrintable, IsRunFor};
 
-use front_end::{Stop, checked_of};
 use crate::runs::{has_each_kind, shape_of};
 use command_words::Options;
 use dn_base::{Gate, Memory};
 use dn_machine::{Machine, RunRecord, a_machine_is_kept};
 use effect_checker::Checked;
+use front_end::{Stop, checked_of};
 use host_workers::run_workers;
 use std::alloc::Global;
 use std::sync::Wait;
