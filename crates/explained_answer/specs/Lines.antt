@@ -29,16 +29,24 @@ unfoldable pub named_lock : Located → ℕ → List ℕ
 named_lock l lock = indent ++ lock_text l.program.locks lock ++ newline
 
 -- the line that declares a task, and the line and the bytes of an instruction of it
+unfoldable pub which_line : List ℕ
+which_line = codes " of the task that line "
+
 unfoldable pub declared_there : ℕ → List ℕ
-declared_there line = codes " of the task that line " ++ decimal line ++ codes " declares"
+declared_there line = which_line ++ decimal line ++ codes " declares"
 
 abbrev pub task_there : Option TaskPlace → List ℕ
 task_there (Some t) = declared_there t.line
 task_there None = []
 
-unfoldable pub instruction_there : List ℕ → Option TaskPlace → CodePlace → List ℕ
-instruction_there text task p =
-    indent ++ codes "This is the instruction" ++ task_there task ++ codes " at " ++ code_text p ++ codes ":" ++ newline ++ indent ++ quoted_line text p.line
+unfoldable pub the_instruction : List ℕ
+the_instruction = codes "  This is the instruction"
+
+unfoldable pub stands_there : List ℕ → CodePlace → List ℕ
+stands_there text p = codes " at " ++ code_text p ++ codes ":" ++ newline ++ indent ++ quoted_line text p.line
+
+abbrev pub instruction_there : List ℕ → Option TaskPlace → CodePlace → List ℕ
+instruction_there text task p = the_instruction ++ task_there task ++ stands_there text p
 
 abbrev pub unproven_at : List ℕ → Option TaskPlace → Option CodePlace → List ℕ
 unproven_at text task (Some p) = instruction_there text task p

@@ -4,7 +4,7 @@ ghost use Rattle.document_parts.specs.Field.{Stands};
 ghost use Rattle.answer_lines.specs.Lines.{answer_line};
 ghost use Rattle.region_table.specs.Program.{tasks_of};
 ghost use Rattle.ending_sentences.specs.Sentences.{code_place_at};
-ghost use Rattle.explained_answer.specs.Lines.{named_word, named_lock, declared_there, task_there, instruction_there, unproven_text, is_size_of, sentences_behind, explained_line, has_task, has_named_lock, count_is_of, fits_program, IsLineOf, NoLineOf, AreAllLinesExplained, IsRefusedAt};
+ghost use Rattle.explained_answer.specs.Lines.{named_word, named_lock, which_line, declared_there, task_there, the_instruction, stands_there, instruction_there, unproven_text, is_size_of, sentences_behind, explained_line, has_task, has_named_lock, count_is_of, fits_program, IsLineOf, NoLineOf, AreAllLinesExplained, IsRefusedAt};
 
 use answer_lines::{AnswerLine, Count, read_line};
 use dn_base::Memory;
@@ -35,12 +35,19 @@ fn push_named_lock(out: &mut Vec<u8>, located: &Located, lock: u32) -> Result<()
     push(out, b"\n")
 }
 
+#[tactic(auto, unfolding(crate::specs::Lines::which_line))]
+fn push_which_line(out: &mut Vec<u8>) -> Result<(), Memory>
+    ensures { OnOk result (out.new.items ≡ out.old.items ++ which_line) }
+{
+    push(out, b" of the task that line ")
+}
+
 /// Adds the line that declares a task.
 #[tactic(auto, unfolding(crate::specs::Lines::declared_there))]
 fn push_declared_there(out: &mut Vec<u8>, line: u32) -> Result<(), Memory>
     ensures { OnOk result (out.new.items ≡ out.old.items ++ declared_there line) }
 {
-    push(out, b" of the task that line ")?;
+    push_which_line(out)?;
     push_decimal(out, line)?;
     push(out, b" declares")
 }
@@ -54,7 +61,24 @@ fn push_task_there(out: &mut Vec<u8>, task: Option<TaskPlace>) -> Result<(), Mem
     }
 }
 
-#[tactic(auto, unfolding(crate::specs::Lines::instruction_there))]
+#[tactic(auto, unfolding(crate::specs::Lines::the_instruction))]
+fn push_the_instruction(out: &mut Vec<u8>) -> Result<(), Memory>
+    ensures { OnOk result (out.new.items ≡ out.old.items ++ the_instruction) }
+{
+    push(out, b"  This is the instruction")
+}
+
+#[tactic(auto, unfolding(crate::specs::Lines::stands_there))]
+fn push_stands_there(out: &mut Vec<u8>, text: &[u8], place: CodePlace) -> Result<(), Memory>
+    ensures { OnOk result (out.new.items ≡ out.old.items ++ stands_there text.now place) }
+{
+    push(out, b" at ")?;
+    push_code_place(out, place)?;
+    push(out, b":\n  ")?;
+    push_quoted_line(out, text, place.line)
+}
+
+/// Adds where an instruction of a task stands.
 fn push_instruction_there(
     out: &mut Vec<u8>,
     text: &[u8],
@@ -63,12 +87,9 @@ fn push_instruction_there(
 ) -> Result<(), Memory>
     ensures { OnOk result (out.new.items ≡ out.old.items ++ instruction_there text.now task place) }
 {
-    push(out, b"  This is the instruction")?;
+    push_the_instruction(out)?;
     push_task_there(out, task)?;
-    push(out, b" at ")?;
-    push_code_place(out, place)?;
-    push(out, b":\n  ")?;
-    push_quoted_line(out, text, place.line)
+    push_stands_there(out, text, place)
 }
 
 /// The place of the code word at an address, if there is one.
