@@ -1,5 +1,5 @@
 -- The end of a task's line, by how the task stands; and what is counted.
-use Rattle.std.proofs.Common.{◌≡◌, ◌≢◌, ℕ, ◌+◌, ◌<◌, ◌≤◌, List, [], ◌∷◌, ◌++◌, length, codes, refl, sym, ap, ◌∙◌, arith, append_assoc}
+use Rattle.std.proofs.Common.{◌≡◌, ◌≢◌, ℕ, ◌+◌, List, [], ◌++◌, length, codes, Option, Some, None, IfNone, refl, ap, ◌∙◌, arith, append_assoc}
 use Rattle.std.specs.List.{All}
 use Rattle.std.specs.Fmt.{decimal}
 use Rattle.dn_base.specs.declared.ids.Grant.{Grant}
@@ -13,16 +13,16 @@ use Rattle.rv_core.specs.declared.ending.EndShown as shown
 use Rattle.rv_core.specs.declared.ending.EndShown.{EndShown}
 use Rattle.rv_core.specs.declared.ending.TaskEnd.{TaskEnd}
 use Rattle.text_pieces.specs.Pieces.{newline, space, hexadecimal}
-use Rattle.document_parts.specs.Field.{field, Stands, NoneStands}
+use Rattle.document_parts.specs.Field.{field, NoneStands}
 use Rattle.run_report.specs.Answer.{outcome_line, task_line, words_line, word_line, end_text}
 use Rattle.run_report.specs.Grants.{grant_line}
-use Rattle.run_report.specs.Run.{counted_line}
+use Rattle.run_report.specs.Run.{all_kinds, counted_line}
+use Rattle.run_report.specs.Summary.{count_line}
 use Rattle.answer_lines.specs.declared.line.AnswerLine as line
-use Rattle.answer_lines.specs.declared.line.AnswerLine.{AnswerLine}
 use Rattle.answer_lines.specs.declared.line.Count as count
 use Rattle.answer_lines.specs.declared.line.Count.{Count}
 use Rattle.answer_lines.specs.Parts.{IsNumber, pair_fields, StandPair}
-use Rattle.answer_lines.specs.Lines.{HasGrantNumbers, HasTrapNumbers, HasEndNumbers, HasStopNumbers, HasTaskNumbers, IsShownWord, IsAnswerLine, answer_line, trap_front, trap_rest, stop_by, stop_text, all_traps, count_front, count_line_of, NoCount, all_counts}
+use Rattle.answer_lines.specs.Lines.{HasGrantNumbers, HasTrapNumbers, HasEndNumbers, HasStopNumbers, HasTaskNumbers, IsShownWord, IsAnswerLine, answer_line, trap_front, trap_rest, stop_by, stop_text, all_traps, count_front, count_line_of, NoCount, all_counts, IsOtherLine}
 
 -- what holds of all kinds in a list of them holds of each
 pub each-trap : (P : TrapKind → Type 0) → All P all_traps → (k : TrapKind) → P k
@@ -60,12 +60,41 @@ each-count P all (count.TheVariants.Kind event.TheVariants.Grant) = all 15 count
 each-count P all (count.TheVariants.Kind event.TheVariants.Arrived) = all 16 count.TheVariants.Words (omega arith)
 each-count P all (count.TheVariants.Kind event.TheVariants.Go) = all 17 count.TheVariants.Words (omega arith)
 each-count P all (count.TheVariants.Kind event.TheVariants.Halt) = all 18 count.TheVariants.Words (omega arith)
+each-count P all count.TheVariants.Tasks = all 19 count.TheVariants.Words (omega arith)
+each-count P all count.TheVariants.Retired = all 20 count.TheVariants.Words (omega arith)
+each-count P all count.TheVariants.Links = all 21 count.TheVariants.Words (omega arith)
+each-count P all count.TheVariants.WholeEvents = all 22 count.TheVariants.Words (omega arith)
+each-count P all count.TheVariants.EnabledEvents = all 23 count.TheVariants.Words (omega arith)
+
+pub each-kind : (P : EventKind → Type 0) → All P all_kinds → (k : EventKind) → P k
+unfolding all_kinds
+each-kind P all event.TheVariants.Instr = all 0 event.TheVariants.Instr (omega arith)
+each-kind P all event.TheVariants.Evict = all 1 event.TheVariants.Instr (omega arith)
+each-kind P all event.TheVariants.Arrive = all 2 event.TheVariants.Instr (omega arith)
+each-kind P all event.TheVariants.ReadReq = all 3 event.TheVariants.Instr (omega arith)
+each-kind P all event.TheVariants.ReadFwd = all 4 event.TheVariants.Instr (omega arith)
+each-kind P all event.TheVariants.DataReply = all 5 event.TheVariants.Instr (omega arith)
+each-kind P all event.TheVariants.RegReq = all 6 event.TheVariants.Instr (omega arith)
+each-kind P all event.TheVariants.RegFwd = all 7 event.TheVariants.Instr (omega arith)
+each-kind P all event.TheVariants.RegAck = all 8 event.TheVariants.Instr (omega arith)
+each-kind P all event.TheVariants.WriteBack = all 9 event.TheVariants.Instr (omega arith)
+each-kind P all event.TheVariants.WbAck = all 10 event.TheVariants.Instr (omega arith)
+each-kind P all event.TheVariants.Acquire = all 11 event.TheVariants.Instr (omega arith)
+each-kind P all event.TheVariants.Release = all 12 event.TheVariants.Instr (omega arith)
+each-kind P all event.TheVariants.Grant = all 13 event.TheVariants.Instr (omega arith)
+each-kind P all event.TheVariants.Arrived = all 14 event.TheVariants.Instr (omega arith)
+each-kind P all event.TheVariants.Go = all 15 event.TheVariants.Instr (omega arith)
+each-kind P all event.TheVariants.Halt = all 16 event.TheVariants.Instr (omega arith)
+
+pub kinds-length : length all_kinds ≡ 17
+unfolding all_kinds
+kinds-length = refl
 
 pub traps-length : length all_traps ≡ 11
 unfolding all_traps
 traps-length = refl
 
-pub counts-length : length all_counts ≡ 19
+pub counts-length : length all_counts ≡ 24
 unfolding all_counts
 counts-length = refl
 
@@ -126,20 +155,35 @@ no-outcome bytes done trapped fuel stuck outcome.TheVariants.Stuck rest is = stu
 -- ---- counts
 
 pub count-is : (c : Count) (n : ℕ) → count_line_of c n ≡ field (count_front c) newline n
-unfolding words_line counted_line field
+unfolding words_line counted_line count_line field
 count-is count.TheVariants.Words n = refl
 count-is count.TheVariants.Events n = refl
 count-is (count.TheVariants.Kind k) n = refl
+count-is count.TheVariants.Tasks n = refl
+count-is count.TheVariants.Retired n = refl
+count-is count.TheVariants.Links n = refl
+count-is count.TheVariants.WholeEvents n = refl
+count-is count.TheVariants.EnabledEvents n = refl
 
 -- ---- all lines
 
 -- no line of an answer stands there where none of its forms does
 pub no-line : (bytes : List ℕ) → ((o : Outcome) (rest : List ℕ) → bytes ≢ outcome_line o ++ rest) → NoneStands HasTaskNumbers task_line bytes
     → ((w v : ℕ) (rest : List ℕ) → IsShownWord w v → bytes ≢ word_line w v ++ rest) → NoneStands HasGrantNumbers grant_line bytes
-    → NoCount bytes → NoneStands IsAnswerLine answer_line bytes
-no-line bytes outcomes tasks words grants counts (line.TheVariants.Outcome o) rest st = outcomes o rest st.parts
-no-line bytes outcomes tasks words grants counts (line.TheVariants.Task t) rest st = tasks t rest (record { fits = st.fits; parts = st.parts })
-no-line bytes outcomes tasks words grants counts (line.TheVariants.Word w v) rest st = words w v rest st.fits st.parts
-no-line bytes outcomes tasks words grants counts (line.TheVariants.Grant g) rest st = grants g rest (record { fits = st.fits; parts = st.parts })
-no-line bytes outcomes tasks words grants counts (line.TheVariants.Count c n) rest st =
+    → NoCount bytes → NoneStands IsOtherLine answer_line bytes → NoneStands IsAnswerLine answer_line bytes
+no-line bytes outcomes tasks words grants counts others (line.TheVariants.Outcome o) rest st = outcomes o rest st.parts
+no-line bytes outcomes tasks words grants counts others (line.TheVariants.Task t) rest st = tasks t rest (record { fits = st.fits; parts = st.parts })
+no-line bytes outcomes tasks words grants counts others (line.TheVariants.Word w v) rest st = words w v rest st.fits st.parts
+no-line bytes outcomes tasks words grants counts others (line.TheVariants.Grant g) rest st = grants g rest (record { fits = st.fits; parts = st.parts })
+no-line bytes outcomes tasks words grants counts others (line.TheVariants.Count c n) rest st =
     counts c n rest (record { fits = st.fits; parts = rw (← count-is c n) st.parts })
+no-line bytes outcomes tasks words grants counts others (line.TheVariants.Sum v) rest st = others (line.TheVariants.Sum v) rest (record { fits = st.fits; parts = st.parts })
+no-line bytes outcomes tasks words grants counts others (line.TheVariants.Time t) rest st = others (line.TheVariants.Time t) rest (record { fits = st.fits; parts = st.parts })
+no-line bytes outcomes tasks words grants counts others (line.TheVariants.Link l) rest st = others (line.TheVariants.Link l) rest (record { fits = st.fits; parts = st.parts })
+no-line bytes outcomes tasks words grants counts others (line.TheVariants.Checked a b c) rest st = others (line.TheVariants.Checked a b c) rest (record { fits = st.fits; parts = st.parts })
+no-line bytes outcomes tasks words grants counts others (line.TheVariants.Unbounded p c a) rest st = others (line.TheVariants.Unbounded p c a) rest (record { fits = st.fits; parts = st.parts })
+no-line bytes outcomes tasks words grants counts others (line.TheVariants.Fixed f) rest st = others (line.TheVariants.Fixed f) rest (record { fits = st.fits; parts = st.parts })
+
+pub none-more : {X : Type 0} (o : Option X) (P Q : Type 0) → (P → Q) → IfNone o P → IfNone o Q
+none-more None P Q more h = more h
+none-more (Some x) P Q more h = tt

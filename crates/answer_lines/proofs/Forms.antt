@@ -1,16 +1,13 @@
 -- Numbers that follow one another are read as they were written.
-use Rattle.std.proofs.Common.{◌≡◌, ℕ, ◌+◌, ◌*◌, ◌^◌, ◌<◌, ◌≤◌, false, List, [], ◌∷◌, ◌++◌, codes, sym, ap, ◌∙◌, refl, arith, append_assoc}
+use Rattle.std.proofs.Common.{◌≡◌, ℕ, ◌+◌, ◌*◌, ◌<◌, false, List, [], ◌∷◌, ◌++◌, codes, sym, ap, ◌∙◌, refl, arith, append_assoc}
 use Rattle.std.proofs.lemmas.List.{append_cancel_left}
 use Rattle.std.proofs.lemmas.Bool.Decides.{nat_tests}
 use Rattle.std.specs.Char.{is_ascii_digit}
-use Rattle.std.specs.Fmt.{decimal}
-use Rattle.dn_base.specs.declared.ids.Grant.{Grant}
 use Rattle.text_pieces.specs.Pieces.{newline, space, hexadecimal}
 use Rattle.document_parts.specs.Field.{field}
 use Rattle.document_parts.proofs.Forms.{field-one}
 use Rattle.document_parts.proofs.Words.{word-one}
 use Rattle.run_report.specs.Answer.{word_line}
-use Rattle.run_report.specs.Grants.{grant_line}
 use Rattle.answer_lines.specs.declared.tasks.Trapped.{Trapped}
 use Rattle.answer_lines.specs.Parts.{IsNumber, pair_fields, StandPair}
 use Rattle.answer_lines.specs.Lines.{trap_rest, address_line, IsShownWord, StandWord}
@@ -31,13 +28,6 @@ two-next first second e other bytes a b r found x y q fx fy is =
 -- two numbers and what stands behind them, as a line groups them
 pub two-regroup : (name a b tail r : List ℕ) → (name ++ a ++ space ++ b ++ space ++ tail) ++ r ≡ ((name ++ a ++ space) ++ (b ++ space)) ++ (tail ++ r)
 two-regroup name a b tail r = simp append_assoc
-
-two-regroup-line : (name a b l r : List ℕ) → (name ++ a ++ space ++ b ++ space ++ l ++ newline) ++ r ≡ ((name ++ a ++ space) ++ (b ++ space)) ++ ((l ++ newline) ++ r)
-two-regroup-line name a b l r = simp append_assoc
-
-pub grant-parts : (g : Grant) (r : List ℕ) → grant_line g ++ r ≡ pair_fields (codes "grant ") [] 32 g.phase.0 g.core.0 ++ (field [] newline g.lock.0 ++ r)
-unfolding grant_line pair_fields field
-grant-parts g r = two-regroup-line (codes "grant ") (decimal g.phase.0) (decimal g.core.0) (decimal g.lock.0) r
 
 pub trap-parts : (front : List ℕ) (t : Trapped) (r : List ℕ)
     → trap_rest front t ++ r ≡ front ++ (hexadecimal t.pc ++ (codes " value " ++ (hexadecimal t.value ++ (field (codes " retired ") newline t.retired ++ r))))

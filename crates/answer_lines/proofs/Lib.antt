@@ -1,2 +1,4 @@
 pub mod Forms
 pub mod Ends
+pub mod Ticks
+pub mod Others

@@ -1,5 +1,6 @@
 -- The lines of an answer, by what they say, and the numbers that they may have.
-use Rattle.std.specs.Prelude.{◌≡◌, ℕ, ◌+◌, ◌*◌, ◌^◌, ◌<◌, List, [], ◌∷◌, ◌++◌, codes}
+use Rattle.std.specs.Fmt.{decimal}
+use Rattle.std.specs.Prelude.{◌≡◌, ℕ, ◌+◌, ◌^◌, ◌<◌, List, [], ◌∷◌, ◌++◌, codes}
 use Rattle.dn_base.specs.declared.ids.Grant.{Grant}
 use Rattle.dn_base.specs.declared.status.Outcome.{Outcome}
 use Rattle.message_net.specs.declared.event.EventKind as event
@@ -15,13 +16,19 @@ use Rattle.document_parts.specs.Field.{field, NoneStands}
 use Rattle.run_report.specs.Answer.{outcome_line, task_line, words_line, word_line, kind_word}
 use Rattle.run_report.specs.Grants.{grant_line}
 use Rattle.run_report.specs.Run.{event_word, counted_line}
+use Rattle.run_report.specs.Summary.{count_line}
+use Rattle.run_report.specs.declared.refusal.Refusal.TheVariants.{Usage}
+use Rattle.run_report.specs.Refusal.{refusal_of}
 use Rattle.answer_lines.specs.declared.line.AnswerLine as line
 use Rattle.answer_lines.specs.declared.line.AnswerLine.{AnswerLine}
 use Rattle.answer_lines.specs.declared.line.Count as count
 use Rattle.answer_lines.specs.declared.line.Count.{Count}
+use Rattle.answer_lines.specs.declared.line.FixedLine as fixed
+use Rattle.answer_lines.specs.declared.line.FixedLine.{FixedLine}
+use Rattle.answer_lines.specs.declared.line.Link.{Link}
 use Rattle.answer_lines.specs.declared.tasks.Trapped.{Trapped}
 use Rattle.answer_lines.specs.declared.tasks.Stopped.{Stopped}
-use Rattle.answer_lines.specs.Parts.{IsNumber, pair_fields}
+use Rattle.answer_lines.specs.Parts.{IsNumber, IsTicks, pair_fields, three_line}
 
 -- ---- the numbers of a line
 
@@ -56,12 +63,32 @@ pub record IsShownWord (word value : ℕ) : Type 0 where
   pub value_fits : value < 2 ^ 32
   pub some : 0 < value
 
+pub record HasLinkNumbers (l : Link) : Type 0 where
+  pub event : IsNumber l.event
+  pub finish : IsTicks l.finish
+
+pub record HasCheckedNumbers (phases tasks words : ℕ) : Type 0 where
+  pub phases_from : IsNumber phases
+  pub tasks_from : IsNumber tasks
+  pub words_from : IsNumber words
+
+pub record HasUnboundedNumbers (phase core pc : ℕ) : Type 0 where
+  pub phase_from : IsNumber phase
+  pub core_from : IsNumber core
+  pub pc_word : IsWord pc
+
 abbrev pub IsAnswerLine : AnswerLine → Type 0
 IsAnswerLine (line.TheVariants.Outcome o) = Unit {0}
 IsAnswerLine (line.TheVariants.Task t) = HasTaskNumbers t
 IsAnswerLine (line.TheVariants.Word word value) = IsShownWord word value
 IsAnswerLine (line.TheVariants.Grant g) = HasGrantNumbers g
 IsAnswerLine (line.TheVariants.Count c number) = IsNumber number
+IsAnswerLine (line.TheVariants.Sum value) = IsWord value
+IsAnswerLine (line.TheVariants.Time ticks) = IsTicks ticks
+IsAnswerLine (line.TheVariants.Link l) = HasLinkNumbers l
+IsAnswerLine (line.TheVariants.Checked phases tasks words) = HasCheckedNumbers phases tasks words
+IsAnswerLine (line.TheVariants.Unbounded phase core pc) = HasUnboundedNumbers phase core pc
+IsAnswerLine (line.TheVariants.Fixed f) = Unit {0}
 
 -- ---- how it is written
 
@@ -69,6 +96,32 @@ abbrev pub count_line_of : Count → ℕ → List ℕ
 count_line_of count.TheVariants.Words number = words_line number
 count_line_of count.TheVariants.Events number = counted_line (codes "events") number
 count_line_of (count.TheVariants.Kind k) number = counted_line (event_word k) number
+count_line_of count.TheVariants.Tasks number = count_line (codes "tasks ") number
+count_line_of count.TheVariants.Retired number = count_line (codes "retired ") number
+count_line_of count.TheVariants.Links number = count_line (codes "chain ") number
+count_line_of count.TheVariants.WholeEvents number = count_line (codes "refused trace event ") number
+count_line_of count.TheVariants.EnabledEvents number = count_line (codes "refused trace not-enabled ") number
+
+-- the sum of all words modulo 2^32
+unfoldable pub sum_line : ℕ → List ℕ
+sum_line value = codes "sum " ++ hexadecimal value ++ newline
+
+-- the number of the event, its kind, and when it finishes
+unfoldable pub link_line : Link → List ℕ
+link_line l = codes "link " ++ decimal l.event ++ space ++ event_word l.kind ++ space ++ decimal l.finish ++ newline
+
+-- the phase, the core and the pc that the prover names
+unfoldable pub unbounded_line : ℕ → ℕ → ℕ → List ℕ
+unbounded_line phase core pc = codes "unbounded " ++ decimal phase ++ space ++ decimal core ++ space ++ hexadecimal pc ++ newline
+
+-- lines without a number
+abbrev pub fixed_line : FixedLine → List ℕ
+fixed_line fixed.TheVariants.Inside = codes "proved inside" ++ newline
+fixed_line fixed.TheVariants.Usage = refusal_of Usage
+fixed_line fixed.TheVariants.TooLarge = codes "refused trace too-large" ++ newline
+fixed_line fixed.TheVariants.Head = codes "refused trace head" ++ newline
+fixed_line fixed.TheVariants.Rest = codes "refused trace rest" ++ newline
+fixed_line fixed.TheVariants.Incomplete = codes "refused trace incomplete" ++ newline
 
 abbrev pub answer_line : AnswerLine → List ℕ
 answer_line (line.TheVariants.Outcome o) = outcome_line o
@@ -76,6 +129,12 @@ answer_line (line.TheVariants.Task t) = task_line t
 answer_line (line.TheVariants.Word word value) = word_line word value
 answer_line (line.TheVariants.Grant g) = grant_line g
 answer_line (line.TheVariants.Count c number) = count_line_of c number
+answer_line (line.TheVariants.Sum value) = sum_line value
+answer_line (line.TheVariants.Time ticks) = count_line (codes "time ") ticks
+answer_line (line.TheVariants.Link l) = link_line l
+answer_line (line.TheVariants.Checked phases tasks words) = three_line (codes "checked ") phases tasks words
+answer_line (line.TheVariants.Unbounded phase core pc) = unbounded_line phase core pc
+answer_line (line.TheVariants.Fixed f) = fixed_line f
 
 -- ---- the end of a task's line, part by part
 
@@ -122,6 +181,11 @@ abbrev pub count_front : Count → List ℕ
 count_front count.TheVariants.Words = codes "words "
 count_front count.TheVariants.Events = codes "count events "
 count_front (count.TheVariants.Kind k) = codes "count " ++ event_word k ++ codes " "
+count_front count.TheVariants.Tasks = codes "tasks "
+count_front count.TheVariants.Retired = codes "retired "
+count_front count.TheVariants.Links = codes "chain "
+count_front count.TheVariants.WholeEvents = codes "refused trace event "
+count_front count.TheVariants.EnabledEvents = codes "refused trace not-enabled "
 
 -- no line of a count stands in front of some bytes
 abbrev pub NoCount : List ℕ → Type 0
@@ -138,4 +202,25 @@ all_counts =
     ∷ count.TheVariants.Kind event.TheVariants.WriteBack ∷ count.TheVariants.Kind event.TheVariants.WbAck
     ∷ count.TheVariants.Kind event.TheVariants.Acquire ∷ count.TheVariants.Kind event.TheVariants.Release
     ∷ count.TheVariants.Kind event.TheVariants.Grant ∷ count.TheVariants.Kind event.TheVariants.Arrived
-    ∷ count.TheVariants.Kind event.TheVariants.Go ∷ count.TheVariants.Kind event.TheVariants.Halt ∷ []
+    ∷ count.TheVariants.Kind event.TheVariants.Go ∷ count.TheVariants.Kind event.TheVariants.Halt ∷ count.TheVariants.Tasks
+    ∷ count.TheVariants.Retired ∷ count.TheVariants.Links ∷ count.TheVariants.WholeEvents ∷ count.TheVariants.EnabledEvents ∷ []
+
+-- ---- the lines of programs, sums, times and refusals
+
+-- what stands before the ticks in the line of an event of the longest chain
+abbrev pub kind_front : EventKind → List ℕ
+kind_front k = event_word k ++ codes " "
+
+pub record StandUnbounded (bytes : List ℕ) (phase core pc : ℕ) (rest : List ℕ) : Type 0 where
+  pub numbers : HasUnboundedNumbers phase core pc
+  pub parts : bytes ≡ unbounded_line phase core pc ++ rest
+
+-- the lines that are looked for behind those of a run's answer
+abbrev pub IsOtherLine : AnswerLine → Type 0
+IsOtherLine (line.TheVariants.Sum value) = IsWord value
+IsOtherLine (line.TheVariants.Time ticks) = IsTicks ticks
+IsOtherLine (line.TheVariants.Link l) = HasLinkNumbers l
+IsOtherLine (line.TheVariants.Checked phases tasks words) = HasCheckedNumbers phases tasks words
+IsOtherLine (line.TheVariants.Unbounded phase core pc) = HasUnboundedNumbers phase core pc
+IsOtherLine (line.TheVariants.Fixed f) = Unit {0}
+IsOtherLine _ = ⊥

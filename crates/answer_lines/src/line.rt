@@ -11,9 +11,46 @@ pub enum Count {
     Events,
     /// Its events of a kind.
     Kind(EventKind),
+    /// Its tasks that started.
+    Tasks,
+    /// The instructions that its tasks retired.
+    Retired,
+    /// The events of its longest chain.
+    Links,
+    /// The events of a refused document before the first whose line isn't there whole.
+    WholeEvents,
+    /// The events of a refused document before the first that may not come.
+    EnabledEvents,
 }
 
-/// A line that the modes run, flat and replay print of a run.
+/// A line without a number.
+#[derive(Clone, Copy, Debug, PartialEq, Eq)]
+pub enum FixedLine {
+    /// No run of the program can end a task by a trap outside.
+    Inside,
+    /// The words of the command are refused.
+    Usage,
+    /// The document of a run is refused: it has too many bytes,
+    TooLarge,
+    /// or doesn't begin as a document,
+    Head,
+    /// or goes on behind its last event,
+    Rest,
+    /// or its run isn't at its end.
+    Incomplete,
+}
+
+/// An event of the longest chain.
+#[derive(Clone, Copy, Debug, PartialEq, Eq)]
+pub struct Link {
+    /// The number of the event, from 0.
+    pub event: u32,
+    pub kind: EventKind,
+    /// When the event finishes, in ticks from the run's beginning.
+    pub finish: u64,
+}
+
+/// A line that says something of a run, of a program, or of a refused document or command.
 #[derive(Clone, Copy, Debug, PartialEq, Eq)]
 pub enum AnswerLine {
     /// How the run ended.
@@ -26,4 +63,15 @@ pub enum AnswerLine {
     Grant(Grant),
     /// How many there were of something.
     Count { of: Count, number: u32 },
+    /// The sum of all data words modulo 2^32.
+    Sum { value: u32 },
+    /// How many ticks the run takes.
+    Time { ticks: u64 },
+    /// An event of the longest chain.
+    Link(Link),
+    /// A checked program has so many phases, tasks and data words.
+    Checked { phases: u32, tasks: u32, words: u32 },
+    /// The prover doesn't know of the instruction at this address that it keeps to what its task declares.
+    Unbounded { phase: u32, core: u32, pc: u32 },
+    Fixed(FixedLine),
 }

@@ -1,12 +1,8 @@
 //! Numbers that follow one another in a line.
 ghost use Rattle.std.specs.Prelude.{◌≡◌, ℕ, List, false, IfSome, IfNone};
 ghost use Rattle.std.specs.Char.{is_ascii_digit};
-ghost use Rattle.run_report.specs.Grants.{grant_line};
-ghost use Rattle.document_parts.specs.Field.{Stands, NoneStands};
-ghost use Rattle.answer_lines.specs.Parts.{StandPair};
-ghost use Rattle.answer_lines.specs.Lines.{HasGrantNumbers};
+ghost use Rattle.answer_lines.specs.Parts.{StandPair, StandThree};
 
-use dn_base::{CoreId, Grant, LockId, PhaseId};
 use document_parts::field;
 
 /// The number that stands in front of some bytes between a name and a blank, the one behind it between another name and the byte
@@ -26,17 +22,12 @@ pub(crate) fn two_numbers<'a>(
     Some((one, other, rest))
 }
 
-/// The grant whose line stands in front of some bytes, and what stands behind it.
-pub(crate) fn grant(bytes: &[u8]) -> Option<(Grant, &[u8])>
-    ensures some { IfSome result (λ f. Stands HasGrantNumbers grant_line bytes.now f.0 f.1.now) }
-    ensures none { IfNone result (NoneStands HasGrantNumbers grant_line bytes.now) }
+/// The three numbers that stand in front of some bytes in a line behind a name, and what stands behind them.
+pub(crate) fn three_numbers<'a>(bytes: &'a [u8], name: &[u8]) -> Option<(u32, u32, u32, &'a [u8])>
+    ensures some { IfSome result (λ f. StandThree name.now bytes.now f.0 f.1 f.2 f.3.now) }
+    ensures none { IfNone result ((a b c : ℕ) (rest : List ℕ) → StandThree name.now bytes.now a b c rest → ⊥) }
 {
-    let (phase, core, behind) = two_numbers(bytes, b"grant ", b"", b' ')?;
-    let (lock, rest) = field(behind, b"", 0, u32::MAX, b'\n')?;
-    let grant = Grant {
-        phase: PhaseId(phase),
-        core: CoreId(core),
-        lock: LockId(lock),
-    };
-    Some((grant, rest))
+    let (one, two, behind) = two_numbers(bytes, name, b"", b' ')?;
+    let (three, rest) = field(behind, b"", 0, u32::MAX, b'\n')?;
+    Some((one, two, three, rest))
 }

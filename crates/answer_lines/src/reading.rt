@@ -1,12 +1,62 @@
 //! A line of an answer in front of some bytes.
 ghost use Rattle.std.specs.Prelude.{IfSome, IfNone};
+ghost use Rattle.run_report.specs.Grants.{grant_line};
 ghost use Rattle.document_parts.specs.Field.{Stands, NoneStands};
-ghost use Rattle.answer_lines.specs.Lines.{IsAnswerLine, answer_line};
+ghost use Rattle.answer_lines.specs.Lines.{HasGrantNumbers, IsAnswerLine, IsOtherLine, answer_line};
 
 use crate::line::AnswerLine;
-use crate::numbers::grant;
+use crate::long::ticks;
+use crate::numbers::three_numbers;
+use crate::programs::{fixed, sum, unbounded};
 use crate::tasks::task;
+use crate::timing::link;
 use crate::words::{count, outcome, word};
+use dn_base::{CoreId, Grant, LockId, PhaseId};
+
+/// The grant whose line stands in front of some bytes, and what stands behind it.
+fn grant(bytes: &[u8]) -> Option<(Grant, &[u8])>
+    ensures some { IfSome result (λ f. Stands HasGrantNumbers grant_line bytes.now f.0 f.1.now) }
+    ensures none { IfNone result (NoneStands HasGrantNumbers grant_line bytes.now) }
+{
+    let (phase, core, lock, rest) = three_numbers(bytes, b"grant ")?;
+    let grant = Grant {
+        phase: PhaseId(phase),
+        core: CoreId(core),
+        lock: LockId(lock),
+    };
+    Some((grant, rest))
+}
+
+/// The line on a program, a sum, a time or a refusal that stands in front of some bytes, and what stands behind it.
+fn read_other(bytes: &[u8]) -> Option<(AnswerLine, &[u8])>
+    ensures some { IfSome result (λ f. Stands IsAnswerLine answer_line bytes.now f.0 f.1.now) }
+    ensures none { IfNone result (NoneStands IsOtherLine answer_line bytes.now) }
+{
+    if let Some((phases, tasks, words, rest)) = three_numbers(bytes, b"checked ") {
+        return Some((
+            AnswerLine::Checked {
+                phases,
+                tasks,
+                words,
+            },
+            rest,
+        ));
+    }
+    if let Some((phase, core, pc, rest)) = unbounded(bytes) {
+        return Some((AnswerLine::Unbounded { phase, core, pc }, rest));
+    }
+    if let Some((value, rest)) = sum(bytes) {
+        return Some((AnswerLine::Sum { value }, rest));
+    }
+    if let Some((ticks, rest)) = ticks(bytes, b"time ") {
+        return Some((AnswerLine::Time { ticks }, rest));
+    }
+    if let Some((link, rest)) = link(bytes) {
+        return Some((AnswerLine::Link(link), rest));
+    }
+    let (line, rest) = fixed(bytes)?;
+    Some((AnswerLine::Fixed(line), rest))
+}
 
 /// The line of an answer that stands in front of some bytes, and what stands behind it; None where no such line stands there.
 pub fn read_line(bytes: &[u8]) -> Option<(AnswerLine, &[u8])>
@@ -25,6 +75,8 @@ pub fn read_line(bytes: &[u8]) -> Option<(AnswerLine, &[u8])>
     if let Some((grant, rest)) = grant(bytes) {
         return Some((AnswerLine::Grant(grant), rest));
     }
-    let (of, number, rest) = count(bytes)?;
-    Some((AnswerLine::Count { of, number }, rest))
+    if let Some((of, number, rest)) = count(bytes) {
+        return Some((AnswerLine::Count { of, number }, rest));
+    }
+    read_other(bytes)
 }

@@ -95,11 +95,16 @@ fn count_front(count: Count) -> &'static [u8]
         Count::Kind(EventKind::Arrived) => b"count arrived ",
         Count::Kind(EventKind::Go) => b"count go ",
         Count::Kind(EventKind::Halt) => b"count halt ",
+        Count::Tasks => b"tasks ",
+        Count::Retired => b"retired ",
+        Count::Links => b"chain ",
+        Count::WholeEvents => b"refused trace event ",
+        Count::EnabledEvents => b"refused trace not-enabled ",
     }
 }
 
 #[tactic(auto, unfolding(crate::specs::Lines::all_counts))]
-fn all_counts() -> [Count; 19]
+fn all_counts() -> [Count; 24]
     ensures { result ≡ all_counts }
 {
     [
@@ -122,6 +127,11 @@ fn all_counts() -> [Count; 19]
         Count::Kind(EventKind::Arrived),
         Count::Kind(EventKind::Go),
         Count::Kind(EventKind::Halt),
+        Count::Tasks,
+        Count::Retired,
+        Count::Links,
+        Count::WholeEvents,
+        Count::EnabledEvents,
     ]
 }
 

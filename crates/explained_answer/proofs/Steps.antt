@@ -14,7 +14,11 @@ use Rattle.run_report.specs.Run.{event_word, counted_line}
 use Rattle.answer_lines.specs.declared.line.AnswerLine as line
 use Rattle.answer_lines.specs.declared.line.AnswerLine.{AnswerLine}
 use Rattle.answer_lines.specs.declared.line.Count as count
-use Rattle.answer_lines.specs.Lines.{IsAnswerLine, answer_line, address_line}
+use Rattle.run_report.specs.Summary.{count_line}
+use Rattle.run_report.specs.Refusal.{refusal_of}
+use Rattle.answer_lines.specs.declared.line.FixedLine as fixed
+use Rattle.answer_lines.specs.Parts.{three_line}
+use Rattle.answer_lines.specs.Lines.{IsAnswerLine, answer_line, address_line, link_line, sum_line, unbounded_line}
 use Rattle.answer_lines.proofs.Forms.{word-is}
 use Rattle.explained_answer.specs.Lines.{IsLineOf, explained_line, AreLinesExplained}
 
@@ -36,7 +40,7 @@ unfolding address_line
 word-some a v = behind-line (codes "word " ++ hexadecimal a ++ space ++ hexadecimal v)
 
 pub line-some : (x : AnswerLine) → IsAnswerLine x → 0 < length (answer_line x)
-unfolding outcome_line task_line words_line counted_line grant_line
+unfolding outcome_line task_line words_line counted_line count_line grant_line sum_line link_line three_line unbounded_line refusal_of
 line-some (line.TheVariants.Outcome o) fits = behind-line (codes "outcome " ++ outcome_word o)
 line-some (line.TheVariants.Task t) fits =
     behind-line (codes "task " ++ decimal t.phase.0 ++ space ++ decimal t.core.0 ++ space ++ end_text t.end ++ codes " retired " ++ decimal t.retired)
@@ -45,6 +49,22 @@ line-some (line.TheVariants.Grant g) fits = behind-line (codes "grant " ++ decim
 line-some (line.TheVariants.Count count.TheVariants.Words n) fits = behind-line (codes "words " ++ decimal n)
 line-some (line.TheVariants.Count count.TheVariants.Events n) fits = behind-line (codes "count " ++ codes "events" ++ space ++ decimal n)
 line-some (line.TheVariants.Count (count.TheVariants.Kind k) n) fits = behind-line (codes "count " ++ event_word k ++ space ++ decimal n)
+line-some (line.TheVariants.Count count.TheVariants.Tasks n) fits = behind-line (codes "tasks " ++ decimal n)
+line-some (line.TheVariants.Count count.TheVariants.Retired n) fits = behind-line (codes "retired " ++ decimal n)
+line-some (line.TheVariants.Count count.TheVariants.Links n) fits = behind-line (codes "chain " ++ decimal n)
+line-some (line.TheVariants.Count count.TheVariants.WholeEvents n) fits = behind-line (codes "refused trace event " ++ decimal n)
+line-some (line.TheVariants.Count count.TheVariants.EnabledEvents n) fits = behind-line (codes "refused trace not-enabled " ++ decimal n)
+line-some (line.TheVariants.Sum v) fits = behind-line (codes "sum " ++ hexadecimal v)
+line-some (line.TheVariants.Time t) fits = behind-line (codes "time " ++ decimal t)
+line-some (line.TheVariants.Link l) fits = behind-line (codes "link " ++ decimal l.event ++ space ++ event_word l.kind ++ space ++ decimal l.finish)
+line-some (line.TheVariants.Checked a b c) fits = behind-line (codes "checked " ++ decimal a ++ space ++ decimal b ++ space ++ decimal c)
+line-some (line.TheVariants.Unbounded p c a) fits = behind-line (codes "unbounded " ++ decimal p ++ space ++ decimal c ++ space ++ hexadecimal a)
+line-some (line.TheVariants.Fixed fixed.TheVariants.Inside) fits = behind-line (codes "proved inside")
+line-some (line.TheVariants.Fixed fixed.TheVariants.Usage) fits = behind-line (codes "refused usage")
+line-some (line.TheVariants.Fixed fixed.TheVariants.TooLarge) fits = behind-line (codes "refused trace too-large")
+line-some (line.TheVariants.Fixed fixed.TheVariants.Head) fits = behind-line (codes "refused trace head")
+line-some (line.TheVariants.Fixed fixed.TheVariants.Rest) fits = behind-line (codes "refused trace rest")
+line-some (line.TheVariants.Fixed fixed.TheVariants.Incomplete) fits = behind-line (codes "refused trace incomplete")
 
 -- no line so far
 pub none-yet : (text : List ℕ) (l : Located) (bytes before : List ℕ) → AreLinesExplained text l bytes bytes 0 before before

@@ -81,7 +81,7 @@ fn explained_program(
 
 /// Repeats an answer to a text line by line, and says behind each line that speaks of a place of the text what that is.
 ///
-/// The answer is what `denovo` printed for the text in the mode run, flat or replay, or the line with which it refused the text. Of an
+/// The answer is what `denovo` printed for the text in any mode but list and trace, or the line with which it refused the text. Of an
 /// answer that isn't the text's, the first line that can't be one of it is told.
 ///
 /// # Errors

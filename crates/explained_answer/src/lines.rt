@@ -1,15 +1,21 @@
 //! The lines of the answer of a run.
-ghost use Rattle.std.specs.Prelude.{◌≡◌, ◌++◌, OnOk, IfOk, IfSome, IfNone, MatchOption};
+ghost use Rattle.std.specs.Prelude.{◌≡◌, ◌==◌, ◌++◌, length, OnOk, IfOk, IfSome, IfNone, MatchOption};
 ghost use Rattle.document_parts.specs.Field.{Stands};
 ghost use Rattle.answer_lines.specs.Lines.{answer_line};
-ghost use Rattle.explained_answer.specs.Lines.{named_word, named_lock, sentences_behind, explained_line, has_task, has_named_lock, count_is_of, fits_program, IsLineOf, NoLineOf, AreAllLinesExplained, IsRefusedAt};
+ghost use Rattle.region_table.specs.Program.{tasks_of};
+ghost use Rattle.ending_sentences.specs.Sentences.{code_place_at};
+ghost use Rattle.explained_answer.specs.Lines.{named_word, named_lock, which_line, declared_there, task_there, the_instruction, stands_there, instruction_there, unproven_text, is_size_of, sentences_behind, explained_line, has_task, has_named_lock, count_is_of, fits_program, IsLineOf, NoLineOf, AreAllLinesExplained, IsRefusedAt};
 
 use answer_lines::{AnswerLine, Count, read_line};
 use dn_base::Memory;
 use ending_sentences::push_ending;
-use place_texts::{push_lock, push_word};
-use text_pieces::push;
-use text_places::Located;
+use place_texts::{push_code_place, push_lock, push_quoted_line, push_word};
+use region_table::{Phase, Program};
+use text_pieces::{push, push_decimal};
+use text_places::{CodePlace, Located, Places, TaskPlace};
+
+/// The address of code word 0.
+const FIRST_CODE_ADDRESS: u32 = 0x1000;
 
 #[tactic(auto, unfolding(crate::specs::Lines::named_word))]
 fn push_named_word(out: &mut Vec<u8>, located: &Located, word: u32) -> Result<(), Memory>
@@ -29,6 +35,95 @@ fn push_named_lock(out: &mut Vec<u8>, located: &Located, lock: u32) -> Result<()
     push(out, b"\n")
 }
 
+#[tactic(auto, unfolding(crate::specs::Lines::which_line))]
+fn push_which_line(out: &mut Vec<u8>) -> Result<(), Memory>
+    ensures { OnOk result (out.new.items ≡ out.old.items ++ which_line) }
+{
+    push(out, b" of the task that line ")
+}
+
+/// Adds the line that declares a task.
+#[tactic(auto, unfolding(crate::specs::Lines::declared_there))]
+fn push_declared_there(out: &mut Vec<u8>, line: u32) -> Result<(), Memory>
+    ensures { OnOk result (out.new.items ≡ out.old.items ++ declared_there line) }
+{
+    push_which_line(out)?;
+    push_decimal(out, line)?;
+    push(out, b" declares")
+}
+
+fn push_task_there(out: &mut Vec<u8>, task: Option<TaskPlace>) -> Result<(), Memory>
+    ensures { OnOk result (out.new.items ≡ out.old.items ++ task_there task) }
+{
+    match task {
+        Some(place) => push_declared_there(out, place.line),
+        None => Ok(()),
+    }
+}
+
+#[tactic(auto, unfolding(crate::specs::Lines::the_instruction))]
+fn push_the_instruction(out: &mut Vec<u8>) -> Result<(), Memory>
+    ensures { OnOk result (out.new.items ≡ out.old.items ++ the_instruction) }
+{
+    push(out, b"  This is the instruction")
+}
+
+#[tactic(auto, unfolding(crate::specs::Lines::stands_there))]
+fn push_stands_there(out: &mut Vec<u8>, text: &[u8], place: CodePlace) -> Result<(), Memory>
+    ensures { OnOk result (out.new.items ≡ out.old.items ++ stands_there text.now place) }
+{
+    push(out, b" at ")?;
+    push_code_place(out, place)?;
+    push(out, b":\n  ")?;
+    push_quoted_line(out, text, place.line)
+}
+
+/// Adds where an instruction of a task stands.
+fn push_instruction_there(
+    out: &mut Vec<u8>,
+    text: &[u8],
+    task: Option<TaskPlace>,
+    place: CodePlace,
+) -> Result<(), Memory>
+    ensures { OnOk result (out.new.items ≡ out.old.items ++ instruction_there text.now task place) }
+{
+    push_the_instruction(out)?;
+    push_task_there(out, task)?;
+    push_stands_there(out, text, place)
+}
+
+/// The place of the code word at an address, if there is one.
+fn code_place_at(places: &Places, address: u32) -> Option<CodePlace>
+    ensures { result ≡ code_place_at places.now address }
+{
+    if FIRST_CODE_ADDRESS <= address && address % 4 == 0 {
+        places.code_word(((address - FIRST_CODE_ADDRESS) / 4) as usize)
+    } else {
+        None
+    }
+}
+
+/// Adds where the instruction stands that the prover names.
+fn push_unproven(
+    out: &mut Vec<u8>,
+    text: &[u8],
+    places: &Places,
+    task: (u32, u32),
+    pc: u32,
+) -> Result<(), Memory>
+    ensures { OnOk result (out.new.items ≡ out.old.items ++ unproven_text text.now places.now task.0 task.1 pc) }
+{
+    match code_place_at(places, pc) {
+        Some(place) => push_instruction_there(
+            out,
+            text,
+            places.task(task.0 as usize, task.1),
+            place,
+        ),
+        None => Ok(()),
+    }
+}
+
 /// Adds what is said behind a line of an answer.
 fn push_sentences(
     out: &mut Vec<u8>,
@@ -43,7 +138,19 @@ fn push_sentences(
         AnswerLine::Task(task) => push_ending(out, text, located, task),
         AnswerLine::Word { word, value: _ } => push_named_word(out, located, word),
         AnswerLine::Grant(grant) => push_named_lock(out, located, grant.lock.0),
-        AnswerLine::Count { of: _, number: _ } => Ok(()),
+        AnswerLine::Unbounded { phase, core, pc } => push_unproven(
+            out,
+            text,
+            &located.places,
+            (phase, core),
+            pc,
+        ),
+        AnswerLine::Count { .. }
+        | AnswerLine::Sum { .. }
+        | AnswerLine::Time { .. }
+        | AnswerLine::Link(_)
+        | AnswerLine::Checked { .. }
+        | AnswerLine::Fixed(_) => Ok(()),
     }
 }
 
@@ -60,13 +167,42 @@ fn has_named_lock(located: &Located, lock: u32) -> bool
     (lock as usize) < located.program.locks.len()
 }
 
+/// Whether some phases have so many tasks in all.
+fn has_tasks(phases: &[Phase], tasks: usize) -> bool
+    ensures { result ≡ (length (tasks_of phases.now) == tasks) }
+{
+    let mut others = tasks;
+    for phase in phases {
+        let here = phase.tasks.len();
+        if here > others {
+            return false;
+        }
+        others -= here;
+    }
+    others == 0
+}
+
+/// Whether the program has so many phases, tasks and data words.
+fn is_size_of(program: &Program, phases: u32, tasks: u32, words: u32) -> bool
+    ensures { result ≡ is_size_of program.now phases tasks words }
+{
+    phases as usize == program.phases.len()
+        && has_tasks(program.phases.as_slice(), tasks as usize)
+        && words as usize == program.memory.len()
+}
+
 fn count_is_of(located: &Located, of: Count, number: u32) -> bool
     ensures { result ≡ count_is_of located.now of number }
 {
     match of {
         Count::Words => number as usize == located.program.memory.len(),
-        Count::Events => true,
-        Count::Kind(_) => true,
+        Count::Events
+        | Count::Kind(_)
+        | Count::Tasks
+        | Count::Retired
+        | Count::Links
+        | Count::WholeEvents
+        | Count::EnabledEvents => true,
     }
 }
 
@@ -82,6 +218,18 @@ fn fits_program(located: &Located, line: AnswerLine) -> bool
             has_task(located, grant.phase.0, grant.core.0) && has_named_lock(located, grant.lock.0)
         }
         AnswerLine::Count { of, number } => count_is_of(located, of, number),
+        AnswerLine::Checked {
+            phases,
+            tasks,
+            words,
+        } => is_size_of(&located.program, phases, tasks, words),
+        AnswerLine::Unbounded { phase, core, pc } => {
+            has_task(located, phase, core) && code_place_at(&located.places, pc).is_some()
+        }
+        AnswerLine::Sum { .. }
+        | AnswerLine::Time { .. }
+        | AnswerLine::Link(_)
+        | AnswerLine::Fixed(_) => true,
     }
 }
 
