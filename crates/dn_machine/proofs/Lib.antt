@@ -4,6 +4,7 @@ mod OwnRow
 mod Listed
 mod CoreEvents
 mod MailEvents
+mod TriedLemmas
 pub mod LeftLemmas
 mod KeptLemmas
 mod Opened

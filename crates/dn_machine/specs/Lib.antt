@@ -7,6 +7,7 @@ pub mod Run
 pub mod Ends
 pub mod Log
 pub mod Actors
+pub mod Tried
 pub mod Parts
 pub mod Plans
 pub mod Settings

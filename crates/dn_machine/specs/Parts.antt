@@ -1,6 +1,7 @@
 -- The parts of a machine.
 pub use Rattle.machine_rules.specs.Reordered.{IsReordered}
-use Rattle.dn_machine.specs.Kept.{Made}
+use Rattle.rv_core.specs.Decoded.{IsDecoded}
+use Rattle.dn_machine.specs.Kept.{Made, IsLeftByRun}
 use Rattle.dn_machine.specs.declared.parts.MachineParts.{MachineParts}
 
 -- the state that the parts of a machine make up, and how many events have led to it
@@ -9,7 +10,7 @@ made_in p =
     record {
       state =
           record {
-            setting = record { program = p.decoded; plans = p.plans.items; shape = p.shape; fuel = p.fuel };
+            setting = record { program = p.checked; plans = p.plans.items; shape = p.shape; fuel = p.fuel };
             nodes = p.nodes.items;
             banks = p.banks.items;
             keeper = p.keeper;
@@ -18,3 +19,7 @@ made_in p =
           };
       made = p.made;
     }
+
+-- the parts are those of a machine that a run leaves, with the code words of its program decoded
+abbrev pub AreLeftByRun : MachineParts → Type 0
+AreLeftByRun p = IsLeftByRun (made_in p).state p.made × IsDecoded p.checked p.code

@@ -18,9 +18,11 @@ mod parts;
 mod picking;
 mod places;
 mod posting;
+mod reading;
 mod record;
 mod running;
 mod starting;
+mod trying;
 mod words;
 
 pub use draws::draw;

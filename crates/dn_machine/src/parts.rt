@@ -4,25 +4,28 @@ ghost use Rattle.registration_protocol.specs.Node.{Setting};
 ghost use Rattle.machine_rules.specs.State.{State, initial_state};
 ghost use Rattle.machine_rules.specs.Runs.{after, IsRun};
 ghost use Rattle.machine_rules.specs.Sound.{IsReady};
+ghost use Rattle.rv_core.specs.Decoded.{IsDecoded};
 ghost use Rattle.dn_machine.specs.Kept.{IsKept, IsLeftByRun};
-ghost use Rattle.dn_machine.specs.Parts.{made_in, IsReordered};
+ghost use Rattle.dn_machine.specs.Parts.{made_in, AreLeftByRun, IsReordered};
 
 use crate::content::Content;
 use crate::machine::{Machine, context_of};
 use crate::starting::own_events;
 use dn_base::{Sequence, Shape};
+use effect_checker::Checked;
 use message_net::Pool;
 use phase_barrier::Keeper;
 use region_table::PhasePlan;
 use registration_protocol::Node;
 use registry_bank::Bank;
-use rv_core::DecodedProgram;
+use rv_core::{DecodedCode, DecodedProgram};
 
 /// The parts of a machine, for whoever lets its actors work side by side: nodes and banks stand in the order of their numbers,
-/// and `next` has the number of each actor's next mail, of cores, then banks, then the keeper.
+/// and `next` has the number of each actor's next mail, of cores, then banks, then the keeper. `code` is the program's code words,
+/// decoded.
 #[derive(Drop)]
 pub struct MachineParts {
-    pub decoded: DecodedProgram,
+    pub checked: Checked,
     pub plans: Vec<PhasePlan>,
     pub shape: Shape,
     pub fuel: u32,
@@ -32,6 +35,7 @@ pub struct MachineParts {
     pub pool: Pool,
     pub next: Vec<u32>,
     pub made: u64,
+    pub code: DecodedCode,
 }
 
 impl Machine {
@@ -39,6 +43,7 @@ impl Machine {
     pub fn split(self) -> MachineParts
         ensures parts { made_in result ≡ self }
         ensures kept { IsKept (made_in result).state result.made }
+        ensures code { IsDecoded result.checked result.code }
     {
         let Machine {
             decoded,
@@ -56,8 +61,9 @@ impl Machine {
             numbers,
             own: _,
         } = content;
+        let (program, code) = decoded.into_parts();
         MachineParts {
-            decoded,
+            checked: Checked::of_program(program),
             plans,
             shape,
             fuel,
@@ -67,17 +73,19 @@ impl Machine {
             pool,
             next: numbers.into_vec(),
             made,
+            code,
         }
     }
 
     /// The machine of these parts. They are what a run of `made` events leaves of the initial machine of a checked program, with
-    /// their mails in any order: `what_a_run_leaves_is_kept` says what follows of that. Takes no memory.
+    /// their mails in any order, and the program's code words decoded: `what_a_run_leaves_is_kept` says what follows of that. Takes
+    /// no memory.
     pub fn join(parts: MachineParts) -> Machine
-        requires { IsLeftByRun (made_in parts).state parts.made }
+        requires { AreLeftByRun parts }
         ensures { result ≡ made_in parts }
     {
         let MachineParts {
-            decoded,
+            checked,
             plans,
             shape,
             fuel,
@@ -87,7 +95,9 @@ impl Machine {
             pool,
             next,
             made,
+            code,
         } = parts;
+        let decoded = DecodedProgram::of_parts(checked.into_program(), code);
         let context = context_of(&decoded, &plans, shape, fuel);
         let own = own_events(nodes.as_slice(), &context);
         let content = Content {
