@@ -1,3 +1,4 @@
+pub mod Advance
 pub mod Document
 pub mod Faults
 pub mod Lines

@@ -1,10 +1,10 @@
-ghost use Rattle.std.specs.Prelude.{◌≡◌, ◌+◌, ◌<◌, ◌≤◌, true, Some, length, IfOk, OnOk};
+ghost use Rattle.std.specs.Prelude.{◌≡◌, ◌<◌, ◌≤◌, Some, length, IfOk};
 ghost use Rattle.machine_rules.specs.State.{initial_state};
-ghost use Rattle.machine_rules.specs.Next.{enabled};
 ghost use Rattle.dn_machine.specs.Kept.{IsKept};
-ghost use Rattle.dn_machine.specs.Log.{core_of, end_there, HasCome};
+ghost use Rattle.dn_machine.specs.Log.{core_of, end_there};
 ghost use Rattle.dn_machine.specs.Sizes.{FitsMachine};
 ghost use Rattle.run_replay.specs.Replay.{IsTrueOf, IsReplayOf, IsReplayOutcome};
+ghost use Rattle.run_replay.specs.Advance.{HasAdvanced};
 
 use dn_base::{Grant, Memory, Sequence, Shape};
 use dn_machine::{Happened, Log, Machine, a_machine_is_kept};
@@ -43,28 +43,25 @@ fn task_end(machine: &Machine, actor: Actor) -> Option<TaskEnd>
     }
 }
 
-/// Makes an event, which may come.
+/// Makes an event, where it may come; None where it may not.
 ///
 /// # Errors
 /// `Memory` where there is no room for the mails.
-fn advance(machine: &mut Machine, event: Event) -> Result<Happened, Memory>
-    requires may { enabled machine.old.state event ≡ true }
-    requires made { machine.old.made < 4000000000 }
-    ensures event { IfOk result (λ h. h.event ≡ event) }
-    ensures came { IfOk result (HasCome machine.old.state machine.new.state) }
-    ensures made { OnOk result (machine.new.made ≡ machine.old.made + 1) }
-    ensures kept { OnOk result (IsKept machine.new.state machine.new.made) }
+fn advance(machine: &mut Machine, event: Event) -> Result<Option<Happened>, Memory>
+    requires { machine.old.made < 4000000000 }
+    ensures { IfOk result (HasAdvanced machine.old machine.new event) }
 {
-    let actor = machine.actor(&event);
-    let observed = machine.step(event)?;
-    // for the proof alone: the machine is sound and coherent after the event too, which is the clause kept
+    let Some((actor, observed)) = machine.try_step(event)? else {
+        return Ok(None);
+    };
+    // for the proof alone: the machine is sound and coherent after the event too, which is a part of the clause
     a_machine_is_kept(machine);
     let end = task_end(machine, actor);
-    Ok(Happened {
+    Ok(Some(Happened {
         event,
         observed,
         end,
-    })
+    }))
 }
 
 /// What the events so far come to, where all of them came: a complete run, or none yet.
@@ -101,10 +98,9 @@ fn follow_on(alloc: Global, machine: &mut Machine, events: &[Event]) -> Result<R
     let mut log = machine.log(alloc)?;
     let mut number: u32 = 0;
     for event in events {
-        if !machine.enabled(event) {
+        let Some(happened) = advance(machine, *event)? else {
             return Ok(Replayed::NotEnabled { number });
-        }
-        let happened = advance(machine, *event)?;
+        };
         log.note(happened)?;
         number += 1;
     }
@@ -128,7 +124,7 @@ fn follow(alloc: Global, mut machine: Machine, events: &[Event]) -> Result<Repla
 /// may come in its turn and then another one. A complete run ends as the flat machine's run by its grants.
 ///
 /// The shape has the cores that the program needs, 1 to 16 banks, 1 to 256 sets and 1 to 16 ways, a task may retire `fuel`
-/// instructions, 1 to 32,768, and there are at most 25,169,664 events. The handling of a mail looks for it among
+/// instructions, 1 to 32,768, and there are at most 25,169,664 events. The handling of a mail looks for it once among
 /// those in flight, by its id.
 ///
 /// # Errors
