@@ -55,6 +55,16 @@ impl Content {
         self.pool.reserve(more)
     }
 
+    /// Makes room for so many more mails, and has each mail found by its id in constant time from now on.
+    pub(crate) fn reserve_by_id(&mut self, more: u32) -> Result<(), Memory>
+        ensures state { (C : Setting) → state_of C self.new ≡ state_of C self.old }
+        ensures own { self.new.own ≡ self.old.own }
+        ensures spare { OnOk result (more ≤ self.new.pool.spare) }
+    {
+        self.pool.reserve(more)?;
+        self.pool.keep_places()
+    }
+
     /// Whether an event may come.
     #[tactic(auto, unfolding(machine_rules::specs::Next::enabled))]
     pub(crate) fn enabled(&self, context: &Context<'_>, event: &Event) -> bool

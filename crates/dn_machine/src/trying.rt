@@ -75,8 +75,8 @@ impl Content {
 
 impl Machine {
     /// Makes an event, where it may come, and tells the actor that made it and what it tells; None exactly where it may not come,
-    /// and the machine is then as before. There are fewer than 4,000,000,000 events before it. A mail that is handled is looked for
-    /// once, which `enabled`, `actor` and `step` do each.
+    /// and the machine is then as before. There are fewer than 4,000,000,000 events before it. A mail that is handled is found in
+    /// constant time, however many mails are in flight.
     ///
     /// # Errors
     /// `Memory` where there is no room for the mails; the machine is then as before.
@@ -87,7 +87,7 @@ impl Machine {
         ensures none { result ≡ Ok None → self.new ≡ self.old }
         ensures err { OnErr result (self.new ≡ self.old) }
     {
-        self.content.reserve(self.shape.cores)?;
+        self.content.reserve_by_id(self.shape.cores)?;
         let context = context_of(&self.decoded, &self.plans, self.shape, self.fuel);
         let came = self.content.try_event(&context, event);
         if came.is_some() {
