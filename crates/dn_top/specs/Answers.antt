@@ -6,30 +6,25 @@ use Rattle.dn_base.specs.declared.status.Status as status
 use Rattle.dn_base.specs.declared.status.Outcome.{Outcome}
 use Rattle.dn_base.specs.Status.{status_of}
 use Rattle.region_table.specs.Program.{ProgramParts}
-use Rattle.rv_assembler.specs.declared.fault.SourceFault.{SourceFault}
 use Rattle.rv_assembler.specs.Source.{source}
 use Rattle.rv_listing.specs.Law.{FitsSourceLimits}
 use Rattle.rv_listing.specs.Listing.{listed_lines, listing_of}
-use Rattle.effect_checker.specs.declared.fault.CheckFault.{CheckFault}
-use Rattle.effect_checker.specs.Checked.{IsChecked}
-use Rattle.effect_checker.specs.Faults.{IsLeastFault}
 use Rattle.effect_prover.specs.declared.proved.Proved.{Proved}
 use Rattle.effect_prover.specs.declared.proved.Proved.TheVariants.{Inside}
 use Rattle.effect_prover.specs.Answer.{IsProversAnswer, RunsInside, proved_text}
 use Rattle.flat_machine.specs.declared.ending.FlatEnd.{FlatEnd}
 use Rattle.flat_machine.specs.Grants.{IsLeast}
 use Rattle.flat_machine.specs.Ending.{flat_end}
-use Rattle.run_report.specs.declared.refusal.Refusal as refusal
 use Rattle.run_report.specs.Answer.{answer_of}
 use Rattle.run_report.specs.Grants.{grant_lines}
-use Rattle.run_report.specs.Refusal.{refusal_of}
 use Rattle.run_report.specs.Summary.{checked_of}
+use Rattle.front_end.specs.declared.programs.Stop.{Stop}
+use Rattle.front_end.specs.declared.programs.Stop as stop
+use Rattle.front_end.specs.Texts.{HasProgram, HasChecked, IsNoProgram, IsUnfit}
 use Rattle.command_words.specs.declared.options.Mode.{Mode}
 use Rattle.command_words.specs.declared.options.Mode as mode
 use Rattle.command_words.specs.declared.options.Options.{Options}
 use Rattle.dn_top.specs.declared.output.Output.{Output}
-use Rattle.front_end.specs.declared.programs.Stop.{Stop}
-use Rattle.front_end.specs.declared.programs.Stop as stop
 use Rattle.dn_machine.specs.declared.record.RunRecord.{RunRecord}
 use Rattle.dn_top.specs.Causes.{IsCaused}
 use Rattle.dn_top.specs.Runs.{IsAnyRunFor, IsRunFor, IsMachineRun, IsTimedRun, reported, summed_up}
