@@ -1,5 +1,5 @@
 -- How events are replayed: those so far are a run that leads to the machine's state, and they are noted.
-use Rattle.std.proofs.Common.{◌≡◌, ℕ, ◌+◌, ◌<◌, ◌≤◌, true, false, List, [], ◌∷◌, ◌++◌, length, take, drop, get_or, Some, Result, Ok, Err, IfOk, refl, sym, ap, subst, ◌∙◌, arith, length-append}
+use Rattle.std.proofs.Common.{◌≡◌, ℕ, ◌+◌, ◌<◌, ◌≤◌, true, false, List, [], ◌∷◌, ◌++◌, length, take, drop, get_or, Option, Some, None, Result, Ok, Err, IfOk, refl, sym, ap, subst, ◌∙◌, arith, length-append}
 use Rattle.std.proofs.lemmas.List.{take-append-drop, take_more, take_all, drop_more, length-take-le}
 use Rattle.std.proofs.lemmas.Bool.{true≢false}
 use Rattle.region_table.specs.Program.{ProgramParts}
@@ -34,11 +34,22 @@ use Rattle.dn_machine.proofs.RunLemmas.{in-place, ready-of, ending-true, complet
 use Rattle.dn_machine.proofs.ScheduleLaws.{after-more}
 use Rattle.run_replay.specs.declared.replaying.Replayed.{Replayed}
 use Rattle.run_replay.specs.declared.replaying.Replayed.TheVariants.{Complete, NotEnabled, Incomplete}
+use Rattle.run_replay.specs.Advance.{HasAdvanced, IsAdvanceBy}
 use Rattle.run_replay.specs.Replay.{IsRunWith, IsFirstNotEnabled, IsTrueOf, IsReplayOutcome, IsReplayOf}
 
 -- the core that an event changes is the actor that makes it, where that is a core
 pub core-in : (S : State) (e : Event) (a : Actor) → actor_in S e ≡ Some a → core_in S e ≡ core_of (Some a)
 core-in S e a is = ap core_of is
+
+-- ---- one event
+
+-- what is known of an event that came, and of one that didn't
+pub advanced-some : (before after : Made) (e : Event) (came : Option Happened) (h : Happened) → came ≡ Some h → HasAdvanced before after e came → IsAdvanceBy before after e h
+advanced-some before after e came h is advanced = subst (HasAdvanced before after e) is advanced
+
+pub advanced-none : (before after : Made) (e : Event) (came : Option Happened) → ((h : Happened) → came ≡ Some h → ⊥) → HasAdvanced before after e came → enabled before.state e ≡ false
+advanced-none before after e None none advanced = advanced
+advanced-none before after e (Some h) none advanced = absurd (none h refl)
 
 -- ---- runs
 

@@ -98,7 +98,8 @@ fn follow_on(alloc: Global, machine: &mut Machine, events: &[Event]) -> Result<R
     let mut log = machine.log(alloc)?;
     let mut number: u32 = 0;
     for event in events {
-        let Some(happened) = advance(machine, *event)? else {
+        let came = advance(machine, *event)?;
+        let Some(happened) = came else {
             return Ok(Replayed::NotEnabled { number });
         };
         log.note(happened)?;
@@ -124,8 +125,8 @@ fn follow(alloc: Global, mut machine: Machine, events: &[Event]) -> Result<Repla
 /// may come in its turn and then another one. A complete run ends as the flat machine's run by its grants.
 ///
 /// The shape has the cores that the program needs, 1 to 16 banks, 1 to 256 sets and 1 to 16 ways, a task may retire `fuel`
-/// instructions, 1 to 32,768, and there are at most 25,169,664 events. The handling of a mail looks for it once among
-/// those in flight, by its id.
+/// instructions, 1 to 32,768, and there are at most 25,169,664 events. The mail that is handled is found by its id in
+/// constant time, however many are in flight.
 ///
 /// # Errors
 /// `Memory` where there is no room for the machine, its mails or what is noted of the events.
