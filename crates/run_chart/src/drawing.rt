@@ -1,5 +1,6 @@
 ghost use Rattle.std.specs.Prelude.{◌≡◌, ◌+◌, ◌*◌, ◌<◌, ◌≤◌, true, length, IfOk};
 ghost use Rattle.machine_rules.specs.Next.{enabled, kind_in, next};
+ghost use Rattle.rv_core.specs.Decoded.{IsDecoded};
 ghost use Rattle.dn_machine.specs.Actors.{actor_in};
 ghost use Rattle.dn_machine.specs.Kept.{IsKept};
 ghost use Rattle.dn_machine.specs.Parts.{made_in};
@@ -67,6 +68,7 @@ fn make(machine: Machine, event: Event) -> Result<Came, Memory>
     ensures kind { IfOk result (λ came. came.kind ≡ kind_in machine.state event) }
     ensures parts { IfOk result (λ came. made_in came.parts ≡ moved machine event) }
     ensures kept { IfOk result (λ came. IsKept (made_in came.parts).state came.parts.made) }
+    ensures code { IfOk result (λ came. IsDecoded came.parts.checked came.parts.code) }
 {
     let mut machine = machine;
     let observed = machine.step(event)?;
@@ -98,6 +100,7 @@ fn make_row(
     ensures row { IfOk result (λ rowed. rowed.row ≡ row_by machine sent.now event number line on_chain) }
     ensures parts { IfOk result (λ rowed. made_in rowed.parts ≡ moved machine event) }
     ensures kept { IfOk result (λ rowed. IsKept (made_in rowed.parts).state rowed.parts.made) }
+    ensures code { IfOk result (λ rowed. IsDecoded rowed.parts.checked rowed.parts.code) }
     ensures most { IfOk result (λ rowed. length rowed.row.changes ≤ 65536) }
 {
     let actor = machine.actor(&event);

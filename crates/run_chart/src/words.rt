@@ -126,7 +126,7 @@ pub(crate) fn word_states(
     ensures states { IfOk result (λ states. states ≡ word_states (made_in parts.now).state actor) }
     ensures most { IfOk result (λ states. length states ≤ 65536) }
 {
-    states(alloc, parts, actor, words_of(parts.decoded.program()))
+    states(alloc, parts, actor, words_of(parts.checked.program()))
 }
 
 /// Whether a word's state is the same as before.

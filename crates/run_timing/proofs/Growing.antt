@@ -19,11 +19,11 @@ use Rattle.run_timing.specs.Noted.{AreRowsOf}
 use Rattle.run_timing.specs.Rows.{finish_in, later, with_timing_row, AreNoted}
 use Rattle.run_timing.specs.Ticks.{ticks_at}
 use Rattle.run_timing.specs.Ticks.{AreWithinLimits, ticks_of}
-use Rattle.run_timing.specs.Tracks.{last_at, noted_last, noted_senders, sender_in}
+use Rattle.run_timing.specs.Tracks.{last_at, senders_at, noted_last, noted_senders, sender_in}
 use Rattle.run_timing.proofs.Moves.{has, place}
-use Rattle.run_timing.proofs.OnRuns.{enabled-at, there-at}
+use Rattle.run_timing.proofs.OnRuns.{enabled-at, setting-at, there-at}
 use Rattle.run_timing.proofs.RowLemmas.{later-either}
-use Rattle.run_timing.proofs.Timed.{IsTimed, timed-none, own-choice, mail-choice, actor-here, timed-more}
+use Rattle.run_timing.proofs.Timed.{IsTimed, timed-none, own-choice, mail-choice, actor-here, number-so_far, timed-more}
 
 -- what the tables say of an event of the actor at a place, and what is noted so far, is within bounds
 pub record CanNote (shape : Shape) (last : List (Option ℕ)) (senders : List (List ℕ)) (rows : Rows) (e : Event) (at' : ℕ) : Type 0 where
@@ -63,6 +63,17 @@ can-note ticks C shape events n state made last senders rows e a at' same ready 
           sender = λ p mail. omega (arith, (mail-choice C events n last senders e p timed.tables timed.have here may mail).earlier, timed.noted.finishes);
           small = λ i below. omega (arith, timed.noted.small i (omega (arith, below, timed.noted.finishes)), below, timed.noted.finishes, within, few);
         }
+
+-- as many mails of an event's actor are noted as it has sent before the event
+pub mails-noted : (ticks : Ticks) (C : Setting) (shape : Shape) (events : List Event) (n : ℕ) (state : State) (made : ℕ) (last : List (Option ℕ)) (senders : List (List ℕ)) (rows : Rows) (e : Event) (a : Actor) (at' : ℕ)
+    → C.shape ≡ shape → IsReady C → IsRun (initial_state C) events → IsTimed ticks C events n state made last senders rows → slice_get events n ≡ Some e → actor_in state e ≡ Some a
+    → at' ≡ actor_index shape.cores shape.banks a → length (senders_at senders at') ≡ next_number state a
+mails-noted ticks C shape events n state made last senders rows e a at' same ready run timed here is stands =
+    let is-here : actor_in (state_at (initial_state C) events n) e ≡ Some a = subst (λ (X : State). actor_in X e ≡ Some a) timed.leads is in
+    let place-is : at' ≡ place C a = stands ∙ ap (λ (s : Shape). actor_index s.cores s.banks a) (sym same) in
+    ap (λ (k : ℕ). length (senders_at senders k)) place-is
+    ∙ (timed.tables.long a (there-at C events n e a ready run here is-here)
+    ∙ (sym (number-so_far C (state_at (initial_state C) events n) a (setting-at C events n)) ∙ ap (λ (X : State). next_number X a) (sym timed.leads)))
 
 pub run-more : (ticks : Ticks) (C : Setting) (shape : Shape) (events : List Event) (n : ℕ) (state new_state : State) (made new_made : ℕ) (last new_last : List (Option ℕ)) (senders new_senders : List (List ℕ)) (rows new_rows : Rows)
     (e : Event) (a : Actor) (at' count number : ℕ) (before : Option ℕ) (kind : EventKind) → C.shape ≡ shape → IsReady C → IsRun (initial_state C) events

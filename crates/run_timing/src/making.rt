@@ -1,38 +1,51 @@
-ghost use Rattle.std.specs.Prelude.{◌≡◌, ◌+◌, ◌<◌, ◌≤◌, true, IfOk, OnOk};
+ghost use Rattle.std.specs.Prelude.{◌≡◌, ◌+◌, ◌<◌, ◌≤◌, Some, true, length, IfOk, OnOk};
 ghost use Rattle.message_net.specs.Mail.{has_actor};
 ghost use Rattle.machine_rules.specs.Next.{enabled, kind_in, next, next_number};
+ghost use Rattle.dn_machine.specs.Actors.{actor_in};
+ghost use Rattle.run_timing.specs.Tracks.{senders_at};
 
+use crate::tracks::Tracks;
 use dn_base::Memory;
 use dn_machine::Machine;
 use message_net::{Actor, Event, EventKind};
 
-/// An event that came: its kind, and how many mails its actor sent.
+/// An event that came: the actor that made it, and its kind.
 #[derive(Clone, Copy, Debug)]
 pub(crate) struct Happened {
+    pub(crate) actor: Actor,
     pub(crate) kind: EventKind,
-    pub(crate) sent: u32,
 }
 
-/// Makes an event of an actor, which may come.
+/// Makes an event, which may come.
 ///
 /// # Errors
 /// `Memory` where there is no room for the mails.
-pub(crate) fn make(machine: &mut Machine, event: Event, actor: Actor) -> Result<Happened, Memory>
+pub(crate) fn make(machine: &mut Machine, event: Event) -> Result<Happened, Memory>
     requires may { enabled machine.old.state event ≡ true }
     requires made { machine.old.made < 4000000000 }
-    requires there { has_actor machine.old.state.setting.shape.cores machine.old.state.setting.shape.banks actor ≡ true }
-    requires still { (next machine.old.state event).setting ≡ machine.old.state.setting }
-    requires grows { next_number machine.old.state actor ≤ next_number (next machine.old.state event) actor }
     ensures state { OnOk result (machine.new.state ≡ next machine.old.state event) }
     ensures made { OnOk result (machine.new.made ≡ machine.old.made + 1) }
+    ensures actor { IfOk result (λ happened. actor_in machine.old.state event ≡ Some happened.actor) }
     ensures kind { IfOk result (λ happened. happened.kind ≡ kind_in machine.old.state event) }
-    ensures sent { IfOk result (λ happened. next_number machine.old.state actor + happened.sent ≡ next_number (next machine.old.state event) actor) }
 {
-    let first = machine.next_mail(actor);
-    let observed = machine.step(event)?;
-    let next = machine.next_mail(actor);
-    Ok(Happened {
-        kind: observed.kind,
-        sent: next - first,
-    })
+    match machine.try_step(event)? {
+        Some((actor, stepped)) => Ok(Happened {
+            actor,
+            kind: stepped.kind,
+        }),
+        None => unreachable!(),
+    }
+}
+
+/// How many mails the actor at a place has sent that are not noted yet.
+pub(crate) fn sent_since(machine: &Machine, tracks: &Tracks, actor: Actor, place: usize) -> u32
+    requires there { has_actor machine.now.state.setting.shape.cores machine.now.state.setting.shape.banks actor ≡ true }
+    requires grows { length (senders_at tracks.now.senders.items place) ≤ next_number machine.now.state actor }
+    ensures { length (senders_at tracks.now.senders.items place) + result ≡ next_number machine.now.state actor }
+{
+    let noted = match tracks.senders.as_slice().get(place) {
+        Some(row) => row.len(),
+        None => 0,
+    };
+    (machine.next_mail(actor) as usize - noted) as u32
 }

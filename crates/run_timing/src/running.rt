@@ -4,7 +4,7 @@ ghost use Rattle.machine_rules.specs.Runs.{IsRun};
 ghost use Rattle.run_timing.specs.Noted.{AreRowsOf};
 ghost use Rattle.run_timing.specs.Ticks.{AreWithinLimits};
 
-use crate::making::make;
+use crate::making::{make, sent_since};
 use crate::noting::note_row;
 use crate::rows::Rows;
 use crate::ticks::Ticks;
@@ -41,11 +41,11 @@ fn note_run(
     a_machine_is_kept(machine);
     let mut number = 0;
     for event in events {
-        let actor = machine.actor(event);
-        let index = actor.index(shape.cores, shape.banks);
+        let happened = make(machine, *event)?;
+        let index = happened.actor.index(shape.cores, shape.banks);
         let before = tracks.before(rows, *event, index, shape);
-        let happened = make(machine, *event, actor)?;
-        tracks.note(index, happened.sent, number)?;
+        let sent = sent_since(machine, tracks, happened.actor, index);
+        tracks.note(index, sent, number)?;
         note_row(rows, happened, before, ticks)?;
         number += 1;
     }

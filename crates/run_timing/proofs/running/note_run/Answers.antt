@@ -1,28 +1,19 @@
-use Rattle.std.proofs.Common.{◌≡◌, length, get_or, slice_get, Some, refl, subst, arith}
+use Rattle.std.proofs.Common.{◌≡◌, ◌+◌, true, length, get_or, slice_get, Some, refl, sym, ap, subst, ◌∙◌, arith}
 use Rattle.std.proofs.lemmas.Option.{slice_get-get_or}
 use Rattle.message_net.specs.declared.event.Event.{Event}
 use Rattle.message_net.specs.declared.event.Event.TheVariants.{Instr}
+use Rattle.message_net.specs.Mail.{has_actor}
+use Rattle.registration_protocol.specs.Node.{Setting}
 use Rattle.machine_rules.specs.State.{State, initial_state}
+use Rattle.machine_rules.specs.Next.{next, next_number}
 use Rattle.machine_rules.specs.Runs.{IsRun}
 use Rattle.machine_rules.specs.Sound.{IsReady}
 use Rattle.run_timing.specs.Rows.{finish_in}
 use Rattle.run_timing.specs.Tracks.{last_at, sender_in}
-use Rattle.run_timing.proofs.Growing.{can-note, before-within, run-none, run-more, run-end}
+use Rattle.run_timing.proofs.Growing.{can-note, mails-noted, before-within, run-none, run-more, run-end}
 use Rattle.run_timing.proofs.Started.{ready-of}
 use Rattle.run_timing.proofs.Timed.{at-event}
 use Rattle.run_timing.proofs.running.note_run.Goals as goal
-
-pub actor-actor-requires : goal.actor-actor-requires
-actor-actor-requires c =
-    let C = c.args.machine.now.state.setting in
-    let E = c.args.events.now in
-    let n = c.loop-event.event-index in
-    let e : Event = get_or E n (Instr (record { 0 = 0 })) in
-    let ready : IsReady C = ready-of c.args.machine.now.state c.args.machine.now.made c.a_machine_is_kept.ensures in
-    let run : IsRun (initial_state C) E = subst (λ (S : State). IsRun S E) c.requires.initial c.requires.run in
-    let here : slice_get E n ≡ Some e = slice_get-get_or E n (Instr (record { 0 = 0 })) c.loop-event-test.true in
-    let now = at-event c.args.ticks.now C E n c.loop-event.machine.state c.loop-event.machine.made c.loop-event.tracks.last c.loop-event.tracks.senders.items c.loop-event.rows e ready run c.loop-event.invariant.timed here in
-    now.may
 
 pub before-before-requires : goal.before-before-requires
 before-before-requires c =
@@ -33,7 +24,7 @@ before-before-requires c =
     let ready : IsReady C = ready-of c.args.machine.now.state c.args.machine.now.made c.a_machine_is_kept.ensures in
     let run : IsRun (initial_state C) E = subst (λ (S : State). IsRun S E) c.requires.initial c.requires.run in
     let here : slice_get E n ≡ Some e = slice_get-get_or E n (Instr (record { 0 = 0 })) c.loop-event-test.true in
-    let can = can-note c.args.ticks.now C c.args.shape E n c.loop-event.machine.state c.loop-event.machine.made c.loop-event.tracks.last c.loop-event.tracks.senders.items c.loop-event.rows e c.actor-actor.result c.index-index.result c.requires.shape ready run c.requires.few c.loop-event.invariant.timed c.loop-event-test.true here c.actor-actor.ensures c.index-index.ensures in
+    let can = can-note c.args.ticks.now C c.args.shape E n c.loop-event.machine.state c.loop-event.machine.made c.loop-event.tracks.last c.loop-event.tracks.senders.items c.loop-event.rows e c.in_ok-happened.happened.actor c.index-index.result c.requires.shape ready run c.requires.few c.loop-event.invariant.timed c.loop-event-test.true here c.in_ok-happened.ensures.actor c.index-index.ensures in
     record { place = can.last_within; own = can.own; sender = can.sender }
 
 pub make-requires : goal.make-requires
@@ -46,12 +37,25 @@ make-requires c =
     let run : IsRun (initial_state C) E = subst (λ (S : State). IsRun S E) c.requires.initial c.requires.run in
     let here : slice_get E n ≡ Some e = slice_get-get_or E n (Instr (record { 0 = 0 })) c.loop-event-test.true in
     let now = at-event c.args.ticks.now C E n c.loop-event.machine.state c.loop-event.machine.made c.loop-event.tracks.last c.loop-event.tracks.senders.items c.loop-event.rows e ready run c.loop-event.invariant.timed here in
+    record { may = now.may; made = omega (arith, c.loop-event.invariant.timed.counts, c.loop-event-test.true, c.requires.few) }
+
+pub sent_since-sent-requires : goal.sent_since-sent-requires
+sent_since-sent-requires c =
+    let C = c.args.machine.now.state.setting in
+    let E = c.args.events.now in
+    let n = c.loop-event.event-index in
+    let e : Event = get_or E n (Instr (record { 0 = 0 })) in
+    let a = c.in_ok-happened.happened.actor in
+    let ready : IsReady C = ready-of c.args.machine.now.state c.args.machine.now.made c.a_machine_is_kept.ensures in
+    let run : IsRun (initial_state C) E = subst (λ (S : State). IsRun S E) c.requires.initial c.requires.run in
+    let here : slice_get E n ≡ Some e = slice_get-get_or E n (Instr (record { 0 = 0 })) c.loop-event-test.true in
+    let now = at-event c.args.ticks.now C E n c.loop-event.machine.state c.loop-event.machine.made c.loop-event.tracks.last c.loop-event.tracks.senders.items c.loop-event.rows e ready run c.loop-event.invariant.timed here in
+    let same : c.make.new.machine.state.setting ≡ c.loop-event.machine.state.setting = ap (λ (S : State). S.setting) c.in_ok-happened.ensures.state ∙ now.still in
+    let noted = mails-noted c.args.ticks.now C c.args.shape E n c.loop-event.machine.state c.loop-event.machine.made c.loop-event.tracks.last c.loop-event.tracks.senders.items c.loop-event.rows e a c.index-index.result c.requires.shape ready run c.loop-event.invariant.timed here c.in_ok-happened.ensures.actor c.index-index.ensures in
+    let moved : next_number c.make.new.machine.state a ≡ next_number (next c.loop-event.machine.state e) a = ap (λ (S : State). next_number S a) c.in_ok-happened.ensures.state in
     record {
-      may = now.may;
-      made = omega (arith, c.loop-event.invariant.timed.counts, c.loop-event-test.true, c.requires.few);
-      there = now.there c.actor-actor.result c.actor-actor.ensures;
-      still = now.still;
-      grows = now.grows c.actor-actor.result c.actor-actor.ensures;
+      there = subst (λ (X : Setting). has_actor X.shape.cores X.shape.banks a ≡ true) (sym same) (now.there a c.in_ok-happened.ensures.actor);
+      grows = omega (arith, noted, moved, now.grows a c.in_ok-happened.ensures.actor);
     }
 
 pub note-requires : goal.note-requires
@@ -63,7 +67,7 @@ note-requires c =
     let ready : IsReady C = ready-of c.args.machine.now.state c.args.machine.now.made c.a_machine_is_kept.ensures in
     let run : IsRun (initial_state C) E = subst (λ (S : State). IsRun S E) c.requires.initial c.requires.run in
     let here : slice_get E n ≡ Some e = slice_get-get_or E n (Instr (record { 0 = 0 })) c.loop-event-test.true in
-    let can = can-note c.args.ticks.now C c.args.shape E n c.loop-event.machine.state c.loop-event.machine.made c.loop-event.tracks.last c.loop-event.tracks.senders.items c.loop-event.rows e c.actor-actor.result c.index-index.result c.requires.shape ready run c.requires.few c.loop-event.invariant.timed c.loop-event-test.true here c.actor-actor.ensures c.index-index.ensures in
+    let can = can-note c.args.ticks.now C c.args.shape E n c.loop-event.machine.state c.loop-event.machine.made c.loop-event.tracks.last c.loop-event.tracks.senders.items c.loop-event.rows e c.in_ok-happened.happened.actor c.index-index.result c.requires.shape ready run c.requires.few c.loop-event.invariant.timed c.loop-event-test.true here c.in_ok-happened.ensures.actor c.index-index.ensures in
     record { last = can.last_within; senders = can.senders_within }
 
 pub note_row-requires : goal.note_row-requires
@@ -75,7 +79,7 @@ note_row-requires c =
     let ready : IsReady C = ready-of c.args.machine.now.state c.args.machine.now.made c.a_machine_is_kept.ensures in
     let run : IsRun (initial_state C) E = subst (λ (S : State). IsRun S E) c.requires.initial c.requires.run in
     let here : slice_get E n ≡ Some e = slice_get-get_or E n (Instr (record { 0 = 0 })) c.loop-event-test.true in
-    let can = can-note c.args.ticks.now C c.args.shape E n c.loop-event.machine.state c.loop-event.machine.made c.loop-event.tracks.last c.loop-event.tracks.senders.items c.loop-event.rows e c.actor-actor.result c.index-index.result c.requires.shape ready run c.requires.few c.loop-event.invariant.timed c.loop-event-test.true here c.actor-actor.ensures c.index-index.ensures in
+    let can = can-note c.args.ticks.now C c.args.shape E n c.loop-event.machine.state c.loop-event.machine.made c.loop-event.tracks.last c.loop-event.tracks.senders.items c.loop-event.rows e c.in_ok-happened.happened.actor c.index-index.result c.requires.shape ready run c.requires.few c.loop-event.invariant.timed c.loop-event-test.true here c.in_ok-happened.ensures.actor c.index-index.ensures in
     record {
       before =
           before-within (finish_in c.loop-event.rows) (last_at c.loop-event.tracks.last c.index-index.result) (sender_in c.args.shape.cores c.args.shape.banks c.loop-event.tracks.senders.items e) c.before-before.result
@@ -103,12 +107,16 @@ loop-event-preserved c =
     let ready : IsReady C = ready-of c.args.machine.now.state c.args.machine.now.made c.a_machine_is_kept.ensures in
     let run : IsRun (initial_state C) E = subst (λ (S : State). IsRun S E) c.requires.initial c.requires.run in
     let here : slice_get E n ≡ Some e = slice_get-get_or E n (Instr (record { 0 = 0 })) c.loop-event-test.true in
+    let a = c.in_ok-happened.happened.actor in
+    let noted = mails-noted c.args.ticks.now C c.args.shape E n c.loop-event.machine.state c.loop-event.machine.made c.loop-event.tracks.last c.loop-event.tracks.senders.items c.loop-event.rows e a c.index-index.result c.requires.shape ready run c.loop-event.invariant.timed here c.in_ok-happened.ensures.actor c.index-index.ensures in
+    let moved : next_number c.make.new.machine.state a ≡ next_number (next c.loop-event.machine.state e) a = ap (λ (S : State). next_number S a) c.in_ok-happened.ensures.state in
+    let counts : next_number c.loop-event.machine.state a + c.sent_since-sent.result ≡ next_number (next c.loop-event.machine.state e) a = omega (arith, noted, moved, c.sent_since-sent.ensures) in
     record {
       timed =
           run-more c.args.ticks.now C c.args.shape E n c.loop-event.machine.state c.make.new.machine.state c.loop-event.machine.made c.make.new.machine.made c.loop-event.tracks.last c.note.new.self.last
-          c.loop-event.tracks.senders.items c.note.new.self.senders.items c.loop-event.rows c.note_row.new.rows e c.actor-actor.result c.index-index.result c.in_ok-happened.happened.sent c.loop-event.number
-          c.before-before.result c.in_ok-happened.happened.kind c.requires.shape ready run c.loop-event.invariant.timed here c.actor-actor.ensures c.requires.ticks c.index-index.ensures c.loop-event.invariant.number
-          c.before-before.ensures c.in_ok-happened.ensures.kind c.in_ok-happened.ensures.sent c.in_ok-happened.ensures.state c.in_ok-happened.ensures.made c.in_ok-note.ensures.last c.in_ok-note.ensures.senders
+          c.loop-event.tracks.senders.items c.note.new.self.senders.items c.loop-event.rows c.note_row.new.rows e c.in_ok-happened.happened.actor c.index-index.result c.sent_since-sent.result c.loop-event.number
+          c.before-before.result c.in_ok-happened.happened.kind c.requires.shape ready run c.loop-event.invariant.timed here c.in_ok-happened.ensures.actor c.requires.ticks c.index-index.ensures c.loop-event.invariant.number
+          c.before-before.ensures c.in_ok-happened.ensures.kind counts c.in_ok-happened.ensures.state c.in_ok-happened.ensures.made c.in_ok-note.ensures.last c.in_ok-note.ensures.senders
           c.in_ok-note_row.ensures;
       number = omega (arith, c.loop-event.invariant.number);
     }
