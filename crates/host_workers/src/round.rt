@@ -14,6 +14,7 @@ use crate::working::work_all;
 use bank_hall::{BankActor, KeeperActor, Port};
 use dn_base::{Gate, Memory, Shape};
 use dn_machine::{Machine, MachineParts};
+use effect_checker::Checked;
 use grant_log::{Stamped, merge};
 use region_table::PhasePlan;
 use registration_protocol::Context;
@@ -56,7 +57,7 @@ fn parts_of(machine: Machine) -> (FixedParts, Moving)
 {
     let parts = machine.split();
     let fixed = FixedParts {
-        decoded: parts.decoded,
+        decoded: DecodedProgram::of_parts(parts.checked.into_program(), parts.code),
         plans: parts.plans,
         shape: parts.shape,
         fuel: parts.fuel,
@@ -92,8 +93,9 @@ impl FixedParts {
         ensures state { result.state ≡ (made_from_parts self moving).state }
         ensures made { result.made ≡ self.made + more }
     {
+        let (program, code) = self.decoded.into_parts();
         Machine::join(MachineParts {
-            decoded: self.decoded,
+            checked: Checked::of_program(program),
             plans: self.plans,
             shape: self.shape,
             fuel: self.fuel,
@@ -103,6 +105,7 @@ impl FixedParts {
             pool: moving.pool,
             next: moving.next,
             made: self.made + more,
+            code,
         })
     }
 }
