@@ -2,12 +2,12 @@
 """A simulator of another kind, which writes claims: threads that step one instruction at a time over one memory.
 
     examples/another-simulator/simulate.py [--seed N] [--fuel N] [--no-loads] [--grant-twice] < TEXT > CLAIM
-    tools/reference.py judge < CLAIM
+    ./referee < CLAIM
 
 In each phase a thread that is picked at random goes on by one instruction, until none can. There are no caches and no messages:
 a store is seen by all at once. How a text is read and what an instruction does is tools/reference.py's; the rest is here.
 
---grant-twice switches a bug on: a lock is granted though another thread holds it. tools/reference.py judge says where.
+--grant-twice switches a bug on: a lock is granted though another thread holds it. ./referee says where.
 
 The exit code is 0 where a claim was written, and 1 where the words aren't these.
 """

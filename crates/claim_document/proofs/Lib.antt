@@ -3,3 +3,4 @@ pub mod Forms
 pub mod Found
 pub mod Single
 pub mod Parts
+pub mod Taken

@@ -6,6 +6,7 @@ mod alone;
 mod claim;
 mod head;
 mod laws;
+mod limits;
 mod reading;
 mod refusal;
 mod rows;

@@ -1,8 +1,10 @@
-ghost use Rattle.std.specs.Prelude.{◌≡◌, ◌≤◌, ◌++◌, flat_map, length, IfOk, OnOk};
-ghost use Rattle.claim_document.specs.Claim.{title, question_text, head_text, head_of, three_fields, grant_row, load_row, task_head_row, task_rows, head_of_task, loads_head_row, head_of_loads, tasks_text, loads_text, claim_text as text_of};
+ghost use Rattle.std.specs.Prelude.{◌≡◌, ◌≤◌, ◌++◌, All, flat_map, length, IfOk, OnOk};
+ghost use Rattle.claim_document.specs.Claim.{IsQuestion, IsGrant, IsTaskHead, IsTask, IsLoads, IsClaim, IsClaimDocument, title, question_text, head_text, head_of, three_fields, grant_row, load_row, task_head_row, task_rows, head_of_task, loads_head_row, head_of_loads, tasks_text, loads_text, claim_text as text_of};
 
 use crate::claim::{Claim, Question};
-use dn_base::{Grant, LoadSeen, Memory, Sequence};
+use crate::limits::{grants_fit, loads_fit, told};
+use crate::rows::TaskHead;
+use dn_base::{Grant, LoadSeen, MOST_OF_DOCUMENT, Memory, Sequence};
 use document_parts::{push_field, push_source};
 use flat_machine::TaskLoads;
 use std::alloc::Global;
@@ -42,22 +44,11 @@ fn push_three(
     push_field(out, b"", third, b"\n")
 }
 
-/// A number of lines, which a document tells in 32 bits.
-///
-/// # Errors
-/// `Memory` where there are 2^32 or more: no document has room for so many lines.
-fn told(lines: usize) -> Result<u32, Memory>
-    ensures { IfOk result (λ count. count ≡ lines) }
-{
-    if lines > u32::MAX as usize {
-        return Err(Memory);
-    }
-    Ok(lines as u32)
-}
-
 fn push_grants(out: &mut Vec<u8>, grants: &[Grant]) -> Result<(), Memory>
-    ensures { OnOk result (out.new.items ≡ out.old.items ++ flat_map grant_row grants.now) }
+    ensures text { OnOk result (out.new.items ≡ out.old.items ++ flat_map grant_row grants.now) }
+    ensures fits { All IsGrant grants.now }
 {
+    grants_fit(grants);
     for grant in grants {
         push_three(out, b"grant ", grant.phase.0, grant.core.0, grant.lock.0)?;
     }
@@ -82,18 +73,33 @@ fn push_loads(out: &mut Vec<u8>, loads: &[LoadSeen]) -> Result<(), Memory>
     Ok(())
 }
 
+/// Adds the line of a task.
+fn push_task_head(out: &mut Vec<u8>, head: TaskHead) -> Result<(), Memory>
+    ensures text { OnOk result (out.new.items ≡ out.old.items ++ task_head_row head) }
+    ensures fits { IsTaskHead head }
+{
+    push_three(out, b"task ", head.phase.0, head.core.0, head.count)
+}
+
 /// Adds the line of a task, and those of its loads.
 #[tactic(auto, unfolding(crate::specs::Claim::task_rows))]
 fn push_task(out: &mut Vec<u8>, task: &TaskLoads) -> Result<(), Memory>
-    ensures { OnOk result (out.new.items ≡ out.old.items ++ task_rows task.now) }
+    ensures text { OnOk result (out.new.items ≡ out.old.items ++ task_rows task.now) }
+    ensures fits { OnOk result (IsTask task.now) }
 {
-    let count = told(task.loads.len())?;
-    push_three(out, b"task ", task.phase.0, task.core.0, count)?;
+    loads_fit(task.loads.as_slice());
+    let head = TaskHead {
+        phase: task.phase,
+        core: task.core,
+        count: told(task.loads.len())?,
+    };
+    push_task_head(out, head)?;
     push_loads(out, task.loads.as_slice())
 }
 
 fn push_tasks(out: &mut Vec<u8>, tasks: &[TaskLoads]) -> Result<(), Memory>
-    ensures { OnOk result (out.new.items ≡ out.old.items ++ flat_map task_rows tasks.now) }
+    ensures text { OnOk result (out.new.items ≡ out.old.items ++ flat_map task_rows tasks.now) }
+    ensures fits { OnOk result (All IsTask tasks.now) }
 {
     for task in tasks {
         push_task(out, task)?;
@@ -115,7 +121,8 @@ fn push_loads_head(out: &mut Vec<u8>, count: Option<u32>) -> Result<(), Memory>
 /// Adds what is said of loads.
 #[tactic(auto, unfolding(crate::specs::Claim::loads_text))]
 fn push_loads_part(out: &mut Vec<u8>, loads: &Option<Sequence<TaskLoads>>) -> Result<(), Memory>
-    ensures { OnOk result (out.new.items ≡ out.old.items ++ loads_text loads.now) }
+    ensures text { OnOk result (out.new.items ≡ out.old.items ++ loads_text loads.now) }
+    ensures fits { OnOk result (IsLoads loads.now) }
 {
     match loads {
         None => push_loads_head(out, None),
@@ -136,18 +143,12 @@ fn push_head(out: &mut Vec<u8>, question: &Question, count: u32) -> Result<(), M
     push_field(out, b"grants ", count, b"\n")
 }
 
-/// The document of a claim: its first lines tell the fuel and the source text, then come a line for each grant, the loads task by
-/// task or the line that nothing is claimed of them, and the answer as it is. Numbers are decimal, without leading zeros, and values
-/// are in eight hexadecimal digits.
-///
-/// The text has at most 1,048,576 bytes.
-///
-/// # Errors
-/// `Memory` where there is no room for the document. A document never has room for 2^32 grants, tasks or loads of a task.
+/// All parts of a claim, one after the other.
 #[tactic(auto, unfolding(crate::specs::Claim::claim_text))]
-pub fn claim_text(alloc: Global, claim: &Claim) -> Result<Vec<u8>, Memory>
+fn write(alloc: Global, claim: &Claim) -> Result<Vec<u8>, Memory>
     requires { length claim.now.question.text ≤ 1048576 }
-    ensures { IfOk result (λ document. document.items ≡ text_of claim.now) }
+    ensures text { IfOk result (λ document. document.items ≡ text_of claim.now) }
+    ensures fits { IfOk result (λ document. IsQuestion claim.now.question → IsClaim claim.now) }
 {
     let mut out = Vec::new(alloc);
     push_head(&mut out, &claim.question, told(claim.grants.len())?)?;
@@ -155,4 +156,24 @@ pub fn claim_text(alloc: Global, claim: &Claim) -> Result<Vec<u8>, Memory>
     push_loads_part(&mut out, &claim.loads)?;
     push(&mut out, claim.answer.as_slice())?;
     Ok(out)
+}
+
+/// The document of a claim: its first lines tell the fuel and the source text, then come a line for each grant, the loads task by
+/// task or the line that nothing is claimed of them, and the answer as it is. Numbers are decimal, without leading zeros, and values
+/// are in eight hexadecimal digits.
+///
+/// The text has at most 1,048,576 bytes. Where the fuel is from 1 to 32,768, `read_claim` gives the claim again.
+///
+/// # Errors
+/// `Memory` where there is no room for the document, or where it has no room for the claim: it has at most 536,870,912 bytes.
+pub fn claim_text(alloc: Global, claim: &Claim) -> Result<Vec<u8>, Memory>
+    requires { length claim.now.question.text ≤ 1048576 }
+    ensures text { IfOk result (λ document. document.items ≡ text_of claim.now) }
+    ensures document { IfOk result (λ document. IsQuestion claim.now.question → IsClaimDocument document.items claim.now) }
+{
+    let document = write(alloc, claim)?;
+    if document.len() > MOST_OF_DOCUMENT {
+        return Err(Memory);
+    }
+    Ok(document)
 }

@@ -1,0 +1,47 @@
+//! That the numbers of a claim are within the limits of a document, because of their types.
+ghost use Rattle.std.specs.Prelude.{◌≡◌, All, IfOk};
+ghost use Rattle.claim_document.specs.Claim.{IsNumber, IsGrant, IsLoad};
+
+use dn_base::{Grant, LoadSeen, Memory};
+
+/// A number of lines, which a document tells in 32 bits.
+///
+/// # Errors
+/// `Memory` where there are 2^32 or more: no document has room for so many lines.
+pub(crate) fn told(lines: usize) -> Result<u32, Memory>
+    ensures count { IfOk result (λ count. count ≡ lines) }
+    ensures number { IfOk result (λ count. IsNumber lines) }
+{
+    if lines > u32::MAX as usize {
+        return Err(Memory);
+    }
+    Ok(lines as u32)
+}
+
+fn grant_fits(_grant: Grant)
+    ensures { IsGrant _grant }
+{}
+
+/// The numbers of these grants are below 2^32.
+pub(crate) fn grants_fit(grants: &[Grant])
+    ensures { All IsGrant grants.now }
+{
+    for grant in grants {
+        // for the proof alone: a grant that is passed on brings the ranges of its numbers
+        grant_fits(*grant);
+    }
+}
+
+fn load_fits(_load: LoadSeen)
+    ensures { IsLoad _load }
+{}
+
+/// The numbers of these loads are below 2^32.
+pub(crate) fn loads_fit(loads: &[LoadSeen])
+    ensures { All IsLoad loads.now }
+{
+    for load in loads {
+        // for the proof alone, as for grants
+        load_fits(*load);
+    }
+}

@@ -1,0 +1,4 @@
+pub mod Agreeing
+pub mod Commands
+pub mod Fit
+pub mod Told

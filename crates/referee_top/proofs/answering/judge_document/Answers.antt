@@ -1,0 +1,15 @@
+use Rattle.claim_document.specs.declared.claim.Claim.{Claim}
+use Rattle.claim_document.specs.Claim.{IsClaimDocument}
+use Rattle.claim_judge.proofs.Verdicts.{judgeable}
+use Rattle.region_table.specs.Program.{ProgramParts}
+use Rattle.referee_top.specs.Answers.{IsJudged}
+use Rattle.referee_top.proofs.Told.{told}
+use Rattle.referee_top.proofs.answering.judge_document.Goals as goal
+
+pub judged-requires : goal.judged-requires
+judged-requires c = judgeable c.args.document.now c.in_ok-claim.claim c.in_ok-claim.ensures.ok
+
+pub returns-clause-done : goal.returns-clause-done
+returns-clause-done c =
+    told IsClaimDocument (λ (d : Claim). d.question.text) c.args.document.now c.in_ok-claim.claim c.as_slice.result.now c.in_ok-checked.checked
+    (λ (d : Claim) (P : ProgramParts). IsJudged P d c.in_ok-judged.field-0) c.in_ok-claim.ensures.ok c.as_slice.ensures c.in_ok-checked.ensures.ok c.in_ok-checked.ensures.checked c.in_ok-judged.ensures

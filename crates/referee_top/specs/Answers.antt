@@ -1,0 +1,110 @@
+-- What the referee answers to a mode and a document.
+use Rattle.std.specs.Prelude.{◌≡◌, ◌⊎◌, ℕ, List}
+use Rattle.region_table.specs.Program.{ProgramParts}
+use Rattle.claim_document.specs.declared.claim.Claim.{Claim}
+use Rattle.claim_document.specs.declared.claim.ClaimFault.{ClaimFault}
+use Rattle.claim_document.specs.declared.claim.GrantOrder.{GrantOrder}
+use Rattle.claim_document.specs.declared.claim.Question.{Question}
+use Rattle.claim_document.specs.Alone.{IsQuestionDocument, HasQuestionFault, IsOrderDocument, HasOrderFault}
+use Rattle.claim_document.specs.Claim.{IsClaimDocument, claim_text}
+use Rattle.claim_document.specs.Faults.{HasFault}
+use Rattle.claim_document.specs.Refusal.{refusal_text}
+use Rattle.claim_verdict.specs.declared.verdict.Verdict.{Verdict}
+use Rattle.claim_verdict.specs.declared.verdict.Verdict.TheVariants.{Agrees, Grants, Tasks, Load, Answer}
+use Rattle.claim_verdict.specs.Verdict.{verdict_text}
+use Rattle.claim_judge.specs.declared.right.RightClaim.{RightClaim}
+use Rattle.claim_judge.specs.declared.right.RightClaim.TheVariants.{Whole, Refused}
+use Rattle.claim_judge.specs.Judge.{IsVerdict}
+use Rattle.claim_judge.specs.Right.{IsRightBy, IsLeastClaim}
+use Rattle.front_end.specs.Texts.{HasChecked, IsUnfit}
+use Rattle.referee_top.specs.declared.answering.Reply.{Reply}
+use Rattle.referee_top.specs.declared.mode.RefereeMode.{RefereeMode}
+use Rattle.referee_top.specs.declared.mode.RefereeMode as mode
+use Rattle.referee_top.specs.declared.status.RefereeStatus.{RefereeStatus}
+use Rattle.referee_top.specs.declared.status.RefereeStatus as status
+
+-- ---- a document, and the text that it tells
+
+-- the bytes are the document of a value, and this holds of it
+pub record HasTold {X : Type 0} (Is : List ℕ → X → Type 0) (bytes : List ℕ) (Holds : X → Type 0) : Type 0 where
+  pub value : X
+  pub is : Is bytes value
+  pub holds : Holds value
+
+-- the bytes are no such document, and the line says their first fault
+pub record IsFaulty (Has : List ℕ → ClaimFault → Type 0) (bytes line : List ℕ) : Type 0 where
+  pub fault : ClaimFault
+  pub is : Has bytes fault
+  pub says : line ≡ refusal_text fault
+
+-- ---- what is printed
+
+abbrev pub verdict_status : Verdict → RefereeStatus
+verdict_status Agrees = status.TheVariants.Agrees
+verdict_status (Grants grant) = status.TheVariants.Differs
+verdict_status Tasks = status.TheVariants.Differs
+verdict_status (Load place right) = status.TheVariants.Differs
+verdict_status (Answer line right) = status.TheVariants.Differs
+
+-- the lines of a verdict, and the document of a claim that is right
+abbrev pub verdict_reply : Verdict → Reply
+verdict_reply v = record { status = verdict_status v; bytes = verdict_text v }
+
+abbrev pub claim_reply : Claim → Reply
+claim_reply c = record { status = status.TheVariants.Agrees; bytes = claim_text c }
+
+-- a list of grants comes to a claim, which is written, or its first grant that may not come is named
+abbrev pub reply_by : RightClaim → Reply
+reply_by (Whole c) = claim_reply c
+reply_by (Refused place) = verdict_reply (Grants place)
+
+-- what is written is the document of the claim: it is within the limits, and can be read again
+abbrev pub IsReadable : RightClaim → Type 0
+IsReadable (Whole c) = IsClaimDocument (claim_text c) c
+IsReadable (Refused place) = Unit {0}
+
+-- ---- what is done with a document
+
+-- the verdict on a claim of a program's run
+pub record IsJudged (P : ProgramParts) (c : Claim) (out : Reply) : Type 0 where
+  pub verdict : Verdict
+  pub right : IsVerdict P c verdict
+  pub answer : out ≡ verdict_reply verdict
+
+-- the claim of a program's run by the grants of an order
+pub record IsOrdered (P : ProgramParts) (o : GrantOrder) (out : Reply) : Type 0 where
+  pub claim : RightClaim
+  pub right : IsRightBy P o.question o.grants claim
+  pub again : IsReadable claim
+  pub answer : out ≡ reply_by claim
+
+-- the claim of a program's run by the least grants
+pub record IsLeastReply (P : ProgramParts) (q : Question) (out : Reply) : Type 0 where
+  pub claim : Claim
+  pub right : IsLeastClaim P q claim
+  pub again : IsReadable (Whole claim)
+  pub answer : out ≡ claim_reply claim
+
+-- ---- a row for each mode
+
+-- what each mode does with a document, whose text has a checked program
+abbrev pub mode_done : RefereeMode → List ℕ → Reply → Type 0
+mode_done mode.TheVariants.Judge document out = HasTold IsClaimDocument document (λ c. HasChecked c.question.text (λ P. IsJudged P c out))
+mode_done mode.TheVariants.Answer document out = HasTold IsOrderDocument document (λ o. HasChecked o.question.text (λ P. IsOrdered P o out))
+mode_done mode.TheVariants.Least document out = HasTold IsQuestionDocument document (λ q. HasChecked q.text (λ P. IsLeastReply P q out))
+
+-- which documents each mode refuses, and with which line: the bytes have a fault, or the text that they tell
+abbrev pub refused_with : RefereeMode → List ℕ → List ℕ → Type 0
+refused_with mode.TheVariants.Judge document line = IsFaulty HasFault document line ⊎ HasTold IsClaimDocument document (λ c. IsUnfit c.question.text line)
+refused_with mode.TheVariants.Answer document line = IsFaulty HasOrderFault document line ⊎ HasTold IsOrderDocument document (λ o. IsUnfit o.question.text line)
+refused_with mode.TheVariants.Least document line = IsFaulty HasQuestionFault document line ⊎ HasTold IsQuestionDocument document (λ q. IsUnfit q.text line)
+
+-- ---- answers
+
+pub record IsRefusal (m : RefereeMode) (document : List ℕ) (out : Reply) : Type 0 where
+  pub line : List ℕ
+  pub why : refused_with m document line
+  pub answer : out ≡ record { status = status.TheVariants.Refused; bytes = line }
+
+abbrev pub IsAnswer : RefereeMode → List ℕ → Reply → Type 0
+IsAnswer m document out = mode_done m document out ⊎ IsRefusal m document out

@@ -1,0 +1,10 @@
+-- What the laws of the program, in src/laws.rt, speak of.
+use Rattle.std.specs.Prelude.{ℕ, List}
+use Rattle.claim_document.specs.Claim.{IsClaimDocument}
+use Rattle.claim_judge.specs.Judge.{AgreesWithRun}
+use Rattle.front_end.specs.Texts.{HasChecked}
+use Rattle.referee_top.specs.Answers.{HasTold}
+
+-- the bytes claim what one thread on one memory does by the claimed grants
+abbrev pub IsClaimOfOneThread : List ℕ → Type 0
+IsClaimOfOneThread document = HasTold IsClaimDocument document (λ c. HasChecked c.question.text (λ P. AgreesWithRun P c))

@@ -1,0 +1,5 @@
+pub mod Answers
+pub mod Command
+pub mod Laws
+pub mod Serving
+pub mod Status

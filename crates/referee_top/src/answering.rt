@@ -1,0 +1,157 @@
+ghost use Rattle.std.specs.Prelude.{◌≡◌, IfOk, IfErr};
+ghost use Rattle.claim_document.specs.Alone.{IsOrder};
+ghost use Rattle.claim_document.specs.Claim.{IsClaimDocument, IsQuestion, claim_text as text_of};
+ghost use Rattle.claim_judge.specs.Judge.{IsJudgeable};
+ghost use Rattle.front_end.specs.Texts.{IsStop};
+ghost use Rattle.referee_top.specs.declared.mode.RefereeMode.TheVariants as mode;
+ghost use Rattle.referee_top.specs.Answers.{IsAnswer, IsJudged, IsOrdered, IsLeastReply, mode_done, refused_with, verdict_reply, verdict_status, claim_reply};
+
+use crate::documents::{claim_in, order_in, question_in};
+use crate::mode::RefereeMode;
+use crate::status::RefereeStatus;
+use claim_document::{Claim, GrantOrder, Question, claim_text};
+use claim_judge::{RightClaim, judge, least_claim, right_claim};
+use claim_verdict::{Verdict, push_verdict};
+use dn_base::{Memory, Sequence};
+use effect_checker::Checked;
+use front_end::{Stop, checked_of};
+use std::alloc::Global;
+
+/// A status, and all that is to be written.
+#[derive(Debug, Drop)]
+pub struct Reply {
+    pub status: RefereeStatus,
+    pub bytes: Sequence<u8>,
+}
+
+/// What a verdict comes to.
+fn status_of(verdict: &Verdict) -> RefereeStatus
+    ensures { result ≡ verdict_status verdict.now }
+{
+    match verdict {
+        Verdict::Agrees => RefereeStatus::Agrees,
+        Verdict::Grants { .. } => RefereeStatus::Differs,
+        Verdict::Tasks => RefereeStatus::Differs,
+        Verdict::Load { .. } => RefereeStatus::Differs,
+        Verdict::Answer { .. } => RefereeStatus::Differs,
+    }
+}
+
+/// Says a verdict.
+fn say(alloc: Global, verdict: &Verdict) -> Result<Reply, Memory>
+    ensures { IfOk result (λ reply. reply ≡ verdict_reply verdict.now) }
+{
+    let mut text = Vec::new(alloc);
+    push_verdict(&mut text, verdict)?;
+    Ok(Reply {
+        status: status_of(verdict),
+        bytes: Sequence::from_vec(text),
+    })
+}
+
+/// Writes a claim that is right.
+fn write(alloc: Global, claim: &Claim) -> Result<Reply, Memory>
+    requires { IsQuestion claim.now.question }
+    ensures reply { IfOk result (λ reply. reply ≡ claim_reply claim.now) }
+    ensures again { IfOk result (λ reply. IsClaimDocument (text_of claim.now) claim.now) }
+{
+    Ok(Reply {
+        status: RefereeStatus::Agrees,
+        bytes: Sequence::from_vec(claim_text(alloc, claim)?),
+    })
+}
+
+/// The verdict on a claim.
+fn judged(alloc: Global, checked: &Checked, claim: &Claim) -> Result<Reply, Memory>
+    requires { IsJudgeable claim.now }
+    ensures { IfOk result (IsJudged checked.now claim.now) }
+{
+    let verdict = judge(alloc, checked, claim)?;
+    say(alloc, &verdict)
+}
+
+/// The claim of the run that goes by the grants of an order.
+fn ordered(alloc: Global, checked: &Checked, order: GrantOrder) -> Result<Reply, Memory>
+    requires { IsOrder order }
+    ensures { IfOk result (IsOrdered checked.now order) }
+{
+    let GrantOrder { question, grants } = order;
+    match right_claim(alloc, checked, question, grants.into_vec())? {
+        RightClaim::Whole(claim) => write(alloc, &claim),
+        RightClaim::Refused { place } => {
+            let grant = place as u32;
+            say(alloc, &Verdict::Grants { grant })
+        }
+    }
+}
+
+/// The claim of the run that goes by the least grants.
+fn least(alloc: Global, checked: &Checked, question: Question) -> Result<Reply, Memory>
+    requires { IsQuestion question }
+    ensures { IfOk result (IsLeastReply checked.now question) }
+{
+    let claim = least_claim(alloc, checked, question)?;
+    write(alloc, &claim)
+}
+
+/// Judges the claim of a document.
+fn judge_document(alloc: Global, document: &[u8]) -> Result<Reply, Stop>
+    ensures done { IfOk result (mode_done mode.Judge document.now) }
+    ensures stop { IfErr result (IsStop (refused_with mode.Judge document.now)) }
+{
+    let claim = claim_in(alloc, document)?;
+    let checked = checked_of(alloc, claim.question.text.as_slice())?;
+    Ok(judged(alloc, &checked, &claim)?)
+}
+
+/// Writes the claim of the run that goes by the grants of a document.
+fn answer_document(alloc: Global, document: &[u8]) -> Result<Reply, Stop>
+    ensures done { IfOk result (mode_done mode.Answer document.now) }
+    ensures stop { IfErr result (IsStop (refused_with mode.Answer document.now)) }
+{
+    let order = order_in(alloc, document)?;
+    let checked = checked_of(alloc, order.question.text.as_slice())?;
+    Ok(ordered(alloc, &checked, order)?)
+}
+
+/// Writes the claim of the run that goes by the least grants.
+fn least_document(alloc: Global, document: &[u8]) -> Result<Reply, Stop>
+    ensures done { IfOk result (mode_done mode.Least document.now) }
+    ensures stop { IfErr result (IsStop (refused_with mode.Least document.now)) }
+{
+    let question = question_in(alloc, document)?;
+    let checked = checked_of(alloc, question.text.as_slice())?;
+    Ok(least(alloc, &checked, question)?)
+}
+
+/// What each mode does with a document.
+fn done(alloc: Global, asked: RefereeMode, document: &[u8]) -> Result<Reply, Stop>
+    ensures done { IfOk result (mode_done asked document.now) }
+    ensures stop { IfErr result (IsStop (refused_with asked document.now)) }
+{
+    match asked {
+        RefereeMode::Judge => judge_document(alloc, document),
+        RefereeMode::Answer => answer_document(alloc, document),
+        RefereeMode::Least => least_document(alloc, document),
+    }
+}
+
+/// The answer to a mode and a document.
+///
+/// A document that isn't of its form is refused with the line of its first fault. A text in it that has no checked program is refused
+/// as denovo refuses it, with the same line.
+///
+/// # Errors
+/// `Memory` where there is no room for what the document tells, the run or the answer.
+pub fn answer(alloc: Global, asked: RefereeMode, document: &[u8]) -> Result<Reply, Memory>
+    ensures { IfOk result (IsAnswer asked document.now) }
+{
+    match done(alloc, asked, document) {
+        Ok(reply) => Ok(reply),
+        Err(Stop::Refused(line)) => Ok(Reply {
+            status: RefereeStatus::Refused,
+            bytes: line,
+        }),
+        Err(Stop::Memory) => Err(Memory),
+    }
+}

@@ -1,0 +1,71 @@
+ghost use Rattle.std.specs.Prelude.{◌≡◌, ◌≢◌, IfOk, IfErr};
+ghost use Rattle.claim_document.specs.declared.claim.ClaimFault.TheVariants.{Memory as NoMemory};
+ghost use Rattle.claim_document.specs.Alone.{IsQuestionDocument, HasQuestionFault, IsOrderDocument, HasOrderFault};
+ghost use Rattle.claim_document.specs.Claim.{IsClaimDocument};
+ghost use Rattle.claim_document.specs.Faults.{HasFault};
+ghost use Rattle.claim_document.specs.Refusal.{refusal_text};
+ghost use Rattle.front_end.specs.Texts.{IsStop};
+ghost use Rattle.referee_top.specs.Answers.{IsFaulty};
+
+use claim_document::{
+    Claim, ClaimFault, GrantOrder, Question, claim_line, read_claim, read_order, read_question,
+};
+use dn_base::Sequence;
+use front_end::Stop;
+use std::alloc::Global;
+
+/// The refusal of a document for this fault, which isn't out of memory.
+fn refused(alloc: Global, fault: ClaimFault) -> Stop
+    requires { fault ≢ NoMemory }
+    ensures { IsStop (λ line. line ≡ refusal_text fault) result }
+{
+    match claim_line(alloc, fault) {
+        Ok(line) => Stop::Refused(Sequence::from_vec(line)),
+        Err(_) => Stop::Memory,
+    }
+}
+
+/// What a document claims.
+///
+/// # Errors
+/// `Refused` with the line of the document's first fault, and `Memory` where there is no room.
+pub(crate) fn claim_in(alloc: Global, document: &[u8]) -> Result<Claim, Stop>
+    ensures ok { IfOk result (IsClaimDocument document.now) }
+    ensures stop { IfErr result (IsStop (IsFaulty HasFault document.now)) }
+{
+    match read_claim(alloc, document) {
+        Ok(claim) => Ok(claim),
+        Err(ClaimFault::Memory) => Err(Stop::Memory),
+        Err(fault) => Err(refused(alloc, fault)),
+    }
+}
+
+/// The question and the order of the grants that a document tells.
+///
+/// # Errors
+/// `Refused` with the line of the document's first fault, and `Memory` where there is no room.
+pub(crate) fn order_in(alloc: Global, document: &[u8]) -> Result<GrantOrder, Stop>
+    ensures ok { IfOk result (IsOrderDocument document.now) }
+    ensures stop { IfErr result (IsStop (IsFaulty HasOrderFault document.now)) }
+{
+    match read_order(alloc, document) {
+        Ok(order) => Ok(order),
+        Err(ClaimFault::Memory) => Err(Stop::Memory),
+        Err(fault) => Err(refused(alloc, fault)),
+    }
+}
+
+/// The question that a document tells.
+///
+/// # Errors
+/// `Refused` with the line of the document's first fault, and `Memory` where there is no room.
+pub(crate) fn question_in(alloc: Global, document: &[u8]) -> Result<Question, Stop>
+    ensures ok { IfOk result (IsQuestionDocument document.now) }
+    ensures stop { IfErr result (IsStop (IsFaulty HasQuestionFault document.now)) }
+{
+    match read_question(alloc, document) {
+        Ok(question) => Ok(question),
+        Err(ClaimFault::Memory) => Err(Stop::Memory),
+        Err(fault) => Err(refused(alloc, fault)),
+    }
+}

@@ -1,0 +1,22 @@
+//! The program referee, all but its `main`: it judges a simulator's claim by the run of one thread on one memory, and makes claims that
+//! are right.
+#![tactic(auto)]
+
+mod answering;
+mod command;
+mod documents;
+mod laws;
+mod mode;
+mod program;
+mod serving;
+mod status;
+mod words;
+
+pub use answering::{Reply, answer};
+pub use command_words::WordsFault;
+pub use laws::{a_claim_agrees_where_one_thread_does, a_claim_that_is_printed_agrees};
+pub use mode::RefereeMode;
+pub use program::referee_program;
+pub use serving::referee_main;
+pub use status::RefereeStatus;
+pub use words::read_words;

@@ -1,0 +1,10 @@
+/// What the referee does with a document.
+#[derive(Clone, Copy, Debug, PartialEq, Eq)]
+pub enum RefereeMode {
+    /// Takes a claim, and says whether it agrees, or where it differs first.
+    Judge,
+    /// Takes a question and the order of the grants, the first four parts of a claim, and prints the claim of the run by these grants.
+    Answer,
+    /// Takes a question, the first three parts of a claim, and prints the claim of the run by the least grants.
+    Least,
+}
