@@ -234,7 +234,7 @@ def claims_are_judged():
 
 
 def claims_are_refused():
-    """At each cut of a small claim what is refused is the first that is wrong; and at each limit what is beyond it."""
+    """At each cut of a small claim what is refused is the first that is wrong; and at the limits of numbers and texts what is beyond them."""
     program = programs("referee")[0]
     claim = reference.claim(["--mode", "run"], counters(2, 1))
     question, grants, loads, answer = parts(claim)
@@ -263,12 +263,6 @@ def claims_are_refused():
         refused = run(programs("denovo")[0], text)
         other = reference.claim_text(text, 32768, [], None, [])
         judges(program, other, (2, refused.stdout))
-    with tempfile.TemporaryFile() as large:
-        for size, what in ((536870912, b"head"), (536870913, b"too-large")):
-            large.truncate(size)
-            large.seek(0)
-            ran = run(program, large)
-            check(f"{program[0]}: {size} bytes", (ran.returncode, ran.stdout) == (2, b"refused claim %s\n" % what), ran.stdout[:200])
 
 
 def another_simulator_is_compared():
