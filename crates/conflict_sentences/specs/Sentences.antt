@@ -1,6 +1,6 @@
 -- What is said of a conflict: which tasks contend for which word, where in the text they stand, and how that is mended. Each line is
 -- indented, so that it can be told from the lines of an answer.
-use Rattle.std.specs.Prelude.{ℕ, List, [], ◌++◌, Option, Some, None, codes, find}
+use Rattle.std.specs.Prelude.{ℕ, ◌-◌, ◌==◌, List, [], ◌++◌, length, take, flat_map, Option, Some, None, codes, find, if◌then◌else◌}
 use Rattle.std.specs.Fmt.{decimal}
 use Rattle.text_pieces.specs.Pieces.{newline}
 use Rattle.effect_checker.specs.declared.fault.CheckFault.{CheckFault}
@@ -9,7 +9,9 @@ use Rattle.text_places.specs.declared.places.TaskPlace.{TaskPlace}
 use Rattle.text_places.specs.declared.places.Located.{Located}
 use Rattle.text_places.specs.declared.places.Places.{Places}
 use Rattle.text_places.specs.Words.{is_task_of}
-use Rattle.place_texts.specs.Texts.{word_text, lock_text}
+use Rattle.place_texts.specs.Texts.{word_text, lock_text, quoted_line}
+use Rattle.conflict_sentences.specs.declared.claims.Contention.{Contention}
+use Rattle.conflict_sentences.specs.Claims.{claims_in, contention_at}
 use Rattle.conflict_sentences.specs.Guards.{guarded_in}
 
 -- ---- tasks and locks
@@ -52,7 +54,7 @@ apart_remedy = codes "  Give the tasks words or phases of their own, or have one
 unfoldable pub plain_text : Located → ℕ → ℕ → ℕ → ℕ → List ℕ
 plain_text l phase a b w =
     phase_text phase ++ core_text l.places phase a ++ stores_plainly ++ word_text l.program.regions w ++ and_another
-    ++ core_text l.places phase b ++ uses_it_too ++ apart_remedy
+    ++ core_text l.places phase b ++ uses_it_too
 
 unfoldable pub for_task : List ℕ
 for_task = codes " for "
@@ -75,18 +77,67 @@ guard_remedy = codes "  Have the lock guard the word for that task too, and take
 unfoldable pub guarded_plain_text : Located → ℕ → ℕ → ℕ → ℕ → List ℕ
 guarded_plain_text l phase lock core w =
     phase_text phase ++ guard_text l phase lock w ++ codes ", and " ++ core_text l.places phase core
-    ++ uses_it_plainly ++ guard_remedy
+    ++ uses_it_plainly
 
 unfoldable pub one_lock_remedy : List ℕ
-one_lock_remedy = codes "." ++ newline ++ codes "  Have one lock guard the word for all tasks of the phase." ++ newline
+one_lock_remedy = codes "  Have one lock guard the word for all tasks of the phase." ++ newline
 
 unfoldable pub two_locks_text : Located → ℕ → ℕ → ℕ → ℕ → List ℕ
 two_locks_text l phase a b w =
-    phase_text phase ++ guard_text l phase a w ++ codes ", and " ++ guard_text l phase b w
-    ++ one_lock_remedy
+    phase_text phase ++ guard_text l phase a w ++ codes ", and " ++ guard_text l phase b w ++ codes "." ++ newline
+
+-- what is wrong
+abbrev pub contenders_text : Located → CheckFault → List ℕ
+contenders_text l (conflict.TheVariants.PlainConflict phase a b w) = plain_text l phase.0 a.0 b.0 w.0
+contenders_text l (conflict.TheVariants.GuardedPlain phase lock core w) = guarded_plain_text l phase.0 lock.0 core.0 w.0
+contenders_text l (conflict.TheVariants.TwoLocks phase a b w) = two_locks_text l phase.0 a.0 b.0 w.0
+
+-- how it is mended
+abbrev pub conflict_remedy : CheckFault → List ℕ
+conflict_remedy (conflict.TheVariants.PlainConflict phase a b w) = apart_remedy
+conflict_remedy (conflict.TheVariants.GuardedPlain phase lock core w) = guard_remedy
+conflict_remedy (conflict.TheVariants.TwoLocks phase a b w) = one_lock_remedy
+
+-- ---- the effects that claim the word
+
+-- the task of a core
+abbrev pub contending_task : Located → ℕ → ℕ → Option TaskPlace
+contending_task l phase core = find (is_task_of phase core) l.places.tasks
+
+abbrev pub task_on : Places → ℕ → Option ℕ → Option TaskPlace
+task_on places phase None = None
+task_on places phase (Some core) = find (is_task_of phase core) places.tasks
+
+-- the two tasks that contend for the word
+abbrev pub contention_of : Located → CheckFault → Option Contention
+contention_of l (conflict.TheVariants.PlainConflict phase a b w) =
+    contention_at l.program.regions w.0 (contending_task l phase.0 a.0) (contending_task l phase.0 b.0)
+contention_of l (conflict.TheVariants.GuardedPlain phase lock core w) =
+    contention_at l.program.regions w.0 (task_on l.places phase.0 (guarded_in l.program phase.0 lock.0 w.0)) (contending_task l phase.0 core.0)
+contention_of l (conflict.TheVariants.TwoLocks phase a b w) =
+    contention_at l.program.regions w.0 (task_on l.places phase.0 (guarded_in l.program phase.0 a.0 w.0))
+    (task_on l.places phase.0 (guarded_in l.program phase.0 b.0 w.0))
+
+unfoldable pub claimed_by : List ℕ
+claimed_by = codes "  The effects that claim the word for them:" ++ newline
+
+unfoldable pub claiming_line : List ℕ → ℕ → List ℕ
+claiming_line text line = codes "  " ++ quoted_line text line
+
+unfoldable pub more_claims : ℕ → List ℕ
+more_claims n = if n == 0 then [] else codes "  and " ++ decimal n ++ codes " more" ++ newline
+
+-- the first four of the lines, and how many there are behind them
+unfoldable pub some_claims : List ℕ → List ℕ → List ℕ
+some_claims text lines = claimed_by ++ flat_map (claiming_line text) (take 4 lines) ++ more_claims (length lines - 4)
+
+abbrev pub claims_text : List ℕ → List ℕ → List ℕ
+claims_text text lines = if length lines == 0 then [] else some_claims text lines
+
+abbrev pub contention_text : List ℕ → Located → Option Contention → List ℕ
+contention_text text l None = []
+contention_text text l (Some c) = claims_text text (claims_in text l.program.regions c)
 
 -- what is said of a conflict
-abbrev pub conflict_sentences : Located → CheckFault → List ℕ
-conflict_sentences l (conflict.TheVariants.PlainConflict phase a b w) = plain_text l phase.0 a.0 b.0 w.0
-conflict_sentences l (conflict.TheVariants.GuardedPlain phase lock core w) = guarded_plain_text l phase.0 lock.0 core.0 w.0
-conflict_sentences l (conflict.TheVariants.TwoLocks phase a b w) = two_locks_text l phase.0 a.0 b.0 w.0
+abbrev pub conflict_sentences : List ℕ → Located → CheckFault → List ℕ
+conflict_sentences text l c = contenders_text l c ++ contention_text text l (contention_of l c) ++ conflict_remedy c

@@ -1,7 +1,8 @@
 //! Sentences on the three kinds of conflict.
 ghost use Rattle.std.specs.Prelude.{◌≡◌, ◌++◌, OnOk};
-ghost use Rattle.conflict_sentences.specs.Sentences.{declaring_line, declaring_text, core_text, guarded_task_text, phase_text, stores_plainly, and_another, uses_it_too, apart_remedy, plain_text, for_task, guards_it, guard_text, uses_it_plainly, guard_remedy, guarded_plain_text, one_lock_remedy, two_locks_text, conflict_sentences};
+ghost use Rattle.conflict_sentences.specs.Sentences.{declaring_line, declaring_text, core_text, guarded_task_text, phase_text, stores_plainly, and_another, uses_it_too, apart_remedy, plain_text, for_task, guards_it, guard_text, uses_it_plainly, guard_remedy, guarded_plain_text, one_lock_remedy, two_locks_text, contenders_text, conflict_remedy, conflict_sentences};
 
+use crate::claiming::push_contention;
 use crate::guards::guarded_in;
 use dn_base::Memory;
 use effect_checker::CheckFault;
@@ -110,8 +111,7 @@ fn push_plain(
     push_word(out, located.program.regions.as_slice(), word)?;
     push_and_another(out)?;
     push_core(out, &located.places, phase, cores.1)?;
-    push_uses_it_too(out)?;
-    push_apart_remedy(out)
+    push_uses_it_too(out)
 }
 
 #[tactic(auto, unfolding(crate::specs::Sentences::guards_it))]
@@ -179,15 +179,13 @@ fn push_guarded_plain(
     push_guard(out, located, phase, lock, word)?;
     push(out, b", and ")?;
     push_core(out, &located.places, phase, core)?;
-    push_uses_it_plainly(out)?;
-    push_guard_remedy(out)
+    push_uses_it_plainly(out)
 }
 
 #[tactic(auto, unfolding(crate::specs::Sentences::one_lock_remedy))]
 fn push_one_lock_remedy(out: &mut Vec<u8>) -> Result<(), Memory>
     ensures { OnOk result (out.new.items ≡ out.old.items ++ one_lock_remedy) }
 {
-    push(out, b".\n")?;
     push(
         out,
         b"  Have one lock guard the word for all tasks of the phase.\n",
@@ -208,20 +206,12 @@ fn push_two_locks(
     push_guard(out, located, phase, locks.0, word)?;
     push(out, b", and ")?;
     push_guard(out, located, phase, locks.1, word)?;
-    push_one_lock_remedy(out)
+    push(out, b".\n")
 }
 
-/// Adds what is said of a conflict of the text's program: the tasks that contend for a word, by the lines that declare them, and how
-/// that is mended.
-///
-/// # Errors
-/// `Memory` where there is no room; what is then added is no part of a text.
-pub fn push_conflict(
-    out: &mut Vec<u8>,
-    located: &Located,
-    conflict: CheckFault,
-) -> Result<(), Memory>
-    ensures { OnOk result (out.new.items ≡ out.old.items ++ conflict_sentences located.now conflict) }
+/// Adds which two tasks, or which two locks, contend for which word.
+fn push_contenders(out: &mut Vec<u8>, located: &Located, conflict: CheckFault) -> Result<(), Memory>
+    ensures { OnOk result (out.new.items ≡ out.old.items ++ contenders_text located.now conflict) }
 {
     match conflict {
         CheckFault::PlainConflict {
@@ -243,4 +233,33 @@ pub fn push_conflict(
             word,
         } => push_two_locks(out, located, phase.0, (lock_a.0, lock_b.0), word.0),
     }
+}
+
+/// Adds how a conflict is mended.
+fn push_remedy(out: &mut Vec<u8>, conflict: CheckFault) -> Result<(), Memory>
+    ensures { OnOk result (out.new.items ≡ out.old.items ++ conflict_remedy conflict) }
+{
+    match conflict {
+        CheckFault::PlainConflict { .. } => push_apart_remedy(out),
+        CheckFault::GuardedPlain { .. } => push_guard_remedy(out),
+        CheckFault::TwoLocks { .. } => push_one_lock_remedy(out),
+    }
+}
+
+/// Adds what is said of a conflict of the text's program: the tasks that contend for a word, by the lines that declare them, the lines
+/// of the effects that claim the word for them, and how that is mended.
+///
+/// # Errors
+/// `Memory` where there is no room; what is then added is no part of a text.
+pub fn push_conflict(
+    out: &mut Vec<u8>,
+    text: &[u8],
+    located: &Located,
+    conflict: CheckFault,
+) -> Result<(), Memory>
+    ensures { OnOk result (out.new.items ≡ out.old.items ++ conflict_sentences text.now located.now conflict) }
+{
+    push_contenders(out, located, conflict)?;
+    push_contention(out, text, located, conflict)?;
+    push_remedy(out, conflict)
 }

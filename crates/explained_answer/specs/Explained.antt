@@ -40,7 +40,7 @@ pub record IsConflictExplained (text answer : List ℕ) (e : Explained) : Type 0
   pub is_located : IsLocated text located
   pub fault : CheckFault
   pub is : IsLeastFault located.program fault
-  pub answer_is : IsRefusalExplained (refusal_of (OfCheck fault)) (conflict_sentences located fault) answer e
+  pub answer_is : IsRefusalExplained (refusal_of (OfCheck fault)) (conflict_sentences text located fault) answer e
 
 -- ---- the answer of a run
 

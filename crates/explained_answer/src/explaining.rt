@@ -74,7 +74,7 @@ fn explained_program(
     ensures { IfOk result (λ e. IsConflictExplained text.now answer.now e ⊎ IsRunExplained text.now answer.now e) }
 {
     match found {
-        Some(fault) => explained_conflict(alloc, located, fault, answer),
+        Some(fault) => explained_conflict(alloc, text, located, fault, answer),
         None => explained_run(alloc, text, located, answer),
     }
 }

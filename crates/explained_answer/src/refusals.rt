@@ -40,16 +40,17 @@ pub(crate) fn explained_fault(
 /// Explains an answer to a text whose program has this conflict.
 pub(crate) fn explained_conflict(
     alloc: Global,
+    text: &[u8],
     located: &Located,
     fault: CheckFault,
     answer: &[u8],
 ) -> Result<Explained, Memory>
-    ensures { IfOk result (IsRefusalExplained (refusal_of (OfCheck fault)) (conflict_sentences located.now fault) answer.now) }
+    ensures { IfOk result (IsRefusalExplained (refusal_of (OfCheck fault)) (conflict_sentences text.now located.now fault) answer.now) }
 {
     let mut line = refusal_line(alloc, &Refusal::Check(fault))?;
     if answer != line.as_slice() {
         return Ok(Explained::Refused { line: 1 });
     }
-    push_conflict(&mut line, located, fault)?;
+    push_conflict(&mut line, text, located, fault)?;
     Ok(Explained::Text(Sequence::from_vec(line)))
 }

@@ -60,9 +60,9 @@ pub(crate) fn amendment(fault: SourceFault) -> &'static [u8]
             b"Write decimal digits, or `0x` and hexadecimal digits. A name may not begin with a digit.",
         SourceFault::LineLimit { .. } => b"Shorten the line, or leave out lines before it.",
         SourceFault::UnknownWord { .. } =>
-            b"Words are in lower case. A line has one label at most, with `:` behind it. `.forall` needs `.version 2` as the first line that isn't blank.",
+            b"Write one of the language's statements, for example `addi` with a negative number in place of `subi`. Words are in lower case. A line has one label at most, with `:` behind it. `.forall` needs `.version 2` as the first line that isn't blank.",
         SourceFault::BadOperand { .. } =>
-            b"Write the operands as the table of statements has them, with a comma between two.",
+            b"Write the operands as the table of statements has them, with a comma between two. `addi`, `andi`, `slli` and `li` take a number at the end, and `add`, `and` and `sll` a register.",
         SourceFault::OutOfRange { .. } =>
             b"Write a number of the range; `li` makes a larger one in a register. Or use words of the region, cores from 0 to 15, or a label that is nearer.",
         SourceFault::DoubleName { .. } =>
