@@ -9,7 +9,7 @@ a store is seen by all at once. How a text is read and what an instruction does 
 
 --grant-twice switches a bug on: a lock is granted though another thread holds it. ./referee says where.
 
-The exit code is 0 where a claim was written, and 1 where the words aren't these.
+The exit code is 0 where a claim was written, 1 where the words aren't these, and 2 where the text has no program that could be run.
 """
 import argparse
 import random
@@ -17,7 +17,7 @@ import sys
 from pathlib import Path
 
 sys.path.insert(0, str(Path(__file__).resolve().parents[2] / "tools"))
-from reference import TaskState, answer_text, assemble, claim_text, decode
+from reference import TaskState, Unfit, answer_text, assemble, claim_text, decode
 
 
 class Simulator:
@@ -88,7 +88,12 @@ def main():
     except SystemExit as stop:
         return 1 if stop.code else 0
     text = sys.stdin.buffer.read()
-    simulator = Simulator(assemble(text.decode("latin-1")), asked.fuel, asked.grant_twice)
+    try:
+        program = assemble(text.decode("latin-1"))
+    except Unfit as why:
+        print(f"simulate.py: the text has no program that could be run ({why}): ./denovo says why", file=sys.stderr)
+        return 2
+    simulator = Simulator(program, asked.fuel, asked.grant_twice)
     simulator.run(random.Random(asked.seed))
     loads = None if asked.no_loads else simulator.loads
     answer = answer_text((simulator.ends, simulator.memory))
