@@ -66,6 +66,17 @@ def words_are_handed_on():
         check(f"the words change the answer to {example}", all(a != b for i, a in enumerate(answers) for b in answers[:i]))
 
 
+def stored_runs():
+    """The runs of tools/stored_runs: each folder is PROGRAM-NAME, with a word on each line of args, the bytes of stdin and stdout, and the
+    exit code in status. The gate itself has one such run for each program."""
+    for folder in sorted(pathlib.Path("tools/stored_runs").iterdir()):
+        part = {it.name: it.read_bytes() for it in folder.iterdir()}
+        for program in programs(folder.name.partition("-")[0]):
+            ran = run(program + part.get("args", b"").decode().splitlines(), part["stdin"])
+            wanted = int(part.get("status", b"0")), part["stdout"]
+            check(f"{program[0]}: the stored run {folder.name}", (ran.returncode, ran.stdout) == wanted, ran.returncode)
+
+
 def every_exit_code_comes():
     for words, example, status in (
             ([], "stale-copy", 0), ([], "trap", 3), ([], "endless", 4), (["--mode", "flat"], "endless", 4)):
@@ -385,6 +396,7 @@ def pages_show_what_is_printed():
 
 
 words_are_handed_on()
+stored_runs()
 every_exit_code_comes()
 a_run_is_drawn_by_a_pipe()
 answers_are_explained()

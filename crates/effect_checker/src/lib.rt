@@ -10,5 +10,5 @@ mod searching;
 mod takers;
 
 pub use checked::Checked;
-pub use checking::check;
+pub use checking::{check, first_fault};
 pub use fault::CheckFault;
