@@ -18,7 +18,7 @@ use front_end::{Stop, checked_of};
 use grant_log::Counts;
 use region_table::Program;
 use run_report::{report, summary};
-use run_timing::{Ticks, Timing, time_run, time_text};
+use run_timing::{Ticks, Timing, push_timing, time_run};
 use rv_core::Ending;
 use std::alloc::Global;
 
@@ -116,7 +116,7 @@ fn timed_text(alloc: Global, ending: &Ending, timing: &Timing) -> Result<Vec<u8>
     ensures { IfOk result (λ text. text.items ≡ summary_of ending.now ++ timing_of timing.now) }
 {
     let mut text = summary(alloc, ending)?;
-    text.extend_from_slice(time_text(alloc, timing)?.as_slice())?;
+    push_timing(&mut text, timing)?;
     Ok(text)
 }
 

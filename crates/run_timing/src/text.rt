@@ -1,10 +1,9 @@
-ghost use Rattle.std.specs.Prelude.{◌≡◌, ◌++◌, flat_map, IfOk, OnOk};
+ghost use Rattle.std.specs.Prelude.{◌≡◌, ◌++◌, flat_map, OnOk};
 ghost use Rattle.run_timing.specs.Text.{chain_line, link_line, time_line, timing_of};
 
 use crate::timing::{Link, Timing};
 use dn_base::Memory;
 use run_report::event_name;
-use std::alloc::Global;
 use text_pieces::{push, push_decimal, push_long};
 
 #[tactic(auto, unfolding(crate::specs::Text::time_line))]
@@ -47,18 +46,16 @@ fn push_links(out: &mut Vec<u8>, links: &[Link]) -> Result<(), Memory>
     Ok(())
 }
 
-/// The timing as it is printed: how many ticks the run takes, how many links the chain has, and a line for each link in their
-/// order with the number of its event, the event's kind and when it finishes.
+/// Adds the timing as it is printed to a text: how many ticks the run takes, how many links the chain has, and a line for each link
+/// in their order with the number of its event, the event's kind and when it finishes. Each line is written once, in its place.
 ///
 /// # Errors
-/// `Memory` where there is no room for the text.
+/// `Memory` where there is no room; what is added then is no part of a text.
 #[tactic(auto, unfolding(crate::specs::Text::timing_of))]
-pub fn time_text(alloc: Global, timing: &Timing) -> Result<Vec<u8>, Memory>
-    ensures { IfOk result (λ text. text.items ≡ timing_of timing.now) }
+pub fn push_timing(out: &mut Vec<u8>, timing: &Timing) -> Result<(), Memory>
+    ensures { OnOk result (out.new.items ≡ out.old.items ++ timing_of timing.now) }
 {
-    let mut out = Vec::new(alloc);
-    push_total(&mut out, timing.total)?;
-    push_count(&mut out, timing.links.len() as u64)?;
-    push_links(&mut out, timing.links.as_slice())?;
-    Ok(out)
+    push_total(out, timing.total)?;
+    push_count(out, timing.links.len() as u64)?;
+    push_links(out, timing.links.as_slice())
 }
