@@ -1,67 +1,95 @@
 -- One row more.
-use Rattle.std.proofs.Common.{◌≡◌, ℕ, ◌+◌, Bool, List, [], ◌∷◌, ◌++◌, Option, Some, refl, sym, ap, ◌∙◌}
+use Rattle.std.proofs.Common.{◌≡◌, ℕ, ◌+◌, ◌*◌, ◌<◌, ◌≤◌, Bool, List, [], ◌∷◌, ◌++◌, length, map, drop, get_or, Option, Some, refl, sym, ap, subst, ◌∙◌, arith, length-append}
+use Rattle.std.proofs.lemmas.List.{at_drop_more}
 use Rattle.message_net.specs.declared.actor.Actor.{Actor}
 use Rattle.message_net.specs.declared.event.Event.{Event}
-use Rattle.message_net.specs.declared.event.EventKind.{EventKind}
-use Rattle.machine_rules.specs.Next.{next, kind_in}
-use Rattle.dn_machine.specs.declared.parts.MachineParts.{MachineParts}
-use Rattle.dn_machine.specs.Actors.{actor_in}
+use Rattle.machine_rules.specs.State.{State}
+use Rattle.machine_rules.specs.Next.{next}
+use Rattle.machine_rules.specs.Sound.{IsMachine}
 use Rattle.dn_machine.specs.Kept.{Made}
-use Rattle.dn_machine.specs.Parts.{made_in}
 use Rattle.message_chart.specs.declared.chart.ChartRow.{ChartRow}
-use Rattle.message_chart.specs.declared.chart.Origin.{Origin}
 use Rattle.message_chart.specs.declared.states.WordState.{WordState}
 use Rattle.message_chart.specs.declared.states.WordChange.{WordChange}
 use Rattle.run_chart.specs.declared.drawing.Drawing.{Drawing}
+use Rattle.run_chart.specs.declared.drawing.Look.{Look}
 use Rattle.run_chart.specs.declared.mails.SentMail.{SentMail}
-use Rattle.run_chart.specs.Drawing.{moved, the_actor, event_maker, is_on_chain, height, row_by, row_of, with_row}
-use Rattle.run_chart.specs.Mails.{noted_mails, origin_of}
-use Rattle.run_chart.specs.Words.{word_state, word_states, changes_from, changes_in}
+use Rattle.run_chart.specs.Drawing.{event_maker, height, row_by, row_of, row_with, with_row, with_rows, IsLook, HasRow, IsNextRow}
+use Rattle.run_chart.specs.Mails.{noted_mails, place_handled, left, sent_on, AreLinesOf}
+use Rattle.run_chart.specs.Marks.{is_on_chain}
+use Rattle.run_chart.specs.Words.{word_state, changes_from, changes_in}
+use Rattle.run_chart.proofs.Noted.{noted-ids}
+use Rattle.run_chart.proofs.Flown.{kept-is-noted}
 
-module _ (m : Made) (flown : List SentMail) (e : Event) (number line : ℕ) (mark : Bool) where
-  row-is : (actor : Actor) (kind : EventKind) (mail : Option Origin) (changes : List WordChange) → actor ≡ event_maker m.state e → kind ≡ kind_in m.state e → mail ≡ origin_of flown e
-      → changes ≡ changes_in m.state (next m.state e) (event_maker m.state e)
-      → ◌≡◌ {A = ChartRow} (record { event = number; actor = actor; kind = kind; line = line; mail = mail; changes = changes; on_chain = mark }) (row_by m flown e number line mark)
-  row-is actor kind mail changes who what whence become = rw (who, what, whence, become) refl
+-- what is noted after an event that handled the mail at a place and led to a machine
+abbrev pub noted_after : Drawing → Made → Option ℕ → List SentMail
+noted_after d n place = left place d.sent ++ map (sent_on (Some d.line)) (drop (length (left place d.sent)) n.state.mails)
 
-  pub made-parts : (machine : Made) (parts : MachineParts) → machine ≡ m → made_in parts ≡ moved machine e → made_in parts ≡ moved m e
-  made-parts machine parts same came = came ∙ ap (λ (x : Made). moved x e) same
+-- the drawing d with a row more
+abbrev pub with_this : Drawing → Made → Option ℕ → ChartRow → Drawing
+with_this d n place row =
+    record {
+      machine = n;
+      sent = noted_after d n place;
+      event = d.event + 1;
+      line = d.line + height row.changes;
+      rows = d.rows ++ row ∷ [];
+    }
 
-  -- what is made of an event is its row
-  pub made-row : (actor : Actor) (mail : Option Origin) (kind : EventKind) (machine : Made) (befores seen : List WordState) (parts : MachineParts) (changes : List WordChange)
-      → actor_in m.state e ≡ Some actor → mail ≡ origin_of flown e → machine ≡ m → befores ≡ word_states m.state actor → made_in parts ≡ moved machine e → kind ≡ kind_in machine.state e
-      → seen ≡ befores → changes ≡ changes_from (word_state (made_in parts).state actor) 0 seen
-      → ◌≡◌ {A = ChartRow} (record { event = number; actor = actor; kind = kind; line = line; mail = mail; changes = changes; on_chain = mark }) (row_by m flown e number line mark)
-  made-row actor mail kind machine befores seen parts changes acts mails same states came kinds seen_is changed =
-      let S = m.state in
-      let who : actor ≡ event_maker S e = sym (ap the_actor acts) in
-      let what : kind ≡ kind_in S e = kinds ∙ ap (λ (x : Made). kind_in x.state e) same in
-      let become : changes ≡ changes_in S (next S e) (event_maker S e) =
-      changed
-      ∙ ap (λ (x : List WordState). changes_from (word_state (made_in parts).state actor) 0 x) (seen_is ∙ states)
-      ∙ ap (λ (x : Made). changes_from (word_state x.state actor) 0 (word_states S actor)) (made-parts machine parts same came)
-      ∙ ap (λ (a : Actor). changes_in S (next S e) a) who
+-- the row that is made by what was looked at is the event's
+row-is : (S : State) (sent : List SentMail) (e : Event) (look : Look) (number line : ℕ) (mark : Bool) (m : Made) → m.state ≡ S → IsLook S sent e look → row_with S e look number line mark ≡ row_by m sent e number line mark
+row-is S sent e look number line mark m same seen =
+    let become : changes_from (word_state (next S e) look.actor) 0 look.states ≡ changes_in S (next S e) (event_maker S e) =
+    ap (λ (x : List WordState). changes_from (word_state (next S e) look.actor) 0 x) seen.states ∙ ap (λ (a : Actor). changes_in S (next S e) a) seen.actor
+    in
+    rw (become, seen.actor, seen.mail, same) refl
+
+module _ (d : Drawing) (e : Event) (look : Look) (n : Made) (row : ChartRow) (mark : Bool) where
+  is-next : (chain : List ℕ) → IsMachine d.machine.state → AreLinesOf d.sent d.machine.state.mails → IsLook d.machine.state d.sent e look → HasRow d.machine n e look d.event d.line mark row
+      → mark ≡ is_on_chain chain d.event → with_this d n look.place row ≡ with_row chain d e
+  is-next chain good same seen came marked =
+      let S = d.machine.state in
+      let flying : noted_after d n look.place ≡ noted_mails (next S e).mails (Some d.line) d.sent =
+      ap (λ (p : Option ℕ). noted_after d n p) seen.place ∙ ap (λ (x : Made). noted_after d x (place_handled S.mails e)) came.moves ∙ kept-is-noted S e d.sent (Some d.line) good same
       in
-      row-is actor kind mail changes who what mails become
-
-module _ (chain : List ℕ) (d : Drawing) (e : Event) where
-  drawing-is : (machine : Made) (sent : List SentMail) (lines : ℕ) (rows : List ChartRow) → machine ≡ moved d.machine e → sent ≡ noted_mails (next d.machine.state e).mails (Some d.line) d.sent
-      → lines ≡ height (row_of chain d e).changes → rows ≡ d.rows ++ row_of chain d e ∷ []
-      → ◌≡◌ {A = Drawing} (record { machine = machine; sent = sent; event = d.event + 1; line = d.line + lines; rows = rows }) (with_row chain d e)
-  drawing-is machine sent lines rows comes flying tall more = rw (comes, flying, tall, more) refl
-
-  -- the drawing with the row of an event
-  pub with-row-is : (row : ChartRow) (joined : Made) (parts : MachineParts) (changes : List WordChange) (flew flew' sent : List SentMail) (lines : ℕ) (on_chain : Bool) (rows : List ChartRow)
-      → flew ≡ d.sent → on_chain ≡ is_on_chain chain d.event → row ≡ row_by d.machine flew e d.event d.line on_chain → made_in parts ≡ moved d.machine e → changes ≡ row.changes
-      → lines ≡ height changes → flew' ≡ d.sent → sent ≡ noted_mails parts.pool.mails (Some d.line) flew' → rows ≡ d.rows ++ row ∷ [] → joined ≡ made_in parts
-      → ◌≡◌ {A = Drawing} (record { machine = joined; sent = sent; event = d.event + 1; line = d.line + lines; rows = rows }) (with_row chain d e)
-  with-row-is row joined parts changes flew flew' sent lines on_chain rows flew_is mark made came changes_are heights flew_is' noted pushed joins =
       let row_is : row ≡ row_of chain d e =
-      made
-      ∙ ap (λ (s : List SentMail). row_by d.machine s e d.event d.line on_chain) flew_is
-      ∙ ap (λ (b : Bool). row_by d.machine d.sent e d.event d.line b) mark
+      came.is ∙ row-is S d.sent e look d.event d.line mark d.machine refl seen ∙ ap (λ (b : Bool). row_by d.machine d.sent e d.event d.line b) marked
       in
-      let flying : sent ≡ noted_mails (next d.machine.state e).mails (Some d.line) d.sent =
-      noted ∙ ap (λ (s : List SentMail). noted_mails parts.pool.mails (Some d.line) s) flew_is' ∙ ap (λ (x : Made). noted_mails x.state.mails (Some d.line) d.sent) came
-      in
-      drawing-is joined sent lines rows (joins ∙ came) flying (heights ∙ ap height (changes_are ∙ ap (λ (r : ChartRow). r.changes) row_is)) (pushed ∙ ap (λ (r : ChartRow). d.rows ++ r ∷ []) row_is)
+      rw (flying, row_is, came.moves) refl
+
+  pub next-row : (f : Drawing) → IsMachine d.machine.state → AreLinesOf d.sent d.machine.state.mails → IsLook d.machine.state d.sent e look → HasRow d.machine n e look d.event d.line mark row
+      → d.line ≤ 65536 * length d.rows → height row.changes ≤ 65536 → f ≡ with_this d n look.place row → IsNextRow mark d f e
+  next-row f good same seen came lines tall is =
+      record {
+        may = came.may;
+        is = λ chain marked. is ∙ is-next chain good same seen came marked;
+        made = ap (λ (x : Drawing). x.machine.made) is ∙ ap (λ (x : Made). x.made) came.moves;
+        event = ap (λ (x : Drawing). x.event) is;
+        rows = ap (λ (x : Drawing). length x.rows) is ∙ length-append d.rows (row ∷ []) ∙ omega arith;
+        line = subst (λ (x : Drawing). x.line ≤ 65536 * length x.rows) (sym is) (omega (arith, lines, tall, length-append d.rows (row ∷ [])));
+        sent = subst (λ (x : Drawing). AreLinesOf x.sent x.machine.state.mails) (sym is) in_step;
+      }
+    where
+      S : State
+      S = d.machine.state
+
+      flying : noted_after d n look.place ≡ noted_mails (next S e).mails (Some d.line) d.sent
+      flying = ap (λ (p : Option ℕ). noted_after d n p) seen.place ∙ ap (λ (x : Made). noted_after d x (place_handled S.mails e)) came.moves ∙ kept-is-noted S e d.sent (Some d.line) good same
+
+      in_step : AreLinesOf (noted_after d n look.place) n.state.mails
+      in_step =
+          let noted : AreLinesOf (noted_mails (next S e).mails (Some d.line) d.sent) (next S e).mails = noted-ids (next S e).mails (Some d.line) d.sent in
+          let mails : n.state.mails ≡ (next S e).mails = ap (λ (x : Made). x.state.mails) came.moves in
+          rw (flying, mails) noted
+
+pub height-most : (changes : List WordChange) → length changes ≤ 65536 → height changes ≤ 65536
+height-most [] most = omega arith
+height-most (c ∷ cs) most = most
+
+-- the rows of one event more of a list
+pub rows-step : (chain : List ℕ) (d f : Drawing) (es : List Event) (i : ℕ) (other : Event) (whole : Drawing) (mark : Bool) → i < length es → IsNextRow mark d f (get_or es i other)
+    → mark ≡ is_on_chain chain d.event → with_rows chain d (drop i es) ≡ whole → with_rows chain f (drop (i + 1) es) ≡ whole
+rows-step chain d f es i other whole mark within row marked so_far =
+    let e = get_or es i other in
+    let step : with_rows chain d (drop i es) ≡ with_rows chain d (e ∷ drop (i + 1) es) = at_drop_more (λ (l : List Event). with_rows chain d l) es i other within in
+    let on : with_rows chain d (e ∷ drop (i + 1) es) ≡ with_rows chain (with_row chain d e) (drop (i + 1) es) = rw row.may refl in
+    ap (λ (x : Drawing). with_rows chain x (drop (i + 1) es)) (row.is chain marked) ∙ sym on ∙ sym step ∙ so_far

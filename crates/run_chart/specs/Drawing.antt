@@ -1,6 +1,5 @@
 -- How a chart is drawn, event by event.
-use Rattle.std.specs.Prelude.{ℕ, ◌+◌, ◌==◌, Bool, ◌&&◌, nat_le, nat_lt, List, [], ◌∷◌, ◌++◌, length, Option, Some, None, if◌then◌else◌}
-use Rattle.std.specs.List.{list_any}
+use Rattle.std.specs.Prelude.{◌≡◌, ℕ, ◌+◌, ◌*◌, ◌≤◌, Bool, true, false, ◌&&◌, nat_le, nat_lt, List, [], ◌∷◌, ◌++◌, length, Option, Some, None, if◌then◌else◌}
 use Rattle.message_net.specs.declared.actor.Actor.{Actor}
 use Rattle.message_net.specs.declared.actor.Actor.TheVariants.{Keeper}
 use Rattle.message_net.specs.declared.event.Event.{Event}
@@ -11,10 +10,12 @@ use Rattle.dn_machine.specs.Kept.{Made}
 use Rattle.message_chart.specs.declared.chart.ChartRow.{ChartRow}
 use Rattle.message_chart.specs.declared.states.WordChange.{WordChange}
 use Rattle.run_chart.specs.declared.drawing.Drawing.{Drawing}
+use Rattle.run_chart.specs.declared.drawing.Look.{Look}
 use Rattle.run_chart.specs.declared.drawing.Range.{Range}
 use Rattle.run_chart.specs.declared.mails.SentMail.{SentMail}
-use Rattle.run_chart.specs.Mails.{noted_mails, origin_of}
-use Rattle.run_chart.specs.Words.{changes_in}
+use Rattle.run_chart.specs.Mails.{noted_mails, origin_of, unknown_mails, place_handled, AreLinesOf}
+use Rattle.run_chart.specs.Marks.{is_on_chain}
+use Rattle.run_chart.specs.Words.{changes_in, changes_from, word_state, word_states}
 
 -- the machine after one event more
 abbrev pub moved : Made → Event → Made
@@ -27,10 +28,6 @@ the_actor (Some a) = a
 
 abbrev pub event_maker : State → Event → Actor
 event_maker S e = the_actor (actor_in S e)
-
--- whether an event is on the chain
-abbrev pub is_on_chain : List ℕ → ℕ → Bool
-is_on_chain chain event = list_any (λ (number : ℕ). number == event) chain
 
 -- how many lines a row with these changes has
 abbrev pub height : List WordChange → ℕ
@@ -86,3 +83,72 @@ drawn range chain d e = if has_row range d then with_row chain d e else without_
 abbrev pub draw : Range → List ℕ → Drawing → List Event → Drawing
 draw range chain d [] = d
 draw range chain d (e ∷ es) = if enabled d.machine.state e then draw range chain (drawn range chain d e) es else d
+
+-- ---- how it is drawn in parts: first the events before the range come, then those of the range, and those behind it change no row
+
+-- the machine to which events lead that come one after the other; None where one of them may not come in its turn
+abbrev pub passed : Made → List Event → Option Made
+passed m [] = Some m
+passed m (e ∷ es) = if enabled m.state e then passed (moved m e) es else None
+
+-- no event has a row so far, and so many came
+abbrev pub waiting : Made → ℕ → Drawing
+waiting m event = record { machine = m; sent = unknown_mails m.state.mails; event = event; line = 0; rows = [] }
+
+-- the drawing with the rows of these events more, as long as each may come
+abbrev pub with_rows : List ℕ → Drawing → List Event → Drawing
+with_rows chain d [] = d
+with_rows chain d (e ∷ es) = if enabled d.machine.state e then with_rows chain (with_row chain d e) es else d
+
+-- two drawings have the same rows, on as many lines
+abbrev pub SameRows : Drawing → Drawing → Type 0
+SameRows d f = (d.rows ≡ f.rows) × (d.line ≡ f.line)
+
+-- ---- what the parts of a row's drawing come to
+
+-- the events came one after the other, or one of them may not come in its turn
+abbrev pub HasPassed : Made → Made → List Event → Bool → Type 0
+HasPassed m n events true = passed m events ≡ Some n
+HasPassed m n events false = passed m events ≡ None
+
+-- what is looked at before an event
+pub record IsLook (S : State) (sent : List SentMail) (e : Event) (look : Look) : Type 0 where
+  pub place : look.place ≡ place_handled S.mails e
+  pub actor : look.actor ≡ event_maker S e
+  pub mail : look.mail ≡ origin_of sent e
+  pub states : look.states ≡ word_states S look.actor
+
+-- the row of an event, by what was looked at before it
+abbrev pub row_with : State → Event → Look → ℕ → ℕ → Bool → ChartRow
+row_with S e look event line on_chain =
+    record {
+      event = event;
+      actor = look.actor;
+      kind = kind_in S e;
+      line = line;
+      mail = look.mail;
+      changes = changes_from (word_state (next S e) look.actor) 0 look.states;
+      on_chain = on_chain;
+    }
+
+-- an event came, and this is its row
+pub record HasRow (m n : Made) (e : Event) (look : Look) (event line : ℕ) (on_chain : Bool) (row : ChartRow) : Type 0 where
+  pub may : enabled m.state e ≡ true
+  pub moves : n ≡ moved m e
+  pub is : row ≡ row_with m.state e look event line on_chain
+  pub most : length row.changes ≤ 65536
+
+-- the drawing d has become f by one row more
+pub record IsNextRow (on_chain : Bool) (d f : Drawing) (e : Event) : Type 0 where
+  pub may : enabled d.machine.state e ≡ true
+  pub is : (chain : List ℕ) → on_chain ≡ is_on_chain chain d.event → f ≡ with_row chain d e
+  pub made : f.machine.made ≡ d.machine.made + 1
+  pub event : f.event ≡ d.event + 1
+  pub rows : length f.rows ≡ length d.rows + 1
+  pub line : f.line ≤ 65536 * length f.rows
+  pub sent : AreLinesOf f.sent f.machine.state.mails
+
+-- what came of an event that was to have a row: nothing, as it may not come, or it came
+abbrev pub IsRowed : Bool → Drawing → Drawing → Event → Bool → Type 0
+IsRowed on_chain d f e false = (enabled d.machine.state e ≡ false) × (f ≡ d)
+IsRowed on_chain d f e true = IsNextRow on_chain d f e

@@ -1,4 +1,5 @@
 pub mod Words
 pub mod Mails
+pub mod Marks
 pub mod Drawing
 pub mod Charts

@@ -1,10 +1,12 @@
 -- On which lines the mails in flight were sent.
-use Rattle.std.specs.Prelude.{ℕ, List, [], ◌∷◌, map, Option, Some, None, if◌then◌else◌}
+use Rattle.std.specs.Prelude.{◌≡◌, ℕ, List, [], ◌∷◌, map, position, slice_get, Option, Some, None, if◌then◌else◌}
+use Rattle.std.specs.List.{swap_remove}
 use Rattle.message_net.specs.declared.actor.MailId.{MailId}
 use Rattle.message_net.specs.declared.event.Event.{Event}
 use Rattle.message_net.specs.declared.event.Event.TheVariants.{Handle}
 use Rattle.message_net.specs.declared.message.Mail.{Mail}
 use Rattle.message_net.specs.Id.{same_id}
+use Rattle.message_net.specs.Pool.{of_id}
 use Rattle.message_chart.specs.declared.chart.Origin.{Origin}
 use Rattle.run_chart.specs.declared.mails.SentMail.{SentMail}
 
@@ -24,3 +26,39 @@ noted_mails mails line sent = map (noted_mail line sent) mails
 abbrev pub origin_of : List SentMail → Event → Option Origin
 origin_of sent (Handle id) = Some (record { sender = id.sender; line = noted_line id None sent })
 origin_of sent _ = None
+
+-- ---- how the list is kept in step with the mails in flight
+
+-- what is noted is of these mails, in their order
+abbrev pub AreLinesOf : List SentMail → List Mail → Type 0
+AreLinesOf sent mails = map (λ (s : SentMail). s.id) sent ≡ map (λ (m : Mail). m.id) mails
+
+-- the line that is noted at a place
+abbrev pub line_in : Option SentMail → Option ℕ
+line_in None = None
+line_in (Some s) = s.line
+
+abbrev pub line_at : List SentMail → Option ℕ → Option ℕ
+line_at sent None = None
+line_at sent (Some place) = line_in (slice_get sent place)
+
+-- a mail that was sent on a line, and the mails in flight where no event has a row so far
+abbrev pub sent_on : Option ℕ → Mail → SentMail
+sent_on line m = record { id = m.id; line = line }
+
+abbrev pub unknown_mails : List Mail → List SentMail
+unknown_mails mails = map (sent_on None) mails
+
+-- the place of the mail that an event handles
+abbrev pub place_handled : List Mail → Event → Option ℕ
+place_handled mails (Handle id) = position (of_id id) mails
+place_handled mails _ = None
+
+-- what is noted once the mail at a place is handled: the last one takes its place, as in the pool
+abbrev pub left_at : ℕ → List SentMail → Option SentMail → List SentMail
+left_at place sent None = sent
+left_at place sent (Some s) = swap_remove sent place s
+
+abbrev pub left : Option ℕ → List SentMail → List SentMail
+left None sent = sent
+left (Some place) sent = left_at place sent (slice_get sent place)

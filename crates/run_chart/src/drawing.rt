@@ -1,19 +1,21 @@
-ghost use Rattle.std.specs.Prelude.{◌≡◌, ◌+◌, ◌*◌, ◌<◌, ◌≤◌, true, length, IfOk};
-ghost use Rattle.machine_rules.specs.Next.{enabled, kind_in, next};
-ghost use Rattle.rv_core.specs.Decoded.{IsDecoded};
-ghost use Rattle.dn_machine.specs.Actors.{actor_in};
-ghost use Rattle.dn_machine.specs.Kept.{IsKept};
-ghost use Rattle.dn_machine.specs.Parts.{made_in};
-ghost use Rattle.run_chart.specs.Drawing.{draw, drawn, has_row, height, is_on_chain, moved, row_by, with_row, without_row};
-ghost use Rattle.run_chart.specs.Words.{changes_in, word_states};
+ghost use Rattle.std.specs.Prelude.{◌≡◌, ◌+◌, ◌*◌, ◌++◌, ◌∷◌, ◌<◌, ◌≤◌, ℕ, [], false, None, Some, Ok, drop, length, map, IfOk, OnOk};
+ghost use Rattle.message_net.specs.Pool.{removed};
+ghost use Rattle.machine_rules.specs.Next.{enabled};
+ghost use Rattle.machine_rules.specs.Sound.{IsMachine};
+ghost use Rattle.dn_machine.specs.Actors.{receiver_of};
+ghost use Rattle.message_chart.specs.declared.chart.ChartRow.{ChartRow as ARow};
+ghost use Rattle.run_chart.specs.Drawing.{event_maker, height, the_actor, with_rows, HasPassed, HasRow, IsLook, IsRowed};
+ghost use Rattle.run_chart.specs.Mails.{AreLinesOf, left, sent_on};
 
-use crate::mails::{SentMail, noted_mails, origin_of};
+use crate::mails::{SentMail, after_event, origin_of, place_handled};
+use crate::marks::marks;
 use crate::words::{changes, word_states};
 use dn_base::{Memory, Sequence};
-use dn_machine::{Machine, MachineParts};
-use message_chart::{ChartRow, WordChange, WordState};
-use message_net::{Actor, Event, EventKind};
+use dn_machine::{Machine, a_machine_is_kept};
+use message_chart::{ChartRow, Origin, WordChange, WordState};
+use message_net::{Actor, Event, MailId, Pool};
 use std::alloc::Global;
+use std::mem;
 
 /// Which events have rows: the first of them, numbered from 0, and how many there are at most, up to 4,096.
 #[derive(Clone, Copy, Debug, PartialEq, Eq)]
@@ -33,98 +35,111 @@ pub(crate) struct Drawing {
     pub(crate) rows: Sequence<ChartRow>,
 }
 
-/// A machine, and what an actor has for each data word.
+/// What is looked at before an event: the place of the mail that it handles, its actor, where its mail comes from, and what the actor
+/// has for each data word.
 #[derive(Drop)]
-struct Look {
-    machine: Machine,
-    states: Sequence<WordState>,
+pub(crate) struct Look {
+    pub(crate) place: Option<u32>,
+    pub(crate) actor: Actor,
+    pub(crate) mail: Option<Origin>,
+    pub(crate) states: Sequence<WordState>,
 }
 
-/// An event that came: its kind, and the parts of the machine after it.
-#[derive(Drop)]
-struct Came {
-    kind: EventKind,
-    parts: MachineParts,
+/// Makes events one after the other, as long as each may come, and tells whether all of them came.
+///
+/// # Errors
+/// `Memory` where there is no room for the mails.
+pub(crate) fn pass(machine: &mut Machine, events: &[Event]) -> Result<bool, Memory>
+    requires made { machine.old.made ≡ 0 }
+    requires few { length events.now ≤ 25169664 }
+    ensures passed { IfOk result (HasPassed machine.old machine.new events.now) }
+    ensures made { OnOk result (machine.new.made ≤ length events.now) }
+{
+    for event in events {
+        let came = machine.try_step(*event)?;
+        if came.is_none() {
+            return Ok(false);
+        }
+    }
+    Ok(true)
 }
 
-/// Looks at what an actor has for each data word.
-fn look_at(alloc: Global, machine: Machine, actor: Actor) -> Result<Look, Memory>
-    ensures machine { IfOk result (λ look. look.machine ≡ machine) }
-    ensures states { IfOk result (λ look. look.states ≡ word_states machine.state actor) }
+/// The actor that the mail with this id goes to; the keeper where no mail in flight has the id.
+fn receiver(pool: &Pool, id: MailId) -> Actor
+    ensures { result ≡ the_actor (receiver_of (removed id pool.now.mails).0) }
+{
+    match pool.place_of(id) {
+        Some(place) => pool.at(place).to,
+        None => Actor::Keeper,
+    }
+}
+
+/// The actor that makes an event, if it may come.
+#[tactic(auto, unfolding(dn_machine::specs::Actors::actor_in))]
+fn event_maker(machine: &Machine, event: Event) -> Actor
+    ensures { result ≡ event_maker machine.now.state event }
+{
+    match event {
+        Event::Instr(core) => Actor::Core(core),
+        Event::Evict(core, _) => Actor::Core(core),
+        Event::Arrive(core) => Actor::Core(core),
+        Event::Handle(id) => receiver(machine.pool(), id),
+    }
+}
+
+/// Looks at what the row of an event tells of the time before it.
+fn look_at(
+    alloc: Global,
+    machine: &Machine,
+    sent: &[SentMail],
+    event: Event,
+) -> Result<Look, Memory>
+    requires machine { IsMachine machine.now.state }
+    requires sent { AreLinesOf sent.now machine.now.state.mails }
+    ensures look { IfOk result (IsLook machine.now.state sent.now event) }
     ensures most { IfOk result (λ look. length look.states ≤ 65536) }
 {
-    let parts = machine.split();
-    let states = word_states(alloc, &parts, actor)?;
+    let actor = event_maker(machine, event);
+    let states = word_states(alloc, machine, actor)?;
     Ok(Look {
-        machine: Machine::join(parts),
+        place: place_handled(machine.pool(), event),
+        actor,
+        mail: origin_of(machine.pool(), sent, event),
         states,
     })
 }
 
-/// Makes an event, which may come, and takes the machine apart.
-fn make(machine: Machine, event: Event) -> Result<Came, Memory>
-    requires may { enabled machine.state event ≡ true }
-    requires made { machine.made < 4000000000 }
-    ensures kind { IfOk result (λ came. came.kind ≡ kind_in machine.state event) }
-    ensures parts { IfOk result (λ came. made_in came.parts ≡ moved machine event) }
-    ensures kept { IfOk result (λ came. IsKept (made_in came.parts).state came.parts.made) }
-    ensures code { IfOk result (λ came. IsDecoded came.parts.checked came.parts.code) }
-{
-    let mut machine = machine;
-    let observed = machine.step(event)?;
-    Ok(Came {
-        kind: observed.kind,
-        parts: machine.split(),
-    })
-}
-
-/// An event that has a row: the row, and the parts of the machine after the event.
-#[derive(Drop)]
-struct Rowed {
-    row: ChartRow,
-    parts: MachineParts,
-}
-
-/// Makes an event, which may come and has this number and this first line, and gives its row.
-fn make_row(
+/// Makes an event, where it may come, and gives its row, which has this number and this first line; None where it may not.
+fn row_of(
     alloc: Global,
-    machine: Machine,
-    sent: &[SentMail],
+    machine: &mut Machine,
+    before: &Look,
     event: Event,
     number: u32,
     line: u32,
     on_chain: bool,
-) -> Result<Rowed, Memory>
-    requires may { enabled machine.state event ≡ true }
-    requires made { machine.made < 4000000000 }
-    ensures row { IfOk result (λ rowed. rowed.row ≡ row_by machine sent.now event number line on_chain) }
-    ensures parts { IfOk result (λ rowed. made_in rowed.parts ≡ moved machine event) }
-    ensures kept { IfOk result (λ rowed. IsKept (made_in rowed.parts).state rowed.parts.made) }
-    ensures code { IfOk result (λ rowed. IsDecoded rowed.parts.checked rowed.parts.code) }
-    ensures most { IfOk result (λ rowed. length rowed.row.changes ≤ 65536) }
+) -> Result<Option<ChartRow>, Memory>
+    requires made { machine.old.made < 4000000000 }
+    requires few { length before.now.states ≤ 65536 }
+    ensures none { result ≡ Ok None → (enabled machine.old.state event ≡ false) × (machine.new ≡ machine.old) }
+    ensures came { (row : ARow) → result ≡ Ok (Some row) → HasRow machine.old machine.new event before.now number line on_chain row }
 {
-    let actor = machine.actor(&event);
-    let mail = origin_of(sent, event);
-    let Look { machine, states } = look_at(alloc, machine, actor)?;
-    let Came { kind, parts } = make(machine, event)?;
-    let changes = changes(alloc, &parts, actor, states.as_slice())?;
-    let row = ChartRow {
+    let came = machine.try_step(event)?;
+    let Some((_, stepped)) = came else {
+        return Ok(None);
+    };
+    // for the proof alone: the machine is well formed after the event too
+    a_machine_is_kept(machine);
+    let changes = changes(alloc, machine, before.actor, before.states.as_slice())?;
+    Ok(Some(ChartRow {
         event: number,
-        actor,
-        kind,
+        actor: before.actor,
+        kind: stepped.kind,
         line,
-        mail,
+        mail: before.mail,
         changes,
         on_chain,
-    };
-    Ok(Rowed { row, parts })
-}
-
-/// Whether an event is on the chain.
-fn is_on_chain(chain: &[u32], event: u32) -> bool
-    ensures { result ≡ is_on_chain chain.now event }
-{
-    chain.iter().any(|number| *number == event)
+    }))
 }
 
 /// How many lines a row with these changes has.
@@ -140,125 +155,83 @@ fn height(changes: &[WordChange]) -> u32
 }
 
 impl Drawing {
-    /// Whether the next event has a row.
-    fn has_row(&self, range: Range) -> bool
-        ensures { result ≡ has_row range self.now }
+    /// Adds the row of an event that came and handled the mail at a place, and notes the mails that it sent.
+    fn note(&mut self, alloc: Global, row: ChartRow, place: Option<u32>) -> Result<(), Memory>
+        requires place { (p : ℕ) → place ≡ Some p → p < length self.old.sent }
+        requires fewer { length (left place self.old.sent) ≤ length self.old.machine.state.mails }
+        requires event { self.old.event < 4000000000 }
+        requires line { self.old.line ≤ 65536 * length self.old.rows }
+        requires rows { length self.old.rows < 4096 }
+        requires most { length row.changes ≤ 65536 }
+        ensures { OnOk result (self.new ≡ record self.old {
+          sent = left place self.old.sent ++ map (sent_on (Some self.old.line)) (drop (length (left place self.old.sent)) self.old.machine.state.mails);
+          event = self.old.event + 1;
+          line = self.old.line + height row.changes;
+          rows = self.old.rows ++ row ∷ [];
+        }) }
     {
-        range.first <= self.event && self.rows.len() < range.most as usize
+        let sent = mem::replace(&mut self.sent, Sequence::new(alloc));
+        self.sent = after_event(sent, place, self.machine.pool(), self.line)?;
+        self.line += height(row.changes.as_slice());
+        self.event += 1;
+        self.rows.push(row)
     }
 
-    /// The drawing with one event more that has no row.
-    fn without_row(self, alloc: Global, event: Event) -> Result<Drawing, Memory>
-        requires may { enabled self.machine.state event ≡ true }
-        requires made { self.machine.made < 4000000000 }
-        requires event { self.event < 4000000000 }
-        ensures { IfOk result (λ drawing. drawing ≡ without_row self event) }
+    /// Makes the next event, where it may come, and adds its row; tells whether it came.
+    fn add_row(&mut self, alloc: Global, event: Event, on_chain: bool) -> Result<bool, Memory>
+        requires made { self.old.machine.made < 4000000000 }
+        requires event { self.old.event < 4000000000 }
+        requires line { self.old.line ≤ 65536 * length self.old.rows }
+        requires rows { length self.old.rows < 4096 }
+        requires sent { AreLinesOf self.old.sent self.old.machine.state.mails }
+        ensures { IfOk result (IsRowed on_chain self.old self.new event) }
     {
-        let Drawing {
-            machine,
-            sent,
-            event: number,
-            line,
-            rows,
-        } = self;
-        let Came { kind: _, parts } = make(machine, event)?;
-        let sent = noted_mails(alloc, &parts.pool, None, sent.as_slice())?;
-        Ok(Drawing {
-            machine: Machine::join(parts),
-            sent,
-            event: number + 1,
-            line,
-            rows,
-        })
-    }
-
-    /// The drawing with one event more that has a row.
-    fn with_row(self, alloc: Global, event: Event, chain: &[u32]) -> Result<Drawing, Memory>
-        requires may { enabled self.machine.state event ≡ true }
-        requires made { self.machine.made < 4000000000 }
-        requires event { self.event < 4000000000 }
-        requires line { self.line ≤ 65536 * length self.rows }
-        requires rows { length self.rows < 4096 }
-        ensures drawing { IfOk result (λ drawing. drawing ≡ with_row chain.now self event) }
-        ensures line { IfOk result (λ drawing. drawing.line ≤ 65536 * length drawing.rows) }
-    {
-        let Drawing {
-            machine,
-            sent,
-            event: number,
-            line,
-            mut rows,
-        } = self;
-        let on_chain = is_on_chain(chain, number);
-        let Rowed { row, parts } = make_row(
+        // for the proof alone: the machine is well formed, so that what the event sends has ids of its own
+        a_machine_is_kept(&self.machine);
+        let before = look_at(alloc, &self.machine, self.sent.as_slice(), event)?;
+        let came = row_of(
             alloc,
-            machine,
-            sent.as_slice(),
+            &mut self.machine,
+            &before,
             event,
-            number,
-            line,
+            self.event,
+            self.line,
             on_chain,
         )?;
-        let lines = height(row.changes.as_slice());
-        let sent = noted_mails(alloc, &parts.pool, Some(line), sent.as_slice())?;
-        rows.push(row)?;
-        Ok(Drawing {
-            machine: Machine::join(parts),
-            sent,
-            event: number + 1,
-            line: line + lines,
-            rows,
-        })
+        let Some(row) = came else {
+            return Ok(false);
+        };
+        self.note(alloc, row, before.place)?;
+        Ok(true)
     }
 
-    /// The drawing with one event more.
-    fn drawn(
-        self,
-        alloc: Global,
-        event: Event,
-        range: Range,
-        chain: &[u32],
-    ) -> Result<Drawing, Memory>
-        requires may { enabled self.machine.state event ≡ true }
-        requires made { self.machine.made < 4000000000 }
-        requires event { self.event < 4000000000 }
-        requires line { self.line ≤ 65536 * length self.rows }
-        requires most { range.most ≤ 4096 }
-        ensures drawing { IfOk result (λ drawing. drawing ≡ drawn range chain.now self event) }
-        ensures line { IfOk result (λ drawing. drawing.line ≤ 65536 * length drawing.rows) }
-    {
-        if self.has_row(range) {
-            self.with_row(alloc, event, chain)
-        } else {
-            self.without_row(alloc, event)
-        }
-    }
-
-    /// The drawing with these events more, as long as each may come.
+    /// Makes the events of the range, as long as each may come, and adds their rows.
     ///
     /// # Errors
     /// `Memory` where there is no room.
-    pub(crate) fn draw(
-        self,
+    pub(crate) fn add_rows(
+        &mut self,
         alloc: Global,
         events: &[Event],
-        range: Range,
         chain: &[u32],
-    ) -> Result<Drawing, Memory>
-        requires made { self.machine.made ≡ 0 }
-        requires event { self.event ≡ 0 }
-        requires line { self.line ≡ 0 }
-        requires few { length events.now ≤ 25169664 }
-        requires most { range.most ≤ 4096 }
-        ensures { IfOk result (λ drawing. drawing ≡ draw range chain.now self events.now) }
+    ) -> Result<(), Memory>
+        requires made { self.old.machine.made ≤ 25169664 }
+        requires event { self.old.event ≤ 25169664 }
+        requires line { self.old.line ≡ 0 }
+        requires rows { self.old.rows ≡ [] }
+        requires few { length events.now ≤ 4096 }
+        requires sent { AreLinesOf self.old.sent self.old.machine.state.mails }
+        ensures { OnOk result (self.new ≡ with_rows chain.now self.old events.now) }
     {
-        let mut drawing = self;
+        let marks = marks(alloc, chain, self.event, events.len())?;
+        let mut place = 0;
         for event in events {
-            if !drawing.machine.enabled(event) {
-                return Ok(drawing);
+            let came = self.add_row(alloc, *event, marks[place])?;
+            if !came {
+                return Ok(());
             }
-            drawing = drawing.drawn(alloc, *event, range, chain)?;
+            place += 1;
         }
-        Ok(drawing)
+        Ok(())
     }
 }

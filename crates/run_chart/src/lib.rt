@@ -4,6 +4,7 @@
 mod charting;
 mod drawing;
 mod mails;
+mod marks;
 mod words;
 
 pub use charting::chart;

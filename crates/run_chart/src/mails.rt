@@ -1,6 +1,6 @@
-ghost use Rattle.std.specs.Prelude.{◌≡◌, IfOk};
-ghost use Rattle.message_net.specs.Id.{same_id};
-ghost use Rattle.run_chart.specs.Mails.{noted_line, noted_mails, origin_of};
+ghost use Rattle.std.specs.Prelude.{◌≡◌, ◌<◌, ◌≤◌, ◌++◌, ℕ, drop, length, map, None, Some, IfOk, OnOk};
+ghost use Rattle.message_net.specs.Pool.{AreDistinct};
+ghost use Rattle.run_chart.specs.Mails.{AreLinesOf, left, line_at, noted_line, origin_of, place_handled, sent_on, unknown_mails};
 
 use dn_base::{Memory, Sequence};
 use message_chart::Origin;
@@ -14,57 +14,119 @@ pub(crate) struct SentMail {
     pub(crate) line: Option<u32>,
 }
 
-/// Whether two ids are the same.
-fn is_same(a: MailId, b: MailId) -> bool
-    ensures { result ≡ same_id a b }
+/// The line that is noted at a place; None where there is no place.
+fn line_at(sent: &[SentMail], place: Option<u32>) -> Option<u32>
+    ensures { result ≡ line_at sent.now place }
 {
-    a == b
+    match place {
+        Some(place) => match sent.get(place as usize) {
+            Some(mail) => mail.line,
+            None => None,
+        },
+        None => None,
+    }
 }
 
-/// The line that is noted of the mail with an id, or else this one.
-fn line_of(id: MailId, line: Option<u32>, sent: &[SentMail]) -> Option<u32>
-    ensures { result ≡ noted_line id line sent.now }
+/// The line that is noted of the mail with an id. The pool tells the place of the mail, and its line stands at the same place.
+fn line_of(pool: &Pool, sent: &[SentMail], id: MailId) -> Option<u32>
+    requires sent { AreLinesOf sent.now pool.now.mails }
+    requires distinct { AreDistinct pool.now.mails }
+    ensures { result ≡ noted_line id None sent.now }
 {
-    for mail in sent {
-        if is_same(mail.id, id) {
-            return mail.line;
-        }
-    }
-    line
-}
-
-/// The mails in flight after an event on a line.
-///
-/// # Errors
-/// `Memory` where there is no room.
-pub(crate) fn noted_mails(
-    alloc: Global,
-    pool: &Pool,
-    line: Option<u32>,
-    sent: &[SentMail],
-) -> Result<Sequence<SentMail>, Memory>
-    ensures { IfOk result (λ noted. noted ≡ noted_mails pool.now.mails line sent.now) }
-{
-    let mut noted = Sequence::new(alloc);
-    for place in 0..pool.count() {
-        let id = pool.at(place).id;
-        noted.push(SentMail {
-            id,
-            line: line_of(id, line, sent),
-        })?;
-    }
-    Ok(noted)
+    line_at(sent, pool.place_of(id))
 }
 
 /// Where the mail comes from that an event handles, if it handles one.
-pub(crate) fn origin_of(sent: &[SentMail], event: Event) -> Option<Origin>
+pub(crate) fn origin_of(pool: &Pool, sent: &[SentMail], event: Event) -> Option<Origin>
+    requires sent { AreLinesOf sent.now pool.now.mails }
+    requires distinct { AreDistinct pool.now.mails }
     ensures { result ≡ origin_of sent.now event }
 {
     match event {
         Event::Handle(id) => Some(Origin {
             sender: id.sender,
-            line: line_of(id, None, sent),
+            line: line_of(pool, sent, id),
         }),
         _ => None,
     }
+}
+
+/// The place of the mail that an event handles; None where it handles none that is in flight.
+pub(crate) fn place_handled(pool: &Pool, event: Event) -> Option<u32>
+    ensures { result ≡ place_handled pool.now.mails event }
+{
+    match event {
+        Event::Handle(id) => pool.place_of(id),
+        _ => None,
+    }
+}
+
+/// Notes the mails that stand in the pool behind those that are noted: they were sent on this line.
+///
+/// # Errors
+/// `Memory` where there is no room.
+fn note_new(sent: &mut Sequence<SentMail>, pool: &Pool, line: Option<u32>) -> Result<(), Memory>
+    requires { length sent.old ≤ length pool.now.mails }
+    ensures { OnOk result (sent.new ≡ sent.old ++ map (sent_on line) (drop (length sent.old) pool.now.mails)) }
+{
+    let end = pool.count();
+    for place in sent.len() as u32..end {
+        sent.push(SentMail {
+            id: pool.at(place).id,
+            line,
+        })?;
+    }
+    Ok(())
+}
+
+/// The mails in flight, where no event has a row so far.
+///
+/// # Errors
+/// `Memory` where there is no room.
+pub(crate) fn unknown_mails(alloc: Global, pool: &Pool) -> Result<Sequence<SentMail>, Memory>
+    ensures { IfOk result (λ sent. sent ≡ unknown_mails pool.now.mails) }
+{
+    let mut sent = Sequence::new(alloc);
+    note_new(&mut sent, pool, None)?;
+    Ok(sent)
+}
+
+/// Without the mail at a place; the last one takes its place, as in the pool.
+fn without(sent: Sequence<SentMail>, place: u32) -> Sequence<SentMail>
+    requires { place < length sent }
+    ensures { result ≡ left (Some place) sent }
+{
+    let mut row = sent.into_vec();
+    row.swap_remove(place as usize);
+    Sequence::from_vec(row)
+}
+
+/// Without the mail at a place, if there is one.
+fn left(sent: Sequence<SentMail>, place: Option<u32>) -> Sequence<SentMail>
+    requires { (p : ℕ) → place ≡ Some p → p < length sent }
+    ensures { result ≡ left place sent }
+{
+    match place {
+        Some(place) => without(sent, place),
+        None => sent,
+    }
+}
+
+/// What is noted after an event that handled the mail at a place, and sent on this line what stands last in the pool.
+///
+/// # Errors
+/// `Memory` where there is no room.
+pub(crate) fn after_event(
+    sent: Sequence<SentMail>,
+    place: Option<u32>,
+    pool: &Pool,
+    line: u32,
+) -> Result<Sequence<SentMail>, Memory>
+    requires place { (p : ℕ) → place ≡ Some p → p < length sent }
+    requires fewer { length (left place sent) ≤ length pool.now.mails }
+    ensures { IfOk result (λ noted. noted ≡ left place sent ++ map (sent_on (Some line)) (drop (length (left place sent)) pool.now.mails)) }
+{
+    let mut noted = left(sent, place);
+    note_new(&mut noted, pool, Some(line))?;
+    Ok(noted)
 }

@@ -1,16 +1,15 @@
 ghost use Rattle.std.specs.Prelude.{◌≡◌, ◌≤◌, length, map, slice_get, IfOk};
 ghost use Rattle.std.specs.List.{range_with_len};
-ghost use Rattle.machine_rules.specs.State.{entry_in, word_in};
-ghost use Rattle.dn_machine.specs.Parts.{made_in};
+ghost use Rattle.machine_rules.specs.State.{entry_at, word_in};
+ghost use Rattle.machine_rules.specs.Sound.{IsMachine};
 ghost use Rattle.run_chart.specs.Words.{changes_from, of_entry, of_home, same_state, word_state, word_states};
 
-use dn_base::{Memory, Sequence, WordId};
-use dn_machine::MachineParts;
+use dn_base::{BankId, CoreId, Memory, Sequence, WordId};
+use dn_machine::Machine;
 use message_chart::{WordChange, WordState};
 use message_net::Actor;
 use region_table::Program;
-use registration_protocol::Node;
-use registry_bank::{Bank, BankWord};
+use registry_bank::BankWord;
 use std::alloc::Global;
 use word_cache::Entry;
 
@@ -59,33 +58,38 @@ fn of_home(word: Option<BankWord>) -> WordState
     }
 }
 
-/// What the core at a place has for a word.
-fn held_by(nodes: &[Node], core: usize, word: WordId) -> WordState
-    ensures { result ≡ of_entry (entry_in word.0 (slice_get nodes.now core)) }
+/// What a core has for a word.
+fn held_by(machine: &Machine, core: CoreId, word: WordId) -> WordState
+    requires { IsMachine machine.now.state }
+    ensures { result ≡ of_entry (entry_at machine.now.state core.0 word.0) }
 {
-    match nodes.get(core) {
-        Some(node) => of_entry(node.entry(word)),
-        None => WordState::Absent,
+    if core.0 < machine.shape().cores {
+        of_entry(machine.node(core).entry(word))
+    } else {
+        WordState::Absent
     }
 }
 
-/// What the bank at a place has for a word.
-fn kept_by(banks: &[Bank], bank: usize, word: WordId) -> WordState
-    ensures { result ≡ of_home (word_in word.0 (slice_get banks.now bank)) }
+/// What a bank has for a word.
+fn kept_by(machine: &Machine, bank: BankId, word: WordId) -> WordState
+    requires { IsMachine machine.now.state }
+    ensures { result ≡ of_home (word_in word.0 (slice_get machine.now.state.banks bank.0)) }
 {
-    match banks.get(bank) {
-        Some(bank) => of_home(bank.word(word)),
-        None => WordState::Absent,
+    if bank.0 < machine.shape().banks {
+        of_home(machine.bank(bank).word(word))
+    } else {
+        WordState::Absent
     }
 }
 
 /// What an actor has for a word.
-fn word_state(parts: &MachineParts, actor: Actor, word: WordId) -> WordState
-    ensures { result ≡ word_state (made_in parts.now).state actor word.0 }
+fn word_state(machine: &Machine, actor: Actor, word: WordId) -> WordState
+    requires { IsMachine machine.now.state }
+    ensures { result ≡ word_state machine.now.state actor word.0 }
 {
     match actor {
-        Actor::Core(core) => held_by(parts.nodes.as_slice(), core.0 as usize, word),
-        Actor::Bank(bank) => kept_by(parts.banks.as_slice(), bank.0 as usize, word),
+        Actor::Core(core) => held_by(machine, core, word),
+        Actor::Bank(bank) => kept_by(machine, bank, word),
         Actor::Keeper => WordState::Absent,
     }
 }
@@ -101,15 +105,16 @@ fn words_of(program: &Program) -> u32
 /// What an actor has for each of so many words.
 fn states(
     alloc: Global,
-    parts: &MachineParts,
+    machine: &Machine,
     actor: Actor,
     words: u32,
 ) -> Result<Sequence<WordState>, Memory>
-    ensures { IfOk result (λ states. states ≡ map (word_state (made_in parts.now).state actor) (range_with_len 0 words)) }
+    requires { IsMachine machine.now.state }
+    ensures { IfOk result (λ states. states ≡ map (word_state machine.now.state actor) (range_with_len 0 words)) }
 {
     let mut states = Sequence::new(alloc);
     for word in 0..words {
-        states.push(word_state(parts, actor, WordId(word)))?;
+        states.push(word_state(machine, actor, WordId(word)))?;
     }
     Ok(states)
 }
@@ -120,13 +125,14 @@ fn states(
 /// `Memory` where there is no room.
 pub(crate) fn word_states(
     alloc: Global,
-    parts: &MachineParts,
+    machine: &Machine,
     actor: Actor,
 ) -> Result<Sequence<WordState>, Memory>
-    ensures states { IfOk result (λ states. states ≡ word_states (made_in parts.now).state actor) }
+    requires { IsMachine machine.now.state }
+    ensures states { IfOk result (λ states. states ≡ word_states machine.now.state actor) }
     ensures most { IfOk result (λ states. length states ≤ 65536) }
 {
-    states(alloc, parts, actor, words_of(parts.checked.program()))
+    states(alloc, machine, actor, words_of(machine.program()))
 }
 
 /// Whether a word's state is the same as before.
@@ -142,18 +148,19 @@ fn is_same(before: WordState, after: WordState) -> bool
 /// `Memory` where there is no room.
 pub(crate) fn changes(
     alloc: Global,
-    parts: &MachineParts,
+    machine: &Machine,
     actor: Actor,
     befores: &[WordState],
 ) -> Result<Sequence<WordChange>, Memory>
-    requires { length befores.now ≤ 65536 }
-    ensures changes { IfOk result (λ changes. changes ≡ changes_from (word_state (made_in parts.now).state actor) 0 befores.now) }
+    requires machine { IsMachine machine.now.state }
+    requires few { length befores.now ≤ 65536 }
+    ensures changes { IfOk result (λ changes. changes ≡ changes_from (word_state machine.now.state actor) 0 befores.now) }
     ensures most { IfOk result (λ changes. length changes ≤ 65536) }
 {
     let mut changes = Sequence::new(alloc);
     let mut word = 0;
     for before in befores {
-        let after = word_state(parts, actor, WordId(word));
+        let after = word_state(machine, actor, WordId(word));
         if !is_same(*before, after) {
             changes.push(WordChange {
                 word: WordId(word),

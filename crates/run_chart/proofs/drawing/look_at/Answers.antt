@@ -1,8 +1,7 @@
-use Rattle.std.proofs.Common.{◌≡◌, subst}
-use Rattle.dn_machine.specs.Kept.{Made}
-use Rattle.run_chart.specs.Words.{word_states}
+use Rattle.std.proofs.Common.{List, subst, sym}
+use Rattle.message_net.specs.declared.message.Mail.{Mail}
+use Rattle.message_net.specs.Pool.{AreDistinct}
 use Rattle.run_chart.proofs.drawing.look_at.Goals as goal
 
-pub returns-clause-states : goal.returns-clause-states
-returns-clause-states c =
-    subst (λ (m : Made). c.in_ok-states.states ≡ word_states m.state c.args.actor) c.split-parts.ensures.parts c.in_ok-states.ensures.states
+pub origin_of-requires-clause-distinct : goal.origin_of-requires-clause-distinct
+origin_of-requires-clause-distinct c = subst (λ (mails : List Mail). AreDistinct mails) (sym c.pool-2.ensures) c.requires.machine.distinct

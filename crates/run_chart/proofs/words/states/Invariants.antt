@@ -1,9 +1,8 @@
-use Rattle.std.proofs.Common.{◌≡◌, ◌≤◌, ◌-◌, map}
+use Rattle.std.proofs.Common.{◌≡◌, ◌≤◌, map}
 use Rattle.std.specs.List.{range_with_len}
-use Rattle.dn_machine.specs.Parts.{made_in}
 use Rattle.run_chart.specs.Words.{word_state}
 use Rattle.run_chart.proofs.words.states.Given as goal
 
 abbrev pub invariant-loop-word : goal.invariant-loop-word
 invariant-loop-word l =
-    (l.word ≤ l.words) × (l.states ≡ map (word_state (made_in l.parts).state l.actor) (range_with_len 0 l.word))
+    (l.word ≤ l.words) × (l.states ≡ map (word_state l.machine.state l.actor) (range_with_len 0 l.word))
