@@ -26,18 +26,18 @@ use Rattle.machine_rules.specs.Next.{next, actor_index_in, next_number, sends, p
 use Rattle.machine_rules.specs.Sound.{IsMachine}
 use Rattle.machine_rules.proofs.MachineMails.{unused}
 use Rattle.run_chart.specs.declared.mails.SentMail.{SentMail}
-use Rattle.run_chart.specs.Mails.{noted_mail, noted_mails, AreLinesOf, sent_on, place_handled, left, left_at}
+use Rattle.run_chart.specs.Mails.{noted_mail, noted_mails, AreNotedFor, sent_on, place_handled, mails_left, mails_left_at}
 use Rattle.run_chart.proofs.Noted.{noted-none, noted-here, noted-same, none-past, map-swap_remove, same-lengths}
 
 -- the mails of a state stand first in another state, and behind them such that none in these states before has the id of
 pub record AreBehind (S : State) (mails : List Mail) (T : State) : Type 0 where
   pub new : List Mail
   pub are : T.mails ≡ mails ++ new
-  pub noted : (sent : List SentMail) (line : Option ℕ) → AreLinesOf sent S.mails → noted_mails new line sent ≡ map (sent_on line) new
+  pub noted : (sent : List SentMail) (line : Option ℕ) → AreNotedFor sent S.mails → noted_mails new line sent ≡ map (sent_on line) new
 
 -- ---- what is sent has ids of its own
 
-fresh-ids : (S : State) (a : Actor) (number : ℕ) (outs : List Outgoing) → IsMachine S → next_number S a ≤ number → (sent : List SentMail) (line : Option ℕ) → AreLinesOf sent S.mails
+fresh-ids : (S : State) (a : Actor) (number : ℕ) (outs : List Outgoing) → IsMachine S → next_number S a ≤ number → (sent : List SentMail) (line : Option ℕ) → AreNotedFor sent S.mails
     → noted_mails (mails_of a number outs) line sent ≡ map (sent_on line) (mails_of a number outs)
 fresh-ids S a number [] good past sent line same = refl
 fresh-ids S a number (out ∷ outs) good past sent line same =
@@ -117,18 +117,18 @@ sent-behind S (Handle id) good = by_mail (removed id S.mails).0 where
 
 -- ---- what is noted of the mails that stay
 
-left-noted : (S : State) (e : Event) (sent : List SentMail) (line : Option ℕ) → IsMachine S → AreLinesOf sent S.mails → left (place_handled S.mails e) sent ≡ noted_mails (staying S e) line sent
+left-noted : (S : State) (e : Event) (sent : List SentMail) (line : Option ℕ) → IsMachine S → AreNotedFor sent S.mails → mails_left (place_handled S.mails e) sent ≡ noted_mails (staying S e) line sent
 left-noted S (Instr core) sent line good same = sym (noted-same sent S.mails line same good.distinct)
 left-noted S (Evict core word) sent line good same = sym (noted-same sent S.mails line same good.distinct)
 left-noted S (Arrive core) sent line good same = sym (noted-same sent S.mails line same good.distinct)
 left-noted S (Handle id) sent line good same = by_place (position (of_id id) S.mails) where
-  by_place : (o : Option ℕ) → left o sent ≡ noted_mails (removed_at S.mails o).1 line sent
+  by_place : (o : Option ℕ) → mails_left o sent ≡ noted_mails (removed_at S.mails o).1 line sent
   by_place None = sym (noted-same sent S.mails line same good.distinct)
   by_place (Some place) = by_mail (slice_get S.mails place) refl where
     past : slice_get S.mails place ≡ None → slice_get sent place ≡ None
     past none = slice_get_past sent place (omega (arith, same-lengths sent S.mails same, none-past S.mails place none))
 
-    by_mail : (m : Option Mail) → slice_get S.mails place ≡ m → left_at place sent (slice_get sent place) ≡ noted_mails (without_mail_at place S.mails) line sent
+    by_mail : (m : Option Mail) → slice_get S.mails place ≡ m → mails_left_at place sent (slice_get sent place) ≡ noted_mails (without_mail_at place S.mails) line sent
     by_mail None is = rw (is, past is) (sym (noted-same sent S.mails line same good.distinct))
     by_mail (Some m) is =
         let whole = noted-same sent S.mails line same good.distinct in
@@ -136,26 +136,26 @@ left-noted S (Handle id) sent line good same = by_place (position (of_id id) S.m
         rw (is, here) (sym (map-swap_remove (noted_mail line sent) S.mails place m ∙ ap (λ (l : List SentMail). swap_remove l place (noted_mail line sent m)) whole))
 
 -- the list that is kept is the list that is noted anew
-pub kept-is-noted : (S : State) (e : Event) (sent : List SentMail) (line : Option ℕ) → IsMachine S → AreLinesOf sent S.mails
-    → left (place_handled S.mails e) sent ++ map (sent_on line) (drop (length (left (place_handled S.mails e) sent)) (next S e).mails) ≡ noted_mails (next S e).mails line sent
+pub kept-is-noted : (S : State) (e : Event) (sent : List SentMail) (line : Option ℕ) → IsMachine S → AreNotedFor sent S.mails
+    → mails_left (place_handled S.mails e) sent ++ map (sent_on line) (drop (length (mails_left (place_handled S.mails e) sent)) (next S e).mails) ≡ noted_mails (next S e).mails line sent
 kept-is-noted S e sent line good same =
     let behind : AreBehind S (staying S e) (next S e) = sent-behind S e good in
-    let stay : left (place_handled S.mails e) sent ≡ noted_mails (staying S e) line sent = left-noted S e sent line good same in
-    let long : length (staying S e) ≡ length (left (place_handled S.mails e) sent) = sym (ap (λ (l : List SentMail). length l) stay ∙ length-map (staying S e) (noted_mail line sent)) in
-    let rest : drop (length (left (place_handled S.mails e) sent)) (next S e).mails ≡ behind.new = ap (λ (l : List Mail). drop (length (left (place_handled S.mails e) sent)) l) behind.are ∙ drop_at (staying S e) behind.new (length (left (place_handled S.mails e) sent)) long in
-    ap (λ (l : List Mail). left (place_handled S.mails e) sent ++ map (sent_on line) l) rest
+    let stay : mails_left (place_handled S.mails e) sent ≡ noted_mails (staying S e) line sent = left-noted S e sent line good same in
+    let long : length (staying S e) ≡ length (mails_left (place_handled S.mails e) sent) = sym (ap (λ (l : List SentMail). length l) stay ∙ length-map (staying S e) (noted_mail line sent)) in
+    let rest : drop (length (mails_left (place_handled S.mails e) sent)) (next S e).mails ≡ behind.new = ap (λ (l : List Mail). drop (length (mails_left (place_handled S.mails e) sent)) l) behind.are ∙ drop_at (staying S e) behind.new (length (mails_left (place_handled S.mails e) sent)) long in
+    ap (λ (l : List Mail). mails_left (place_handled S.mails e) sent ++ map (sent_on line) l) rest
     ∙ ap (λ (l : List SentMail). l ++ map (sent_on line) behind.new) stay
     ∙ ap (λ (l : List SentMail). noted_mails (staying S e) line sent ++ l) (sym (behind.noted sent line same))
     ∙ sym (map-append (noted_mail line sent) (staying S e) behind.new)
     ∙ ap (λ (l : List Mail). noted_mails l line sent) (sym behind.are)
 
-pub fewer-left : (S : State) (e : Event) (sent : List SentMail) → IsMachine S → AreLinesOf sent S.mails → length (left (place_handled S.mails e) sent) ≤ length (next S e).mails
+pub fewer-left : (S : State) (e : Event) (sent : List SentMail) → IsMachine S → AreNotedFor sent S.mails → length (mails_left (place_handled S.mails e) sent) ≤ length (next S e).mails
 fewer-left S e sent good same =
     let behind : AreBehind S (staying S e) (next S e) = sent-behind S e good in
-    let long : length (left (place_handled S.mails e) sent) ≡ length (staying S e) = ap (λ (l : List SentMail). length l) (left-noted S e sent None good same) ∙ length-map (staying S e) (noted_mail None sent) in
+    let long : length (mails_left (place_handled S.mails e) sent) ≡ length (staying S e) = ap (λ (l : List SentMail). length l) (left-noted S e sent None good same) ∙ length-map (staying S e) (noted_mail None sent) in
     omega (arith, long, ap (λ (l : List Mail). length l) behind.are, length-append (staying S e) behind.new)
 
-pub place-within : (S : State) (e : Event) (sent : List SentMail) (p : ℕ) → AreLinesOf sent S.mails → place_handled S.mails e ≡ Some p → p < length sent
+pub place-within : (S : State) (e : Event) (sent : List SentMail) (p : ℕ) → AreNotedFor sent S.mails → place_handled S.mails e ≡ Some p → p < length sent
 place-within S (Instr core) sent p same is = absurd (none-some p is)
 place-within S (Evict core word) sent p same is = absurd (none-some p is)
 place-within S (Arrive core) sent p same is = absurd (none-some p is)

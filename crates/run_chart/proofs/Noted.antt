@@ -11,7 +11,7 @@ use Rattle.message_net.specs.Id.{same_id}
 use Rattle.message_net.specs.Pool.{of_id, count_of, AreDistinct}
 use Rattle.message_net.proofs.PoolLemmas.{same_id-refl, place-counted, position-none, position-found}
 use Rattle.run_chart.specs.declared.mails.SentMail.{SentMail}
-use Rattle.run_chart.specs.Mails.{line_at, noted_line, noted_mail, noted_mails, unknown_mails, AreLinesOf}
+use Rattle.run_chart.specs.Mails.{line_there, noted_line, noted_mail, noted_mails, unknown_mails, AreNotedFor}
 
 -- the first of two lists, and the others
 same-head : {X : Type 0} (x y : X) (xs ys : List X) → ◌≡◌ {A = List X} (x ∷ xs) (y ∷ ys) → x ≡ y
@@ -26,7 +26,7 @@ same-tail {X = X} x y xs ys same = ap (λ (l : List X). tail l) same where
   tail [] = []
   tail (z ∷ zs) = zs
 
-pub same-lengths : (sent : List SentMail) (mails : List Mail) → AreLinesOf sent mails → length sent ≡ length mails
+pub same-lengths : (sent : List SentMail) (mails : List Mail) → AreNotedFor sent mails → length sent ≡ length mails
 same-lengths sent mails same =
     sym (length-map sent (λ (s : SentMail). s.id)) ∙ ap (λ (l : List MailId). length l) same ∙ length-map mails (λ (m : Mail). m.id)
 
@@ -35,7 +35,7 @@ abbrev bit : Bool → ℕ
 bit b = cond b 1 0
 
 -- of an id that no mail in flight has nothing is noted
-pub noted-none : (sent : List SentMail) (mails : List Mail) (id : MailId) (line : Option ℕ) → AreLinesOf sent mails → count_of id mails ≡ 0 → noted_line id line sent ≡ line
+pub noted-none : (sent : List SentMail) (mails : List Mail) (id : MailId) (line : Option ℕ) → AreNotedFor sent mails → count_of id mails ≡ 0 → noted_line id line sent ≡ line
 noted-none [] mails id line same none = refl
 noted-none (s ∷ ss) [] id line same none = absurd (cc)
 noted-none (s ∷ ss) (m ∷ ms) id line same none = by_test (same_id m.id id) refl (λ few. noted-none ss ms id line (same-tail s.id m.id (map (λ (x : SentMail). x.id) ss) (map (λ (x : Mail). x.id) ms) same) few) where
@@ -58,7 +58,7 @@ distinct-tail : (m : Mail) (ms : List Mail) → AreDistinct (m ∷ ms) → AreDi
 distinct-tail m ms distinct id = omega (arith, distinct id, sum_by-cons (λ (x : Mail). cond (of_id id x) 1 0) m ms)
 
 -- of a mail at a place that is noted which stands at the same place
-pub noted-here : (sent : List SentMail) (mails : List Mail) (k : ℕ) (m : Mail) (line : Option ℕ) → AreLinesOf sent mails → AreDistinct mails → slice_get mails k ≡ Some m
+pub noted-here : (sent : List SentMail) (mails : List Mail) (k : ℕ) (m : Mail) (line : Option ℕ) → AreNotedFor sent mails → AreDistinct mails → slice_get mails k ≡ Some m
     → slice_get sent k ≡ Some (record { id = m.id; line = noted_line m.id line sent })
 noted-here sent [] k m line same distinct here = absurd (none-some m here)
 noted-here [] (x ∷ ms) k m line same distinct here = absurd (cc)
@@ -87,9 +87,9 @@ noted-here (s ∷ ss) (x ∷ ms) (suc k) m line same distinct here =
         rw other rest
 
 -- what is noted of an id stands at the place of its mail
-pub noted-by-place : (sent : List SentMail) (mails : List Mail) (id : MailId) → AreLinesOf sent mails → AreDistinct mails → noted_line id None sent ≡ line_at sent (position (of_id id) mails)
+pub noted-by-place : (sent : List SentMail) (mails : List Mail) (id : MailId) → AreNotedFor sent mails → AreDistinct mails → noted_line id None sent ≡ line_there sent (position (of_id id) mails)
 noted-by-place sent mails id same distinct = by_place (position (of_id id) mails) refl where
-  by_place : (o : Option ℕ) → position (of_id id) mails ≡ o → noted_line id None sent ≡ line_at sent o
+  by_place : (o : Option ℕ) → position (of_id id) mails ≡ o → noted_line id None sent ≡ line_there sent o
   by_place None e = noted-none sent mails id None same ((position-none (of_id id) mails).0 (rw e refl))
   by_place (Some place) e =
       let found = position-found id mails place e in
@@ -117,18 +117,18 @@ get-map f (x ∷ xs) zero y here = (x, refl, sym (same_Some (f x) y here))
 get-map f (x ∷ xs) (suc k) y here = get-map f xs k y here
 
 -- what is noted of the mails that were in flight stays as it is
-pub noted-same : (sent : List SentMail) (mails : List Mail) (line : Option ℕ) → AreLinesOf sent mails → AreDistinct mails → noted_mails mails line sent ≡ sent
+pub noted-same : (sent : List SentMail) (mails : List Mail) (line : Option ℕ) → AreNotedFor sent mails → AreDistinct mails → noted_mails mails line sent ≡ sent
 noted-same sent mails line same distinct =
     same-by-place (noted_mails mails line sent) sent (length-map mails (noted_mail line sent) ∙ sym (same-lengths sent mails same))
     (λ k s here.
     let from = get-map (noted_mail line sent) mails k s here in
     subst (λ (x : SentMail). slice_get sent k ≡ Some x) (sym from.2) (noted-here sent mails k from.0 line same distinct from.1))
 
-pub noted-ids : (mails : List Mail) (line : Option ℕ) (sent : List SentMail) → AreLinesOf (noted_mails mails line sent) mails
+pub noted-ids : (mails : List Mail) (line : Option ℕ) (sent : List SentMail) → AreNotedFor (noted_mails mails line sent) mails
 noted-ids [] line sent = refl
 noted-ids (m ∷ ms) line sent = ap (λ (l : List MailId). m.id ∷ l) (noted-ids ms line sent)
 
-pub unknown-ids : (mails : List Mail) → AreLinesOf (unknown_mails mails) mails
+pub unknown-ids : (mails : List Mail) → AreNotedFor (unknown_mails mails) mails
 unknown-ids [] = refl
 unknown-ids (m ∷ ms) = ap (λ (l : List MailId). m.id ∷ l) (unknown-ids ms)
 

@@ -13,7 +13,7 @@ use Rattle.run_chart.specs.declared.drawing.Drawing.{Drawing}
 use Rattle.run_chart.specs.declared.drawing.Range.{Range}
 use Rattle.run_chart.specs.Mails.{noted_line, noted_mails, unknown_mails}
 use Rattle.run_chart.specs.Charts.{blank}
-use Rattle.run_chart.specs.Drawing.{moved, has_row, row_of, with_row, without_row, drawn, draw, passed, waiting, with_rows, SameRows}
+use Rattle.run_chart.specs.Drawing.{moved, has_row, row_of, with_row, without_row, drawn, draw, led_to, waiting, with_rows, SameRows}
 
 -- ---- before the range
 
@@ -35,7 +35,7 @@ waits range chain m n e before =
     rw none (rw (unknown-more (next m.state e).mails m.state.mails) refl)
 
 -- the events before the range lead on
-pub ahead : (range : Range) (chain : List ℕ) (m k : Made) (n : ℕ) (before rest : List Event) → n + length before ≤ range.first → passed m before ≡ Some k
+pub ahead : (range : Range) (chain : List ℕ) (m k : Made) (n : ℕ) (before rest : List Event) → n + length before ≤ range.first → led_to m before ≡ Some k
     → draw range chain (waiting m n) (before ++ rest) ≡ draw range chain (waiting k (n + length before)) rest
 ahead range chain m k n [] rest within came =
     let same : m ≡ k = same_Some m k came in
@@ -45,10 +45,10 @@ ahead range chain m k n (e ∷ es) rest within came =
     by_test (enabled m.state e) refl (λ on. ahead range chain (moved m e) k (n + 1) es rest (omega (arith, within)) on)
   where
     by_test : (t : Bool) → enabled m.state e ≡ t
-        → (passed (moved m e) es ≡ Some k → draw range chain (waiting (moved m e) (n + 1)) (es ++ rest) ≡ draw range chain (waiting k (n + 1 + length es)) rest)
+        → (led_to (moved m e) es ≡ Some k → draw range chain (waiting (moved m e) (n + 1)) (es ++ rest) ≡ draw range chain (waiting k (n + 1 + length es)) rest)
         → draw range chain (waiting m n) (e ∷ es ++ rest) ≡ draw range chain (waiting k (n + suc (length es))) rest
     by_test true may later =
-        let on : passed (moved m e) es ≡ Some k = rw may at came in
+        let on : led_to (moved m e) es ≡ Some k = rw may at came in
         let number : n + 1 + length es ≡ n + suc (length es) = omega arith in
         rw may (ap (λ (d : Drawing). draw range chain d (es ++ rest)) (waits range chain m n e (omega (arith, within)))
         ∙ later on
@@ -58,17 +58,17 @@ ahead range chain m k n (e ∷ es) rest within came =
         absurd (none-some k never)
 
 -- and where one of them may not come, there are no rows
-pub halted : (range : Range) (chain : List ℕ) (m k : Made) (n i : ℕ) (before rest : List Event) → n + length before ≤ range.first → passed m before ≡ None
+pub halted : (range : Range) (chain : List ℕ) (m k : Made) (n i : ℕ) (before rest : List Event) → n + length before ≤ range.first → led_to m before ≡ None
     → SameRows (waiting k i) (draw range chain (waiting m n) (before ++ rest))
 halted range chain m k n i [] rest within none = absurd (none-some m (sym none))
 halted range chain m k n i (e ∷ es) rest within none =
     by_test (enabled m.state e) refl (λ on. halted range chain (moved m e) k (n + 1) i es rest (omega (arith, within)) on)
   where
     by_test : (t : Bool) → enabled m.state e ≡ t
-        → (passed (moved m e) es ≡ None → SameRows (waiting k i) (draw range chain (waiting (moved m e) (n + 1)) (es ++ rest)))
+        → (led_to (moved m e) es ≡ None → SameRows (waiting k i) (draw range chain (waiting (moved m e) (n + 1)) (es ++ rest)))
         → SameRows (waiting k i) (draw range chain (waiting m n) (e ∷ es ++ rest))
     by_test true may later =
-        let on : passed (moved m e) es ≡ None = rw may at none in
+        let on : led_to (moved m e) es ≡ None = rw may at none in
         rw may (subst (λ (d : Drawing). SameRows (waiting k i) (draw range chain d (es ++ rest))) (sym (waits range chain m n e (omega (arith, within)))) (later on))
     by_test false may later = rw may (refl, refl)
 
@@ -130,7 +130,7 @@ module _ (range : Range) (chain : List ℕ) (m k : Made) (events : List Event) (
 
   -- the rows of a range, where all events before it came
   pub in-range : (b : ℕ) → m.state.mails ≡ [] → a ≤ range.first → (a < range.first → a ≡ length events) → a ≤ length events → b ≤ range.most → (b < range.most → b ≡ length (drop a events))
-      → passed m (take a events) ≡ Some k → SameRows (with_rows chain (waiting k (length (take a events))) (take b (drop a events))) (draw range chain (blank m) events)
+      → led_to m (take a events) ≡ Some k → SameRows (with_rows chain (waiting k (length (take a events))) (take b (drop a events))) (draw range chain (blank m) events)
   in-range b none early all_early there few all_few came =
       rw (blank-waits m none) (subst (λ (es : List Event). SameRows (with_rows chain (waiting k (length (take a events))) (take b (drop a events))) (draw range chain (waiting m 0) es)) (take-append-drop a events)
       (rw (ahead range chain m k 0 (take a events) (drop a events) (within-before early) came) (by_test (nat_lt a range.first) refl)))
@@ -149,7 +149,7 @@ module _ (range : Range) (chain : List ℕ) (m k : Made) (events : List Event) (
           rw (take-most (drop a events) b range.most few all_few, number) (ranged range chain range.most (waiting k (length (take a events))) (drop a events) at' (omega arith))
 
   -- and where one of them may not come
-  pub out-of-range : (j : Made) (i : ℕ) → m.state.mails ≡ [] → a ≤ range.first → passed m (take a events) ≡ None → SameRows (waiting j i) (draw range chain (blank m) events)
+  pub out-of-range : (j : Made) (i : ℕ) → m.state.mails ≡ [] → a ≤ range.first → led_to m (take a events) ≡ None → SameRows (waiting j i) (draw range chain (blank m) events)
   out-of-range j i none early stops =
       rw (blank-waits m none) (subst (λ (es : List Event). SameRows (waiting j i) (draw range chain (waiting m 0) es)) (take-append-drop a events)
       (halted range chain m j 0 i (take a events) (drop a events) (within-before early) stops))
@@ -157,23 +157,23 @@ module _ (range : Range) (chain : List ℕ) (m k : Made) (events : List Event) (
   -- the same of the lists of events that the code cuts
   pub drawn-range : (b : ℕ) (f d : Drawing) (before rest wanted : List Event) → before ≡ take a events → rest ≡ drop a events → wanted ≡ take b rest → d ≡ waiting k (length before)
       → f ≡ with_rows chain d wanted → m.state.mails ≡ [] → a ≤ range.first → (a < range.first → a ≡ length events) → a ≤ length events → b ≤ range.most → (b < range.most → b ≡ length rest)
-      → passed m before ≡ Some k → SameRows f (draw range chain (blank m) events)
+      → led_to m before ≡ Some k → SameRows f (draw range chain (blank m) events)
   drawn-range b f d before rest wanted before_is rest_is wanted_is d_is f_is none early all_early there few all_few came =
       rw (f_is, d_is, wanted_is, before_is, rest_is)
-      (in-range b none early all_early there few (λ less. all_few less ∙ ap (λ (es : List Event). length es) rest_is) (ap (λ (es : List Event). passed m es) (sym before_is) ∙ came))
+      (in-range b none early all_early there few (λ less. all_few less ∙ ap (λ (es : List Event). length es) rest_is) (ap (λ (es : List Event). led_to m es) (sym before_is) ∙ came))
 
-  pub drawn-none : (f : Drawing) (before : List Event) → before ≡ take a events → f ≡ waiting k (length before) → m.state.mails ≡ [] → a ≤ range.first → passed m before ≡ None
+  pub drawn-none : (f : Drawing) (before : List Event) → before ≡ take a events → f ≡ waiting k (length before) → m.state.mails ≡ [] → a ≤ range.first → led_to m before ≡ None
       → SameRows f (draw range chain (blank m) events)
   drawn-none f before before_is f_is none early stops =
-      rw f_is (out-of-range k (length before) none early (ap (λ (es : List Event). passed m es) (sym before_is) ∙ stops))
+      rw f_is (out-of-range k (length before) none early (ap (λ (es : List Event). led_to m es) (sym before_is) ∙ stops))
 
 -- how far a machine is behind events that came
-pub made-by : (m k : Made) (events : List Event) → passed m events ≡ Some k → k.made ≡ m.made + length events
+pub made-by : (m k : Made) (events : List Event) → led_to m events ≡ Some k → k.made ≡ m.made + length events
 made-by m k [] came = ap (λ (x : Made). x.made) (sym (same_Some m k came)) ∙ omega arith
 made-by m k (e ∷ es) came = by_test (enabled m.state e) refl (λ on. made-by (moved m e) k es on) where
-  by_test : (t : Bool) → enabled m.state e ≡ t → (passed (moved m e) es ≡ Some k → k.made ≡ m.made + 1 + length es) → k.made ≡ m.made + suc (length es)
+  by_test : (t : Bool) → enabled m.state e ≡ t → (led_to (moved m e) es ≡ Some k → k.made ≡ m.made + 1 + length es) → k.made ≡ m.made + suc (length es)
   by_test true may later =
-      let on : passed (moved m e) es ≡ Some k = rw may at came in
+      let on : led_to (moved m e) es ≡ Some k = rw may at came in
       omega (arith, later on)
   by_test false may later =
       let never : None ≡ Some k = rw may at came in

@@ -13,8 +13,8 @@ use Rattle.message_chart.specs.declared.states.WordChange.{WordChange}
 use Rattle.run_chart.specs.declared.drawing.Drawing.{Drawing}
 use Rattle.run_chart.specs.declared.drawing.Look.{Look}
 use Rattle.run_chart.specs.declared.mails.SentMail.{SentMail}
-use Rattle.run_chart.specs.Drawing.{event_maker, height, row_by, row_of, row_with, with_row, with_rows, IsLook, HasRow, IsNextRow}
-use Rattle.run_chart.specs.Mails.{noted_mails, place_handled, left, sent_on, AreLinesOf}
+use Rattle.run_chart.specs.Drawing.{event_maker, height, row_by, row_of, row_with, with_row, with_rows, IsLookBefore, HasRow, IsNextRow}
+use Rattle.run_chart.specs.Mails.{noted_mails, place_handled, mails_left, sent_on, AreNotedFor}
 use Rattle.run_chart.specs.Marks.{is_on_chain}
 use Rattle.run_chart.specs.Words.{word_state, changes_from, changes_in}
 use Rattle.run_chart.proofs.Noted.{noted-ids}
@@ -22,7 +22,7 @@ use Rattle.run_chart.proofs.Flown.{kept-is-noted}
 
 -- what is noted after an event that handled the mail at a place and led to a machine
 abbrev pub noted_after : Drawing → Made → Option ℕ → List SentMail
-noted_after d n place = left place d.sent ++ map (sent_on (Some d.line)) (drop (length (left place d.sent)) n.state.mails)
+noted_after d n place = mails_left place d.sent ++ map (sent_on (Some d.line)) (drop (length (mails_left place d.sent)) n.state.mails)
 
 -- the drawing d with a row more
 abbrev pub with_this : Drawing → Made → Option ℕ → ChartRow → Drawing
@@ -36,7 +36,7 @@ with_this d n place row =
     }
 
 -- the row that is made by what was looked at is the event's
-row-is : (S : State) (sent : List SentMail) (e : Event) (look : Look) (number line : ℕ) (mark : Bool) (m : Made) → m.state ≡ S → IsLook S sent e look → row_with S e look number line mark ≡ row_by m sent e number line mark
+row-is : (S : State) (sent : List SentMail) (e : Event) (look : Look) (number line : ℕ) (mark : Bool) (m : Made) → m.state ≡ S → IsLookBefore S sent e look → row_with S e look number line mark ≡ row_by m sent e number line mark
 row-is S sent e look number line mark m same seen =
     let become : changes_from (word_state (next S e) look.actor) 0 look.states ≡ changes_in S (next S e) (event_maker S e) =
     ap (λ (x : List WordState). changes_from (word_state (next S e) look.actor) 0 x) seen.states ∙ ap (λ (a : Actor). changes_in S (next S e) a) seen.actor
@@ -44,7 +44,7 @@ row-is S sent e look number line mark m same seen =
     rw (become, seen.actor, seen.mail, same) refl
 
 module _ (d : Drawing) (e : Event) (look : Look) (n : Made) (row : ChartRow) (mark : Bool) where
-  is-next : (chain : List ℕ) → IsMachine d.machine.state → AreLinesOf d.sent d.machine.state.mails → IsLook d.machine.state d.sent e look → HasRow d.machine n e look d.event d.line mark row
+  is-next : (chain : List ℕ) → IsMachine d.machine.state → AreNotedFor d.sent d.machine.state.mails → IsLookBefore d.machine.state d.sent e look → HasRow d.machine n e look d.event d.line mark row
       → mark ≡ is_on_chain chain d.event → with_this d n look.place row ≡ with_row chain d e
   is-next chain good same seen came marked =
       let S = d.machine.state in
@@ -56,7 +56,7 @@ module _ (d : Drawing) (e : Event) (look : Look) (n : Made) (row : ChartRow) (ma
       in
       rw (flying, row_is, came.moves) refl
 
-  pub next-row : (f : Drawing) → IsMachine d.machine.state → AreLinesOf d.sent d.machine.state.mails → IsLook d.machine.state d.sent e look → HasRow d.machine n e look d.event d.line mark row
+  pub next-row : (f : Drawing) → IsMachine d.machine.state → AreNotedFor d.sent d.machine.state.mails → IsLookBefore d.machine.state d.sent e look → HasRow d.machine n e look d.event d.line mark row
       → d.line ≤ 65536 * length d.rows → height row.changes ≤ 65536 → f ≡ with_this d n look.place row → IsNextRow mark d f e
   next-row f good same seen came lines tall is =
       record {
@@ -66,7 +66,7 @@ module _ (d : Drawing) (e : Event) (look : Look) (n : Made) (row : ChartRow) (ma
         event = ap (λ (x : Drawing). x.event) is;
         rows = ap (λ (x : Drawing). length x.rows) is ∙ length-append d.rows (row ∷ []) ∙ omega arith;
         line = subst (λ (x : Drawing). x.line ≤ 65536 * length x.rows) (sym is) (omega (arith, lines, tall, length-append d.rows (row ∷ [])));
-        sent = subst (λ (x : Drawing). AreLinesOf x.sent x.machine.state.mails) (sym is) in_step;
+        sent = subst (λ (x : Drawing). AreNotedFor x.sent x.machine.state.mails) (sym is) in_step;
       }
     where
       S : State
@@ -75,9 +75,9 @@ module _ (d : Drawing) (e : Event) (look : Look) (n : Made) (row : ChartRow) (ma
       flying : noted_after d n look.place ≡ noted_mails (next S e).mails (Some d.line) d.sent
       flying = ap (λ (p : Option ℕ). noted_after d n p) seen.place ∙ ap (λ (x : Made). noted_after d x (place_handled S.mails e)) came.moves ∙ kept-is-noted S e d.sent (Some d.line) good same
 
-      in_step : AreLinesOf (noted_after d n look.place) n.state.mails
+      in_step : AreNotedFor (noted_after d n look.place) n.state.mails
       in_step =
-          let noted : AreLinesOf (noted_mails (next S e).mails (Some d.line) d.sent) (next S e).mails = noted-ids (next S e).mails (Some d.line) d.sent in
+          let noted : AreNotedFor (noted_mails (next S e).mails (Some d.line) d.sent) (next S e).mails = noted-ids (next S e).mails (Some d.line) d.sent in
           let mails : n.state.mails ≡ (next S e).mails = ap (λ (x : Made). x.state.mails) came.moves in
           rw (flying, mails) noted
 

@@ -13,7 +13,7 @@ use Rattle.run_chart.specs.declared.drawing.Drawing.{Drawing}
 use Rattle.run_chart.specs.declared.drawing.Look.{Look}
 use Rattle.run_chart.specs.declared.drawing.Range.{Range}
 use Rattle.run_chart.specs.declared.mails.SentMail.{SentMail}
-use Rattle.run_chart.specs.Mails.{noted_mails, origin_of, unknown_mails, place_handled, AreLinesOf}
+use Rattle.run_chart.specs.Mails.{noted_mails, origin_of, unknown_mails, place_handled, AreNotedFor}
 use Rattle.run_chart.specs.Marks.{is_on_chain}
 use Rattle.run_chart.specs.Words.{changes_in, changes_from, word_state, word_states}
 
@@ -87,9 +87,9 @@ draw range chain d (e ∷ es) = if enabled d.machine.state e then draw range cha
 -- ---- how it is drawn in parts: first the events before the range come, then those of the range, and those behind it change no row
 
 -- the machine to which events lead that come one after the other; None where one of them may not come in its turn
-abbrev pub passed : Made → List Event → Option Made
-passed m [] = Some m
-passed m (e ∷ es) = if enabled m.state e then passed (moved m e) es else None
+abbrev pub led_to : Made → List Event → Option Made
+led_to m [] = Some m
+led_to m (e ∷ es) = if enabled m.state e then led_to (moved m e) es else None
 
 -- no event has a row so far, and so many came
 abbrev pub waiting : Made → ℕ → Drawing
@@ -107,12 +107,12 @@ SameRows d f = (d.rows ≡ f.rows) × (d.line ≡ f.line)
 -- ---- what the parts of a row's drawing come to
 
 -- the events came one after the other, or one of them may not come in its turn
-abbrev pub HasPassed : Made → Made → List Event → Bool → Type 0
-HasPassed m n events true = passed m events ≡ Some n
-HasPassed m n events false = passed m events ≡ None
+abbrev pub HaveCome : Made → Made → List Event → Bool → Type 0
+HaveCome m n events true = led_to m events ≡ Some n
+HaveCome m n events false = led_to m events ≡ None
 
 -- what is looked at before an event
-pub record IsLook (S : State) (sent : List SentMail) (e : Event) (look : Look) : Type 0 where
+pub record IsLookBefore (S : State) (sent : List SentMail) (e : Event) (look : Look) : Type 0 where
   pub place : look.place ≡ place_handled S.mails e
   pub actor : look.actor ≡ event_maker S e
   pub mail : look.mail ≡ origin_of sent e
@@ -146,7 +146,7 @@ pub record IsNextRow (on_chain : Bool) (d f : Drawing) (e : Event) : Type 0 wher
   pub event : f.event ≡ d.event + 1
   pub rows : length f.rows ≡ length d.rows + 1
   pub line : f.line ≤ 65536 * length f.rows
-  pub sent : AreLinesOf f.sent f.machine.state.mails
+  pub sent : AreNotedFor f.sent f.machine.state.mails
 
 -- what came of an event that was to have a row: nothing, as it may not come, or it came
 abbrev pub IsRowed : Bool → Drawing → Drawing → Event → Bool → Type 0

@@ -30,17 +30,17 @@ origin_of sent _ = None
 -- ---- how the list is kept in step with the mails in flight
 
 -- what is noted is of these mails, in their order
-abbrev pub AreLinesOf : List SentMail → List Mail → Type 0
-AreLinesOf sent mails = map (λ (s : SentMail). s.id) sent ≡ map (λ (m : Mail). m.id) mails
+abbrev pub AreNotedFor : List SentMail → List Mail → Type 0
+AreNotedFor sent mails = map (λ (s : SentMail). s.id) sent ≡ map (λ (m : Mail). m.id) mails
 
 -- the line that is noted at a place
 abbrev pub line_in : Option SentMail → Option ℕ
 line_in None = None
 line_in (Some s) = s.line
 
-abbrev pub line_at : List SentMail → Option ℕ → Option ℕ
-line_at sent None = None
-line_at sent (Some place) = line_in (slice_get sent place)
+abbrev pub line_there : List SentMail → Option ℕ → Option ℕ
+line_there sent None = None
+line_there sent (Some place) = line_in (slice_get sent place)
 
 -- a mail that was sent on a line, and the mails in flight where no event has a row so far
 abbrev pub sent_on : Option ℕ → Mail → SentMail
@@ -55,10 +55,10 @@ place_handled mails (Handle id) = position (of_id id) mails
 place_handled mails _ = None
 
 -- what is noted once the mail at a place is handled: the last one takes its place, as in the pool
-abbrev pub left_at : ℕ → List SentMail → Option SentMail → List SentMail
-left_at place sent None = sent
-left_at place sent (Some s) = swap_remove sent place s
+abbrev pub mails_left_at : ℕ → List SentMail → Option SentMail → List SentMail
+mails_left_at place sent None = sent
+mails_left_at place sent (Some s) = swap_remove sent place s
 
-abbrev pub left : Option ℕ → List SentMail → List SentMail
-left None sent = sent
-left (Some place) sent = left_at place sent (slice_get sent place)
+abbrev pub mails_left : Option ℕ → List SentMail → List SentMail
+mails_left None sent = sent
+mails_left (Some place) sent = mails_left_at place sent (slice_get sent place)

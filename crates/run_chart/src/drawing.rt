@@ -4,8 +4,8 @@ ghost use Rattle.machine_rules.specs.Next.{enabled};
 ghost use Rattle.machine_rules.specs.Sound.{IsMachine};
 ghost use Rattle.dn_machine.specs.Actors.{receiver_of};
 ghost use Rattle.message_chart.specs.declared.chart.ChartRow.{ChartRow as ARow};
-ghost use Rattle.run_chart.specs.Drawing.{event_maker, height, the_actor, with_rows, HasPassed, HasRow, IsLook, IsRowed};
-ghost use Rattle.run_chart.specs.Mails.{AreLinesOf, left, sent_on};
+ghost use Rattle.run_chart.specs.Drawing.{event_maker, height, the_actor, with_rows, HaveCome, HasRow, IsLookBefore, IsRowed};
+ghost use Rattle.run_chart.specs.Mails.{AreNotedFor, mails_left, sent_on};
 
 use crate::mails::{SentMail, after_event, origin_of, place_handled};
 use crate::marks::marks;
@@ -52,7 +52,7 @@ pub(crate) struct Look {
 pub(crate) fn pass(machine: &mut Machine, events: &[Event]) -> Result<bool, Memory>
     requires made { machine.old.made ≡ 0 }
     requires few { length events.now ≤ 25169664 }
-    ensures passed { IfOk result (HasPassed machine.old machine.new events.now) }
+    ensures led_to { IfOk result (HaveCome machine.old machine.new events.now) }
     ensures made { OnOk result (machine.new.made ≤ length events.now) }
 {
     for event in events {
@@ -95,8 +95,8 @@ fn look_at(
     event: Event,
 ) -> Result<Look, Memory>
     requires machine { IsMachine machine.now.state }
-    requires sent { AreLinesOf sent.now machine.now.state.mails }
-    ensures look { IfOk result (IsLook machine.now.state sent.now event) }
+    requires sent { AreNotedFor sent.now machine.now.state.mails }
+    ensures look { IfOk result (IsLookBefore machine.now.state sent.now event) }
     ensures most { IfOk result (λ look. length look.states ≤ 65536) }
 {
     let actor = event_maker(machine, event);
@@ -158,13 +158,13 @@ impl Drawing {
     /// Adds the row of an event that came and handled the mail at a place, and notes the mails that it sent.
     fn note(&mut self, alloc: Global, row: ChartRow, place: Option<u32>) -> Result<(), Memory>
         requires place { (p : ℕ) → place ≡ Some p → p < length self.old.sent }
-        requires fewer { length (left place self.old.sent) ≤ length self.old.machine.state.mails }
+        requires fewer { length (mails_left place self.old.sent) ≤ length self.old.machine.state.mails }
         requires event { self.old.event < 4000000000 }
         requires line { self.old.line ≤ 65536 * length self.old.rows }
         requires rows { length self.old.rows < 4096 }
         requires most { length row.changes ≤ 65536 }
         ensures { OnOk result (self.new ≡ record self.old {
-          sent = left place self.old.sent ++ map (sent_on (Some self.old.line)) (drop (length (left place self.old.sent)) self.old.machine.state.mails);
+          sent = mails_left place self.old.sent ++ map (sent_on (Some self.old.line)) (drop (length (mails_left place self.old.sent)) self.old.machine.state.mails);
           event = self.old.event + 1;
           line = self.old.line + height row.changes;
           rows = self.old.rows ++ row ∷ [];
@@ -183,7 +183,7 @@ impl Drawing {
         requires event { self.old.event < 4000000000 }
         requires line { self.old.line ≤ 65536 * length self.old.rows }
         requires rows { length self.old.rows < 4096 }
-        requires sent { AreLinesOf self.old.sent self.old.machine.state.mails }
+        requires sent { AreNotedFor self.old.sent self.old.machine.state.mails }
         ensures { IfOk result (IsRowed on_chain self.old self.new event) }
     {
         // for the proof alone: the machine is well formed, so that what the event sends has ids of its own
@@ -220,7 +220,7 @@ impl Drawing {
         requires line { self.old.line ≡ 0 }
         requires rows { self.old.rows ≡ [] }
         requires few { length events.now ≤ 4096 }
-        requires sent { AreLinesOf self.old.sent self.old.machine.state.mails }
+        requires sent { AreNotedFor self.old.sent self.old.machine.state.mails }
         ensures { OnOk result (self.new ≡ with_rows chain.now self.old events.now) }
     {
         let marks = marks(alloc, chain, self.event, events.len())?;

@@ -1,6 +1,6 @@
 ghost use Rattle.std.specs.Prelude.{◌≡◌, ◌<◌, ◌≤◌, ◌++◌, ℕ, drop, length, map, None, Some, IfOk, OnOk};
 ghost use Rattle.message_net.specs.Pool.{AreDistinct};
-ghost use Rattle.run_chart.specs.Mails.{AreLinesOf, left, line_at, noted_line, origin_of, place_handled, sent_on, unknown_mails};
+ghost use Rattle.run_chart.specs.Mails.{AreNotedFor, mails_left, line_there, noted_line, origin_of, place_handled, sent_on, unknown_mails};
 
 use dn_base::{Memory, Sequence};
 use message_chart::Origin;
@@ -15,8 +15,8 @@ pub(crate) struct SentMail {
 }
 
 /// The line that is noted at a place; None where there is no place.
-fn line_at(sent: &[SentMail], place: Option<u32>) -> Option<u32>
-    ensures { result ≡ line_at sent.now place }
+fn line_there(sent: &[SentMail], place: Option<u32>) -> Option<u32>
+    ensures { result ≡ line_there sent.now place }
 {
     match place {
         Some(place) => match sent.get(place as usize) {
@@ -29,16 +29,16 @@ fn line_at(sent: &[SentMail], place: Option<u32>) -> Option<u32>
 
 /// The line that is noted of the mail with an id. The pool tells the place of the mail, and its line stands at the same place.
 fn line_of(pool: &Pool, sent: &[SentMail], id: MailId) -> Option<u32>
-    requires sent { AreLinesOf sent.now pool.now.mails }
+    requires sent { AreNotedFor sent.now pool.now.mails }
     requires distinct { AreDistinct pool.now.mails }
     ensures { result ≡ noted_line id None sent.now }
 {
-    line_at(sent, pool.place_of(id))
+    line_there(sent, pool.place_of(id))
 }
 
 /// Where the mail comes from that an event handles, if it handles one.
 pub(crate) fn origin_of(pool: &Pool, sent: &[SentMail], event: Event) -> Option<Origin>
-    requires sent { AreLinesOf sent.now pool.now.mails }
+    requires sent { AreNotedFor sent.now pool.now.mails }
     requires distinct { AreDistinct pool.now.mails }
     ensures { result ≡ origin_of sent.now event }
 {
@@ -94,7 +94,7 @@ pub(crate) fn unknown_mails(alloc: Global, pool: &Pool) -> Result<Sequence<SentM
 /// Without the mail at a place; the last one takes its place, as in the pool.
 fn without(sent: Sequence<SentMail>, place: u32) -> Sequence<SentMail>
     requires { place < length sent }
-    ensures { result ≡ left (Some place) sent }
+    ensures { result ≡ mails_left (Some place) sent }
 {
     let mut row = sent.into_vec();
     row.swap_remove(place as usize);
@@ -102,9 +102,9 @@ fn without(sent: Sequence<SentMail>, place: u32) -> Sequence<SentMail>
 }
 
 /// Without the mail at a place, if there is one.
-fn left(sent: Sequence<SentMail>, place: Option<u32>) -> Sequence<SentMail>
+fn mails_left(sent: Sequence<SentMail>, place: Option<u32>) -> Sequence<SentMail>
     requires { (p : ℕ) → place ≡ Some p → p < length sent }
-    ensures { result ≡ left place sent }
+    ensures { result ≡ mails_left place sent }
 {
     match place {
         Some(place) => without(sent, place),
@@ -123,10 +123,10 @@ pub(crate) fn after_event(
     line: u32,
 ) -> Result<Sequence<SentMail>, Memory>
     requires place { (p : ℕ) → place ≡ Some p → p < length sent }
-    requires fewer { length (left place sent) ≤ length pool.now.mails }
-    ensures { IfOk result (λ noted. noted ≡ left place sent ++ map (sent_on (Some line)) (drop (length (left place sent)) pool.now.mails)) }
+    requires fewer { length (mails_left place sent) ≤ length pool.now.mails }
+    ensures { IfOk result (λ noted. noted ≡ mails_left place sent ++ map (sent_on (Some line)) (drop (length (mails_left place sent)) pool.now.mails)) }
 {
-    let mut noted = left(sent, place);
+    let mut noted = mails_left(sent, place);
     note_new(&mut noted, pool, Some(line))?;
     Ok(noted)
 }

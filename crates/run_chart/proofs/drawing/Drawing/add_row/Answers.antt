@@ -2,8 +2,8 @@ use Rattle.std.proofs.Common.{ℕ, ◌≤◌, List, Option, length, refl, subst,
 use Rattle.machine_rules.specs.Next.{next}
 use Rattle.dn_machine.specs.Kept.{Made}
 use Rattle.run_chart.specs.declared.mails.SentMail.{SentMail}
-use Rattle.run_chart.specs.Drawing.{IsLook}
-use Rattle.run_chart.specs.Mails.{left}
+use Rattle.run_chart.specs.Drawing.{IsLookBefore}
+use Rattle.run_chart.specs.Mails.{mails_left}
 use Rattle.run_chart.proofs.Flown.{fewer-left}
 use Rattle.run_chart.proofs.Rows.{next-row, height-most}
 use Rattle.run_chart.proofs.drawing.Drawing.add_row.Goals as goal
@@ -13,15 +13,15 @@ note-requires-clause-fewer c =
     let d = c.args.self.now in
     let came = c.in_ok-came.ensures.came c.in-Some.row (rw c.in-Some.is refl) in
     let fewer = fewer-left d.machine.state c.args.event d.sent c.a_machine_is_kept.ensures.sound.machine c.requires.sent in
-    subst (λ (m : Made). length (left c.in_ok-before.before.place d.sent) ≤ length m.state.mails) (sym came.moves)
-    (subst (λ (p : Option ℕ). length (left p d.sent) ≤ length (next d.machine.state c.args.event).mails) (sym c.in_ok-before.ensures.look.place) fewer)
+    subst (λ (m : Made). length (mails_left c.in_ok-before.before.place d.sent) ≤ length m.state.mails) (sym came.moves)
+    (subst (λ (p : Option ℕ). length (mails_left p d.sent) ≤ length (next d.machine.state c.args.event).mails) (sym c.in_ok-before.ensures.look.place) fewer)
 
 pub returns : goal.returns
 returns c =
     let d = c.args.self.now in
     let came = c.in_ok-came.ensures.came c.in-Some.row (rw c.in-Some.is refl) in
-    let seen : IsLook d.machine.state d.sent c.args.event c.in_ok-before.before =
-    subst (λ (sent : List SentMail). IsLook d.machine.state sent c.args.event c.in_ok-before.before) c.as_slice.ensures c.in_ok-before.ensures.look
+    let seen : IsLookBefore d.machine.state d.sent c.args.event c.in_ok-before.before =
+    subst (λ (sent : List SentMail). IsLookBefore d.machine.state sent c.args.event c.in_ok-before.before) c.as_slice.ensures c.in_ok-before.ensures.look
     in
     next-row d c.args.event c.in_ok-before.before c.row_of.new.machine c.in-Some.row c.args.on_chain c.note.new.self c.a_machine_is_kept.ensures.sound.machine c.requires.sent seen came c.requires.line
     (height-most c.in-Some.row.changes came.most) c.in_ok-note.ensures

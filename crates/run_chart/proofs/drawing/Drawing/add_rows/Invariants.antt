@@ -1,6 +1,6 @@
 use Rattle.std.proofs.Common.{◌≡◌, ◌+◌, ◌*◌, ◌≤◌, drop, length}
 use Rattle.run_chart.specs.Drawing.{with_rows}
-use Rattle.run_chart.specs.Mails.{AreLinesOf}
+use Rattle.run_chart.specs.Mails.{AreNotedFor}
 use Rattle.run_chart.proofs.drawing.Drawing.add_rows.Given as goal
 
 abbrev pub invariant-loop-event : goal.invariant-loop-event
@@ -11,6 +11,6 @@ invariant-loop-event l =
       event : l.self.event ≡ l.fn.self.event + l.event-index;
       rows : length l.self.rows ≡ l.event-index;
       line : l.self.line ≤ 65536 * length l.self.rows;
-      sent : AreLinesOf l.self.sent l.self.machine.state.mails;
+      sent : AreNotedFor l.self.sent l.self.machine.state.mails;
       so_far : with_rows l.chain l.self (drop l.event-index l.events) ≡ with_rows l.chain l.fn.self l.events;
     }
