@@ -1,0 +1,33 @@
+//! Which line of an answer is the first that isn't as it should be.
+ghost use Rattle.std.specs.Prelude.{◌≡◌, ◌<◌, ◌≤◌, ◌+◌, length, take};
+ghost use Rattle.whole_answers.specs.Fronts.{alike, line_behind};
+
+/// How many bytes two texts begin with alike.
+pub(crate) fn alike(left: &[u8], right: &[u8]) -> usize
+    ensures front { take result left.now ≡ alike left.now right.now }
+    ensures within { result ≤ length left.now }
+{
+    let both = left.len().min(right.len());
+    for place in 0..both {
+        if left[place] != right[place] {
+            return place;
+        }
+    }
+    both
+}
+
+/// The number of the line behind some bytes in front of an answer, from 1.
+#[tactic(auto, unfolding(crate::specs::Fronts::line_behind))]
+pub(crate) fn line_behind(front: &[u8]) -> usize
+    ensures line { result ≡ line_behind front.now }
+    ensures some { 0 < result }
+    ensures few { result ≤ length front.now + 1 }
+{
+    let mut line = 1;
+    for byte in front {
+        if *byte == b'\n' {
+            line += 1;
+        }
+    }
+    line
+}

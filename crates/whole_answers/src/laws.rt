@@ -1,0 +1,11 @@
+//! What the definitions come to, as a law: a function that does nothing, whose contract says it.
+ghost use Rattle.std.specs.Prelude.{◌≡◌, ℕ, List};
+ghost use Rattle.run_replay.specs.declared.trace.Trace.{Trace};
+ghost use Rattle.whole_answers.specs.declared.taken.Taken.{Taken};
+ghost use Rattle.whole_answers.specs.declared.taken.Taken.TheVariants.{Whole};
+ghost use Rattle.whole_answers.specs.Trace.{IsTraceOf, IsTraceTaken};
+
+/// An answer that is the document of a run of the text is taken as a whole.
+pub fn a_trace_of_the_text_is_taken()
+    ensures { (text answer : List ℕ) (t : Trace) (taken : Taken) → IsTraceOf text answer t → IsTraceTaken text answer taken → taken ≡ Whole }
+{}
