@@ -12,6 +12,9 @@ use Rattle.run_report.specs.declared.refusal.Refusal.TheVariants.{Source as OfSo
 use Rattle.run_report.specs.Refusal.{refusal_of}
 use Rattle.fault_sentences.specs.Sentences.{refusal_sentences}
 use Rattle.conflict_sentences.specs.Sentences.{conflict_sentences}
+use Rattle.whole_answers.specs.declared.taken.Taken as taken
+use Rattle.whole_answers.specs.Listing.{IsListingTaken}
+use Rattle.whole_answers.specs.Trace.{IsTraceTaken}
 use Rattle.explained_answer.specs.declared.explaining.Explained.{Explained}
 use Rattle.explained_answer.specs.declared.explaining.Explained as explained
 use Rattle.explained_answer.specs.Lines.{AreAllLinesExplained, IsRefusedAt}
@@ -20,6 +23,39 @@ use Rattle.explained_answer.specs.Lines.{AreAllLinesExplained, IsRefusedAt}
 pub record IsLocated (text : List ℕ) (l : Located) : Type 0 where
   pub program : source text ≡ Ok l.program
   pub places : l.places ≡ text_places text
+
+-- ---- the listing of the text's program, and the document of a run of the text
+
+-- the answer begins in another way than the listing; or than a document
+abbrev pub IsNoListing : List ℕ → Located → List ℕ → Type 0
+IsNoListing text l answer = IsListingTaken text l answer [] [] taken.TheVariants.Other
+
+abbrev pub IsNoTrace : (text answer : List ℕ) → Type 0
+IsNoTrace text answer = IsTraceTaken text answer taken.TheVariants.Other
+
+-- the answer is the listing, and explained; or it begins so, and its first other line is told
+abbrev pub IsListingAnswer : List ℕ → Located → List ℕ → Explained → Type 0
+IsListingAnswer text l answer (explained.TheVariants.Text out) = IsListingTaken text l answer [] out taken.TheVariants.Whole
+IsListingAnswer text l answer (explained.TheVariants.Refused number) = IsListingTaken text l answer [] [] (taken.TheVariants.Stops number)
+
+-- the text's program is listed, whether it has a conflict or not
+pub record IsListingExplained (text answer : List ℕ) (e : Explained) : Type 0 where
+  pub located : Located
+  pub is_located : IsLocated text located
+  pub answer_is : IsListingAnswer text located answer e
+
+-- the answer is the document of a run of the text, and repeated; or it begins so, and its first other line is told
+abbrev pub IsTraceAnswer : (text answer : List ℕ) → Explained → Type 0
+IsTraceAnswer text answer (explained.TheVariants.Text out) = IsTraceTaken text answer taken.TheVariants.Whole × (out ≡ answer)
+IsTraceAnswer text answer (explained.TheVariants.Refused number) = IsTraceTaken text answer (taken.TheVariants.Stops number)
+
+-- the text's program is checked, and was run
+pub record IsTraceExplained (text answer : List ℕ) (e : Explained) : Type 0 where
+  pub located : Located
+  pub is_located : IsLocated text located
+  pub is_checked : IsChecked located.program
+  pub no_listing : IsNoListing text located answer
+  pub answer_is : IsTraceAnswer text answer e
 
 -- ---- the answer to a text that is refused
 
@@ -40,6 +76,7 @@ pub record IsConflictExplained (text answer : List ℕ) (e : Explained) : Type 0
   pub is_located : IsLocated text located
   pub fault : CheckFault
   pub is : IsLeastFault located.program fault
+  pub no_listing : IsNoListing text located answer
   pub answer_is : IsRefusalExplained (refusal_of (OfCheck fault)) (conflict_sentences text located fault) answer e
 
 -- ---- the answer of a run
@@ -54,13 +91,20 @@ pub record IsRunExplained (text answer : List ℕ) (e : Explained) : Type 0 wher
   pub located : Located
   pub is_located : IsLocated text located
   pub is_checked : IsChecked located.program
+  pub no_listing : IsNoListing text located answer
+  pub no_trace : IsNoTrace text answer
   pub answer_is : AreAllExplained text located answer e
 
 -- an answer to a text, explained; or the number of its first line that is no line of an answer to this text
 abbrev pub IsExplained : (text answer : List ℕ) → Explained → Type 0
-IsExplained text answer e = IsFaultExplained text answer e ⊎ (IsConflictExplained text answer e ⊎ IsRunExplained text answer e)
+IsExplained text answer e =
+    IsFaultExplained text answer e
+    ⊎ (IsListingExplained text answer e ⊎ (IsConflictExplained text answer e ⊎ (IsTraceExplained text answer e ⊎ IsRunExplained text answer e)))
 
 -- ---- the conflict of a program, if it has one
+
+abbrev pub HasNoConflict : ProgramParts → Type 0
+HasNoConflict p = (fault : CheckFault) → IsLeastFault p fault → ⊥
 
 abbrev pub IsConflictOf : ProgramParts → Option CheckFault → Type 0
 IsConflictOf p None = IsChecked p

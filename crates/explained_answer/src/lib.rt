@@ -4,5 +4,6 @@
 mod explaining;
 mod lines;
 mod refusals;
+mod wholes;
 
 pub use explaining::{Explained, explain};

@@ -1,12 +1,15 @@
-use Rattle.std.proofs.Common.{rules, ◌≢◌, inl, inr}
-use Rattle.rv_assembler.specs.declared.fault.SourceFault.TheVariants.{Memory as NoMemory}
 use Rattle.explained_answer.proofs.Steps.{if-ok}
+use Rattle.explained_answer.proofs.WholeAnswers.{listing-taken, trace-repeated}
 use Rattle.explained_answer.proofs.explaining.explain.Goals as goal
 
-pub returns-in_ok-found-in-Ok : goal.returns-in_ok-found-in-Ok
-returns-in_ok-found-in-Ok c = if-ok c.explained_program.result _ _ (λ e h. inr h) c.explained_program.ensures
+pub returns-clause-listing : goal.returns-clause-listing
+returns-clause-listing c =
+    let text = c.args.text.now in
+    let answer = c.args.answer.now in
+    if-ok c.explained_text.result _ _ (λ e h. λ l located is. listing-taken text answer l located is e h) c.explained_text.ensures
 
-pub returns-in-Err : goal.returns-in-Err
-returns-in-Err c =
-    let other : c.in-Err.fault ≢ NoMemory = search rules in
-    if-ok c.explained_fault.result _ _ (λ e h. inl (record { fault = c.in-Err.fault; is = c.in-Err.ensures.err other; answer_is = h })) c.explained_fault.ensures
+pub returns-clause-trace : goal.returns-clause-trace
+returns-clause-trace c =
+    let text = c.args.text.now in
+    let answer = c.args.answer.now in
+    if-ok c.explained_text.result _ _ (λ e h. λ l t located none no_listing is. trace-repeated text answer l located t none no_listing is e h) c.explained_text.ensures

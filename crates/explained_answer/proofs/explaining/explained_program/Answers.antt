@@ -1,17 +1,17 @@
-use Rattle.std.proofs.Common.{inl, inr, subst}
+use Rattle.std.proofs.Common.{inl, inr, subst, MatchOption}
 use Rattle.std.specs.Prelude.{Option}
-use Rattle.effect_checker.specs.declared.fault.CheckFault.{CheckFault}
-use Rattle.explained_answer.specs.Explained.{IsConflictOf}
+use Rattle.explained_answer.specs.declared.explaining.Explained.{Explained}
+use Rattle.explained_answer.specs.Explained.{IsNoListing, IsListingAnswer}
 use Rattle.explained_answer.proofs.Steps.{if-ok}
 use Rattle.explained_answer.proofs.explaining.explained_program.Goals as goal
 
 pub returns-in-Some : goal.returns-in-Some
 returns-in-Some c =
-    let has = subst (λ (o : Option CheckFault). IsConflictOf c.args.located.now.program o) c.in-Some.is c.requires.conflict in
-    if-ok c.explained_conflict.result _ _ (λ e h. inl (record { located = c.args.located.now; is_located = c.requires.located; fault = c.in-Some.fault; is = has; answer_is = h }))
-    c.explained_conflict.ensures
+    let text = c.args.text.now in
+    let l = c.args.located.now in
+    let answer = c.args.answer.now in
+    let is = subst (λ (o : Option Explained). MatchOption o (IsNoListing text l answer) (IsListingAnswer text l answer)) c.in-Some.is c.in_ok-listed.ensures in
+    inl (record { located = l; is_located = c.requires.located; answer_is = is })
 
 pub returns-in-None : goal.returns-in-None
-returns-in-None c =
-    let has = subst (λ (o : Option CheckFault). IsConflictOf c.args.located.now.program o) c.in-None.is c.requires.conflict in
-    if-ok c.explained_run.result _ _ (λ e h. inr (record { located = c.args.located.now; is_located = c.requires.located; is_checked = has; answer_is = h })) c.explained_run.ensures
+returns-in-None c = if-ok c.explained_unlisted.result _ _ (λ e h. inr h) c.explained_unlisted.ensures
