@@ -6,7 +6,7 @@ ghost use Rattle.effect_prover.specs.Row.{start_row, IsRow};
 ghost use Rattle.effect_prover.specs.Successors.{successors};
 ghost use Rattle.effect_prover.specs.declared.row.Row.{Row};
 ghost use Rattle.effect_prover.specs.Table.{row_at, address_at, instr_of, target_of, Covers, IsTable, IsLeastTable};
-ghost use Rattle.effect_prover.specs.Blocks.{HasLeaders, filled};
+ghost use Rattle.effect_prover.specs.Blocks.{is_leader, HasLeaders, filled};
 ghost use Rattle.effect_prover.specs.Sweep.{HasHeads, IsJoinedTo, IsPut, IsTableUnder, IsSwept, IsRowGiven, AreMarked, table_room};
 
 use crate::blocks::last_of_block;
@@ -147,9 +147,9 @@ fn successors_at(program: &Program, place: usize, row: &Row, instr: &Instr) -> S
     row.successors(program.locks.len() as u32, address(place), instr)
 }
 
-/// Passes the row of a block's leader through the block, and on to the successors of its last word, where the leader is
-/// pending, and says where the sweep goes on.
-fn pass(
+/// Passes the row of a leader through its block, and on to the successors of the block's last word, and says where the sweep
+/// goes on.
+fn pass_block(
     program: &Program,
     task: &TaskDecl,
     heads: &[bool],
@@ -162,6 +162,7 @@ fn pass(
     requires heads { HasHeads program.now.code heads.now }
     requires leaders { HasLeaders program.now task.now leaders.now }
     requires within { at < length program.now.code }
+    requires leader { is_leader leaders.now at ≡ true }
     requires swept { IsSwept program.now task.now leaders.now rows.old pending.old at }
     ensures swept { IsSwept program.now task.now leaders.now rows.new pending.new result }
     ensures grows { IsTableUnder rows.old rows.new }
@@ -169,12 +170,6 @@ fn pass(
     ensures room_falls { table_room rows.new ≤ table_room rows.old }
     ensures room_less { result ≤ at → table_room rows.new < table_room rows.old }
 {
-    if !leaders[at] {
-        return at + 1;
-    }
-    if !pending[at] {
-        return at + 1;
-    }
     pending[at] = false;
     let Some(row) = rows[at] else {
         return at + 1;
@@ -205,6 +200,37 @@ fn pass(
         &next.target,
         cursor,
     )
+}
+
+/// Passes the block of a leader that is pending, and says where the sweep goes on. The rows of `pass_block` stand in a function
+/// of their own: room for them is made ready at each call of it, and most words lead no block.
+fn pass(
+    program: &Program,
+    task: &TaskDecl,
+    heads: &[bool],
+    leaders: &[bool],
+    rows: &mut [Option<Row>],
+    pending: &mut [bool],
+    at: usize,
+) -> usize
+    requires program { IsProgram program.now }
+    requires heads { HasHeads program.now.code heads.now }
+    requires leaders { HasLeaders program.now task.now leaders.now }
+    requires within { at < length program.now.code }
+    requires swept { IsSwept program.now task.now leaders.now rows.old pending.old at }
+    ensures swept { IsSwept program.now task.now leaders.now rows.new pending.new result }
+    ensures grows { IsTableUnder rows.old rows.new }
+    ensures next { result ≤ at + 1 }
+    ensures room_falls { table_room rows.new ≤ table_room rows.old }
+    ensures room_less { result ≤ at → table_room rows.new < table_room rows.old }
+{
+    if !leaders[at] {
+        return at + 1;
+    }
+    if !pending[at] {
+        return at + 1;
+    }
+    pass_block(program, task, heads, leaders, rows, pending, at)
 }
 
 /// Sweeps the blocks from the task's entry on, upwards, and back where a leader's row before grew, until none is pending.
