@@ -16,7 +16,7 @@ use Rattle.referee_top.specs.Answers.{IsAnswer, verdict_reply}
 use Rattle.referee_top.proofs.Agreeing.{true-agrees}
 use Rattle.claim_agreement.specs.Claims.{IsClaimOf, IsClaimOfRun}
 
-loads-claimed : (claimed : Option (List TaskLoads)) (seen right : List TaskLoads) → right ≡ seen → IfSome claimed (λ (cs : List TaskLoads). cs ≡ seen) → IfSome claimed (λ (cs : List TaskLoads). cs ≡ right)
+pub loads-claimed : (claimed : Option (List TaskLoads)) (seen right : List TaskLoads) → right ≡ seen → IfSome claimed (λ (cs : List TaskLoads). cs ≡ seen) → IfSome claimed (λ (cs : List TaskLoads). cs ≡ right)
 loads-claimed None seen right same h = tt
 loads-claimed (Some cs) seen right same h = h ∙ sym same
 
