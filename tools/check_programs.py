@@ -276,6 +276,24 @@ def claims_are_refused():
         judges(program, other, (2, refused.stdout))
 
 
+def memory_left():
+    """How many bytes of memory are free, or 0 where the system doesn't say."""
+    told = pathlib.Path("/proc/meminfo")
+    found = re.search(r"^MemAvailable: +(\d+) kB$", told.read_text(), re.M) if told.exists() else None
+    return int(found.group(1)) * 1024 if found else 0
+
+
+def the_largest_claims_are_read():
+    """Bytes as many as a claim may have are read to their end, and one more is refused. They come by a pipe, and the program holds them."""
+    program = programs("referee")[0]
+    if memory_left() < 2 ** 30:
+        print(f"programs: {program[0]}: claims of the largest size are passed over: less than 1 GiB of memory is free")
+        return
+    for size, what in ((536870912, b"head"), (536870913, b"too-large")):
+        ran = run(["bash", "-c", f'head -c {size} /dev/zero | "$@"', "bash", *program])
+        check(f"{program[0]}: {size} bytes", (ran.returncode, ran.stdout) == (2, b"refused claim %s\n" % what), ran.stdout[:200])
+
+
 def another_simulator_is_compared():
     """docs/COMPARING.md: the example's claims agree, and with its bug switched on the referee says where."""
     simulator = "examples/another-simulator/simulate.py"
@@ -428,6 +446,7 @@ every_exit_code_of_explain_comes()
 claims_of_runs_agree()
 claims_are_judged()
 claims_are_refused()
+the_largest_claims_are_read()
 another_simulator_is_compared()
 standard_error_helps()
 pages_show_what_is_printed()

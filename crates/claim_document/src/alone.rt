@@ -1,9 +1,10 @@
-ghost use Rattle.std.specs.Prelude.{◌≡◌, ◌≢◌, ◌⊎◌, Ok, Err, IfOk, IfErr};
+ghost use Rattle.std.specs.Prelude.{◌≡◌, ◌≢◌, ◌⊎◌, ◌↔◌, ◌<◌, length, Ok, Err, IfOk, IfErr};
 ghost use Rattle.claim_document.specs.declared.claim.Question.{Question as QuestionOf};
 ghost use Rattle.claim_document.specs.declared.claim.GrantOrder.{GrantOrder as OrderOf};
 ghost use Rattle.claim_document.specs.declared.claim.ClaimFault.{ClaimFault as FaultOf};
-ghost use Rattle.claim_document.specs.declared.claim.ClaimFault.TheVariants.{Memory as NoMemory};
+ghost use Rattle.claim_document.specs.declared.claim.ClaimFault.TheVariants.{TooLarge as AreTooMany, Head as NoHead, Memory as NoMemory};
 ghost use Rattle.claim_document.specs.Alone.{IsQuestionDocument, HasQuestionFault, IsOrderDocument, HasOrderFault};
+ghost use Rattle.claim_document.specs.Claim.{most_bytes};
 
 use crate::claim::{ClaimFault, GrantOrder, Question};
 use crate::head::{read_heading, read_opening};
@@ -15,6 +16,8 @@ use std::alloc::Global;
 fn question(alloc: Global, bytes: &[u8]) -> Result<Question, ClaimFault>
     ensures ok { IfOk result (IsQuestionDocument bytes.now) }
     ensures err { IfErr result (λ f. f ≢ NoMemory → HasQuestionFault bytes.now f) }
+    ensures large { most_bytes < length bytes.now → result ≡ Err AreTooMany }
+    ensures head { HasQuestionFault bytes.now NoHead → result ≡ Err NoHead }
 {
     if bytes.len() > MOST_OF_DOCUMENT {
         return Err(ClaimFault::TooLarge);
@@ -36,6 +39,8 @@ fn question(alloc: Global, bytes: &[u8]) -> Result<Question, ClaimFault>
 fn order(alloc: Global, bytes: &[u8]) -> Result<GrantOrder, ClaimFault>
     ensures ok { IfOk result (IsOrderDocument bytes.now) }
     ensures err { IfErr result (λ f. f ≢ NoMemory → HasOrderFault bytes.now f) }
+    ensures large { most_bytes < length bytes.now → result ≡ Err AreTooMany }
+    ensures head { HasOrderFault bytes.now NoHead → result ≡ Err NoHead }
 {
     if bytes.len() > MOST_OF_DOCUMENT {
         return Err(ClaimFault::TooLarge);
@@ -60,11 +65,14 @@ fn order(alloc: Global, bytes: &[u8]) -> Result<GrantOrder, ClaimFault>
 ///
 /// # Errors
 /// `TooLarge`, `Head` or `Behind` exactly where that is the fault of the bytes, and `Memory` where there is no room.
+/// Nothing is taken of memory before `TooLarge` and `Head` are told.
 pub fn read_question(alloc: Global, bytes: &[u8]) -> Result<Question, ClaimFault>
     ensures ok { IfOk result (IsQuestionDocument bytes.now) }
     ensures err { IfErr result (λ f. f ≢ NoMemory → HasQuestionFault bytes.now f) }
     ensures read { (q : QuestionOf) → IsQuestionDocument bytes.now q → (result ≡ Ok q) ⊎ (result ≡ Err NoMemory) }
     ensures refused { (f : FaultOf) → HasQuestionFault bytes.now f → (result ≡ Err f) ⊎ (result ≡ Err NoMemory) }
+    ensures large { (result ≡ Err AreTooMany) ↔ (most_bytes < length bytes.now) }
+    ensures head { (result ≡ Err NoHead) ↔ HasQuestionFault bytes.now NoHead }
 {
     question(alloc, bytes)
 }
@@ -75,11 +83,14 @@ pub fn read_question(alloc: Global, bytes: &[u8]) -> Result<Question, ClaimFault
 ///
 /// # Errors
 /// `TooLarge`, `Head`, `Grant` or `Behind` exactly where that is the fault of the bytes, and `Memory` where there is no room.
+/// Nothing is taken of memory before `TooLarge` and `Head` are told.
 pub fn read_order(alloc: Global, bytes: &[u8]) -> Result<GrantOrder, ClaimFault>
     ensures ok { IfOk result (IsOrderDocument bytes.now) }
     ensures err { IfErr result (λ f. f ≢ NoMemory → HasOrderFault bytes.now f) }
     ensures read { (o : OrderOf) → IsOrderDocument bytes.now o → (result ≡ Ok o) ⊎ (result ≡ Err NoMemory) }
     ensures refused { (f : FaultOf) → HasOrderFault bytes.now f → (result ≡ Err f) ⊎ (result ≡ Err NoMemory) }
+    ensures large { (result ≡ Err AreTooMany) ↔ (most_bytes < length bytes.now) }
+    ensures head { (result ≡ Err NoHead) ↔ HasOrderFault bytes.now NoHead }
 {
     order(alloc, bytes)
 }

@@ -80,3 +80,22 @@ impl<T: Drop> From<AllocFailed<T>> for ClaimFault {
         ClaimFault::Memory
     }
 }
+
+/// Why the document of a claim isn't written.
+#[derive(Clone, Copy, Debug, PartialEq, Eq)]
+pub enum ClaimTextError {
+    /// It would have more than 536,870,912 bytes.
+    TooLarge,
+    /// There was no memory.
+    Memory,
+}
+
+impl From<NoRoom> for ClaimTextError {
+    ghost use Rattle.claim_document.specs.declared.claim.ClaimTextError.TheVariants.{Memory as WantsMemory};
+
+    ghost from_gives = { λ _ error. error ≡ WantsMemory };
+
+    fn from(_error: NoRoom) -> ClaimTextError {
+        ClaimTextError::Memory
+    }
+}

@@ -13,7 +13,7 @@ mod rows;
 mod writing;
 
 pub use alone::{read_order, read_question};
-pub use claim::{Claim, ClaimFault, GrantOrder, Question};
+pub use claim::{Claim, ClaimFault, ClaimTextError, GrantOrder, Question};
 pub use laws::{a_document_is_of_one_claim, bytes_have_one_fault};
 pub use reading::read_claim;
 pub use refusal::claim_line;

@@ -1,19 +1,21 @@
 //! That the numbers of a claim are within the limits of a document, because of their types.
-ghost use Rattle.std.specs.Prelude.{◌≡◌, All, IfOk};
-ghost use Rattle.claim_document.specs.Claim.{IsNumber, IsGrant, IsLoad};
+ghost use Rattle.std.specs.Prelude.{◌≡◌, ◌<◌, All, IfOk, IfErr};
+ghost use Rattle.claim_document.specs.Claim.{IsNumber, IsGrant, IsLoad, most_bytes};
 
-use dn_base::{Grant, LoadSeen, Memory};
+use crate::claim::ClaimTextError;
+use dn_base::{Grant, LoadSeen};
 
 /// A number of lines, which a document tells in 32 bits.
 ///
 /// # Errors
-/// `Memory` where there are 2^32 or more: no document has room for so many lines.
-pub(crate) fn told(lines: usize) -> Result<u32, Memory>
+/// `TooLarge` where there are 2^32 or more: each line has a byte at least, so that no document has room for so many.
+pub(crate) fn told(lines: usize) -> Result<u32, ClaimTextError>
     ensures count { IfOk result (λ count. count ≡ lines) }
     ensures number { IfOk result (λ count. IsNumber lines) }
+    ensures large { IfErr result (λ error. most_bytes < lines) }
 {
     if lines > u32::MAX as usize {
-        return Err(Memory);
+        return Err(ClaimTextError::TooLarge);
     }
     Ok(lines as u32)
 }

@@ -1,8 +1,8 @@
-ghost use Rattle.std.specs.Prelude.{◌≡◌, ◌≢◌, ◌⊎◌, None, Ok, Err, IfOk, IfErr};
+ghost use Rattle.std.specs.Prelude.{◌≡◌, ◌≢◌, ◌⊎◌, ◌↔◌, ◌<◌, length, None, Ok, Err, IfOk, IfErr};
 ghost use Rattle.claim_document.specs.declared.claim.Claim.{Claim as ClaimOf};
 ghost use Rattle.claim_document.specs.declared.claim.ClaimFault.{ClaimFault as FaultOf};
-ghost use Rattle.claim_document.specs.declared.claim.ClaimFault.TheVariants.{Memory as NoMemory};
-ghost use Rattle.claim_document.specs.Claim.{IsClaimDocument};
+ghost use Rattle.claim_document.specs.declared.claim.ClaimFault.TheVariants.{TooLarge as AreTooMany, Head as NoHead, Memory as NoMemory};
+ghost use Rattle.claim_document.specs.Claim.{IsClaimDocument, most_bytes};
 ghost use Rattle.claim_document.specs.Faults.{HasFault};
 ghost use Rattle.claim_document.specs.Rows.{IsLoadsPart, FailsPart};
 
@@ -42,6 +42,8 @@ fn put_loads<'a>(
 fn read(alloc: Global, bytes: &[u8]) -> Result<Claim, ClaimFault>
     ensures ok { IfOk result (IsClaimDocument bytes.now) }
     ensures err { IfErr result (λ f. f ≢ NoMemory → HasFault bytes.now f) }
+    ensures large { most_bytes < length bytes.now → result ≡ Err AreTooMany }
+    ensures head { HasFault bytes.now NoHead → result ≡ Err NoHead }
 {
     if bytes.len() > MOST_OF_DOCUMENT {
         return Err(ClaimFault::TooLarge);
@@ -73,12 +75,14 @@ fn read(alloc: Global, bytes: &[u8]) -> Result<Claim, ClaimFault>
 ///
 /// # Errors
 /// `TooLarge`, `Head`, `Grant`, `Loads`, `Task` or `Load` exactly where that is the fault of the bytes, and `Memory` where there
-/// is no room.
+/// is no room. Nothing is taken of memory before `TooLarge` and `Head` are told.
 pub fn read_claim(alloc: Global, bytes: &[u8]) -> Result<Claim, ClaimFault>
     ensures ok { IfOk result (IsClaimDocument bytes.now) }
     ensures err { IfErr result (λ f. f ≢ NoMemory → HasFault bytes.now f) }
     ensures read { (c : ClaimOf) → IsClaimDocument bytes.now c → (result ≡ Ok c) ⊎ (result ≡ Err NoMemory) }
     ensures refused { (f : FaultOf) → HasFault bytes.now f → (result ≡ Err f) ⊎ (result ≡ Err NoMemory) }
+    ensures large { (result ≡ Err AreTooMany) ↔ (most_bytes < length bytes.now) }
+    ensures head { (result ≡ Err NoHead) ↔ HasFault bytes.now NoHead }
 {
     read(alloc, bytes)
 }

@@ -1,7 +1,8 @@
-ghost use Rattle.std.specs.Prelude.{◌≡◌, ◌≤◌, ◌++◌, All, flat_map, length, IfOk, OnOk};
-ghost use Rattle.claim_document.specs.Claim.{IsQuestion, IsGrant, IsTaskHead, IsTask, IsLoads, IsClaim, IsClaimDocument, title, question_text, head_text, head_of, three_fields, grant_row, load_row, task_head_row, task_rows, head_of_task, loads_head_row, head_of_loads, tasks_text, loads_text, claim_text as text_of};
+ghost use Rattle.std.specs.Prelude.{◌≡◌, ◌⊎◌, ◌<◌, ◌≤◌, ◌++◌, All, flat_map, length, Err, IfOk, IfErr, OnOk};
+ghost use Rattle.claim_document.specs.declared.claim.ClaimTextError.TheVariants.{TooLarge as TextTooLarge, Memory as NoMemory};
+ghost use Rattle.claim_document.specs.Claim.{IsQuestion, IsGrant, IsTaskHead, IsTask, IsLoads, IsClaim, IsClaimDocument, title, question_text, head_text, head_of, three_fields, grant_row, load_row, task_head_row, task_rows, head_of_task, loads_head_row, head_of_loads, tasks_text, loads_text, claim_text as text_of, most_bytes};
 
-use crate::claim::{Claim, Question};
+use crate::claim::{Claim, ClaimTextError, Question};
 use crate::limits::{grants_fit, loads_fit, told};
 use crate::rows::TaskHead;
 use dn_base::{Grant, LoadSeen, MOST_OF_DOCUMENT, Memory, Sequence};
@@ -82,10 +83,14 @@ fn push_task_head(out: &mut Vec<u8>, head: TaskHead) -> Result<(), Memory>
 }
 
 /// Adds the line of a task, and those of its loads.
+///
+/// # Errors
+/// `TooLarge` where no document has room for these, and `Memory`.
 #[tactic(auto, unfolding(crate::specs::Claim::task_rows))]
-fn push_task(out: &mut Vec<u8>, task: &TaskLoads) -> Result<(), Memory>
+fn push_task(out: &mut Vec<u8>, task: &TaskLoads) -> Result<(), ClaimTextError>
     ensures text { OnOk result (out.new.items ≡ out.old.items ++ task_rows task.now) }
     ensures fits { OnOk result (IsTask task.now) }
+    ensures large { IfErr result (λ error. error ≡ TextTooLarge → most_bytes < length (task_rows task.now)) }
 {
     loads_fit(task.loads.as_slice());
     let head = TaskHead {
@@ -94,12 +99,14 @@ fn push_task(out: &mut Vec<u8>, task: &TaskLoads) -> Result<(), Memory>
         count: told(task.loads.len())?,
     };
     push_task_head(out, head)?;
-    push_loads(out, task.loads.as_slice())
+    push_loads(out, task.loads.as_slice())?;
+    Ok(())
 }
 
-fn push_tasks(out: &mut Vec<u8>, tasks: &[TaskLoads]) -> Result<(), Memory>
+fn push_tasks(out: &mut Vec<u8>, tasks: &[TaskLoads]) -> Result<(), ClaimTextError>
     ensures text { OnOk result (out.new.items ≡ out.old.items ++ flat_map task_rows tasks.now) }
     ensures fits { OnOk result (All IsTask tasks.now) }
+    ensures large { IfErr result (λ error. error ≡ TextTooLarge → most_bytes < length (flat_map task_rows tasks.now)) }
 {
     for task in tasks {
         push_task(out, task)?;
@@ -119,13 +126,20 @@ fn push_loads_head(out: &mut Vec<u8>, count: Option<u32>) -> Result<(), Memory>
 }
 
 /// Adds what is said of loads.
+///
+/// # Errors
+/// `TooLarge` where no document has room for it, and `Memory`.
 #[tactic(auto, unfolding(crate::specs::Claim::loads_text))]
-fn push_loads_part(out: &mut Vec<u8>, loads: &Option<Sequence<TaskLoads>>) -> Result<(), Memory>
+fn push_loads_part(
+    out: &mut Vec<u8>,
+    loads: &Option<Sequence<TaskLoads>>,
+) -> Result<(), ClaimTextError>
     ensures text { OnOk result (out.new.items ≡ out.old.items ++ loads_text loads.now) }
     ensures fits { OnOk result (IsLoads loads.now) }
+    ensures large { IfErr result (λ error. error ≡ TextTooLarge → most_bytes < length (loads_text loads.now)) }
 {
     match loads {
-        None => push_loads_head(out, None),
+        None => Ok(push_loads_head(out, None)?),
         Some(tasks) => {
             push_loads_head(out, Some(told(tasks.len())?))?;
             push_tasks(out, tasks.as_slice())
@@ -144,11 +158,15 @@ fn push_head(out: &mut Vec<u8>, question: &Question, count: u32) -> Result<(), M
 }
 
 /// All parts of a claim, one after the other.
+///
+/// # Errors
+/// `TooLarge` where a number of lines is too large to be told, and `Memory`.
 #[tactic(auto, unfolding(crate::specs::Claim::claim_text))]
-fn write(alloc: Global, claim: &Claim) -> Result<Vec<u8>, Memory>
+fn write(alloc: Global, claim: &Claim) -> Result<Vec<u8>, ClaimTextError>
     requires { length claim.now.question.text ≤ 1048576 }
     ensures text { IfOk result (λ document. document.items ≡ text_of claim.now) }
     ensures fits { IfOk result (λ document. IsQuestion claim.now.question → IsClaim claim.now) }
+    ensures large { IfErr result (λ error. error ≡ TextTooLarge → most_bytes < length (text_of claim.now)) }
 {
     let mut out = Vec::new(alloc);
     push_head(&mut out, &claim.question, told(claim.grants.len())?)?;
@@ -158,6 +176,20 @@ fn write(alloc: Global, claim: &Claim) -> Result<Vec<u8>, Memory>
     Ok(out)
 }
 
+/// Looks that a document isn't larger than one may be.
+///
+/// # Errors
+/// `TooLarge` exactly where it is.
+fn within_limit(document: &[u8]) -> Result<(), ClaimTextError>
+    ensures ok { OnOk result (length document.now ≤ most_bytes) }
+    ensures err { IfErr result (λ error. (error ≡ TextTooLarge) × (most_bytes < length document.now)) }
+{
+    if document.len() > MOST_OF_DOCUMENT {
+        return Err(ClaimTextError::TooLarge);
+    }
+    Ok(())
+}
+
 /// The document of a claim: its first lines tell the fuel and the source text, then come a line for each grant, the loads task by
 /// task or the line that nothing is claimed of them, and the answer as it is. Numbers are decimal, without leading zeros, and values
 /// are in eight hexadecimal digits.
@@ -165,15 +197,16 @@ fn write(alloc: Global, claim: &Claim) -> Result<Vec<u8>, Memory>
 /// The text has at most 1,048,576 bytes. Where the fuel is from 1 to 32,768, `read_claim` gives the claim again.
 ///
 /// # Errors
-/// `Memory` where there is no room for the document, or where it has no room for the claim: it has at most 536,870,912 bytes.
-pub fn claim_text(alloc: Global, claim: &Claim) -> Result<Vec<u8>, Memory>
+/// `TooLarge` where the document would have more than 536,870,912 bytes, and `Memory` where there is no room for it; where both are
+/// true either may come.
+pub fn claim_text(alloc: Global, claim: &Claim) -> Result<Vec<u8>, ClaimTextError>
     requires { length claim.now.question.text ≤ 1048576 }
     ensures text { IfOk result (λ document. document.items ≡ text_of claim.now) }
     ensures document { IfOk result (λ document. IsQuestion claim.now.question → IsClaimDocument document.items claim.now) }
+    ensures large { IfErr result (λ error. error ≡ TextTooLarge → most_bytes < length (text_of claim.now)) }
+    ensures refused { most_bytes < length (text_of claim.now) → (result ≡ Err TextTooLarge) ⊎ (result ≡ Err NoMemory) }
 {
     let document = write(alloc, claim)?;
-    if document.len() > MOST_OF_DOCUMENT {
-        return Err(Memory);
-    }
+    within_limit(&document)?;
     Ok(document)
 }

@@ -1,12 +1,13 @@
 -- What the referee answers to a mode and a document.
-use Rattle.std.specs.Prelude.{◌≡◌, ◌⊎◌, ℕ, List}
+use Rattle.std.specs.Prelude.{◌≡◌, ◌⊎◌, ℕ, ◌<◌, List, length}
 use Rattle.region_table.specs.Program.{ProgramParts}
 use Rattle.claim_document.specs.declared.claim.Claim.{Claim}
 use Rattle.claim_document.specs.declared.claim.ClaimFault.{ClaimFault}
+use Rattle.claim_document.specs.declared.claim.ClaimFault.TheVariants.{TooLarge}
 use Rattle.claim_document.specs.declared.claim.GrantOrder.{GrantOrder}
 use Rattle.claim_document.specs.declared.claim.Question.{Question}
 use Rattle.claim_document.specs.Alone.{IsQuestionDocument, HasQuestionFault, IsOrderDocument, HasOrderFault}
-use Rattle.claim_document.specs.Claim.{IsClaimDocument, claim_text}
+use Rattle.claim_document.specs.Claim.{IsClaimDocument, claim_text, most_bytes}
 use Rattle.claim_document.specs.Faults.{HasFault}
 use Rattle.claim_document.specs.Refusal.{refusal_text}
 use Rattle.claim_verdict.specs.declared.verdict.Verdict.{Verdict}
@@ -15,7 +16,7 @@ use Rattle.claim_verdict.specs.Verdict.{verdict_text}
 use Rattle.claim_judge.specs.declared.right.RightClaim.{RightClaim}
 use Rattle.claim_judge.specs.declared.right.RightClaim.TheVariants.{Whole, Refused}
 use Rattle.claim_judge.specs.Judge.{IsVerdict}
-use Rattle.claim_judge.specs.Right.{IsRightBy, IsLeastClaim}
+use Rattle.claim_judge.specs.Right.{IsRightBy, IsRightClaim, IsLeastClaim}
 use Rattle.front_end.specs.Texts.{HasChecked, IsUnfit}
 use Rattle.referee_top.specs.declared.answering.Reply.{Reply}
 use Rattle.referee_top.specs.declared.mode.RefereeMode.{RefereeMode}
@@ -85,6 +86,23 @@ pub record IsLeastReply (P : ProgramParts) (q : Question) (out : Reply) : Type 0
   pub again : IsReadable (Whole claim)
   pub answer : out ≡ claim_reply claim
 
+-- ---- a claim without a document
+
+-- the claim's text has more bytes than a document may have, and the line says so
+pub record IsTooLarge (c : Claim) (line : List ℕ) : Type 0 where
+  pub large : most_bytes < length (claim_text c)
+  pub says : line ≡ refusal_text TooLarge
+
+-- the claim that is asked for is right, and too large
+pub record IsUnwritten (IsRight : Claim → Type 0) (line : List ℕ) : Type 0 where
+  pub claim : Claim
+  pub right : IsRight claim
+  pub large : IsTooLarge claim line
+
+-- the text of a question has no program that could be run, or the claim of its program is too large
+abbrev pub IsUnanswered : Question → (ProgramParts → Claim → Type 0) → List ℕ → Type 0
+IsUnanswered q IsRight line = IsUnfit q.text line ⊎ HasChecked q.text (λ P. IsUnwritten (IsRight P) line)
+
 -- ---- a row for each mode
 
 -- what each mode does with a document, whose text has a checked program
@@ -93,11 +111,12 @@ mode_done mode.TheVariants.Judge document out = HasTold IsClaimDocument document
 mode_done mode.TheVariants.Answer document out = HasTold IsOrderDocument document (λ o. HasChecked o.question.text (λ P. IsOrdered P o out))
 mode_done mode.TheVariants.Least document out = HasTold IsQuestionDocument document (λ q. HasChecked q.text (λ P. IsLeastReply P q out))
 
--- which documents each mode refuses, and with which line: the bytes have a fault, or the text that they tell
+-- which documents each mode refuses, and with which line: the bytes have a fault, or the text that they tell, or the claim that is asked
+-- for has more bytes than a document may have
 abbrev pub refused_with : RefereeMode → List ℕ → List ℕ → Type 0
 refused_with mode.TheVariants.Judge document line = IsFaulty HasFault document line ⊎ HasTold IsClaimDocument document (λ c. IsUnfit c.question.text line)
-refused_with mode.TheVariants.Answer document line = IsFaulty HasOrderFault document line ⊎ HasTold IsOrderDocument document (λ o. IsUnfit o.question.text line)
-refused_with mode.TheVariants.Least document line = IsFaulty HasQuestionFault document line ⊎ HasTold IsQuestionDocument document (λ q. IsUnfit q.text line)
+refused_with mode.TheVariants.Answer document line = IsFaulty HasOrderFault document line ⊎ HasTold IsOrderDocument document (λ o. IsUnanswered o.question (λ P. IsRightClaim P o.question o.grants) line)
+refused_with mode.TheVariants.Least document line = IsFaulty HasQuestionFault document line ⊎ HasTold IsQuestionDocument document (λ q. IsUnanswered q (λ P. IsLeastClaim P q) line)
 
 -- ---- answers
 

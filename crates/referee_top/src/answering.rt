@@ -2,14 +2,15 @@ ghost use Rattle.std.specs.Prelude.{◌≡◌, IfOk, IfErr};
 ghost use Rattle.claim_document.specs.Alone.{IsOrder};
 ghost use Rattle.claim_document.specs.Claim.{IsClaimDocument, IsQuestion, claim_text as text_of};
 ghost use Rattle.claim_judge.specs.Judge.{IsJudgeable};
+ghost use Rattle.claim_judge.specs.Right.{IsRightClaim, IsLeastClaim};
 ghost use Rattle.front_end.specs.Texts.{IsStop};
 ghost use Rattle.referee_top.specs.declared.mode.RefereeMode.TheVariants as mode;
-ghost use Rattle.referee_top.specs.Answers.{IsAnswer, IsJudged, IsOrdered, IsLeastReply, mode_done, refused_with, verdict_reply, verdict_status, claim_reply};
+ghost use Rattle.referee_top.specs.Answers.{IsAnswer, IsJudged, IsOrdered, IsLeastReply, IsTooLarge, IsUnwritten, mode_done, refused_with, verdict_reply, verdict_status, claim_reply};
 
-use crate::documents::{claim_in, order_in, question_in};
+use crate::documents::{claim_in, order_in, question_in, refused};
 use crate::mode::RefereeMode;
 use crate::status::RefereeStatus;
-use claim_document::{Claim, GrantOrder, Question, claim_text};
+use claim_document::{Claim, ClaimFault, ClaimTextError, GrantOrder, Question, claim_text};
 use claim_judge::{RightClaim, judge, least_claim, right_claim};
 use claim_verdict::{Verdict, push_verdict};
 use dn_base::{Memory, Sequence};
@@ -50,15 +51,23 @@ fn say(alloc: Global, verdict: &Verdict) -> Result<Reply, Memory>
 }
 
 /// Writes a claim that is right.
-fn write(alloc: Global, claim: &Claim) -> Result<Reply, Memory>
+///
+/// # Errors
+/// `Refused` where its document would be too large, and `Memory` where there is no room for it.
+fn write(alloc: Global, claim: &Claim) -> Result<Reply, Stop>
     requires { IsQuestion claim.now.question }
     ensures reply { IfOk result (λ reply. reply ≡ claim_reply claim.now) }
     ensures again { IfOk result (λ reply. IsClaimDocument (text_of claim.now) claim.now) }
+    ensures stop { IfErr result (IsStop (IsTooLarge claim.now)) }
 {
-    Ok(Reply {
-        status: RefereeStatus::Agrees,
-        bytes: Sequence::from_vec(claim_text(alloc, claim)?),
-    })
+    match claim_text(alloc, claim) {
+        Ok(document) => Ok(Reply {
+            status: RefereeStatus::Agrees,
+            bytes: Sequence::from_vec(document),
+        }),
+        Err(ClaimTextError::TooLarge) => Err(refused(alloc, ClaimFault::TooLarge)),
+        Err(ClaimTextError::Memory) => Err(Stop::Memory),
+    }
 }
 
 /// The verdict on a claim.
@@ -71,24 +80,26 @@ fn judged(alloc: Global, checked: &Checked, claim: &Claim) -> Result<Reply, Memo
 }
 
 /// The claim of the run that goes by the grants of an order.
-fn ordered(alloc: Global, checked: &Checked, order: GrantOrder) -> Result<Reply, Memory>
+fn ordered(alloc: Global, checked: &Checked, order: GrantOrder) -> Result<Reply, Stop>
     requires { IsOrder order }
-    ensures { IfOk result (IsOrdered checked.now order) }
+    ensures done { IfOk result (IsOrdered checked.now order) }
+    ensures stop { IfErr result (IsStop (IsUnwritten (IsRightClaim checked.now order.question order.grants))) }
 {
     let GrantOrder { question, grants } = order;
     match right_claim(alloc, checked, question, grants.into_vec())? {
         RightClaim::Whole(claim) => write(alloc, &claim),
         RightClaim::Refused { place } => {
             let grant = place as u32;
-            say(alloc, &Verdict::Grants { grant })
+            Ok(say(alloc, &Verdict::Grants { grant })?)
         }
     }
 }
 
 /// The claim of the run that goes by the least grants.
-fn least(alloc: Global, checked: &Checked, question: Question) -> Result<Reply, Memory>
+fn least(alloc: Global, checked: &Checked, question: Question) -> Result<Reply, Stop>
     requires { IsQuestion question }
-    ensures { IfOk result (IsLeastReply checked.now question) }
+    ensures done { IfOk result (IsLeastReply checked.now question) }
+    ensures stop { IfErr result (IsStop (IsUnwritten (IsLeastClaim checked.now question))) }
 {
     let claim = least_claim(alloc, checked, question)?;
     write(alloc, &claim)
@@ -111,7 +122,7 @@ fn answer_document(alloc: Global, document: &[u8]) -> Result<Reply, Stop>
 {
     let order = order_in(alloc, document)?;
     let checked = checked_of(alloc, order.question.text.as_slice())?;
-    Ok(ordered(alloc, &checked, order)?)
+    ordered(alloc, &checked, order)
 }
 
 /// Writes the claim of the run that goes by the least grants.
@@ -121,7 +132,7 @@ fn least_document(alloc: Global, document: &[u8]) -> Result<Reply, Stop>
 {
     let question = question_in(alloc, document)?;
     let checked = checked_of(alloc, question.text.as_slice())?;
-    Ok(least(alloc, &checked, question)?)
+    least(alloc, &checked, question)
 }
 
 /// What each mode does with a document.
@@ -139,7 +150,8 @@ fn done(alloc: Global, asked: RefereeMode, document: &[u8]) -> Result<Reply, Sto
 /// The answer to a mode and a document.
 ///
 /// A document that isn't of its form is refused with the line of its first fault. A text in it that has no checked program is refused
-/// as denovo refuses it, with the same line.
+/// as denovo refuses it, with the same line. In the modes answer and least a claim that would have more than 536,870,912 bytes isn't
+/// written, but refused as too large.
 ///
 /// # Errors
 /// `Memory` where there is no room for what the document tells, the run or the answer.

@@ -14,8 +14,8 @@ use dn_base::Sequence;
 use front_end::Stop;
 use std::alloc::Global;
 
-/// The refusal of a document for this fault, which isn't out of memory.
-fn refused(alloc: Global, fault: ClaimFault) -> Stop
+/// The refusal of a document, read or to be written, for this fault, which isn't out of memory.
+pub(crate) fn refused(alloc: Global, fault: ClaimFault) -> Stop
     requires { fault ≢ NoMemory }
     ensures { IsStop (λ line. line ≡ refusal_text fault) result }
 {
