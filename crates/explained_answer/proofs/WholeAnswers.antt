@@ -1,5 +1,5 @@
 -- The listing of a text's program and the document of its run are taken as they are.
-use Rattle.std.proofs.Common.{◌≡◌, ◌≢◌, ◌⊎◌, inl, inr, ℕ, List, [], ◌++◌, Result, Ok, Err, refl, sym, ap, subst, ◌∙◌, arith}
+use Rattle.std.proofs.Common.{◌≡◌, inl, inr, ℕ, List, Result, Ok, Err, sym, ap, subst, ◌∙◌, arith}
 use Rattle.region_table.specs.Program.{ProgramParts}
 use Rattle.rv_assembler.specs.declared.fault.SourceFault.{SourceFault}
 use Rattle.rv_assembler.specs.Source.{source}
