@@ -41,7 +41,7 @@ use Rattle.referee_top.specs.Answers.{HasTold, IsAnswer, verdict_reply}
 use Rattle.referee_top.proofs.Agreeing.{true-agrees}
 use Rattle.referee_top.proofs.Fit.{one-program}
 use Rattle.claim_agreement.proofs.Agreeing.{loads-claimed}
-use Rattle.claim_agreement.specs.HandedBack.{IsClaimOfRecord, IsClaimOfRunOf, claims_in, HandedBack}
+use Rattle.claim_agreement.specs.HandedBack.{IsClaimOfRecord, IsClaimOfRunOf, claims_run_in, HandedBack}
 
 -- ---- a run and its claim
 
@@ -145,7 +145,7 @@ replay-agrees document r c ran told =
     text-agrees ran.trace.text (λ P. shape_told P ran.trace.shape) ran.trace.shape.fuel r c ran.holds
     (subst (λ (t : Trace). IsClaimOfRunOf t.text (λ P. shape_told P t.shape) t.shape.fuel r c) same told.holds)
 
-mode-agrees : (m : Mode) (o : Options) (text : List ℕ) (r : RunRecord) (c : Claim) → ran_in m o text r → claims_in m o text r c → HasChecked c.question.text (λ P. AgreesWithRun P c)
+mode-agrees : (m : Mode) (o : Options) (text : List ℕ) (r : RunRecord) (c : Claim) → ran_in m o text r → claims_run_in m o text r c → HasChecked c.question.text (λ P. AgreesWithRun P c)
 mode-agrees mode.TheVariants.Run o text r c ran told = text-agrees text (λ P. shape_for P o) o.fuel r c ran told
 mode-agrees mode.TheVariants.Work o text r c ran told = text-agrees text (λ P. shape_for P o) o.fuel r c ran told
 mode-agrees mode.TheVariants.Check o text r c ran told = text-agrees text (λ P. shape_for P o) o.fuel r c ran told
@@ -156,7 +156,7 @@ mode-agrees mode.TheVariants.Time o text r c ran told = text-agrees text (λ P. 
 mode-agrees mode.TheVariants.Prove o text r c ran told = text-agrees text (λ P. shape_for P o) o.fuel r c ran told
 mode-agrees mode.TheVariants.Replay o text r c ran told = replay-agrees text r c ran told
 
-mode-claim : (m : Mode) (o : Options) (text : List ℕ) (r : RunRecord) → ran_in m o text r → (c : Claim) × (is_some c.loads ≡ true) × claims_in m o text r c
+mode-claim : (m : Mode) (o : Options) (text : List ℕ) (r : RunRecord) → ran_in m o text r → (c : Claim) × (is_some c.loads ≡ true) × claims_run_in m o text r c
 mode-claim mode.TheVariants.Run o text r ran = claim-of text (λ P. shape_for P o) o.fuel r ran
 mode-claim mode.TheVariants.Work o text r ran = claim-of text (λ P. shape_for P o) o.fuel r ran
 mode-claim mode.TheVariants.Check o text r ran = claim-of text (λ P. shape_for P o) o.fuel r ran
@@ -211,20 +211,20 @@ call-made o text call r h = by_end h.answered.ends
 call-ran : (o : Options) (text : List ℕ) (call : Call) (r : RunRecord) → HandedBack o text call r → ran_in o.mode o text r
 call-ran o text call r h = let did = call-made o text call r h in mode-ran o.mode o text did.out r did.done did.run
 
-call-agrees : (o : Options) (text : List ℕ) (call : Call) (r : RunRecord) (c : Claim) → HandedBack o text call r → claims_in o.mode o text r c → HasChecked c.question.text (λ P. AgreesWithRun P c)
+call-agrees : (o : Options) (text : List ℕ) (call : Call) (r : RunRecord) (c : Claim) → HandedBack o text call r → claims_run_in o.mode o text r c → HasChecked c.question.text (λ P. AgreesWithRun P c)
 call-agrees o text call r c h told = mode-agrees o.mode o text r c (call-ran o text call r h) told
 
-pub call-verdict : (o : Options) (text : List ℕ) (call : Call) (r : RunRecord) (c : Claim) → HandedBack o text call r → claims_in o.mode o text r c → HasChecked c.question.text (λ P. IsVerdict P c Agrees)
+pub call-verdict : (o : Options) (text : List ℕ) (call : Call) (r : RunRecord) (c : Claim) → HandedBack o text call r → claims_run_in o.mode o text r c → HasChecked c.question.text (λ P. IsVerdict P c Agrees)
 call-verdict o text call r c h told =
     let is = call-agrees o text call r c h told in
     record { program = is.program; is = is.is; checked = is.checked; holds = run_agrees is.program c is.holds }
 
-pub call-said : (o : Options) (text : List ℕ) (call : Call) (r : RunRecord) (document : List ℕ) (out : Reply) → HandedBack o text call r → HasTold IsClaimDocument document (λ c. claims_in o.mode o text r c)
+pub call-said : (o : Options) (text : List ℕ) (call : Call) (r : RunRecord) (document : List ℕ) (out : Reply) → HandedBack o text call r → HasTold IsClaimDocument document (λ c. claims_run_in o.mode o text r c)
     → IsAnswer referee.TheVariants.Judge document out → out ≡ verdict_reply Agrees
 call-said o text call r document out h told is =
     true-agrees document out (record { value = told.value; is = told.is; holds = call-agrees o text call r told.value h told.holds }) is
 
-pub call-claim : (o : Options) (text : List ℕ) (call : Call) (r : RunRecord) → HandedBack o text call r → (c : Claim) × (is_some c.loads ≡ true) × claims_in o.mode o text r c
+pub call-claim : (o : Options) (text : List ℕ) (call : Call) (r : RunRecord) → HandedBack o text call r → (c : Claim) × (is_some c.loads ≡ true) × claims_run_in o.mode o text r c
 call-claim o text call r h = mode-claim o.mode o text r (call-ran o text call r h)
 
 -- ---- what the mode run prints

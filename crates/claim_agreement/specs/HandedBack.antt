@@ -40,9 +40,9 @@ pub record IsClaimOfRunOf (text : List ℕ) (shape_of : ProgramParts → Shape) 
 -- ---- what was run
 
 -- the text, the machine and the fuel are those of the call; in the mode replay they are those that its document tells
-abbrev pub claims_in : Mode → Options → List ℕ → RunRecord → Claim → Type 0
-claims_in mode.TheVariants.Replay o document r c = HasTrace document (λ t. IsClaimOfRunOf t.text (λ P. shape_told P t.shape) t.shape.fuel r c)
-claims_in m o text r c = IsClaimOfRunOf text (λ P. shape_for P o) o.fuel r c
+abbrev pub claims_run_in : Mode → Options → List ℕ → RunRecord → Claim → Type 0
+claims_run_in mode.TheVariants.Replay o document r c = HasTrace document (λ t. IsClaimOfRunOf t.text (λ P. shape_told P t.shape) t.shape.fuel r c)
+claims_run_in m o text r c = IsClaimOfRunOf text (λ P. shape_for P o) o.fuel r c
 
 -- a call of the program with these options about this text, or in the mode replay this document, handed back the run
 pub record HandedBack (o : Options) (text : List ℕ) (call : Call) (r : RunRecord) : Type 0 where

@@ -22,7 +22,7 @@ ghost use Rattle.referee_top.specs.declared.answering.Reply.{Reply};
 ghost use Rattle.referee_top.specs.declared.mode.RefereeMode.TheVariants.{Judge};
 ghost use Rattle.referee_top.specs.Answers.{HasTold, IsAnswer, verdict_reply};
 ghost use Rattle.claim_agreement.specs.Claims.{IsClaimOf, IsClaimOfRun};
-ghost use Rattle.claim_agreement.specs.HandedBack.{IsClaimOfRecord, claims_in, HandedBack};
+ghost use Rattle.claim_agreement.specs.HandedBack.{IsClaimOfRecord, claims_run_in, HandedBack};
 
 /// The claim of any complete run of the multicore machine agrees: its grants, the loads of its events, task by task, and its answer,
 /// whatever the shape of the machine, and in whatever order the events came. The judge says so of the claim, and the referee of its
@@ -40,11 +40,11 @@ pub fn the_claim_of_any_run_agrees()
 pub fn the_claim_of_any_run_of_denovo_agrees()
     ensures run { (P : ProgramParts) (machine : Shape) (fuel : ℕ) (r : RunRecord) (C : Setting) (c : Claim) → IsRunOf P machine fuel r → IsSettingOf P machine fuel C → IsClaimOfRecord C r c
         → IsVerdict P c Agrees }
-    ensures verdict { (o : Options) (text : List ℕ) (call : Call) (r : RunRecord) (c : Claim) → HandedBack o text call r → claims_in o.mode o text r c
+    ensures verdict { (o : Options) (text : List ℕ) (call : Call) (r : RunRecord) (c : Claim) → HandedBack o text call r → claims_run_in o.mode o text r c
         → HasChecked c.question.text (λ P. IsVerdict P c Agrees) }
     ensures answer { (o : Options) (text : List ℕ) (call : Call) (r : RunRecord) (document : List ℕ) (out : Reply) → HandedBack o text call r
-        → HasTold IsClaimDocument document (λ c. claims_in o.mode o text r c) → IsAnswer Judge document out → out ≡ verdict_reply Agrees }
-    ensures claimed { (o : Options) (text : List ℕ) (call : Call) (r : RunRecord) → HandedBack o text call r → (c : Claim) × (is_some c.loads ≡ true) × claims_in o.mode o text r c }
+        → HasTold IsClaimDocument document (λ c. claims_run_in o.mode o text r c) → IsAnswer Judge document out → out ≡ verdict_reply Agrees }
+    ensures claimed { (o : Options) (text : List ℕ) (call : Call) (r : RunRecord) → HandedBack o text call r → (c : Claim) × (is_some c.loads ≡ true) × claims_run_in o.mode o text r c }
     ensures printed { (o : Options) (text : List ℕ) (call : Call) (r : RunRecord) → HandedBack o text call r → o.mode ≡ Run
         → Took call.before.sink call.after.sink (answer_of r.ending ++ run_text r.grants r.counts) }
 {}
