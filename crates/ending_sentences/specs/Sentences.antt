@@ -149,22 +149,35 @@ fuel_text =
     codes " has retired as many instructions as it may, and hasn't ended." ++ newline
     ++ indent ++ codes "See whether its loop ends. If it only takes long, the option `--fuel` gives it more." ++ newline
 
+unfoldable pub not_given_up : List ℕ
+not_given_up = codes ", which isn't given up." ++ newline
+
+unfoldable pub holds_it : List ℕ
+holds_it = codes " holds this lock." ++ newline
+
+unfoldable pub holder_untold : List ℕ
+holder_untold = codes "  The grants in this answer don't tell which task holds the lock." ++ newline
+
+-- which task of the phase holds a lock, where its core is known
+abbrev pub holder_text : Places → ℕ → Option ℕ → List ℕ
+holder_text places phase (Some core) = task_text places phase core ++ holds_it
+holder_text places phase None = holder_untold
+
 unfoldable pub wait_remedy : List ℕ
-wait_remedy =
-    codes ", which isn't given up." ++ newline
-    ++ indent ++ codes "Have each task release what it acquires, and all tasks acquire their locks in one order." ++ newline
+wait_remedy = indent ++ codes "Have each task release what it acquires, and all tasks acquire their locks in one order." ++ newline
 
 unfoldable pub wait_text : ProgramParts → ℕ → List ℕ
-wait_text p lock = codes " waits for " ++ lock_text p.locks lock ++ wait_remedy
+wait_text p lock = codes " waits for " ++ lock_text p.locks lock ++ not_given_up
 
--- what is said of how a task stands
-abbrev pub end_sentences : List ℕ → Located → ℕ → ℕ → EndShown → List ℕ
-end_sentences text l phase core shown.TheVariants.Finished = []
-end_sentences text l phase core shown.TheVariants.Fuel = task_text l.places phase core ++ fuel_text
-end_sentences text l phase core (shown.TheVariants.Trap k pc value) =
+-- what is said of how a task stands; `holder` is the core whose task holds the lock that it waits for, where that is known
+abbrev pub end_sentences : List ℕ → Located → Option ℕ → ℕ → ℕ → EndShown → List ℕ
+end_sentences text l holder phase core shown.TheVariants.Finished = []
+end_sentences text l holder phase core shown.TheVariants.Fuel = task_text l.places phase core ++ fuel_text
+end_sentences text l holder phase core (shown.TheVariants.Trap k pc value) =
     task_text l.places phase core ++ line_at text (code_place_at l.places pc) ++ trap_text l.program k value
     ++ declares_text l.program k (task_use l.program phase core value) ++ remedy_text k
-end_sentences text l phase core (shown.TheVariants.Waits lock) = task_text l.places phase core ++ wait_text l.program lock.0
+end_sentences text l holder phase core (shown.TheVariants.Waits lock) =
+    task_text l.places phase core ++ wait_text l.program lock.0 ++ holder_text l.places phase holder ++ wait_remedy
 
-abbrev pub ending_text : List ℕ → Located → TaskEnd → List ℕ
-ending_text text l t = end_sentences text l t.phase.0 t.core.0 t.end
+abbrev pub ending_text : List ℕ → Located → Option ℕ → TaskEnd → List ℕ
+ending_text text l holder t = end_sentences text l holder t.phase.0 t.core.0 t.end

@@ -1,6 +1,6 @@
 //! Sentences on how a task stands at the end of a run.
 ghost use Rattle.std.specs.Prelude.{◌≡◌, ◌++◌, OnOk};
-ghost use Rattle.ending_sentences.specs.Sentences.{which_line, declares_word, the_task, declared_by_line, declared_text, task_text, code_place_at, stands_at, line_at, fuel_text, wait_remedy, wait_text, ending_text};
+ghost use Rattle.ending_sentences.specs.Sentences.{which_line, declares_word, the_task, declared_by_line, declared_text, task_text, code_place_at, stands_at, line_at, fuel_text, not_given_up, holds_it, holder_untold, holder_text, wait_remedy, wait_text, ending_text};
 
 use crate::traps::{push_declares, push_remedy, push_trap};
 use crate::uses::task_use;
@@ -111,15 +111,11 @@ fn push_fuel(out: &mut Vec<u8>) -> Result<(), Memory>
     )
 }
 
-#[tactic(auto, unfolding(crate::specs::Sentences::wait_remedy))]
-fn push_wait_remedy(out: &mut Vec<u8>) -> Result<(), Memory>
-    ensures { OnOk result (out.new.items ≡ out.old.items ++ wait_remedy) }
+#[tactic(auto, unfolding(crate::specs::Sentences::not_given_up))]
+fn push_not_given_up(out: &mut Vec<u8>) -> Result<(), Memory>
+    ensures { OnOk result (out.new.items ≡ out.old.items ++ not_given_up) }
 {
-    push(out, b", which isn't given up.\n")?;
-    push(
-        out,
-        b"  Have each task release what it acquires, and all tasks acquire their locks in one order.\n",
-    )
+    push(out, b", which isn't given up.\n")
 }
 
 #[tactic(auto, unfolding(crate::specs::Sentences::wait_text))]
@@ -128,10 +124,57 @@ fn push_wait(out: &mut Vec<u8>, program: &Program, lock: u32) -> Result<(), Memo
 {
     push(out, b" waits for ")?;
     push_lock(out, program.locks.as_slice(), lock as usize)?;
-    push_wait_remedy(out)
+    push_not_given_up(out)
+}
+
+#[tactic(auto, unfolding(crate::specs::Sentences::holds_it))]
+fn push_holds_it(out: &mut Vec<u8>) -> Result<(), Memory>
+    ensures { OnOk result (out.new.items ≡ out.old.items ++ holds_it) }
+{
+    push(out, b" holds this lock.\n")
+}
+
+#[tactic(auto, unfolding(crate::specs::Sentences::holder_untold))]
+fn push_holder_untold(out: &mut Vec<u8>) -> Result<(), Memory>
+    ensures { OnOk result (out.new.items ≡ out.old.items ++ holder_untold) }
+{
+    push(
+        out,
+        b"  The grants in this answer don't tell which task holds the lock.\n",
+    )
+}
+
+/// Adds which task of the phase holds a lock, where its core is known.
+fn push_holder(
+    out: &mut Vec<u8>,
+    places: &Places,
+    phase: u32,
+    holder: Option<u32>,
+) -> Result<(), Memory>
+    ensures { OnOk result (out.new.items ≡ out.old.items ++ holder_text places.now phase holder) }
+{
+    match holder {
+        Some(core) => {
+            push_task(out, places, phase, core)?;
+            push_holds_it(out)
+        }
+        None => push_holder_untold(out),
+    }
+}
+
+#[tactic(auto, unfolding(crate::specs::Sentences::wait_remedy))]
+fn push_wait_remedy(out: &mut Vec<u8>) -> Result<(), Memory>
+    ensures { OnOk result (out.new.items ≡ out.old.items ++ wait_remedy) }
+{
+    push(
+        out,
+        b"  Have each task release what it acquires, and all tasks acquire their locks in one order.\n",
+    )
 }
 
 /// Adds what is said of how a task of the text's program stands at the end of a run; nothing where it has finished.
+///
+/// `holder` is the core whose task holds the lock that this task waits for; None where that isn't known, or the task doesn't wait.
 ///
 /// # Errors
 /// `Memory` where there is no room; what is then added is no part of a text.
@@ -140,8 +183,9 @@ pub fn push_ending(
     text: &[u8],
     located: &Located,
     task: TaskEnd,
+    holder: Option<u32>,
 ) -> Result<(), Memory>
-    ensures { OnOk result (out.new.items ≡ out.old.items ++ ending_text text.now located.now task) }
+    ensures { OnOk result (out.new.items ≡ out.old.items ++ ending_text text.now located.now holder task) }
 {
     let (phase, core) = (task.phase.0, task.core.0);
     match task.end {
@@ -160,7 +204,9 @@ pub fn push_ending(
         }
         EndShown::Waits { lock } => {
             push_task(out, &located.places, phase, core)?;
-            push_wait(out, &located.program, lock.0)
+            push_wait(out, &located.program, lock.0)?;
+            push_holder(out, &located.places, phase, holder)?;
+            push_wait_remedy(out)
         }
     }
 }

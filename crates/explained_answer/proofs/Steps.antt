@@ -1,8 +1,8 @@
 -- One line more of an answer.
-use Rattle.std.proofs.Common.{◌≡◌, ℕ, ◌+◌, ◌*◌, ◌-◌, ◌<◌, ◌≤◌, List, [], ◌∷◌, ◌++◌, length, take, flat_map, codes, Result, Ok, Err, IfOk, refl, sym, ap, ◌∙◌, arith, length-append, append_assoc}
-use Rattle.std.proofs.lemmas.List.Elements.{All-append, All-cons, All-nil}
+use Rattle.std.proofs.Common.{◌≡◌, ℕ, ◌+◌, ◌*◌, ◌-◌, ◌<◌, ◌≤◌, List, [], ◌∷◌, ◌++◌, length, take, flat_map, codes, Result, Ok, Err, IfOk, All, refl, sym, ap, subst, ◌∙◌, arith, length-append, append_assoc}
+use Rattle.std.proofs.lemmas.List.Elements.{All-nil, All-push}
 use Rattle.std.proofs.lemmas.Grind.{flat_map-append}
-use Rattle.std.proofs.lemmas.List.{append-nil}
+use Rattle.std.proofs.lemmas.List.{append-nil, length-map, map-append}
 use Rattle.std.proofs.Math.Seq.{take-append_seam}
 use Rattle.text_places.specs.declared.places.Located.{Located}
 use Rattle.document_parts.specs.Field.{Stands}
@@ -20,7 +20,8 @@ use Rattle.answer_lines.specs.declared.line.FixedLine as fixed
 use Rattle.answer_lines.specs.Parts.{three_line}
 use Rattle.answer_lines.specs.Lines.{IsAnswerLine, answer_line, address_line, link_line, sum_line, unbounded_line}
 use Rattle.answer_lines.proofs.Forms.{word-is}
-use Rattle.explained_answer.specs.Lines.{IsLineOf, explained_line, AreLinesExplained}
+use Rattle.explained_answer.specs.declared.reading.ReadLine.{ReadLine}
+use Rattle.explained_answer.specs.Lines.{IsLineOf, NoLineOf, IsRefusedAt, line_in, lines_in, IsWritten, AreLinesRead, explained_lines, AreAllLinesExplained}
 
 -- what stands in front of a rest is as long as the rest leaves it
 pub front_of : (xs front rest : List ℕ) → xs ≡ front ++ rest → take (length xs - length rest) xs ≡ front
@@ -67,29 +68,49 @@ line-some (line.TheVariants.Fixed fixed.TheVariants.Rest) fits = behind-line (co
 line-some (line.TheVariants.Fixed fixed.TheVariants.Incomplete) fits = behind-line (codes "refused trace incomplete")
 
 -- no line so far
-pub none-yet : (text : List ℕ) (l : Located) (bytes before : List ℕ) → AreLinesExplained text l bytes bytes 0 before before
-none-yet text l bytes before = record { lines = []; are = All-nil (IsLineOf l); parts = refl; many = refl; said = sym (append-nil before) }
+pub none-yet : (l : Located) (bytes : List ℕ) → AreLinesRead l bytes [] bytes
+none-yet l bytes = record { before = record { are = All-nil (IsLineOf l); parts = refl }; written = All-nil IsWritten }
 
 one-line : {X : Type 0} (f : X → List ℕ) (xs : List X) (x : X) → flat_map f (xs ++ x ∷ []) ≡ flat_map f xs ++ f x
 one-line f xs x = flat_map-append f xs (x ∷ []) ∙ ap (λ ys. flat_map f xs ++ ys) (append-nil (f x))
 
+lines-push : (read : List ReadLine) (r : ReadLine) → lines_in (read ++ r ∷ []) ≡ lines_in read ++ r.line ∷ []
+lines-push read r = map-append line_in read (r ∷ [])
+
 -- one more line
-pub one-more : (text : List ℕ) (l : Located) (bytes rest behind : List ℕ) (number : ℕ) (before between after : List ℕ)
-    → AreLinesExplained text l bytes rest number before between → (x : AnswerLine) → Stands (IsLineOf l) answer_line rest x behind → after ≡ between ++ explained_line text l x
-    → AreLinesExplained text l bytes behind (number + 1) before after
-one-more text l bytes rest behind number before between after so_far x more said =
-    let xs = so_far.lines in
+pub one-more : (l : Located) (bytes rest behind : List ℕ) (read : List ReadLine) (r : ReadLine)
+    → AreLinesRead l bytes read rest → Stands (IsLineOf l) answer_line rest r.line behind → IsWritten r → AreLinesRead l bytes (read ++ r ∷ []) behind
+one-more l bytes rest behind read r so_far more writes =
+    let xs = lines_in read in
+    let are : All (IsLineOf l) (xs ++ r.line ∷ []) = All-push (IsLineOf l) xs r.line so_far.before.are more.fits in
+    let parts : bytes ≡ flat_map answer_line (xs ++ r.line ∷ []) ++ behind =
+    so_far.before.parts ∙ ap (λ bs. flat_map answer_line xs ++ bs) more.parts ∙ sym (append_assoc (flat_map answer_line xs) (answer_line r.line) behind)
+    ∙ ap (λ bs. bs ++ behind) (sym (one-line answer_line xs r.line)) in
     record {
-      lines = xs ++ x ∷ [];
-      are = All-append (IsLineOf l) xs (x ∷ []) so_far.are (All-cons (IsLineOf l) x [] more.fits (All-nil (IsLineOf l)));
-      parts =
-          so_far.parts ∙ ap (λ bs. flat_map answer_line xs ++ bs) more.parts ∙ sym (append_assoc (flat_map answer_line xs) (answer_line x) behind)
-          ∙ ap (λ bs. bs ++ behind) (sym (one-line answer_line xs x));
-      many = omega (arith, length-append xs (x ∷ []), so_far.many);
-      said =
-          said ∙ ap (λ bs. bs ++ explained_line text l x) so_far.said
-          ∙ append_assoc before (flat_map (explained_line text l) xs) (explained_line text l x)
-          ∙ ap (λ bs. before ++ bs) (sym (one-line (explained_line text l) xs x));
+      before =
+          record {
+            are = subst (All (IsLineOf l)) (sym (lines-push read r)) are;
+            parts = parts ∙ ap (λ ls. flat_map answer_line ls ++ behind) (sym (lines-push read r));
+          };
+      written = All-push IsWritten read r so_far.written writes;
+    }
+
+-- all lines were read, and then explained
+pub all-explained : (text : List ℕ) (l : Located) (bytes : List ℕ) (read : List ReadLine) (out : List ℕ)
+    → AreLinesRead l bytes read [] → out ≡ explained_lines text l (lines_in read) → AreAllLinesExplained text l bytes out
+all-explained text l bytes read out all said = record { lines = lines_in read; all = all.before; said = said }
+
+-- some bytes are left, and none of them begin a line
+pub refused : (l : Located) (bytes rest : List ℕ) (read : List ReadLine) (number : ℕ)
+    → AreLinesRead l bytes read rest → number ≡ length read + 1 → 0 < length rest → NoLineOf l rest → IsRefusedAt l bytes number
+refused l bytes rest read number so_far is some none =
+    record {
+      lines = lines_in read;
+      rest = rest;
+      before = so_far.before;
+      next = omega (arith, is, length-map read line_in);
+      some = some;
+      none = none;
     }
 
 pub shorter : (l : Located) (rest : List ℕ) (x : AnswerLine) (behind : List ℕ) → Stands (IsLineOf l) answer_line rest x behind → length behind + 1 ≤ length rest

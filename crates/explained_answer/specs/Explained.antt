@@ -1,6 +1,5 @@
 -- What an answer of a text comes to.
-use Rattle.std.specs.Prelude.{◌≡◌, ◌≢◌, ◌⊎◌, ℕ, List, [], ◌++◌, Ok, Err, Option, Some, None}
-use Rattle.region_table.specs.Program.{ProgramParts}
+use Rattle.std.specs.Prelude.{◌≡◌, ◌≢◌, ◌⊎◌, ℕ, List, ◌++◌, Ok, Err}
 use Rattle.rv_assembler.specs.declared.fault.SourceFault.{SourceFault}
 use Rattle.rv_assembler.specs.Source.{source}
 use Rattle.effect_checker.specs.declared.fault.CheckFault.{CheckFault}
@@ -15,6 +14,12 @@ use Rattle.conflict_sentences.specs.Sentences.{conflict_sentences}
 use Rattle.whole_answers.specs.declared.taken.Taken as taken
 use Rattle.whole_answers.specs.Listing.{IsListingTaken}
 use Rattle.whole_answers.specs.Trace.{IsTraceTaken}
+use Rattle.document_parts.specs.Field.{Stands, NoneStands}
+use Rattle.answer_lines.specs.declared.line.AnswerLine as line
+use Rattle.answer_lines.specs.declared.line.AnswerLine.{AnswerLine}
+use Rattle.answer_lines.specs.declared.line.Count as count
+use Rattle.answer_lines.specs.declared.line.FixedLine as fixed
+use Rattle.answer_lines.specs.Lines.{IsAnswerLine, answer_line}
 use Rattle.explained_answer.specs.declared.explaining.Explained.{Explained}
 use Rattle.explained_answer.specs.declared.explaining.Explained as explained
 use Rattle.explained_answer.specs.Lines.{AreAllLinesExplained, IsRefusedAt}
@@ -59,10 +64,40 @@ pub record IsTraceExplained (text answer : List ℕ) (e : Explained) : Type 0 wh
 
 -- ---- the answer to a text that is refused
 
--- the answer is the text's refusal, or its first line isn't
+-- a line by which the words of the command, or the form of a document, are refused before any text is looked at
+abbrev pub is_before_text : AnswerLine → Bool
+is_before_text (line.TheVariants.Fixed fixed.TheVariants.Usage) = true
+is_before_text (line.TheVariants.Fixed fixed.TheVariants.TooLarge) = true
+is_before_text (line.TheVariants.Fixed fixed.TheVariants.Head) = true
+is_before_text (line.TheVariants.Fixed fixed.TheVariants.Rest) = true
+is_before_text (line.TheVariants.Count count.TheVariants.WholeEvents number) = true
+is_before_text _ = false
+
+-- the answer is such a line
+pub record IsBeforeText (answer : List ℕ) : Type 0 where
+  pub line : AnswerLine
+  pub before : is_before_text line ≡ true
+  pub stands : Stands IsAnswerLine answer_line answer line []
+
+-- in front of the answer stands another line, or something stands behind it
+pub record StartsElse (answer : List ℕ) : Type 0 where
+  pub line : AnswerLine
+  pub rest : List ℕ
+  pub stands : Stands IsAnswerLine answer_line answer line rest
+  pub other : (is_before_text line && length rest == 0) ≡ false
+
+abbrev pub IsNotBeforeText : List ℕ → Type 0
+IsNotBeforeText answer = NoneStands IsAnswerLine answer_line answer ⊎ StartsElse answer
+
+-- an answer that isn't the text's refusal: it is repeated if no text was looked at for it, and else its first line is told
+abbrev pub IsOtherAnswer : List ℕ → Explained → Type 0
+IsOtherAnswer answer (explained.TheVariants.Text out) = IsBeforeText answer × (out ≡ answer)
+IsOtherAnswer answer (explained.TheVariants.Refused number) = IsNotBeforeText answer × (number ≡ 1)
+
+-- the answer is the text's refusal, or another one
 abbrev pub IsRefusalExplained : (line sentences answer : List ℕ) → Explained → Type 0
-IsRefusalExplained line sentences answer (explained.TheVariants.Text out) = (answer ≡ line) × (out ≡ line ++ sentences)
-IsRefusalExplained line sentences answer (explained.TheVariants.Refused number) = (answer ≢ line) × (number ≡ 1)
+IsRefusalExplained line sentences answer e =
+    ((answer ≡ line) × (e ≡ explained.TheVariants.Text (line ++ sentences))) ⊎ ((answer ≢ line) × IsOtherAnswer answer e)
 
 -- the text has this fault
 pub record IsFaultExplained (text answer : List ℕ) (e : Explained) : Type 0 where
@@ -83,8 +118,8 @@ pub record IsConflictExplained (text answer : List ℕ) (e : Explained) : Type 0
 
 -- all its lines are lines of answers of the program, or one isn't
 abbrev pub AreAllExplained : List ℕ → Located → List ℕ → Explained → Type 0
-AreAllExplained text l answer (explained.TheVariants.Text out) = AreAllLinesExplained text l answer [] out
-AreAllExplained text l answer (explained.TheVariants.Refused number) = (out : List ℕ) × IsRefusedAt text l answer number [] out
+AreAllExplained text l answer (explained.TheVariants.Text out) = AreAllLinesExplained text l answer out
+AreAllExplained text l answer (explained.TheVariants.Refused number) = IsRefusedAt l answer number
 
 -- the text's program is checked, and the answer is looked at line by line
 pub record IsRunExplained (text answer : List ℕ) (e : Explained) : Type 0 where
@@ -101,11 +136,5 @@ IsExplained text answer e =
     IsFaultExplained text answer e
     ⊎ (IsListingExplained text answer e ⊎ (IsConflictExplained text answer e ⊎ (IsTraceExplained text answer e ⊎ IsRunExplained text answer e)))
 
--- ---- the conflict of a program, if it has one
-
 abbrev pub HasNoConflict : ProgramParts → Type 0
 HasNoConflict p = (fault : CheckFault) → IsLeastFault p fault → ⊥
-
-abbrev pub IsConflictOf : ProgramParts → Option CheckFault → Type 0
-IsConflictOf p None = IsChecked p
-IsConflictOf p (Some fault) = IsLeastFault p fault

@@ -1,2 +1,3 @@
+pub mod Holders
 pub mod Lines
 pub mod Explained

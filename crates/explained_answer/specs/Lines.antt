@@ -1,5 +1,5 @@
 -- What is said behind the lines of an answer, and which lines an answer of a program may have.
-use Rattle.std.specs.Prelude.{◌≡◌, ◌⊎◌, ℕ, ◌+◌, ◌<◌, Bool, true, false, ◌&&◌, ◌==◌, nat_lt, List, [], ◌++◌, codes, length, find, flat_map, Option, Some, None}
+use Rattle.std.specs.Prelude.{◌≡◌, ◌⊎◌, ℕ, ◌+◌, ◌<◌, Bool, true, false, ◌&&◌, ◌==◌, nat_lt, List, [], ◌++◌, codes, length, find, map, flat_map, Option, Some, None}
 use Rattle.std.specs.Fmt.{decimal}
 use Rattle.region_table.specs.Program.{ProgramParts, tasks_of}
 use Rattle.std.specs.List.{All}
@@ -18,6 +18,11 @@ use Rattle.answer_lines.specs.declared.line.AnswerLine.{AnswerLine}
 use Rattle.answer_lines.specs.declared.line.Count as count
 use Rattle.answer_lines.specs.declared.line.Count.{Count}
 use Rattle.answer_lines.specs.Lines.{IsAnswerLine, answer_line}
+use Rattle.dn_base.specs.declared.ids.Grant.{Grant}
+use Rattle.explained_answer.specs.declared.reading.ReadLine.{ReadLine}
+use Rattle.explained_answer.specs.declared.reading.ReadAnswer.{ReadAnswer}
+use Rattle.explained_answer.specs.declared.reading.ReadAnswer as read_answer
+use Rattle.explained_answer.specs.Holders.{grants_of, holder_on}
 
 -- ---- what is said
 
@@ -57,22 +62,26 @@ abbrev pub unproven_text : List ℕ → Places → ℕ → ℕ → ℕ → List 
 unproven_text text places phase core pc = unproven_at text (find (is_task_of phase core) places.tasks) (code_place_at places pc)
 
 -- what is said behind a line: of a task that didn't finish why that is, of an instruction where it stands, and else the names of words
--- and locks
-abbrev pub sentences_behind : List ℕ → Located → AnswerLine → List ℕ
-sentences_behind text l (line.TheVariants.Outcome o) = []
-sentences_behind text l (line.TheVariants.Task t) = ending_text text l t
-sentences_behind text l (line.TheVariants.Word word value) = named_word l word
-sentences_behind text l (line.TheVariants.Grant g) = named_lock l g.lock.0
-sentences_behind text l (line.TheVariants.Unbounded phase core pc) = unproven_text text l.places phase core pc
-sentences_behind text l (line.TheVariants.Count c number) = []
-sentences_behind text l (line.TheVariants.Sum value) = []
-sentences_behind text l (line.TheVariants.Time ticks) = []
-sentences_behind text l (line.TheVariants.Link k) = []
-sentences_behind text l (line.TheVariants.Checked phases tasks words) = []
-sentences_behind text l (line.TheVariants.Fixed f) = []
+-- and locks. `holder` is the core that holds the lock for which the line's task waits, where the answer tells that
+abbrev pub sentences_behind : List ℕ → Located → Option ℕ → AnswerLine → List ℕ
+sentences_behind text l holder (line.TheVariants.Outcome o) = []
+sentences_behind text l holder (line.TheVariants.Task t) = ending_text text l holder t
+sentences_behind text l holder (line.TheVariants.Word word value) = named_word l word
+sentences_behind text l holder (line.TheVariants.Grant g) = named_lock l g.lock.0
+sentences_behind text l holder (line.TheVariants.Unbounded phase core pc) = unproven_text text l.places phase core pc
+sentences_behind text l holder (line.TheVariants.Count c number) = []
+sentences_behind text l holder (line.TheVariants.Sum value) = []
+sentences_behind text l holder (line.TheVariants.Time ticks) = []
+sentences_behind text l holder (line.TheVariants.Link k) = []
+sentences_behind text l holder (line.TheVariants.Checked phases tasks words) = []
+sentences_behind text l holder (line.TheVariants.Fixed f) = []
 
-abbrev pub explained_line : List ℕ → Located → AnswerLine → List ℕ
-explained_line text l x = answer_line x ++ sentences_behind text l x
+-- a line of an answer with these grants, and what is said behind it
+abbrev pub explained_line : List ℕ → Located → List Grant → AnswerLine → List ℕ
+explained_line text l grants x = answer_line x ++ sentences_behind text l (holder_on grants x) x
+
+abbrev pub explained_lines : List ℕ → Located → List AnswerLine → List ℕ
+explained_lines text l lines = flat_map (explained_line text l (grants_of lines)) lines
 
 -- ---- which lines an answer may have
 
@@ -117,24 +126,42 @@ pub record StandsOther (l : Located) (bytes : List ℕ) : Type 0 where
 abbrev pub NoLineOf : Located → List ℕ → Type 0
 NoLineOf l bytes = NoneStands IsAnswerLine answer_line bytes ⊎ StandsOther l bytes
 
--- so many lines in front of some bytes were explained, and these bytes stand behind them
-pub record AreLinesExplained (text : List ℕ) (l : Located) (bytes behind : List ℕ) (number : ℕ) (before after : List ℕ) : Type 0 where
-  pub lines : List AnswerLine
+-- some bytes are these lines of an answer of this program, and these bytes behind them
+pub record AreLinesBefore (l : Located) (bytes : List ℕ) (lines : List AnswerLine) (behind : List ℕ) : Type 0 where
   pub are : All (IsLineOf l) lines
   pub parts : bytes ≡ flat_map answer_line lines ++ behind
-  pub many : length lines ≡ number
-  pub said : after ≡ before ++ flat_map (explained_line text l) lines
 
--- so many lines in front of some bytes were explained, and the one of this number, from 1, is no line of an answer of this program
-pub record IsRefusedAt (text : List ℕ) (l : Located) (bytes : List ℕ) (number : ℕ) (before after : List ℕ) : Type 0 where
-  pub earlier : ℕ
+-- the line of this number, from 1, is the first that is no line of an answer of this program
+pub record IsRefusedAt (l : Located) (bytes : List ℕ) (number : ℕ) : Type 0 where
+  pub lines : List AnswerLine
   pub rest : List ℕ
-  pub lines : AreLinesExplained text l bytes rest earlier before after
-  pub next : number ≡ earlier + 1
+  pub before : AreLinesBefore l bytes lines rest
+  pub next : number ≡ length lines + 1
   pub some : 0 < length rest
   pub none : NoLineOf l rest
 
--- all lines were explained
-pub record AreAllLinesExplained (text : List ℕ) (l : Located) (bytes before after : List ℕ) : Type 0 where
-  pub number : ℕ
-  pub lines : AreLinesExplained text l bytes [] number before after
+-- all lines are lines of an answer of this program, and were explained
+pub record AreAllLinesExplained (text : List ℕ) (l : Located) (bytes out : List ℕ) : Type 0 where
+  pub lines : List AnswerLine
+  pub all : AreLinesBefore l bytes lines []
+  pub said : out ≡ explained_lines text l lines
+
+-- ---- an answer, read
+
+abbrev pub line_in : ReadLine → AnswerLine
+line_in r = r.line
+
+abbrev pub lines_in : List ReadLine → List AnswerLine
+lines_in read = map line_in read
+
+-- the bytes of a line are those that say it
+abbrev pub IsWritten : ReadLine → Type 0
+IsWritten r = r.written.now ≡ answer_line r.line
+
+pub record AreLinesRead (l : Located) (bytes : List ℕ) (read : List ReadLine) (behind : List ℕ) : Type 0 where
+  pub before : AreLinesBefore l bytes (lines_in read) behind
+  pub written : All IsWritten read
+
+abbrev pub IsAnswerRead : Located → List ℕ → ReadAnswer → Type 0
+IsAnswerRead l bytes (read_answer.TheVariants.Lines read) = AreLinesRead l bytes read.items []
+IsAnswerRead l bytes (read_answer.TheVariants.Refused number) = IsRefusedAt l bytes number

@@ -1,7 +1,5 @@
 //! An answer to a text, explained.
-ghost use Rattle.std.specs.Prelude.{◌≡◌, ◌≤◌, ◌⊎◌, length, Ok, IfOk};
-ghost use Rattle.region_table.specs.Program.{ProgramParts};
-ghost use Rattle.rv_assembler.specs.Source.{source};
+ghost use Rattle.std.specs.Prelude.{◌≡◌, ◌≤◌, ◌⊎◌, length, IfOk};
 ghost use Rattle.effect_checker.specs.Checked.{IsChecked};
 ghost use Rattle.rv_listing.specs.Listing.{listing_of};
 ghost use Rattle.run_replay.specs.declared.trace.Trace.{Trace};
@@ -9,15 +7,15 @@ ghost use Rattle.text_places.specs.declared.places.Located.{Located as LocatedOf
 ghost use Rattle.whole_answers.specs.Listing.{explained_listing};
 ghost use Rattle.whole_answers.specs.Trace.{IsTraceOf};
 ghost use Rattle.explained_answer.specs.declared.explaining.Explained.TheVariants.{Text as TextOf};
-ghost use Rattle.explained_answer.specs.Explained.{IsLocated, HasNoConflict, IsNoListing, IsListingExplained, IsConflictExplained, IsTraceExplained, IsRunExplained, AreAllExplained, IsExplained, IsConflictOf};
+ghost use Rattle.explained_answer.specs.Explained.{IsLocated, HasNoConflict, IsNoListing, IsListingExplained, IsConflictExplained, IsTraceExplained, IsRunExplained, AreAllExplained, IsExplained};
 
-use crate::lines::explain_lines;
+use crate::lines::explained_lines;
+use crate::reading::{ReadAnswer, read_answer};
 use crate::refusals::{explained_conflict, explained_fault};
 use crate::wholes::{explained_listing, explained_trace};
 use dn_base::{Memory, Sequence};
-use effect_checker::{CheckFault, check};
-use region_table::Program;
-use rv_assembler::{SourceFault, assemble};
+use effect_checker::first_fault;
+use rv_assembler::SourceFault;
 use std::alloc::Global;
 use text_places::{Located, located_program};
 
@@ -30,29 +28,6 @@ pub enum Explained {
     Refused { line: usize },
 }
 
-/// The least conflict of a program, if it has one.
-fn conflict_in(program: Program) -> Option<CheckFault>
-    ensures { IsConflictOf program result }
-{
-    match check(program) {
-        Ok(_) => None,
-        Err(fault) => Some(fault),
-    }
-}
-
-/// The least conflict of a text's program, if it has one.
-///
-/// # Errors
-/// `Memory` where there is no room; also where the text has no program.
-fn conflict_of(alloc: Global, text: &[u8]) -> Result<Option<CheckFault>, Memory>
-    ensures { IfOk result (λ found. (p : ProgramParts) → source text.now ≡ Ok p → IsConflictOf p found) }
-{
-    match assemble(alloc, text) {
-        Ok(program) => Ok(conflict_in(program)),
-        Err(_) => Err(Memory),
-    }
-}
-
 /// Explains an answer of a run.
 fn explained_run(
     alloc: Global,
@@ -62,10 +37,12 @@ fn explained_run(
 ) -> Result<Explained, Memory>
     ensures { IfOk result (AreAllExplained text.now located.now answer.now) }
 {
-    let mut out = Vec::new(alloc);
-    match explain_lines(&mut out, text, located, answer)? {
-        None => Ok(Explained::Text(Sequence::from_vec(out))),
-        Some(line) => Ok(Explained::Refused { line }),
+    match read_answer(alloc, located, answer)? {
+        ReadAnswer::Lines(lines) => {
+            let out = explained_lines(alloc, text, located, lines.as_slice())?;
+            Ok(Explained::Text(Sequence::from_vec(out)))
+        }
+        ReadAnswer::Refused { line } => Ok(Explained::Refused { line }),
     }
 }
 
@@ -89,44 +66,40 @@ fn explained_checked(
     }
 }
 
-/// Explains an answer to a text whose program has this conflict, or none, where the answer begins in another way than the listing.
+/// Explains an answer to a text with this program, where the answer begins in another way than the listing.
 fn explained_unlisted(
     alloc: Global,
     text: &[u8],
     located: &Located,
-    found: Option<CheckFault>,
     answer: &[u8],
 ) -> Result<Explained, Memory>
     requires short { length text.now ≤ 1048576 }
     requires located { IsLocated text.now located.now }
-    requires conflict { IsConflictOf located.now.program found }
     requires no_listing { IsNoListing text.now located.now answer.now }
     ensures { IfOk result (λ e. IsConflictExplained text.now answer.now e ⊎ (IsTraceExplained text.now answer.now e ⊎ IsRunExplained text.now answer.now e)) }
 {
-    match found {
+    match first_fault(&located.program) {
         Some(fault) => explained_conflict(alloc, text, located, fault, answer),
         None => explained_checked(alloc, text, located, answer),
     }
 }
 
-/// Explains an answer to a text whose program has this conflict, or none.
+/// Explains an answer to a text with this program.
 fn explained_program(
     alloc: Global,
     text: &[u8],
     located: &Located,
-    found: Option<CheckFault>,
     answer: &[u8],
 ) -> Result<Explained, Memory>
     requires short { length text.now ≤ 1048576 }
     requires located { IsLocated text.now located.now }
-    requires conflict { IsConflictOf located.now.program found }
     ensures { IfOk result (λ e. IsListingExplained text.now answer.now e
         ⊎ (IsConflictExplained text.now answer.now e ⊎ (IsTraceExplained text.now answer.now e ⊎ IsRunExplained text.now answer.now e))) }
 {
     let listed = explained_listing(alloc, text, located, answer)?;
     match listed {
         Some(explained) => Ok(explained),
-        None => explained_unlisted(alloc, text, located, found, answer),
+        None => explained_unlisted(alloc, text, located, answer),
     }
 }
 
@@ -135,10 +108,7 @@ fn explained_text(alloc: Global, text: &[u8], answer: &[u8]) -> Result<Explained
     ensures { IfOk result (IsExplained text.now answer.now) }
 {
     match located_program(alloc, text) {
-        Ok(located) => {
-            let found = conflict_of(alloc, text)?;
-            explained_program(alloc, text, &located, found, answer)
-        }
+        Ok(located) => explained_program(alloc, text, &located, answer),
         Err(SourceFault::Memory) => Err(Memory),
         Err(fault) => explained_fault(alloc, text, fault, answer),
     }

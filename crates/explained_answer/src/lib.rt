@@ -2,7 +2,9 @@
 #![tactic(auto)]
 
 mod explaining;
+mod holders;
 mod lines;
+mod reading;
 mod refusals;
 mod wholes;
 

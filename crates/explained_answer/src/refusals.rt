@@ -1,14 +1,15 @@
 //! The answers to texts that are refused.
-ghost use Rattle.std.specs.Prelude.{◌≡◌, ◌≢◌, Err, IfOk};
+ghost use Rattle.std.specs.Prelude.{◌≡◌, ◌≢◌, Err, IfOk, IfSome, IfNone};
 ghost use Rattle.rv_assembler.specs.declared.fault.SourceFault.TheVariants.{Memory as NoMemory};
 ghost use Rattle.rv_assembler.specs.Source.{source};
 ghost use Rattle.run_report.specs.declared.refusal.Refusal.TheVariants.{Source as OfSource, Check as OfCheck};
 ghost use Rattle.run_report.specs.Refusal.{refusal_of};
 ghost use Rattle.fault_sentences.specs.Sentences.{refusal_sentences};
 ghost use Rattle.conflict_sentences.specs.Sentences.{conflict_sentences};
-ghost use Rattle.explained_answer.specs.Explained.{IsRefusalExplained};
+ghost use Rattle.explained_answer.specs.Explained.{is_before_text, IsBeforeText, IsNotBeforeText, IsOtherAnswer, IsRefusalExplained};
 
 use crate::explaining::Explained;
+use answer_lines::{AnswerLine, Count, FixedLine, read_line};
 use conflict_sentences::push_conflict;
 use dn_base::{Memory, Sequence};
 use effect_checker::CheckFault;
@@ -17,6 +18,37 @@ use run_report::{Refusal, refusal_line};
 use rv_assembler::SourceFault;
 use std::alloc::Global;
 use text_places::Located;
+
+/// Whether the words of the command, or the form of a document, are refused by a line before any text is looked at.
+fn is_before_text(line: AnswerLine) -> bool
+    ensures { result ≡ is_before_text line }
+{
+    match line {
+        AnswerLine::Fixed(FixedLine::Usage | FixedLine::TooLarge | FixedLine::Head | FixedLine::Rest) => true,
+        AnswerLine::Count { of: Count::WholeEvents, .. } => true,
+        _ => false,
+    }
+}
+
+/// The line that the whole answer is, if it comes before any text.
+fn line_before_text(answer: &[u8]) -> Option<AnswerLine>
+    ensures some { IfSome result (λ line. IsBeforeText answer.now) }
+    ensures none { IfNone result (IsNotBeforeText answer.now) }
+{
+    let (line, rest) = read_line(answer)?;
+    (is_before_text(line) && rest.is_empty()).then_some(line)
+}
+
+/// Repeats an answer that comes before any text.
+fn other_answer(alloc: Global, answer: &[u8]) -> Result<Explained, Memory>
+    ensures { IfOk result (IsOtherAnswer answer.now) }
+{
+    if line_before_text(answer).is_none() {
+        return Ok(Explained::Refused { line: 1 });
+    }
+    let repeated = Vec::from_slice(alloc, answer)?;
+    Ok(Explained::Text(Sequence::from_vec(repeated)))
+}
 
 /// Explains an answer to a text with this fault.
 pub(crate) fn explained_fault(
@@ -31,7 +63,7 @@ pub(crate) fn explained_fault(
 {
     let mut line = refusal_line(alloc, &Refusal::Source(fault))?;
     if answer != line.as_slice() {
-        return Ok(Explained::Refused { line: 1 });
+        return other_answer(alloc, answer);
     }
     push_refusal(&mut line, text, fault)?;
     Ok(Explained::Text(Sequence::from_vec(line)))
@@ -49,7 +81,7 @@ pub(crate) fn explained_conflict(
 {
     let mut line = refusal_line(alloc, &Refusal::Check(fault))?;
     if answer != line.as_slice() {
-        return Ok(Explained::Refused { line: 1 });
+        return other_answer(alloc, answer);
     }
     push_conflict(&mut line, text, located, fault)?;
     Ok(Explained::Text(Sequence::from_vec(line)))

@@ -3,8 +3,8 @@ use Rattle.rv_assembler.specs.declared.fault.SourceFault.TheVariants.{Memory as 
 use Rattle.explained_answer.proofs.Steps.{if-ok}
 use Rattle.explained_answer.proofs.explaining.explained_text.Goals as goal
 
-pub returns-in_ok-found-in-Ok : goal.returns-in_ok-found-in-Ok
-returns-in_ok-found-in-Ok c = if-ok c.explained_program.result _ _ (λ e h. inr h) c.explained_program.ensures
+pub returns-in-Ok : goal.returns-in-Ok
+returns-in-Ok c = if-ok c.explained_program.result _ _ (λ e h. inr h) c.explained_program.ensures
 
 pub returns-in-Err : goal.returns-in-Err
 returns-in-Err c =

@@ -1,6 +1,6 @@
 use Rattle.std.proofs.Common.{◌≡◌, ◌+◌, drop, length}
 use Rattle.region_table.specs.Program.{tasks_of}
-use Rattle.explained_answer.proofs.lines.has_tasks.Given as goal
+use Rattle.explained_answer.proofs.reading.has_tasks.Given as goal
 
 -- the tasks so far and the others are those that were asked for
 abbrev pub invariant-loop-phase : goal.invariant-loop-phase
