@@ -45,7 +45,6 @@ fn guarded_task(located: &Located, phase: u32, lock: u32, word: u32) -> Option<T
 fn contention_of(located: &Located, conflict: CheckFault) -> Option<Contention>
     ensures { result ≡ contention_of located.now conflict }
 {
-    let regions = located.program.regions.as_slice();
     match conflict {
         CheckFault::PlainConflict {
             phase,
@@ -53,7 +52,7 @@ fn contention_of(located: &Located, conflict: CheckFault) -> Option<Contention>
             core_b,
             word,
         } => contention_at(
-            regions,
+            &located.program,
             word.0,
             contending_task(located, phase.0, core_a.0),
             contending_task(located, phase.0, core_b.0),
@@ -64,7 +63,7 @@ fn contention_of(located: &Located, conflict: CheckFault) -> Option<Contention>
             core,
             word,
         } => contention_at(
-            regions,
+            &located.program,
             word.0,
             guarded_task(located, phase.0, lock.0, word.0),
             contending_task(located, phase.0, core.0),
@@ -75,7 +74,7 @@ fn contention_of(located: &Located, conflict: CheckFault) -> Option<Contention>
             lock_b,
             word,
         } => contention_at(
-            regions,
+            &located.program,
             word.0,
             guarded_task(located, phase.0, lock_a.0, word.0),
             guarded_task(located, phase.0, lock_b.0, word.0),

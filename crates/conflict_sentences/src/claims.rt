@@ -6,7 +6,7 @@ ghost use Rattle.rv_assembler.specs.Reading.{reading_of};
 ghost use Rattle.conflict_sentences.specs.Claims.{moved_has, extent_has, gives_to, names_region, effect_claims, statement_claims, line_if, claim_on, family_by, family_behind, claims_behind, claims_of, claims_in, contention_at};
 
 use dn_base::{MOST_OF_TEXT, Memory, Sequence};
-use region_table::Region;
+use region_table::{Program, Region};
 use rv_assembler::{Effect, Extent, Reading, Statement, read_line, version_line};
 use src_text::{Line, Token, tokens};
 use std::alloc::Global;
@@ -20,16 +20,16 @@ pub(crate) struct Contention {
     pub(crate) second: Option<TaskPlace>,
 }
 
-/// The contention for a data word, if a region has it.
+/// The contention for a data word of a program, if a region has it.
 pub(crate) fn contention_at(
-    regions: &[Region],
+    program: &Program,
     word: u32,
     first: Option<TaskPlace>,
     second: Option<TaskPlace>,
 ) -> Option<Contention>
-    ensures { result ≡ contention_at regions.now word first second }
+    ensures { result ≡ contention_at program.now.regions word first second }
 {
-    match region_of_word(regions, word) {
+    match region_of_word(program, word) {
         Some(place) => Some(Contention {
             place,
             first,

@@ -108,7 +108,7 @@ fn push_plain(
     push_phase(out, phase)?;
     push_core(out, &located.places, phase, cores.0)?;
     push_stores_plainly(out)?;
-    push_word(out, located.program.regions.as_slice(), word)?;
+    push_word(out, &located.program, word)?;
     push_and_another(out)?;
     push_core(out, &located.places, phase, cores.1)?;
     push_uses_it_too(out)
@@ -141,7 +141,7 @@ fn push_guard(
 {
     push_lock(out, located.program.locks.as_slice(), lock as usize)?;
     push_guards_it(out)?;
-    push_word(out, located.program.regions.as_slice(), word)?;
+    push_word(out, &located.program, word)?;
     push_for_task(out)?;
     let core = guarded_in(&located.program, phase, lock, word);
     push_guarded_task(out, &located.places, phase, core)

@@ -77,7 +77,7 @@ fn push_data(out: &mut Vec<u8>, program: &Program, address: u32) -> Result<(), M
 {
     push_hexadecimal(out, address)?;
     push(out, b" (")?;
-    push_address(out, program.regions.as_slice(), address)?;
+    push_address(out, program, address)?;
     push(out, b")")
 }
 

@@ -10,7 +10,7 @@ use Rattle.answer_lines.specs.declared.line.AnswerLine.{AnswerLine}
 use Rattle.answer_lines.specs.declared.line.AnswerLine as line
 use Rattle.explained_answer.specs.declared.reading.ReadLine.{ReadLine}
 use Rattle.answer_lines.specs.Lines.{answer_line}
-use Rattle.explained_answer.specs.Holders.{is_of_lock, last_grant, AreLastGrants, grant_on, grants_of, holder_on, noted}
+use Rattle.explained_answer.specs.Holders.{is_of_lock, last_grant, AreLastGrants, grant_on, answer_grants, holder_on, with_last_grant}
 use Rattle.explained_answer.specs.Lines.{has_task, has_named_lock, IsLineOf, line_in, lines_in, sentences_behind, explained_line}
 
 -- a grant of another lock is passed over, and one of the lock is its last
@@ -43,19 +43,19 @@ pub has-place : (l : Located) (g : Grant) → IsLineOf l (line.TheVariants.Grant
 has-place l g is = ltb-true g.lock.0 (length l.program.locks) (and-second (has_task l g.phase.0 g.core.0) (has_named_lock l g.lock.0) is.of)
 
 -- one more line
-pub noted-is : (l : Located) (table : List (Option Grant)) (gs : List Grant) (x : AnswerLine) → IsLineOf l x → length table ≡ length l.program.locks
-    → AreLastGrants gs table → AreLastGrants (gs ++ grant_on x) (noted table x)
-noted-is l table gs (line.TheVariants.Grant g) is room so_far = let place = has-place l g is in one-grant table gs g (omega (arith, room)) so_far
-noted-is l table gs (line.TheVariants.Outcome o) is room so_far = no-grant table gs so_far
-noted-is l table gs (line.TheVariants.Task t) is room so_far = no-grant table gs so_far
-noted-is l table gs (line.TheVariants.Word w v) is room so_far = no-grant table gs so_far
-noted-is l table gs (line.TheVariants.Count c n) is room so_far = no-grant table gs so_far
-noted-is l table gs (line.TheVariants.Sum v) is room so_far = no-grant table gs so_far
-noted-is l table gs (line.TheVariants.Time t) is room so_far = no-grant table gs so_far
-noted-is l table gs (line.TheVariants.Link k) is room so_far = no-grant table gs so_far
-noted-is l table gs (line.TheVariants.Checked a b c) is room so_far = no-grant table gs so_far
-noted-is l table gs (line.TheVariants.Unbounded a b c) is room so_far = no-grant table gs so_far
-noted-is l table gs (line.TheVariants.Fixed f) is room so_far = no-grant table gs so_far
+pub with_last_grant-is : (l : Located) (table : List (Option Grant)) (gs : List Grant) (x : AnswerLine) → IsLineOf l x → length table ≡ length l.program.locks
+    → AreLastGrants gs table → AreLastGrants (gs ++ grant_on x) (with_last_grant table x)
+with_last_grant-is l table gs (line.TheVariants.Grant g) is room so_far = let place = has-place l g is in one-grant table gs g (omega (arith, room)) so_far
+with_last_grant-is l table gs (line.TheVariants.Outcome o) is room so_far = no-grant table gs so_far
+with_last_grant-is l table gs (line.TheVariants.Task t) is room so_far = no-grant table gs so_far
+with_last_grant-is l table gs (line.TheVariants.Word w v) is room so_far = no-grant table gs so_far
+with_last_grant-is l table gs (line.TheVariants.Count c n) is room so_far = no-grant table gs so_far
+with_last_grant-is l table gs (line.TheVariants.Sum v) is room so_far = no-grant table gs so_far
+with_last_grant-is l table gs (line.TheVariants.Time t) is room so_far = no-grant table gs so_far
+with_last_grant-is l table gs (line.TheVariants.Link k) is room so_far = no-grant table gs so_far
+with_last_grant-is l table gs (line.TheVariants.Checked a b c) is room so_far = no-grant table gs so_far
+with_last_grant-is l table gs (line.TheVariants.Unbounded a b c) is room so_far = no-grant table gs so_far
+with_last_grant-is l table gs (line.TheVariants.Fixed f) is room so_far = no-grant table gs so_far
 
 -- what some functions of lines give for one line more
 pub flat-more : {X : Type 0} (f : AnswerLine → List X) (read : List ReadLine) (i : ℕ) (r : ReadLine) → i < length read
@@ -78,39 +78,39 @@ pub fits-at : (l : Located) (read : List ReadLine) (i : ℕ) (d : ReadLine) → 
 fits-at l read i d are within =
     subst (IsLineOf l) (get_or-map line_in read i d d.line within) (All-get_or (IsLineOf l) (lines_in read) i d.line (omega (arith, within, length-map read line_in)) are)
 
-pub length-noted : (table : List (Option Grant)) (x : AnswerLine) → length (noted table x) ≡ length table
-length-noted table (line.TheVariants.Grant g) = length-set table g.lock.0 (Some g)
-length-noted table (line.TheVariants.Outcome o) = refl
-length-noted table (line.TheVariants.Task t) = refl
-length-noted table (line.TheVariants.Word w v) = refl
-length-noted table (line.TheVariants.Count c n) = refl
-length-noted table (line.TheVariants.Sum v) = refl
-length-noted table (line.TheVariants.Time t) = refl
-length-noted table (line.TheVariants.Link k) = refl
-length-noted table (line.TheVariants.Checked a b c) = refl
-length-noted table (line.TheVariants.Unbounded a b c) = refl
-length-noted table (line.TheVariants.Fixed f) = refl
+pub length-with_last_grant : (table : List (Option Grant)) (x : AnswerLine) → length (with_last_grant table x) ≡ length table
+length-with_last_grant table (line.TheVariants.Grant g) = length-set table g.lock.0 (Some g)
+length-with_last_grant table (line.TheVariants.Outcome o) = refl
+length-with_last_grant table (line.TheVariants.Task t) = refl
+length-with_last_grant table (line.TheVariants.Word w v) = refl
+length-with_last_grant table (line.TheVariants.Count c n) = refl
+length-with_last_grant table (line.TheVariants.Sum v) = refl
+length-with_last_grant table (line.TheVariants.Time t) = refl
+length-with_last_grant table (line.TheVariants.Link k) = refl
+length-with_last_grant table (line.TheVariants.Checked a b c) = refl
+length-with_last_grant table (line.TheVariants.Unbounded a b c) = refl
+length-with_last_grant table (line.TheVariants.Fixed f) = refl
 
 -- the table that one more line leaves
 pub more-grants : (l : Located) (read : List ReadLine) (table after : List (Option Grant)) (i : ℕ) (d : ReadLine) → All (IsLineOf l) (lines_in read) → i < length read
-    → length table ≡ length l.program.locks → AreLastGrants (grants_of (lines_in (take i read))) table → after ≡ noted table (get_or read i d).line
-    → AreLastGrants (grants_of (lines_in (take (i + 1) read))) after × (length after ≡ length l.program.locks)
+    → length table ≡ length l.program.locks → AreLastGrants (answer_grants (lines_in (take i read))) table → after ≡ with_last_grant table (get_or read i d).line
+    → AreLastGrants (answer_grants (lines_in (take (i + 1) read))) after × (length after ≡ length l.program.locks)
 more-grants l read table after i d are within room so_far note =
     let x = (get_or read i d).line in
-    let gs = grants_of (lines_in (take i read)) in
-    let noted_here : AreLastGrants (gs ++ grant_on x) (noted table x) = noted-is l table gs x (fits-at l read i d are within) room so_far in (
-      subst (λ (hs : List Grant). AreLastGrants hs after) (sym (flat-more grant_on read i d within)) (subst (AreLastGrants (gs ++ grant_on x)) (sym note) noted_here),
-      ap length note ∙ length-noted table x ∙ room,
+    let gs = answer_grants (lines_in (take i read)) in
+    let more_here : AreLastGrants (gs ++ grant_on x) (with_last_grant table x) = with_last_grant-is l table gs x (fits-at l read i d are within) room so_far in (
+      subst (λ (hs : List Grant). AreLastGrants hs after) (sym (flat-more grant_on read i d within)) (subst (AreLastGrants (gs ++ grant_on x)) (sym note) more_here),
+      ap length note ∙ length-with_last_grant table x ∙ room,
     )
 
 -- one more line explained
 pub more-explained : (text : List ℕ) (l : Located) (read : List ReadLine) (table : List (Option Grant)) (i : ℕ) (d : ReadLine) (before after : List ℕ) (holder : Option ℕ)
     → i < length read → ((grants : List Grant) → AreLastGrants grants table → holder ≡ holder_on grants (get_or read i d).line)
-    → AreLastGrants (grants_of (lines_in read)) table → before ≡ flat_map (explained_line text l (grants_of (lines_in read))) (lines_in (take i read))
+    → AreLastGrants (answer_grants (lines_in read)) table → before ≡ flat_map (explained_line text l (answer_grants (lines_in read))) (lines_in (take i read))
     → after ≡ before ++ (answer_line (get_or read i d).line ++ sentences_behind text l holder (get_or read i d).line)
-    → after ≡ flat_map (explained_line text l (grants_of (lines_in read))) (lines_in (take (i + 1) read))
+    → after ≡ flat_map (explained_line text l (answer_grants (lines_in read))) (lines_in (take (i + 1) read))
 more-explained text l read table i d before after holder within tells are so_far said =
-    let gs = grants_of (lines_in read) in
+    let gs = answer_grants (lines_in read) in
     let x = (get_or read i d).line in
     said ∙ ap (λ (h : Option ℕ). before ++ (answer_line x ++ sentences_behind text l h x)) (tells gs are)
     ∙ ap (λ (bs : List ℕ). bs ++ explained_line text l gs x) so_far ∙ sym (flat-more (explained_line text l gs) read i d within)

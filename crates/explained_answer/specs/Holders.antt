@@ -11,8 +11,8 @@ abbrev pub grant_on : AnswerLine → List Grant
 grant_on (line.TheVariants.Grant g) = g ∷ []
 grant_on _ = []
 
-abbrev pub grants_of : List AnswerLine → List Grant
-grants_of lines = flat_map grant_on lines
+abbrev pub answer_grants : List AnswerLine → List Grant
+answer_grants lines = flat_map grant_on lines
 
 -- the last grant of a lock
 abbrev pub is_of_lock : ℕ → Grant → Bool
@@ -22,13 +22,13 @@ abbrev pub last_grant : List Grant → ℕ → Option Grant
 last_grant grants lock = find (is_of_lock lock) (reverse grants)
 
 -- the core of a grant, where it is one in the phase
-abbrev pub core_in : ℕ → Option Grant → Option ℕ
-core_in phase (Some g) = if g.phase.0 == phase then Some g.core.0 else None
-core_in phase None = None
+abbrev pub core_if_in : ℕ → Option Grant → Option ℕ
+core_if_in phase (Some g) = if g.phase.0 == phase then Some g.core.0 else None
+core_if_in phase None = None
 
 -- the core that holds a lock at the end of a phase: where another task waits for the lock, it is the core that was granted it last
 abbrev pub holder_of : List Grant → ℕ → ℕ → Option ℕ
-holder_of grants phase lock = core_in phase (last_grant grants lock)
+holder_of grants phase lock = core_if_in phase (last_grant grants lock)
 
 -- the core that holds the lock for which a task waits; None of a task that doesn't wait
 abbrev pub awaited_holder : List Grant → ℕ → EndShown → Option ℕ
@@ -45,6 +45,6 @@ abbrev pub AreLastGrants : List Grant → List (Option Grant) → Type 0
 AreLastGrants grants table = (lock : ℕ) → slice_index_or table lock None ≡ last_grant grants lock
 
 -- a table with the grant of one more line
-abbrev pub noted : List (Option Grant) → AnswerLine → List (Option Grant)
-noted table (line.TheVariants.Grant g) = slice_set table g.lock.0 (Some g)
-noted table _ = table
+abbrev pub with_last_grant : List (Option Grant) → AnswerLine → List (Option Grant)
+with_last_grant table (line.TheVariants.Grant g) = slice_set table g.lock.0 (Some g)
+with_last_grant table _ = table

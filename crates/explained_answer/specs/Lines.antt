@@ -22,7 +22,7 @@ use Rattle.dn_base.specs.declared.ids.Grant.{Grant}
 use Rattle.explained_answer.specs.declared.reading.ReadLine.{ReadLine}
 use Rattle.explained_answer.specs.declared.reading.ReadAnswer.{ReadAnswer}
 use Rattle.explained_answer.specs.declared.reading.ReadAnswer as read_answer
-use Rattle.explained_answer.specs.Holders.{grants_of, holder_on}
+use Rattle.explained_answer.specs.Holders.{answer_grants, holder_on}
 
 -- ---- what is said
 
@@ -81,7 +81,7 @@ abbrev pub explained_line : List ℕ → Located → List Grant → AnswerLine �
 explained_line text l grants x = answer_line x ++ sentences_behind text l (holder_on grants x) x
 
 abbrev pub explained_lines : List ℕ → Located → List AnswerLine → List ℕ
-explained_lines text l lines = flat_map (explained_line text l (grants_of lines)) lines
+explained_lines text l lines = flat_map (explained_line text l (answer_grants lines)) lines
 
 -- ---- which lines an answer may have
 

@@ -1,7 +1,7 @@
 //! Which task holds a lock at the end of a run, by the grants in its answer.
 ghost use Rattle.std.specs.Prelude.{◌≡◌, List, All, length, slice_index_or, None, IfOk};
 ghost use Rattle.dn_base.specs.declared.ids.Grant.{Grant as GrantValue};
-ghost use Rattle.explained_answer.specs.Holders.{grants_of, core_in, holder_on, noted, AreLastGrants};
+ghost use Rattle.explained_answer.specs.Holders.{answer_grants, core_if_in, holder_on, with_last_grant, AreLastGrants};
 ghost use Rattle.explained_answer.specs.Lines.{IsLineOf, lines_in};
 
 use crate::reading::ReadLine;
@@ -15,7 +15,7 @@ use text_places::Located;
 fn note_grant(last: &mut Vec<Option<Grant>>, located: &Located, line: AnswerLine)
     requires fits { IsLineOf located.now line }
     requires room { length last.old.items ≡ length located.now.program.locks }
-    ensures { last.new.items ≡ noted last.old.items line }
+    ensures { last.new.items ≡ with_last_grant last.old.items line }
 {
     if let AnswerLine::Grant(grant) = line {
         last[grant.lock.0 as usize] = Some(grant);
@@ -29,7 +29,7 @@ pub(crate) fn last_grants(
     lines: &[ReadLine<'_>],
 ) -> Result<Vec<Option<Grant>>, Memory>
     requires { All (IsLineOf located.now) (lines_in lines.now) }
-    ensures { IfOk result (λ last. AreLastGrants (grants_of (lines_in lines.now)) last.items) }
+    ensures { IfOk result (λ last. AreLastGrants (answer_grants (lines_in lines.now)) last.items) }
 {
     let mut last: Vec<Option<Grant>> = vec![in alloc; None; located.program.locks.len()]?;
     for read in lines {
@@ -39,8 +39,8 @@ pub(crate) fn last_grants(
 }
 
 /// The core of a grant, where it is one in the phase.
-fn core_in(phase: u32, grant: Option<Grant>) -> Option<u32>
-    ensures { result ≡ core_in phase grant }
+fn core_if_in(phase: u32, grant: Option<Grant>) -> Option<u32>
+    ensures { result ≡ core_if_in phase grant }
 {
     match grant {
         Some(grant) if grant.phase.0 == phase => Some(grant.core.0),
@@ -63,7 +63,7 @@ pub(crate) fn holder_on(last: &[Option<Grant>], line: AnswerLine) -> Option<u32>
         return None;
     };
     match task.end {
-        EndShown::Waits { lock } => core_in(task.phase.0, last_of(last, lock.0)),
+        EndShown::Waits { lock } => core_if_in(task.phase.0, last_of(last, lock.0)),
         EndShown::Finished | EndShown::Fuel | EndShown::Trap { .. } => None,
     }
 }

@@ -22,7 +22,7 @@ fn push_named_word(out: &mut Vec<u8>, located: &Located, word: u32) -> Result<()
     ensures { OnOk result (out.new.items ≡ out.old.items ++ named_word located.now word) }
 {
     push(out, b"  ")?;
-    push_word(out, located.program.regions.as_slice(), word)?;
+    push_word(out, &located.program, word)?;
     push(out, b"\n")
 }
 

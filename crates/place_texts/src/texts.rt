@@ -2,7 +2,7 @@ ghost use Rattle.std.specs.Prelude.{◌≡◌, ◌++◌, OnOk, slice_get};
 ghost use Rattle.place_texts.specs.Texts.{indexed, plain_word, region_word_text, word_text, byte_text, address_text, part_text, code_text, lock_text, quoted, quoted_line};
 
 use dn_base::{Memory, Name};
-use region_table::Region;
+use region_table::Program;
 use text_pieces::{push, push_decimal, push_long};
 use text_places::{CodePlace, WordPlace, line_text, region_of_word};
 
@@ -30,27 +30,27 @@ fn push_plain_word(out: &mut Vec<u8>, word: u32) -> Result<(), Memory>
 /// Adds a word of a region, or the word by its number where there is no such region.
 fn push_region_word(
     out: &mut Vec<u8>,
-    regions: &[Region],
+    program: &Program,
     place: WordPlace,
     word: u32,
 ) -> Result<(), Memory>
-    ensures { OnOk result (out.new.items ≡ out.old.items ++ region_word_text (slice_get regions.now place.region) place.index word) }
+    ensures { OnOk result (out.new.items ≡ out.old.items ++ region_word_text (slice_get program.now.regions place.region) place.index word) }
 {
-    match regions.get(place.region) {
+    match program.regions.get(place.region) {
         Some(region) => push_indexed(out, &region.name, place.index),
         None => push_plain_word(out, word),
     }
 }
 
-/// Adds a data word: as `m[3]`, or as `word 70` where none of the regions has it.
+/// Adds a data word of a program: as `m[3]`, or as `word 70` where none of the regions has it.
 ///
 /// # Errors
 /// `Memory` where there is no room.
-pub fn push_word(out: &mut Vec<u8>, regions: &[Region], word: u32) -> Result<(), Memory>
-    ensures { OnOk result (out.new.items ≡ out.old.items ++ word_text regions.now word) }
+pub fn push_word(out: &mut Vec<u8>, program: &Program, word: u32) -> Result<(), Memory>
+    ensures { OnOk result (out.new.items ≡ out.old.items ++ word_text program.now.regions word) }
 {
-    match region_of_word(regions, word) {
-        Some(place) => push_region_word(out, regions, place, word),
+    match region_of_word(program, word) {
+        Some(place) => push_region_word(out, program, place, word),
         None => push_plain_word(out, word),
     }
 }
@@ -66,20 +66,20 @@ fn push_byte(out: &mut Vec<u8>, byte: u32) -> Result<(), Memory>
     push_decimal(out, byte)
 }
 
-/// Adds what an address of data points to: a word as `m[3]`, a byte behind a word's first as `m[3] + 2`, or `outside of all regions`.
+/// Adds what an address of data points to in a program: a word as `m[3]`, a byte behind a word's first as `m[3] + 2`, or `outside of all regions`.
 ///
 /// # Errors
 /// `Memory` where there is no room.
-pub fn push_address(out: &mut Vec<u8>, regions: &[Region], address: u32) -> Result<(), Memory>
-    ensures { OnOk result (out.new.items ≡ out.old.items ++ address_text regions.now address) }
+pub fn push_address(out: &mut Vec<u8>, program: &Program, address: u32) -> Result<(), Memory>
+    ensures { OnOk result (out.new.items ≡ out.old.items ++ address_text program.now.regions address) }
 {
     if address < FIRST_DATA_ADDRESS {
         return push(out, b"outside of all regions");
     }
     let word = (address - FIRST_DATA_ADDRESS) / 4;
-    match region_of_word(regions, word) {
+    match region_of_word(program, word) {
         Some(place) => {
-            push_region_word(out, regions, place, word)?;
+            push_region_word(out, program, place, word)?;
             push_byte(out, address % 4)
         }
         None => push(out, b"outside of all regions"),

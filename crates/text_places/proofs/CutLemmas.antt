@@ -1,7 +1,7 @@
 -- The lines that are left behind some lines of a text.
-use Rattle.std.proofs.Common.{◌≡◌, ◌≢◌, ℕ, zero, suc, ◌+◌, ◌-◌, ◌<◌, ◌≤◌, List, [], ◌∷◌, length, drop, Option, Some, None, refl, sym, ap, ◌∙◌, slice_get, ◌⊎◌, inl, inr, ⊎_elim, arith}
+use Rattle.std.proofs.Common.{◌≡◌, ◌≢◌, ℕ, zero, suc, ◌+◌, ◌-◌, ◌<◌, ◌≤◌, List, [], ◌∷◌, length, drop, Some, None, refl, sym, ap, ◌∙◌, slice_get, ◌⊎◌, inl, inr, ⊎_elim, arith}
 use Rattle.std.specs.List.{before_first}
-use Rattle.std.proofs.lemmas.List.{take_rest, drop-drop, length-drop}
+use Rattle.std.proofs.lemmas.List.{drop-drop, length-drop}
 use Rattle.std.proofs.lemmas.Bool.{cases_lt}
 use Rattle.src_text.specs.Byte.{is_newline}
 use Rattle.src_text.specs.Line.{cut}

@@ -3,3 +3,4 @@ pub mod PlaceLemmas
 pub mod LineLemmas
 pub mod WordLemmas
 pub mod CutLemmas
+pub mod SearchLemmas

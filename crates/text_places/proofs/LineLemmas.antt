@@ -1,5 +1,5 @@
 -- Each row of a program's tables has a place, and the place of a code word names the line that gives it.
-use Rattle.std.proofs.Common.{◌≡◌, ℕ, zero, suc, ◌+◌, ◌<◌, List, [], ◌∷◌, ◌++◌, length, map, Option, Some, None, Ok, refl, sym, ap, ◌∙◌, subst, append_assoc, append-nil, length-append, flat_map, ◌⊎◌, inl, inr, ⊎_elim, slice_get, arith}
+use Rattle.std.proofs.Common.{◌≡◌, ℕ, zero, suc, ◌+◌, ◌<◌, List, [], ◌∷◌, ◌++◌, length, Option, Some, Ok, refl, sym, ap, ◌∙◌, subst, append_assoc, append-nil, length-append, flat_map, ◌⊎◌, inl, inr, ⊎_elim, slice_get, arith}
 use Rattle.std.specs.List.{range_with_len}
 use Rattle.std.proofs.lemmas.List.{length-map}
 use Rattle.std.proofs.lemmas.List.FromFn.{length-range_with_len}
@@ -7,7 +7,7 @@ use Rattle.region_table.specs.declared.declared.Phase.{Phase}
 use Rattle.region_table.specs.Program.{ProgramParts}
 use Rattle.rv_assembler.specs.declared.reading.Saying.{Saying}
 use Rattle.rv_assembler.specs.declared.names.Meaning.{Meaning}
-use Rattle.rv_assembler.specs.Placed.{Placed, placed_behind, placed}
+use Rattle.rv_assembler.specs.Placed.{Placed, placed_behind}
 use Rattle.rv_assembler.specs.Counts.{phases_in}
 use Rattle.rv_assembler.specs.Declarations.{meaning_of}
 use Rattle.rv_assembler.specs.Tables.{placed_code, region_at, lock_name_at, tables}
@@ -15,8 +15,8 @@ use Rattle.rv_assembler.specs.Program.{phase_of}
 use Rattle.rv_assembler.specs.Source.{readings, sayings, source}
 use Rattle.rv_assembler.proofs.TableLemmas.{place}
 use Rattle.text_places.specs.declared.places.CodePlace.{CodePlace}
-use Rattle.text_places.specs.Places.{each_part, places_at, places_of, code_place, own_line, phase_row, text_places}
-use Rattle.text_places.specs.Lines.{IsLineAmong, IsLineOfCode}
+use Rattle.text_places.specs.Places.{each_part, places_at, code_place, own_line, text_places}
+use Rattle.text_places.specs.Lines.{IsLineOfCode}
 use Rattle.text_places.proofs.PlaceLemmas.{phase-count, has-program}
 
 -- ---- as many places as rows

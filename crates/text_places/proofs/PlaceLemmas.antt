@@ -1,6 +1,5 @@
 -- The code's way to the places of a text without a fault is the definition's.
-use Rattle.std.proofs.Common.{◌≡◌, ℕ, zero, suc, ◌+◌, ◌-◌, ◌≤◌, Bool, true, false, cond, not, nat_lt, List, [], ◌∷◌, ◌++◌, length, map, Option, Some, None, Result, Ok, Err, refl, sym, ap, ◌∙◌, subst, append_assoc, append-nil, length-append, filter_map, flat_map, count_by, sum_by, arith}
-use Rattle.std.specs.Option.{option_or}
+use Rattle.std.proofs.Common.{◌≡◌, ℕ, zero, suc, ◌+◌, ◌-◌, ◌≤◌, Bool, true, false, cond, nat_lt, List, [], ◌∷◌, ◌++◌, length, map, Option, Some, None, Ok, Err, refl, sym, ap, ◌∙◌, subst, append_assoc, append-nil, length-append, filter_map, flat_map, arith}
 use Rattle.std.specs.List.{range_with_len, cons_option}
 use Rattle.std.proofs.lemmas.List.Elements.{filter_map-append}
 use Rattle.std.proofs.lemmas.List.Sums.{sum_by-cons}
@@ -11,7 +10,6 @@ use Rattle.rv_assembler.specs.declared.fault.SourceFault.{SourceFault}
 use Rattle.rv_assembler.specs.declared.fault.SourceFault as fault
 use Rattle.rv_assembler.specs.declared.statement.Statement.{Statement}
 use Rattle.rv_assembler.specs.declared.statement.Statement as statement
-use Rattle.rv_assembler.specs.declared.statement.Family.{Family}
 use Rattle.rv_assembler.specs.declared.reading.Saying.{Saying}
 use Rattle.rv_assembler.specs.declared.reading.Reading.{Reading}
 use Rattle.rv_assembler.specs.declared.reading.Reading.TheVariants.{Bad, Good}
@@ -23,7 +21,7 @@ use Rattle.rv_assembler.specs.Gathering.{more}
 use Rattle.rv_assembler.specs.Emission.{emission, words_in}
 use Rattle.rv_assembler.specs.Named.{task_entry}
 use Rattle.rv_assembler.specs.Rows.{start_at, starts}
-use Rattle.rv_assembler.specs.Placed.{placed_behind, placed}
+use Rattle.rv_assembler.specs.Placed.{placed_behind}
 use Rattle.rv_assembler.specs.Counts.{code_words, is_phase, phases_in}
 use Rattle.rv_assembler.specs.Declarations.{meaning_of}
 use Rattle.rv_assembler.specs.Tables.{placed_code, region_at, lock_name_at, tasks_at, tables}

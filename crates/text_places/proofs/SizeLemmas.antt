@@ -1,8 +1,7 @@
 -- A line without a fault gives so many code words as its statement takes.
-use Rattle.std.proofs.Common.{◌≡◌, ℕ, Bool, true, false, List, length, ℤ, Option, Some, None, refl, ⊎_elim}
+use Rattle.std.proofs.Common.{◌≡◌, ℕ, Bool, true, false, List, length, ℤ, Option, Some, None, refl}
 use Rattle.rv_isa.specs.declared.instr.Instr.{Instr}
 use Rattle.rv_isa.specs.declared.instr.Cond.{Cond}
-use Rattle.rv_isa.specs.Table.{is_stored}
 use Rattle.rv_isa.specs.declared.instr.Instr as instr
 use Rattle.rv_assembler.specs.declared.statement.Code.{Code}
 use Rattle.rv_assembler.specs.declared.statement.Code.TheVariants.{Upper, Jump, JumpRegister, Branch, Load, Store, OpImm, Op, Fence, Ecall, Ebreak, LoadNumber, LoadAddress, Raw}
@@ -11,7 +10,7 @@ use Rattle.rv_assembler.specs.declared.names.Meaning as meaning
 use Rattle.rv_assembler.specs.Number.{is_upper, is_immediate, is_jump, is_branch, is_operand}
 use Rattle.rv_assembler.specs.Operand.{bytes_of}
 use Rattle.rv_assembler.specs.Size.{code_word_count}
-use Rattle.rv_assembler.specs.Emission.{one_if, upper_instr, jump, branch, loaded_address, offset_of, emission, words_in}
+use Rattle.rv_assembler.specs.Emission.{one_if, jump, branch, loaded_address, offset_of, emission, words_in}
 use Rattle.rv_assembler.specs.Fault.{is_far, is_lost}
 
 one-size : (b : Bool) (i : Instr) → is_far (one_if b i) ≡ false → length (words_in (one_if b i)) ≡ 1

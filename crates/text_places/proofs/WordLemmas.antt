@@ -1,5 +1,5 @@
 -- In regions that lie one behind the other each word is one of a region.
-use Rattle.std.proofs.Common.{◌≡◌, ℕ, suc, ◌+◌, ◌-◌, ◌<◌, ◌≤◌, Bool, true, false, cond, ◌&&◌, nat_lt, nat_le, List, [], ◌∷◌, Option, Some, refl, ap, ◌∙◌, ⊎_elim, slice_get, lt-ltb, le-leb, arith}
+use Rattle.std.proofs.Common.{◌≡◌, ℕ, suc, ◌+◌, ◌-◌, ◌<◌, ◌≤◌, Bool, true, false, cond, ◌&&◌, nat_lt, nat_le, List, [], ◌∷◌, Some, refl, ap, ◌∙◌, ⊎_elim, slice_get, lt-ltb, le-leb, arith}
 use Rattle.std.proofs.lemmas.Bool.{cases_lt, and_from, le-ltb}
 use Rattle.region_table.specs.declared.declared.Region.{Region}
 use Rattle.region_table.specs.Program.{AreTiled}

@@ -3,7 +3,6 @@ use Rattle.std.specs.Prelude.{◌≡◌, ℕ, zero, suc, ◌+◌, ◌<◌, List,
 use Rattle.src_text.specs.Line.{cut}
 use Rattle.rv_assembler.specs.declared.reading.Saying.{Saying}
 use Rattle.rv_assembler.specs.declared.names.Meaning.{Meaning}
-use Rattle.rv_assembler.specs.Placed.{Placed}
 use Rattle.rv_assembler.specs.Declarations.{meaning_of}
 use Rattle.rv_assembler.specs.Tables.{placed_code, tables}
 use Rattle.rv_assembler.specs.Source.{readings, sayings}

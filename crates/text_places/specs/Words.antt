@@ -1,5 +1,5 @@
 -- Which word of which region a data word is, and which task a core has in a phase.
-use Rattle.std.specs.Prelude.{◌≡◌, ℕ, ◌+◌, ◌-◌, ◌<◌, Bool, ◌&&◌, ◌==◌, nat_le, nat_lt, List, [], ◌∷◌, Option, Some, None, slice_get, if◌then◌else◌}
+use Rattle.std.specs.Prelude.{◌≡◌, ℕ, zero, suc, ◌+◌, ◌-◌, ◌<◌, Bool, ◌&&◌, ◌==◌, nat_le, nat_lt, List, [], ◌∷◌, Option, Some, None, slice_get, if◌then◌else◌}
 use Rattle.region_table.specs.declared.declared.Region.{Region}
 use Rattle.text_places.specs.declared.places.TaskPlace.{TaskPlace}
 use Rattle.text_places.specs.declared.words.WordPlace.{WordPlace}
@@ -15,6 +15,16 @@ word_place_from number (r ∷ rs) w =
 
 abbrev pub word_place : List Region → ℕ → Option WordPlace
 word_place regions w = word_place_from 0 regions w
+
+-- the word in the region of this number, if there is this region and it has the word
+abbrev pub place_at : ℕ → Option Region → ℕ → Option WordPlace
+place_at number None w = None
+place_at number (Some r) w = if region_has r w then Some (record { region = number; index = w - r.start }) else None
+
+-- the word in the last of the first `many` regions, the first of which has the number `number`, if that one has it
+abbrev pub place_before : ℕ → List Region → ℕ → ℕ → Option WordPlace
+place_before number rs zero w = None
+place_before number rs (suc k) w = place_at (number + k) (slice_get rs k) w
 
 -- the data word w is this word of this region
 pub record IsWordPlace (regions : List Region) (w : ℕ) (place : WordPlace) : Type 0 where

@@ -1,5 +1,4 @@
-use Rattle.std.proofs.Common.{length, drop, ◌-◌, ◌+◌, ◌≡◌, ◌≤◌, slice_get}
-use Rattle.src_text.specs.Line.{cut}
+use Rattle.std.proofs.Common.{length, ◌-◌, ◌+◌, ◌≤◌}
 use Rattle.text_places.proofs.CutLemmas.{IsLeft}
 use Rattle.text_places.proofs.lines.line_text.Given as goal
 
