@@ -1,6 +1,6 @@
 -- Which lines of a text have effects that give a data word to one of the two tasks that contend for it. The effects of a family of tasks
 -- stand behind the family's line, and before the next one or the next phase.
-use Rattle.std.specs.Prelude.{ℕ, ℤ, pos, neg_ℤ, ◌+ℤ◌, ◌*ℤ◌, Bool, true, false, ◌&&◌, ◌||◌, ◌==◌, nat_lt, List, [], ◌∷◌, ◌++◌, length, Option, Some, None, option_map, slice_get, bytes_eq, if◌then◌else◌}
+use Rattle.std.specs.Prelude.{ℕ, ℤ, pos, neg_ℤ, ◌+ℤ◌, ◌*ℤ◌, Bool, true, false, ◌&&◌, ◌||◌, ◌==◌, nat_le, nat_lt, List, [], ◌∷◌, ◌++◌, length, Option, Some, None, option_map, slice_get, bytes_eq, if◌then◌else◌}
 use Rattle.region_table.specs.declared.declared.Region.{Region}
 use Rattle.src_text.specs.declared.token.Token.{Token}
 use Rattle.rv_assembler.specs.declared.statement.Effect.{Effect}
@@ -10,6 +10,7 @@ use Rattle.rv_assembler.specs.declared.statement.Statement.{Statement}
 use Rattle.rv_assembler.specs.declared.statement.Statement as statement
 use Rattle.rv_assembler.specs.declared.reading.Reading.{Reading}
 use Rattle.rv_assembler.specs.declared.reading.Reading.TheVariants.{Bad, Good}
+use Rattle.rv_assembler.specs.declared.draft.Claim.{Claim}
 use Rattle.rv_assembler.specs.Number.{is_within}
 use Rattle.rv_assembler.specs.Operand.{bytes_of}
 use Rattle.rv_assembler.specs.Source.{readings}
@@ -28,6 +29,10 @@ abbrev pub extent_has : Extent → ℕ → ℕ → Bool
 extent_has extent.TheVariants.Whole part index = true
 extent_has (extent.TheVariants.Part lo hi) part index = is_within lo hi (pos index)
 extent_has (extent.TheVariants.Stepped lo hi step) part index = moved_has lo hi (pos part *ℤ step) index
+
+-- whether a claim, as the definition of the language has it, has a word
+abbrev pub claim_has : Claim → ℕ → Bool
+claim_has k w = nat_le k.lo w && nat_lt w k.hi
 
 -- whether an effect of the family that stands on this line gives it to the task
 abbrev pub gives_to : ℕ → Extent → ℕ → Option TaskPlace → Bool

@@ -4,6 +4,8 @@
 mod claiming;
 mod claims;
 mod guards;
+mod laws;
 mod sentences;
 
+pub use laws::an_effect_gives_the_words_that_it_claims;
 pub use sentences::push_conflict;
