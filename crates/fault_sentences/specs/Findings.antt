@@ -116,7 +116,7 @@ tasks_out_of_range ts f =
 -- the number or the label that is out of range
 unfoldable pub out_of_range_at : List ℕ → List ℕ → List Token → Statement → Option Finding
 out_of_range_at text bytes ts (statement.TheVariants.Instruction k) = code_out_of_range ts k
-out_of_range_at text bytes ts (statement.TheVariants.Region name len) = at_number (cause.TheVariants.Range (pos 1) (pos 65536)) ts
+out_of_range_at text bytes ts (statement.TheVariants.Region name len) = at_number cause.TheVariants.Length ts
 out_of_range_at text bytes ts (statement.TheVariants.Word region index value) =
     at_number (cause.TheVariants.Index (words_of_region (known_in text (bytes_of bytes region)))) ts
 out_of_range_at text bytes ts (statement.TheVariants.Tasks f) = tasks_out_of_range ts f

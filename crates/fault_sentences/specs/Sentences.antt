@@ -51,7 +51,7 @@ complaint (fault.TheVariants.Misplaced line) = codes "This statement may not sta
 complaint (fault.TheVariants.Limit line) = codes "With this line the program is larger than a program may be."
 complaint fault.TheVariants.Memory = codes "There was no memory."
 
--- how it is mended
+-- how it is mended, by the kind of the fault
 abbrev pub amendment : SourceFault → List ℕ
 amendment fault.TheVariants.TooLarge = codes "Leave out blanks and comments, or make two programs of it."
 amendment (fault.TheVariants.BadByte line) = codes "Leave the byte out. If it belongs to a comment, put `#` before it."
@@ -59,12 +59,28 @@ amendment (fault.TheVariants.BadNumber line) = codes "Write decimal digits, or `
 amendment (fault.TheVariants.LineLimit line) = codes "Shorten the line, or leave out lines before it."
 amendment (fault.TheVariants.UnknownWord line) = codes "Write one of the language's statements, for example `addi` with a negative number in place of `subi`. Words are in lower case. A line has one label at most, with `:` behind it. `.forall` needs `.version 2` as the first line that isn't blank."
 amendment (fault.TheVariants.BadOperand line) = codes "Write the operands as the table of statements has them, with a comma between two. `addi`, `andi`, `slli` and `li` take a number at the end, and `add`, `and` and `sll` a register."
-amendment (fault.TheVariants.OutOfRange line) = codes "Write a number of the range; `li` makes a larger one in a register. Or use words of the region, cores from 0 to 15, or a label that is nearer."
+amendment (fault.TheVariants.OutOfRange line) = codes "Write a number of its range, or a label that is nearer."
 amendment (fault.TheVariants.DoubleName line) = codes "Labels, regions and locks share one set of names: choose another name."
 amendment (fault.TheVariants.UnknownName line) = codes "Declare it, or look how it is spelled: names are case-sensitive."
 amendment (fault.TheVariants.Misplaced line) = codes "Tasks stand behind a `.phase`, each core has one task in a phase, and effects stand behind their task."
 amendment (fault.TheVariants.Limit line) = codes "A program has at most 16384 code words, 65536 data words, 256 regions (4096 in version 2), 32 locks, 64 phases and 64 tasks."
 amendment fault.TheVariants.Memory = codes "Give it more memory."
+
+-- how a number or a label is mended that is out of its range
+abbrev pub range_amendment : Cause → List ℕ
+range_amendment (cause.TheVariants.Range low high) = codes "Write a number of this range; `li` makes a larger one in a register."
+range_amendment cause.TheVariants.Length = codes "Write a number of this range. All regions of a text have at most 65536 words together."
+range_amendment (cause.TheVariants.Offset low high) = codes "Write a label that is nearer, or an even number of this range."
+range_amendment (cause.TheVariants.Index words) = codes "Write an index of the region's words, or give the region more of them."
+range_amendment (cause.TheVariants.Interval words) = codes "Write an interval of the region's words, also where a step moves it on from task to task, or give the region more of them."
+range_amendment cause.TheVariants.Cores = codes "Use cores from 0 to 15: the first core and the number of tasks are at most 16 together."
+range_amendment cause.TheVariants.Address = codes "Write a label, or the address of an instruction."
+range_amendment c = codes "Write a number of its range, or a label that is nearer."
+
+-- how it is mended, by what is wrong with a part of the line, if that is known
+abbrev pub finding_amendment : SourceFault → Option Finding → List ℕ
+finding_amendment (fault.TheVariants.OutOfRange line) (Some x) = range_amendment x.cause
+finding_amendment f x = amendment f
 
 unfoldable pub indented_line : List ℕ → ℕ → List ℕ
 indented_line text line = codes "  " ++ quoted_line text line
@@ -158,6 +174,7 @@ plain_cause cause.TheVariants.Word = codes " is the word of no statement."
 plain_cause cause.TheVariants.NoWord = codes " stands where the word of a statement is to stand."
 plain_cause cause.TheVariants.Dotted = codes " may not be a label: a name that is declared doesn't begin with `.`."
 plain_cause cause.TheVariants.NoNumber = codes " is no number from -2147483648 to 4294967295."
+plain_cause cause.TheVariants.Length = codes " isn't a number from 1 to 65536."
 plain_cause cause.TheVariants.Cores = codes " is the first core of these tasks: there is to be at least one task, and all are to be on cores from 0 to 15."
 plain_cause cause.TheVariants.Address = codes " isn't the address of an instruction: it is to be a multiple of 4 from 0 to 4294967292."
 plain_cause cause.TheVariants.NoPhase = codes " stands before any `.phase`."
@@ -195,21 +212,26 @@ finding_or_kind line bytes f (Some x) = finding_text line bytes x
 abbrev pub finding_if_small : List ℕ → List ℕ → SourceFault → Option Finding
 finding_if_small text bytes f = if nat_lt 1048576 (length text) || nat_lt 1048576 (length bytes) then None else finding_of text bytes f
 
--- the line, what is wrong on it, and the names beside one that isn't declared as what is wanted
+-- the line, what is wrong on it, the names beside one that isn't declared as what is wanted, and how it is mended
 abbrev pub finding_sentences : List ℕ → SourceFault → ℕ → List ℕ → Option Finding → List ℕ
-finding_sentences text f line bytes x = indented_line text line ++ finding_or_kind line bytes f x ++ others text x
+finding_sentences text f line bytes x =
+    indented_line text line ++ finding_or_kind line bytes f x ++ others text x ++ sentence (finding_amendment f x)
 
 unfoldable pub line_sentences : List ℕ → SourceFault → ℕ → List ℕ → List ℕ
 line_sentences text f line bytes = finding_sentences text f line bytes (finding_if_small text bytes f)
 
+-- what is wrong and how it is mended, by the kind of the fault alone
+abbrev pub kind_sentences : SourceFault → List ℕ
+kind_sentences f = sentence (complaint f) ++ sentence (amendment f)
+
 abbrev pub line_or_kind : List ℕ → SourceFault → ℕ → Option (List ℕ) → List ℕ
-line_or_kind text f line None = sentence (complaint f)
+line_or_kind text f line None = kind_sentences f
 line_or_kind text f line (Some bytes) = line_sentences text f line bytes
 
-abbrev pub what_is_wrong : List ℕ → SourceFault → Option ℕ → List ℕ
-what_is_wrong text f None = sentence (complaint f)
-what_is_wrong text f (Some line) = line_or_kind text f line (numbered_line text line)
+abbrev pub sentences_at : List ℕ → SourceFault → Option ℕ → List ℕ
+sentences_at text f None = kind_sentences f
+sentences_at text f (Some line) = line_or_kind text f line (numbered_line text line)
 
 -- what is said of a refused text
 abbrev pub refusal_sentences : List ℕ → SourceFault → List ℕ
-refusal_sentences text f = what_is_wrong text f (faulty_line f) ++ sentence (amendment f)
+refusal_sentences text f = sentences_at text f (faulty_line f)

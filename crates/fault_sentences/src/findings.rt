@@ -61,6 +61,8 @@ pub(crate) enum Cause {
         low: i32,
         high: i32,
     },
+    /// It is no number of words that a region may have.
+    Length,
     /// A number that isn't such an even offset, or a label that isn't so far away.
     Offset {
         low: i32,
@@ -174,13 +176,7 @@ fn out_of_range_at(
 {
     match *statement {
         Statement::Instruction(code) => Ok(code_out_of_range(tokens, code)),
-        Statement::Region { .. } => Ok(at_number(
-            Cause::Range {
-                low: 1,
-                high: 65536,
-            },
-            tokens,
-        )),
+        Statement::Region { .. } => Ok(at_number(Cause::Length, tokens)),
         Statement::Word { region, .. } => {
             let words = words_named(alloc, text, bytes, region)?;
             Ok(at_number(Cause::Index { words }, tokens))

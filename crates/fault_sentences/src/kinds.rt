@@ -1,7 +1,8 @@
 //! What is said of each kind of fault.
 ghost use Rattle.std.specs.Prelude.{◌≡◌};
-ghost use Rattle.fault_sentences.specs.Sentences.{faulty_line, complaint, amendment};
+ghost use Rattle.fault_sentences.specs.Sentences.{faulty_line, complaint, amendment, range_amendment, finding_amendment};
 
+use crate::findings::{Cause, Finding};
 use rv_assembler::SourceFault;
 
 /// The line that has the fault; None where it is no line's.
@@ -48,7 +49,7 @@ pub(crate) fn complaint(fault: SourceFault) -> &'static [u8]
     }
 }
 
-/// How it is mended.
+/// How it is mended, by the kind of the fault.
 pub(crate) fn amendment(fault: SourceFault) -> &'static [u8]
     ensures { result.now ≡ amendment fault }
 {
@@ -64,7 +65,7 @@ pub(crate) fn amendment(fault: SourceFault) -> &'static [u8]
         SourceFault::BadOperand { .. } =>
             b"Write the operands as the table of statements has them, with a comma between two. `addi`, `andi`, `slli` and `li` take a number at the end, and `add`, `and` and `sll` a register.",
         SourceFault::OutOfRange { .. } =>
-            b"Write a number of the range; `li` makes a larger one in a register. Or use words of the region, cores from 0 to 15, or a label that is nearer.",
+            b"Write a number of its range, or a label that is nearer.",
         SourceFault::DoubleName { .. } =>
             b"Labels, regions and locks share one set of names: choose another name.",
         SourceFault::UnknownName { .. } =>
@@ -74,5 +75,36 @@ pub(crate) fn amendment(fault: SourceFault) -> &'static [u8]
         SourceFault::Limit { .. } =>
             b"A program has at most 16384 code words, 65536 data words, 256 regions (4096 in version 2), 32 locks, 64 phases and 64 tasks.",
         SourceFault::Memory => b"Give it more memory.",
+    }
+}
+
+/// How a number or a label is mended that is out of its range.
+fn range_amendment(cause: Cause) -> &'static [u8]
+    ensures { result.now ≡ range_amendment cause }
+{
+    match cause {
+        Cause::Range { .. } =>
+            b"Write a number of this range; `li` makes a larger one in a register.",
+        Cause::Length =>
+            b"Write a number of this range. All regions of a text have at most 65536 words together.",
+        Cause::Offset { .. } => b"Write a label that is nearer, or an even number of this range.",
+        Cause::Index { .. } =>
+            b"Write an index of the region's words, or give the region more of them.",
+        Cause::Interval { .. } =>
+            b"Write an interval of the region's words, also where a step moves it on from task to task, or give the region more of them.",
+        Cause::Cores =>
+            b"Use cores from 0 to 15: the first core and the number of tasks are at most 16 together.",
+        Cause::Address => b"Write a label, or the address of an instruction.",
+        _ => b"Write a number of its range, or a label that is nearer.",
+    }
+}
+
+/// How it is mended, by what is wrong with a part of the line, if that is known.
+pub(crate) fn finding_amendment(fault: SourceFault, finding: Option<Finding>) -> &'static [u8]
+    ensures { result.now ≡ finding_amendment fault finding }
+{
+    match (fault, finding) {
+        (SourceFault::OutOfRange { .. }, Some(finding)) => range_amendment(finding.cause),
+        _ => amendment(fault),
     }
 }

@@ -3,10 +3,10 @@ ghost use Rattle.std.specs.Prelude.{◌≡◌, ◌++◌, OnOk, IfOk, Err};
 ghost use Rattle.std.specs.Option.{option_copied};
 ghost use Rattle.text_places.specs.Lines.{numbered_line};
 ghost use Rattle.rv_assembler.specs.Source.{source};
-ghost use Rattle.fault_sentences.specs.Sentences.{indented_line, sentence, finding_or_kind, finding_if_small, line_sentences, line_or_kind, what_is_wrong, refusal_sentences};
+ghost use Rattle.fault_sentences.specs.Sentences.{indented_line, sentence, finding_or_kind, finding_if_small, line_sentences, kind_sentences, line_or_kind, sentences_at, refusal_sentences};
 
 use crate::findings::{Finding, finding_of};
-use crate::kinds::{amendment, complaint, faulty_line};
+use crate::kinds::{amendment, complaint, faulty_line, finding_amendment};
 use crate::others::push_others;
 use crate::sentences::push_finding;
 use dn_base::{MOST_OF_TEXT, Memory};
@@ -77,7 +77,16 @@ fn push_line_sentences(
     let finding = finding_if_small(*out.allocator(), text, bytes, fault)?;
     push_indented_line(out, text, line)?;
     push_finding_or_kind(out, line, bytes, fault, finding)?;
-    push_others(out, text, finding)
+    push_others(out, text, finding)?;
+    push_sentence(out, finding_amendment(fault, finding))
+}
+
+/// Adds what is wrong and how it is mended, by the kind of the fault alone.
+fn push_kind(out: &mut Vec<u8>, fault: SourceFault) -> Result<(), Memory>
+    ensures { OnOk result (out.new.items ≡ out.old.items ++ kind_sentences fault) }
+{
+    push_sentence(out, complaint(fault))?;
+    push_sentence(out, amendment(fault))
 }
 
 fn push_line_or_kind(
@@ -90,29 +99,22 @@ fn push_line_or_kind(
 {
     match line_text(text, line as usize) {
         Some(bytes) => push_line_sentences(out, text, fault, line, bytes),
-        None => push_sentence(out, complaint(fault)),
+        None => push_kind(out, fault),
     }
 }
 
-fn push_what_is_wrong(
+fn push_sentences_at(
     out: &mut Vec<u8>,
     text: &[u8],
     fault: SourceFault,
     line: Option<u32>,
 ) -> Result<(), Memory>
-    ensures { OnOk result (out.new.items ≡ out.old.items ++ what_is_wrong text.now fault line) }
+    ensures { OnOk result (out.new.items ≡ out.old.items ++ sentences_at text.now fault line) }
 {
     match line {
         Some(line) => push_line_or_kind(out, text, fault, line),
-        None => push_sentence(out, complaint(fault)),
+        None => push_kind(out, fault),
     }
-}
-
-fn push_sentences(out: &mut Vec<u8>, text: &[u8], fault: SourceFault) -> Result<(), Memory>
-    ensures { OnOk result (out.new.items ≡ out.old.items ++ refusal_sentences text.now fault) }
-{
-    push_what_is_wrong(out, text, fault, faulty_line(fault))?;
-    push_sentence(out, amendment(fault))
 }
 
 /// Adds what is said of a text that the assembler refuses with this fault: the line that has the fault behind its number, a mark under
@@ -124,5 +126,5 @@ pub fn push_refusal(out: &mut Vec<u8>, text: &[u8], fault: SourceFault) -> Resul
     requires { source text.now ≡ Err fault }
     ensures { OnOk result (out.new.items ≡ out.old.items ++ refusal_sentences text.now fault) }
 {
-    push_sentences(out, text, fault)
+    push_sentences_at(out, text, fault, faulty_line(fault))
 }

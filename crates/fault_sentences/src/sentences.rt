@@ -217,6 +217,7 @@ fn plain_cause(cause: Cause) -> &'static [u8]
         Cause::NoWord => b" stands where the word of a statement is to stand.",
         Cause::Dotted => b" may not be a label: a name that is declared doesn't begin with `.`.",
         Cause::NoNumber => b" is no number from -2147483648 to 4294967295.",
+        Cause::Length => b" isn't a number from 1 to 65536.",
         Cause::Cores =>
             b" is the first core of these tasks: there is to be at least one task, and all are to be on cores from 0 to 15.",
         Cause::Address =>
@@ -253,6 +254,7 @@ fn push_cause(out: &mut Vec<u8>, cause: Cause) -> Result<(), Memory>
         | Cause::NoWord
         | Cause::Dotted
         | Cause::NoNumber
+        | Cause::Length
         | Cause::Cores
         | Cause::Address
         | Cause::NoPhase
