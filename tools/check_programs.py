@@ -385,6 +385,20 @@ def answers_of_other_texts_are_refused():
             check("such an answer is taken", (ran.returncode, ran.stdout) == (0, answer.encode()), ran.stdout)
 
 
+def answers_before_any_text_are_taken():
+    """The lines by which the words, or the form of a document, are refused: also for a text that is refused itself."""
+    taken = ("refused usage\n", "refused trace too-large\n", "refused trace head\n", "refused trace event 3\n", "refused trace rest\n")
+    other = ("refused trace incomplete\n", "refused trace not-enabled 3\n", "outcome done\n", "refused usage\nrefused usage\n", "refused usage")
+    with tempfile.TemporaryDirectory() as room:
+        file = pathlib.Path(room, "a text.s")
+        for text in ("addi t0, t1, @\n", pathlib.Path("examples/conflict.s").read_text()):
+            file.write_text(text)
+            for answer in taken + other:
+                ran = run(programs("explain")[0] + [str(file)], answer.encode())
+                wanted = (0, answer.encode()) if answer in taken else (2, b"refused answer 1\n")
+                check(f"{answer!r} to a refused text", (ran.returncode, ran.stdout) == wanted, ran.stdout)
+
+
 def every_exit_code_of_explain_comes():
     for program in programs("explain"):
         label, text = program[0], "examples/trap.s"
@@ -442,6 +456,7 @@ every_exit_code_comes()
 a_run_is_drawn_by_a_pipe()
 answers_are_explained()
 answers_of_other_texts_are_refused()
+answers_before_any_text_are_taken()
 every_exit_code_of_explain_comes()
 claims_of_runs_agree()
 claims_are_judged()
