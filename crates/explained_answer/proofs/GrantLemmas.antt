@@ -11,7 +11,7 @@ use Rattle.answer_lines.specs.declared.line.AnswerLine as line
 use Rattle.explained_answer.specs.declared.reading.ReadLine.{ReadLine}
 use Rattle.answer_lines.specs.Lines.{answer_line}
 use Rattle.explained_answer.specs.Holders.{is_of_lock, last_grant, AreLastGrants, grant_on, answer_grants, holder_on, with_last_grant}
-use Rattle.explained_answer.specs.Lines.{has_task, has_named_lock, IsLineOf, line_in, lines_in, sentences_behind, explained_line}
+use Rattle.explained_answer.specs.Lines.{has_task, has_named_lock, IsLineOf, line_read, lines_in, sentences_behind, explained_line}
 
 -- a grant of another lock is passed over, and one of the lock is its last
 last-push : (gs : List Grant) (g : Grant) (lock : ℕ) → last_grant (gs ++ g ∷ []) lock ≡ cond (g.lock.0 == lock) (Some g) (last_grant gs lock)
@@ -61,7 +61,7 @@ with_last_grant-is l table gs (line.TheVariants.Fixed f) is room so_far = no-gra
 pub flat-more : {X : Type 0} (f : AnswerLine → List X) (read : List ReadLine) (i : ℕ) (r : ReadLine) → i < length read
     → flat_map f (lines_in (take (i + 1) read)) ≡ flat_map f (lines_in (take i read)) ++ f (get_or read i r).line
 flat-more f read i r within =
-    ap (flat_map f) (map_more line_in read i r within) ∙ flat_map-append f (lines_in (take i read)) ((get_or read i r).line ∷ [])
+    ap (flat_map f) (map_more line_read read i r within) ∙ flat_map-append f (lines_in (take i read)) ((get_or read i r).line ∷ [])
     ∙ ap (λ ys. flat_map f (lines_in (take i read)) ++ ys) (append-nil (f (get_or read i r).line))
 
 -- no lock has a grant at first
@@ -76,7 +76,7 @@ no-grants n = λ lock. none-at n lock
 -- a line that was read is one of the program's answers
 pub fits-at : (l : Located) (read : List ReadLine) (i : ℕ) (d : ReadLine) → All (IsLineOf l) (lines_in read) → i < length read → IsLineOf l (get_or read i d).line
 fits-at l read i d are within =
-    subst (IsLineOf l) (get_or-map line_in read i d d.line within) (All-get_or (IsLineOf l) (lines_in read) i d.line (omega (arith, within, length-map read line_in)) are)
+    subst (IsLineOf l) (get_or-map line_read read i d d.line within) (All-get_or (IsLineOf l) (lines_in read) i d.line (omega (arith, within, length-map read line_read)) are)
 
 pub length-with_last_grant : (table : List (Option Grant)) (x : AnswerLine) → length (with_last_grant table x) ≡ length table
 length-with_last_grant table (line.TheVariants.Grant g) = length-set table g.lock.0 (Some g)

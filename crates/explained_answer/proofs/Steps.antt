@@ -21,7 +21,7 @@ use Rattle.answer_lines.specs.Parts.{three_line}
 use Rattle.answer_lines.specs.Lines.{IsAnswerLine, answer_line, address_line, link_line, sum_line, unbounded_line}
 use Rattle.answer_lines.proofs.Forms.{word-is}
 use Rattle.explained_answer.specs.declared.reading.ReadLine.{ReadLine}
-use Rattle.explained_answer.specs.Lines.{IsLineOf, NoLineOf, IsRefusedAt, line_in, lines_in, IsWritten, AreLinesRead, explained_lines, AreAllLinesExplained}
+use Rattle.explained_answer.specs.Lines.{IsLineOf, NoLineOf, IsRefusedAt, line_read, lines_in, IsWritten, AreLinesRead, lines_and_sentences, AreAllLinesExplained}
 
 -- what stands in front of a rest is as long as the rest leaves it
 pub front_of : (xs front rest : List ℕ) → xs ≡ front ++ rest → take (length xs - length rest) xs ≡ front
@@ -75,7 +75,7 @@ one-line : {X : Type 0} (f : X → List ℕ) (xs : List X) (x : X) → flat_map 
 one-line f xs x = flat_map-append f xs (x ∷ []) ∙ ap (λ ys. flat_map f xs ++ ys) (append-nil (f x))
 
 lines-push : (read : List ReadLine) (r : ReadLine) → lines_in (read ++ r ∷ []) ≡ lines_in read ++ r.line ∷ []
-lines-push read r = map-append line_in read (r ∷ [])
+lines-push read r = map-append line_read read (r ∷ [])
 
 -- one more line
 pub one-more : (l : Located) (bytes rest behind : List ℕ) (read : List ReadLine) (r : ReadLine)
@@ -97,7 +97,7 @@ one-more l bytes rest behind read r so_far more writes =
 
 -- all lines were read, and then explained
 pub all-explained : (text : List ℕ) (l : Located) (bytes : List ℕ) (read : List ReadLine) (out : List ℕ)
-    → AreLinesRead l bytes read [] → out ≡ explained_lines text l (lines_in read) → AreAllLinesExplained text l bytes out
+    → AreLinesRead l bytes read [] → out ≡ lines_and_sentences text l (lines_in read) → AreAllLinesExplained text l bytes out
 all-explained text l bytes read out all said = record { lines = lines_in read; all = all.before; said = said }
 
 -- some bytes are left, and none of them begin a line
@@ -108,7 +108,7 @@ refused l bytes rest read number so_far is some none =
       lines = lines_in read;
       rest = rest;
       before = so_far.before;
-      next = omega (arith, is, length-map read line_in);
+      next = omega (arith, is, length-map read line_read);
       some = some;
       none = none;
     }

@@ -80,8 +80,8 @@ sentences_behind text l holder (line.TheVariants.Fixed f) = []
 abbrev pub explained_line : List ℕ → Located → List Grant → AnswerLine → List ℕ
 explained_line text l grants x = answer_line x ++ sentences_behind text l (holder_on grants x) x
 
-abbrev pub explained_lines : List ℕ → Located → List AnswerLine → List ℕ
-explained_lines text l lines = flat_map (explained_line text l (answer_grants lines)) lines
+abbrev pub lines_and_sentences : List ℕ → Located → List AnswerLine → List ℕ
+lines_and_sentences text l lines = flat_map (explained_line text l (answer_grants lines)) lines
 
 -- ---- which lines an answer may have
 
@@ -144,15 +144,15 @@ pub record IsRefusedAt (l : Located) (bytes : List ℕ) (number : ℕ) : Type 0 
 pub record AreAllLinesExplained (text : List ℕ) (l : Located) (bytes out : List ℕ) : Type 0 where
   pub lines : List AnswerLine
   pub all : AreLinesBefore l bytes lines []
-  pub said : out ≡ explained_lines text l lines
+  pub said : out ≡ lines_and_sentences text l lines
 
 -- ---- an answer, read
 
-abbrev pub line_in : ReadLine → AnswerLine
-line_in r = r.line
+abbrev pub line_read : ReadLine → AnswerLine
+line_read r = r.line
 
 abbrev pub lines_in : List ReadLine → List AnswerLine
-lines_in read = map line_in read
+lines_in read = map line_read read
 
 -- the bytes of a line are those that say it
 abbrev pub IsWritten : ReadLine → Type 0

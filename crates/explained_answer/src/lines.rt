@@ -2,7 +2,7 @@
 ghost use Rattle.std.specs.Prelude.{◌≡◌, ◌++◌, All, OnOk, IfOk};
 ghost use Rattle.answer_lines.specs.Lines.{answer_line};
 ghost use Rattle.ending_sentences.specs.Sentences.{code_place_at};
-ghost use Rattle.explained_answer.specs.Lines.{named_word, named_lock, which_line, declared_there, task_there, the_instruction, stands_there, instruction_there, unproven_text, sentences_behind, explained_lines, IsLineOf, IsWritten, lines_in};
+ghost use Rattle.explained_answer.specs.Lines.{named_word, named_lock, which_line, declared_there, task_there, the_instruction, stands_there, instruction_there, unproven_text, sentences_behind, lines_and_sentences, IsLineOf, IsWritten, lines_in};
 
 use crate::holders::{holder_on, last_grants};
 use crate::reading::ReadLine;
@@ -180,7 +180,7 @@ pub(crate) fn explained_lines(
 ) -> Result<Vec<u8>, Memory>
     requires written { All IsWritten lines.now }
     requires are { All (IsLineOf located.now) (lines_in lines.now) }
-    ensures { IfOk result (λ out. out.items ≡ explained_lines text.now located.now (lines_in lines.now)) }
+    ensures { IfOk result (λ out. out.items ≡ lines_and_sentences text.now located.now (lines_in lines.now)) }
 {
     let last = last_grants(alloc, located, lines)?;
     let mut out = Vec::new(alloc);

@@ -24,8 +24,13 @@ fn is_before_text(line: AnswerLine) -> bool
     ensures { result ≡ is_before_text line }
 {
     match line {
-        AnswerLine::Fixed(FixedLine::Usage | FixedLine::TooLarge | FixedLine::Head | FixedLine::Rest) => true,
-        AnswerLine::Count { of: Count::WholeEvents, .. } => true,
+        AnswerLine::Fixed(
+            FixedLine::Usage | FixedLine::TooLarge | FixedLine::Head | FixedLine::Rest,
+        ) => true,
+        AnswerLine::Count {
+            of: Count::WholeEvents,
+            ..
+        } => true,
         _ => false,
     }
 }
