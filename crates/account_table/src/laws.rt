@@ -1,0 +1,34 @@
+//! What the numbers of an account come to, for whoever reasons about them.
+//! These are laws: functions that do nothing, whose contracts say it.
+ghost use Rattle.std.specs.Prelude.{◌≡◌, ℕ, ◌<◌, ◌++◌, true, List, length, slice_get, Some};
+ghost use Rattle.std.specs.List.{All};
+ghost use Rattle.region_table.specs.declared.declared.Region.{Region};
+ghost use Rattle.region_table.specs.Plan.{in_region};
+ghost use Rattle.region_table.specs.Program.{ProgramParts, AreTiled};
+ghost use Rattle.account_table.specs.declared.item.Grouping.{Grouping};
+ghost use Rattle.account_table.specs.declared.item.Item.{Item};
+ghost use Rattle.account_table.specs.declared.measure.Measure.{Measure};
+ghost use Rattle.account_table.specs.Items.{regions_from, groups_in, count_in, count_of, sum_of_groups, IsGrouped, IsRegionOf};
+ghost use Rattle.account_table.specs.Tallies.{Tallies, no_tallies, number_of, capped, with_items};
+
+/// A number of a table is how many of the items that were counted are of the measure and in the group.
+pub fn a_number_is_a_count()
+    ensures { (P : ProgramParts) (cores : ℕ) (by : Grouping) (items : List Item) (m : Measure) (group : ℕ) → group < groups_in P cores by
+        → number_of m group (with_items (no_tallies P cores by) items) ≡ capped (count_in (regions_from 0 P.regions) by m group items) }
+{}
+
+/// Where each item is in some group, the numbers of the groups add up to that of all items.
+pub fn groups_add_up()
+    ensures { (regions : List ℕ) (by : Grouping) (groups : ℕ) (m : Measure) (items : List Item) → All (IsGrouped regions by groups) items
+        → sum_of_groups regions by groups m items ≡ count_of m items }
+{}
+
+/// Items may be counted list by list.
+pub fn items_are_counted_list_by_list()
+    ensures { (t : Tallies) (items more : List Item) → with_items t (items ++ more) ≡ with_items (with_items t items) more }
+{}
+
+/// Each word of a memory that regions tile is in a group by region: that of the region in which it lies.
+pub fn a_word_is_in_its_region()
+    ensures { (regions : List Region) (end w : ℕ) → AreTiled 0 regions end → w < end → IsRegionOf regions w }
+{}

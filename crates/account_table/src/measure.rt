@@ -1,0 +1,69 @@
+ghost use Rattle.std.specs.Prelude.{◌≡◌, ◌<◌};
+ghost use Rattle.account_table.specs.Measure.{measure_index};
+
+/// What an account counts, in the order in which it is printed. A copy is a Valid entry.
+#[derive(Clone, Copy, Debug, PartialEq, Eq)]
+pub enum Measure {
+    /// Loads that retire.
+    Loads,
+    /// Stores that retire.
+    Stores,
+    /// Loads that retire while the core waits for nothing: no message was needed.
+    LoadsLocal,
+    /// Stores that retire at a registered entry: nobody is told.
+    StoresSilent,
+    /// Stores that send RegReq.
+    Registers,
+    /// Instructions that send ReadReq.
+    Misses,
+    /// Misses of a word of which the core had no entry before.
+    MissesFirst,
+    /// Misses of a word whose last entry went at a Go.
+    MissesPhase,
+    /// Misses of a word whose last entry went at a Grant.
+    MissesLock,
+    /// Misses of a word whose last entry was evicted.
+    MissesEvicted,
+    /// Misses of a word whose last entry went by a RegFwd.
+    MissesTaken,
+    /// Copies that go at a Go.
+    DroppedPhase,
+    /// Copies that go at a Grant.
+    DroppedLock,
+    /// Copies that go at a Go and have the word's value: dropped without need.
+    DroppedPhaseCurrent,
+    /// Copies that go at a Grant and have the word's value: dropped without need.
+    DroppedLockCurrent,
+    /// Copies of words that the phase may have written which stay at a Go, because they are marked.
+    KeptTouched,
+    /// Copies of words that the lock guards which stay at a Grant, because the signature doesn't hold them.
+    KeptSignature,
+    /// Other cores' copies of a word at the store that registers it.
+    UntoldCopies,
+    /// Entries that go by a RegFwd.
+    Taken,
+    /// DataReply mails that a bank sent.
+    RepliesHome,
+    /// DataReply mails that a core sent.
+    RepliesCore,
+    /// ReadFwd mails that a core sends back.
+    Bounces,
+    /// Evictions of a copy.
+    EvictedCopies,
+    /// Evictions of a registered word.
+    EvictedRegistered,
+    /// Grants of a lock that was free.
+    GrantsAtOnce,
+    /// Grants of a lock that was handed on.
+    GrantsQueued,
+}
+
+impl Measure {
+    /// The index of the measure among the twenty-six.
+    pub fn index(self) -> usize
+        ensures value { result ≡ measure_index self }
+        ensures within { result < 26 }
+    {
+        self as usize
+    }
+}

@@ -1,0 +1,28 @@
+-- The account of a run: what is counted of its events, and the numbers that this comes to.
+use Rattle.std.specs.Prelude.{ℕ, List, [], ◌∷◌, ◌++◌}
+use Rattle.message_net.specs.declared.event.Event.{Event}
+use Rattle.machine_rules.specs.State.{State}
+use Rattle.machine_rules.specs.Next.{next}
+use Rattle.account_table.specs.declared.item.Item.{Item}
+use Rattle.account_table.specs.declared.item.Grouping.{Grouping}
+use Rattle.account_table.specs.declared.measure.Measure.{Measure}
+use Rattle.account_table.specs.Items.{regions_from, count_in, count_of}
+use Rattle.run_account.specs.Departures.{Departures, no_departures, departures_after}
+use Rattle.run_account.specs.Handings.{Handings, no_handings, handings_after}
+use Rattle.run_account.specs.Events.{items_in}
+
+-- what is counted of the events that come from a state on, event by event
+abbrev pub items_from : State → Departures → Handings → List Event → List Item
+items_from S D H [] = []
+items_from S D H (e ∷ es) = items_in S D H e ++ items_from (next S e) (departures_after S e D) (handings_after S e H) es
+
+-- what is counted of a run's events
+abbrev pub items_of_run : State → List Event → List Item
+items_of_run S events = items_from S no_departures no_handings events
+
+-- the number of a measure in a group of a run, and in the whole run
+abbrev pub number_in_run : Grouping → Measure → ℕ → State → List Event → ℕ
+number_in_run by m group S events = count_in (regions_from 0 S.setting.program.regions) by m group (items_of_run S events)
+
+abbrev pub number_of_run : Measure → State → List Event → ℕ
+number_of_run m S events = count_of m (items_of_run S events)

@@ -1,0 +1,69 @@
+-- Why a core has no entry of a word any more: what last happened to its entry.
+use Rattle.std.specs.Prelude.{ℕ, Bool, ◌&&◌, ◌==◌, not, slice_get, Option, Some, None, if◌then◌else◌}
+use Rattle.std.specs.Option.{is_some, option_or}
+use Rattle.message_net.specs.declared.actor.Actor.{Actor}
+use Rattle.message_net.specs.declared.actor.Actor.TheVariants.{Core}
+use Rattle.message_net.specs.declared.event.Event.{Event}
+use Rattle.message_net.specs.declared.event.Event.TheVariants.{Evict, Handle}
+use Rattle.message_net.specs.declared.message.Mail.{Mail}
+use Rattle.message_net.specs.declared.message.Message.{Message}
+use Rattle.message_net.specs.declared.message.Message.TheVariants.{RegFwd, WbAck, Grant, Go}
+use Rattle.message_net.specs.Pool.{removed}
+use Rattle.registration_protocol.specs.Node.{NodeParts, Setting, entry_of}
+use Rattle.registration_protocol.specs.OwnEvents.{evicted}
+use Rattle.registration_protocol.specs.Messages.{node_gets}
+use Rattle.machine_rules.specs.State.{State}
+use Rattle.run_account.specs.declared.departure.Departure.{Departure}
+use Rattle.run_account.specs.declared.departure.Departure.TheVariants as why
+
+-- whether a node's entry of a word goes as the node becomes another
+abbrev pub goes : NodeParts → NodeParts → ℕ → Bool
+goes before after w = is_some (entry_of before w) && not (is_some (entry_of after w))
+
+-- why an entry goes at a message
+abbrev pub reason : Message → Option Departure
+reason (Go phase) = Some why.Phase
+reason (Grant lock signature) = Some why.Lock
+reason (WbAck word) = Some why.Evicted
+reason (RegFwd word core) = Some why.Taken
+reason _ = None
+
+-- why a node's entry of a word goes at an eviction, and at a message, if it goes
+abbrev pub gone_by_eviction : Setting → NodeParts → ℕ → NodeParts → Option Departure
+gone_by_eviction C n w after = if goes n after w then Some why.Evicted else None
+
+abbrev pub gone_by_message : NodeParts → ℕ → Message → NodeParts → Option Departure
+gone_by_message n w message after = if goes n after w then reason message else None
+
+-- why the entry that a core has of a word goes at an event, if it goes
+abbrev pub gone_at_eviction : State → Option NodeParts → Event → ℕ → Option Departure
+gone_at_eviction S (Some n) (Evict core word) w = gone_by_eviction S.setting n w (evicted S.setting n word).0
+gone_at_eviction S _ _ w = None
+
+abbrev pub gone_at_message : State → Option NodeParts → Message → ℕ → Option Departure
+gone_at_message S None message w = None
+gone_at_message S (Some n) message w = gone_by_message n w message (node_gets S.setting n message).0
+
+abbrev pub gone_at_mail : State → ℕ → ℕ → Actor → Message → Option Departure
+gone_at_mail S c w (Core core) message = if core.0 == c then gone_at_message S (slice_get S.nodes c) message w else None
+gone_at_mail S c w _ message = None
+
+abbrev pub gone_with : State → ℕ → ℕ → Option Mail → Option Departure
+gone_with S c w None = None
+gone_with S c w (Some m) = gone_at_mail S c w m.to m.message
+
+unfoldable pub gone_in : State → Event → ℕ → ℕ → Option Departure
+gone_in S (Evict core word) c w = if core.0 == c then gone_at_eviction S (slice_get S.nodes c) (Evict core word) w else None
+gone_in S (Handle id) c w = gone_with S c w (removed id S.mails).0
+gone_in S _ c w = None
+
+-- what last happened to each core's entry of each word; None where the core had none that went
+abbrev pub Departures : Type 0
+Departures = ℕ → ℕ → Option Departure
+
+abbrev pub no_departures : Departures
+no_departures c w = None
+
+-- the same after an event
+abbrev pub departures_after : State → Event → Departures → Departures
+departures_after S e D c w = option_or (gone_in S e c w) (D c w)

@@ -1,0 +1,59 @@
+-- How each lock came to the core that it was last granted to.
+use Rattle.std.specs.Prelude.{ℕ, Bool, false, ◌==◌, slice_get, Option, Some, None, if◌then◌else◌}
+use Rattle.std.specs.Option.{unwrap_or}
+use Rattle.message_net.specs.declared.actor.Actor.{Actor}
+use Rattle.message_net.specs.declared.actor.Actor.TheVariants.{Bank}
+use Rattle.message_net.specs.declared.event.Event.{Event}
+use Rattle.message_net.specs.declared.event.Event.TheVariants.{Handle}
+use Rattle.message_net.specs.declared.message.Mail.{Mail}
+use Rattle.message_net.specs.declared.message.Message.{Message}
+use Rattle.message_net.specs.declared.message.Message.TheVariants.{Acquire, Release, Grant}
+use Rattle.message_net.specs.declared.message.Outgoing.{Outgoing}
+use Rattle.message_net.specs.Pool.{removed}
+use Rattle.registry_bank.specs.Bank.{BankParts, bank_gets}
+use Rattle.machine_rules.specs.State.{State}
+use Rattle.run_account.specs.declared.departure.Handing.{Handing}
+use Rattle.run_account.specs.declared.departure.Handing.TheVariants.{AtOnce, Queued}
+
+-- whether a message grants the lock
+abbrev pub grants_in : ℕ → Message → Bool
+grants_in l (Grant lock signature) = lock.0 == l
+grants_in l _ = false
+
+abbrev pub grants_lock : ℕ → Option Outgoing → Bool
+grants_lock l None = false
+grants_lock l (Some out) = grants_in l out.message
+
+-- a bank grants a lock at once when it handles an Acquire, and hands it on when it handles a Release
+abbrev pub way : Message → Option Handing
+way (Acquire lock core) = Some AtOnce
+way (Release lock core signature) = Some Queued
+way _ = None
+
+-- how a lock is granted at an event, if it is granted there
+abbrev pub granted_at_bank : ℕ → Message → Option BankParts → Option Handing
+granted_at_bank l message None = None
+granted_at_bank l message (Some b) = if grants_lock l (bank_gets b message).1 then way message else None
+
+abbrev pub granted_at : State → ℕ → Actor → Message → Option Handing
+granted_at S l (Bank bank) message = granted_at_bank l message (slice_get S.banks bank.0)
+granted_at S l _ message = None
+
+abbrev pub granted_with : State → ℕ → Option Mail → Option Handing
+granted_with S l None = None
+granted_with S l (Some m) = granted_at S l m.to m.message
+
+unfoldable pub handed_in : State → Event → ℕ → Option Handing
+handed_in S (Handle id) l = granted_with S l (removed id S.mails).0
+handed_in S _ l = None
+
+-- how each lock was last granted; one that wasn't granted yet counts as free
+abbrev pub Handings : Type 0
+Handings = ℕ → Handing
+
+abbrev pub no_handings : Handings
+no_handings l = AtOnce
+
+-- the same after an event
+abbrev pub handings_after : State → Event → Handings → Handings
+handings_after S e H l = unwrap_or (handed_in S e l) (H l)

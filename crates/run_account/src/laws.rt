@@ -1,0 +1,41 @@
+//! Which numbers of an account add up, for whoever reads them.
+//! These are laws: functions that do nothing, whose contracts say it.
+ghost use Rattle.std.specs.Prelude.{◌≡◌, ℕ, ◌+◌, ◌≤◌, List};
+ghost use Rattle.message_net.specs.declared.event.Event.{Event};
+ghost use Rattle.message_net.specs.declared.event.EventKind.TheVariants.{DataReply, Grant, Evict};
+ghost use Rattle.machine_rules.specs.State.{State};
+ghost use Rattle.machine_rules.specs.Runs.{IsRun};
+ghost use Rattle.account_table.specs.declared.item.Grouping.{Grouping};
+ghost use Rattle.account_table.specs.declared.measure.Measure.TheVariants.{Loads, LoadsLocal, Misses, MissesFirst, MissesPhase, MissesLock, MissesEvicted, MissesTaken, RepliesHome, RepliesCore, GrantsAtOnce, GrantsQueued, EvictedCopies, EvictedRegistered};
+ghost use Rattle.run_account.specs.Account.{number_in_run, number_of_run};
+ghost use Rattle.run_account.specs.Kinds.{events_of_kind, StaysCoherent};
+
+/// In each group every miss has one of the five reasons.
+pub fn each_miss_has_one_reason()
+    ensures { (S : State) (events : List Event) (by : Grouping) (group : ℕ)
+        → number_in_run by Misses group S events ≡ number_in_run by MissesFirst group S events + number_in_run by MissesPhase group S events
+        + number_in_run by MissesLock group S events + number_in_run by MissesEvicted group S events + number_in_run by MissesTaken group S events }
+{}
+
+/// In each group the local loads are some of the loads.
+pub fn local_loads_are_loads()
+    ensures { (S : State) (events : List Event) (by : Grouping) (group : ℕ) → number_in_run by LoadsLocal group S events ≤ number_in_run by Loads group S events }
+{}
+
+/// Each DataReply that is handled is a reply of a bank or of a core, where every run leads to a coherent state.
+pub fn replies_add_up()
+    ensures { (S : State) (events : List Event) → StaysCoherent S → IsRun S events
+        → events_of_kind DataReply S events ≡ number_of_run RepliesHome S events + number_of_run RepliesCore S events }
+{}
+
+/// Each Grant that is handled is of a lock that was free or of one that was handed on, where every run leads to a coherent state.
+pub fn grants_add_up()
+    ensures { (S : State) (events : List Event) → StaysCoherent S → IsRun S events
+        → events_of_kind Grant S events ≡ number_of_run GrantsAtOnce S events + number_of_run GrantsQueued S events }
+{}
+
+/// Each eviction is of a copy or of a registered word, where every run leads to a coherent state.
+pub fn evictions_add_up()
+    ensures { (S : State) (events : List Event) → StaysCoherent S → IsRun S events
+        → events_of_kind Evict S events ≡ number_of_run EvictedCopies S events + number_of_run EvictedRegistered S events }
+{}
