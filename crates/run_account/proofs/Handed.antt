@@ -1,12 +1,7 @@
 -- Each grant is counted once.
-use Rattle.std.proofs.Common.{◌≡◌, ℕ, zero, suc, ◌+◌, ◌≤◌, ◌<◌, Bool, true, false, cond, nat_le, nat_lt, List, [], ◌∷◌, ◌++◌, slice_get, Option, Some, None, refl, sym, ap, subst, ◌∙◌, arith}
-use Rattle.std.specs.Prelude.{◌&&◌, ◌==◌, count_by, flat_map}
-use Rattle.std.proofs.lemmas.Bool.Decides.{nat_tests}
+use Rattle.std.proofs.Common.{◌≡◌, ℕ, ◌+◌, Bool, true, false, cond, [], ◌∷◌, slice_get, Option, Some, None, refl, sym, ◌∙◌, arith}
 use Rattle.std.proofs.lemmas.List.Sums.{sum_by-cons}
 use Rattle.std.proofs.lemmas.Option.{none-some}
-use Rattle.dn_base.specs.declared.ids.LoadSeen.{LoadSeen}
-use Rattle.dn_base.specs.declared.ids.Grant.{Grant as Granted}
-use Rattle.dn_base.specs.declared.ids.WordId.{WordId}
 use Rattle.message_net.specs.declared.actor.Actor.{Actor}
 use Rattle.message_net.specs.declared.actor.Actor.TheVariants.{Core, Bank, Keeper}
 use Rattle.message_net.specs.declared.event.Event.{Event}
@@ -16,36 +11,29 @@ use Rattle.message_net.specs.declared.event.EventKind.{EventKind}
 use Rattle.message_net.specs.declared.message.Mail.{Mail}
 use Rattle.message_net.specs.declared.message.Message as message
 use Rattle.message_net.specs.declared.message.Message.{Message}
-use Rattle.message_net.specs.declared.message.Outgoing.{Outgoing}
 use Rattle.message_net.specs.Kind.{kind_of}
 use Rattle.message_net.specs.Pool.{removed}
-use Rattle.word_cache.specs.Cache.{Pair}
 use Rattle.word_cache.specs.declared.row.Entry as entry
 use Rattle.word_cache.specs.declared.row.Entry.{Entry}
 use Rattle.registration_protocol.specs.declared.node.NodeWait as wait
-use Rattle.registration_protocol.specs.Node.{NodeParts, entry_of, waits_for_nothing}
-use Rattle.registration_protocol.specs.OwnEvents.{instructed, written_now}
-use Rattle.registration_protocol.specs.Messages.{node_gets, written_in, guarded_by}
+use Rattle.registration_protocol.specs.Node.{NodeParts, entry_of}
+use Rattle.registration_protocol.specs.Messages.{node_gets}
 use Rattle.machine_rules.specs.State.{State}
 use Rattle.machine_rules.specs.Next.{enabled, kind_in, kind_with}
 use Rattle.machine_rules.specs.Coherent.{Coherent, IsExpected, waits_for}
 use Rattle.account_table.specs.declared.measure.Measure as measure
 use Rattle.account_table.specs.declared.measure.Measure.{Measure}
 use Rattle.account_table.specs.declared.item.Item.{Item}
-use Rattle.account_table.specs.Measure.{measure_index, same_measure}
+use Rattle.account_table.specs.Measure.{same_measure}
 use Rattle.account_table.specs.Items.{count_of}
-use Rattle.run_account.specs.declared.departure.Departure.{Departure}
-use Rattle.run_account.specs.declared.departure.Departure.TheVariants as why
 use Rattle.run_account.specs.declared.departure.Handing.{Handing}
 use Rattle.run_account.specs.declared.departure.Handing.TheVariants.{AtOnce, Queued}
 use Rattle.run_account.specs.Departures.{Departures, goes}
-use Rattle.run_account.specs.Handings.{Handings}
-use Rattle.run_account.specs.Events.{item_of, item_at, one_if, load_items, store_items, miss_of, has_untold_copy, asking_items, sent_items, instr_items, evict_items, pair_items, phase_items, lock_items, grant_measure, reply_measure, is_bounced, message_items, at_node, mail_items, handle_items, items_in}
+use Rattle.run_account.specs.Handings.{Handings, handing_of}
+use Rattle.run_account.specs.Events.{item_of, item_at, one_if, instr_items, evict_items, phase_items, lock_items, grant_measure, reply_measure, is_bounced, message_items, at_node, mail_items, handle_items, items_in}
 use Rattle.run_account.specs.Kinds.{is_kind}
-use Rattle.run_account.proofs.Without.{Lacks, lacks-append, lacks-replicate, lacks-flat_map}
-use Rattle.run_account.proofs.Reasons.{lacks-if, pairs-lack, stores-lack}
 use Rattle.run_account.proofs.Told.{IsToldBy, was-there}
-use Rattle.run_account.proofs.Later.{is_later, instr-lacks, go-lacks, locks-lack, none-of}
+use Rattle.run_account.proofs.Later.{instr-lacks, go-lacks, locks-lack, none-of}
 
 -- a grant is counted once, and no other message is one
 handed : (S : State) (H : Handings) (sender : Actor) (n : NodeParts) (m : Message)
@@ -65,13 +53,13 @@ handed S H sender n (message.TheVariants.RegFwd word core) = by_test (goes n (no
   by_test false = refl
 handed S H sender n (message.TheVariants.Grant lock signature) =
     let after = node_gets S.setting n (message.TheVariants.Grant lock signature) in
-    let items = lock_items S n after.0 after.1.granted in
+    let items = lock_items S n signature after.1.granted in
     omega (
       arith,
-      none-of measure.TheVariants.GrantsAtOnce measure.TheVariants.GrantsQueued refl refl items (locks-lack S n after.0 after.1.granted),
-      by_handing (H lock.0),
-      sum_by-cons (λ (x : Item). cond (same_measure measure.TheVariants.GrantsAtOnce x.measure) 1 0) (item_of (grant_measure (H lock.0)) n None) items,
-      sum_by-cons (λ (x : Item). cond (same_measure measure.TheVariants.GrantsQueued x.measure) 1 0) (item_of (grant_measure (H lock.0)) n None) items,
+      none-of measure.TheVariants.GrantsAtOnce measure.TheVariants.GrantsQueued refl refl items (locks-lack S n signature after.1.granted),
+      by_handing (handing_of H lock.0),
+      sum_by-cons (λ (x : Item). cond (same_measure measure.TheVariants.GrantsAtOnce x.measure) 1 0) (item_of (grant_measure (handing_of H lock.0)) n None) items,
+      sum_by-cons (λ (x : Item). cond (same_measure measure.TheVariants.GrantsQueued x.measure) 1 0) (item_of (grant_measure (handing_of H lock.0)) n None) items,
     )
   where
     by_handing : (how : Handing) → cond {A = ℕ} (same_measure measure.TheVariants.GrantsAtOnce (grant_measure how)) 1 0 + cond {A = ℕ} (same_measure measure.TheVariants.GrantsQueued (grant_measure how)) 1 0 ≡ 1

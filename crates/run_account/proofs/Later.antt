@@ -1,12 +1,11 @@
 -- Each reply, each grant and each eviction is counted once.
-use Rattle.std.proofs.Common.{◌≡◌, ℕ, zero, suc, ◌+◌, ◌≤◌, ◌<◌, Bool, true, false, cond, nat_le, nat_lt, List, [], ◌∷◌, ◌++◌, slice_get, Option, Some, None, refl, sym, ap, subst, ◌∙◌, arith}
-use Rattle.std.specs.Prelude.{◌&&◌, ◌==◌, count_by, flat_map}
+use Rattle.std.proofs.Common.{◌≡◌, ℕ, ◌+◌, ◌≤◌, Bool, true, false, cond, nat_le, nat_lt, List, [], ◌∷◌, ◌++◌, slice_get, Option, Some, None, refl, sym, ◌∙◌, arith}
+use Rattle.std.specs.Prelude.{◌==◌, count_by}
 use Rattle.std.proofs.lemmas.Bool.Decides.{nat_tests}
 use Rattle.std.proofs.lemmas.List.Sums.{sum_by-cons}
 use Rattle.std.proofs.lemmas.Option.{none-some}
 use Rattle.dn_base.specs.declared.ids.LoadSeen.{LoadSeen}
 use Rattle.dn_base.specs.declared.ids.Grant.{Grant as Granted}
-use Rattle.dn_base.specs.declared.ids.WordId.{WordId}
 use Rattle.message_net.specs.declared.actor.Actor.{Actor}
 use Rattle.message_net.specs.declared.actor.Actor.TheVariants.{Core, Bank, Keeper}
 use Rattle.message_net.specs.declared.event.Event.{Event}
@@ -19,13 +18,13 @@ use Rattle.message_net.specs.declared.message.Message.{Message}
 use Rattle.message_net.specs.declared.message.Outgoing.{Outgoing}
 use Rattle.message_net.specs.Kind.{kind_of}
 use Rattle.message_net.specs.Pool.{removed}
-use Rattle.word_cache.specs.Cache.{Pair}
+use Rattle.write_signature.specs.declared.signature.Signature.{Signature}
 use Rattle.word_cache.specs.declared.row.Entry as entry
 use Rattle.word_cache.specs.declared.row.Entry.{Entry}
 use Rattle.registration_protocol.specs.declared.node.NodeWait as wait
 use Rattle.registration_protocol.specs.Node.{NodeParts, entry_of, waits_for_nothing}
 use Rattle.registration_protocol.specs.OwnEvents.{instructed, written_now}
-use Rattle.registration_protocol.specs.Messages.{node_gets, written_in, guarded_by}
+use Rattle.registration_protocol.specs.Messages.{node_gets}
 use Rattle.machine_rules.specs.State.{State}
 use Rattle.machine_rules.specs.Next.{enabled, kind_in, kind_with}
 use Rattle.machine_rules.specs.Coherent.{Coherent, IsExpected, waits_for}
@@ -38,12 +37,12 @@ use Rattle.run_account.specs.declared.departure.Departure.{Departure}
 use Rattle.run_account.specs.declared.departure.Departure.TheVariants as why
 use Rattle.run_account.specs.declared.departure.Handing.{Handing}
 use Rattle.run_account.specs.declared.departure.Handing.TheVariants.{AtOnce, Queued}
-use Rattle.run_account.specs.Departures.{Departures, goes}
-use Rattle.run_account.specs.Handings.{Handings}
-use Rattle.run_account.specs.Events.{item_of, item_at, one_if, load_items, store_items, miss_of, has_untold_copy, asking_items, sent_items, instr_items, evict_items, pair_items, phase_items, lock_items, grant_measure, reply_measure, is_bounced, message_items, at_node, mail_items, handle_items, items_in}
+use Rattle.run_account.specs.Departures.{Departures, departure_at, goes}
+use Rattle.run_account.specs.Handings.{Handings, handing_of}
+use Rattle.run_account.specs.Events.{item_of, item_at, one_if, load_items, store_items, miss_of, has_untold_copy, asking_items, sent_items, instr_items, evict_items, phase_items, lock_items, grant_measure, reply_measure, is_bounced, message_items, at_node, mail_items, handle_items, items_in}
 use Rattle.run_account.specs.Kinds.{is_kind}
-use Rattle.run_account.proofs.Without.{Lacks, lacks-append, lacks-replicate, lacks-flat_map}
-use Rattle.run_account.proofs.Reasons.{lacks-if, pairs-lack, stores-lack}
+use Rattle.run_account.proofs.Without.{Lacks, lacks-append, lacks-replicate}
+use Rattle.run_account.proofs.Reasons.{lacks-if, phase-lacks-all, lock-lacks-all, stores-lack}
 use Rattle.run_account.proofs.Told.{IsToldBy, was-there}
 
 -- the measures of messages and evictions stand behind those of instructions and copies
@@ -69,7 +68,7 @@ instr-lacks S D n =
     by_reason (Some why.Taken) = refl
 
     by_message : (m : Message) → Lacks is_later (asking_items S D n m)
-    by_message (message.TheVariants.ReadReq word reader) = (refl, (by_reason (D n.core word.0), tt))
+    by_message (message.TheVariants.ReadReq word reader) = (refl, (by_reason (departure_at D n.core word.0), tt))
     by_message (message.TheVariants.RegReq word core) =
         (refl, lacks-replicate is_later (count_by (has_untold_copy n word.0) S.nodes) (item_at measure.TheVariants.UntoldCopies n word) refl)
     by_message (message.TheVariants.ReadFwd word reader) = tt
@@ -90,22 +89,10 @@ instr-lacks S D n =
     by_sent (Some out) = by_message out.message
 
 pub go-lacks : (S : State) (n after : NodeParts) → Lacks is_later (phase_items S n after)
-go-lacks S n after = by_test (after.phase == n.phase) where
-  of_pair : Pair → List Item
-  of_pair = pair_items S n measure.TheVariants.DroppedPhase measure.TheVariants.DroppedPhaseCurrent measure.TheVariants.KeptTouched (written_in (slice_get S.setting.plans n.phase)) after
+go-lacks = phase-lacks-all is_later refl refl refl
 
-  by_test : (t : Bool) → Lacks is_later (cond t [] (flat_map of_pair n.cache.pairs))
-  by_test true = tt
-  by_test false = lacks-flat_map is_later of_pair n.cache.pairs (λ p. pairs-lack is_later S n measure.TheVariants.DroppedPhase measure.TheVariants.DroppedPhaseCurrent measure.TheVariants.KeptTouched
-      (written_in (slice_get S.setting.plans n.phase)) after p refl refl refl)
-
-pub locks-lack : (S : State) (n after : NodeParts) (granted : Option Granted) → Lacks is_later (lock_items S n after granted)
-locks-lack S n after None = tt
-locks-lack S n after (Some granted) =
-    lacks-flat_map is_later (pair_items S n measure.TheVariants.DroppedLock measure.TheVariants.DroppedLockCurrent measure.TheVariants.KeptSignature
-    (guarded_by (slice_get S.setting.plans n.phase) granted.lock.0) after) n.cache.pairs
-    (λ p. pairs-lack is_later S n measure.TheVariants.DroppedLock measure.TheVariants.DroppedLockCurrent measure.TheVariants.KeptSignature
-    (guarded_by (slice_get S.setting.plans n.phase) granted.lock.0) after p refl refl refl)
+pub locks-lack : (S : State) (n : NodeParts) (signature : Signature) (granted : Option Granted) → Lacks is_later (lock_items S n signature granted)
+locks-lack = lock-lacks-all is_later (λ s. refl) (λ s. refl) (λ s. refl)
 
 -- a list without later measures has none of a later measure
 pub count-none : (m : Measure) → is_later m ≡ true → (items : List Item) → Lacks is_later items → count_of m items ≡ 0
@@ -148,9 +135,9 @@ replied S H sender n (message.TheVariants.Grant lock signature) =
     let after = node_gets S.setting n (message.TheVariants.Grant lock signature) in
     omega (
       arith,
-      none-of measure.TheVariants.RepliesHome measure.TheVariants.RepliesCore refl refl (lock_items S n after.0 after.1.granted) (locks-lack S n after.0 after.1.granted),
-      by_handing (H lock.0) measure.TheVariants.RepliesHome refl (lock_items S n after.0 after.1.granted),
-      by_handing (H lock.0) measure.TheVariants.RepliesCore refl (lock_items S n after.0 after.1.granted),
+      none-of measure.TheVariants.RepliesHome measure.TheVariants.RepliesCore refl refl (lock_items S n signature after.1.granted) (locks-lack S n signature after.1.granted),
+      by_handing (handing_of H lock.0) measure.TheVariants.RepliesHome refl (lock_items S n signature after.1.granted),
+      by_handing (handing_of H lock.0) measure.TheVariants.RepliesCore refl (lock_items S n signature after.1.granted),
     )
   where
     by_handing : (how : Handing) (m : Measure) → (nat_lt (measure_index m) 24) ≡ true → (items : List Item) → count_of m (item_of (grant_measure how) n None ∷ items) ≡ count_of m items

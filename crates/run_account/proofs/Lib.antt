@@ -4,3 +4,14 @@ pub mod Told
 pub mod Later
 pub mod Handed
 pub mod Evicted
+pub mod Tallied
+pub mod Walks
+pub mod Gone
+pub mod Accessed
+pub mod Moved
+pub mod Passed
+pub mod Swept
+pub mod Whole
+pub mod Occasions
+pub mod Counted
+pub mod After

@@ -1,6 +1,6 @@
 -- Each miss has one of its five reasons, and each local load is a load.
-use Rattle.std.proofs.Common.{◌≡◌, ℕ, zero, suc, ◌+◌, ◌≤◌, Bool, true, false, cond, nat_le, nat_lt, List, [], ◌∷◌, ◌++◌, replicate, slice_get, Option, Some, None, refl, sym, ap, ◌∙◌, arith}
-use Rattle.std.specs.Prelude.{◌&&◌, ◌||◌, ◌==◌, flat_map, count_by}
+use Rattle.std.proofs.Common.{◌≡◌, ℕ, ◌+◌, ◌≤◌, Bool, true, false, cond, nat_le, nat_lt, List, [], ◌∷◌, ◌++◌, slice_get, Option, Some, None, refl, sym, ap, ◌∙◌, arith}
+use Rattle.std.specs.Prelude.{◌&&◌, ◌||◌, ◌==◌, count_by}
 use Rattle.std.proofs.lemmas.Bool.Decides.{nat_tests}
 use Rattle.dn_base.specs.declared.ids.LoadSeen.{LoadSeen}
 use Rattle.dn_base.specs.declared.ids.Grant.{Grant as Granted}
@@ -18,6 +18,7 @@ use Rattle.message_net.specs.declared.message.Outgoing.{Outgoing}
 use Rattle.message_net.specs.Pool.{removed}
 use Rattle.word_cache.specs.declared.row.Entry.{Entry}
 use Rattle.word_cache.specs.declared.row.Entry.TheVariants.{Valid, Registered, Leaving}
+use Rattle.write_signature.specs.declared.signature.Signature.{Signature}
 use Rattle.word_cache.specs.Cache.{Pair, is_valid}
 use Rattle.registration_protocol.specs.Node.{NodeParts, entry_of, waits_for_nothing}
 use Rattle.registration_protocol.specs.OwnEvents.{instructed, written_now}
@@ -31,16 +32,18 @@ use Rattle.account_table.specs.declared.item.Item.{Item}
 use Rattle.account_table.specs.declared.item.Grouping as grouping
 use Rattle.account_table.specs.declared.item.Grouping.{Grouping}
 use Rattle.account_table.specs.Measure.{measure_index, same_measure}
-use Rattle.account_table.specs.Items.{regions_from, group_of, is_group, counts_for, count_in}
+use Rattle.account_table.specs.Items.{regions_from, group_of, is_group, count_in}
 use Rattle.run_account.specs.declared.departure.Departure.{Departure}
 use Rattle.run_account.specs.declared.departure.Departure.TheVariants as why
 use Rattle.run_account.specs.declared.departure.Handing.{Handing}
 use Rattle.run_account.specs.declared.departure.Handing.TheVariants.{AtOnce, Queued}
-use Rattle.run_account.specs.Departures.{Departures, no_departures, departures_after, goes}
-use Rattle.run_account.specs.Handings.{Handings, no_handings, handings_after}
-use Rattle.run_account.specs.Events.{item_of, item_at, one_if, load_items, store_items, is_registered, miss_of, has_untold_copy, asking_items, sent_items, instr_items, evict_items, copy_items, pair_items, phase_items, lock_items, grant_measure, reply_measure, is_bounced, message_items, at_node, mail_items, handle_items, items_in}
-use Rattle.run_account.specs.Account.{items_from, items_of_run, number_in_run}
-use Rattle.run_account.proofs.Without.{Lacks, lacks-append, lacks-replicate, lacks-flat_map, count-cons, count-append, count-lacking}
+use Rattle.run_account.specs.declared.departure.Occasion.{Occasion}
+use Rattle.run_account.specs.declared.departure.Occasion.TheVariants.{Go, Grant}
+use Rattle.run_account.specs.Departures.{Departures, departure_at, no_departures, departures_after, goes}
+use Rattle.run_account.specs.Handings.{Handings, handing_of, no_handings, handings_after}
+use Rattle.run_account.specs.Events.{item_at, one_if, load_items, store_items, is_registered, miss_of, has_untold_copy, asking_items, sent_items, instr_items, evict_items, remains, dropped_at, current_at, kept_at, copy_items, pair_items, copies_items, phase_items, lock_items, grant_measure, reply_measure, is_bounced, message_items, at_node, mail_items, handle_items, items_in}
+use Rattle.run_account.specs.Account.{items_from, number_in_run}
+use Rattle.run_account.proofs.Without.{Lacks, lacks-replicate, lacks-flat_map, count-cons, count-append, count-lacking}
 
 -- the measures of misses, and those of loads
 abbrev of_misses : Measure → Bool
@@ -58,38 +61,46 @@ pub lacks-if : (named : Measure → Bool) (test : Bool) (item : Item) → named 
 lacks-if named true item isnt = (isnt, tt)
 lacks-if named false item isnt = tt
 
-copies-lack : (named : Measure → Bool) (S : State) (n : NodeParts) (dropped current kept : Measure) (words : List Interval) (after : NodeParts) (p : Pair)
-    → named dropped ≡ false → named current ≡ false → named kept ≡ false → Lacks named (copy_items S n dropped current kept words after p)
-copies-lack named S n dropped current kept words after p d c k = by_test (goes n after p.0.0) where
+copies-lack : (named : Measure → Bool) (S : State) (n : NodeParts) (o : Occasion) (words : List Interval) (p : Pair)
+    → named (dropped_at o) ≡ false → named (current_at o) ≡ false → named (kept_at o) ≡ false → Lacks named (copy_items S n o words p)
+copies-lack named S n o words p d c k = by_test (remains n o words p) where
   by_test : (t : Bool)
-      → Lacks named (cond t (item_at dropped n p.0 ∷ one_if (value_in_entry (Some p.1) == word_value S p.0.0) (item_at current n p.0)) (one_if (has words p.0.0) (item_at kept n p.0)))
-  by_test true = (d, lacks-if named (value_in_entry (Some p.1) == word_value S p.0.0) (item_at current n p.0) c)
-  by_test false = lacks-if named (has words p.0.0) (item_at kept n p.0) k
+      → Lacks named (cond t (one_if (has words p.0.0) (item_at (kept_at o) n p.0)) (item_at (dropped_at o) n p.0 ∷ one_if (value_in_entry (Some p.1) == word_value S p.0.0) (item_at (current_at o) n p.0)))
+  by_test true = lacks-if named (has words p.0.0) (item_at (kept_at o) n p.0) k
+  by_test false = (d, lacks-if named (value_in_entry (Some p.1) == word_value S p.0.0) (item_at (current_at o) n p.0) c)
 
-pub pairs-lack : (named : Measure → Bool) (S : State) (n : NodeParts) (dropped current kept : Measure) (words : List Interval) (after : NodeParts) (p : Pair)
-    → named dropped ≡ false → named current ≡ false → named kept ≡ false → Lacks named (pair_items S n dropped current kept words after p)
-pairs-lack named S n dropped current kept words after p d c k = by_test (is_valid p.1) where
-  by_test : (t : Bool) → Lacks named (cond t (copy_items S n dropped current kept words after p) [])
-  by_test true = copies-lack named S n dropped current kept words after p d c k
+pairs-lack : (named : Measure → Bool) (S : State) (n : NodeParts) (o : Occasion) (words : List Interval) (p : Pair)
+    → named (dropped_at o) ≡ false → named (current_at o) ≡ false → named (kept_at o) ≡ false → Lacks named (pair_items S n o words p)
+pairs-lack named S n o words p d c k = by_test (is_valid p.1) where
+  by_test : (t : Bool) → Lacks named (cond t (copy_items S n o words p) [])
+  by_test true = copies-lack named S n o words p d c k
   by_test false = tt
 
-phase-lacks : (S : State) (n after : NodeParts) → Lacks of_both (phase_items S n after)
-phase-lacks S n after = by_test (after.phase == n.phase) where
-  of_pair : Pair → List Item
-  of_pair = pair_items S n measure.TheVariants.DroppedPhase measure.TheVariants.DroppedPhaseCurrent measure.TheVariants.KeptTouched (written_in (slice_get S.setting.plans n.phase)) after
+-- no copy counts for a measure that isn't of copies
+pub phase-lacks-all : (named : Measure → Bool) → named (dropped_at Go) ≡ false → named (current_at Go) ≡ false → named (kept_at Go) ≡ false
+    → (S : State) (n after : NodeParts) → Lacks named (phase_items S n after)
+phase-lacks-all named d c k S n after = by_test (after.phase == n.phase) where
+  words : List Interval
+  words = written_in (slice_get S.setting.plans n.phase)
 
-  by_test : (t : Bool) → Lacks of_both (cond t [] (flat_map of_pair n.cache.pairs))
+  by_test : (t : Bool) → Lacks named (cond t [] (copies_items S n Go words))
   by_test true = tt
-  by_test false = lacks-flat_map of_both of_pair n.cache.pairs (λ p. pairs-lack of_both S n measure.TheVariants.DroppedPhase measure.TheVariants.DroppedPhaseCurrent measure.TheVariants.KeptTouched
-      (written_in (slice_get S.setting.plans n.phase)) after p refl refl refl)
+  by_test false = lacks-flat_map named (pair_items S n Go words) n.cache.pairs (λ p. pairs-lack named S n Go words p d c k)
 
-lock-lacks : (S : State) (n after : NodeParts) (granted : Option Granted) → Lacks of_both (lock_items S n after granted)
-lock-lacks S n after None = tt
-lock-lacks S n after (Some granted) =
-    lacks-flat_map of_both (pair_items S n measure.TheVariants.DroppedLock measure.TheVariants.DroppedLockCurrent measure.TheVariants.KeptSignature
-    (guarded_by (slice_get S.setting.plans n.phase) granted.lock.0) after) n.cache.pairs
-    (λ p. pairs-lack of_both S n measure.TheVariants.DroppedLock measure.TheVariants.DroppedLockCurrent measure.TheVariants.KeptSignature
-    (guarded_by (slice_get S.setting.plans n.phase) granted.lock.0) after p refl refl refl)
+pub lock-lacks-all : (named : Measure → Bool) → ((s : Signature) → named (dropped_at (Grant s)) ≡ false) → ((s : Signature) → named (current_at (Grant s)) ≡ false)
+    → ((s : Signature) → named (kept_at (Grant s)) ≡ false) → (S : State) (n : NodeParts) (signature : Signature) (granted : Option Granted) → Lacks named (lock_items S n signature granted)
+lock-lacks-all named d c k S n signature None = tt
+lock-lacks-all named d c k S n signature (Some granted) =
+    lacks-flat_map named (pair_items S n (Grant signature) words) n.cache.pairs (λ p. pairs-lack named S n (Grant signature) words p (d signature) (c signature) (k signature))
+  where
+    words : List Interval
+    words = guarded_by (slice_get S.setting.plans n.phase) granted.lock.0
+
+phase-lacks : (S : State) (n after : NodeParts) → Lacks of_both (phase_items S n after)
+phase-lacks = phase-lacks-all of_both refl refl refl
+
+lock-lacks : (S : State) (n : NodeParts) (signature : Signature) (granted : Option Granted) → Lacks of_both (lock_items S n signature granted)
+lock-lacks = lock-lacks-all of_both (λ s. refl) (λ s. refl) (λ s. refl)
 
 messages-lack : (S : State) (H : Handings) (sender : Actor) (n : NodeParts) (m : Message) → Lacks of_both (message_items S H sender n m)
 messages-lack S H sender n (message.TheVariants.DataReply word value) = (by_sender sender, tt) where
@@ -102,7 +113,7 @@ messages-lack S H sender n (message.TheVariants.ReadFwd word reader) =
 messages-lack S H sender n (message.TheVariants.RegFwd word core) =
     lacks-if of_both (goes n (node_gets S.setting n (message.TheVariants.RegFwd word core)).0 word.0) (item_at measure.TheVariants.Taken n word) refl
 messages-lack S H sender n (message.TheVariants.Grant lock signature) =
-    (by_handing (H lock.0), lock-lacks S n (node_gets S.setting n (message.TheVariants.Grant lock signature)).0 (node_gets S.setting n (message.TheVariants.Grant lock signature)).1.granted)
+    (by_handing (handing_of H lock.0), lock-lacks S n signature (node_gets S.setting n (message.TheVariants.Grant lock signature)).1.granted)
   where
     by_handing : (how : Handing) → of_both (grant_measure how) ≡ false
     by_handing AtOnce = refl
@@ -244,7 +255,7 @@ module _ (regions : List ℕ) (by : Grouping) (group : ℕ) where
     within i out = grind (arith, nat_tests, out)
 
   asked-even : (S : State) (D : Departures) (n : NodeParts) (m : Message) → Even (asking_items S D n m)
-  asked-even S D n (message.TheVariants.ReadReq word reader) = miss-even (D n.core word.0) n word
+  asked-even S D n (message.TheVariants.ReadReq word reader) = miss-even (departure_at D n.core word.0) n word
   asked-even S D n (message.TheVariants.RegReq word core) =
       even-lacking of_misses (λ m isnt. isnt) (asking_items S D n (message.TheVariants.RegReq word core))
       (refl, lacks-replicate of_misses (count_by (has_untold_copy n word.0) S.nodes) (item_at measure.TheVariants.UntoldCopies n word) refl)
@@ -348,7 +359,7 @@ module _ (regions : List ℕ) (by : Grouping) (group : ℕ) where
     reason-lacks (Some why.Taken) = refl
 
     none : (m : Message) → Lacks of_loads (asking_items S D n m)
-    none (message.TheVariants.ReadReq word reader) = (refl, (reason-lacks (D n.core word.0), tt))
+    none (message.TheVariants.ReadReq word reader) = (refl, (reason-lacks (departure_at D n.core word.0), tt))
     none (message.TheVariants.RegReq word core) =
         (refl, lacks-replicate of_loads (count_by (has_untold_copy n word.0) S.nodes) (item_at measure.TheVariants.UntoldCopies n word) refl)
     none (message.TheVariants.ReadFwd word reader) = tt
@@ -403,8 +414,8 @@ module _ (regions : List ℕ) (by : Grouping) (group : ℕ) where
 pub misses-add-up : (S : State) (events : List Event) (by : Grouping) (group : ℕ)
     → number_in_run by measure.TheVariants.Misses group S events ≡ number_in_run by measure.TheVariants.MissesFirst group S events + number_in_run by measure.TheVariants.MissesPhase group S events
     + number_in_run by measure.TheVariants.MissesLock group S events + number_in_run by measure.TheVariants.MissesEvicted group S events + number_in_run by measure.TheVariants.MissesTaken group S events
-misses-add-up S events by group = run-even (regions_from 0 S.setting.program.regions) by group S no_departures no_handings events
+misses-add-up S events by group = run-even (regions_from 0 S.setting.program.regions) by group S (no_departures S.setting) (no_handings S.setting) events
 
 pub few-local-loads : (S : State) (events : List Event) (by : Grouping) (group : ℕ)
     → number_in_run by measure.TheVariants.LoadsLocal group S events ≤ number_in_run by measure.TheVariants.Loads group S events
-few-local-loads S events by group = run-few (regions_from 0 S.setting.program.regions) by group S no_departures no_handings events
+few-local-loads S events by group = run-few (regions_from 0 S.setting.program.regions) by group S (no_departures S.setting) (no_handings S.setting) events

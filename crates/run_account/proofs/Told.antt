@@ -1,25 +1,15 @@
 -- Replies, grants and evictions add up to the counts of their events.
-use Rattle.std.proofs.Common.{◌≡◌, ℕ, zero, suc, ◌+◌, ◌≤◌, ◌<◌, Bool, true, false, cond, nat_le, nat_lt, List, [], ◌∷◌, ◌++◌, slice_get, Option, Some, None, refl, sym, ap, subst, ◌∙◌, arith}
-use Rattle.std.specs.Prelude.{◌&&◌, ◌||◌, ◌==◌, count_by, position}
-use Rattle.std.proofs.lemmas.Bool.{and_left, and_right}
-use Rattle.std.proofs.lemmas.Bool.Decides.{nat_tests}
+use Rattle.std.proofs.Common.{◌≡◌, ℕ, ◌+◌, true, cond, List, [], ◌∷◌, Option, Some, None, refl, arith}
+use Rattle.std.specs.Prelude.{position}
 use Rattle.std.proofs.lemmas.List.Sums.{sum_by-cons, sum_by-append}
-use Rattle.message_net.specs.declared.actor.Actor.{Actor}
-use Rattle.message_net.specs.declared.actor.Actor.TheVariants.{Core, Bank, Keeper}
 use Rattle.message_net.specs.declared.event.Event.{Event}
-use Rattle.message_net.specs.declared.event.Event.TheVariants.{Instr, Evict, Arrive, Handle}
-use Rattle.message_net.specs.declared.event.EventKind as kind
 use Rattle.message_net.specs.declared.event.EventKind.{EventKind}
 use Rattle.message_net.specs.declared.message.Mail.{Mail}
-use Rattle.message_net.specs.declared.message.Message as message
-use Rattle.message_net.specs.declared.message.Message.{Message}
-use Rattle.message_net.specs.Kind.{kind_of, kind_index}
 use Rattle.message_net.specs.Pool.{removed, removed_at, of_id}
-use Rattle.registration_protocol.specs.Node.{NodeParts}
 use Rattle.machine_rules.specs.State.{State}
-use Rattle.machine_rules.specs.Next.{next, enabled, kind_in, kind_with}
-use Rattle.machine_rules.specs.Runs.{after, IsRun, kinds_of}
-use Rattle.machine_rules.specs.Coherent.{Coherent, IsExpected, IsInFlight, waits_for}
+use Rattle.machine_rules.specs.Next.{next, enabled, kind_in}
+use Rattle.machine_rules.specs.Runs.{IsRun, kinds_of}
+use Rattle.machine_rules.specs.Coherent.{Coherent, IsInFlight}
 use Rattle.account_table.specs.declared.measure.Measure.{Measure}
 use Rattle.account_table.specs.declared.item.Item.{Item}
 use Rattle.account_table.specs.Measure.{same_measure}

@@ -7,6 +7,8 @@ use Rattle.account_table.specs.declared.item.Item.{Item}
 use Rattle.account_table.specs.declared.item.Grouping.{Grouping}
 use Rattle.account_table.specs.declared.measure.Measure.{Measure}
 use Rattle.account_table.specs.Items.{regions_from, count_in, count_of}
+use Rattle.account_table.specs.Tallies.{Tallies, no_tallies, with_items}
+use Rattle.registration_protocol.specs.Node.{Setting}
 use Rattle.run_account.specs.Departures.{Departures, no_departures, departures_after}
 use Rattle.run_account.specs.Handings.{Handings, no_handings, handings_after}
 use Rattle.run_account.specs.Events.{items_in}
@@ -18,7 +20,7 @@ items_from S D H (e ∷ es) = items_in S D H e ++ items_from (next S e) (departu
 
 -- what is counted of a run's events
 abbrev pub items_of_run : State → List Event → List Item
-items_of_run S events = items_from S no_departures no_handings events
+items_of_run S events = items_from S (no_departures S.setting) (no_handings S.setting) events
 
 -- the number of a measure in a group of a run, and in the whole run
 abbrev pub number_in_run : Grouping → Measure → ℕ → State → List Event → ℕ
@@ -26,3 +28,29 @@ number_in_run by m group S events = count_in (regions_from 0 S.setting.program.r
 
 abbrev pub number_of_run : Measure → State → List Event → ℕ
 number_of_run m S events = count_of m (items_of_run S events)
+
+-- the account of the events so far: the table of its numbers, what last happened to each core's entries, and how each lock was
+-- last granted
+pub record Accounted : Type 0 where
+  pub tallies : Tallies
+  pub departures : Departures
+  pub handings : Handings
+
+abbrev pub no_account : Setting → Grouping → Accounted
+no_account C by = record { tallies = no_tallies C.program C.shape.cores by; departures = no_departures C; handings = no_handings C }
+
+-- the same with so many more items
+abbrev pub adding : Accounted → List Item → Accounted
+adding A items = record A { tallies = with_items A.tallies items }
+
+-- the same after an event that comes in a state, and after several
+unfoldable pub account_after : State → Event → Accounted → Accounted
+account_after S e A = record {
+  tallies = with_items A.tallies (items_in S A.departures A.handings e);
+  departures = departures_after S e A.departures;
+  handings = handings_after S e A.handings;
+}
+
+abbrev pub account_of_run : State → Accounted → List Event → Accounted
+account_of_run S A [] = A
+account_of_run S A (e ∷ es) = account_of_run (next S e) (account_after S e A) es

@@ -1,5 +1,6 @@
 -- Why a core has no entry of a word any more: what last happened to its entry.
-use Rattle.std.specs.Prelude.{ℕ, Bool, ◌&&◌, ◌==◌, not, slice_get, Option, Some, None, if◌then◌else◌}
+use Rattle.std.specs.Prelude.{ℕ, Bool, ◌&&◌, ◌==◌, not, List, [], length, map, replicate, slice_get, slice_set, slice_index_or, Option, Some, None, if◌then◌else◌}
+use Rattle.std.specs.List.{enumerate_from}
 use Rattle.std.specs.Option.{is_some, option_or}
 use Rattle.message_net.specs.declared.actor.Actor.{Actor}
 use Rattle.message_net.specs.declared.actor.Actor.TheVariants.{Core}
@@ -57,13 +58,30 @@ gone_in S (Evict core word) c w = if core.0 == c then gone_at_eviction S (slice_
 gone_in S (Handle id) c w = gone_with S c w (removed id S.mails).0
 gone_in S _ c w = None
 
--- what last happened to each core's entry of each word; None where the core had none that went
+-- what last happened to each core's entry of each word: a row for each core, with a place for each word; None where the core
+-- had no entry of the word that went
 abbrev pub Departures : Type 0
-Departures = ℕ → ℕ → Option Departure
+Departures = List (List (Option Departure))
 
-abbrev pub no_departures : Departures
-no_departures c w = None
+abbrev pub no_departures : Setting → Departures
+no_departures C = replicate C.shape.cores (replicate (length C.program.memory) None)
+
+abbrev pub departures_at : Departures → ℕ → List (Option Departure)
+departures_at D c = slice_index_or D c []
+
+abbrev pub departure_at : Departures → ℕ → ℕ → Option Departure
+departure_at D c w = slice_index_or (departures_at D c) w None
+
+-- the same where the entry of a word goes, and where those go that a function says
+abbrev pub departed : Departures → ℕ → ℕ → Departure → Departures
+departed D c w why = slice_set D c (slice_set (departures_at D c) w (Some why))
+
+unfoldable pub row_with : (ℕ → Option Departure) → List (Option Departure) → List (Option Departure)
+row_with gone row = map (λ (last : ℕ × Option Departure). option_or (gone last.0) last.1) (enumerate_from 0 row)
+
+unfoldable pub departures_with : (ℕ → ℕ → Option Departure) → Departures → Departures
+departures_with gone D = map (λ (row : ℕ × List (Option Departure)). row_with (gone row.0) row.1) (enumerate_from 0 D)
 
 -- the same after an event
 abbrev pub departures_after : State → Event → Departures → Departures
-departures_after S e D c w = option_or (gone_in S e c w) (D c w)
+departures_after S e D = departures_with (gone_in S e) D

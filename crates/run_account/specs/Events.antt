@@ -1,7 +1,6 @@
 -- What an account counts of an event: the event is looked at with the state before it.
-use Rattle.std.specs.Prelude.{ℕ, Bool, true, false, ◌&&◌, ◌||◌, ◌==◌, not, List, [], ◌∷◌, ◌++◌, replicate, slice_get, Option, Some, None, count_by, if◌then◌else◌}
+use Rattle.std.specs.Prelude.{ℕ, Bool, true, false, ◌&&◌, ◌==◌, not, List, [], ◌∷◌, ◌++◌, replicate, slice_get, Option, Some, None, count_by, if◌then◌else◌}
 use Rattle.std.specs.List.{flat_map}
-use Rattle.std.specs.Option.{is_some}
 use Rattle.dn_base.specs.declared.ids.LoadSeen.{LoadSeen}
 use Rattle.dn_base.specs.declared.ids.Grant.{Grant as Granted}
 use Rattle.dn_base.specs.declared.ids.WordId.{WordId}
@@ -13,13 +12,14 @@ use Rattle.message_net.specs.declared.event.Event.{Event}
 use Rattle.message_net.specs.declared.event.Event.TheVariants.{Instr, Evict, Handle}
 use Rattle.message_net.specs.declared.message.Mail.{Mail}
 use Rattle.message_net.specs.declared.message.Message.{Message}
-use Rattle.message_net.specs.declared.message.Message.TheVariants.{ReadReq, ReadFwd, DataReply, RegReq, RegFwd, Grant, Go}
+use Rattle.message_net.specs.declared.message.Message.TheVariants.{ReadReq, ReadFwd, DataReply, RegReq, RegFwd, Grant as GrantOf, Go as GoTo}
 use Rattle.message_net.specs.declared.message.Outgoing.{Outgoing}
 use Rattle.message_net.specs.Pool.{removed}
 use Rattle.word_cache.specs.declared.row.Entry.{Entry}
 use Rattle.word_cache.specs.declared.row.Entry.TheVariants.{Valid, Registered, Leaving}
-use Rattle.word_cache.specs.Cache.{Pair, is_valid}
-use Rattle.registration_protocol.specs.Node.{NodeParts, Setting, entry_of, waits_for_nothing}
+use Rattle.write_signature.specs.declared.signature.Signature.{Signature}
+use Rattle.word_cache.specs.Cache.{Pair, is_valid, stays, is_fresh}
+use Rattle.registration_protocol.specs.Node.{NodeParts, entry_of, waits_for_nothing}
 use Rattle.registration_protocol.specs.OwnEvents.{instructed, written_now}
 use Rattle.registration_protocol.specs.Messages.{node_gets, written_in, guarded_by}
 use Rattle.machine_rules.specs.State.{State}
@@ -31,8 +31,10 @@ use Rattle.run_account.specs.declared.departure.Departure.{Departure}
 use Rattle.run_account.specs.declared.departure.Departure.TheVariants as why
 use Rattle.run_account.specs.declared.departure.Handing.{Handing}
 use Rattle.run_account.specs.declared.departure.Handing.TheVariants.{AtOnce, Queued}
-use Rattle.run_account.specs.Departures.{Departures, goes}
-use Rattle.run_account.specs.Handings.{Handings}
+use Rattle.run_account.specs.declared.departure.Occasion.{Occasion}
+use Rattle.run_account.specs.declared.departure.Occasion.TheVariants.{Go, Grant}
+use Rattle.run_account.specs.Departures.{Departures, departure_at, goes}
+use Rattle.run_account.specs.Handings.{Handings, handing_of}
 
 -- an item belongs to the core that acts and to its phase before the event
 abbrev pub item_of : Measure → NodeParts → Option WordId → Item
@@ -80,7 +82,7 @@ has_untold_copy n w other = not (other.core == n.core) && is_copy (entry_of othe
 
 -- what an instruction sends: a miss sends ReadReq, and a store that registers its word RegReq
 abbrev pub asking_items : State → Departures → NodeParts → Message → List Item
-asking_items S D n (ReadReq word reader) = item_at measure.TheVariants.Misses n word ∷ item_at (miss_of (D n.core word.0)) n word ∷ []
+asking_items S D n (ReadReq word reader) = item_at measure.TheVariants.Misses n word ∷ item_at (miss_of (departure_at D n.core word.0)) n word ∷ []
 asking_items S D n (RegReq word core) =
     item_at measure.TheVariants.Registers n word ∷ replicate (count_by (has_untold_copy n word.0) S.nodes) (item_at measure.TheVariants.UntoldCopies n word)
 asking_items S D n _ = []
@@ -105,29 +107,45 @@ evict_items n word (Some (Leaving value)) = []
 
 -- ---- copies at a Go and at a Grant
 
--- a copy goes, perhaps with the word's value; or it stays though its word is one of those that are looked at
-abbrev pub copy_items : State → NodeParts → (dropped current kept : Measure) → List Interval → NodeParts → Pair → List Item
-copy_items S n dropped current kept words after p =
-    if goes n after p.0.0 then item_at dropped n p.0 ∷ one_if (value_in_entry (Some p.1) == word_value S p.0.0) (item_at current n p.0)
-    else one_if (has words p.0.0) (item_at kept n p.0)
+-- which copies remain: at a Go by the words that the ended phase may have written, at a Grant by those that the lock guards
+abbrev pub remains : NodeParts → Occasion → List Interval → Pair → Bool
+remains n Go words p = stays words p
+remains n (Grant signature) words p = is_fresh signature n.phase words p
 
-abbrev pub pair_items : State → NodeParts → (dropped current kept : Measure) → List Interval → NodeParts → Pair → List Item
-pair_items S n dropped current kept words after p =
-    if is_valid p.1 then copy_items S n dropped current kept words after p else []
+-- the measures of the copies that go, of those that have the word's value, and of those that remain
+abbrev pub dropped_at : Occasion → Measure
+dropped_at Go = measure.TheVariants.DroppedPhase
+dropped_at (Grant signature) = measure.TheVariants.DroppedLock
 
--- of every copy: at a Go that begins a phase, with the words that the ended phase may have written
+abbrev pub current_at : Occasion → Measure
+current_at Go = measure.TheVariants.DroppedPhaseCurrent
+current_at (Grant signature) = measure.TheVariants.DroppedLockCurrent
+
+abbrev pub kept_at : Occasion → Measure
+kept_at Go = measure.TheVariants.KeptTouched
+kept_at (Grant signature) = measure.TheVariants.KeptSignature
+
+-- a copy goes, perhaps with the word's value; or it remains though its word is one of those that are looked at
+abbrev pub copy_items : State → NodeParts → Occasion → List Interval → Pair → List Item
+copy_items S n o words p =
+    if remains n o words p then one_if (has words p.0.0) (item_at (kept_at o) n p.0)
+    else item_at (dropped_at o) n p.0 ∷ one_if (value_in_entry (Some p.1) == word_value S p.0.0) (item_at (current_at o) n p.0)
+
+abbrev pub pair_items : State → NodeParts → Occasion → List Interval → Pair → List Item
+pair_items S n o words p = if is_valid p.1 then copy_items S n o words p else []
+
+-- of every copy that a core has
+abbrev pub copies_items : State → NodeParts → Occasion → List Interval → List Item
+copies_items S n o words = flat_map (pair_items S n o words) n.cache.pairs
+
+-- at a Go that begins a phase, and at a Grant that the core waits for
 abbrev pub phase_items : State → NodeParts → NodeParts → List Item
-phase_items S n after =
-    if after.phase == n.phase then []
-    else flat_map (pair_items S n measure.TheVariants.DroppedPhase measure.TheVariants.DroppedPhaseCurrent measure.TheVariants.KeptTouched
-    (written_in (slice_get S.setting.plans n.phase)) after) n.cache.pairs
+phase_items S n after = if after.phase == n.phase then [] else copies_items S n Go (written_in (slice_get S.setting.plans n.phase))
 
--- and at a Grant that the core waits for, with the words that the lock guards
-abbrev pub lock_items : State → NodeParts → NodeParts → Option Granted → List Item
-lock_items S n after None = []
-lock_items S n after (Some granted) =
-    flat_map (pair_items S n measure.TheVariants.DroppedLock measure.TheVariants.DroppedLockCurrent measure.TheVariants.KeptSignature
-    (guarded_by (slice_get S.setting.plans n.phase) granted.lock.0) after) n.cache.pairs
+abbrev pub lock_items : State → NodeParts → Signature → Option Granted → List Item
+lock_items S n signature None = []
+lock_items S n signature (Some granted) =
+    copies_items S n (Grant signature) (guarded_by (slice_get S.setting.plans n.phase) granted.lock.0)
 
 -- ---- messages that a core handles
 
@@ -154,10 +172,10 @@ message_items S H sender n (ReadFwd word reader) =
     one_if (is_bounced (node_gets S.setting n (ReadFwd word reader)).1.sent) (item_at measure.TheVariants.Bounces n word)
 message_items S H sender n (RegFwd word core) =
     one_if (goes n (node_gets S.setting n (RegFwd word core)).0 word.0) (item_at measure.TheVariants.Taken n word)
-message_items S H sender n (Grant lock signature) =
-    item_of (grant_measure (H lock.0)) n None
-    ∷ lock_items S n (node_gets S.setting n (Grant lock signature)).0 (node_gets S.setting n (Grant lock signature)).1.granted
-message_items S H sender n (Go phase) = phase_items S n (node_gets S.setting n (Go phase)).0
+message_items S H sender n (GrantOf lock signature) =
+    item_of (grant_measure (handing_of H lock.0)) n None
+    ∷ lock_items S n signature (node_gets S.setting n (GrantOf lock signature)).1.granted
+message_items S H sender n (GoTo phase) = phase_items S n (node_gets S.setting n (GoTo phase)).0
 message_items S H sender n _ = []
 
 -- ---- events

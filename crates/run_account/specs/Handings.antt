@@ -1,5 +1,6 @@
 -- How each lock came to the core that it was last granted to.
-use Rattle.std.specs.Prelude.{ℕ, Bool, false, ◌==◌, slice_get, Option, Some, None, if◌then◌else◌}
+use Rattle.std.specs.Prelude.{ℕ, Bool, false, ◌==◌, List, length, map, replicate, slice_get, slice_index_or, Option, Some, None, if◌then◌else◌}
+use Rattle.std.specs.List.{enumerate_from}
 use Rattle.std.specs.Option.{unwrap_or}
 use Rattle.message_net.specs.declared.actor.Actor.{Actor}
 use Rattle.message_net.specs.declared.actor.Actor.TheVariants.{Bank}
@@ -10,6 +11,7 @@ use Rattle.message_net.specs.declared.message.Message.{Message}
 use Rattle.message_net.specs.declared.message.Message.TheVariants.{Acquire, Release, Grant}
 use Rattle.message_net.specs.declared.message.Outgoing.{Outgoing}
 use Rattle.message_net.specs.Pool.{removed}
+use Rattle.registration_protocol.specs.Node.{Setting}
 use Rattle.registry_bank.specs.Bank.{BankParts, bank_gets}
 use Rattle.machine_rules.specs.State.{State}
 use Rattle.run_account.specs.declared.departure.Handing.{Handing}
@@ -47,13 +49,20 @@ unfoldable pub handed_in : State → Event → ℕ → Option Handing
 handed_in S (Handle id) l = granted_with S l (removed id S.mails).0
 handed_in S _ l = None
 
--- how each lock was last granted; one that wasn't granted yet counts as free
+-- how each lock was last granted, in the order of locks; one that wasn't granted yet counts as free
 abbrev pub Handings : Type 0
-Handings = ℕ → Handing
+Handings = List Handing
 
-abbrev pub no_handings : Handings
-no_handings l = AtOnce
+abbrev pub no_handings : Setting → Handings
+no_handings C = replicate (length C.program.locks) AtOnce
+
+abbrev pub handing_of : Handings → ℕ → Handing
+handing_of H l = slice_index_or H l AtOnce
+
+-- the same where those locks are granted that a function says
+unfoldable pub handings_with : (ℕ → Option Handing) → Handings → Handings
+handings_with handed H = map (λ (last : ℕ × Handing). unwrap_or (handed last.0) last.1) (enumerate_from 0 H)
 
 -- the same after an event
 abbrev pub handings_after : State → Event → Handings → Handings
-handings_after S e H l = unwrap_or (handed_in S e l) (H l)
+handings_after S e H = handings_with (handed_in S e) H

@@ -1,3 +1,5 @@
+use write_signature::Signature;
+
 /// Why a core's entry of a word went.
 #[derive(Clone, Copy, Debug, PartialEq, Eq)]
 pub enum Departure {
@@ -18,4 +20,13 @@ pub enum Handing {
     AtOnce,
     /// The core before gave it up, and it was handed on.
     Queued,
+}
+
+/// When a core drops copies.
+#[derive(Clone, Copy, Debug, PartialEq, Eq)]
+pub enum Occasion {
+    /// At a Go: those that aren't marked, of the words that the ended phase may have written.
+    Go,
+    /// At the Grant of a lock: those of the words that the lock guards which this signature may hold.
+    Grant(Signature),
 }

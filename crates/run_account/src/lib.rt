@@ -1,14 +1,19 @@
 //! What a run cost and why, in numbers: which items its events have, by what happened before.
 #![tactic(auto)]
 
+mod accesses;
 mod account;
+mod copies;
 mod departure;
 mod laws;
+mod messages;
 mod nodes;
+mod noting;
 
 pub use account::Account;
-pub use departure::{Departure, Handing};
+pub use departure::{Departure, Handing, Occasion};
 pub use laws::{
-    each_miss_has_one_reason, evictions_add_up, grants_add_up, local_loads_are_loads,
-    replies_add_up,
+    a_run_has_the_numbers_of_its_account, each_miss_has_one_reason, evictions_add_up,
+    grants_add_up, local_loads_are_loads, replies_add_up,
 };
+pub use noting::account_of;

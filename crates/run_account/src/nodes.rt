@@ -1,14 +1,20 @@
-ghost use Rattle.std.specs.Prelude.{◌≡◌};
-ghost use Rattle.registration_protocol.specs.Node.{need_if};
+ghost use Rattle.std.specs.Prelude.{◌≡◌, option_copied};
+ghost use Rattle.std.specs.List.{find};
+ghost use Rattle.region_table.specs.Tasks.{declared, is_for};
+ghost use Rattle.registration_protocol.specs.Node.{need_now};
+ghost use Rattle.run_account.specs.Events.{item_of};
 
 use account_table::{Item, Measure};
 use dn_base::{CoreId, PhaseId, WordId};
+use dn_machine::Machine;
 use region_table::{Program, TaskDecl};
-use registration_protocol::{Node, NodeWait};
+use registration_protocol::Node;
 use rv_core::Need;
 
 /// An item of a node's core in its phase.
-pub(crate) fn item(node: &Node, measure: Measure, word: Option<WordId>) -> Item {
+pub(crate) fn item(node: &Node, measure: Measure, word: Option<WordId>) -> Item
+    ensures { result ≡ item_of measure node.now word }
+{
     Item {
         measure,
         phase: node.phase(),
@@ -17,31 +23,37 @@ pub(crate) fn item(node: &Node, measure: Measure, word: Option<WordId>) -> Item 
     }
 }
 
-/// The task of a core in a phase, if the program declares one.
-fn declared(program: &Program, phase: PhaseId, core: CoreId) -> Option<&TaskDecl> {
-    let phase = program.phases.get(phase.0 as usize)?;
-    for task in phase.tasks.as_slice() {
-        if task.core == core {
+/// The task of the core among these, if it has one.
+fn find_in(tasks: &[TaskDecl], core: CoreId) -> Option<&TaskDecl>
+    ensures { option_copied result ≡ find (is_for core.0) tasks.now }
+{
+    for task in tasks {
+        if task.core.0 == core.0 {
             return Some(task);
         }
     }
     None
 }
 
+/// The task that the program declares for the core in the phase, if it does.
+fn declaration(program: &Program, phase: PhaseId, core: CoreId) -> Option<&TaskDecl>
+    ensures { option_copied result ≡ declared program.now phase.0 core.0 }
+{
+    match program.phases.get(phase.0 as usize) {
+        Some(phase) => find_in(phase.tasks.as_slice(), core),
+        None => None,
+    }
+}
+
 /// What the next instruction of a node's task needs, if the task goes on.
-pub(crate) fn need(program: &Program, fuel: u32, node: &Node) -> Option<Need> {
+pub(crate) fn need(machine: &Machine, node: &Node) -> Option<Need>
+    ensures { result ≡ need_now machine.now.state.setting node.now }
+{
     let task = node.task()?;
     if task.end.is_some() {
         return None;
     }
-    let declared = declared(program, node.phase(), node.core())?;
-    Some(task.need(program, declared, fuel))
-}
-
-/// Whether a node waits for this lock, and has a task.
-pub(crate) fn waits_for(node: &Node, lock: dn_base::LockId) -> bool {
-    match node.wait() {
-        NodeWait::Locking(wanted) => wanted == lock && node.task().is_some(),
-        _ => false,
-    }
+    let program = machine.program();
+    let declared = declaration(program, node.phase(), node.core())?;
+    Some(task.need(program, declared, machine.fuel()))
 }

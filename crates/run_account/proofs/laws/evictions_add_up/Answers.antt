@@ -7,4 +7,4 @@ use Rattle.run_account.proofs.Evicted.{evictions-told}
 use Rattle.run_account.proofs.laws.evictions_add_up.Goals as goal
 
 pub returns : goal.returns
-returns c S events stays run = all-told Evict EvictedCopies EvictedRegistered evictions-told S no_departures no_handings events stays run
+returns c S events stays run = all-told Evict EvictedCopies EvictedRegistered evictions-told S (no_departures S.setting) (no_handings S.setting) events stays run

@@ -7,4 +7,4 @@ use Rattle.run_account.proofs.Handed.{grants-told}
 use Rattle.run_account.proofs.laws.grants_add_up.Goals as goal
 
 pub returns : goal.returns
-returns c S events stays run = all-told Grant GrantsAtOnce GrantsQueued grants-told S no_departures no_handings events stays run
+returns c S events stays run = all-told Grant GrantsAtOnce GrantsQueued grants-told S (no_departures S.setting) (no_handings S.setting) events stays run

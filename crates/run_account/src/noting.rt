@@ -1,0 +1,135 @@
+//! An event is noted.
+ghost use Rattle.std.specs.Prelude.{◌≡◌, ◌+◌, ◌<◌, ◌≤◌, length, Some, None, IfOk, IfSome, IfNone};
+ghost use Rattle.message_net.specs.declared.actor.Actor.TheVariants as actor;
+ghost use Rattle.message_net.specs.declared.event.Event.TheVariants as event;
+ghost use Rattle.message_net.specs.Pool.{removed};
+ghost use Rattle.machine_rules.specs.Runs.{IsRun};
+ghost use Rattle.run_account.specs.Account.{no_account, account_after, account_of_run};
+
+use crate::account::Account;
+use account_table::Grouping;
+use dn_base::{BankId, CoreId, Memory, WordId};
+use dn_machine::{Machine, a_machine_is_kept};
+use message_net::{Actor, Event, Mail, MailId};
+use std::alloc::Global;
+
+impl Account {
+    #[tactic(auto, using(crate::proofs::After::after_instr, crate::proofs::After::after_no_instr))]
+    fn note_instr_of(&mut self, machine: &Machine, core: CoreId)
+        ensures { self.new ≡ account_after machine.now.state (event.Instr core) self.old }
+    {
+        // for the proof alone: there are as many nodes as cores
+        a_machine_is_kept(machine);
+        if core.0 < machine.shape().cores {
+            self.note_instr(machine, machine.node(core));
+        }
+    }
+
+    #[tactic(auto, using(crate::proofs::After::after_evict, crate::proofs::After::after_no_evict))]
+    fn note_evict_of(&mut self, machine: &Machine, core: CoreId, word: WordId)
+        ensures { self.new ≡ account_after machine.now.state (event.Evict core word) self.old }
+    {
+        // for the proof alone: there are as many nodes as cores, each in its place
+        a_machine_is_kept(machine);
+        if core.0 < machine.shape().cores {
+            self.note_evict(machine.node(core), word);
+        }
+    }
+
+    /// Notes the handling of a mail to a core.
+    #[tactic(auto, using(crate::proofs::After::after_core_mail, crate::proofs::After::after_no_core))]
+    fn note_core_mail(&mut self, machine: &Machine, id: MailId, core: CoreId, mail: Mail)
+        requires mail { (removed id machine.now.state.mails).0 ≡ Some mail }
+        requires to { mail.to ≡ actor.Core core }
+        ensures { self.new ≡ account_after machine.now.state (event.Handle id) self.old }
+    {
+        // for the proof alone: there are as many nodes as cores, each in its place and with a cache of the machine's size
+        a_machine_is_kept(machine);
+        if core.0 < machine.shape().cores {
+            self.note_message(machine, machine.node(core), mail.id.sender, mail.message);
+        }
+    }
+
+    /// Notes the handling of a mail to a bank.
+    #[tactic(auto, using(crate::proofs::After::after_bank_mail, crate::proofs::After::after_no_bank))]
+    fn note_bank_mail(&mut self, machine: &Machine, id: MailId, bank: BankId, mail: Mail)
+        requires mail { (removed id machine.now.state.mails).0 ≡ Some mail }
+        requires to { mail.to ≡ actor.Bank bank }
+        ensures { self.new ≡ account_after machine.now.state (event.Handle id) self.old }
+    {
+        // for the proof alone: there are as many banks as the shape says, each in its place
+        a_machine_is_kept(machine);
+        let shape = machine.shape();
+        if bank.0 < shape.banks {
+            self.note_bank(machine.bank(bank), shape.cores, mail.message);
+        }
+    }
+
+    /// Notes the handling of a mail.
+    #[tactic(auto, using(crate::proofs::After::after_keeper_mail))]
+    fn note_mail(&mut self, machine: &Machine, id: MailId, mail: Mail)
+        requires { (removed id machine.now.state.mails).0 ≡ Some mail }
+        ensures { self.new ≡ account_after machine.now.state (event.Handle id) self.old }
+    {
+        match mail.to {
+            Actor::Core(core) => self.note_core_mail(machine, id, core, mail),
+            Actor::Bank(bank) => self.note_bank_mail(machine, id, bank, mail),
+            Actor::Keeper => {}
+        }
+    }
+
+    /// Notes the handling of the mail with this id, if it is in flight.
+    #[tactic(auto, using(crate::proofs::After::after_no_mail))]
+    fn note_handle(&mut self, machine: &Machine, id: MailId)
+        ensures { self.new ≡ account_after machine.now.state (event.Handle id) self.old }
+    {
+        let pool = machine.pool();
+        if let Some(place) = pool.place_of(id) {
+            self.note_mail(machine, id, pool.at(place));
+        }
+    }
+
+    /// Notes an event, which comes next on the machine. Takes no memory. A Go or a Grant looks at each place of one cache once, a
+    /// store that registers its word at one entry of each core, and any other event at a few entries.
+    #[tactic(auto, using(crate::proofs::After::after_arrive))]
+    pub fn note(&mut self, machine: &Machine, event: Event)
+        ensures { self.new ≡ account_after machine.now.state event self.old }
+    {
+        match event {
+            Event::Instr(core) => self.note_instr_of(machine, core),
+            Event::Evict(core, word) => self.note_evict_of(machine, core, word),
+            Event::Arrive(_) => {}
+            Event::Handle(id) => self.note_handle(machine, id),
+        }
+    }
+}
+
+/// The account of events that come on a machine, in these groups; None where one of them may not come. Fewer than 4,000,000,000
+/// events have come on the machine then.
+///
+/// # Errors
+/// `Memory` where there is no room.
+pub fn account_of(
+    alloc: Global,
+    machine: Machine,
+    events: &[Event],
+    by: Grouping,
+) -> Result<Option<Account>, Memory>
+    requires few { machine.made + length events.now ≤ 4000000000 }
+    ensures some { IfOk result (λ came. IfSome came (λ account. account ≡ account_of_run machine.state (no_account machine.state.setting by) events.now)) }
+    ensures comes { IfOk result (λ came. IfSome came (λ account. IsRun machine.state events.now)) }
+    ensures none { IfOk result (λ came. IfNone came (IsRun machine.state events.now → ⊥)) }
+{
+    let mut machine = machine;
+    let mut account = Account::new(alloc, &machine, by)?;
+    for event in events {
+        // noted before it comes: it is looked at with the state before it
+        account.note(&machine, *event);
+        let came = machine.try_step(*event)?;
+        match came {
+            Some(_) => {}
+            None => return Ok(None),
+        }
+    }
+    Ok(Some(account))
+}
