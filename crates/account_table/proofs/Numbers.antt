@@ -10,7 +10,7 @@ use Rattle.account_table.specs.declared.item.Item.{Item}
 use Rattle.account_table.specs.declared.item.Grouping.{Grouping}
 use Rattle.account_table.specs.Measure.{measure_index}
 use Rattle.account_table.specs.Items.{regions_from, group_of, groups_in, is_group, counts_for, count_in}
-use Rattle.account_table.specs.Tallies.{Tallies, no_tallies, number_of, capped, raised, raised_in, with_item, with_items}
+use Rattle.account_table.specs.Tallies.{Tallies, no_tallies, tally_of, capped, one_more_at, raised_in, with_item, with_items}
 
 pub with_items-append : (t : Tallies) (items more : List Item) → with_items t (items ++ more) ≡ with_items (with_items t items) more
 with_items-append t [] more = refl
@@ -32,11 +32,11 @@ capped-more : (n k : ℕ) → n ≡ capped k → capped (n + 1) ≡ capped (k + 
 capped-more n k e = grind (arith, e)
 
 -- one more at an index of a row
-raised-here : (numbers : List ℕ) (index k : ℕ) → index < length numbers → get_or numbers index 0 ≡ capped k → get_or (raised index numbers) index 0 ≡ capped (k + 1)
+raised-here : (numbers : List ℕ) (index k : ℕ) → index < length numbers → get_or numbers index 0 ≡ capped k → get_or (one_more_at index numbers) index 0 ≡ capped (k + 1)
 raised-here numbers index k within is =
     get_or-set_same numbers index (capped (get_or numbers index 0 + 1)) 0 within ∙ capped-more (get_or numbers index 0) k is
 
-raised-there : (numbers : List ℕ) (index other k : ℕ) → other ≢ index → get_or numbers other 0 ≡ capped k → get_or (raised index numbers) other 0 ≡ capped k
+raised-there : (numbers : List ℕ) (index other k : ℕ) → other ≢ index → get_or numbers other 0 ≡ capped k → get_or (one_more_at index numbers) other 0 ≡ capped k
 raised-there numbers index other k apart is = get_or-set_other numbers index other (capped (get_or numbers index 0 + 1)) 0 apart ∙ is
 
 -- one more at an index, in a group if there is one
@@ -53,21 +53,21 @@ raised_in-are numbers N None index within are = record { wide = are.wide; are = 
     by_test false = grind (arith, are.are i group low inside)
 raised_in-are numbers N (Some g) index within are = record { wide = wide; are = told } where
   length-is : length (raised_in (Some g) index numbers) ≡ length numbers
-  length-is = length-set numbers g (raised index (row numbers g))
+  length-is = length-set numbers g (one_more_at index (row numbers g))
 
   wide-row : (group : ℕ) → group < length numbers → (t : Bool) → (g == group) ≡ t → length (row (raised_in (Some g) index numbers) group) ≡ 26
   wide-row group inside true e =
       let same : g ≡ group = grind (arith, nat_tests) in
-      rw (same, get_or-set_same numbers group (raised index (row numbers group)) [] inside)
+      rw (same, get_or-set_same numbers group (one_more_at index (row numbers group)) [] inside)
       (length-set (row numbers group) index (capped (get_or (row numbers group) index 0 + 1)) ∙ are.wide group inside)
   wide-row group inside false e =
       let other : group ≢ g = grind (arith, nat_tests) in
-      rw (get_or-set_other numbers g group (raised index (row numbers g)) [] other) (are.wide group inside)
+      rw (get_or-set_other numbers g group (one_more_at index (row numbers g)) [] other) (are.wide group inside)
 
   wide : (group : ℕ) → group < length (raised_in (Some g) index numbers) → length (row (raised_in (Some g) index numbers) group) ≡ 26
   wide group inside = wide-row group (rw (sym length-is) inside) (g == group) refl
 
-  in_row : (i group : ℕ) → i < 26 → group < length numbers → (t : Bool) → (i == index) ≡ t → get_or (raised index (row numbers group)) i 0 ≡ capped (N i group + cond t 1 0)
+  in_row : (i group : ℕ) → i < 26 → group < length numbers → (t : Bool) → (i == index) ≡ t → get_or (one_more_at index (row numbers group)) i 0 ≡ capped (N i group + cond t 1 0)
   in_row i group low inside true e =
       let same : i ≡ index = grind (arith, nat_tests) in
       rw same (raised-here (row numbers group) index (N index group) (rw (are.wide group inside) within) (are.are index group within inside))
@@ -81,14 +81,14 @@ raised_in-are numbers N (Some g) index within are = record { wide = wide; are = 
   by_group : (i group : ℕ) → i < 26 → group < length numbers → (t : Bool) → (g == group) ≡ t → get_or (row (raised_in (Some g) index numbers) group) i 0 ≡ capped (N i group + cond ((i == index) && t) 1 0)
   by_group i group low inside true e =
       let same : g ≡ group = grind (arith, nat_tests) in
-      rw (same, get_or-set_same numbers group (raised index (row numbers group)) [] inside) (and-true (i == index) refl)
+      rw (same, get_or-set_same numbers group (one_more_at index (row numbers group)) [] inside) (and-true (i == index) refl)
     where
-      and-true : (t : Bool) → (i == index) ≡ t → get_or (raised index (row numbers group)) i 0 ≡ capped (N i group + cond (t && true) 1 0)
+      and-true : (t : Bool) → (i == index) ≡ t → get_or (one_more_at index (row numbers group)) i 0 ≡ capped (N i group + cond (t && true) 1 0)
       and-true true f = in_row i group low inside true f
       and-true false f = in_row i group low inside false f
   by_group i group low inside false e =
       let other : group ≢ g = grind (arith, nat_tests) in
-      rw (get_or-set_other numbers g group (raised index (row numbers g)) [] other) (and-false (i == index))
+      rw (get_or-set_other numbers g group (one_more_at index (row numbers g)) [] other) (and-false (i == index))
     where
       and-false : (t : Bool) → get_or (row numbers group) i 0 ≡ capped (N i group + cond (t && false) 1 0)
       and-false true = grind (arith, are.are i group low inside)
@@ -118,11 +118,11 @@ unfolding with_item
 keeps-length t item = by_group (group_of t.regions t.by item) where
   by_group : (there : Option ℕ) → length (raised_in there (measure_index item.measure) t.numbers) ≡ length t.numbers
   by_group None = refl
-  by_group (Some g) = length-set t.numbers g (raised (measure_index item.measure) (row t.numbers g))
+  by_group (Some g) = length-set t.numbers g (one_more_at (measure_index item.measure) (row t.numbers g))
 
 -- so many more items
 counted : (t : Tallies) (N : ℕ → ℕ → ℕ) (m : Measure) (group : ℕ) (items : List Item) → AreNumbers t.numbers N → group < length t.numbers
-    → number_of m group (with_items t items) ≡ capped (N (measure_index m) group + count_in t.regions t.by m group items)
+    → tally_of m group (with_items t items) ≡ capped (N (measure_index m) group + count_in t.regions t.by m group items)
 counted t N m group [] are inside = are.are (measure_index m) group (index-within m) inside ∙ rw (plus-none (N (measure_index m) group)) refl where
   plus-none : (n : ℕ) → n + 0 ≡ n
   plus-none n = omega arith
@@ -142,7 +142,7 @@ nothing-yet groups = record { wide = wide; are = none } where
   none index group low inside = rw (here group inside) (get_or-replicate 26 index 0 0 low)
 
 pub number-is : (P : ProgramParts) (cores : ℕ) (by : Grouping) (items : List Item) (m : Measure) (group : ℕ) → group < groups_in P cores by
-    → number_of m group (with_items (no_tallies P cores by) items) ≡ capped (count_in (regions_from 0 P.regions) by m group items)
+    → tally_of m group (with_items (no_tallies P cores by) items) ≡ capped (count_in (regions_from 0 P.regions) by m group items)
 number-is P cores by items m group inside =
     counted (no_tallies P cores by) (λ index g. 0) m group items (nothing-yet (groups_in P cores by)) (rw (length-replicate (groups_in P cores by) (replicate {A = ℕ} 26 0)) inside)
     ∙ ap capped (none-plus (count_in (regions_from 0 P.regions) by m group items))

@@ -9,7 +9,7 @@ use Rattle.account_table.specs.declared.measure.Measure.{Measure}
 use Rattle.account_table.specs.declared.item.Item.{Item}
 use Rattle.account_table.specs.declared.item.Grouping.{Grouping}
 use Rattle.account_table.specs.Measure.{same_measure}
-use Rattle.account_table.specs.Items.{group_of, counts_for, count_in, count_of, sum_of_groups, IsGrouped}
+use Rattle.account_table.specs.Items.{group_of, counts_for, count_in, items_of_measure, sum_of_groups, IsGrouped}
 
 sum-cons : (n : ℕ) (ns : List ℕ) → sum (n ∷ ns) ≡ n + sum ns
 sum-cons n ns = sum_by-cons (λ (x : ℕ). x) n ns
@@ -69,7 +69,7 @@ here : (regions : List ℕ) (by : Grouping) (m : Measure) (item : Item) (group k
 here regions by m item group k is = rw is refl
 
 pub groups-sum : (regions : List ℕ) (by : Grouping) (groups : ℕ) (m : Measure) (items : List Item) → All (IsGrouped regions by groups) items
-    → sum_of_groups regions by groups m items ≡ count_of m items
+    → sum_of_groups regions by groups m items ≡ items_of_measure m items
 groups-sum regions by groups m [] all = sum-zeros (λ (k : ℕ). count_in regions by m k []) (λ k. refl) 0 groups
 groups-sum regions by groups m (item ∷ items) all =
     let it = All-head (IsGrouped regions by groups) item items all in

@@ -48,8 +48,8 @@ counts_for regions by m group item = same_measure m item.measure && is_group gro
 abbrev pub count_in : List ℕ → Grouping → Measure → ℕ → List Item → ℕ
 count_in regions by m group items = count_by (counts_for regions by m group) items
 
-abbrev pub count_of : Measure → List Item → ℕ
-count_of m items = count_by (λ (item : Item). same_measure m item.measure) items
+abbrev pub items_of_measure : Measure → List Item → ℕ
+items_of_measure m items = count_by (λ (item : Item). same_measure m item.measure) items
 
 -- the numbers of all groups for a measure, added up
 abbrev pub sum_of_groups : List ℕ → Grouping → ℕ → Measure → List Item → ℕ

@@ -19,20 +19,20 @@ no_tallies P cores by =
     record { by = by; regions = regions_from 0 P.regions; numbers = replicate (groups_in P cores by) (replicate 26 0) }
 
 -- the number of a measure in a group
-abbrev pub number_of : Measure → ℕ → Tallies → ℕ
-number_of m group t = slice_index_or (slice_index_or t.numbers group []) (measure_index m) 0
+abbrev pub tally_of : Measure → ℕ → Tallies → ℕ
+tally_of m group t = slice_index_or (slice_index_or t.numbers group []) (measure_index m) 0
 
 -- a number of 64 bits stands still at the end of its type
 abbrev pub capped : ℕ → ℕ
 capped n = min n 18446744073709551615
 
 -- one more of a measure, in a group's row, and in a group if there is one
-abbrev pub raised : ℕ → List ℕ → List ℕ
-raised index row = slice_set row index (capped (slice_index_or row index 0 + 1))
+abbrev pub one_more_at : ℕ → List ℕ → List ℕ
+one_more_at index row = slice_set row index (capped (slice_index_or row index 0 + 1))
 
 abbrev pub raised_in : Option ℕ → ℕ → List (List ℕ) → List (List ℕ)
 raised_in None index numbers = numbers
-raised_in (Some group) index numbers = slice_set numbers group (raised index (slice_index_or numbers group []))
+raised_in (Some group) index numbers = slice_set numbers group (one_more_at index (slice_index_or numbers group []))
 
 -- one more item, and several
 unfoldable pub with_item : Tallies → Item → Tallies

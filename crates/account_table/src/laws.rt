@@ -8,19 +8,19 @@ ghost use Rattle.region_table.specs.Program.{ProgramParts, AreTiled};
 ghost use Rattle.account_table.specs.declared.item.Grouping.{Grouping};
 ghost use Rattle.account_table.specs.declared.item.Item.{Item};
 ghost use Rattle.account_table.specs.declared.measure.Measure.{Measure};
-ghost use Rattle.account_table.specs.Items.{regions_from, groups_in, count_in, count_of, sum_of_groups, IsGrouped, IsRegionOf};
-ghost use Rattle.account_table.specs.Tallies.{Tallies, no_tallies, number_of, capped, with_items};
+ghost use Rattle.account_table.specs.Items.{regions_from, groups_in, count_in, items_of_measure, sum_of_groups, IsGrouped, IsRegionOf};
+ghost use Rattle.account_table.specs.Tallies.{Tallies, no_tallies, tally_of, capped, with_items};
 
 /// A number of a table is how many of the items that were counted are of the measure and in the group.
 pub fn a_number_is_a_count()
     ensures { (P : ProgramParts) (cores : ℕ) (by : Grouping) (items : List Item) (m : Measure) (group : ℕ) → group < groups_in P cores by
-        → number_of m group (with_items (no_tallies P cores by) items) ≡ capped (count_in (regions_from 0 P.regions) by m group items) }
+        → tally_of m group (with_items (no_tallies P cores by) items) ≡ capped (count_in (regions_from 0 P.regions) by m group items) }
 {}
 
 /// Where each item is in some group, the numbers of the groups add up to that of all items.
 pub fn groups_add_up()
     ensures { (regions : List ℕ) (by : Grouping) (groups : ℕ) (m : Measure) (items : List Item) → All (IsGrouped regions by groups) items
-        → sum_of_groups regions by groups m items ≡ count_of m items }
+        → sum_of_groups regions by groups m items ≡ items_of_measure m items }
 {}
 
 /// Items may be counted list by list.

@@ -1,6 +1,6 @@
 ghost use Rattle.std.specs.Prelude.{◌≡◌, ◌+◌, ◌<◌, ◌++◌, length, replicate, slice_index_or, slice_set, IfOk, OnOk};
 ghost use Rattle.account_table.specs.Items.{group_of, groups_in, regions_from, region_of};
-ghost use Rattle.account_table.specs.Tallies.{no_tallies, number_of, raised, raised_in, with_item};
+ghost use Rattle.account_table.specs.Tallies.{no_tallies, tally_of, one_more_at, raised_in, with_item};
 
 use crate::item::{Grouping, Item};
 use crate::measure::Measure;
@@ -80,7 +80,7 @@ fn groups(program: &Program, cores: u32, by: Grouping) -> usize
 /// One more of the measure at an index.
 fn raise(row: &mut Numbers, index: usize)
     requires { index < 26 }
-    ensures { row.new ≡ raised index row.old }
+    ensures { row.new ≡ one_more_at index row.old }
 {
     row[index] = row[index].saturating_add(1);
 }
@@ -147,7 +147,7 @@ impl AccountTable {
 
     /// The number of a measure in a group, and 0 where there is no such group. Takes no memory.
     pub fn number(&self, measure: Measure, group: usize) -> u64
-        ensures { result ≡ number_of measure group self.now }
+        ensures { result ≡ tally_of measure group self.now }
     {
         match self.numbers.as_slice().get(group) {
             Some(row) => row[measure.index()],

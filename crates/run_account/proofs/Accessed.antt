@@ -19,7 +19,7 @@ use Rattle.machine_rules.specs.State.{State}
 use Rattle.account_table.specs.declared.item.Item.{Item}
 use Rattle.account_table.specs.declared.measure.Measure as measure
 use Rattle.run_account.specs.Departures.{Departures}
-use Rattle.run_account.specs.Events.{item_at, one_if, is_registered, load_items, store_items, sent_items, instr_items}
+use Rattle.run_account.specs.Events.{item_at, item_if, is_registered, load_items, store_items, sent_items, instr_items}
 use Rattle.run_account.specs.Access.{hit_items, load_access, store_access, need_items}
 
 module _ (S : State) (D : Departures) (n : NodeParts) where
@@ -36,9 +36,9 @@ module _ (S : State) (D : Departures) (n : NodeParts) where
   loads d t word (Some (Leaving value)) = refl
 
   store-at : (word : WordId) (value : ℕ) (e : Option Entry) → entry_of n word.0 ≡ e
-      → store_items n (Some (word, value)) ≡ item_at measure.TheVariants.Stores n word ∷ one_if (is_registered e) (item_at measure.TheVariants.StoresSilent n word)
+      → store_items n (Some (word, value)) ≡ item_at measure.TheVariants.Stores n word ∷ item_if (is_registered e) (item_at measure.TheVariants.StoresSilent n word)
   store-at word value e is =
-      ap (λ (x : Option Entry). item_at measure.TheVariants.Stores n word ∷ one_if (is_registered x) (item_at measure.TheVariants.StoresSilent n word)) is
+      ap (λ (x : Option Entry). item_at measure.TheVariants.Stores n word ∷ item_if (is_registered x) (item_at measure.TheVariants.StoresSilent n word)) is
 
   with-sent : (xs ys : List Item) (sent : Option Outgoing) → xs ≡ ys → load_items n None ++ xs ++ sent_items S D n sent ≡ load_items n None ++ ys ++ sent_items S D n sent
   with-sent xs ys sent same = ap (λ (zs : List Item). load_items n None ++ zs ++ sent_items S D n sent) same

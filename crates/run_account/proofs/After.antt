@@ -30,7 +30,7 @@ by-parts : (S : State) (e : Event) (A : Accounted) (items : List Item) (D : Depa
     → departures_with (gone_in S e) A.departures ≡ D → handings_with (handed_in S e) A.handings ≡ H
     → account_after S e A ≡ record { tallies = with_items A.tallies items; departures = D; handings = H }
 unfolding account_after
-by-parts S e A items D H counted gone handed = rw (counted, gone, handed) refl
+by-parts S e A items D H counted gone with_handing = rw (counted, gone, with_handing) refl
 
 pub after_instr : (S : State) (core : CoreId) (A : Accounted) (n : NodeParts) → slice_get S.nodes core.0 ≡ Some n
     → account_after S (Instr core) A ≡ adding A (instr_items S A.departures n)

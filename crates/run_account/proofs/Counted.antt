@@ -4,7 +4,7 @@ use Rattle.std.specs.Prelude.{count_by}
 use Rattle.std.proofs.lemmas.List.Sums.{sum_by-cons}
 use Rattle.registration_protocol.specs.Node.{NodeParts}
 use Rattle.account_table.specs.declared.item.Item.{Item}
-use Rattle.run_account.specs.Events.{one_if}
+use Rattle.run_account.specs.Events.{item_if}
 use Rattle.run_account.specs.Account.{Accounted, adding}
 
 drop-at : (nodes : List NodeParts) (k : ℕ) (n : NodeParts) → slice_get nodes k ≡ Some n → drop k nodes ≡ n ∷ drop (suc k) nodes
@@ -15,7 +15,7 @@ drop-at (m ∷ nodes) zero n there = by_some there where
 drop-at (m ∷ nodes) (suc k) n there = drop-at nodes k n there
 
 pub one-node : (test : NodeParts → Bool) (item : Item) (A B E : Accounted) (nodes : List NodeParts) (k : ℕ) (n : NodeParts) → slice_get nodes k ≡ Some n
-    → B ≡ adding A (one_if (test n) item) → adding A (replicate (count_by test (drop k nodes)) item) ≡ E
+    → B ≡ adding A (item_if (test n) item) → adding A (replicate (count_by test (drop k nodes)) item) ≡ E
     → adding B (replicate (count_by test (drop (k + 1) nodes)) item) ≡ E
 one-node test item A B E nodes k n there is led =
     rw is (by_test (test n) refl) ∙ ap (λ (ns : List NodeParts). adding A (replicate (count_by test ns) item)) (sym (drop-at nodes k n there)) ∙ led
@@ -26,7 +26,7 @@ one-node test item A B E nodes k n there is led =
     later : List NodeParts
     later = drop (suc k) nodes
 
-    by_test : (t : Bool) → test n ≡ t → adding (adding A (one_if t item)) (replicate (count_by test (drop (k + 1) nodes)) item) ≡ adding A (replicate (count_by test (n ∷ later)) item)
+    by_test : (t : Bool) → test n ≡ t → adding (adding A (item_if t item)) (replicate (count_by test (drop (k + 1) nodes)) item) ≡ adding A (replicate (count_by test (n ∷ later)) item)
     by_test true e =
         let more : count_by test (n ∷ later) ≡ suc (count_by test later) = sum_by-cons (λ (x : NodeParts). cond (test x) 1 0) n later ∙ rw e (omega arith) in
         ap (λ (j : ℕ). adding A (item ∷ replicate (count_by test (drop j nodes)) item)) (sym next)

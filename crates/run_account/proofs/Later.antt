@@ -32,14 +32,14 @@ use Rattle.account_table.specs.declared.measure.Measure as measure
 use Rattle.account_table.specs.declared.measure.Measure.{Measure}
 use Rattle.account_table.specs.declared.item.Item.{Item}
 use Rattle.account_table.specs.Measure.{measure_index, same_measure}
-use Rattle.account_table.specs.Items.{count_of}
+use Rattle.account_table.specs.Items.{items_of_measure}
 use Rattle.run_account.specs.declared.departure.Departure.{Departure}
 use Rattle.run_account.specs.declared.departure.Departure.TheVariants as why
 use Rattle.run_account.specs.declared.departure.Handing.{Handing}
 use Rattle.run_account.specs.declared.departure.Handing.TheVariants.{AtOnce, Queued}
 use Rattle.run_account.specs.Departures.{Departures, departure_at, goes}
 use Rattle.run_account.specs.Handings.{Handings, handing_of}
-use Rattle.run_account.specs.Events.{item_of, item_at, one_if, load_items, store_items, miss_of, has_untold_copy, asking_items, sent_items, instr_items, evict_items, phase_items, lock_items, grant_measure, reply_measure, is_bounced, message_items, at_node, mail_items, handle_items, items_in}
+use Rattle.run_account.specs.Events.{item_of, item_at, item_if, load_items, store_items, miss_of, has_untold_copy, asking_items, sent_items, instr_items, evict_items, phase_items, lock_items, grant_measure, reply_measure, is_bounced, message_items, at_node, mail_items, handle_items, items_in}
 use Rattle.run_account.specs.Kinds.{is_kind}
 use Rattle.run_account.proofs.Without.{Lacks, lacks-append, lacks-replicate}
 use Rattle.run_account.proofs.Reasons.{lacks-if, phase-lacks-all, lock-lacks-all, stores-lack}
@@ -95,7 +95,7 @@ pub locks-lack : (S : State) (n : NodeParts) (signature : Signature) (granted : 
 locks-lack = lock-lacks-all is_later (λ s. refl) (λ s. refl) (λ s. refl)
 
 -- a list without later measures has none of a later measure
-pub count-none : (m : Measure) → is_later m ≡ true → (items : List Item) → Lacks is_later items → count_of m items ≡ 0
+pub count-none : (m : Measure) → is_later m ≡ true → (items : List Item) → Lacks is_later items → items_of_measure m items ≡ 0
 count-none m later [] none = refl
 count-none m later (item ∷ items) none =
     omega (
@@ -112,23 +112,23 @@ count-none m later (item ∷ items) none =
     not-one t e = rw e refl
 
 -- none of two later measures
-pub none-of : (a b : Measure) → is_later a ≡ true → is_later b ≡ true → (items : List Item) → Lacks is_later items → 0 ≡ count_of a items + count_of b items
+pub none-of : (a b : Measure) → is_later a ≡ true → is_later b ≡ true → (items : List Item) → Lacks is_later items → 0 ≡ items_of_measure a items + items_of_measure b items
 none-of a b first second items none = omega (arith, count-none a first items none, count-none b second items none)
 
 -- a reply is counted once, and no other message is one
 replied : (S : State) (H : Handings) (sender : Actor) (n : NodeParts) (m : Message)
-    → cond (is_kind kind.TheVariants.DataReply (kind_of m)) 1 0 ≡ count_of measure.TheVariants.RepliesHome (message_items S H sender n m) + count_of measure.TheVariants.RepliesCore (message_items S H sender n m)
+    → cond (is_kind kind.TheVariants.DataReply (kind_of m)) 1 0 ≡ items_of_measure measure.TheVariants.RepliesHome (message_items S H sender n m) + items_of_measure measure.TheVariants.RepliesCore (message_items S H sender n m)
 replied S H sender n (message.TheVariants.DataReply word value) = by_sender sender where
-  by_sender : (from : Actor) → 1 ≡ count_of measure.TheVariants.RepliesHome (item_at (reply_measure from) n word ∷ []) + count_of measure.TheVariants.RepliesCore (item_at (reply_measure from) n word ∷ [])
+  by_sender : (from : Actor) → 1 ≡ items_of_measure measure.TheVariants.RepliesHome (item_at (reply_measure from) n word ∷ []) + items_of_measure measure.TheVariants.RepliesCore (item_at (reply_measure from) n word ∷ [])
   by_sender (Core core) = refl
   by_sender (Bank bank) = refl
   by_sender Keeper = refl
 replied S H sender n (message.TheVariants.ReadFwd word reader) = by_test (is_bounced (node_gets S.setting n (message.TheVariants.ReadFwd word reader)).1.sent) where
-  by_test : (t : Bool) → 0 ≡ count_of measure.TheVariants.RepliesHome (one_if t (item_at measure.TheVariants.Bounces n word)) + count_of measure.TheVariants.RepliesCore (one_if t (item_at measure.TheVariants.Bounces n word))
+  by_test : (t : Bool) → 0 ≡ items_of_measure measure.TheVariants.RepliesHome (item_if t (item_at measure.TheVariants.Bounces n word)) + items_of_measure measure.TheVariants.RepliesCore (item_if t (item_at measure.TheVariants.Bounces n word))
   by_test true = refl
   by_test false = refl
 replied S H sender n (message.TheVariants.RegFwd word core) = by_test (goes n (node_gets S.setting n (message.TheVariants.RegFwd word core)).0 word.0) where
-  by_test : (t : Bool) → 0 ≡ count_of measure.TheVariants.RepliesHome (one_if t (item_at measure.TheVariants.Taken n word)) + count_of measure.TheVariants.RepliesCore (one_if t (item_at measure.TheVariants.Taken n word))
+  by_test : (t : Bool) → 0 ≡ items_of_measure measure.TheVariants.RepliesHome (item_if t (item_at measure.TheVariants.Taken n word)) + items_of_measure measure.TheVariants.RepliesCore (item_if t (item_at measure.TheVariants.Taken n word))
   by_test true = refl
   by_test false = refl
 replied S H sender n (message.TheVariants.Grant lock signature) =
@@ -140,7 +140,7 @@ replied S H sender n (message.TheVariants.Grant lock signature) =
       by_handing (handing_of H lock.0) measure.TheVariants.RepliesCore refl (lock_items S n signature after.1.granted),
     )
   where
-    by_handing : (how : Handing) (m : Measure) → (nat_lt (measure_index m) 24) ≡ true → (items : List Item) → count_of m (item_of (grant_measure how) n None ∷ items) ≡ count_of m items
+    by_handing : (how : Handing) (m : Measure) → (nat_lt (measure_index m) 24) ≡ true → (items : List Item) → items_of_measure m (item_of (grant_measure how) n None ∷ items) ≡ items_of_measure m items
     by_handing how m low items =
         omega (arith, not-it how, sum_by-cons (λ (x : Item). cond (same_measure m x.measure) 1 0) (item_of (grant_measure how) n None) items)
       where
@@ -167,24 +167,24 @@ pub replies-told : (S : State) (D : Departures) (H : Handings) (e : Event) → C
     → IsToldBy kind.TheVariants.DataReply measure.TheVariants.RepliesHome measure.TheVariants.RepliesCore S e (items_in S D H e)
 unfolding items_in kind_in
 replies-told S D H (Instr core) coherent may = by_node (slice_get S.nodes core.0) where
-  by_node : (there : Option NodeParts) → 0 ≡ count_of measure.TheVariants.RepliesHome (at_node (instr_items S D) there) + count_of measure.TheVariants.RepliesCore (at_node (instr_items S D) there)
+  by_node : (there : Option NodeParts) → 0 ≡ items_of_measure measure.TheVariants.RepliesHome (at_node (instr_items S D) there) + items_of_measure measure.TheVariants.RepliesCore (at_node (instr_items S D) there)
   by_node None = refl
   by_node (Some n) = none-of measure.TheVariants.RepliesHome measure.TheVariants.RepliesCore refl refl (instr_items S D n) (instr-lacks S D n)
 replies-told S D H (Evict core word) coherent may = by_node (slice_get S.nodes core.0) where
-  by_entry : (n : NodeParts) (e : Option Entry) → 0 ≡ count_of measure.TheVariants.RepliesHome (evict_items n word e) + count_of measure.TheVariants.RepliesCore (evict_items n word e)
+  by_entry : (n : NodeParts) (e : Option Entry) → 0 ≡ items_of_measure measure.TheVariants.RepliesHome (evict_items n word e) + items_of_measure measure.TheVariants.RepliesCore (evict_items n word e)
   by_entry n None = refl
   by_entry n (Some (entry.TheVariants.Valid value marked)) = refl
   by_entry n (Some (entry.TheVariants.Registered value pending)) = refl
   by_entry n (Some (entry.TheVariants.Leaving value)) = refl
 
-  by_node : (there : Option NodeParts) → 0 ≡ count_of measure.TheVariants.RepliesHome (at_node (λ (n : NodeParts). evict_items n word (entry_of n word.0)) there) + count_of measure.TheVariants.RepliesCore (at_node (λ (n : NodeParts). evict_items n word (entry_of n word.0)) there)
+  by_node : (there : Option NodeParts) → 0 ≡ items_of_measure measure.TheVariants.RepliesHome (at_node (λ (n : NodeParts). evict_items n word (entry_of n word.0)) there) + items_of_measure measure.TheVariants.RepliesCore (at_node (λ (n : NodeParts). evict_items n word (entry_of n word.0)) there)
   by_node None = refl
   by_node (Some n) = by_entry n (entry_of n word.0)
 replies-told S D H (Arrive core) coherent may = refl
 replies-told S D H (Handle id) coherent may = by_mail (removed id S.mails).0 (λ m e. coherent.expected m (was-there S id m e)) where
   by_there : (core : _) (m : Mail) (there : Option NodeParts) → slice_get S.nodes core ≡ there → IsExpected S (Core (record { 0 = core })) m.message
-      → cond (is_kind kind.TheVariants.DataReply (kind_of m.message)) 1 0 ≡ count_of measure.TheVariants.RepliesHome (at_node (λ (n : NodeParts). message_items S H m.id.sender n m.message) there)
-      + count_of measure.TheVariants.RepliesCore (at_node (λ (n : NodeParts). message_items S H m.id.sender n m.message) there)
+      → cond (is_kind kind.TheVariants.DataReply (kind_of m.message)) 1 0 ≡ items_of_measure measure.TheVariants.RepliesHome (at_node (λ (n : NodeParts). message_items S H m.id.sender n m.message) there)
+      + items_of_measure measure.TheVariants.RepliesCore (at_node (λ (n : NodeParts). message_items S H m.id.sender n m.message) there)
   by_there core m (Some n) is awaited = replied S H m.id.sender n m.message
   by_there core m None is awaited = by_message m.message awaited where
     by_message : (x : Message) → IsExpected S (Core (record { 0 = core })) x → cond {A = ℕ} (is_kind kind.TheVariants.DataReply (kind_of x)) 1 0 ≡ 0
@@ -206,7 +206,7 @@ replies-told S D H (Handle id) coherent may = by_mail (removed id S.mails).0 (λ
     by_message message.TheVariants.Halt waits = refl
 
   by_actor : (m : Mail) (to : Actor) → IsExpected S to m.message
-      → cond (is_kind kind.TheVariants.DataReply (kind_of m.message)) 1 0 ≡ count_of measure.TheVariants.RepliesHome (mail_items S H m.id.sender to m.message) + count_of measure.TheVariants.RepliesCore (mail_items S H m.id.sender to m.message)
+      → cond (is_kind kind.TheVariants.DataReply (kind_of m.message)) 1 0 ≡ items_of_measure measure.TheVariants.RepliesHome (mail_items S H m.id.sender to m.message) + items_of_measure measure.TheVariants.RepliesCore (mail_items S H m.id.sender to m.message)
   by_actor m (Core core) awaited = by_there core.0 m (slice_get S.nodes core.0) refl awaited
   by_actor m (Bank bank) awaited = of_bank m.message awaited where
     of_bank : (x : Message) → IsExpected S (Bank bank) x → cond {A = ℕ} (is_kind kind.TheVariants.DataReply (kind_of x)) 1 0 ≡ 0
@@ -242,6 +242,6 @@ replies-told S D H (Handle id) coherent may = by_mail (removed id S.mails).0 (λ
     of_keeper message.TheVariants.Halt waits = refl
 
   by_mail : (took : Option Mail) → ((m : Mail) → took ≡ Some m → IsExpected S m.to m.message)
-      → cond (is_kind kind.TheVariants.DataReply (kind_with took)) 1 0 ≡ count_of measure.TheVariants.RepliesHome (handle_items S H took) + count_of measure.TheVariants.RepliesCore (handle_items S H took)
+      → cond (is_kind kind.TheVariants.DataReply (kind_with took)) 1 0 ≡ items_of_measure measure.TheVariants.RepliesHome (handle_items S H took) + items_of_measure measure.TheVariants.RepliesCore (handle_items S H took)
   by_mail None awaited = refl
   by_mail (Some m) awaited = by_actor m m.to (awaited m refl)

@@ -21,8 +21,8 @@ use Rattle.registry_bank.specs.Bank.{BankParts, bank_lock, bank_gets, acquires, 
 use Rattle.machine_rules.specs.State.{State}
 use Rattle.run_account.specs.declared.departure.Handing.{Handing}
 use Rattle.run_account.specs.declared.departure.Handing.TheVariants.{AtOnce, Queued}
-use Rattle.run_account.specs.Handings.{Handings, grants_lock, granted_at_bank, handed_in, handings_with}
-use Rattle.run_account.specs.Moves.{free_hands, holder_hands, acquire_hands, release_hands, hands_if, handed, message_hands}
+use Rattle.run_account.specs.Handings.{Handings, grants_lock, handed_at_bank, handed_in, handings_with}
+use Rattle.run_account.specs.Moves.{free_hands, holder_hands, acquire_hands, release_hands, hands_if, with_handing, message_hands}
 
 zero-plus : (n : ℕ) → 0 + n ≡ n
 zero-plus n = omega arith
@@ -62,42 +62,42 @@ cond-none false = refl
 
 module _ (g : ℕ → Option Handing) (b : BankParts) (H : Handings) where
   acquire-hands : (lock : LockId) (core : CoreId) (h : Lock) (holder : Option CoreId) → h.holder ≡ holder
-      → ((l : ℕ) → g l ≡ cond (grants_lock l (acquires b lock core (Some h)).1) (Some AtOnce) None) → handings_with g H ≡ handed H lock (free_hands holder)
+      → ((l : ℕ) → g l ≡ cond (grants_lock l (acquires b lock core (Some h)).1) (Some AtOnce) None) → handings_with g H ≡ with_handing H lock (free_hands holder)
   acquire-hands lock core h None is at = one-handed g H lock.0 AtOnce (λ l. at l ∙ rw is refl)
   acquire-hands lock core h (Some other) is at = none-handed g H (λ l. at l ∙ rw is refl)
 
   acquire-by : (lock : LockId) (core : CoreId) (h : Option Lock)
-      → ((l : ℕ) → g l ≡ cond (grants_lock l (acquires b lock core h).1) (Some AtOnce) None) → handings_with g H ≡ handed H lock (acquire_hands h)
+      → ((l : ℕ) → g l ≡ cond (grants_lock l (acquires b lock core h).1) (Some AtOnce) None) → handings_with g H ≡ with_handing H lock (acquire_hands h)
   acquire-by lock core None at = none-handed g H at
   acquire-by lock core (Some h) at = acquire-hands lock core h h.holder refl at
 
   release-queue : (lock : LockId) (core : CoreId) (signature : Signature) (h : Lock) (holder : CoreId) (queue : List CoreId) → h.holder ≡ Some holder → h.queue ≡ queue
       → is_core core.0 holder ≡ true
-      → ((l : ℕ) → g l ≡ cond (grants_lock l (releases b lock core signature (Some h)).1) (Some Queued) None) → handings_with g H ≡ handed H lock (holder_hands core (Some holder) queue)
+      → ((l : ℕ) → g l ≡ cond (grants_lock l (releases b lock core signature (Some h)).1) (Some Queued) None) → handings_with g H ≡ with_handing H lock (holder_hands core (Some holder) queue)
   release-queue lock core signature h holder [] is line own at = rw own (none-handed g H (λ l. at l ∙ rw (is, own, line) refl))
   release-queue lock core signature h holder (next ∷ others) is line own at = rw own (one-handed g H lock.0 Queued (λ l. at l ∙ rw (is, own, line) refl))
 
   release-holder : (lock : LockId) (core : CoreId) (signature : Signature) (h : Lock) (holder : Option CoreId) → h.holder ≡ holder
-      → ((l : ℕ) → g l ≡ cond (grants_lock l (releases b lock core signature (Some h)).1) (Some Queued) None) → handings_with g H ≡ handed H lock (holder_hands core holder h.queue)
+      → ((l : ℕ) → g l ≡ cond (grants_lock l (releases b lock core signature (Some h)).1) (Some Queued) None) → handings_with g H ≡ with_handing H lock (holder_hands core holder h.queue)
   release-holder lock core signature h None is at = none-handed g H (λ l. at l ∙ rw is refl)
   release-holder lock core signature h (Some holder) is at = by_test (is_core core.0 holder) refl where
-    by_test : (t : Bool) → is_core core.0 holder ≡ t → handings_with g H ≡ handed H lock (holder_hands core (Some holder) h.queue)
+    by_test : (t : Bool) → is_core core.0 holder ≡ t → handings_with g H ≡ with_handing H lock (holder_hands core (Some holder) h.queue)
     by_test true own = release-queue lock core signature h holder h.queue is refl own at
     by_test false own = rw own (none-handed g H (λ l. at l ∙ rw (is, own) refl))
 
   release-by : (lock : LockId) (core : CoreId) (signature : Signature) (h : Option Lock)
-      → ((l : ℕ) → g l ≡ cond (grants_lock l (releases b lock core signature h).1) (Some Queued) None) → handings_with g H ≡ handed H lock (release_hands core h)
+      → ((l : ℕ) → g l ≡ cond (grants_lock l (releases b lock core signature h).1) (Some Queued) None) → handings_with g H ≡ with_handing H lock (release_hands core h)
   release-by lock core signature None at = none-handed g H at
   release-by lock core signature (Some h) at = release-holder lock core signature h h.holder refl at
 
-  by_bank : (msg : Message) → ((l : ℕ) → g l ≡ granted_at_bank l msg (Some b)) → handings_with g H ≡ message_hands b H msg
+  by_bank : (msg : Message) → ((l : ℕ) → g l ≡ handed_at_bank l msg (Some b)) → handings_with g H ≡ message_hands b H msg
   unfolding bank_gets
   by_bank (message.TheVariants.Acquire lock core) at = by_test (nat_lt core.0 b.cores) refl where
-    by_test : (t : Bool) → nat_lt core.0 b.cores ≡ t → handings_with g H ≡ handed H lock (hands_if b core (acquire_hands (bank_lock b lock.0)))
+    by_test : (t : Bool) → nat_lt core.0 b.cores ≡ t → handings_with g H ≡ with_handing H lock (hands_if b core (acquire_hands (bank_lock b lock.0)))
     by_test true e = rw e (acquire-by lock core (bank_lock b lock.0) (λ l. at l ∙ rw e refl))
     by_test false e = rw e (none-handed g H (λ l. at l ∙ rw e refl))
   by_bank (message.TheVariants.Release lock core signature) at = by_test (nat_lt core.0 b.cores) refl where
-    by_test : (t : Bool) → nat_lt core.0 b.cores ≡ t → handings_with g H ≡ handed H lock (hands_if b core (release_hands core (bank_lock b lock.0)))
+    by_test : (t : Bool) → nat_lt core.0 b.cores ≡ t → handings_with g H ≡ with_handing H lock (hands_if b core (release_hands core (bank_lock b lock.0)))
     by_test true e = rw e (release-by lock core signature (bank_lock b lock.0) (λ l. at l ∙ rw e refl))
     by_test false e = rw e (none-handed g H (λ l. at l ∙ rw e refl))
   by_bank (message.TheVariants.ReadReq word reader) at = none-handed g H (λ l. at l ∙ cond-none (grants_lock l (bank_gets b (message.TheVariants.ReadReq word reader)).1))

@@ -41,7 +41,7 @@ use Rattle.run_account.specs.declared.departure.Occasion.{Occasion}
 use Rattle.run_account.specs.declared.departure.Occasion.TheVariants.{Go, Grant}
 use Rattle.run_account.specs.Departures.{Departures, departure_at, no_departures, departures_after, goes}
 use Rattle.run_account.specs.Handings.{Handings, handing_of, no_handings, handings_after}
-use Rattle.run_account.specs.Events.{item_at, one_if, load_items, store_items, is_registered, miss_of, has_untold_copy, asking_items, sent_items, instr_items, evict_items, remains, dropped_at, current_at, kept_at, copy_items, pair_items, copies_items, phase_items, lock_items, grant_measure, reply_measure, is_bounced, message_items, at_node, mail_items, handle_items, items_in}
+use Rattle.run_account.specs.Events.{item_at, item_if, load_items, store_items, is_registered, miss_of, has_untold_copy, asking_items, sent_items, instr_items, evict_items, remains, dropped_at, current_at, kept_at, copy_items, pair_items, copies_items, phase_items, lock_items, grant_measure, reply_measure, is_bounced, message_items, at_node, mail_items, handle_items, items_in}
 use Rattle.run_account.specs.Account.{items_from, number_in_run}
 use Rattle.run_account.proofs.Without.{Lacks, lacks-replicate, lacks-flat_map, count-cons, count-append, count-lacking}
 
@@ -57,7 +57,7 @@ of_both m = nat_lt (measure_index m) 11
 
 -- ---- lists without either
 
-pub lacks-if : (named : Measure → Bool) (test : Bool) (item : Item) → named item.measure ≡ false → Lacks named (one_if test item)
+pub lacks-if : (named : Measure → Bool) (test : Bool) (item : Item) → named item.measure ≡ false → Lacks named (item_if test item)
 lacks-if named true item isnt = (isnt, tt)
 lacks-if named false item isnt = tt
 
@@ -65,7 +65,7 @@ copies-lack : (named : Measure → Bool) (S : State) (n : NodeParts) (o : Occasi
     → named (dropped_at o) ≡ false → named (current_at o) ≡ false → named (kept_at o) ≡ false → Lacks named (copy_items S n o words p)
 copies-lack named S n o words p d c k = by_test (remains n o words p) where
   by_test : (t : Bool)
-      → Lacks named (cond t (one_if (has words p.0.0) (item_at (kept_at o) n p.0)) (item_at (dropped_at o) n p.0 ∷ one_if (value_in_entry (Some p.1) == word_value S p.0.0) (item_at (current_at o) n p.0)))
+      → Lacks named (cond t (item_if (has words p.0.0) (item_at (kept_at o) n p.0)) (item_at (dropped_at o) n p.0 ∷ item_if (value_in_entry (Some p.1) == word_value S p.0.0) (item_at (current_at o) n p.0)))
   by_test true = lacks-if named (has words p.0.0) (item_at (kept_at o) n p.0) k
   by_test false = (d, lacks-if named (value_in_entry (Some p.1) == word_value S p.0.0) (item_at (current_at o) n p.0) c)
 
@@ -325,9 +325,9 @@ module _ (regions : List ℕ) (by : Grouping) (group : ℕ) where
       not-none : (i : ℕ) → ((i == 0) || (i == 2)) ≡ false → (0 == i) ≡ false
       not-none i isnt = grind (arith, nat_tests, isnt)
 
-  load-few : (n : NodeParts) (word : WordId) (local : Bool) → Few (item_at measure.TheVariants.Loads n word ∷ one_if local (item_at measure.TheVariants.LoadsLocal n word))
+  load-few : (n : NodeParts) (word : WordId) (local : Bool) → Few (item_at measure.TheVariants.Loads n word ∷ item_if local (item_at measure.TheVariants.LoadsLocal n word))
   load-few n word local = by_test (in_it measure.TheVariants.Misses n word) refl local where
-    by_test : (t : Bool) → in_it measure.TheVariants.Misses n word ≡ t → (l : Bool) → Few (item_at measure.TheVariants.Loads n word ∷ one_if l (item_at measure.TheVariants.LoadsLocal n word))
+    by_test : (t : Bool) → in_it measure.TheVariants.Misses n word ≡ t → (l : Bool) → Few (item_at measure.TheVariants.Loads n word ∷ item_if l (item_at measure.TheVariants.LoadsLocal n word))
     by_test t e true =
         let few : cond (same_measure measure.TheVariants.LoadsLocal measure.TheVariants.LoadsLocal && t) 1 0 ≤ cond (same_measure measure.TheVariants.Loads measure.TheVariants.Loads && t) 1 0 = omega arith in
         omega (

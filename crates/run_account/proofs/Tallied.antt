@@ -5,7 +5,7 @@ use Rattle.std.proofs.lemmas.List.{get_or-set_same, get_or-set_other, set-set, s
 use Rattle.account_table.specs.declared.item.Item.{Item}
 use Rattle.account_table.specs.Measure.{measure_index}
 use Rattle.account_table.specs.Items.{group_of}
-use Rattle.account_table.specs.Tallies.{Tallies, capped, raised, raised_in, with_item, with_items}
+use Rattle.account_table.specs.Tallies.{Tallies, capped, one_more_at, raised_in, with_item, with_items}
 
 pub set-commute : {X : Type 0} (xs : List X) (i j : ℕ) (a b : X) → i ≢ j → set (set xs i a) j b ≡ set (set xs j b) i a
 set-commute [] i j a b other = refl
@@ -14,9 +14,9 @@ set-commute (x ∷ xs) zero (suc j) a b other = refl
 set-commute (x ∷ xs) (suc i) zero a b other = refl
 set-commute (x ∷ xs) (suc i) (suc j) a b other = ap (λ ys. x ∷ ys) (set-commute xs i j a b (λ e. other (ap suc e)))
 
-raised-commute : (row : List ℕ) (i j : ℕ) → raised j (raised i row) ≡ raised i (raised j row)
+raised-commute : (row : List ℕ) (i j : ℕ) → one_more_at j (one_more_at i row) ≡ one_more_at i (one_more_at j row)
 raised-commute row i j = by_test (i == j) refl where
-  by_test : (t : Bool) → (i == j) ≡ t → raised j (raised i row) ≡ raised i (raised j row)
+  by_test : (t : Bool) → (i == j) ≡ t → one_more_at j (one_more_at i row) ≡ one_more_at i (one_more_at j row)
   by_test true e = let same : i ≡ j = grind (arith, nat_tests) in rw same refl
   by_test false e =
       let other : i ≢ j = grind (arith, nat_tests) in
@@ -25,12 +25,12 @@ raised-commute row i j = by_test (i == j) refl where
       (set-commute row i j (capped (get_or row i 0 + 1)) (capped (get_or row j 0 + 1)) other)
 
 twice : (numbers : List (List ℕ)) (g i j : ℕ) → g < length numbers
-    → raised_in (Some g) j (raised_in (Some g) i numbers) ≡ set numbers g (raised j (raised i (get_or numbers g [])))
+    → raised_in (Some g) j (raised_in (Some g) i numbers) ≡ set numbers g (one_more_at j (one_more_at i (get_or numbers g [])))
 twice numbers g i j inside =
-    rw (get_or-set_same numbers g (raised i (get_or numbers g [])) [] inside) (set-set numbers g (raised i (get_or numbers g [])) (raised j (raised i (get_or numbers g []))))
+    rw (get_or-set_same numbers g (one_more_at i (get_or numbers g [])) [] inside) (set-set numbers g (one_more_at i (get_or numbers g [])) (one_more_at j (one_more_at i (get_or numbers g []))))
 
 past : (numbers : List (List ℕ)) (g i : ℕ) → length numbers ≤ g → raised_in (Some g) i numbers ≡ numbers
-past numbers g i out = set_past numbers g (raised i (get_or numbers g [])) out
+past numbers g i out = set_past numbers g (one_more_at i (get_or numbers g [])) out
 
 raised_in-commute : (numbers : List (List ℕ)) (a b : Option ℕ) (i j : ℕ) → raised_in b j (raised_in a i numbers) ≡ raised_in a i (raised_in b j numbers)
 raised_in-commute numbers None b i j = refl
@@ -50,8 +50,8 @@ raised_in-commute numbers (Some g) (Some h) i j = by_test (g == h) refl where
   by_test false e =
       let other : g ≢ h = grind (arith, nat_tests) in
       let back : h ≢ g = grind (arith, nat_tests) in
-      rw (get_or-set_other numbers g h (raised i (get_or numbers g [])) [] back, get_or-set_other numbers h g (raised j (get_or numbers h [])) [] other)
-      (set-commute numbers g h (raised i (get_or numbers g [])) (raised j (get_or numbers h [])) other)
+      rw (get_or-set_other numbers g h (one_more_at i (get_or numbers g [])) [] back, get_or-set_other numbers h g (one_more_at j (get_or numbers h [])) [] other)
+      (set-commute numbers g h (one_more_at i (get_or numbers g [])) (one_more_at j (get_or numbers h [])) other)
 
 item-commute : (t : Tallies) (a b : Item) → with_item (with_item t a) b ≡ with_item (with_item t b) a
 unfolding with_item

@@ -13,7 +13,7 @@ use Rattle.machine_rules.specs.Coherent.{Coherent, IsInFlight}
 use Rattle.account_table.specs.declared.measure.Measure.{Measure}
 use Rattle.account_table.specs.declared.item.Item.{Item}
 use Rattle.account_table.specs.Measure.{same_measure}
-use Rattle.account_table.specs.Items.{count_of}
+use Rattle.account_table.specs.Items.{items_of_measure}
 use Rattle.run_account.specs.Departures.{Departures, departures_after}
 use Rattle.run_account.specs.Handings.{Handings, handings_after}
 use Rattle.run_account.specs.Events.{items_in}
@@ -22,12 +22,12 @@ use Rattle.run_account.specs.Kinds.{is_kind, events_of_kind, StaysCoherent}
 
 -- an event of a kind is counted once by one of two measures, and no other event is
 abbrev pub IsToldBy : EventKind → Measure → Measure → State → Event → List Item → Type 0
-IsToldBy k a b S e items = cond (is_kind k (kind_in S e)) 1 0 ≡ count_of a items + count_of b items
+IsToldBy k a b S e items = cond (is_kind k (kind_in S e)) 1 0 ≡ items_of_measure a items + items_of_measure b items
 
 pub all-told : (k : EventKind) (a b : Measure)
     → ((S : State) (D : Departures) (H : Handings) (e : Event) → Coherent S → enabled S e ≡ true → IsToldBy k a b S e (items_in S D H e))
     → (S : State) (D : Departures) (H : Handings) (events : List Event) → StaysCoherent S → IsRun S events
-    → events_of_kind k S events ≡ count_of a (items_from S D H events) + count_of b (items_from S D H events)
+    → events_of_kind k S events ≡ items_of_measure a (items_from S D H events) + items_of_measure b (items_from S D H events)
 all-told k a b each S D H [] stays run = refl
 all-told k a b each S D H (e ∷ es) stays run =
     let rest = all-told k a b each (next S e) (departures_after S e D) (handings_after S e H) es (λ more runs. stays (e ∷ more) (run.0, runs)) run.1 in

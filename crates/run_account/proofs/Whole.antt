@@ -11,7 +11,7 @@ use Rattle.machine_rules.specs.Runs.{IsRun}
 use Rattle.account_table.specs.declared.item.Grouping.{Grouping}
 use Rattle.account_table.specs.declared.measure.Measure.{Measure}
 use Rattle.account_table.specs.Items.{groups_in}
-use Rattle.account_table.specs.Tallies.{Tallies, capped, number_of, with_items}
+use Rattle.account_table.specs.Tallies.{Tallies, capped, tally_of, with_items}
 use Rattle.account_table.proofs.Numbers.{number-is}
 use Rattle.run_account.specs.Events.{items_in}
 use Rattle.run_account.specs.Departures.{departures_after}
@@ -28,9 +28,9 @@ run-tallies (e ∷ es) S A = run-tallies es (next S e) (account_after S e A) ∙
   one = sym (items-then A.tallies (items_in S A.departures A.handings e) (items_from (next S e) (departures_after S e A.departures) (handings_after S e A.handings) es))
 
 pub number-of-run : (S : State) (events : List Event) (by : Grouping) (m : Measure) (group : ℕ) → group < groups_in S.setting.program S.setting.shape.cores by
-    → number_of m group (account_of_run S (no_account S.setting by) events).tallies ≡ capped (number_in_run by m group S events)
+    → tally_of m group (account_of_run S (no_account S.setting by) events).tallies ≡ capped (number_in_run by m group S events)
 number-of-run S events by m group inside =
-    ap (λ (t : Tallies). number_of m group t) (run-tallies events S (no_account S.setting by))
+    ap (λ (t : Tallies). tally_of m group t) (run-tallies events S (no_account S.setting by))
     ∙ number-is S.setting.program S.setting.shape.cores by (items_of_run S events) m group inside
 
 -- one event more of a list
@@ -44,8 +44,8 @@ tried-some S T e came x is tried = subst (λ (o : Option (Actor × Stepped)). Is
 
 pub one-led : (S T : State) (A B X : Accounted) (es : List Event) (i : ℕ) (d : Event) → i < length es → T ≡ next S (get_or es i d) → B ≡ account_after S (get_or es i d) A
     → account_of_run S A (drop i es) ≡ X → account_of_run T B (drop (i + 1) es) ≡ X
-one-led S T A B X es i d inside moved noted led =
-    ap (λ (U : State). account_of_run U B (drop (i + 1) es)) moved ∙ ap (λ (C : Accounted). account_of_run (next S (get_or es i d)) C (drop (i + 1) es)) noted
+one-led S T A B X es i d inside moved pair_noted led =
+    ap (λ (U : State). account_of_run U B (drop (i + 1) es)) moved ∙ ap (λ (C : Accounted). account_of_run (next S (get_or es i d)) C (drop (i + 1) es)) pair_noted
     ∙ ap (λ (fs : List Event). account_of_run S A fs) (sym (drop-next es i d inside)) ∙ led
 
 pub one-comes : (S T : State) (X : Type 0) (es : List Event) (i : ℕ) (d : Event) → i < length es → T ≡ next S (get_or es i d) → enabled S (get_or es i d) ≡ true

@@ -10,13 +10,13 @@ use Rattle.machine_rules.specs.State.{State}
 use Rattle.account_table.specs.declared.item.Item.{Item}
 use Rattle.account_table.specs.declared.measure.Measure as measure
 use Rattle.run_account.specs.Departures.{Departures, departure_at}
-use Rattle.run_account.specs.Events.{item_at, one_if, miss_of, has_untold_copy}
+use Rattle.run_account.specs.Events.{item_at, item_if, miss_of, has_untold_copy}
 
 abbrev pub miss_items : Departures → NodeParts → WordId → List Item
 miss_items D n word = item_at measure.TheVariants.Misses n word ∷ item_at (miss_of (departure_at D n.core word.0)) n word ∷ []
 
 abbrev pub hit_items : NodeParts → WordId → List Item
-hit_items n word = item_at measure.TheVariants.Loads n word ∷ one_if (waits_for_nothing n.waiting) (item_at measure.TheVariants.LoadsLocal n word)
+hit_items n word = item_at measure.TheVariants.Loads n word ∷ item_if (waits_for_nothing n.waiting) (item_at measure.TheVariants.LoadsLocal n word)
 
 -- other cores' copies
 abbrev pub untold_items : State → NodeParts → WordId → List Item

@@ -6,7 +6,7 @@ use Rattle.machine_rules.specs.Next.{next}
 use Rattle.account_table.specs.declared.item.Item.{Item}
 use Rattle.account_table.specs.declared.item.Grouping.{Grouping}
 use Rattle.account_table.specs.declared.measure.Measure.{Measure}
-use Rattle.account_table.specs.Items.{regions_from, count_in, count_of}
+use Rattle.account_table.specs.Items.{regions_from, count_in, items_of_measure}
 use Rattle.account_table.specs.Tallies.{Tallies, no_tallies, with_items}
 use Rattle.registration_protocol.specs.Node.{Setting}
 use Rattle.run_account.specs.Departures.{Departures, no_departures, departures_after}
@@ -27,7 +27,7 @@ abbrev pub number_in_run : Grouping → Measure → ℕ → State → List Event
 number_in_run by m group S events = count_in (regions_from 0 S.setting.program.regions) by m group (items_of_run S events)
 
 abbrev pub number_of_run : Measure → State → List Event → ℕ
-number_of_run m S events = count_of m (items_of_run S events)
+number_of_run m S events = items_of_measure m (items_of_run S events)
 
 -- the account of the events so far: the table of its numbers, what last happened to each core's entries, and how each lock was
 -- last granted

@@ -27,12 +27,12 @@ abbrev pub gone_pair : NodeParts → Occasion → List Interval → Departures �
 gone_pair n o words D p = if has_gone n o words p then departed D n.core p.0.0 (why_at o) else D
 
 -- one pair, and several
-unfoldable pub noted : State → NodeParts → Occasion → List Interval → Accounted → Pair → Accounted
-noted S n o words A p =
+unfoldable pub pair_noted : State → NodeParts → Occasion → List Interval → Accounted → Pair → Accounted
+pair_noted S n o words A p =
     record A { tallies = with_items A.tallies (pair_items S n o words p); departures = gone_pair n o words A.departures p }
 
-abbrev pub all_noted : State → NodeParts → Occasion → List Interval → Accounted → List Pair → Accounted
-all_noted S n o words A ps = fold (noted S n o words) A ps
+abbrev pub pairs_noted : State → NodeParts → Occasion → List Interval → Accounted → List Pair → Accounted
+pairs_noted S n o words A ps = fold (pair_noted S n o words) A ps
 
 -- whether a copy of one of the words stays
 abbrev pub spared : NodeParts → Occasion → ℕ → Bool → Bool

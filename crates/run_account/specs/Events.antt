@@ -44,15 +44,15 @@ abbrev pub item_at : Measure → NodeParts → WordId → Item
 item_at m n word = item_of m n (Some word)
 
 -- one item where a test holds, and none else
-abbrev pub one_if : Bool → Item → List Item
-one_if test item = if test then item ∷ [] else []
+abbrev pub item_if : Bool → Item → List Item
+item_if test item = if test then item ∷ [] else []
 
 -- ---- instructions
 
 -- a load that retires; it is local where the core waited for nothing
 abbrev pub load_items : NodeParts → Option LoadSeen → List Item
 load_items n None = []
-load_items n (Some seen) = item_at measure.TheVariants.Loads n seen.word ∷ one_if (waits_for_nothing n.waiting) (item_at measure.TheVariants.LoadsLocal n seen.word)
+load_items n (Some seen) = item_at measure.TheVariants.Loads n seen.word ∷ item_if (waits_for_nothing n.waiting) (item_at measure.TheVariants.LoadsLocal n seen.word)
 
 -- a store that retires; it is silent where its word is registered
 abbrev pub is_registered : Option Entry → Bool
@@ -62,7 +62,7 @@ is_registered _ = false
 abbrev pub store_items : NodeParts → Option (WordId × ℕ) → List Item
 store_items n None = []
 store_items n (Some written) =
-    item_at measure.TheVariants.Stores n written.0 ∷ one_if (is_registered (entry_of n written.0.0)) (item_at measure.TheVariants.StoresSilent n written.0)
+    item_at measure.TheVariants.Stores n written.0 ∷ item_if (is_registered (entry_of n written.0.0)) (item_at measure.TheVariants.StoresSilent n written.0)
 
 -- why the core has no entry of the word that it misses
 abbrev pub miss_of : Option Departure → Measure
@@ -128,8 +128,8 @@ kept_at (Grant signature) = measure.TheVariants.KeptSignature
 -- a copy goes, perhaps with the word's value; or it remains though its word is one of those that are looked at
 abbrev pub copy_items : State → NodeParts → Occasion → List Interval → Pair → List Item
 copy_items S n o words p =
-    if remains n o words p then one_if (has words p.0.0) (item_at (kept_at o) n p.0)
-    else item_at (dropped_at o) n p.0 ∷ one_if (value_in_entry (Some p.1) == word_value S p.0.0) (item_at (current_at o) n p.0)
+    if remains n o words p then item_if (has words p.0.0) (item_at (kept_at o) n p.0)
+    else item_at (dropped_at o) n p.0 ∷ item_if (value_in_entry (Some p.1) == word_value S p.0.0) (item_at (current_at o) n p.0)
 
 abbrev pub pair_items : State → NodeParts → Occasion → List Interval → Pair → List Item
 pair_items S n o words p = if is_valid p.1 then copy_items S n o words p else []
@@ -169,9 +169,9 @@ is_bounced (Some out) = bounced out.message
 abbrev pub message_items : State → Handings → Actor → NodeParts → Message → List Item
 message_items S H sender n (DataReply word value) = item_at (reply_measure sender) n word ∷ []
 message_items S H sender n (ReadFwd word reader) =
-    one_if (is_bounced (node_gets S.setting n (ReadFwd word reader)).1.sent) (item_at measure.TheVariants.Bounces n word)
+    item_if (is_bounced (node_gets S.setting n (ReadFwd word reader)).1.sent) (item_at measure.TheVariants.Bounces n word)
 message_items S H sender n (RegFwd word core) =
-    one_if (goes n (node_gets S.setting n (RegFwd word core)).0 word.0) (item_at measure.TheVariants.Taken n word)
+    item_if (goes n (node_gets S.setting n (RegFwd word core)).0 word.0) (item_at measure.TheVariants.Taken n word)
 message_items S H sender n (GrantOf lock signature) =
     item_of (grant_measure (handing_of H lock.0)) n None
     ∷ lock_items S n signature (node_gets S.setting n (GrantOf lock signature)).1.granted

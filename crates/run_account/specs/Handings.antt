@@ -18,13 +18,13 @@ use Rattle.run_account.specs.declared.departure.Handing.{Handing}
 use Rattle.run_account.specs.declared.departure.Handing.TheVariants.{AtOnce, Queued}
 
 -- whether a message grants the lock
-abbrev pub grants_in : ℕ → Message → Bool
-grants_in l (Grant lock signature) = lock.0 == l
-grants_in l _ = false
+abbrev pub is_grant_of : ℕ → Message → Bool
+is_grant_of l (Grant lock signature) = lock.0 == l
+is_grant_of l _ = false
 
 abbrev pub grants_lock : ℕ → Option Outgoing → Bool
 grants_lock l None = false
-grants_lock l (Some out) = grants_in l out.message
+grants_lock l (Some out) = is_grant_of l out.message
 
 -- a bank grants a lock at once when it handles an Acquire, and hands it on when it handles a Release
 abbrev pub way : Message → Option Handing
@@ -33,20 +33,20 @@ way (Release lock core signature) = Some Queued
 way _ = None
 
 -- how a lock is granted at an event, if it is granted there
-abbrev pub granted_at_bank : ℕ → Message → Option BankParts → Option Handing
-granted_at_bank l message None = None
-granted_at_bank l message (Some b) = if grants_lock l (bank_gets b message).1 then way message else None
+abbrev pub handed_at_bank : ℕ → Message → Option BankParts → Option Handing
+handed_at_bank l message None = None
+handed_at_bank l message (Some b) = if grants_lock l (bank_gets b message).1 then way message else None
 
-abbrev pub granted_at : State → ℕ → Actor → Message → Option Handing
-granted_at S l (Bank bank) message = granted_at_bank l message (slice_get S.banks bank.0)
-granted_at S l _ message = None
+abbrev pub handed_at : State → ℕ → Actor → Message → Option Handing
+handed_at S l (Bank bank) message = handed_at_bank l message (slice_get S.banks bank.0)
+handed_at S l _ message = None
 
-abbrev pub granted_with : State → ℕ → Option Mail → Option Handing
-granted_with S l None = None
-granted_with S l (Some m) = granted_at S l m.to m.message
+abbrev pub handed_with : State → ℕ → Option Mail → Option Handing
+handed_with S l None = None
+handed_with S l (Some m) = handed_at S l m.to m.message
 
 unfoldable pub handed_in : State → Event → ℕ → Option Handing
-handed_in S (Handle id) l = granted_with S l (removed id S.mails).0
+handed_in S (Handle id) l = handed_with S l (removed id S.mails).0
 handed_in S _ l = None
 
 -- how each lock was last granted, in the order of locks; one that wasn't granted yet counts as free
@@ -61,7 +61,7 @@ handing_of H l = slice_index_or H l AtOnce
 
 -- the same where those locks are granted that a function says
 unfoldable pub handings_with : (ℕ → Option Handing) → Handings → Handings
-handings_with handed H = map (λ (last : ℕ × Handing). unwrap_or (handed last.0) last.1) (enumerate_from 0 H)
+handings_with with_handing H = map (λ (last : ℕ × Handing). unwrap_or (with_handing last.0) last.1) (enumerate_from 0 H)
 
 -- the same after an event
 abbrev pub handings_after : State → Event → Handings → Handings

@@ -94,11 +94,11 @@ release_hands core (Some h) = holder_hands core h.holder h.queue
 abbrev pub hands_if : BankParts → CoreId → Option Handing → Option Handing
 hands_if b core how = if nat_lt core.0 b.cores then how else None
 
-abbrev pub handed : Handings → LockId → Option Handing → Handings
-handed H lock None = H
-handed H lock (Some how) = slice_set H lock.0 how
+abbrev pub with_handing : Handings → LockId → Option Handing → Handings
+with_handing H lock None = H
+with_handing H lock (Some how) = slice_set H lock.0 how
 
 abbrev pub message_hands : BankParts → Handings → Message → Handings
-message_hands b H (message.Acquire lock core) = handed H lock (hands_if b core (acquire_hands (bank_lock b lock.0)))
-message_hands b H (message.Release lock core signature) = handed H lock (hands_if b core (release_hands core (bank_lock b lock.0)))
+message_hands b H (message.Acquire lock core) = with_handing H lock (hands_if b core (acquire_hands (bank_lock b lock.0)))
+message_hands b H (message.Release lock core signature) = with_handing H lock (hands_if b core (release_hands core (bank_lock b lock.0)))
 message_hands b H _ = H

@@ -4,7 +4,7 @@ ghost use Rattle.account_table.specs.declared.measure.Measure.TheVariants as mea
 ghost use Rattle.registration_protocol.specs.Node.{entry_of};
 ghost use Rattle.run_account.specs.Account.{adding};
 ghost use Rattle.run_account.specs.Access.{miss_items, hit_items, untold_items, registering_items, load_access, store_access};
-ghost use Rattle.run_account.specs.Events.{item_at, one_if, has_untold_copy, instr_items};
+ghost use Rattle.run_account.specs.Events.{item_at, item_if, has_untold_copy, instr_items};
 
 use crate::account::Account;
 use crate::nodes::need;
@@ -46,7 +46,7 @@ impl Account {
 
     /// Counts another core's copy of a word.
     fn note_if_untold(&mut self, node: &Node, other: &Node, word: WordId)
-        ensures { self.new ≡ adding self.old (one_if (has_untold_copy node.now word.0 other.now) (item_at measure.UntoldCopies node.now word)) }
+        ensures { self.new ≡ adding self.old (item_if (has_untold_copy node.now word.0 other.now) (item_at measure.UntoldCopies node.now word)) }
     {
         if other.core().0 == node.core().0 {
             return;

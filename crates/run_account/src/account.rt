@@ -1,11 +1,11 @@
 ghost use Rattle.std.specs.Prelude.{◌≡◌, ◌+◌, [], ◌∷◌, length, replicate, slice_set, slice_index_or, IfOk, None, Some};
-ghost use Rattle.account_table.specs.Tallies.{number_of};
+ghost use Rattle.account_table.specs.Tallies.{tally_of};
 ghost use Rattle.run_account.specs.declared.departure.Handing.TheVariants.{AtOnce};
 ghost use Rattle.run_account.specs.Departures.{departed, departure_at};
 ghost use Rattle.run_account.specs.Events.{item_of, miss_of};
 ghost use Rattle.run_account.specs.Handings.{handing_of};
 ghost use Rattle.run_account.specs.Account.{no_account, adding};
-ghost use Rattle.run_account.specs.Moves.{handed};
+ghost use Rattle.run_account.specs.Moves.{with_handing};
 
 use crate::departure::{Departure, Handing};
 use crate::nodes::item;
@@ -87,7 +87,7 @@ impl Account {
 
     /// The number of a measure in a group, and 0 where there is no such group. Takes no memory.
     pub fn number(&self, measure: Measure, group: usize) -> u64
-        ensures { result ≡ number_of measure group self.now.tallies }
+        ensures { result ≡ tally_of measure group self.now.tallies }
     {
         self.table.number(measure, group)
     }
@@ -108,7 +108,7 @@ impl Account {
 
     /// Notes how a lock is granted, if it is.
     pub(crate) fn hand(&mut self, lock: LockId, how: Option<Handing>)
-        ensures { self.new ≡ record self.old { handings = handed self.old.handings lock how } }
+        ensures { self.new ≡ record self.old { handings = with_handing self.old.handings lock how } }
     {
         if let Some(how) = how {
             if (lock.0 as usize) < self.handings.len() {

@@ -4,8 +4,8 @@ ghost use Rattle.account_table.specs.Tallies.{with_items};
 ghost use Rattle.machine_rules.specs.Memory.{word_value};
 ghost use Rattle.word_cache.specs.Row.{pairs_of, pairs_by_use};
 ghost use Rattle.run_account.specs.Departures.{departed};
-ghost use Rattle.run_account.specs.Events.{item_at, one_if, dropped_at, current_at, kept_at, copies_items};
-ghost use Rattle.run_account.specs.Copies.{spared, why_at, noted, all_noted};
+ghost use Rattle.run_account.specs.Events.{item_at, item_if, dropped_at, current_at, kept_at, copies_items};
+ghost use Rattle.run_account.specs.Copies.{spared, why_at, pair_noted, pairs_noted};
 ghost use Rattle.run_account.specs.Moves.{copies_depart};
 
 use crate::account::Account;
@@ -79,7 +79,7 @@ impl Account {
         value: u32,
     )
         ensures { self.new ≡ record self.old {
-          tallies = with_items self.old.tallies (item_at (dropped_at occasion) node.now word ∷ one_if (value == word_value machine.now.state word.0) (item_at (current_at occasion) node.now word));
+          tallies = with_items self.old.tallies (item_at (dropped_at occasion) node.now word ∷ item_if (value == word_value machine.now.state word.0) (item_at (current_at occasion) node.now word));
           departures = departed self.old.departures node.now.core word.0 (why_at occasion);
         } }
     {
@@ -91,7 +91,7 @@ impl Account {
     }
 
     /// Counts a pair of the cache, if it is a copy of one of the words.
-    #[tactic(auto, unfolding(crate::specs::Copies::noted))]
+    #[tactic(auto, unfolding(crate::specs::Copies::pair_noted))]
     fn note_pair(
         &mut self,
         machine: &Machine,
@@ -101,7 +101,7 @@ impl Account {
         word: WordId,
         entry: Entry,
     )
-        ensures { self.new ≡ noted machine.now.state node.now occasion words.now self.old (word, entry) }
+        ensures { self.new ≡ pair_noted machine.now.state node.now occasion words.now self.old (word, entry) }
     {
         let Entry::Valid { value, marked } = entry else {
             return;
@@ -125,7 +125,7 @@ impl Account {
         words: &WordSet,
         places: &[Place],
     )
-        ensures { self.new ≡ all_noted machine.now.state node.now occasion words.now self.old (pairs_of places.now) }
+        ensures { self.new ≡ pairs_noted machine.now.state node.now occasion words.now self.old (pairs_of places.now) }
     {
         for place in places {
             if let Some((word, entry)) = place.pair {

@@ -8,7 +8,7 @@ ghost use Rattle.machine_rules.specs.Runs.{IsRun};
 ghost use Rattle.account_table.specs.declared.item.Grouping.{Grouping};
 ghost use Rattle.account_table.specs.declared.measure.Measure.{Measure};
 ghost use Rattle.account_table.specs.Items.{groups_in};
-ghost use Rattle.account_table.specs.Tallies.{capped, number_of};
+ghost use Rattle.account_table.specs.Tallies.{capped, tally_of};
 ghost use Rattle.account_table.specs.declared.measure.Measure.TheVariants.{Loads, LoadsLocal, Misses, MissesFirst, MissesPhase, MissesLock, MissesEvicted, MissesTaken, RepliesHome, RepliesCore, GrantsAtOnce, GrantsQueued, EvictedCopies, EvictedRegistered};
 ghost use Rattle.run_account.specs.Account.{no_account, account_of_run, number_in_run, number_of_run};
 ghost use Rattle.run_account.specs.Kinds.{events_of_kind, StaysCoherent};
@@ -16,7 +16,7 @@ ghost use Rattle.run_account.specs.Kinds.{events_of_kind, StaysCoherent};
 /// The numbers of the account of a run are the run's: how many of its items are of the measure and in the group.
 pub fn a_run_has_the_numbers_of_its_account()
     ensures { (S : State) (events : List Event) (by : Grouping) (m : Measure) (group : ℕ) → group < groups_in S.setting.program S.setting.shape.cores by
-        → number_of m group (account_of_run S (no_account S.setting by) events).tallies ≡ capped (number_in_run by m group S events) }
+        → tally_of m group (account_of_run S (no_account S.setting by) events).tallies ≡ capped (number_in_run by m group S events) }
 {}
 
 /// In each group every miss has one of the five reasons.

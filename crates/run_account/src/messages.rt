@@ -8,7 +8,7 @@ ghost use Rattle.registry_bank.specs.Bank.{bank_lock};
 ghost use Rattle.registration_protocol.specs.Node.{entry_of};
 ghost use Rattle.registration_protocol.specs.Messages.{node_gets, read_fwd_row, reg_fwd_row, written_in, guarded_by};
 ghost use Rattle.run_account.specs.Departures.{goes};
-ghost use Rattle.run_account.specs.Events.{item_at, item_of, one_if, reply_measure, is_bounced, grant_measure, phase_items, lock_items, message_items, evict_items};
+ghost use Rattle.run_account.specs.Events.{item_at, item_of, item_if, reply_measure, is_bounced, grant_measure, phase_items, lock_items, message_items, evict_items};
 ghost use Rattle.run_account.specs.Handings.{handing_of};
 ghost use Rattle.run_account.specs.Account.{adding};
 ghost use Rattle.run_account.specs.Moves.{evict_departs, taken_departs, given_departs, phase_departs, lock_departs, message_departs, free_hands, holder_hands, acquire_hands, release_hands, message_hands, begins_now, waits_now};
@@ -96,7 +96,7 @@ impl Account {
     }
 
     fn note_bounce(&mut self, machine: &Machine, node: &Node, word: WordId, reader: CoreId)
-        ensures { self.new ≡ adding self.old (one_if (is_bounced (read_fwd_row machine.now.state.setting node.now word reader (entry_of node.now word.0)).1.sent)
+        ensures { self.new ≡ adding self.old (item_if (is_bounced (read_fwd_row machine.now.state.setting node.now word reader (entry_of node.now word.0)).1.sent)
             (item_at measure.Bounces node.now word)) }
     {
         // for the clause alone: the machine has the setting
@@ -112,7 +112,7 @@ impl Account {
     #[tactic(auto, using(crate::proofs::Moved::lack_goes, crate::proofs::Moved::keep_goes))]
     fn note_taken(&mut self, node: &Node, word: WordId, core: CoreId)
         ensures { self.new ≡ record self.old {
-          tallies = with_items self.old.tallies (one_if (goes node.now (reg_fwd_row node.now word core (entry_of node.now word.0)).0 word.0) (item_at measure.Taken node.now word));
+          tallies = with_items self.old.tallies (item_if (goes node.now (reg_fwd_row node.now word core (entry_of node.now word.0)).0 word.0) (item_at measure.Taken node.now word));
           departures = taken_departs self.old.departures node.now word (entry_of node.now word.0);
         } }
     {
