@@ -10,8 +10,9 @@ somewhere else to come from. It takes texts that assemble and check; it refuses 
                                             the same for a script of events (crates/worked_rows/data/README.md has the form)
     tools/reference.py events [WORDS] < TEXT
                                             the events of a run, one a line, in the form of a script
-    tools/reference.py account [run|phase|core|region] < DOCUMENT
-                                            what the run of a document cost and why, as lines `measure,group,count`
+    tools/reference.py account [run|phase|core|region [csv|text]] < DOCUMENT
+                                            what the run of a document cost and why, as lines `measure,group,count`, or as the run's
+                                            report and a table
     tools/reference.py cases FOLDER [NAME]  runs the cases of the folder's files, of those modes and of scripts, and says which
                                             outputs aren't the computed ones, and how many cases reached each kind of event and
                                             each row of the tables of docs/PROTOCOL.md
@@ -1479,8 +1480,8 @@ class Account:
         elif kind == "wb-ack" and (node.entry(message[1]) or " ")[0] == "L":
             self.went(node, message[1], "misses-evicted")
 
-    def groups(self, by):
-        """Each measure of each group, with its count: 0 is there too, but by region."""
+    def counted(self, by):
+        """The names of the groups, and how often each measure is counted in each."""
         regions = self.machine.program.regions
         if by == "region":
             def group(row):
@@ -1494,8 +1495,19 @@ class Account:
         counts = {}
         for row in self.rows:
             counts[row[0], group(row)] = counts.get((row[0], group(row)), 0) + 1
+        return names, counts
+
+    def groups(self, by):
+        """Each measure of each group, with its count: 0 is there too, but by region."""
+        names, counts = self.counted(by)
         return [(measure, name, counts.get((measure, name), 0)) for measure in MEASURES for name in names
                 if by != "region" or (measure, name) in counts]
+
+    def table(self, by):
+        """The table for readers: a row for each measure below the names of the groups, a column for each group."""
+        names, counts = self.counted(by)
+        rows = [["by " + by] + list(names)] + [[measure] + [counts.get((measure, name), 0) for name in names] for measure in MEASURES]
+        return [row[0].ljust(22) + "".join(" " + str(cell).rjust(11) for cell in row[1:]) for row in rows]
 
     def agree(self):
         """That the sums agree that have to."""
@@ -1512,8 +1524,8 @@ class Account:
                     assert sum(count for other, _, count in self.groups(by) if other == measure) == run[measure]
 
 
-def account(data, by):
-    """The exit code and the account of a document's run, a line `measure,group,count` for each."""
+def account(data, by, form):
+    """The exit code and the account of a document's run: a line `measure,group,count` for each, or the run's report and a table."""
     told = read_document(data)
     if isinstance(told, str):
         return 2, ["refused trace " + told]
@@ -1528,6 +1540,8 @@ def account(data, by):
     if machine.pick(0)[0] is not None:
         return 2, ["refused trace incomplete"]
     kept.agree()
+    if form == "text":
+        return 0, run_text(machine) + kept.table(by)
     return 0, ["measure,group,count"] + ["%s,%s,%d" % row for row in kept.groups(by)]
 
 
@@ -2175,7 +2189,8 @@ def command(words):
         opened(assemble(sys.stdin.read()), o).run(o["seed"], lambda event: print(event_line(event)))
         return 0
     if words[:1] == ["account"]:
-        status, out = account(sys.stdin.buffer.read(), words[1] if words[1:] else "run")
+        by, form = words[1:3] + ["run", "csv"][len(words[1:3]):]
+        status, out = account(sys.stdin.buffer.read(), by, form)
         print("".join(line + "\n" for line in out), end="")
         return status
     if words[:1] == ["script"]:

@@ -124,6 +124,20 @@ impl AccountTable {
         })
     }
 
+    /// What the groups are.
+    pub fn by(&self) -> Grouping
+        ensures { result ≡ self.now.by }
+    {
+        self.by
+    }
+
+    /// How many groups there are.
+    pub fn groups(&self) -> usize
+        ensures { result ≡ length self.now.numbers }
+    {
+        self.numbers.len()
+    }
+
     /// The group of an item; None where it is in none.
     fn group(&self, item: Item) -> Option<u32>
         ensures { result ≡ group_of self.now.regions self.now.by item }

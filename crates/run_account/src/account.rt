@@ -1,5 +1,4 @@
 ghost use Rattle.std.specs.Prelude.{◌≡◌, ◌+◌, [], ◌∷◌, length, replicate, slice_set, slice_index_or, IfOk, None, Some};
-ghost use Rattle.account_table.specs.Tallies.{tally_of};
 ghost use Rattle.run_account.specs.declared.departure.Handing.TheVariants.{AtOnce};
 ghost use Rattle.run_account.specs.Departures.{departed, departure_at};
 ghost use Rattle.run_account.specs.Events.{item_of, miss_of};
@@ -85,11 +84,11 @@ impl Account {
         })
     }
 
-    /// The number of a measure in a group, and 0 where there is no such group. Takes no memory.
-    pub fn number(&self, measure: Measure, group: usize) -> u64
-        ensures { result ≡ tally_of measure group self.now.tallies }
+    /// The table of the numbers.
+    pub fn table(&self) -> &AccountTable
+        ensures { result.now ≡ self.now.tallies }
     {
-        self.table.number(measure, group)
+        &self.table
     }
 
     /// Counts an item of a node.

@@ -1,0 +1,13 @@
+-- What is added for the numbers of a range, one after the other.
+use Rattle.std.proofs.Common.{◌≡◌, ℕ, suc, ◌+◌, List, ◌++◌, flat_map, refl, sym, ap, ◌∙◌, arith, append_assoc}
+use Rattle.std.specs.List.{range_with_len}
+
+range-more : (f : ℕ → List ℕ) (a k m : ℕ) → k ≡ m + 1 → flat_map f (range_with_len a k) ≡ f a ++ flat_map f (range_with_len (a + 1) m)
+range-more f a k m one =
+    let on : k ≡ suc m = omega (arith, one) in
+    rw on refl
+
+pub range-step : (f : ℕ → List ℕ) (out : List ℕ) (a k m : ℕ) (whole : List ℕ) → k ≡ m + 1 → out ++ flat_map f (range_with_len a k) ≡ whole
+    → (out ++ f a) ++ flat_map f (range_with_len (a + 1) m) ≡ whole
+range-step f out a k m whole one so_far =
+    append_assoc out (f a) (flat_map f (range_with_len (a + 1) m)) ∙ ap (λ (r : List ℕ). out ++ r) (sym (range-more f a k m one)) ∙ so_far

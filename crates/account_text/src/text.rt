@@ -1,0 +1,30 @@
+ghost use Rattle.std.specs.Prelude.{◌≡◌, ◌++◌, OnOk};
+ghost use Rattle.account_text.specs.Forms.{account_text};
+
+use crate::csv::push_csv;
+use crate::form::Form;
+use crate::table::push_table;
+use account_table::AccountTable;
+use dn_base::Memory;
+use region_table::Program;
+
+/// Adds an account in one of its forms: the numbers of a table, whose groups are those of this program.
+///
+/// The table has a row for each measure, in their order, below a row with the names of the groups. The lines with commas have
+/// the measure, the group and the count, below a head line; by region a measure without an item there has no line.
+///
+/// # Errors
+/// `Memory` where there is no room for the text.
+pub fn push_account(
+    out: &mut Vec<u8>,
+    form: Form,
+    program: &Program,
+    table: &AccountTable,
+) -> Result<(), Memory>
+    ensures { OnOk result (out.new.items ≡ out.old.items ++ account_text form program.now table.now) }
+{
+    match form {
+        Form::Text => push_table(out, program, table),
+        Form::Csv => push_csv(out, program, table),
+    }
+}
