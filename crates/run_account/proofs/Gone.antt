@@ -11,7 +11,7 @@ use Rattle.word_cache.specs.Cache.{Pair, lookup, AreDifferent}
 use Rattle.registration_protocol.specs.Node.{NodeParts}
 use Rattle.run_account.specs.declared.departure.Departure.{Departure}
 use Rattle.run_account.specs.declared.departure.Occasion.{Occasion}
-use Rattle.run_account.specs.Departures.{Departures, departed, row_with, departures_with}
+use Rattle.run_account.specs.Departures.{Departures, departed, row_departed, departures_with}
 use Rattle.run_account.specs.Copies.{has_gone, why_at, gone_pair}
 use Rattle.run_account.proofs.Tallied.{set-commute}
 
@@ -20,37 +20,37 @@ zero-plus n = omega arith
 
 -- ---- a row
 
-length-row : (gone : ℕ → Option Departure) (row : List (Option Departure)) → length (row_with gone row) ≡ length row
-unfolding row_with
+length-row : (gone : ℕ → Option Departure) (row : List (Option Departure)) → length (row_departed gone row) ≡ length row
+unfolding row_departed
 length-row gone row = length-map (enumerate_from 0 row) (λ (last : ℕ × Option Departure). option_or (gone last.0) last.1) ∙ length-enumerate_from 0 row
 
-get-row : (gone : ℕ → Option Departure) (row : List (Option Departure)) (w : ℕ) → w < length row → get_or (row_with gone row) w None ≡ option_or (gone w) (get_or row w None)
-unfolding row_with
+get-row : (gone : ℕ → Option Departure) (row : List (Option Departure)) (w : ℕ) → w < length row → get_or (row_departed gone row) w None ≡ option_or (gone w) (get_or row w None)
+unfolding row_departed
 get-row gone row w inside =
     get_or-map (λ (last : ℕ × Option Departure). option_or (gone last.0) last.1) (enumerate_from 0 row) w (0, None) None (rw (length-enumerate_from 0 row) inside)
     ∙ rw (get_or-enumerate_from 0 row w (0, None) inside, zero-plus w) refl
 
 -- a row that has at each place what a function says
 row-is : (gone : ℕ → Option Departure) (row other : List (Option Departure)) → length other ≡ length row
-    → ((w : ℕ) → w < length row → get_or other w None ≡ option_or (gone w) (get_or row w None)) → row_with gone row ≡ other
+    → ((w : ℕ) → w < length row → get_or other w None ≡ option_or (gone w) (get_or row w None)) → row_departed gone row ≡ other
 row-is gone row other long each =
-    ext_get_or None (row_with gone row) other (length-row gone row ∙ sym long)
+    ext_get_or None (row_departed gone row) other (length-row gone row ∙ sym long)
     (λ w inside. let within : w < length row = rw (sym (length-row gone row)) inside in get-row gone row w within ∙ sym (each w within))
 
 -- ---- all rows
 
 length-rows : (gone : ℕ → ℕ → Option Departure) (D : Departures) → length (departures_with gone D) ≡ length D
 unfolding departures_with
-length-rows gone D = length-map (enumerate_from 0 D) (λ (row : ℕ × List (Option Departure)). row_with (gone row.0) row.1) ∙ length-enumerate_from 0 D
+length-rows gone D = length-map (enumerate_from 0 D) (λ (row : ℕ × List (Option Departure)). row_departed (gone row.0) row.1) ∙ length-enumerate_from 0 D
 
-get-rows : (gone : ℕ → ℕ → Option Departure) (D : Departures) (c : ℕ) → c < length D → get_or (departures_with gone D) c [] ≡ row_with (gone c) (get_or D c [])
+get-rows : (gone : ℕ → ℕ → Option Departure) (D : Departures) (c : ℕ) → c < length D → get_or (departures_with gone D) c [] ≡ row_departed (gone c) (get_or D c [])
 unfolding departures_with
 get-rows gone D c inside =
-    get_or-map (λ (row : ℕ × List (Option Departure)). row_with (gone row.0) row.1) (enumerate_from 0 D) c (0, []) [] (rw (length-enumerate_from 0 D) inside)
+    get_or-map (λ (row : ℕ × List (Option Departure)). row_departed (gone row.0) row.1) (enumerate_from 0 D) c (0, []) [] (rw (length-enumerate_from 0 D) inside)
     ∙ rw (get_or-enumerate_from 0 D c (0, []) inside, zero-plus c) refl
 
 rows-are : (gone : ℕ → ℕ → Option Departure) (D other : Departures) → length other ≡ length D
-    → ((c : ℕ) → c < length D → row_with (gone c) (get_or D c []) ≡ get_or other c []) → departures_with gone D ≡ other
+    → ((c : ℕ) → c < length D → row_departed (gone c) (get_or D c []) ≡ get_or other c []) → departures_with gone D ≡ other
 rows-are gone D other long each =
     ext_get_or [] (departures_with gone D) other (length-rows gone D ∙ sym long)
     (λ c inside. let within : c < length D = rw (sym (length-rows gone D)) inside in get-rows gone D c within ∙ each c within)
@@ -61,11 +61,11 @@ none-gone gone D none = rows-are gone D D refl (λ c inside. row-is (gone c) (ge
 
 -- entries of one core go
 one-core : (gone : ℕ → ℕ → Option Departure) (D : Departures) (core : ℕ) (row : List (Option Departure)) → ((c w : ℕ) → c ≢ core → gone c w ≡ None)
-    → row_with (gone core) (get_or D core []) ≡ row → departures_with gone D ≡ set D core row
+    → row_departed (gone core) (get_or D core []) ≡ row → departures_with gone D ≡ set D core row
 one-core gone D core row others here =
     rows-are gone D (set D core row) (length-set D core row) (λ c inside. by_core c inside (core == c) refl)
   where
-    by_core : (c : ℕ) → c < length D → (t : Bool) → (core == c) ≡ t → row_with (gone c) (get_or D c []) ≡ get_or (set D core row) c []
+    by_core : (c : ℕ) → c < length D → (t : Bool) → (core == c) ≡ t → row_departed (gone c) (get_or D c []) ≡ get_or (set D core row) c []
     by_core c inside true e =
         let same : c ≡ core = grind (arith, nat_tests) in
         rw same (here ∙ sym (get_or-set_same D core row [] (rw (sym same) inside)))
@@ -212,4 +212,4 @@ module _ (n : NodeParts) (o : Occasion) (words : List Interval) where
         ∙ sym (fold-row ps D inside)
     by_core false e =
         let out : length D ≤ n.core = grind (arith, nat_tests) in
-        one-core gone D n.core (row_with (gone n.core) row) others refl ∙ set_past D n.core (row_with (gone n.core) row) out ∙ sym (fold-past ps D out)
+        one-core gone D n.core (row_departed (gone n.core) row) others refl ∙ set_past D n.core (row_departed (gone n.core) row) out ∙ sym (fold-past ps D out)

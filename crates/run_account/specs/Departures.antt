@@ -76,11 +76,11 @@ departure_at D c w = slice_index_or (departures_at D c) w None
 abbrev pub departed : Departures → ℕ → ℕ → Departure → Departures
 departed D c w why = slice_set D c (slice_set (departures_at D c) w (Some why))
 
-unfoldable pub row_with : (ℕ → Option Departure) → List (Option Departure) → List (Option Departure)
-row_with gone row = map (λ (last : ℕ × Option Departure). option_or (gone last.0) last.1) (enumerate_from 0 row)
+unfoldable pub row_departed : (ℕ → Option Departure) → List (Option Departure) → List (Option Departure)
+row_departed gone row = map (λ (last : ℕ × Option Departure). option_or (gone last.0) last.1) (enumerate_from 0 row)
 
 unfoldable pub departures_with : (ℕ → ℕ → Option Departure) → Departures → Departures
-departures_with gone D = map (λ (row : ℕ × List (Option Departure)). row_with (gone row.0) row.1) (enumerate_from 0 D)
+departures_with gone D = map (λ (row : ℕ × List (Option Departure)). row_departed (gone row.0) row.1) (enumerate_from 0 D)
 
 -- the same after an event
 abbrev pub departures_after : State → Event → Departures → Departures
