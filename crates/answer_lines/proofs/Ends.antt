@@ -1,8 +1,7 @@
 -- The end of a task's line, by how the task stands; and what is counted.
-use Rattle.std.proofs.Common.{◌≡◌, ◌≢◌, ℕ, ◌+◌, List, [], ◌++◌, length, codes, Option, Some, None, IfNone, refl, ap, ◌∙◌, arith, append_assoc}
+use Rattle.std.proofs.Common.{◌≡◌, ◌≢◌, ℕ, List, [], ◌++◌, length, codes, Option, Some, None, IfNone, refl, ap, ◌∙◌, arith, append_assoc}
 use Rattle.std.specs.List.{All}
 use Rattle.std.specs.Fmt.{decimal}
-use Rattle.dn_base.specs.declared.ids.Grant.{Grant}
 use Rattle.dn_base.specs.declared.status.Outcome as outcome
 use Rattle.dn_base.specs.declared.status.Outcome.{Outcome}
 use Rattle.message_net.specs.declared.event.EventKind as event

@@ -1,8 +1,7 @@
 -- The lines of an answer, by what they say, and the numbers that they may have.
 use Rattle.std.specs.Fmt.{decimal}
-use Rattle.std.specs.Prelude.{◌≡◌, ℕ, ◌+◌, ◌^◌, ◌<◌, List, [], ◌∷◌, ◌++◌, codes}
+use Rattle.std.specs.Prelude.{◌≡◌, ℕ, ◌^◌, ◌<◌, List, [], ◌∷◌, ◌++◌, codes}
 use Rattle.dn_base.specs.declared.ids.Grant.{Grant}
-use Rattle.dn_base.specs.declared.status.Outcome.{Outcome}
 use Rattle.message_net.specs.declared.event.EventKind as event
 use Rattle.message_net.specs.declared.event.EventKind.{EventKind}
 use Rattle.rv_core.specs.declared.task.TrapKind as kind

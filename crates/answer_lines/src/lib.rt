@@ -2,6 +2,7 @@
 //! takes; what is said of a program; and refusals of documents and of the command.
 #![tactic(auto)]
 
+mod laws;
 mod line;
 mod long;
 mod numbers;
@@ -11,5 +12,6 @@ mod tasks;
 mod timing;
 mod words;
 
+pub use laws::a_line_is_read_in_one_way;
 pub use line::{AnswerLine, Count, FixedLine, Link};
 pub use reading::read_line;

@@ -1,4 +1,4 @@
-use Rattle.std.proofs.Common.{◌≡◌, ◌++◌, [], ◌∷◌, refl, sym, ap, ◌∙◌, arith}
+use Rattle.std.proofs.Common.{◌++◌, refl, sym, ap, ◌∙◌, arith}
 use Rattle.text_pieces.specs.Pieces.{space}
 use Rattle.document_parts.specs.Field.{field}
 use Rattle.document_parts.proofs.Fields.{if-none}

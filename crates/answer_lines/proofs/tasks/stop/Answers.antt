@@ -1,4 +1,3 @@
-use Rattle.std.proofs.Common.{codes}
 use Rattle.document_parts.proofs.Fields.{if-none}
 use Rattle.answer_lines.proofs.Ends.{no-stop}
 use Rattle.answer_lines.proofs.tasks.stop.Goals as goal

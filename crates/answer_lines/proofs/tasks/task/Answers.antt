@@ -1,4 +1,4 @@
-use Rattle.std.proofs.Common.{◌≡◌, ◌++◌, [], ◌∷◌, codes, refl, sym, ap, ◌∙◌, arith}
+use Rattle.std.proofs.Common.{◌++◌, [], codes, refl, sym, ap, ◌∙◌}
 use Rattle.rv_core.specs.declared.ending.TaskEnd.{TaskEnd}
 use Rattle.document_parts.proofs.Fields.{if-none}
 use Rattle.answer_lines.specs.Parts.{pair_fields}

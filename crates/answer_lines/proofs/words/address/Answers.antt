@@ -1,6 +1,6 @@
-use Rattle.std.proofs.Common.{◌≡◌, ◌++◌, [], ◌∷◌, codes, refl, sym, ap, ◌∙◌, arith}
+use Rattle.std.proofs.Common.{◌++◌, codes, sym, ap, ◌∙◌}
 use Rattle.std.proofs.lemmas.List.{append_cancel_left}
-use Rattle.text_pieces.specs.Pieces.{newline, space, hexadecimal}
+use Rattle.text_pieces.specs.Pieces.{space, hexadecimal}
 use Rattle.document_parts.specs.Base16.{IsWord}
 use Rattle.document_parts.proofs.Fields.{if-none}
 use Rattle.document_parts.proofs.Forms.{next}

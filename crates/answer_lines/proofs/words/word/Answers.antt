@@ -1,4 +1,4 @@
-use Rattle.std.proofs.Common.{◌≡◌, ◌+◌, ◌*◌, ◌++◌, sym, ap, ◌∙◌, arith}
+use Rattle.std.proofs.Common.{◌+◌, ◌*◌, ◌++◌, sym, ap, ◌∙◌, arith}
 use Rattle.document_parts.proofs.Fields.{if-none}
 use Rattle.answer_lines.specs.Lines.{address_line}
 use Rattle.answer_lines.proofs.Forms.{address-next, word-is, word-stands}
