@@ -35,8 +35,7 @@ number-one name = field-one name 10 0 4294967295 refl (omega arith)
 ticks-one : (name : List ℕ) → IsOne IsTicks (field name newline)
 ticks-one name m n r q low small is =
     let bytes = decimal m ++ 10 ∷ r in
-    let digits : decimal m ++ 10 ∷ r ≡ decimal n ++ 10 ∷ q = append_cancel_left name _ _ (sym (field-parts name 10 m r) ∙ is ∙ field-parts name 10 n q) in
-    (
+    let digits : decimal m ++ 10 ∷ r ≡ decimal n ++ 10 ∷ q = append_cancel_left name _ _ (sym (field-parts name 10 m r) ∙ is ∙ field-parts name 10 n q) in (
       sym (value-of bytes m r low refl) ∙ value-of bytes n q small digits,
       ap (drop 1) (sym (rest-of bytes m r low refl) ∙ rest-of bytes n q small digits),
     )

@@ -1,12 +1,16 @@
 //! An answer to a text, explained.
-ghost use Rattle.std.specs.Prelude.{◌≡◌, ◌≤◌, ◌⊎◌, length, IfOk};
+ghost use Rattle.std.specs.Prelude.{◌≡◌, ◌≤◌, ◌⊎◌, List, length, flat_map, IfOk};
+ghost use Rattle.std.specs.List.{All};
 ghost use Rattle.effect_checker.specs.Checked.{IsChecked};
 ghost use Rattle.rv_listing.specs.Listing.{listing_of};
 ghost use Rattle.run_replay.specs.declared.trace.Trace.{Trace};
 ghost use Rattle.text_places.specs.declared.places.Located.{Located as LocatedOf};
 ghost use Rattle.whole_answers.specs.Listing.{explained_listing};
 ghost use Rattle.whole_answers.specs.Trace.{IsTraceOf};
+ghost use Rattle.answer_lines.specs.declared.line.AnswerLine.{AnswerLine as LineOf};
+ghost use Rattle.answer_lines.specs.Lines.{answer_line};
 ghost use Rattle.explained_answer.specs.declared.explaining.Explained.TheVariants.{Text as TextOf};
+ghost use Rattle.explained_answer.specs.Lines.{IsLineOf, lines_and_sentences};
 ghost use Rattle.explained_answer.specs.Explained.{IsLocated, HasNoConflict, IsNoListing, IsListingExplained, IsConflictExplained, IsTraceExplained, IsRunExplained, AreAllExplained, IsExplained};
 
 use crate::lines::explained_lines;
@@ -117,7 +121,8 @@ fn explained_text(alloc: Global, text: &[u8], answer: &[u8]) -> Result<Explained
 /// Repeats an answer to a text line by line, and says behind each line that speaks of a place of the text what that is.
 ///
 /// The answer is what `denovo` printed for the text in any mode, or the line with which it refused the text. The document that the mode
-/// trace prints is only repeated. Of an answer that isn't the text's, the first line that can't be one of it is told.
+/// trace prints is only repeated. Of an answer that isn't the text's, the first line that can't be one of it is told. Lines that answers of a
+/// checked program may have are never refused.
 ///
 /// # Errors
 /// `Memory` where there is no room.
@@ -126,6 +131,8 @@ pub fn explain(alloc: Global, text: &[u8], answer: &[u8]) -> Result<Explained, M
     ensures listing { IfOk result (λ e. (l : LocatedOf) → IsLocated text.now l → answer.now ≡ listing_of l.program → e ≡ TextOf (explained_listing text.now l)) }
     ensures trace { IfOk result (λ e. (l : LocatedOf) (t : Trace) → IsLocated text.now l → HasNoConflict l.program → IsNoListing text.now l answer.now
         → IsTraceOf text.now answer.now t → e ≡ TextOf answer.now) }
+    ensures taken { IfOk result (λ e. (l : LocatedOf) (lines : List LineOf) → IsLocated text.now l → HasNoConflict l.program → IsNoListing text.now l answer.now
+        → All (IsLineOf l) lines → answer.now ≡ flat_map answer_line lines → e ≡ TextOf (lines_and_sentences text.now l lines)) }
 {
     explained_text(alloc, text, answer)
 }

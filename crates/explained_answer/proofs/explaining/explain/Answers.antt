@@ -1,5 +1,6 @@
 use Rattle.explained_answer.proofs.Steps.{if-ok}
 use Rattle.explained_answer.proofs.WholeAnswers.{listing-taken, trace-repeated}
+use Rattle.explained_answer.proofs.AllTaken.{lines-taken}
 use Rattle.explained_answer.proofs.explaining.explain.Goals as goal
 
 pub returns-clause-listing : goal.returns-clause-listing
@@ -13,3 +14,9 @@ returns-clause-trace c =
     let text = c.args.text.now in
     let answer = c.args.answer.now in
     if-ok c.explained_text.result _ _ (λ e h. λ l t located none no_listing is. trace-repeated text answer l located t none no_listing is e h) c.explained_text.ensures
+
+pub returns-clause-taken : goal.returns-clause-taken
+returns-clause-taken c =
+    let text = c.args.text.now in
+    let answer = c.args.answer.now in
+    if-ok c.explained_text.result _ _ (λ e h. λ l lines located none no_listing are is. lines-taken text answer l located lines are is none no_listing e h) c.explained_text.ensures

@@ -1,0 +1,119 @@
+-- An answer whose lines are all lines of answers of the program is explained as these lines.
+use Rattle.std.proofs.Common.{◌≡◌, inl, inr, ℕ, ◌<◌, true, false, List, [], ◌∷◌, ◌++◌, length, flat_map, None, All, refl, sym, ap, subst, ◌∙◌, arith, length-append, append_assoc}
+use Rattle.std.proofs.lemmas.List.Elements.{All-head, All-tail}
+use Rattle.std.proofs.lemmas.List.{append-nil}
+use Rattle.effect_checker.specs.Faults.{IsLeastFault}
+use Rattle.text_places.specs.declared.places.Located.{Located}
+use Rattle.run_report.specs.Answer.{outcome_line}
+use Rattle.run_report.specs.Refusal.{refusal_of}
+use Rattle.run_replay.specs.Document.{title}
+use Rattle.run_replay.proofs.Forms.{head-parts}
+use Rattle.whole_answers.specs.declared.taken.Taken as taken
+use Rattle.whole_answers.specs.Trace.{GoesWrongAt}
+use Rattle.whole_answers.proofs.Heads.{trace-taken}
+use Rattle.answer_lines.specs.declared.line.AnswerLine.{AnswerLine}
+use Rattle.answer_lines.specs.Lines.{answer_line, all_counts}
+use Rattle.answer_lines.proofs.Fronts.{line-there, not-there}
+use Rattle.answer_lines.proofs.OneWay.{one-way}
+use Rattle.explained_answer.specs.declared.explaining.Explained.{Explained}
+use Rattle.explained_answer.specs.declared.explaining.Explained.TheVariants.{Text, Refused}
+use Rattle.explained_answer.specs.Lines.{IsLineOf, NoLineOf, fits_program, lines_and_sentences}
+use Rattle.explained_answer.specs.Explained.{IsLocated, HasNoConflict, IsNoListing, IsTraceAnswer, AreAllExplained, IsExplained}
+use Rattle.explained_answer.proofs.Steps.{line-some}
+use Rattle.explained_answer.proofs.WholeAnswers.{one-located, no-fault, not-listed}
+
+-- ---- lines in front of the same bytes
+
+-- the lines xs are the lines ys and some more, and these are what stands behind the lines ys
+record GoOn (l : Located) (xs ys : List AnswerLine) (rest : List ℕ) : Type 0 where
+  pub more : List AnswerLine
+  pub are : All (IsLineOf l) more
+  pub lines : xs ≡ ys ++ more
+  pub parts : rest ≡ flat_map answer_line more
+
+some-bytes : (l : Located) (x : AnswerLine) (xs : List AnswerLine) (rest : List ℕ) → All (IsLineOf l) (x ∷ xs) → 0 < length (flat_map answer_line (x ∷ xs) ++ rest)
+some-bytes l x xs rest all =
+    omega (
+      arith,
+      line-some x (All-head (IsLineOf l) x xs all).fits,
+      length-append (flat_map answer_line (x ∷ xs)) rest,
+      length-append (answer_line x) (flat_map answer_line xs),
+    )
+
+go-on : (l : Located) (ys xs : List AnswerLine) (rest : List ℕ) → All (IsLineOf l) ys → All (IsLineOf l) xs → flat_map answer_line xs ≡ flat_map answer_line ys ++ rest
+    → GoOn l xs ys rest
+go-on l [] xs rest are_ys are_xs is = record { more = xs; are = are_xs; lines = refl; parts = sym is }
+go-on l (y ∷ ys) [] rest are_ys are_xs is = absurd (omega (arith, ap length is, some-bytes l y ys rest are_ys))
+go-on l (y ∷ ys) (x ∷ xs) rest are_ys are_xs is =
+    let one =
+    one-way x y (flat_map answer_line xs) (flat_map answer_line ys ++ rest) (All-head (IsLineOf l) x xs are_xs).fits (All-head (IsLineOf l) y ys are_ys).fits
+    (is ∙ append_assoc (answer_line y) (flat_map answer_line ys) rest) in
+    let behind = go-on l ys xs rest (All-tail (IsLineOf l) y ys are_ys) (All-tail (IsLineOf l) x xs are_xs) one.1 in
+    record { more = behind.more; are = behind.are; lines = λ i. one.0 i ∷ behind.lines i; parts = behind.parts }
+
+no-more : (l : Located) (xs : List AnswerLine) → All (IsLineOf l) xs → [] ≡ flat_map answer_line xs → xs ≡ []
+no-more l [] all is = refl
+no-more l (x ∷ xs) all is = absurd (omega (arith, ap length is, ap length (append-nil (flat_map answer_line (x ∷ xs))), some-bytes l x xs [] all))
+
+-- the same bytes are the same lines
+same-lines : (l : Located) (xs ys : List AnswerLine) → All (IsLineOf l) xs → All (IsLineOf l) ys → flat_map answer_line xs ≡ flat_map answer_line ys ++ [] → xs ≡ ys
+same-lines l xs ys are_xs are_ys is =
+    let on = go-on l ys xs [] are_ys are_xs is in
+    on.lines ∙ ap (λ zs. ys ++ zs) (no-more l on.more on.are on.parts) ∙ append-nil ys
+
+-- in front of lines of the program stands one
+not-none : (l : Located) (rest : List ℕ) (xs : List AnswerLine) → 0 < length rest → All (IsLineOf l) xs → rest ≡ flat_map answer_line xs → NoLineOf l rest → ⊥
+not-none l rest [] some all is none = omega (arith, some, ap length is)
+not-none l rest (x ∷ xs) some all is (inl none) =
+    none x (flat_map answer_line xs) (record { fits = (All-head (IsLineOf l) x xs all).fits; parts = is })
+not-none l rest (x ∷ xs) some all is (inr other) =
+    let of = All-head (IsLineOf l) x xs all in
+    let one = one-way x other.line (flat_map answer_line xs) other.rest of.fits other.stands.fits (sym is ∙ other.stands.parts) in
+    let both : true ≡ false = sym of.of ∙ ap (fits_program l) one.0 ∙ other.other in absurd (cc)
+
+-- lines don't begin as a document
+no-title-line : (rest : List ℕ) → line-there (title ++ rest) ≡ None
+unfolding title outcome_line refusal_of all_counts
+no-title-line rest = refl
+
+title-some : (rest : List ℕ) → 0 < length (title ++ rest)
+unfolding title
+title-some rest = omega arith
+
+no-title : (l : Located) (xs : List AnswerLine) → All (IsLineOf l) xs → (rest : List ℕ) → flat_map answer_line xs ≡ title ++ rest → ⊥
+no-title l [] all rest is = omega (arith, ap length is, title-some rest)
+no-title l (x ∷ xs) all rest is = not-there x (flat_map answer_line xs) (title ++ rest) (All-head (IsLineOf l) x xs all).fits (no-title-line rest) (sym is)
+
+-- ---- the answer
+
+module _ (text answer : List ℕ) (l : Located) (is_located : IsLocated text l) (lines : List AnswerLine) (are : All (IsLineOf l) lines) (is : answer ≡ flat_map answer_line lines) where
+  untitled : (rest : List ℕ) → answer ≡ title ++ rest → ⊥
+  untitled rest begins = no-title l lines are rest (sym is ∙ begins)
+
+  not-wrong : (number : ℕ) → GoesWrongAt text answer number → ⊥
+  not-wrong number (inl h) = untitled _ h.parts
+  not-wrong number (inr (inl h)) = untitled _ h.parts
+  not-wrong number (inr (inr (inl h))) = untitled _ h.parts
+  not-wrong number (inr (inr (inr (inl h)))) = untitled _ (h.broken.begins.parts ∙ head-parts h.broken.head _)
+  not-wrong number (inr (inr (inr (inr h)))) = untitled _ (h.more.begins.parts ∙ head-parts h.more.head _)
+
+  no-trace : (e : Explained) → IsTraceAnswer text answer e → ⊥
+  no-trace (Text out) h =
+      let other = trace-taken text answer h.0.0 taken.TheVariants.Other h.0.1 (inl untitled) in absurd (cc)
+  no-trace (Refused number) h = not-wrong number h
+
+  run-answer : (e : Explained) → AreAllExplained text l answer e → e ≡ Text (lines_and_sentences text l lines)
+  run-answer (Text out) h =
+      ap Text (h.said ∙ ap (lines_and_sentences text l) (sym (same-lines l lines h.lines are h.all.are (sym is ∙ h.all.parts))))
+  run-answer (Refused number) h =
+      let on = go-on l h.lines lines h.rest h.before.are are (sym is ∙ h.before.parts) in
+      absurd (not-none l h.rest on.more h.some on.are on.parts h.none)
+
+  pub lines-taken : HasNoConflict l.program → IsNoListing text l answer → (e : Explained) → IsExplained text answer e → e ≡ Text (lines_and_sentences text l lines)
+  lines-taken none no_listing e (inl h) = absurd (no-fault text answer l is_located h.fault h.is)
+  lines-taken none no_listing e (inr (inl h)) = absurd (not-listed text answer l is_located no_listing h.located e h.is_located h.answer_is)
+  lines-taken none no_listing e (inr (inr (inl h))) =
+      absurd (none h.fault (subst (λ (m : Located). IsLeastFault m.program h.fault) (one-located text h.located l h.is_located is_located) h.is))
+  lines-taken none no_listing e (inr (inr (inr (inl h)))) = absurd (no-trace e h.answer_is)
+  lines-taken none no_listing e (inr (inr (inr (inr h)))) =
+      run-answer e (subst (λ (m : Located). AreAllExplained text m answer e) (one-located text h.located l h.is_located is_located) h.answer_is)
