@@ -15,3 +15,6 @@ pub mod Whole
 pub mod Occasions
 pub mod Counted
 pub mod After
+pub mod Belongs
+pub mod Phased
+pub mod Grouped

@@ -6,7 +6,7 @@ use Rattle.machine_rules.specs.Next.{next}
 use Rattle.account_table.specs.declared.item.Item.{Item}
 use Rattle.account_table.specs.declared.item.Grouping.{Grouping}
 use Rattle.account_table.specs.declared.measure.Measure.{Measure}
-use Rattle.account_table.specs.Items.{regions_from, count_in, items_of_measure}
+use Rattle.account_table.specs.Items.{regions_from, groups_in, count_in, items_of_measure, sum_of_groups}
 use Rattle.account_table.specs.Tallies.{Tallies, no_tallies, with_items}
 use Rattle.registration_protocol.specs.Node.{Setting}
 use Rattle.run_account.specs.Departures.{Departures, no_departures, departures_after}
@@ -28,6 +28,11 @@ number_in_run by m group S events = count_in (regions_from 0 S.setting.program.r
 
 abbrev pub number_of_run : Measure → State → List Event → ℕ
 number_of_run m S events = items_of_measure m (items_of_run S events)
+
+-- the numbers of all groups of a run, added up
+abbrev pub sum_of_run : Grouping → Measure → State → List Event → ℕ
+sum_of_run by m S events =
+    sum_of_groups (regions_from 0 S.setting.program.regions) by (groups_in S.setting.program S.setting.shape.cores by) m (items_of_run S events)
 
 -- the account of the events so far: the table of its numbers, what last happened to each core's entries, and how each lock was
 -- last granted
