@@ -15,6 +15,7 @@ pub mod Whole
 pub mod Occasions
 pub mod Counted
 pub mod After
+pub mod Known
 pub mod Belongs
-pub mod Phased
+pub mod Staying
 pub mod Grouped

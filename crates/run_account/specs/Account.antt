@@ -1,11 +1,12 @@
 -- The account of a run: what is counted of its events, and the numbers that this comes to.
-use Rattle.std.specs.Prelude.{ℕ, List, [], ◌∷◌, ◌++◌}
+use Rattle.std.specs.Prelude.{ℕ, nat_lt, Bool, List, [], ◌∷◌, ◌++◌}
 use Rattle.message_net.specs.declared.event.Event.{Event}
 use Rattle.machine_rules.specs.State.{State}
 use Rattle.machine_rules.specs.Next.{next}
 use Rattle.account_table.specs.declared.item.Item.{Item}
 use Rattle.account_table.specs.declared.item.Grouping.{Grouping}
 use Rattle.account_table.specs.declared.measure.Measure.{Measure}
+use Rattle.account_table.specs.Measure.{measure_index}
 use Rattle.account_table.specs.Items.{regions_from, groups_in, count_in, items_of_measure, sum_of_groups}
 use Rattle.account_table.specs.Tallies.{Tallies, no_tallies, with_items}
 use Rattle.registration_protocol.specs.Node.{Setting}
@@ -33,6 +34,10 @@ number_of_run m S events = items_of_measure m (items_of_run S events)
 abbrev pub sum_of_run : Grouping → Measure → State → List Event → ℕ
 sum_of_run by m S events =
     sum_of_groups (regions_from 0 S.setting.program.regions) by (groups_in S.setting.program S.setting.shape.cores by) m (items_of_run S events)
+
+-- whether each item of a measure has a word: all measures but those of grants
+abbrev pub is_of_words : Measure → Bool
+is_of_words m = nat_lt (measure_index m) 24
 
 -- the account of the events so far: the table of its numbers, what last happened to each core's entries, and how each lock was
 -- last granted

@@ -1,6 +1,6 @@
 //! Which numbers of an account add up, for whoever reads them.
 //! These are laws: functions that do nothing, whose contracts say it.
-ghost use Rattle.std.specs.Prelude.{◌≡◌, ℕ, ◌+◌, ◌<◌, ◌≤◌, List};
+ghost use Rattle.std.specs.Prelude.{◌≡◌, ℕ, ◌+◌, ◌<◌, ◌≤◌, true, List};
 ghost use Rattle.message_net.specs.declared.event.Event.{Event};
 ghost use Rattle.message_net.specs.declared.event.EventKind.TheVariants.{DataReply, Grant, Evict};
 ghost use Rattle.registration_protocol.specs.Node.{Setting};
@@ -8,12 +8,12 @@ ghost use Rattle.machine_rules.specs.State.{State, initial_state};
 ghost use Rattle.machine_rules.specs.Runs.{IsRun};
 ghost use Rattle.machine_rules.specs.Sound.{IsReady};
 ghost use Rattle.account_table.specs.declared.item.Grouping.{Grouping};
-ghost use Rattle.account_table.specs.declared.item.Grouping.TheVariants.{Phase, Core};
+ghost use Rattle.account_table.specs.declared.item.Grouping.TheVariants.{Phase, Core, Region};
 ghost use Rattle.account_table.specs.declared.measure.Measure.{Measure};
 ghost use Rattle.account_table.specs.Items.{groups_in};
 ghost use Rattle.account_table.specs.Tallies.{capped, tally_of};
 ghost use Rattle.account_table.specs.declared.measure.Measure.TheVariants.{Loads, LoadsLocal, Misses, MissesFirst, MissesPhase, MissesLock, MissesEvicted, MissesTaken, RepliesHome, RepliesCore, GrantsAtOnce, GrantsQueued, EvictedCopies, EvictedRegistered};
-ghost use Rattle.run_account.specs.Account.{no_account, account_of_run, number_in_run, number_of_run, sum_of_run};
+ghost use Rattle.run_account.specs.Account.{no_account, account_of_run, number_in_run, number_of_run, sum_of_run, is_of_words};
 ghost use Rattle.run_account.specs.Kinds.{events_of_kind, StaysCoherent};
 
 /// The numbers of the account of a run are the run's: how many of its items are of the measure and in the group.
@@ -52,9 +52,9 @@ pub fn evictions_add_up()
         → events_of_kind Evict S events ≡ number_of_run EvictedCopies S events + number_of_run EvictedRegistered S events }
 {}
 
-/// In a run from the beginning the numbers of the phases add up to those of the run.
+/// In a run of the machine of a checked program the numbers of the phases add up to those of the run.
 pub fn phases_add_up()
-    ensures { (C : Setting) (events : List Event) (m : Measure) → IsRun (initial_state C) events
+    ensures { (C : Setting) (events : List Event) (m : Measure) → IsReady C → IsRun (initial_state C) events
         → sum_of_run Phase m (initial_state C) events ≡ number_of_run m (initial_state C) events }
 {}
 
@@ -62,4 +62,11 @@ pub fn phases_add_up()
 pub fn cores_add_up()
     ensures { (C : Setting) (events : List Event) (m : Measure) → IsReady C → IsRun (initial_state C) events
         → sum_of_run Core m (initial_state C) events ≡ number_of_run m (initial_state C) events }
+{}
+
+/// In a run of the machine of a checked program the numbers of the regions add up to those of the run, for each measure but those
+/// of grants, which have no word.
+pub fn regions_add_up()
+    ensures { (C : Setting) (events : List Event) (m : Measure) → is_of_words m ≡ true → IsReady C → IsRun (initial_state C) events
+        → sum_of_run Region m (initial_state C) events ≡ number_of_run m (initial_state C) events }
 {}
