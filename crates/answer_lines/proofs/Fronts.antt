@@ -253,3 +253,8 @@ line-like x y r q fx fy is =
 pub not-there : (x : AnswerLine) (r bytes : List ℕ) → IsAnswerLine x → line-there bytes ≡ None → bytes ≡ answer_line x ++ r → ⊥
 not-there x r bytes fits none is =
     let other : ◌≡◌ {A = Option AnswerLine} (Some (line_form x)) None = sym (line-shows x r fits) ∙ ap line-there (sym is) ∙ none in absurd (cc)
+
+-- the document of a run doesn't begin as a line does
+pub no-document-there : (rest : List ℕ) → line-there (codes "denovo-" ++ rest) ≡ None
+unfolding outcome_line refusal_of all_counts
+no-document-there rest = refl

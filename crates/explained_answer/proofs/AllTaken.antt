@@ -1,19 +1,18 @@
 -- An answer whose lines are all lines of answers of the program is explained as these lines.
-use Rattle.std.proofs.Common.{◌≡◌, inl, inr, ℕ, ◌<◌, true, false, List, [], ◌∷◌, ◌++◌, length, flat_map, None, All, refl, sym, ap, subst, ◌∙◌, arith, length-append, append_assoc}
+use Rattle.std.proofs.Common.{◌≡◌, inl, inr, ℕ, ◌<◌, true, false, List, [], ◌∷◌, ◌++◌, length, flat_map, codes, None, All, refl, sym, ap, subst, ◌∙◌, arith, length-append, append_assoc}
 use Rattle.std.proofs.lemmas.List.Elements.{All-head, All-tail}
 use Rattle.std.proofs.lemmas.List.{append-nil}
 use Rattle.effect_checker.specs.Faults.{IsLeastFault}
 use Rattle.text_places.specs.declared.places.Located.{Located}
-use Rattle.run_report.specs.Answer.{outcome_line}
-use Rattle.run_report.specs.Refusal.{refusal_of}
+use Rattle.text_pieces.specs.Pieces.{newline}
 use Rattle.run_replay.specs.Document.{title}
 use Rattle.run_replay.proofs.Forms.{head-parts}
 use Rattle.whole_answers.specs.declared.taken.Taken as taken
 use Rattle.whole_answers.specs.Trace.{GoesWrongAt}
 use Rattle.whole_answers.proofs.Heads.{trace-taken}
 use Rattle.answer_lines.specs.declared.line.AnswerLine.{AnswerLine}
-use Rattle.answer_lines.specs.Lines.{answer_line, all_counts}
-use Rattle.answer_lines.proofs.Fronts.{line-there, not-there}
+use Rattle.answer_lines.specs.Lines.{answer_line}
+use Rattle.answer_lines.proofs.Fronts.{line-there, not-there, no-document-there}
 use Rattle.answer_lines.proofs.OneWay.{one-way}
 use Rattle.explained_answer.specs.declared.explaining.Explained.{Explained}
 use Rattle.explained_answer.specs.declared.explaining.Explained.TheVariants.{Text, Refused}
@@ -72,9 +71,12 @@ not-none l rest (x ∷ xs) some all is (inr other) =
     let both : true ≡ false = sym of.of ∙ ap (fits_program l) one.0 ∙ other.other in absurd (cc)
 
 -- lines don't begin as a document
+title-front : (rest : List ℕ) → title ++ rest ≡ codes "denovo-" ++ (codes "trace 1" ++ newline ++ rest)
+unfolding title
+title-front rest = refl
+
 no-title-line : (rest : List ℕ) → line-there (title ++ rest) ≡ None
-unfolding title outcome_line refusal_of all_counts
-no-title-line rest = refl
+no-title-line rest = ap line-there (title-front rest) ∙ no-document-there (codes "trace 1" ++ newline ++ rest)
 
 title-some : (rest : List ℕ) → 0 < length (title ++ rest)
 unfolding title
