@@ -1524,7 +1524,7 @@ class Account:
                     assert sum(count for other, _, count in self.groups(by) if other == measure) == run[measure]
 
 
-def account(data, by, form):
+def account(data, by, form="csv"):
     """The exit code and the account of a document's run: a line `measure,group,count` for each, or the run's report and a table."""
     told = read_document(data)
     if isinstance(told, str):
