@@ -17,7 +17,7 @@ mod tracks;
 mod way;
 
 pub use laws::a_run_has_one_timing;
-pub use text::push_timing;
+pub use text::{push_timing, time_text};
 pub use ticks::Ticks;
 pub use time::time_run;
 pub use timing::{Link, Timing};

@@ -1,9 +1,10 @@
-ghost use Rattle.std.specs.Prelude.{◌≡◌, ◌++◌, flat_map, OnOk};
+ghost use Rattle.std.specs.Prelude.{◌≡◌, ◌++◌, flat_map, IfOk, OnOk};
 ghost use Rattle.run_timing.specs.Text.{chain_line, link_line, time_line, timing_of};
 
 use crate::timing::{Link, Timing};
 use dn_base::Memory;
 use run_report::event_name;
+use std::alloc::Global;
 use text_pieces::{push, push_decimal, push_long};
 
 #[tactic(auto, unfolding(crate::specs::Text::time_line))]
@@ -58,4 +59,16 @@ pub fn push_timing(out: &mut Vec<u8>, timing: &Timing) -> Result<(), Memory>
     push_total(out, timing.total)?;
     push_count(out, timing.links.len() as u64)?;
     push_links(out, timing.links.as_slice())
+}
+
+/// The timing as it is printed, as a text of its own: what `push_timing` adds.
+///
+/// # Errors
+/// `Memory` where there is no room for the text.
+pub fn time_text(alloc: Global, timing: &Timing) -> Result<Vec<u8>, Memory>
+    ensures { IfOk result (λ text. text.items ≡ timing_of timing.now) }
+{
+    let mut out = Vec::new(alloc);
+    push_timing(&mut out, timing)?;
+    Ok(out)
 }
