@@ -1,5 +1,5 @@
 //! The answers to texts that are refused.
-ghost use Rattle.std.specs.Prelude.{◌≡◌, ◌≢◌, Err, IfOk, IfSome, IfNone};
+ghost use Rattle.std.specs.Prelude.{◌≡◌, ◌≢◌, Err, IfOk, IsTrue, IsFalse};
 ghost use Rattle.rv_assembler.specs.declared.fault.SourceFault.TheVariants.{Memory as NoMemory};
 ghost use Rattle.rv_assembler.specs.Source.{source};
 ghost use Rattle.run_report.specs.declared.refusal.Refusal.TheVariants.{Source as OfSource, Check as OfCheck};
@@ -35,20 +35,22 @@ fn is_before_text(line: AnswerLine) -> bool
     }
 }
 
-/// The line that the whole answer is, if it comes before any text.
-fn line_before_text(answer: &[u8]) -> Option<AnswerLine>
-    ensures some { IfSome result (λ line. IsBeforeText answer.now) }
-    ensures none { IfNone result (IsNotBeforeText answer.now) }
+/// Whether an answer is one line, which comes before any text.
+fn comes_before_text(answer: &[u8]) -> bool
+    ensures yes { IsTrue result → IsBeforeText answer.now }
+    ensures no { IsFalse result → IsNotBeforeText answer.now }
 {
-    let (line, rest) = read_line(answer)?;
-    (is_before_text(line) && rest.is_empty()).then_some(line)
+    match read_line(answer) {
+        Some((line, rest)) => is_before_text(line) && rest.is_empty(),
+        None => false,
+    }
 }
 
-/// Repeats an answer that comes before any text.
+/// Explains an answer that isn't the refusal of a text that is refused: it is repeated if it comes before any text.
 fn other_answer(alloc: Global, answer: &[u8]) -> Result<Explained, Memory>
     ensures { IfOk result (IsOtherAnswer answer.now) }
 {
-    if line_before_text(answer).is_none() {
+    if !comes_before_text(answer) {
         return Ok(Explained::Refused { line: 1 });
     }
     let repeated = Vec::from_slice(alloc, answer)?;
