@@ -1,0 +1,11 @@
+mod Values
+mod Tasks
+mod States
+mod Shown
+mod Ends
+mod Runs
+mod Times
+mod Programs
+mod Refused
+mod Modes
+mod Calls
