@@ -5,8 +5,7 @@ use Rattle.command_words.specs.declared.options.Options.{Options}
 use Rattle.command_words.specs.Command.{OptionsInRange}
 use Rattle.program_outside.specs.Outside.{Devices}
 use Rattle.front_end.specs.Texts.{usage_line}
-use Rattle.dn_top.specs.declared.output.Output.{Output}
-use Rattle.dn_top.specs.Answers.{IsAnswer, IsOutcome}
+use Rattle.dn_top.specs.Answers.{IsOutcome}
 use Rattle.dn_top.specs.Laws.{Call, IsTextAnswered}
 use Rattle.dn_top.specs.Serving.{HasDone, HasRefused, ForText, text_to_answer}
 use Rattle.answer_lines.specs.declared.line.AnswerLine as line
@@ -40,9 +39,9 @@ module _ (once : IsRefusedOnce) where
           of_text o asked call.before (λ p t. HasDone p call.before call.after t call.answer) h.about (h.serves.done ends) in
           record { out = done.out; answer = inl done.done; took = done.took; taken = λ text e beside explained. answer-taken once o asked done.out text e range (inl done.done) beside explained }
       by_end (inr refused) =
-          let no : HasRefused o call.before call.after asked =
+          let said : HasRefused o call.before call.after asked =
           of_text o asked call.before (λ p t. HasRefused p call.before call.after t) h.about (h.serves.refused refused) in
-          record { out = no.out; answer = inr no.refusal; took = no.took; taken = λ text e beside explained. answer-taken once o asked no.out text e range (inr no.refusal) beside explained }
+          record { out = said.out; answer = inr said.refusal; took = said.took; taken = λ text e beside explained. answer-taken once o asked said.out text e range (inr said.refusal) beside explained }
 
   pub usage-taken : (text : List ℕ) (e : Explained) → IsExplained text usage_line e → IsTaken e
   usage-taken text e h = before-taken once text usage_line (line.TheVariants.Fixed fixed.TheVariants.Usage) refl tt (λ l. refl) refl e h

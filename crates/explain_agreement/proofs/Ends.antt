@@ -1,9 +1,9 @@
 -- The lines of a run that the flat machine has by its grants: of its tasks, its data words and its grants.
-use Rattle.std.proofs.Common.{◌≡◌, ◌≢◌, ℕ, suc, ◌+◌, ◌*◌, ◌%◌, ◌^◌, ◌<◌, ◌≤◌, ◌==◌, nat_lt, Bool, true, false, ◌&&◌, if◌then◌else◌, List, [], ◌∷◌, ◌++◌, map, find, take, drop, length, sum, sum_by, get_or, slice_get, slice_index, Option, Some, None, Ok, is_some, refl, sym, ap, subst, ◌∙◌, arith, append_assoc, length-append}
+use Rattle.std.proofs.Common.{◌≡◌, ◌≢◌, ℕ, suc, ◌+◌, ◌*◌, ◌%◌, ◌^◌, ◌<◌, ◌≤◌, ◌==◌, Bool, true, false, if◌then◌else◌, List, [], ◌∷◌, ◌++◌, map, find, take, drop, length, sum, slice_get, Option, Some, None, is_some, refl, sym, ap, subst, ◌∙◌, arith, append_assoc, length-append}
 use Rattle.std.specs.List.{All, IsAmong}
 use Rattle.std.proofs.lemmas.Bool.{and_from, lt-ltb, eq-eqb, eqb-false}
 use Rattle.std.proofs.lemmas.Grind.{flat_map-append}
-use Rattle.std.proofs.lemmas.List.{append-nil, length-map, take-append-drop}
+use Rattle.std.proofs.lemmas.List.{length-map, take-append-drop}
 use Rattle.std.proofs.lemmas.List.Elements.{All-nil, All-cons, All-append, All-map, All-head, All-tail}
 use Rattle.std.proofs.lemmas.List.Sums.{sum_by-cons}
 use Rattle.std.proofs.lemmas.Nat.{mod_below}
@@ -18,13 +18,9 @@ use Rattle.rv_core.specs.declared.need.Need.{Need}
 use Rattle.rv_core.specs.declared.need.Need as need
 use Rattle.rv_core.specs.declared.task.End.{End}
 use Rattle.rv_core.specs.declared.task.End as cause
-use Rattle.rv_core.specs.declared.ending.EndShown as shown
-use Rattle.rv_core.specs.declared.ending.EndShown.{EndShown}
 use Rattle.rv_core.specs.declared.ending.TaskEnd.{TaskEnd}
-use Rattle.rv_core.specs.declared.ending.Ending.{Ending}
 use Rattle.rv_core.specs.Need.{need_of}
 use Rattle.rv_core.proofs.Completions.{acquire-allowed}
-use Rattle.rv_assembler.specs.Source.{source}
 use Rattle.rv_assembler.proofs.WellFormed.{source-well-formed}
 use Rattle.flat_machine.specs.declared.ending.FlatEnd.{FlatEnd}
 use Rattle.flat_machine.specs.Step.{Started}
@@ -38,7 +34,6 @@ use Rattle.flat_machine.proofs.LegalLaws.{granted-legal}
 use Rattle.flat_machine.proofs.ReachedLaws.{reached-tasks, front-has}
 use Rattle.flat_machine.proofs.RunLemmas.{grants-push}
 use Rattle.flat_machine.proofs.Rights.{wish-need}
-use Rattle.document_parts.specs.Field.{IsFrom}
 use Rattle.text_places.specs.declared.places.Located.{Located}
 use Rattle.text_places.specs.declared.places.Places.{Places}
 use Rattle.text_places.specs.Words.{is_task_of}

@@ -1,14 +1,10 @@
 -- What each mode prints of a text is taken, and what refuses the text.
-use Rattle.std.proofs.Common.{◌≡◌, ◌⊎◌, inl, inr, ℕ, ◌+◌, ◌<◌, ◌≤◌, List, [], ◌∷◌, ◌++◌, codes, length, Ok, refl, sym, ap, subst, ◌∙◌, arith, length-append}
-use Rattle.std.specs.Fmt.{decimal}
-use Rattle.text_pieces.specs.Pieces.{newline}
+use Rattle.std.proofs.Common.{◌≡◌, ◌⊎◌, inl, inr, ℕ, ◌≤◌, List, ◌∷◌, ◌++◌, length, Ok, refl, sym, ap, subst, ◌∙◌, arith, length-append}
 use Rattle.dn_base.specs.declared.status.Status as status
-use Rattle.dn_base.specs.declared.ids.Shape.{Shape}
 use Rattle.region_table.specs.Program.{ProgramParts}
 use Rattle.rv_assembler.specs.Source.{source}
 use Rattle.effect_checker.specs.Checked.{IsChecked}
 use Rattle.message_net.specs.declared.event.Event.{Event}
-use Rattle.rv_listing.specs.Listing.{listing_of}
 use Rattle.machine_rules.specs.State.{initial_state}
 use Rattle.run_report.specs.Answer.{answer_of}
 use Rattle.run_report.specs.Grants.{grant_lines}
@@ -19,7 +15,6 @@ use Rattle.run_replay.specs.declared.trace.TraceFault as trace_fault
 use Rattle.run_replay.specs.declared.refusal.TraceRefusal as trace_refusal
 use Rattle.run_replay.specs.declared.replaying.Replayed.{Replayed}
 use Rattle.run_replay.specs.declared.replaying.Replayed.TheVariants.{Complete, NotEnabled, Incomplete}
-use Rattle.run_replay.specs.Document.{IsDocument, document_of}
 use Rattle.run_replay.specs.Faults.{HasFault}
 use Rattle.run_replay.specs.Refusal.{fault_text, refusal_text}
 use Rattle.run_timing.specs.Text.{timing_of}
@@ -30,10 +25,9 @@ use Rattle.command_words.specs.declared.options.Mode as mode
 use Rattle.command_words.specs.declared.options.Options.{Options}
 use Rattle.command_words.specs.Command.{OptionsInRange}
 use Rattle.front_end.specs.Texts.{HasProgram, HasChecked, IsUnfit}
-use Rattle.dn_machine.specs.declared.record.RunRecord.{RunRecord}
 use Rattle.dn_top.specs.declared.output.Output.{Output}
 use Rattle.dn_top.specs.Runs.{IsMachineRun, IsTimedRun, shape_for, ticks_for, reported, summed_up}
-use Rattle.dn_top.specs.Documents.{IsTracedRun, HasTrace, IsNoDocument, IsReplayIn, IsReplayedRun, IsNoRun, shape_told, trace_of, refused_by}
+use Rattle.dn_top.specs.Documents.{IsTracedRun, IsReplayIn, IsNoRun, shape_told, trace_of, refused_by}
 use Rattle.dn_top.specs.Answers.{IsAnswer, IsFlatRun, IsListing, IsProof, IsReplayed, IsRefusedDocument, answered, done_in, refused_in}
 use Rattle.answer_lines.specs.declared.line.AnswerLine as line
 use Rattle.answer_lines.specs.declared.line.AnswerLine.{AnswerLine}
@@ -42,7 +36,6 @@ use Rattle.answer_lines.specs.declared.line.FixedLine as fixed
 use Rattle.answer_lines.specs.Lines.{answer_line}
 use Rattle.whole_answers.specs.Trace.{IsTraceOf}
 use Rattle.explained_answer.specs.declared.explaining.Explained.{Explained}
-use Rattle.explained_answer.specs.Lines.{IsLineOf}
 use Rattle.explained_answer.specs.Explained.{IsLocated, IsExplained}
 use Rattle.explained_answer.proofs.Unlisted.{document-unlisted}
 use Rattle.explained_answer.proofs.WholeAnswers.{listing-taken, trace-repeated}
@@ -203,7 +196,7 @@ module _ (once : IsRefusedOnce) where
       (one-line (located t.text P) (line.TheVariants.Fixed fixed.TheVariants.Incomplete) (record { fits = tt; of = refl }) answer (says ∙ incomplete-line)) e h
 
   refused-document-taken : (document text answer : List ℕ) (e : Explained) → is_beside mode.TheVariants.Replay document text → IsRefusedDocument document answer → IsExplained text answer e → IsTaken e
-  refused-document-taken document text answer e beside (inl no) h = no-document-taken document text answer no.fault no.is no.says e h
+  refused-document-taken document text answer e beside (inl said) h = no-document-taken document text answer said.fault said.is said.says e h
   refused-document-taken document text answer e beside (inr has) h = by_text has.holds (subst (λ (x : List ℕ). IsExplained x answer e) (beside has.trace has.is) h)
     where
       by_text : IsTextRefused has.trace answer → IsExplained has.trace.text answer e → IsTaken e

@@ -1,5 +1,5 @@
 -- The lines that refuse a text, a document or command words are taken.
-use Rattle.std.proofs.Common.{◌≡◌, inl, inr, ℕ, ◌<◌, ◌≤◌, ◌==◌, Bool, true, false, ◌&&◌, List, [], ◌∷◌, ◌++◌, codes, flat_map, length, Ok, Err, refl, sym, ap, subst, ◌∙◌, arith}
+use Rattle.std.proofs.Common.{◌≡◌, inl, inr, ℕ, ◌==◌, Bool, true, false, ◌&&◌, List, [], ◌∷◌, ◌++◌, codes, length, Ok, Err, refl, sym, ap, subst, ◌∙◌}
 use Rattle.std.specs.List.{All}
 use Rattle.std.proofs.lemmas.Bool.{true≢false}
 use Rattle.std.proofs.lemmas.List.{append-nil}
@@ -27,7 +27,7 @@ use Rattle.answer_lines.proofs.OneWay.{one-way}
 use Rattle.explained_answer.specs.declared.explaining.Explained.{Explained}
 use Rattle.explained_answer.specs.declared.explaining.Explained.TheVariants.{Text, Refused}
 use Rattle.explained_answer.specs.Lines.{IsLineOf, fits_program}
-use Rattle.explained_answer.specs.Explained.{IsLocated, HasNoConflict, IsListingAnswer, IsNotBeforeText, IsOtherAnswer, IsRefusalExplained, IsExplained, is_before_text}
+use Rattle.explained_answer.specs.Explained.{IsLocated, HasNoConflict, IsNotBeforeText, IsRefusalExplained, IsExplained, is_before_text}
 use Rattle.explained_answer.proofs.Unlisted.{lines-unlisted, refusal-unlisted}
 use Rattle.explained_answer.proofs.WholeAnswers.{not-listed}
 use Rattle.explained_answer.proofs.AllTaken.{all-taken}
@@ -42,8 +42,17 @@ IsRefusedOnce = (o : Options) (text : List ℕ) (out other : Output) → IsRefus
 abbrev checking : Options
 checking =
     record {
-      mode = mode.TheVariants.Check; seed = 0; workers = 1; banks = 1; sets = 1; ways = 1; fuel = 1; size = 1;
-      tick_core = 1; tick_bank = 1; tick_mail = 1;
+      mode = mode.TheVariants.Check;
+      seed = 0;
+      workers = 1;
+      banks = 1;
+      sets = 1;
+      ways = 1;
+      fuel = 1;
+      size = 1;
+      tick_core = 1;
+      tick_bank = 1;
+      tick_mail = 1;
     }
 
 pub is-taken : (e : Explained) (bytes : List ℕ) → e ≡ Text bytes → IsTaken e
@@ -95,13 +104,13 @@ module _ (once : IsRefusedOnce) where
   one-fault text f g e h = cc
 
   fault-taken : (text line : List ℕ) → IsNoProgram text line → (e : Explained) → IsExplained text line e → IsTaken e
-  fault-taken text line no e (inl h) =
-      let same = ap (λ (f : SourceFault). refusal_of (refusal.TheVariants.Source f)) (one-fault text no.fault h.fault no.is h.is) in
-      refused-line (refusal_of (refusal.TheVariants.Source h.fault)) _ line e (no.says ∙ same) h.answer_is
-  fault-taken text line no e (inr (inl h)) = absurd (program-or_fault text h.located.program no.fault h.is_located.program no.is)
-  fault-taken text line no e (inr (inr (inl h))) = absurd (program-or_fault text h.located.program no.fault h.is_located.program no.is)
-  fault-taken text line no e (inr (inr (inr (inl h)))) = absurd (program-or_fault text h.located.program no.fault h.is_located.program no.is)
-  fault-taken text line no e (inr (inr (inr (inr h)))) = absurd (program-or_fault text h.located.program no.fault h.is_located.program no.is)
+  fault-taken text line said e (inl h) =
+      let same = ap (λ (f : SourceFault). refusal_of (refusal.TheVariants.Source f)) (one-fault text said.fault h.fault said.is h.is) in
+      refused-line (refusal_of (refusal.TheVariants.Source h.fault)) _ line e (said.says ∙ same) h.answer_is
+  fault-taken text line said e (inr (inl h)) = absurd (program-or_fault text h.located.program said.fault h.is_located.program said.is)
+  fault-taken text line said e (inr (inr (inl h))) = absurd (program-or_fault text h.located.program said.fault h.is_located.program said.is)
+  fault-taken text line said e (inr (inr (inr (inl h)))) = absurd (program-or_fault text h.located.program said.fault h.is_located.program said.is)
+  fault-taken text line said e (inr (inr (inr (inr h)))) = absurd (program-or_fault text h.located.program said.fault h.is_located.program said.is)
 
   conflict-line : (fault : CheckFault) → refusal_of (refusal.TheVariants.Check fault) ≡ codes "refused " ++ (codes "check " ++ check_text fault ++ newline)
   unfolding refusal_of
@@ -119,11 +128,11 @@ module _ (once : IsRefusedOnce) where
   conflict-taken text line has e (inr (inr (inr (inr h)))) = absurd (unfit-checked text line h.located.program (inr has) h.is_located.program h.is_checked)
 
   pub unfit-taken : (text line : List ℕ) → IsUnfit text line → (e : Explained) → IsExplained text line e → IsTaken e
-  unfit-taken text line (inl no) e h = fault-taken text line no e h
+  unfit-taken text line (inl said) e h = fault-taken text line said e h
   unfit-taken text line (inr has) e h = conflict-taken text line has e h
 
   pub no-program-taken : (text line : List ℕ) → IsNoProgram text line → (e : Explained) → IsExplained text line e → IsTaken e
-  no-program-taken text line no e h = fault-taken text line no e h
+  no-program-taken text line said e h = fault-taken text line said e h
 
   -- ---- a line for which no text was looked at
 

@@ -1,5 +1,5 @@
 -- What is printed of a run, and of its summary, is lines of answers of its program.
-use Rattle.std.proofs.Common.{◌≡◌, ℕ, suc, ◌+◌, ◌≤◌, List, [], ◌∷◌, ◌++◌, map, flat_map, length, sum, get_or, Some, Ok, refl, sym, ap, subst, ◌∙◌, arith}
+use Rattle.std.proofs.Common.{◌≡◌, ℕ, suc, ◌≤◌, List, [], ◌∷◌, ◌++◌, map, flat_map, length, sum, get_or, Some, refl, sym, ap, subst, ◌∙◌, arith}
 use Rattle.std.specs.List.{All}
 use Rattle.std.proofs.lemmas.Grind.{flat_map-append}
 use Rattle.std.proofs.lemmas.List.Elements.{All-cons, All-append, All-map}
@@ -9,12 +9,10 @@ use Rattle.dn_base.specs.declared.ids.Grant.{Grant}
 use Rattle.dn_base.specs.declared.ids.Shape.{Shape}
 use Rattle.message_net.specs.declared.event.Event.{Event}
 use Rattle.message_net.specs.declared.event.EventKind.{EventKind}
-use Rattle.grant_log.specs.declared.counts.Counts.{Counts}
 use Rattle.grant_log.specs.Counts.{kind_count, same_kind}
 use Rattle.grant_log.proofs.TotalLemmas.{all_counted}
 use Rattle.region_table.specs.Program.{ProgramParts}
 use Rattle.rv_core.specs.declared.ending.Ending.{Ending}
-use Rattle.registration_protocol.specs.Node.{Setting}
 use Rattle.flat_machine.specs.declared.ending.FlatEnd.{FlatEnd}
 use Rattle.flat_machine.specs.Ending.{flat_end}
 use Rattle.machine_rules.specs.State.{State, initial_state}
@@ -22,10 +20,10 @@ use Rattle.machine_rules.specs.Next.{next}
 use Rattle.machine_rules.specs.Runs.{kinds_of}
 use Rattle.dn_machine.specs.declared.record.RunRecord.{RunRecord}
 use Rattle.run_report.specs.Answer.{answer_of}
-use Rattle.run_report.specs.Grants.{grant_line, grant_lines}
+use Rattle.run_report.specs.Grants.{grant_lines}
 use Rattle.run_report.specs.Run.{all_kinds, run_text, report_of}
 use Rattle.run_report.specs.Summary.{summary_of}
-use Rattle.dn_top.specs.Runs.{IsRunOf, HasFlatRun, reported, summed_up}
+use Rattle.dn_top.specs.Runs.{IsRunOf, reported, summed_up}
 use Rattle.text_places.specs.declared.places.Located.{Located}
 use Rattle.answer_lines.specs.declared.line.AnswerLine as line
 use Rattle.answer_lines.specs.declared.line.AnswerLine.{AnswerLine}

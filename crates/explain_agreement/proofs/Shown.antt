@@ -1,5 +1,5 @@
 -- A trap's line shows its two words modulo 2^32, whatever numbers these are. So the task that a line shows has words of 32 bits.
-use Rattle.std.proofs.Common.{◌≡◌, ℕ, ◌/◌, ◌%◌, ◌^◌, List, [], ◌∷◌, ◌++◌, codes, map, flat_map, length, refl, sym, ap, ◌∙◌, arith}
+use Rattle.std.proofs.Common.{◌≡◌, ℕ, ◌/◌, ◌%◌, ◌^◌, List, [], ◌∷◌, ◌++◌, codes, map, flat_map, length, refl, arith}
 use Rattle.std.specs.Fmt.{decimal}
 use Rattle.text_pieces.specs.Pieces.{newline, space, hex_digit, hexadecimal}
 use Rattle.rv_core.specs.declared.ending.EndShown as shown

@@ -1,6 +1,6 @@
 -- In a run of the flat machine registers and data words stay numbers of 32 bits, tasks are the program's, and none retires more
 -- instructions than it may.
-use Rattle.std.proofs.Common.{◌≡◌, ℕ, zero, suc, ◌+◌, ◌*◌, ◌%◌, ◌^◌, ◌<◌, ◌≤◌, ◌==◌, List, length, replicate, slice_index, slice_set, slice_get, Option, Some, None, refl, sym, ap, subst, ◌∙◌, arith, bit_or, bit_xor}
+use Rattle.std.proofs.Common.{◌≡◌, ℕ, zero, suc, ◌+◌, ◌*◌, ◌%◌, ◌^◌, ◌<◌, ◌≤◌, ◌==◌, List, length, replicate, slice_index, slice_set, slice_get, Option, Some, None, refl, ap, ◌∙◌, arith, bit_or, bit_xor}
 use Rattle.std.specs.List.{IsAmong}
 use Rattle.std.proofs.lemmas.Bool.{cond_both}
 use Rattle.std.proofs.lemmas.List.{length-set}
@@ -30,9 +30,9 @@ use Rattle.rv_core.specs.Kinds.{IsAdvance}
 use Rattle.rv_core.specs.Need.{need_of, address_of}
 use Rattle.rv_core.specs.Registers.{value_in, with_value}
 use Rattle.rv_core.specs.Step.{read_instr, instr_at, with_locks, after_call, after_instr, after_fetch, advanced, after_load, loaded_of, after_store, merged_of}
-use Rattle.rv_core.specs.Task.{started, stopped}
+use Rattle.rv_core.specs.Task.{stopped}
 use Rattle.rv_core.proofs.Completions.{fuel-left}
-use Rattle.flat_machine.specs.Step.{Started, At, fresh, wish, wish_unless, in_state, step_by, flat_step, WantsLock}
+use Rattle.flat_machine.specs.Step.{Started, At, wish, wish_unless, in_state, step_by, flat_step, WantsLock}
 use Rattle.flat_machine.specs.Phases.{Flat}
 use Rattle.flat_machine.specs.Grants.{so_far}
 use Rattle.flat_machine.proofs.CauseLemmas.{acquire-advances}

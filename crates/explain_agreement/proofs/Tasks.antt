@@ -1,5 +1,5 @@
 -- Each task of a text's program has a place in the text, and its argument is a number of 32 bits.
-use Rattle.std.proofs.Common.{◌≡◌, ◌⊎◌, inl, inr, ℕ, zero, suc, ◌+◌, ◌-◌, ◌*◌, ◌%◌, ◌^◌, ◌<◌, ◌==◌, Bool, true, false, ◌&&◌, ◌||◌, cond, List, [], ◌∷◌, ◌++◌, map, filter_map, flat_map, find, get_or, slice_get, length, Option, Some, None, Ok, option_map, is_some, refl, sym, ap, subst, ◌∙◌, ⊎_elim, arith}
+use Rattle.std.proofs.Common.{◌≡◌, ◌⊎◌, inl, inr, ℕ, zero, suc, ◌+◌, ◌-◌, ◌*◌, ◌^◌, ◌<◌, ◌==◌, Bool, true, false, ◌||◌, cond, List, [], ◌∷◌, ◌++◌, map, filter_map, flat_map, find, get_or, slice_get, length, Option, Some, None, Ok, option_map, is_some, refl, sym, ap, subst, ◌∙◌, ⊎_elim, arith}
 use Rattle.std.specs.List.{IsAmong, range_with_len, cons_option, list_any}
 use Rattle.std.proofs.lemmas.Bool.{true≢false, and_parts, and_from, or_cases, or_left, or_right, eqb-true, eq-eqb}
 use Rattle.std.proofs.lemmas.Nat.{mod_below}
@@ -12,18 +12,16 @@ use Rattle.rv_assembler.specs.declared.statement.Statement as statement
 use Rattle.rv_assembler.specs.declared.reading.Saying.{Saying}
 use Rattle.rv_assembler.specs.declared.names.Meaning.{Meaning}
 use Rattle.rv_assembler.specs.declared.draft.Start.{Start}
-use Rattle.rv_assembler.specs.declared.draft.Claim.{Claim}
 use Rattle.rv_assembler.specs.declared.draft.Draft.{Draft}
 use Rattle.rv_assembler.specs.Number.{natural_of}
 use Rattle.rv_assembler.specs.Named.{task_entry}
-use Rattle.rv_assembler.specs.Rows.{start_at, starts}
+use Rattle.rv_assembler.specs.Rows.{start_at}
 use Rattle.rv_assembler.specs.Placed.{Placed, placed}
 use Rattle.rv_assembler.specs.Counts.{phases_in}
 use Rattle.rv_assembler.specs.Declarations.{meaning_of}
 use Rattle.rv_assembler.specs.Tables.{tasks_by, tasks_at, tables}
 use Rattle.rv_assembler.specs.Program.{task_of, is_task, task_at, phase_of, program_of}
 use Rattle.rv_assembler.specs.Source.{sayings, readings, source}
-use Rattle.text_places.specs.declared.places.TaskPlace.{TaskPlace}
 use Rattle.text_places.specs.Places.{each_part, places_at, task_place, text_places}
 use Rattle.text_places.specs.Words.{is_task_of}
 use Rattle.text_places.proofs.PlaceLemmas.{has-program}

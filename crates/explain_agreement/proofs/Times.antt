@@ -1,6 +1,5 @@
 -- What is printed of a run's timing is lines of answers: a chain has at most one link for each event, and each takes at most 1,000,000 ticks.
-use Rattle.std.proofs.Common.{◌≡◌, ℕ, ◌+◌, ◌*◌, ◌<◌, ◌≤◌, List, [], ◌∷◌, ◌++◌, map, flat_map, length, sum_by, get_or, slice_get, Option, Some, None, refl, sym, ap, subst, ◌∙◌, arith}
-use Rattle.std.specs.List.{All}
+use Rattle.std.proofs.Common.{◌≡◌, ℕ, ◌+◌, ◌*◌, ◌<◌, ◌≤◌, List, [], ◌∷◌, ◌++◌, map, flat_map, length, sum_by, get_or, Option, Some, None, refl, sym, subst, ◌∙◌, arith}
 use Rattle.std.proofs.lemmas.List.{append-nil, length-map}
 use Rattle.std.proofs.lemmas.List.Elements.{All-nil, All-cons, All-map}
 use Rattle.std.proofs.lemmas.List.Sums.{sum_by-cons}
@@ -8,7 +7,6 @@ use Rattle.std.proofs.lemmas.Option.{none-some, same_Some, slice_get-get_or}
 use Rattle.message_net.specs.declared.event.Event.{Event}
 use Rattle.message_net.specs.declared.event.EventKind.{EventKind}
 use Rattle.machine_rules.specs.State.{State}
-use Rattle.document_parts.specs.Field.{IsFrom}
 use Rattle.run_report.specs.Summary.{count_line}
 use Rattle.run_timing.specs.declared.ticks.Ticks.{Ticks}
 use Rattle.run_timing.specs.declared.timing.Link.{Link}
@@ -23,7 +21,6 @@ use Rattle.text_places.specs.declared.places.Located.{Located}
 use Rattle.answer_lines.specs.declared.line.AnswerLine as line
 use Rattle.answer_lines.specs.declared.line.AnswerLine.{AnswerLine}
 use Rattle.answer_lines.specs.declared.line.Count as count
-use Rattle.answer_lines.specs.Parts.{IsTicks}
 use Rattle.answer_lines.specs.Lines.{answer_line, link_line}
 use Rattle.explained_answer.specs.Lines.{IsLineOf}
 use Rattle.explain_agreement.proofs.Ends.{number}

@@ -1,5 +1,5 @@
 -- The first values of a text's data words are numbers of 32 bits.
-use Rattle.std.proofs.Common.{◌≡◌, ℕ, zero, suc, ◌+◌, ◌-◌, ◌%◌, ◌^◌, ◌<◌, ◌==◌, ℤ, pos, negsuc, Bool, true, false, ◌&&◌, not, nat_lt, if◌then◌else◌, List, [], ◌∷◌, ◌++◌, map, filter_map, flat_map, slice_index, length, Option, Some, None, Result, Ok, Err, refl, sym, ap, subst, ◌∙◌, arith}
+use Rattle.std.proofs.Common.{◌≡◌, ℕ, zero, suc, ◌^◌, ◌<◌, ◌==◌, ℤ, pos, negsuc, Bool, true, false, ◌&&◌, not, nat_lt, if◌then◌else◌, List, [], ◌∷◌, ◌++◌, map, filter_map, flat_map, Option, Some, None, Result, Ok, Err, subst, arith}
 use Rattle.std.specs.Prelude.{unwrap_or}
 use Rattle.std.specs.List.{range_with_len, last_or, cons_option}
 use Rattle.std.proofs.lemmas.Nat.{mod_below}
@@ -31,7 +31,7 @@ use Rattle.rv_assembler.specs.Rows.{first_values}
 use Rattle.rv_assembler.specs.Placed.{placed_behind}
 use Rattle.rv_assembler.specs.Declarations.{meaning_of}
 use Rattle.rv_assembler.specs.Tables.{value_by, value_at, tables}
-use Rattle.rv_assembler.specs.Program.{value_for, first_value, program_of}
+use Rattle.rv_assembler.specs.Program.{value_for, first_value}
 use Rattle.rv_assembler.specs.Source.{good, sayings, readings, source}
 use Rattle.text_places.proofs.PlaceLemmas.{has-program}
 use Rattle.effect_prover.proofs.FollowWords.{AreBelow}

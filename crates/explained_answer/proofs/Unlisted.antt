@@ -1,9 +1,8 @@
 -- No line of an answer, and no document of a run, begins as the listing of a program: its first three bytes tell it from one.
-use Rattle.std.proofs.Common.{◌≡◌, ◌⊎◌, inl, inr, ℕ, ◌+◌, ◌*◌, ◌==◌, nat_lt, Bool, true, false, ◌&&◌, ◌||◌, if◌then◌else◌, List, [], ◌∷◌, ◌++◌, codes, length, map, flat_map, slice_range, Option, Some, None, All, refl, sym, ap, ◌∙◌, arith}
+use Rattle.std.proofs.Common.{◌≡◌, ◌⊎◌, inl, inr, ℕ, ◌+◌, ◌*◌, ◌==◌, nat_lt, Bool, true, false, ◌&&◌, ◌||◌, if◌then◌else◌, List, [], ◌∷◌, ◌++◌, codes, length, map, flat_map, slice_range, Option, Some, None, refl, sym, ap, ◌∙◌, arith}
 use Rattle.std.specs.Prelude.{count_by}
 use Rattle.std.specs.Fmt.{decimal, signed_decimal}
 use Rattle.std.proofs.lemmas.Bool.{true≢false, eqb-true}
-use Rattle.std.proofs.lemmas.List.Elements.{All-head}
 use Rattle.text_pieces.specs.Pieces.{newline, space, hexadecimal}
 use Rattle.src_text.specs.Byte.{is_newline}
 use Rattle.src_text.specs.Laws.{ended}
@@ -40,7 +39,6 @@ use Rattle.answer_lines.specs.declared.line.FixedLine as fixed
 use Rattle.answer_lines.specs.Parts.{three_line}
 use Rattle.answer_lines.specs.Lines.{IsAnswerLine, answer_line, address_line, link_line, sum_line, unbounded_line}
 use Rattle.answer_lines.proofs.Forms.{word-is}
-use Rattle.explained_answer.specs.Lines.{IsLineOf}
 use Rattle.explained_answer.specs.Explained.{IsNoListing}
 
 -- ---- the first three bytes
