@@ -2,7 +2,8 @@
 use Rattle.std.proofs.Common.{◌≡◌, ◌⊎◌, inl, inr, ℕ, List, Option, Some, None, IfSome, refl, sym, subst}
 use Rattle.dn_base.specs.declared.status.Status as status
 use Rattle.command_words.specs.declared.options.Options.{Options}
-use Rattle.command_words.specs.Command.{OptionsInRange}
+use Rattle.clap.specs.Walk.{Text}
+use Rattle.command_words.specs.Command.{OptionsInRange, options_of}
 use Rattle.program_outside.specs.Outside.{Devices}
 use Rattle.front_end.specs.Texts.{usage_line}
 use Rattle.dn_top.specs.Answers.{IsOutcome}
@@ -14,6 +15,7 @@ use Rattle.explained_answer.specs.declared.explaining.Explained.{Explained}
 use Rattle.explained_answer.specs.Explained.{IsExplained}
 use Rattle.explain_agreement.specs.Taken.{IsTaken, IsCallTaken}
 use Rattle.explain_agreement.proofs.Refused.{IsRefusedOnce, before-taken}
+use Rattle.explain_agreement.proofs.Ranges.{words-range}
 use Rattle.explain_agreement.proofs.Modes.{answer-taken}
 
 same_options : (o p : Options) → Some o ≡ Some p → o ≡ p
@@ -30,9 +32,12 @@ of_text o text before Holds about h =
     at-some (text_to_answer o before.source) text (Holds o) about (subst (λ (p : Options). IfSome (text_to_answer p before.source) (Holds p)) same h.text)
 
 module _ (once : IsRefusedOnce) where
-  pub call-taken : (o : Options) (asked : List ℕ) (call : Call) → OptionsInRange o → IsTextAnswered o asked call → IsCallTaken o asked call
-  call-taken o asked call range h = by_end h.ends
+  pub call-taken : (words : List Text) (o : Options) (asked : List ℕ) (call : Call) → options_of words ≡ Some o → IsTextAnswered o asked call → IsCallTaken o asked call
+  call-taken words o asked call wanted h = by_end h.ends
     where
+      range : OptionsInRange o
+      range = words-range words o wanted
+
       by_end : IsOutcome call.answer.status ⊎ (call.answer.status ≡ status.TheVariants.SourceRefused) → IsCallTaken o asked call
       by_end (inl ends) =
           let done : HasDone o call.before call.after asked call.answer =

@@ -8,4 +8,8 @@ mod Times
 mod Programs
 mod Refused
 mod Modes
+mod Ranges
 mod Calls
+mod Outputs
+mod Holders
+mod RunHolders

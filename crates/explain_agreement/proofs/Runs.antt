@@ -63,6 +63,13 @@ grants-are : (gs : List Grant) → grant_lines gs ≡ flat_map answer_line (map 
 unfolding grant_lines
 grants-are gs = sym (flat_map-map answer_line line.TheVariants.Grant gs)
 
+-- the flat machine's run by the grants of a run, of the program and the fuel
+pub flat-value : (P : ProgramParts) (machine : Shape) (fuel : ℕ) (r : RunRecord) (is : IsRunOf P machine fuel r) → flat_end P fuel r.grants ≡ Some is.flat.end'
+flat-value P machine fuel r is =
+    ap (λ (p : ProgramParts). flat_end p fuel r.grants) (sym is.setting_is.program)
+    ∙ ap (λ (n : ℕ). flat_end is.setting.program n r.grants) (sym is.setting_is.fuel)
+    ∙ is.flat.value
+
 module _ (text : List ℕ) (l : Located) (at' : IsLocated text l) (fuel : ℕ) (most : fuel ≤ 32768) where
   -- ---- by the grants of a run of the flat machine
 
@@ -84,13 +91,6 @@ module _ (text : List ℕ) (l : Located) (at' : IsLocated text l) (fuel : ℕ) (
   -- ---- the machine's run
 
   module _ (machine : Shape) (r : RunRecord) (is : IsRunOf l.program machine fuel r) where
-    -- the flat machine's run by its grants, of the program and the fuel
-    flat-value : flat_end l.program fuel r.grants ≡ Some is.flat.end'
-    flat-value =
-        ap (λ (p : ProgramParts). flat_end p fuel r.grants) (sym is.setting_is.program)
-        ∙ ap (λ (n : ℕ). flat_end is.setting.program n r.grants) (sym is.setting_is.fuel)
-        ∙ is.flat.value
-
     all-events : sum r.counts.kinds ≡ length r.events
     all-events =
         all_counted (kinds_of (initial_state is.setting) r.events) r.counts is.each_kind is.machine.is_true.counted ∙ kinds-length (initial_state is.setting) r.events
@@ -110,17 +110,17 @@ module _ (text : List ℕ) (l : Located) (at' : IsLocated text l) (fuel : ℕ) (
         let events_line : IsLineOf l events = record { fits = number (sum r.counts.kinds) (omega (arith, few, all-events)); of = refl } in
         let kinds = All-map (IsLineOf l) (kind_line_of r.counts) all_kinds (λ i d within. kind-line (get_or all_kinds i d)) in
         All-append (IsLineOf l) (map line.TheVariants.Grant r.grants) (events ∷ map (kind_line_of r.counts) all_kinds)
-        (grant-lines-of text l at' fuel most r.grants is.flat.end' flat-value)
+        (grant-lines-of text l at' fuel most r.grants is.flat.end' (flat-value l.program machine fuel r is))
         (All-cons (IsLineOf l) events (map (kind_line_of r.counts) all_kinds) events_line kinds)
 
     run-printed : AreLines l (run_text r.grants r.counts)
     run-printed = record { lines = run_lines r.grants r.counts; are = run-lines-of; is = run-is r.grants r.counts }
 
     answer-printed : AreLines l (answer_of r.ending)
-    answer-printed = subst (λ (x : Ending). AreLines l (answer_of x)) is.flat.ending (ending-printed r.grants is.flat.end' flat-value)
+    answer-printed = subst (λ (x : Ending). AreLines l (answer_of x)) is.flat.ending (ending-printed r.grants is.flat.end' (flat-value l.program machine fuel r is))
 
     pub report-printed : AreLines l (reported r)
     report-printed = subst (AreLines l) (sym (report-parts r)) (lines-append l (answer_of r.ending) (run_text r.grants r.counts) answer-printed run-printed)
 
     pub sum-printed : AreLines l (summed_up r)
-    sum-printed = subst (λ (x : Ending). AreLines l (summary_of x)) is.flat.ending (summary-printed r.grants is.flat.end' flat-value)
+    sum-printed = subst (λ (x : Ending). AreLines l (summary_of x)) is.flat.ending (summary-printed r.grants is.flat.end' (flat-value l.program machine fuel r is))

@@ -1,0 +1,26 @@
+-- Who holds a lock at the end of a run.
+use Rattle.std.specs.Prelude.{◌≡◌, ℕ, true, List, Some}
+use Rattle.std.specs.List.{IsAmong}
+use Rattle.dn_base.specs.declared.ids.Grant.{Grant}
+use Rattle.region_table.specs.Program.{ProgramParts}
+use Rattle.rv_core.specs.Access.{is_held}
+use Rattle.flat_machine.specs.Step.{Started}
+use Rattle.flat_machine.specs.Phases.{Flat}
+use Rattle.flat_machine.specs.Grants.{so_far}
+use Rattle.explained_answer.specs.Holders.{holder_of}
+
+-- after these grants the core's task of the phase, which is the last that began, holds the lock
+pub record HoldsLock (P : ProgramParts) (fuel : ℕ) (grants : List Grant) (phase core lock : ℕ) : Type 0 where
+  pub last : Flat
+  pub reached : so_far P fuel grants ≡ Some last
+  pub task : Started
+  pub among : IsAmong last.tasks task
+  pub in_phase : task.phase.0 ≡ phase
+  pub own : task.decl.core.0 ≡ core
+  pub holds : is_held task.state.held lock ≡ true
+
+-- by the grants a core of the phase holds the lock, and so it does
+pub record HasHolder (P : ProgramParts) (fuel : ℕ) (grants : List Grant) (phase lock : ℕ) : Type 0 where
+  pub core : ℕ
+  pub told : holder_of grants phase lock ≡ Some core
+  pub holds : HoldsLock P fuel grants phase core lock
