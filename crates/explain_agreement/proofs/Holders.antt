@@ -261,6 +261,18 @@ module _ (P : ProgramParts) (program : IsProgram P) (fuel : ℕ) where
     all-hold : AllHold gs ended.last
     all-hold = all-grants [] gs (initial_flat P fuel) ended.last refl (opened-hold P fuel) ended.leads
 
+    -- a task that holds the lock, in the same phase
+    holder-of : (r holder : Started) (lock : LockId) → IsAmong ended.last.tasks holder → holder.phase.0 ≡ r.phase.0 → is_held holder.state.held lock.0 ≡ true
+        → IsLastOf gs lock.0 holder → HasHolder P fuel gs r.phase.0 lock.0
+    holder-of r holder lock among phase holds last =
+        let last_phase : last.grant.phase.0 ≡ r.phase.0 = omega (arith, last.phase, phase) in
+        record {
+          core = last.grant.core.0;
+          told = told-by gs r.phase.0 lock.0 last.grant last.last (eq-eqb last.grant.phase.0 r.phase.0 last_phase);
+          holds =
+              record { last = ended.last; reached = ended.leads; task = holder; among = among; in_phase = phase; own = sym last.core; holds = holds };
+        }
+
     -- a task of the last phase
     current-holder : (r : Started) (lock : LockId) → IsAmong ended.last.tasks r → Waits r lock → HasHolder P fuel gs r.phase.0 lock.0
     current-holder r lock among waits =
@@ -274,23 +286,7 @@ module _ (P : ProgramParts) (program : IsProgram P) (fuel : ℕ) where
         let first : r.phase.0 + 1 ≡ ended.last.begun = among-item (λ (x : Started). x.phase.0 + 1 ≡ ended.last.begun) ended.last.tasks r tasks.here among in
         let second : held.holder.phase.0 + 1 ≡ ended.last.begun =
         among-item (λ (x : Started). x.phase.0 + 1 ≡ ended.last.begun) ended.last.tasks held.holder tasks.here holder in
-        let phase : held.holder.phase.0 ≡ r.phase.0 = omega (arith, first, second) in
-        let last_phase : granted_last.grant.phase.0 ≡ r.phase.0 = omega (arith, granted_last.phase, phase) in
-        let test : (granted_last.grant.phase.0 == r.phase.0) ≡ true = eq-eqb granted_last.grant.phase.0 r.phase.0 last_phase in
-        record {
-          core = granted_last.grant.core.0;
-          told = told-by gs r.phase.0 lock.0 granted_last.grant granted_last.last test;
-          holds =
-              record {
-                last = ended.last;
-                reached = ended.leads;
-                task = held.holder;
-                among = holder;
-                in_phase = phase;
-                own = sym granted_last.core;
-                holds = holds;
-              };
-        }
+        holder-of r held.holder lock holder (omega (arith, first, second)) holds granted_last
 
     -- the tasks of the phases before have finished
     shown-holder : (r : Started) (lock : LockId) → IsAmong (all_tasks ended.last) r → shown_of P fuel r r.state.end ≡ shown.TheVariants.Waits lock → HasHolder P fuel gs r.phase.0 lock.0

@@ -13,3 +13,4 @@ mod Calls
 mod Outputs
 mod Holders
 mod RunHolders
+mod Named

@@ -55,7 +55,7 @@ kinds-length : (S : State) (events : List Event) → length (kinds_of S events) 
 kinds-length S [] = refl
 kinds-length S (e ∷ es) = ap suc (kinds-length (next S e) es)
 
-report-parts : (r : RunRecord) → reported r ≡ answer_of r.ending ++ run_text r.grants r.counts
+pub report-parts : (r : RunRecord) → reported r ≡ answer_of r.ending ++ run_text r.grants r.counts
 unfolding report_of
 report-parts r = refl
 
@@ -103,7 +103,7 @@ module _ (text : List ℕ) (l : Located) (at' : IsLocated text l) (fuel : ℕ) (
         let within = count_by-le-length (same_kind k) kinds in
         record { fits = number (kind_count k r.counts) (omega (arith, few, counted, within, kinds-length (initial_state is.setting) r.events)); of = refl }
 
-    run-lines-of : All (IsLineOf l) (run_lines r.grants r.counts)
+    pub run-lines-of : All (IsLineOf l) (run_lines r.grants r.counts)
     run-lines-of =
         let few = is.machine.few.most in
         let events = line.TheVariants.Count count.TheVariants.Events (sum r.counts.kinds) in

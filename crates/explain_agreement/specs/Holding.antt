@@ -1,5 +1,5 @@
--- Who holds a lock at the end of a run.
-use Rattle.std.specs.Prelude.{◌≡◌, ℕ, true, List, Some}
+-- Who holds a lock at the end of a run, and that a reported run is explained by its grants.
+use Rattle.std.specs.Prelude.{◌≡◌, ℕ, true, List, Some, flat_map}
 use Rattle.std.specs.List.{IsAmong}
 use Rattle.dn_base.specs.declared.ids.Grant.{Grant}
 use Rattle.region_table.specs.Program.{ProgramParts}
@@ -7,7 +7,15 @@ use Rattle.rv_core.specs.Access.{is_held}
 use Rattle.flat_machine.specs.Step.{Started}
 use Rattle.flat_machine.specs.Phases.{Flat}
 use Rattle.flat_machine.specs.Grants.{so_far}
+use Rattle.dn_machine.specs.declared.record.RunRecord.{RunRecord}
+use Rattle.dn_top.specs.Runs.{reported}
+use Rattle.text_places.specs.declared.places.Located.{Located}
+use Rattle.answer_lines.specs.declared.line.AnswerLine.{AnswerLine}
+use Rattle.answer_lines.specs.Lines.{answer_line}
+use Rattle.explained_answer.specs.declared.explaining.Explained.{Explained}
+use Rattle.explained_answer.specs.declared.explaining.Explained.TheVariants.{Text}
 use Rattle.explained_answer.specs.Holders.{holder_of}
+use Rattle.explained_answer.specs.Lines.{explained_line}
 
 -- after these grants the core's task of the phase, which is the last that began, holds the lock
 pub record HoldsLock (P : ProgramParts) (fuel : ℕ) (grants : List Grant) (phase core lock : ℕ) : Type 0 where
@@ -24,3 +32,9 @@ pub record HasHolder (P : ProgramParts) (fuel : ℕ) (grants : List Grant) (phas
   pub core : ℕ
   pub told : holder_of grants phase lock ≡ Some core
   pub holds : HoldsLock P fuel grants phase core lock
+
+-- a reported run was explained: behind each of its lines stands what is said there by the grants of the run
+pub record IsReportExplained (text : List ℕ) (l : Located) (r : RunRecord) (e : Explained) : Type 0 where
+  pub lines : List AnswerLine
+  pub are : reported r ≡ flat_map answer_line lines
+  pub said : e ≡ Text (flat_map (explained_line text l r.grants) lines)

@@ -18,12 +18,13 @@ ghost use Rattle.front_end.specs.Texts.{usage_line};
 ghost use Rattle.dn_top.specs.declared.output.Output.{Output};
 ghost use Rattle.dn_top.specs.Answers.{IsAnswer};
 ghost use Rattle.dn_top.specs.Laws.{Call, IsTextAnswered};
-ghost use Rattle.dn_top.specs.Runs.{IsRunOf};
+ghost use Rattle.dn_top.specs.Runs.{IsRunOf, reported};
 ghost use Rattle.explained_answer.specs.declared.explaining.Explained.{Explained};
-ghost use Rattle.explained_answer.specs.Explained.{IsExplained};
+ghost use Rattle.explained_answer.specs.Explained.{IsLocated, HasNoConflict, IsExplained};
 ghost use Rattle.explain_top.specs.declared.answering.Output.{Output as Explanation};
 ghost use Rattle.explain_top.specs.Answers.{IsOutput};
-ghost use Rattle.explain_agreement.specs.Holding.{HasHolder};
+ghost use Rattle.text_places.specs.declared.places.Located.{Located};
+ghost use Rattle.explain_agreement.specs.Holding.{HasHolder, IsReportExplained};
 ghost use Rattle.explain_agreement.specs.Taken.{IsTaken, is_beside, IsCallTaken};
 
 use dn_top::the_output_is_a_function_of_source_and_options;
@@ -52,10 +53,13 @@ pub fn every_answer_of_denovo_is_taken()
 /// phase, and this task holds the lock. So explain names the holder, as it names that core.
 ///
 /// The clause `flat` says it of each run of the flat machine by grants, and the clause `run` of each run of the multicore machine that
-/// dn_top's `IsRunOf` is true of.
+/// dn_top's `IsRunOf` is true of. The clause `named` says that what explain says behind the lines of such a run's report is said by the
+/// grants of the run.
 pub fn the_core_that_was_granted_a_lock_last_holds_it()
     ensures flat { (P : ProgramParts) (fuel : ℕ) (grants : List Grant) (e : FlatEnd) (t : TaskEnd) (lock : LockId) → IsProgram P → flat_end P fuel grants ≡ Some e
         → IsAmong e.ending.tasks t → t.end ≡ Waits lock → HasHolder P fuel grants t.phase.0 lock.0 }
     ensures run { (P : ProgramParts) (machine : Shape) (fuel : ℕ) (r : RunRecord) (t : TaskEnd) (lock : LockId) → IsProgram P → IsRunOf P machine fuel r
         → IsAmong r.ending.tasks t → t.end ≡ Waits lock → HasHolder P fuel r.grants t.phase.0 lock.0 }
+    ensures named { (text : List ℕ) (l : Located) (machine : Shape) (fuel : ℕ) (r : RunRecord) (e : Explained) → IsLocated text l → HasNoConflict l.program → fuel ≤ 32768
+        → IsRunOf l.program machine fuel r → IsExplained text (reported r) e → IsReportExplained text l r e }
 {}
