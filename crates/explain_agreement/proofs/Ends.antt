@@ -55,7 +55,7 @@ use Rattle.explain_agreement.proofs.Shown.{end_seen, task_seen, ending_seen}
 pub number : (n : ℕ) → n ≤ 4294967295 → IsNumber n
 number n few = record { low = omega arith; high = few }
 
-among-item : {X : Type 0} (Holds : X → Type 0) (xs : List X) (x : X) → All Holds xs → IsAmong xs x → Holds x
+pub among-item : {X : Type 0} (Holds : X → Type 0) (xs : List X) (x : X) → All Holds xs → IsAmong xs x → Holds x
 among-item Holds xs x all among = subst Holds (sym among.1.1) (all among.0 x among.1.0)
 
 module _ (text : List ℕ) (l : Located) (at' : IsLocated text l) where

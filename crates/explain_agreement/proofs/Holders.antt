@@ -1,8 +1,8 @@
 -- A task that holds a lock is the one that was granted it last.
-use Rattle.std.proofs.Common.{◌≡◌, ◌⊎◌, inl, inr, ℕ, zero, suc, ◌+◌, ◌^◌, ◌<◌, ◌==◌, Bool, true, false, not, cond, if◌then◌else◌, List, [], ◌∷◌, ◌++◌, map, find, length, get_or, slice_get, Option, Some, None, bit_or, refl, sym, ap, subst, ◌∙◌, ⊎_elim, arith, append_assoc}
+use Rattle.std.proofs.Common.{◌≡◌, ◌⊎◌, inl, inr, ℕ, zero, suc, ◌+◌, ◌^◌, ◌<◌, ◌==◌, Bool, true, false, not, cond, if◌then◌else◌, List, [], ◌∷◌, ◌++◌, map, length, get_or, slice_get, Option, Some, None, bit_or, refl, sym, ap, subst, ◌∙◌, ⊎_elim, arith, append_assoc}
 use Rattle.std.specs.List.{All, IsAmong}
 use Rattle.std.proofs.lemmas.Bool.{true≢false, false≢true, or_cases, eqb-true, eq-eqb, ne_eqb}
-use Rattle.std.proofs.lemmas.List.{append-nil, reverse-append}
+use Rattle.std.proofs.lemmas.List.{append-nil}
 use Rattle.std.proofs.lemmas.List.Elements.{All-nil, All-cons, All-tail, All-set, Contains-append_cases}
 use Rattle.std.proofs.lemmas.List.Folds.{list_any_none}
 use Rattle.std.proofs.lemmas.Option.{none-some, same_Some, slice_get-get_or}
@@ -40,13 +40,12 @@ use Rattle.flat_machine.proofs.RunLemmas.{grants-push}
 use Rattle.flat_machine.proofs.Rights.{wish-need}
 use Rattle.flat_machine.proofs.SegmentLaws.{segment-after}
 use Rattle.flat_machine.proofs.SettleLaws.{settled-kept}
-use Rattle.explained_answer.specs.Holders.{is_of_lock, last_grant, core_if_in, holder_of}
+use Rattle.explained_answer.specs.Holders.{last_grant, core_if_in, holder_of}
+use Rattle.explained_answer.proofs.GrantLemmas.{last-push}
 use Rattle.explain_agreement.specs.Holding.{HasHolder}
+use Rattle.explain_agreement.proofs.Ends.{among-item}
 
 -- ---- items of lists
-
-among-item : {X : Type 0} (Holds : X → Type 0) (xs : List X) (x : X) → All Holds xs → IsAmong xs x → Holds x
-among-item Holds xs x all among = subst Holds (sym among.1.1) (all among.0 x among.1.0)
 
 among-either : {X : Type 0} (xs ys : List X) (x : X) → IsAmong (xs ++ ys) x → IsAmong xs x ⊎ IsAmong ys x
 among-either xs ys x among =
@@ -77,9 +76,6 @@ HoldsItsGrants grants r = (lock : ℕ) → is_held r.state.held lock ≡ true �
 
 abbrev AllHold : List Grant → Flat → Type 0
 AllHold grants F = All (HoldsItsGrants grants) F.tasks
-
-last-push : (gs : List Grant) (g : Grant) (lock : ℕ) → last_grant (gs ++ g ∷ []) lock ≡ cond (g.lock.0 == lock) (Some g) (last_grant gs lock)
-last-push gs g lock = ap (find (is_of_lock lock)) (reverse-append gs (g ∷ []))
 
 -- the core of the last grant, if that is of the phase
 told-by : (gs : List Grant) (phase lock : ℕ) (g : Grant) → last_grant gs lock ≡ Some g → (g.phase.0 == phase) ≡ true → holder_of gs phase lock ≡ Some g.core.0

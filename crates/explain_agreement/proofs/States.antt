@@ -60,7 +60,7 @@ written-small regs rd value h small =
 wraps : (n : ℕ) → n % 2 ^ 32 < 2 ^ 32
 wraps n = mod_below n (2 ^ 32) (omega arith)
 
--- where a jump through a register goes isn't written to a register
+-- a call of the environment writes no register
 called-small : (t : TaskState) (number lock : ℕ) → AreBelow (2 ^ 32) t.regs → AreBelow (2 ^ 32) (after_call t number lock).regs
 called-small t number lock h =
     cond_both (number == 1) (with_locks t (bit_or t.held (2 ^ lock))) (with_locks t (bit_xor t.held (2 ^ lock))) (λ (x : TaskState). AreBelow (2 ^ 32) x.regs) (λ e. h) (λ e. h)

@@ -1,4 +1,4 @@
-//! What explain makes of the answers of denovo, as a law: a function that does nothing, whose contract says it.
+//! What explain makes of the answers of denovo, and whom it names as the holder of a lock, as laws: functions whose contracts say it.
 ghost use Rattle.std.specs.Prelude.{◌≡◌, ◌≤◌, ℕ, List, Some, length};
 ghost use Rattle.std.specs.List.{IsAmong};
 ghost use Rattle.dn_base.specs.declared.ids.Grant.{Grant};
