@@ -1,5 +1,5 @@
 -- Each line that is said to claim a word for a task gives the tables such a claim.
-use Rattle.std.proofs.Common.{◌≡◌, ◌≢◌, ◌⊎◌, inl, inr, ℕ, zero, suc, ◌+◌, ◌-◌, ◌*◌, ◌%◌, ◌^◌, ◌<◌, ◌≤◌, ◌==◌, ℤ, pos, negsuc, int_le, int_lt, Bool, true, false, ◌&&◌, ◌||◌, cond, nat_le, nat_lt, bytes_eq, if◌then◌else◌, List, [], ◌∷◌, ◌++◌, map, filter_map, flat_map, find, get_or, slice_get, length, count_by, Option, Some, None, Ok, Result, option_map, IfSome, is_none, refl, sym, ap, subst, ◌∙◌, ⊎_elim, arith, append_assoc, length-append}
+use Rattle.std.proofs.Common.{◌≡◌, ◌≢◌, ◌⊎◌, inl, inr, ℕ, zero, suc, ◌+◌, ◌-◌, ◌<◌, ◌≤◌, ◌==◌, ℤ, pos, negsuc, int_le, int_lt, Bool, true, false, ◌||◌, cond, nat_le, nat_lt, bytes_eq, if◌then◌else◌, List, [], ◌∷◌, ◌++◌, map, filter_map, flat_map, find, get_or, slice_get, length, Option, Some, None, Ok, option_map, IfSome, is_none, refl, sym, ap, subst, ◌∙◌, ⊎_elim, arith, append_assoc, length-append}
 use Rattle.std.specs.List.{IsAmong, range_with_len, cons_option}
 use Rattle.std.proofs.lemmas.Bool.{true≢false, false≢true, and_parts, or_cases, or_parts, eqb-true, eqb-false, leb-true, ltb-true, lt-ltb, le-leb, cases_order}
 use Rattle.std.proofs.lemmas.List.{append-nil, length-map, get_or_append_left, get_or-map}
@@ -34,12 +34,11 @@ use Rattle.rv_assembler.specs.Named.{region_span, lock_number, task_entry, usage
 use Rattle.rv_assembler.specs.Rows.{start_at, use_at, uses_of}
 use Rattle.rv_assembler.specs.Placed.{Placed, placed, placed_behind}
 use Rattle.rv_assembler.specs.Counts.{data_words, regions_in, locks_in, code_words, is_phase, phases_in, family_in, current_family}
-use Rattle.rv_assembler.specs.Declarations.{Declaration, label_by, named_by, declared_at, declarations, meaning_among, meaning_of}
+use Rattle.rv_assembler.specs.Declarations.{Declaration, label_by, named_by, declared_at, declarations, meaning_of}
 use Rattle.rv_assembler.specs.Tables.{region_by, region_at, tasks_by, tasks_at, claim_by, claim_at, tables}
-use Rattle.rv_assembler.specs.Fault.{out_of_range, doubled, unknown, misplaced, lock_lost, extent_far, core_in_use, early_fault, limit_fault, first_fault}
-use Rattle.rv_assembler.specs.Program.{program_of}
+use Rattle.rv_assembler.specs.Fault.{out_of_range, doubled, unknown, misplaced, lock_lost, extent_far, early_fault, limit_fault}
 use Rattle.rv_assembler.specs.Reading.{version_line}
-use Rattle.rv_assembler.specs.Source.{good, sayings, readings, line_fault, fault_at, faults, source}
+use Rattle.rv_assembler.specs.Source.{good, sayings, readings, line_fault, fault_at, source}
 use Rattle.rv_assembler.proofs.DoubledLemmas.{AreRising}
 use Rattle.rv_assembler.proofs.RisingLemmas.{lines-rise}
 use Rattle.rv_assembler.proofs.TableLemmas.{place, sum-same, tally, family-same, family-new}
@@ -53,10 +52,10 @@ use Rattle.text_places.specs.declared.places.Places.{Places}
 use Rattle.text_places.specs.Words.{is_task_of, region_has, word_place_from, word_place, IsWordPlace}
 use Rattle.text_places.proofs.PlaceLemmas.{has-program}
 use Rattle.conflict_sentences.specs.declared.claims.Contention.{Contention}
-use Rattle.conflict_sentences.specs.Claims.{extent_has, claim_has, gives_to, names_region, effect_claims, statement_claims, line_if, claim_on, family_by, family_behind, claims_behind, claims_of, claims_in, contended, contention_at}
+use Rattle.conflict_sentences.specs.Claims.{extent_has, claim_has, gives_to, names_region, effect_claims, statement_claims, line_if, family_by, claims_behind, claims_of, claims_in, contended, contention_at}
 use Rattle.conflict_sentences.specs.Guards.{guarded_in}
 use Rattle.conflict_sentences.specs.Sentences.{contending_task, task_on, contention_of}
-use Rattle.conflict_sentences.specs.TableClaims.{AreTasksOf, IsClaimForTask, IsClaimedOn, conflict_word}
+use Rattle.conflict_sentences.specs.TableClaims.{AreTasksOf, IsClaimedOn, conflict_word}
 use Rattle.conflict_sentences.proofs.ClaimLemmas.{claims-words}
 
 -- ---- items of lists
