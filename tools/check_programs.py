@@ -3,9 +3,10 @@
 .ci/run does, `tools/check_programs.py`. With `--quick` it takes whatever the launchers run, also builds without proof.
 
 It looks that the command words are handed on, that each exit code from 0 to 7 comes out, and 9 for words that aren't UTF-8, that a
-run goes by a pipe into its picture, that explained answers are those of tools/explained.txt, that claims are judged as
-tools/reference.py judges them, that standard error helps, that the tutorial shows what its commands print, and that the proved
-programs are used exactly where they were made of these sources. What a run has to write comes from tools/reference.py. It names each check that fails, and ends with a count."""
+run goes by a pipe into its picture and its account, that accounts are those of tools/reference.py, that explained answers are those of
+tools/explained.txt, that claims are judged as tools/reference.py judges them, that standard error helps, that the
+tutorial and the page on accounts show what their commands print, and that the proved programs are used exactly where they were made of
+these sources. What a run has to write comes from tools/reference.py. It names each check that fails, and ends with a count."""
 import importlib.util
 import os
 import pathlib

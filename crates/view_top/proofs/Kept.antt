@@ -1,5 +1,6 @@
 -- The run of a document, and what is made of it.
-use Rattle.std.proofs.Common.{◌≡◌, inr, ℕ, ◌≤◌, List, length, Ok, refl, sym, ap, subst, ◌∙◌}
+use Rattle.std.proofs.Common.{◌≡◌, inr, ℕ, ◌≤◌, List, length, Result, Ok, Err, IfErr, refl, sym, ap, subst, ◌∙◌}
+use Rattle.std.specs.Result.{IsErrAnd}
 use Rattle.region_table.specs.Program.{ProgramParts}
 use Rattle.rv_assembler.specs.Source.{source}
 use Rattle.effect_checker.specs.Checked.{IsChecked}
@@ -59,6 +60,11 @@ module _ (document text : List ℕ) (t : Trace) (P : ProgramParts) where
   no-run Memory told same is checked h = tt
   no-run (Refused line) told same is checked h =
       inr (record { trace = t; is = told; holds = inr (record { program = P; is = ap source (sym same) ∙ is; checked = checked; holds = h }) })
+
+-- what is true of a stop is true of a result that hands it on
+pub handed-on : {X : Type 0} (r : Result X Stop) (s : Stop) (Holds : Stop → Type 0) → IsErrAnd r (λ other. other ≡ s) → Holds s → IfErr r Holds
+handed-on (Ok x) s Holds is holds = tt
+handed-on (Err other) s Holds is holds = subst Holds (sym is) holds
 
 -- what holds of the run that is handed on holds of the document's
 pub holds-of : (document : List ℕ) (k : KeptRun) (Holds : ProgramParts → TraceShape → RunRecord → Type 0) → HasKeptRun document (λ P sizes run. k ≡ kept_run_of P sizes run) → Holds k.program k.sizes k.run

@@ -1,4 +1,5 @@
 pub mod Commands
+pub mod Printed
 pub mod Kept
 pub mod Pictures
-pub mod Accounts
+pub mod Counted

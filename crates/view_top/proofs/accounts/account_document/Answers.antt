@@ -5,7 +5,7 @@ use Rattle.view_top.specs.Answers.{IsAccount}
 use Rattle.view_top.proofs.Kept.{holds-of}
 use Rattle.view_top.proofs.accounts.account_document.Goals as goal
 
-pub returns-in_ok-account-clause-made : goal.returns-in_ok-account-clause-made
-returns-in_ok-account-clause-made c =
+pub returns-clause-made : goal.returns-clause-made
+returns-clause-made c =
     holds-of c.args.document.now c.in_ok-kept.kept (λ (P : ProgramParts) (s : TraceShape) (r : RunRecord). IsAccount P s c.args.options.now r c.in_ok-account.field-0) c.in_ok-kept.ensures.kept
     c.in_ok-account.ensures

@@ -5,7 +5,7 @@ use Rattle.view_top.specs.Answers.{IsDrawn}
 use Rattle.view_top.proofs.Kept.{holds-of}
 use Rattle.view_top.proofs.charts.draw_document.Goals as goal
 
-pub returns-in_ok-draw-clause-made : goal.returns-in_ok-draw-clause-made
-returns-in_ok-draw-clause-made c =
+pub returns-clause-made : goal.returns-clause-made
+returns-clause-made c =
     holds-of c.args.document.now c.in_ok-kept.kept (λ (P : ProgramParts) (s : TraceShape) (r : RunRecord). IsDrawn P s c.args.options.now r c.in_ok-draw.field-0) c.in_ok-kept.ensures.kept
     c.in_ok-draw.ensures
