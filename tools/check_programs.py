@@ -165,13 +165,15 @@ def written(lines):
 
 
 def accounts_are_those_of_the_reference():
-    """The account of a run, by each group and in each form, whatever the outcome of the run."""
-    examples = [path.stem for path in sorted(pathlib.Path("examples").glob("*.s")) if path.stem not in ("conflict", "realistic")]
+    """The accounts of the examples that the check accepts, by each group and in each form, whatever the outcome of the run."""
+    examples = [path.stem for path in sorted(pathlib.Path("examples").glob("*.s")) if path.stem != "realistic"]
     shapes = [["--seed", "7"], ["--seed", "3", "--banks", "2", "--sets", "1", "--ways", "1"]]
     denovo, outcomes = programs("denovo")[0], set()
     for example in examples if kind == "proved" else examples[::4]:
         for words in shapes:
             ran = run(denovo + ["--mode", "trace"] + words, text_of(example))
+            if ran.returncode == 2:
+                continue
             outcomes.add(ran.returncode)
             for by in ("run", "phase", "core", "region"):
                 for form in ("text", "csv"):
