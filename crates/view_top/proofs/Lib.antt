@@ -1,0 +1,5 @@
+pub mod Commands
+pub mod Printed
+pub mod Kept
+pub mod Pictures
+pub mod Counted
