@@ -12,6 +12,7 @@ use Rattle.message_net.proofs.PoolLemmas.{taken-of_id}
 use Rattle.registration_protocol.specs.Node.{NodeParts, Setting, need_now}
 use Rattle.registration_protocol.specs.OwnEvents.{may_instr, may_evict, may_arrive, me, wanted_by, victim_for, eviction_of, eviction, arrival, own_event}
 use Rattle.machine_rules.specs.State.{State}
+use Rattle.machine_rules.specs.Next.{observed, granted_in}
 use Rattle.dn_machine.specs.declared.picking.Choice.{Choice}
 use Rattle.dn_machine.specs.Pick.{known_events, handlings, candidates, picked, pick, chosen}
 use Rattle.dn_machine.specs.Actors.{actor_in}
@@ -29,6 +30,14 @@ own-core-in S (Instr c) core is = refl
 own-core-in S (Evict c word) core is = refl
 own-core-in S (Arrive c) core is = refl
 own-core-in S (Handle id) core is = absurd (none-some core is)
+
+-- an own event grants nothing
+pub own-grants : (S : State) (e : Event) (core : CoreId) → own_core e ≡ Some core → (observed S e).granted ≡ None
+unfolding granted_in
+own-grants S (Instr c) core is = refl
+own-grants S (Evict c word) core is = refl
+own-grants S (Arrive c) core is = refl
+own-grants S (Handle id) core is = absurd (none-some core is)
 
 -- the own event of a node is of its core
 own-is : (C : Setting) (n : NodeParts) (e : Event) → own_event C n ≡ Some e → own_core e ≡ Some (me n)
