@@ -105,50 +105,50 @@ impl Content {
 
     /// A core gets a message, where it is there; the lock that it is granted by it.
     #[inline(always)]
-    fn core_gets(&mut self, context: &Context<'_>, core: CoreId, message: Message) -> Option<Grant>
+    fn core_gets(&mut self, context: &Context<'_>, core: CoreId, message: &Message) -> Option<Grant>
         requires whole { IsWhole (state_of (setting context.now) self.old) }
         requires known { KnowsOwn (setting context.now) self.old }
         requires spare { 1 ≤ self.old.pool.spare }
-        ensures state { state_of (setting context.now) self.new ≡ core_gets (state_of (setting context.now) self.old) core message (slice_get self.old.nodes.items core.0) }
-        ensures granted { result ≡ granted_by (setting context.now) message (slice_get self.old.nodes.items core.0) }
+        ensures state { state_of (setting context.now) self.new ≡ core_gets (state_of (setting context.now) self.old) core message.now (slice_get self.old.nodes.items core.0) }
+        ensures granted { result ≡ granted_by (setting context.now) message.now (slice_get self.old.nodes.items core.0) }
         ensures known { KnowsOwn (setting context.now) self.new }
     {
         let place = core.0 as usize;
         if place >= self.nodes.len() {
             return None;
         }
-        let received = receive_at(&mut self.nodes, place, context, message);
+        let received = receive_at(&mut self.nodes, place, context, *message);
         self.core_sends(context, core, &received.sent);
         received.granted
     }
 
     /// A bank gets a message, where it is there.
     #[inline(always)]
-    fn bank_gets(&mut self, context: &Context<'_>, bank: BankId, message: Message)
+    fn bank_gets(&mut self, context: &Context<'_>, bank: BankId, message: &Message)
         requires whole { IsWhole (state_of (setting context.now) self.old) }
         requires known { KnowsOwn (setting context.now) self.old }
         requires spare { 1 ≤ self.old.pool.spare }
-        ensures state { state_of (setting context.now) self.new ≡ bank_handles (state_of (setting context.now) self.old) (TheBank bank) bank.0 message (slice_get self.old.banks.items bank.0) }
+        ensures state { state_of (setting context.now) self.new ≡ bank_handles (state_of (setting context.now) self.old) (TheBank bank) bank.0 message.now (slice_get self.old.banks.items bank.0) }
         ensures known { KnowsOwn (setting context.now) self.new }
     {
         if bank.0 as usize >= self.banks.len() {
             return;
         }
-        let sent = handle_at(&mut self.banks, bank.0 as usize, message);
+        let sent = handle_at(&mut self.banks, bank.0 as usize, *message);
         let from = Actor::Bank(bank);
         let index = from.index(context.shape.cores, context.shape.banks);
         send(&mut self.pool, &mut self.numbers, index, from, &sent);
     }
 
     /// The keeper gets a message.
-    fn keeper_gets(&mut self, context: &Context<'_>, message: Message)
+    fn keeper_gets(&mut self, context: &Context<'_>, message: &Message)
         requires whole { IsWhole (state_of (setting context.now) self.old) }
         requires known { KnowsOwn (setting context.now) self.old }
         requires spare { (setting context.now).shape.cores ≤ self.old.pool.spare }
-        ensures state { state_of (setting context.now) self.new ≡ keeper_handles (state_of (setting context.now) self.old) (keeper_gets self.old.keeper message) }
+        ensures state { state_of (setting context.now) self.new ≡ keeper_handles (state_of (setting context.now) self.old) (keeper_gets self.old.keeper message.now) }
         ensures known { KnowsOwn (setting context.now) self.new }
     {
-        let verdict = self.keeper.handle(message);
+        let verdict = self.keeper.handle(*message);
         let cores = context.shape.cores;
         let index = Actor::Keeper.index(cores, context.shape.banks);
         send_letters(&mut self.pool, &mut self.numbers, index, cores, verdict);
@@ -160,13 +160,13 @@ impl Content {
         &mut self,
         context: &Context<'_>,
         to: Actor,
-        message: Message,
+        message: &Message,
     ) -> Option<Grant>
         requires whole { IsWhole (state_of (setting context.now) self.old) }
         requires known { KnowsOwn (setting context.now) self.old }
         requires spare { (setting context.now).shape.cores ≤ self.old.pool.spare }
-        ensures state { state_of (setting context.now) self.new ≡ gets (state_of (setting context.now) self.old) to message }
-        ensures granted { result ≡ grant_of_mail (state_of (setting context.now) self.old) to message }
+        ensures state { state_of (setting context.now) self.new ≡ gets (state_of (setting context.now) self.old) to message.now }
+        ensures granted { result ≡ grant_of_mail (state_of (setting context.now) self.old) to message.now }
         ensures known { KnowsOwn (setting context.now) self.new }
     {
         match to {
@@ -195,7 +195,7 @@ impl Content {
         match self.pool.take(id) {
             None => silent(EventKind::Instr),
             Some(mail) => {
-                let granted = self.deliver(context, mail.to, mail.message);
+                let granted = self.deliver(context, mail.to, &mail.message);
                 Stepped {
                     kind: mail.message.kind(),
                     seen: None,
