@@ -13,7 +13,7 @@ use Rattle.rv_assembler.specs.declared.draft.Claim.{Claim}
 use Rattle.rv_assembler.specs.Union.{united}
 use Rattle.rv_assembler.specs.Program.{is_claim_of, is_task}
 use Rattle.rv_assembler.specs.Finishing.{words_within, guarded_reads_within, guarded_writes_within, effects_within, task_within, core_task_within, phase_within}
-use Rattle.rv_assembler.specs.ClaimRows.{usage_number, claim_row, HasClaims, row_words, guarded_reads_by, guarded_writes_by, effects_by, task_by, core_task_by, phase_by}
+use Rattle.rv_assembler.specs.ClaimRows.{usage_number, claim_row, HasClaims, words_by_rows, guarded_reads_by_rows, guarded_writes_by_rows, effects_by_rows, task_by_rows, core_task_by_rows, phase_by_rows}
 
 same-map : {X : Type 0} (f g : ℕ → X) (a n : ℕ) → ((i : ℕ) → a ≤ i → i < a + n → f i ≡ g i) → map f (range_with_len a n) ≡ map g (range_with_len a n)
 same-map f g a zero h = refl
@@ -52,36 +52,36 @@ abbrev effects : List Interval → List Interval → List (List Interval) → Li
 effects r w gr gw = record { reads = r; writes = w; guarded_reads = gr; guarded_writes = gw }
 
 module _ (words phases locks : ℕ) (claims : List Claim) (rows : List (List Interval)) (has : HasClaims words claims rows) (long : length rows ≡ 1056 * phases + 1056) (few : locks ≤ 32) where
-  words-same : (t : Start) (u : Usage) → t.core < 16 → t.phase ≤ phases → usage_number u < 66 → row_words rows t u ≡ words_within words (filter (is_claim_of t) claims) u
+  words-same : (t : Start) (u : Usage) → t.core < 16 → t.phase ≤ phases → usage_number u < 66 → words_by_rows rows t u ≡ words_within words (filter (is_claim_of t) claims) u
   words-same t u c p n =
       let within : claim_row t.phase t.core u < length rows = omega (arith, long) in
       ap united (has t u (and_from (ltb t.core 16) (ltb (usage_number u) 66) (lt-ltb t.core 16 c) (lt-ltb (usage_number u) 66 n)) within)
 
-  effects-same : (t : Start) → t.core < 16 → t.phase ≤ phases → effects_by locks rows t ≡ effects_within words locks (filter (is_claim_of t) claims)
+  effects-same : (t : Start) → t.core < 16 → t.phase ≤ phases → effects_by_rows locks rows t ≡ effects_within words locks (filter (is_claim_of t) claims)
   effects-same t c p =
       let own : List Claim = filter (is_claim_of t) claims in
       let r = words-same t Reads c p (omega arith) in
       let w = words-same t Writes c p (omega arith) in
-      let gr = same-map (guarded_reads_by rows t) (guarded_reads_within words own) 0 locks (λ i l m. words-same t (GuardedReads i) c p (omega arith)) in
-      let gw = same-map (guarded_writes_by rows t) (guarded_writes_within words own) 0 locks (λ i l m. words-same t (GuardedWrites i) c p (omega arith)) in
-      let reads = map (guarded_reads_by rows t) (range_with_len 0 locks) in
-      let writes = map (guarded_writes_by rows t) (range_with_len 0 locks) in
-      ap (λ (x : List Interval). effects x (row_words rows t Writes) reads writes) r
+      let gr = same-map (guarded_reads_by_rows rows t) (guarded_reads_within words own) 0 locks (λ i l m. words-same t (GuardedReads i) c p (omega arith)) in
+      let gw = same-map (guarded_writes_by_rows rows t) (guarded_writes_within words own) 0 locks (λ i l m. words-same t (GuardedWrites i) c p (omega arith)) in
+      let reads = map (guarded_reads_by_rows rows t) (range_with_len 0 locks) in
+      let writes = map (guarded_writes_by_rows rows t) (range_with_len 0 locks) in
+      ap (λ (x : List Interval). effects x (words_by_rows rows t Writes) reads writes) r
       ∙ (ap (λ (x : List Interval). effects (words_within words own Reads) x reads writes) w
       ∙ (ap (λ (x : List (List Interval)). effects (words_within words own Reads) (words_within words own Writes) x writes) gr
       ∙ ap (λ (x : List (List Interval)). effects (words_within words own Reads) (words_within words own Writes) (map (guarded_reads_within words own) (range_with_len 0 locks)) x) gw))
 
-  task-same : (t : Start) → t.core < 16 → t.phase ≤ phases → task_by locks rows t ≡ task_within words locks claims t
+  task-same : (t : Start) → t.core < 16 → t.phase ≤ phases → task_by_rows locks rows t ≡ task_within words locks claims t
   task-same t c p =
       let made : Effects → TaskDecl = λ e. record { core = record { 0 = t.core }; entry = t.entry; arg = t.arg; effects = e } in ap made (effects-same t c p)
 
-  core-same : (tasks : List Start) (p c : ℕ) → p ≤ phases → c < 16 → core_task_by locks rows tasks p c ≡ core_task_within words locks claims tasks p c
+  core-same : (tasks : List Start) (p c : ℕ) → p ≤ phases → c < 16 → core_task_by_rows locks rows tasks p c ≡ core_task_within words locks claims tasks p c
   core-same tasks p c l m =
-      same-option (task_by locks rows) (task_within words locks claims) (find (is_task p c) tasks)
-      (if_some-all (IsAt p c) (λ t. task_by locks rows t ≡ task_within words locks claims t) (find (is_task p c) tasks) (λ t at. task-same t (omega (arith, at.core)) (omega (arith, at.phase))) (found-at p c tasks))
+      same-option (task_by_rows locks rows) (task_within words locks claims) (find (is_task p c) tasks)
+      (if_some-all (IsAt p c) (λ t. task_by_rows locks rows t ≡ task_within words locks claims t) (find (is_task p c) tasks) (λ t at. task-same t (omega (arith, at.core)) (omega (arith, at.phase))) (found-at p c tasks))
 
-  pub phases-same : (tasks : List Start) → map (phase_by locks rows tasks) (range_with_len 1 phases) ≡ map (phase_within words locks claims tasks) (range_with_len 1 phases)
+  pub phases-same : (tasks : List Start) → map (phase_by_rows locks rows tasks) (range_with_len 1 phases) ≡ map (phase_within words locks claims tasks) (range_with_len 1 phases)
   phases-same tasks =
       let made : List TaskDecl → Phase = λ l. record { tasks = l } in
-      same-map (phase_by locks rows tasks) (phase_within words locks claims tasks) 1 phases
-      (λ p l m. ap made (same-filter_map (core_task_by locks rows tasks p) (core_task_within words locks claims tasks p) 0 16 (λ c a b. core-same tasks p c (omega arith) (omega arith))))
+      same-map (phase_by_rows locks rows tasks) (phase_within words locks claims tasks) 1 phases
+      (λ p l m. ap made (same-filter_map (core_task_by_rows locks rows tasks p) (core_task_within words locks claims tasks p) 0 16 (λ c a b. core-same tasks p c (omega arith) (omega arith))))

@@ -64,31 +64,31 @@ abbrev pub AreRowsWithin : ℕ → List (List Interval) → Type 0
 AreRowsWithin words rows = All (λ (row : List Interval). All (IsSomeWithin words) row) rows
 
 -- the words that a task claims by a usage, from the rows
-abbrev pub row_words : List (List Interval) → Start → Usage → List Interval
-row_words rows t usage = united (intervals_at rows (claim_row t.phase t.core usage))
+abbrev pub words_by_rows : List (List Interval) → Start → Usage → List Interval
+words_by_rows rows t usage = united (intervals_at rows (claim_row t.phase t.core usage))
 
-abbrev pub guarded_reads_by : List (List Interval) → Start → ℕ → List Interval
-guarded_reads_by rows t lock = row_words rows t (GuardedReads lock)
+abbrev pub guarded_reads_by_rows : List (List Interval) → Start → ℕ → List Interval
+guarded_reads_by_rows rows t lock = words_by_rows rows t (GuardedReads lock)
 
-abbrev pub guarded_writes_by : List (List Interval) → Start → ℕ → List Interval
-guarded_writes_by rows t lock = row_words rows t (GuardedWrites lock)
+abbrev pub guarded_writes_by_rows : List (List Interval) → Start → ℕ → List Interval
+guarded_writes_by_rows rows t lock = words_by_rows rows t (GuardedWrites lock)
 
 -- the effects of a task, from the rows
-abbrev pub effects_by : ℕ → List (List Interval) → Start → Effects
-effects_by locks rows t =
+abbrev pub effects_by_rows : ℕ → List (List Interval) → Start → Effects
+effects_by_rows locks rows t =
     record {
-      reads = row_words rows t Reads;
-      writes = row_words rows t Writes;
-      guarded_reads = map (guarded_reads_by rows t) (range_with_len 0 locks);
-      guarded_writes = map (guarded_writes_by rows t) (range_with_len 0 locks);
+      reads = words_by_rows rows t Reads;
+      writes = words_by_rows rows t Writes;
+      guarded_reads = map (guarded_reads_by_rows rows t) (range_with_len 0 locks);
+      guarded_writes = map (guarded_writes_by_rows rows t) (range_with_len 0 locks);
     }
 
-abbrev pub task_by : ℕ → List (List Interval) → Start → TaskDecl
-task_by locks rows t = record { core = record { 0 = t.core }; entry = t.entry; arg = t.arg; effects = effects_by locks rows t }
+abbrev pub task_by_rows : ℕ → List (List Interval) → Start → TaskDecl
+task_by_rows locks rows t = record { core = record { 0 = t.core }; entry = t.entry; arg = t.arg; effects = effects_by_rows locks rows t }
 
-abbrev pub core_task_by : ℕ → List (List Interval) → List Start → ℕ → ℕ → Option TaskDecl
-core_task_by locks rows tasks phase core = option_map (task_by locks rows) (find (is_task phase core) tasks)
+abbrev pub core_task_by_rows : ℕ → List (List Interval) → List Start → ℕ → ℕ → Option TaskDecl
+core_task_by_rows locks rows tasks phase core = option_map (task_by_rows locks rows) (find (is_task phase core) tasks)
 
 -- the tasks of a phase, by their cores
-abbrev pub phase_by : ℕ → List (List Interval) → List Start → ℕ → Phase
-phase_by locks rows tasks phase = record { tasks = filter_map (core_task_by locks rows tasks phase) (range_with_len 0 16) }
+abbrev pub phase_by_rows : ℕ → List (List Interval) → List Start → ℕ → Phase
+phase_by_rows locks rows tasks phase = record { tasks = filter_map (core_task_by_rows locks rows tasks phase) (range_with_len 0 16) }

@@ -5,7 +5,7 @@ ghost use Rattle.std.specs.List.{range_with_len};
 ghost use Rattle.region_table.specs.Program.{IsProgram};
 ghost use Rattle.rv_assembler.specs.Program.{is_task};
 ghost use Rattle.rv_assembler.specs.Finishing.{phase_within, with_first_values, finished_program};
-ghost use Rattle.rv_assembler.specs.ClaimRows.{AreRowsWithin, row_words, guarded_reads_by, guarded_writes_by, effects_by, task_by, phase_by};
+ghost use Rattle.rv_assembler.specs.ClaimRows.{AreRowsWithin, words_by_rows, guarded_reads_by_rows, guarded_writes_by_rows, effects_by_rows, task_by_rows, phase_by_rows};
 
 use crate::claim_rows::{claim_rows, intervals_of};
 use crate::draft::{Claim, Draft, FirstValue, Start, Usage};
@@ -45,7 +45,7 @@ fn words_of(
 ) -> Result<WordSet, Memory>
     requires words { words ≤ 65536 }
     requires rows { AreRowsWithin words rows.now }
-    ensures { IfOk result (λ set. set ≡ row_words rows.now task usage) }
+    ensures { IfOk result (λ set. set ≡ words_by_rows rows.now task usage) }
 {
     words_in(alloc, words, intervals_of(rows, task, usage))
 }
@@ -60,7 +60,7 @@ fn guarded_reads(
 ) -> Result<Sequence<WordSet>, Memory>
     requires words { words ≤ 65536 }
     requires rows { AreRowsWithin words rows.now }
-    ensures { IfOk result (λ sets. sets ≡ map (guarded_reads_by rows.now task) (range_with_len 0 locks)) }
+    ensures { IfOk result (λ sets. sets ≡ map (guarded_reads_by_rows rows.now task) (range_with_len 0 locks)) }
 {
     let mut sets = Sequence::new(alloc);
     for lock in 0..locks {
@@ -79,7 +79,7 @@ fn guarded_writes(
 ) -> Result<Sequence<WordSet>, Memory>
     requires words { words ≤ 65536 }
     requires rows { AreRowsWithin words rows.now }
-    ensures { IfOk result (λ sets. sets ≡ map (guarded_writes_by rows.now task) (range_with_len 0 locks)) }
+    ensures { IfOk result (λ sets. sets ≡ map (guarded_writes_by_rows rows.now task) (range_with_len 0 locks)) }
 {
     let mut sets = Sequence::new(alloc);
     for lock in 0..locks {
@@ -98,7 +98,7 @@ fn effects_in(
 ) -> Result<Effects, Memory>
     requires words { words ≤ 65536 }
     requires rows { AreRowsWithin words rows.now }
-    ensures { IfOk result (λ effects. effects ≡ effects_by locks rows.now task) }
+    ensures { IfOk result (λ effects. effects ≡ effects_by_rows locks rows.now task) }
 {
     Ok(Effects {
         reads: words_of(alloc, words, rows, task, Usage::Reads)?,
@@ -117,7 +117,7 @@ fn declared(
 ) -> Result<TaskDecl, Memory>
     requires words { words ≤ 65536 }
     requires rows { AreRowsWithin words rows.now }
-    ensures { IfOk result (λ declared. declared ≡ task_by locks rows.now task) }
+    ensures { IfOk result (λ declared. declared ≡ task_by_rows locks rows.now task) }
 {
     Ok(TaskDecl {
         core: CoreId(task.core),
@@ -155,7 +155,7 @@ fn push_task(
 ) -> Result<(), Memory>
     requires words { words ≤ 65536 }
     requires rows { AreRowsWithin words rows.now }
-    ensures { OnOk result (tasks.new ≡ tasks.old ++ option_to_list (option_map (task_by locks rows.now) task)) }
+    ensures { OnOk result (tasks.new ≡ tasks.old ++ option_to_list (option_map (task_by_rows locks rows.now) task)) }
 {
     match task {
         None => Ok(()),
@@ -174,7 +174,7 @@ fn phase_of(
 ) -> Result<Phase, Memory>
     requires words { words ≤ 65536 }
     requires rows { AreRowsWithin words rows.now }
-    ensures { IfOk result (λ phase. phase ≡ phase_by locks rows.now tasks.now number) }
+    ensures { IfOk result (λ phase. phase ≡ phase_by_rows locks rows.now tasks.now number) }
 {
     let mut found = Sequence::new(alloc);
     for core in 0..16 {
@@ -202,7 +202,7 @@ fn phases_by(
     requires words { words ≤ 65536 }
     requires rows { AreRowsWithin words rows.now }
     requires count { count ≤ 64 }
-    ensures { IfOk result (λ phases. phases ≡ map (phase_by locks rows.now tasks.now) (range_with_len 1 count)) }
+    ensures { IfOk result (λ phases. phases ≡ map (phase_by_rows locks rows.now tasks.now) (range_with_len 1 count)) }
 {
     let mut phases = Sequence::new(alloc);
     for number in 0..count {

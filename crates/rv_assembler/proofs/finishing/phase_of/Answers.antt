@@ -1,7 +1,7 @@
 use Rattle.std.proofs.Common.{◌≡◌, ℕ, suc, ◌+◌, ◌-◌, List, ◌++◌, Option, ◌∙◌, arith}
 use Rattle.std.specs.Option.{option_to_list}
 use Rattle.std.specs.List.{filter_map, range_with_len}
-use Rattle.rv_assembler.specs.ClaimRows.{core_task_by}
+use Rattle.rv_assembler.specs.ClaimRows.{core_task_by_rows}
 use Rattle.rv_assembler.proofs.LoopLemmas.{one-more}
 use Rattle.rv_assembler.proofs.finishing.phase_of.Goals as goal
 
@@ -12,4 +12,4 @@ core-step f done a n k all e h =
 pub loop-core-preserved : goal.loop-core-preserved
 loop-core-preserved c =
     rw (c.in_ok-push_task.ensures, c.task_on.ensures)
-    (core-step (core_task_by c.args.locks c.args.rows.now c.args.tasks.now c.args.number) c.loop-core.found c.loop-core.core (16 - c.loop-core.core) (16 - (c.loop-core.core + 1)) _ (omega arith) c.loop-core.invariant)
+    (core-step (core_task_by_rows c.args.locks c.args.rows.now c.args.tasks.now c.args.number) c.loop-core.found c.loop-core.core (16 - c.loop-core.core) (16 - (c.loop-core.core + 1)) _ (omega arith) c.loop-core.invariant)
