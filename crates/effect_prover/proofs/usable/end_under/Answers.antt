@@ -2,7 +2,7 @@ use Rattle.std.proofs.Common.{◌+◌, take, sym, subst}
 use Rattle.rv_core.specs.Access.{under}
 use Rattle.effect_prover.specs.Stretch.{IsStretch}
 use Rattle.effect_prover.proofs.StretchLemmas.{stretch-first, stretch-push, stretch-all}
-use Rattle.effect_prover.proofs.inside.end_under.Goals as goal
+use Rattle.effect_prover.proofs.usable.end_under.Goals as goal
 
 pub loop-lock-init : goal.loop-lock-init
 loop-lock-init c = stretch-first c.args.sets.now c.args.held c.args.word

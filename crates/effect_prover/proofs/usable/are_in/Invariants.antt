@@ -1,12 +1,12 @@
 use Rattle.std.proofs.Common.{◌≡◌, ℕ, ◌+◌, ◌-◌, ◌<◌, ◌≤◌, true}
-use Rattle.effect_prover.specs.Stretch.{may_use}
-use Rattle.effect_prover.proofs.inside.are_usable.Given as goal
+use Rattle.region_table.specs.Words.{has}
+use Rattle.effect_prover.proofs.usable.are_in.Given as goal
 
 abbrev pub invariant-loop-word : goal.invariant-loop-word
 invariant-loop-word l =
     record {
       from : l.first ≤ l.word;
-      done : (w : ℕ) → l.first ≤ w → w < l.word → may_use l.access l.task l.held w ≡ true;
+      done : (w : ℕ) → l.first ≤ w → w < l.word → has l.set w ≡ true;
     }
 
 abbrev pub decreases-loop-word : goal.decreases-loop-word

@@ -3,7 +3,7 @@ use Rattle.region_table.specs.declared.interval.Interval.{Interval}
 use Rattle.region_table.specs.Words.{has}
 use Rattle.effect_prover.specs.Stretch.{IsStretch}
 use Rattle.effect_prover.proofs.StretchLemmas.{stretch-interval}
-use Rattle.effect_prover.proofs.inside.end_in.Goals as goal
+use Rattle.effect_prover.proofs.usable.end_in.Goals as goal
 
 pub returns-in-Some : goal.returns-in-Some
 returns-in-Some c =
