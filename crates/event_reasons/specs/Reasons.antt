@@ -1,5 +1,5 @@
 -- Why an event may not come: the conditions of the tables in their order, and the first of them that stands in the way.
-use Rattle.std.specs.Prelude.{ℕ, ◌%◌, ◌==◌, nat_lt, Bool, Option, Some, None, slice_get, if◌then◌else◌}
+use Rattle.std.specs.Prelude.{◌%◌, ◌==◌, Bool, Option, Some, None, slice_get, if◌then◌else◌}
 use Rattle.std.specs.Option.{is_some, option_or}
 use Rattle.dn_base.specs.declared.ids.WordId.{WordId}
 use Rattle.rv_core.specs.declared.task.TaskState.{TaskState}

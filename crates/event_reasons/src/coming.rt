@@ -55,11 +55,7 @@ fn push_own(
 }
 
 /// Adds the events of all cores by themselves that may come.
-fn push_cores(
-    alloc: Global,
-    events: &mut Sequence<Event>,
-    machine: &Machine,
-) -> Result<(), Memory>
+fn push_cores(alloc: Global, events: &mut Sequence<Event>, machine: &Machine) -> Result<(), Memory>
     ensures { OnOk result (events.new ≡ events.old ++ flat_map (enabled_own machine.now.state) machine.now.state.nodes) }
 {
     // for the proof alone: there are as many nodes as cores
@@ -102,5 +98,6 @@ pub fn enabled_events(alloc: Global, machine: &Machine) -> Result<Sequence<Event
 {
     // for the proof alone: each node is in its place, and has a well-formed cache
     a_machine_is_kept(machine);
-    list_events(alloc, machine)
+    let events = list_events(alloc, machine)?;
+    Ok(events)
 }
