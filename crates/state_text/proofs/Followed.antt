@@ -1,5 +1,5 @@
 -- Events that come one after the other, and the state to which they lead.
-use Rattle.std.proofs.Common.{◌≡◌, ℕ, zero, suc, ◌+◌, ◌<◌, ◌≤◌, true, false, List, [], ◌∷◌, ◌++◌, length, take, get_or, slice_get, Option, Some, None, refl, sym, ap, subst, ◌∙◌, arith}
+use Rattle.std.proofs.Common.{◌≡◌, ℕ, zero, suc, ◌+◌, ◌<◌, ◌≤◌, true, false, List, [], ◌∷◌, ◌++◌, length, take, get_or, slice_get, Option, Some, None, sym, ap, subst, ◌∙◌, arith}
 use Rattle.std.proofs.lemmas.List.{take_more, take-take, length-take-le}
 use Rattle.std.proofs.lemmas.Option.{slice_get-get_or}
 use Rattle.dn_base.specs.declared.ids.Shape.{Shape}
@@ -7,7 +7,6 @@ use Rattle.region_table.specs.Program.{ProgramParts}
 use Rattle.region_table.specs.Plan.{ArePlans}
 use Rattle.message_net.specs.declared.actor.Actor.{Actor}
 use Rattle.message_net.specs.declared.event.Event.{Event}
-use Rattle.registration_protocol.specs.Node.{Setting}
 use Rattle.machine_rules.specs.State.{State, initial_state}
 use Rattle.machine_rules.specs.Next.{next, enabled}
 use Rattle.machine_rules.specs.Runs.{after, IsRun}
@@ -19,7 +18,7 @@ use Rattle.dn_machine.proofs.ScheduleLaws.{after-more}
 use Rattle.text_places.specs.declared.places.Places.{Places}
 use Rattle.state_text.specs.declared.answer.StateAnswer.{StateAnswer}
 use Rattle.state_text.specs.Shown.{shown_text}
-use Rattle.state_text.specs.Reached.{IsFollowed, IsReached, IsAnswerOf, state_before}
+use Rattle.state_text.specs.Reached.{IsFollowed, IsAnswerOf, state_before}
 
 -- what is known of an event that came, and of one that didn't
 pub came-some : (S T : State) (e : Event) (o : Option (Actor × Stepped)) (x : Actor × Stepped) → o ≡ Some x → IsTried S T e o → HasStepped S T e x
@@ -96,7 +95,7 @@ answer-of P shape fuel m places events before asked T a at kept front within fol
         stopped = λ (before_asked : a.event < asked). (
           (followed.stopped (omega (arith, before_asked, long))).0,
           get-front events asked a.event (followed.stopped (omega (arith, before_asked, long))).0
-            (ap (λ (es : List Event). slice_get es a.event) (sym front) ∙ (followed.stopped (omega (arith, before_asked, long))).1),
+              (ap (λ (es : List Event). slice_get es a.event) (sym front) ∙ (followed.stopped (omega (arith, before_asked, long))).1),
           subst (λ (S : State). enabled S (followed.stopped (omega (arith, before_asked, long))).0 ≡ false) leads (followed.stopped (omega (arith, before_asked, long))).2,
         );
       };

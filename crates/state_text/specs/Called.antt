@@ -1,7 +1,7 @@
 -- How words, cores, mails and events are called where a state is shown.
 use Rattle.std.specs.Prelude.{ℕ, List, [], ◌++◌, codes, Option, Some, None}
 use Rattle.std.specs.Fmt.{decimal}
-use Rattle.text_pieces.specs.Pieces.{newline, space}
+use Rattle.text_pieces.specs.Pieces.{space}
 use Rattle.region_table.specs.Program.{ProgramParts}
 use Rattle.message_net.specs.declared.actor.Actor.{Actor}
 use Rattle.message_net.specs.declared.actor.Actor.TheVariants.{Core, Bank, Keeper}

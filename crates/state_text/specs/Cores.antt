@@ -3,7 +3,7 @@
 use Rattle.std.specs.Prelude.{ℕ, ◌-◌, ◌/◌, ◌%◌, ◌==◌, ◌&&◌, nat_le, Bool, List, [], ◌++◌, length, flat_map, slice_get, codes, Option, Some, None, if◌then◌else◌}
 use Rattle.std.specs.List.{range_with_len}
 use Rattle.std.specs.Fmt.{decimal}
-use Rattle.text_pieces.specs.Pieces.{newline, space, hexadecimal}
+use Rattle.text_pieces.specs.Pieces.{newline, hexadecimal}
 use Rattle.region_table.specs.Program.{ProgramParts}
 use Rattle.rv_core.specs.declared.task.TaskState.{TaskState}
 use Rattle.rv_core.specs.declared.task.End.{End}

@@ -1,5 +1,5 @@
 -- The lines that show the keeper, the homes of words, the locks and the mails in flight.
-use Rattle.std.specs.Prelude.{ℕ, ◌-◌, ◌==◌, Bool, List, [], ◌++◌, length, flat_map, slice_get, slice_index, codes, Option, Some, None, if◌then◌else◌}
+use Rattle.std.specs.Prelude.{ℕ, ◌-◌, ◌==◌, List, [], ◌++◌, length, flat_map, slice_get, slice_index, codes, Option, Some, None, if◌then◌else◌}
 use Rattle.std.specs.List.{range_with_len}
 use Rattle.std.specs.Fmt.{decimal}
 use Rattle.text_pieces.specs.Pieces.{newline, space, hexadecimal}
@@ -75,7 +75,7 @@ lock_name_text P lock = codes "lock " ++ lock_text P.locks lock
 
 -- whose signature it is
 unfoldable pub signed_text : ProgramParts → Signed → List ℕ
-signed_text P (OfLock lock) = lock_name_text P lock.0
+signed_text P (OfLock lock) = lock_name_text P lock
 signed_text P (OfMail id) = mail_text id
 
 unfoldable pub may_hold_line : ProgramParts → Signed → ℕ → List ℕ
@@ -117,11 +117,13 @@ queued_line_at P lock queue place = queued_line_of P lock (slice_get queue place
 abbrev pub queue_lines : ProgramParts → ℕ → List CoreId → List ℕ
 queue_lines P lock queue = flat_map (queued_line_at P lock queue) (range_with_len 0 (length queue))
 
+abbrev pub holding_lines : ProgramParts → ℕ → Lock → List ℕ
+holding_lines P lock h = holder_line_of P lock h.holder ++ queue_lines P lock h.queue
+
 abbrev pub lock_lines_of : State → ℕ → Option Lock → List ℕ
 lock_lines_of S lock None = []
 lock_lines_of S lock (Some h) =
-    holder_line_of S.setting.program lock h.holder
-    ++ (queue_lines S.setting.program lock h.queue ++ signature_lines S (OfLock (record { 0 = lock })) h.kept lock)
+    holding_lines S.setting.program lock h ++ signature_lines S (OfLock lock) h.kept lock
 
 abbrev pub lock_lines_at : State → ℕ → List ℕ
 lock_lines_at S lock = lock_lines_of S lock (lock_at S lock)

@@ -18,9 +18,15 @@ use Rattle.state_text.specs.Parts.{keeper_lines, home_lines, lock_lines, mail_li
 unfoldable pub numbered_event : ℕ → List ℕ
 numbered_event number = codes "event " ++ decimal number
 
+unfoldable pub not_reached : List ℕ
+not_reached = codes " isn't reached: "
+
+unfoldable pub may_not : List ℕ
+may_not = codes " may not come"
+
 -- an earlier event may not come, so that the one that is asked for isn't reached
 unfoldable pub unreached_line : ℕ → ℕ → List ℕ
-unreached_line asked place = numbered_event asked ++ codes " isn't reached: " ++ numbered_event place ++ codes " may not come" ++ newline
+unreached_line asked place = numbered_event asked ++ not_reached ++ numbered_event place ++ may_not ++ newline
 
 unfoldable pub event_head : ℕ → ℕ → List ℕ
 event_head place count = numbered_event place ++ codes " of " ++ decimal count ++ codes ": "

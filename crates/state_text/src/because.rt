@@ -63,11 +63,7 @@ fn push_names(out: &mut Vec<u8>, program: &Program, reason: Reason) -> Result<()
 {
     match reason {
         Reason::WaitsForWord(word) => push_data_word(out, program, word),
-        Reason::WaitsForLock(lock) => push_lock(
-            out,
-            program.locks.as_slice(),
-            lock.0 as usize,
-        ),
+        Reason::WaitsForLock(lock) => push_lock(out, program.locks.as_slice(), lock.0 as usize),
         Reason::HasValue(word) => push_data_word(out, program, word),
         Reason::IsLeaving(word) => push_data_word(out, program, word),
         Reason::IsPending(word) => push_data_word(out, program, word),

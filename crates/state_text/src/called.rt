@@ -92,11 +92,7 @@ pub(crate) fn push_mail(out: &mut Vec<u8>, id: MailId) -> Result<(), Memory>
 
 /// Adds an event, as documents have it, with the evicted word by its region and index.
 #[tactic(auto, unfolding(crate::specs::Called::event_text))]
-pub(crate) fn push_event(
-    out: &mut Vec<u8>,
-    program: &Program,
-    event: Event,
-) -> Result<(), Memory>
+pub(crate) fn push_event(out: &mut Vec<u8>, program: &Program, event: Event) -> Result<(), Memory>
     ensures { OnOk result (out.new.items ≡ out.old.items ++ event_text program.now event) }
 {
     match event {

@@ -45,12 +45,7 @@ fn push_registrant(
 }
 
 #[tactic(auto, unfolding(crate::specs::Parts::home_value_line))]
-fn push_value(
-    out: &mut Vec<u8>,
-    program: &Program,
-    word: WordId,
-    value: u32,
-) -> Result<(), Memory>
+fn push_value(out: &mut Vec<u8>, program: &Program, word: WordId, value: u32) -> Result<(), Memory>
     ensures { OnOk result (out.new.items ≡ out.old.items ++ home_value_line program.now word.0 value) }
 {
     push_home_text(out, program, word)?;
@@ -95,12 +90,7 @@ pub(crate) fn push_homes(out: &mut Vec<u8>, machine: &Machine) -> Result<(), Mem
 {
     let program = machine.program();
     for word in 0..word_count(program) {
-        push_home(
-            out,
-            program,
-            WordId(word),
-            home_of(machine, WordId(word)),
-        )?;
+        push_home(out, program, WordId(word), home_of(machine, WordId(word)))?;
     }
     Ok(())
 }

@@ -1,7 +1,7 @@
 //! The lines of the locks.
-ghost use Rattle.std.specs.Prelude.{◌≡◌, ◌++◌, option_copied, OnOk};
+ghost use Rattle.std.specs.Prelude.{◌≡◌, ◌++◌, Some, option_copied, OnOk};
 ghost use Rattle.machine_rules.specs.State.{lock_at};
-ghost use Rattle.state_text.specs.Parts.{free_line, holder_line, holder_line_of, queued_line, queued_line_of, queue_lines, lock_lines_at, lock_lines};
+ghost use Rattle.state_text.specs.Parts.{free_line, holder_line, holder_line_of, queued_line, queued_line_of, queue_lines, holding_lines, lock_lines_of, lock_lines_at, lock_lines};
 
 use crate::called::push_core;
 use crate::signed::Signed;
@@ -107,28 +107,39 @@ fn push_queue(
     Ok(())
 }
 
-/// Adds the lines of a lock, if its home has it.
-fn push_lock_lines(
+/// Adds who holds a lock, and who waits for it.
+fn push_holding(
+    out: &mut Vec<u8>,
+    program: &Program,
+    lock: LockId,
+    home: &LockHome,
+) -> Result<(), Memory>
+    ensures { OnOk result (out.new.items ≡ out.old.items ++ holding_lines program.now lock.0 home.now) }
+{
+    push_holder(out, program, lock, home.holder())?;
+    push_queue(out, program, lock, home)
+}
+
+/// Adds what the home of a lock has for it.
+fn push_home_lines(
     out: &mut Vec<u8>,
     machine: &Machine,
     lock: LockId,
+    home: &LockHome,
 ) -> Result<(), Memory>
+    ensures { OnOk result (out.new.items ≡ out.old.items ++ lock_lines_of machine.now.state lock.0 (Some home.now)) }
+{
+    push_holding(out, machine.program(), lock, home)?;
+    push_signature(out, machine, Signed::Lock(lock.0), home.signature(), lock)
+}
+
+/// Adds the lines of a lock, if its home has it.
+fn push_lock_lines(out: &mut Vec<u8>, machine: &Machine, lock: LockId) -> Result<(), Memory>
     ensures { OnOk result (out.new.items ≡ out.old.items ++ lock_lines_at machine.now.state lock.0) }
 {
-    let program = machine.program();
     match lock_of(machine, lock) {
         None => Ok(()),
-        Some(home) => {
-            push_holder(out, program, lock, home.holder())?;
-            push_queue(out, program, lock, home)?;
-            push_signature(
-                out,
-                machine,
-                Signed::Lock(lock),
-                home.signature(),
-                lock,
-            )
-        }
+        Some(home) => push_home_lines(out, machine, lock, home),
     }
 }
 

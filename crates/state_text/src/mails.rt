@@ -113,7 +113,9 @@ fn push_carried(
 {
     match message {
         Message::Release {
-            lock, signature, ..
+            lock,
+            signature,
+            ..
         } => push_signature(out, machine, Signed::Mail(id), signature, lock),
         Message::Grant { lock, signature } => {
             push_signature(out, machine, Signed::Mail(id), signature, lock)

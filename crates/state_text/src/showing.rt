@@ -1,7 +1,7 @@
 //! A state as text.
 ghost use Rattle.std.specs.Prelude.{◌≡◌, ◌++◌, flat_map, length, slice_get, IfOk, OnOk};
 ghost use Rattle.state_text.specs.Cores.{core_lines};
-ghost use Rattle.state_text.specs.Shown.{numbered_event, unreached_line, event_head, event_line_text, end_line, event_lines_at, asked_lines, may_come_line, state_lines, shown_text};
+ghost use Rattle.state_text.specs.Shown.{numbered_event, not_reached, may_not, unreached_line, event_head, event_line_text, end_line, event_lines_at, asked_lines, may_come_line, state_lines, shown_text};
 
 use crate::because::push_whether;
 use crate::called::push_event;
@@ -27,14 +27,28 @@ fn push_numbered(out: &mut Vec<u8>, number: u32) -> Result<(), Memory>
     push_decimal(out, number)
 }
 
+#[tactic(auto, unfolding(crate::specs::Shown::not_reached))]
+fn push_not_reached(out: &mut Vec<u8>) -> Result<(), Memory>
+    ensures { OnOk result (out.new.items ≡ out.old.items ++ not_reached) }
+{
+    push(out, b" isn't reached: ")
+}
+
+#[tactic(auto, unfolding(crate::specs::Shown::may_not))]
+fn push_may_not(out: &mut Vec<u8>) -> Result<(), Memory>
+    ensures { OnOk result (out.new.items ≡ out.old.items ++ may_not) }
+{
+    push(out, b" may not come")
+}
+
 #[tactic(auto, unfolding(crate::specs::Shown::unreached_line))]
 fn push_unreached(out: &mut Vec<u8>, asked: u32, place: u32) -> Result<(), Memory>
     ensures { OnOk result (out.new.items ≡ out.old.items ++ unreached_line asked place) }
 {
     push_numbered(out, asked)?;
-    push(out, b" isn't reached: ")?;
+    push_not_reached(out)?;
     push_numbered(out, place)?;
-    push(out, b" may not come")?;
+    push_may_not(out)?;
     push(out, b"\n")
 }
 
@@ -87,12 +101,7 @@ fn push_event_at(
         None => push_end_line(out, place, count),
         Some(event) => {
             push_event_line(out, program, place, count, event)?;
-            push_whether(
-                out,
-                program,
-                event,
-                reason_against(machine, &event),
-            )
+            push_whether(out, program, event, reason_against(machine, &event))
         }
     }
 }
@@ -141,11 +150,7 @@ fn push_may_come(out: &mut Vec<u8>, program: &Program, event: Event) -> Result<(
     push(out, b"\n")
 }
 
-fn push_all_that_may(
-    out: &mut Vec<u8>,
-    program: &Program,
-    events: &[Event],
-) -> Result<(), Memory>
+fn push_all_that_may(out: &mut Vec<u8>, program: &Program, events: &[Event]) -> Result<(), Memory>
     ensures { OnOk result (out.new.items ≡ out.old.items ++ flat_map (may_come_line program.now) events.now) }
 {
     for event in events {

@@ -1,11 +1,10 @@
-use dn_base::LockId;
 use message_net::MailId;
 
 /// What has a signature that is shown.
 #[derive(Clone, Copy, Debug, PartialEq, Eq)]
 pub(crate) enum Signed {
-    /// A lock at its home.
-    Lock(LockId),
+    /// The lock of this number, at its home.
+    Lock(u32),
     /// A release or a grant in flight.
     Mail(MailId),
 }

@@ -31,7 +31,7 @@ fn push_signed(out: &mut Vec<u8>, program: &Program, signed: Signed) -> Result<(
     ensures { OnOk result (out.new.items ≡ out.old.items ++ signed_text program.now signed) }
 {
     match signed {
-        Signed::Lock(lock) => push_lock_name(out, program, lock),
+        Signed::Lock(lock) => push_lock_name(out, program, LockId(lock)),
         Signed::Mail(id) => push_mail(out, id),
     }
 }

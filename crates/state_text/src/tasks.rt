@@ -8,8 +8,8 @@ use crate::called::push_core;
 use dn_base::{CoreId, Memory};
 use place_texts::{push_code_place, push_lock};
 use region_table::Program;
-use run_report::push_end;
 use registration_protocol::Node;
+use run_report::push_end;
 use rv_core::{End, EndShown};
 use rv_listing::push_code_word;
 use text_pieces::{push, push_decimal, push_hexadecimal};
@@ -172,12 +172,7 @@ fn is_held(held: u32, lock: u32) -> bool
 }
 
 #[tactic(auto, unfolding(crate::specs::Cores::holds_line))]
-fn push_holds(
-    out: &mut Vec<u8>,
-    program: &Program,
-    core: CoreId,
-    lock: u32,
-) -> Result<(), Memory>
+fn push_holds(out: &mut Vec<u8>, program: &Program, core: CoreId, lock: u32) -> Result<(), Memory>
     ensures { OnOk result (out.new.items ≡ out.old.items ++ holds_line program.now core.0 lock) }
 {
     push_core(out, core)?;
@@ -227,11 +222,7 @@ fn push_all_held(
 }
 
 /// Adds the locks that a core's task holds.
-pub(crate) fn push_held(
-    out: &mut Vec<u8>,
-    program: &Program,
-    node: &Node,
-) -> Result<(), Memory>
+pub(crate) fn push_held(out: &mut Vec<u8>, program: &Program, node: &Node) -> Result<(), Memory>
     ensures { OnOk result (out.new.items ≡ out.old.items ++ held_lines program.now node.now.core node.now.task) }
 {
     match node.task() {

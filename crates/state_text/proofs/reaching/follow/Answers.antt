@@ -1,4 +1,4 @@
-use Rattle.std.proofs.Common.{◌≡◌, ◌+◌, ◌<◌, ◌≤◌, length, Ok, ap, arith}
+use Rattle.std.proofs.Common.{◌≡◌, ◌+◌, ◌<◌, length, Ok, ap, arith}
 use Rattle.state_text.proofs.Followed.{came-some, came-none, one-more-run, one-more-leads, stopped-at, all-came}
 use Rattle.state_text.proofs.reaching.follow.Goals as goal
 
