@@ -7,7 +7,7 @@ use Rattle.message_net.specs.declared.event.Event.TheVariants.{Instr, Evict, Arr
 use Rattle.place_texts.specs.Texts.{lock_text}
 use Rattle.event_reasons.specs.declared.reason.Reason.{Reason}
 use Rattle.event_reasons.specs.declared.reason.Reason as reason
-use Rattle.state_text.specs.Called.{data_word_text, core_text, mail_text}
+use Rattle.state_text.specs.Called.{data_word_text, numbered_core, numbered_mail}
 
 -- what a reason says of the core or mail of an event: what stands before the words or the lock that it names, these, and what stands
 -- behind them
@@ -58,10 +58,10 @@ reason_text P r = reason_before r ++ reason_names P r ++ reason_behind r
 
 -- whose event it is
 unfoldable pub subject_text : Event → List ℕ
-subject_text (Instr core) = core_text core.0
-subject_text (Evict core word) = core_text core.0
-subject_text (Arrive core) = core_text core.0
-subject_text (Handle id) = mail_text id
+subject_text (Instr core) = numbered_core core.0
+subject_text (Evict core word) = numbered_core core.0
+subject_text (Arrive core) = numbered_core core.0
+subject_text (Handle id) = numbered_mail id
 
 unfoldable pub may_line : List ℕ
 may_line = codes "may come" ++ newline

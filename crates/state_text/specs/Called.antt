@@ -23,12 +23,12 @@ number_beside_place w (Some p) = number_beside w
 unfoldable pub data_word_text : ProgramParts → ℕ → List ℕ
 data_word_text P w = word_text P.regions w ++ number_beside_place w (word_place P.regions w)
 
-unfoldable pub core_text : ℕ → List ℕ
-core_text core = codes "core " ++ decimal core
+unfoldable pub numbered_core : ℕ → List ℕ
+numbered_core core = codes "core " ++ decimal core
 
 -- who gets a mail
 unfoldable pub receiver_text : Actor → List ℕ
-receiver_text (Core core) = core_text core.0
+receiver_text (Core core) = numbered_core core.0
 receiver_text (Bank bank) = codes "bank " ++ decimal bank.0
 receiver_text Keeper = codes "keeper"
 
@@ -38,8 +38,8 @@ mail_name (Core core) number = codes "c " ++ decimal core.0 ++ space ++ decimal 
 mail_name (Bank bank) number = codes "b " ++ decimal bank.0 ++ space ++ decimal number
 mail_name Keeper number = codes "k " ++ decimal number
 
-unfoldable pub mail_text : MailId → List ℕ
-mail_text id = codes "mail " ++ mail_name id.sender id.number
+unfoldable pub numbered_mail : MailId → List ℕ
+numbered_mail id = codes "mail " ++ mail_name id.sender id.number
 
 -- an event, as documents have it; an evicted word is called beside its number: `e 0 7 (m[3])`
 unfoldable pub event_text : ProgramParts → Event → List ℕ

@@ -21,22 +21,22 @@ use Rattle.text_places.specs.declared.places.CodePlace.{CodePlace}
 use Rattle.text_places.specs.declared.places.Places.{Places}
 use Rattle.place_texts.specs.Texts.{code_text, lock_text}
 use Rattle.event_reasons.specs.Coming.{pairs_by_set}
-use Rattle.state_text.specs.Called.{data_word_text, core_text}
+use Rattle.state_text.specs.Called.{data_word_text, numbered_core}
 
 unfoldable pub phase_line : NodeParts → List ℕ
-phase_line n = core_text n.core ++ codes " phase " ++ decimal n.phase ++ newline
+phase_line n = numbered_core n.core ++ codes " phase " ++ decimal n.phase ++ newline
 
 -- ---- its task
 
 unfoldable pub no_task_line : ℕ → List ℕ
-no_task_line core = core_text core ++ codes " no task" ++ newline
+no_task_line core = numbered_core core ++ codes " no task" ++ newline
 
 -- whether the task goes on, or how it has ended
 unfoldable pub running_line : ℕ → List ℕ
-running_line core = core_text core ++ codes " task goes on" ++ newline
+running_line core = numbered_core core ++ codes " task goes on" ++ newline
 
 unfoldable pub ended_line : ℕ → End → List ℕ
-ended_line core by = core_text core ++ codes " task " ++ end_text (shown_end by) ++ newline
+ended_line core by = numbered_core core ++ codes " task " ++ end_text (shown_end by) ++ newline
 
 abbrev pub standing_line : ℕ → Option End → List ℕ
 standing_line core None = running_line core
@@ -49,10 +49,10 @@ code_number pc = if nat_le 0x1000 pc && pc % 4 == 0 then Some ((pc - 0x1000) / 4
 -- the address of the next instruction, or of the one that ended the task, the line that it comes from, and the instruction
 unfoldable pub at_code_line : ℕ → ℕ → CodePlace → ℕ → List ℕ
 at_code_line core pc p w =
-    core_text core ++ codes " at " ++ hexadecimal pc ++ codes ", " ++ code_text p ++ codes ": " ++ code_line w ++ newline
+    numbered_core core ++ codes " at " ++ hexadecimal pc ++ codes ", " ++ code_text p ++ codes ": " ++ code_line w ++ newline
 
 unfoldable pub no_code_line : ℕ → ℕ → List ℕ
-no_code_line core pc = core_text core ++ codes " at " ++ hexadecimal pc ++ codes ", no code" ++ newline
+no_code_line core pc = numbered_core core ++ codes " at " ++ hexadecimal pc ++ codes ", no code" ++ newline
 
 abbrev pub at_line_by : ℕ → ℕ → Option CodePlace → Option ℕ → List ℕ
 at_line_by core pc (Some p) (Some w) = at_code_line core pc p w
@@ -63,23 +63,23 @@ at_line_of P places core pc None = no_code_line core pc
 at_line_of P places core pc (Some number) = at_line_by core pc (slice_get places.code number) (slice_get P.code number)
 
 unfoldable pub retired_line : ℕ → ℕ → List ℕ
-retired_line core retired = core_text core ++ codes " retired " ++ decimal retired ++ newline
+retired_line core retired = numbered_core core ++ codes " retired " ++ decimal retired ++ newline
 
-abbrev pub task_lines : ProgramParts → Places → ℕ → Option TaskState → List ℕ
-task_lines P places core None = no_task_line core
-task_lines P places core (Some t) =
+abbrev pub task_facts : ProgramParts → Places → ℕ → Option TaskState → List ℕ
+task_facts P places core None = no_task_line core
+task_facts P places core (Some t) =
     standing_line core t.end ++ (at_line_of P places core t.pc (code_number t.pc) ++ retired_line core t.retired)
 
 -- ---- its wait, its locks and its marks
 
 unfoldable pub reading_line : ProgramParts → ℕ → ℕ → List ℕ
-reading_line P core w = core_text core ++ codes " waits for " ++ data_word_text P w ++ newline
+reading_line P core w = numbered_core core ++ codes " waits for " ++ data_word_text P w ++ newline
 
 unfoldable pub filled_line : ProgramParts → ℕ → ℕ → List ℕ
-filled_line P core w = core_text core ++ codes " has the value of " ++ data_word_text P w ++ newline
+filled_line P core w = numbered_core core ++ codes " has the value of " ++ data_word_text P w ++ newline
 
 unfoldable pub locking_line : ProgramParts → ℕ → ℕ → List ℕ
-locking_line P core lock = core_text core ++ codes " waits for " ++ lock_text P.locks lock ++ newline
+locking_line P core lock = numbered_core core ++ codes " waits for " ++ lock_text P.locks lock ++ newline
 
 abbrev pub wait_lines : ProgramParts → ℕ → NodeWait → List ℕ
 wait_lines P core wait.TheVariants.None = []
@@ -88,7 +88,7 @@ wait_lines P core (wait.TheVariants.Filled word) = filled_line P core word.0
 wait_lines P core (wait.TheVariants.Locking lock) = locking_line P core lock.0
 
 unfoldable pub holds_line : ProgramParts → ℕ → ℕ → List ℕ
-holds_line P core lock = core_text core ++ codes " holds " ++ lock_text P.locks lock ++ newline
+holds_line P core lock = numbered_core core ++ codes " holds " ++ lock_text P.locks lock ++ newline
 
 abbrev pub held_line : ProgramParts → ℕ → ℕ → ℕ → List ℕ
 held_line P core held lock = if is_held held lock then holds_line P core lock else []
@@ -98,10 +98,10 @@ held_lines P core None = []
 held_lines P core (Some t) = flat_map (held_line P core t.held) (range_with_len 0 (length P.locks))
 
 unfoldable pub arrived_line : ℕ → List ℕ
-arrived_line core = core_text core ++ codes " has arrived" ++ newline
+arrived_line core = numbered_core core ++ codes " has arrived" ++ newline
 
 unfoldable pub halted_line : ℕ → List ℕ
-halted_line core = core_text core ++ codes " is halted" ++ newline
+halted_line core = numbered_core core ++ codes " is halted" ++ newline
 
 abbrev pub mark_lines : NodeParts → List ℕ
 mark_lines n = (if n.arrived then arrived_line n.core else []) ++ (if n.halted then halted_line n.core else [])
@@ -116,10 +116,10 @@ entry_word (Valid value marked) = codes "valid "
 entry_word (Registered value pending) = codes "registered "
 entry_word (Leaving value) = codes "leaving "
 
-abbrev pub entry_value : Entry → ℕ
-entry_value (Valid value marked) = value
-entry_value (Registered value pending) = value
-entry_value (Leaving value) = value
+abbrev pub value_of_entry : Entry → ℕ
+value_of_entry (Valid value marked) = value
+value_of_entry (Registered value pending) = value
+value_of_entry (Leaving value) = value
 
 unfoldable pub entry_flag : Entry → List ℕ
 entry_flag (Valid value marked) = flag_text (codes ", marked") marked
@@ -128,10 +128,10 @@ entry_flag (Leaving value) = []
 
 -- the state of an entry, its value, and whether it is marked or pending
 unfoldable pub entry_text : Entry → List ℕ
-entry_text e = entry_word e ++ hexadecimal (entry_value e) ++ entry_flag e
+entry_text e = entry_word e ++ hexadecimal (value_of_entry e) ++ entry_flag e
 
 unfoldable pub entry_line : ProgramParts → ℕ → Pair → List ℕ
-entry_line P core p = core_text core ++ codes " entry " ++ data_word_text P p.0.0 ++ codes ": " ++ entry_text p.1 ++ newline
+entry_line P core p = numbered_core core ++ codes " entry " ++ data_word_text P p.0.0 ++ codes ": " ++ entry_text p.1 ++ newline
 
 abbrev pub entry_lines : ProgramParts → NodeParts → List ℕ
 entry_lines P n = flat_map (entry_line P n.core) (pairs_by_set n.cache)
@@ -140,4 +140,4 @@ entry_lines P n = flat_map (entry_line P n.core) (pairs_by_set n.cache)
 
 abbrev pub core_lines : ProgramParts → Places → NodeParts → List ℕ
 core_lines P places n =
-    phase_line n ++ (task_lines P places n.core n.task ++ (wait_lines P n.core n.waiting ++ (held_lines P n.core n.task ++ (mark_lines n ++ entry_lines P n))))
+    phase_line n ++ (task_facts P places n.core n.task ++ (wait_lines P n.core n.waiting ++ (held_lines P n.core n.task ++ (mark_lines n ++ entry_lines P n))))

@@ -23,7 +23,7 @@ use Rattle.run_report.specs.Run.{event_word}
 use Rattle.place_texts.specs.Texts.{lock_text}
 use Rattle.state_text.specs.declared.signed.Signed.{Signed}
 use Rattle.state_text.specs.declared.signed.Signed.TheVariants.{Lock as OfLock, Mail as OfMail}
-use Rattle.state_text.specs.Called.{data_word_text, core_text, receiver_text, mail_text}
+use Rattle.state_text.specs.Called.{data_word_text, numbered_core, receiver_text, numbered_mail}
 
 -- ---- the keeper: the phase, which cores it counts as arrived, and whether a task of one was bad
 
@@ -34,7 +34,7 @@ unfoldable pub keeper_phase_line : Barrier → List ℕ
 keeper_phase_line k = keeper_text ++ codes " phase " ++ decimal k.phase ++ codes " of " ++ decimal k.phases ++ newline
 
 unfoldable pub counted_core_line : ℕ → List ℕ
-counted_core_line core = keeper_text ++ codes " counts " ++ core_text core ++ newline
+counted_core_line core = keeper_text ++ codes " counts " ++ numbered_core core ++ newline
 
 abbrev pub counted_line_of : Barrier → ℕ → List ℕ
 counted_line_of k core = if has_arrived core k then counted_core_line core else []
@@ -52,7 +52,7 @@ unfoldable pub home_text : ProgramParts → ℕ → List ℕ
 home_text P w = codes "home " ++ data_word_text P w
 
 unfoldable pub registrant_line : ProgramParts → ℕ → ℕ → List ℕ
-registrant_line P w core = home_text P w ++ codes ": registrant " ++ core_text core ++ newline
+registrant_line P w core = home_text P w ++ codes ": registrant " ++ numbered_core core ++ newline
 
 unfoldable pub home_value_line : ProgramParts → ℕ → ℕ → List ℕ
 home_value_line P w value = home_text P w ++ codes ": value " ++ hexadecimal value ++ newline
@@ -76,7 +76,7 @@ lock_name_text P lock = codes "lock " ++ lock_text P.locks lock
 -- whose signature it is
 unfoldable pub signed_text : ProgramParts → Signed → List ℕ
 signed_text P (OfLock lock) = lock_name_text P lock
-signed_text P (OfMail id) = mail_text id
+signed_text P (OfMail id) = numbered_mail id
 
 unfoldable pub may_hold_line : ProgramParts → Signed → ℕ → List ℕ
 may_hold_line P of w = signed_text P of ++ codes ": may hold " ++ data_word_text P w ++ newline
@@ -97,14 +97,14 @@ unfoldable pub free_line : ProgramParts → ℕ → List ℕ
 free_line P lock = lock_name_text P lock ++ codes ": free" ++ newline
 
 unfoldable pub holder_line : ProgramParts → ℕ → ℕ → List ℕ
-holder_line P lock core = lock_name_text P lock ++ codes ": holder " ++ core_text core ++ newline
+holder_line P lock core = lock_name_text P lock ++ codes ": holder " ++ numbered_core core ++ newline
 
 abbrev pub holder_line_of : ProgramParts → ℕ → Option CoreId → List ℕ
 holder_line_of P lock None = free_line P lock
 holder_line_of P lock (Some core) = holder_line P lock core.0
 
 unfoldable pub queued_line : ProgramParts → ℕ → ℕ → List ℕ
-queued_line P lock core = lock_name_text P lock ++ codes ": queue " ++ core_text core ++ newline
+queued_line P lock core = lock_name_text P lock ++ codes ": queue " ++ numbered_core core ++ newline
 
 abbrev pub queued_line_of : ProgramParts → ℕ → Option CoreId → List ℕ
 queued_line_of P lock None = []
@@ -137,7 +137,7 @@ unfoldable pub of_word : ProgramParts → ℕ → List ℕ
 of_word P w = space ++ data_word_text P w
 
 unfoldable pub of_core : ℕ → List ℕ
-of_core core = space ++ core_text core
+of_core core = space ++ numbered_core core
 
 unfoldable pub of_value : ℕ → List ℕ
 of_value value = codes " value " ++ hexadecimal value
@@ -165,9 +165,9 @@ message_parts P (Arrived core bad) = of_core core.0 ++ (if bad then codes " bad"
 message_parts P (Go phase) = of_phase phase.0
 message_parts P Halt = []
 
-unfoldable pub mail_line : ProgramParts → Mail → List ℕ
-mail_line P m =
-    mail_text m.id ++ codes " to " ++ receiver_text m.to ++ codes ": " ++ event_word (kind_of m.message) ++ message_parts P m.message ++ newline
+unfoldable pub in_flight_line : ProgramParts → Mail → List ℕ
+in_flight_line P m =
+    numbered_mail m.id ++ codes " to " ++ receiver_text m.to ++ codes ": " ++ event_word (kind_of m.message) ++ message_parts P m.message ++ newline
 
 -- a release and a grant carry a signature
 abbrev pub carried_lines : State → MailId → Message → List ℕ
@@ -176,4 +176,4 @@ carried_lines S id (Grant lock s) = signature_lines S (OfMail id) s lock.0
 carried_lines S id _ = []
 
 abbrev pub mail_lines : State → Mail → List ℕ
-mail_lines S m = mail_line S.setting.program m ++ carried_lines S m.id m.message
+mail_lines S m = in_flight_line S.setting.program m ++ carried_lines S m.id m.message

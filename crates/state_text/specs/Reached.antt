@@ -25,7 +25,7 @@ pub record IsFollowed (S T : State) (events : List Event) (came : ℕ) : Type 0 
   pub stopped : came < length events → (e : Event) × (slice_get events came ≡ Some e) × (enabled T e ≡ false)
 
 -- the events before this place come one after the other; and it is the place that is asked for, or its event may not come
-pub record IsReached (C : Setting) (events : List Event) (asked place : ℕ) : Type 0 where
+pub record IsPlaceReached (C : Setting) (events : List Event) (asked place : ℕ) : Type 0 where
   pub run : IsRun (initial_state C) (take place events)
   pub within : place ≤ asked
   pub stopped : place < asked → (e : Event) × (slice_get events place ≡ Some e) × (enabled (state_before C events place) e ≡ false)
@@ -34,5 +34,5 @@ pub record IsReached (C : Setting) (events : List Event) (asked place : ℕ) : T
 pub record IsAnswerOf (P : ProgramParts) (shape : Shape) (fuel : ℕ) (places : Places) (events : List Event) (asked : ℕ) (a : StateAnswer) : Type 0 where
   pub setting : Setting
   pub setting_is : IsSettingOf P shape fuel setting
-  pub reached : IsReached setting events asked a.event
+  pub reached : IsPlaceReached setting events asked a.event
   pub text_is : a.text.items ≡ shown_text places (state_before setting events a.event) events asked a.event

@@ -1,6 +1,6 @@
 //! How words, cores, mails and events are called.
 ghost use Rattle.std.specs.Prelude.{◌≡◌, ◌++◌, OnOk};
-ghost use Rattle.state_text.specs.Called.{number_beside, data_word_text, core_text, receiver_text, mail_name, mail_text, event_text};
+ghost use Rattle.state_text.specs.Called.{number_beside, data_word_text, numbered_core, receiver_text, mail_name, numbered_mail, event_text};
 
 use dn_base::{CoreId, Memory, WordId};
 use message_net::{Actor, Event, MailId};
@@ -34,9 +34,9 @@ pub(crate) fn push_data_word(
     }
 }
 
-#[tactic(auto, unfolding(crate::specs::Called::core_text))]
+#[tactic(auto, unfolding(crate::specs::Called::numbered_core))]
 pub(crate) fn push_core(out: &mut Vec<u8>, core: CoreId) -> Result<(), Memory>
-    ensures { OnOk result (out.new.items ≡ out.old.items ++ core_text core.0) }
+    ensures { OnOk result (out.new.items ≡ out.old.items ++ numbered_core core.0) }
 {
     push(out, b"core ")?;
     push_decimal(out, core.0)
@@ -82,9 +82,9 @@ fn push_mail_name(out: &mut Vec<u8>, id: MailId) -> Result<(), Memory>
     }
 }
 
-#[tactic(auto, unfolding(crate::specs::Called::mail_text))]
+#[tactic(auto, unfolding(crate::specs::Called::numbered_mail))]
 pub(crate) fn push_mail(out: &mut Vec<u8>, id: MailId) -> Result<(), Memory>
-    ensures { OnOk result (out.new.items ≡ out.old.items ++ mail_text id) }
+    ensures { OnOk result (out.new.items ≡ out.old.items ++ numbered_mail id) }
 {
     push(out, b"mail ")?;
     push_mail_name(out, id)

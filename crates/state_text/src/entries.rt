@@ -1,6 +1,6 @@
 //! The lines of a core's entries.
 ghost use Rattle.std.specs.Prelude.{◌≡◌, ◌++◌, flat_map, OnOk};
-ghost use Rattle.state_text.specs.Cores.{flag_text, entry_word, entry_value, entry_flag, entry_text, entry_line, entry_lines};
+ghost use Rattle.state_text.specs.Cores.{flag_text, entry_word, value_of_entry, entry_flag, entry_text, entry_line, entry_lines};
 
 use crate::called::{push_core, push_data_word};
 use dn_base::{CoreId, Memory, WordId};
@@ -29,8 +29,8 @@ fn push_entry_word(out: &mut Vec<u8>, entry: Entry) -> Result<(), Memory>
     }
 }
 
-fn entry_value(entry: Entry) -> u32
-    ensures { result ≡ entry_value entry }
+fn value_of_entry(entry: Entry) -> u32
+    ensures { result ≡ value_of_entry entry }
 {
     match entry {
         Entry::Valid { value, .. } | Entry::Registered { value, .. } | Entry::Leaving(value) =>
@@ -56,7 +56,7 @@ fn push_entry(out: &mut Vec<u8>, entry: Entry) -> Result<(), Memory>
     ensures { OnOk result (out.new.items ≡ out.old.items ++ entry_text entry) }
 {
     push_entry_word(out, entry)?;
-    push_hexadecimal(out, entry_value(entry))?;
+    push_hexadecimal(out, value_of_entry(entry))?;
     push_entry_flag(out, entry)
 }
 

@@ -1,6 +1,6 @@
 //! The lines of the mails in flight.
 ghost use Rattle.std.specs.Prelude.{◌≡◌, ◌++◌, flat_map, OnOk};
-ghost use Rattle.state_text.specs.Parts.{of_word, of_core, of_value, of_lock, of_phase, message_parts, mail_line, carried_lines, mail_lines};
+ghost use Rattle.state_text.specs.Parts.{of_word, of_core, of_value, of_lock, of_phase, message_parts, in_flight_line, carried_lines, mail_lines};
 
 use crate::called::{push_core, push_data_word, push_mail, push_receiver};
 use crate::signed::Signed;
@@ -89,9 +89,9 @@ fn push_parts(out: &mut Vec<u8>, program: &Program, message: Message) -> Result<
     }
 }
 
-#[tactic(auto, unfolding(crate::specs::Parts::mail_line))]
+#[tactic(auto, unfolding(crate::specs::Parts::in_flight_line))]
 fn push_mail_line(out: &mut Vec<u8>, program: &Program, mail: Mail) -> Result<(), Memory>
-    ensures { OnOk result (out.new.items ≡ out.old.items ++ mail_line program.now mail) }
+    ensures { OnOk result (out.new.items ≡ out.old.items ++ in_flight_line program.now mail) }
 {
     push_mail(out, mail.id)?;
     push(out, b" to ")?;

@@ -2,7 +2,7 @@
 ghost use Rattle.std.specs.Prelude.{◌≡◌, ◌<◌, ◌≤◌, ◌++◌, flat_map, length, OnOk};
 ghost use Rattle.std.specs.List.{range_with_len};
 ghost use Rattle.rv_core.specs.Access.{is_held};
-ghost use Rattle.state_text.specs.Cores.{no_task_line, running_line, ended_line, standing_line, code_number, at_code_line, no_code_line, at_line_by, at_line_of, retired_line, task_lines, holds_line, held_line, held_lines};
+ghost use Rattle.state_text.specs.Cores.{no_task_line, running_line, ended_line, standing_line, code_number, at_code_line, no_code_line, at_line_by, at_line_of, retired_line, task_facts, holds_line, held_line, held_lines};
 
 use crate::called::push_core;
 use dn_base::{CoreId, Memory};
@@ -150,7 +150,7 @@ pub(crate) fn push_task(
     places: &Places,
     node: &Node,
 ) -> Result<(), Memory>
-    ensures { OnOk result (out.new.items ≡ out.old.items ++ task_lines program.now places.now node.now.core node.now.task) }
+    ensures { OnOk result (out.new.items ≡ out.old.items ++ task_facts program.now places.now node.now.core node.now.task) }
 {
     let core = node.core();
     match node.task() {
