@@ -625,7 +625,7 @@ def the_page_on_accounts_has_the_numbers():
         for line in reference.account(document, "run")[1][1:]:
             wanted[line.split(",")[0]].append(line.split(",")[2])
     wanted = {measure: counts for measure, counts in wanted.items() if set(counts) != {"0"}}
-    check("docs/ACCOUNT.md: the numbers of six texts", told == wanted, [(name, told.get(name), wanted.get(name)) for name in reference.MEASURES if told.get(name) != wanted.get(name)])
+    check("docs/ACCOUNT.md: the numbers of its runs", told == wanted, [(name, told.get(name), wanted.get(name)) for name in reference.MEASURES if told.get(name) != wanted.get(name)])
     measures = re.findall(r"^\| `([a-z-]+)` \| [A-Za-z]", page, re.M)
     check("docs/ACCOUNT.md: what each measure counts", sorted(measures) == sorted(reference.MEASURES), set(measures) ^ set(reference.MEASURES))
 
