@@ -397,6 +397,11 @@ def standard_error_helps():
         wanted = " ".join(["./denovo", *words, "< TEXT | ./explain TEXT"]).encode()
         check(f"explain is named behind {example}", wanted in run(["./denovo", *words], text_of(example)).stderr)
     check("and behind unknown words", b"./explain TEXT" in run(["./denovo", "--sed", "3"]).stderr)
+    document = run(["./denovo", "--mode", "trace"], text_of("store-five")).stdout
+    for words in ([], ["--mode", "check"], ["--mode", "replay"]):
+        ran = run(["./denovo", *words], document[:-4])
+        named = b"'./denovo --mode replay' takes one" in ran.stderr
+        check(f"a document, {' '.join(words)}: where it belongs is said unless it is there", ran.returncode == 2 and named == (words[1:] != ["replay"]), ran.stderr)
     slow = run(["bash", "-c", "{ head -c 40; sleep 4; cat; } < examples/store-five.s | ./denovo"])
     check("a pipe from a slow program", slow.stdout == run(["./denovo"], text_of("store-five")).stdout and slow.returncode == 0)
     with tempfile.TemporaryDirectory() as room:
