@@ -125,7 +125,7 @@ for page in (name for name in tracked if name.endswith(".md")):
     if re.fullmatch(r"crates/\w+/README\.md", page) and len(lines) > 41:
         found.append(f"{page}: {len(lines) - 1} lines, and a crate's page has at most 40")
     for number, line in enumerate(lines, 1):
-        if line.startswith("|"):
+        if re.match(r" *(?:\d+\. )?\|", line):
             if len(line) > 300:
                 found.append(f"{page}: line {number}, of a table, has {len(line)} characters: more than 300")
             for cell in re.split(r"(?<!\\)\|", line):
