@@ -5,8 +5,8 @@
 It looks that the command words are handed on, that each exit code from 0 to 7 comes out, and 9 for words that aren't UTF-8, that a
 run goes by a pipe into its picture and its account, that accounts are those of tools/reference.py, that explained answers are those of
 tools/explained.txt, that claims are judged as tools/reference.py judges them, that standard error helps, that the
-tutorial and the page on accounts show what their commands print, and that the proved programs are used exactly where they were made of
-these sources. What a run has to write comes from tools/reference.py. It names each check that fails, and ends with a count."""
+tutorial and the page on accounts show what their commands print, that the numbers of accounts, of answers to exercises and at the heads of
+examples are those of runs, and that the proved programs are used exactly where they were made of these sources. What a run has to write comes from tools/reference.py. It names each check that fails, and ends with a count."""
 import importlib.util
 import os
 import pathlib
@@ -397,6 +397,11 @@ def standard_error_helps():
         wanted = " ".join(["./denovo", *words, "< TEXT | ./explain TEXT"]).encode()
         check(f"explain is named behind {example}", wanted in run(["./denovo", *words], text_of(example)).stderr)
     check("and behind unknown words", b"./explain TEXT" in run(["./denovo", "--sed", "3"]).stderr)
+    document = run(["./denovo", "--mode", "trace"], text_of("store-five")).stdout
+    for words in ([], ["--mode", "check"], ["--mode", "replay"]):
+        ran = run(["./denovo", *words], document[:-4])
+        named = b"'./denovo --mode replay' takes one" in ran.stderr
+        check(f"a document, {' '.join(words)}: where it belongs is said unless it is there", ran.returncode == 2 and named == (words[1:] != ["replay"]), ran.stderr)
     slow = run(["bash", "-c", "{ head -c 40; sleep 4; cat; } < examples/store-five.s | ./denovo"])
     check("a pipe from a slow program", slow.stdout == run(["./denovo"], text_of("store-five")).stdout and slow.returncode == 0)
     with tempfile.TemporaryDirectory() as room:
@@ -512,16 +517,103 @@ def proved_programs_are_used_where_they_are_those_of_the_sources():
         check("and not where another program stands in its place", which(copy) == "none")
 
 
+def account_of(example, words, by="run"):
+    """The account of a run, by the second program: its measures, each with a number for each group."""
+    document = written(reference.answer(["--mode", "trace"] + words, text_of(example).decode())[1])
+    numbers = {}
+    for line in reference.account(document, by)[1][1:]:
+        measure, _, count = line.split(",")
+        numbers.setdefault(measure, []).append(int(count))
+    return numbers
+
+
+def by_the_reference(command):
+    """What the second program has to say of a command that makes an account, as a text; nothing for other commands."""
+    made = re.fullmatch(r"\./denovo (.*)--mode trace < examples/(\S+)\.s \| \./view --mode account(?: --by (\w+))?", command)
+    if not made:
+        return None
+    document = written(reference.answer(["--mode", "trace"] + made[1].split(), text_of(made[2]).decode())[1])
+    return written(reference.account(document, made[3] or "run", "text")[1])
+
+
 def pages_show_what_is_printed():
-    """Each block behind a command of these pages is a part of what the command prints."""
-    for page in ("docs/TUTORIAL.md", "docs/ACCOUNT.md"):
+    """Each block behind a command of these pages is a part of what the command prints, and for an account of what it has to print."""
+    for page in ("docs/TUTORIAL.md", "docs/ACCOUNT.md", "docs/COMPARING.md"):
         text = pathlib.Path(page).read_text()
-        for command, block in re.findall(r"^    (\./denovo[^\n]*)\n\n```\n(.*?)^```$", text, re.M | re.S):
+        for command, block in re.findall(r"^    ((?:\./denovo|examples/)[^\n]*)\n\n```\n(.*?)^```$", text, re.M | re.S):
             ran = run(["bash", "-c", command])
             check(f"{page}: {command}", block.encode() in ran.stdout, ran.stdout[:300])
+            wanted = by_the_reference(command)
+            check(f"{page}: {command}, by tools/reference.py", wanted is None or ran.stdout == wanted, ran.stdout[:300])
         for command in re.findall(r"^    (\./denovo.*) > \S+\.svg$", text, re.M):
             ran = run(["bash", "-o", "pipefail", "-c", command])
             check(f"{page}: {command}", ran.returncode == 0 and ran.stdout.startswith(b"<svg"))
+
+
+def every_command_of_the_exercises_answers():
+    """The commands of docs/LAB.md give what tools/reference.py says, whether they print a run or its account."""
+    for command in re.findall(r"^    (\./denovo.*)$", pathlib.Path("docs/LAB.md").read_text(), re.M):
+        if "examples/" in command:
+            ran, wanted = run(["bash", "-c", command]), by_the_reference(command)
+            if wanted is None:
+                words, example = re.fullmatch(r"\./denovo (.*)< examples/(\S+)\.s", command).groups()
+                wanted = written(reference.answer(words.split(), text_of(example).decode())[1])
+            check(f"docs/LAB.md: {command}", ran.stdout == wanted, ran.stdout[:300])
+
+
+def the_answers_to_exercises_have_the_numbers():
+    """The tables of docs/LAB_ANSWERS.md whose rows are runs, and the numbers that stand beside them."""
+    page = pathlib.Path("docs/LAB_ANSWERS.md").read_text()
+
+    def table(head):
+        found = re.search(r"^(?: *|\d\. )\| (" + re.escape(head) + r".*) \|\n *\|[-|]*\|\n((?: *\|.*\n)+)", page, re.M)
+        heads = [cell.strip(" `") for cell in found[1].split("|")]
+        return [dict(zip(heads, (cell.strip() for cell in row.strip(" |").split("|")))) for row in found[2].splitlines()]
+
+    for row in table("Sets, ways"):
+        sets, ways = row.pop("Sets, ways").split(", ")
+        numbers = account_of("stencil", ["--sets", sets, "--ways", ways])
+        whole = {name: total for name, (total,) in numbers.items()}
+        whole |= {"Places": int(sets) * int(ways), "evict": whole["evicted-copies"] + whole["evicted-registered"]}
+        check(f"docs/LAB_ANSWERS.md: {sets} sets, {ways} ways", all(whole[name] == int(told) for name, told in row.items()), row)
+    for row in table("Order of cores"):
+        words = ["--seed", row.pop("Seed")]
+        lines, numbers = reference.answer(words, text_of("signature").decode())[1], account_of("signature", words)
+        orders = ", ".join(line.split()[2] for line in lines if line.startswith("grant "))
+        values = ", ".join(str(int(line.split()[2], 16)) for line in lines if line.startswith("word "))
+        check(f"docs/LAB_ANSWERS.md: the order {orders}", row.pop("Order of cores") == orders, orders)
+        check(f"docs/LAB_ANSWERS.md: what is read in the order {orders}", values.endswith(row.pop("Values read")), values)
+        check(f"docs/LAB_ANSWERS.md: the account of the order {orders}", all(numbers[name] == [int(told)] for name, told in row.items()), row)
+    pairs = {}
+    for seed in range(1, 61):
+        words = ["--sets", "1", "--ways", "1", "--seed", str(seed)]
+        counts = dict(line.split()[1:] for line in reference.answer(words, text_of("eviction-race").decode())[1] if line.startswith("count "))
+        pair = f"{counts['evict']}, {counts['reg-fwd']}"
+        pairs[pair] = pairs.get(pair, 0) + 1
+        check(f"docs/LAB_ANSWERS.md: taken, of the pair {pair}", account_of("eviction-race", words)["taken"] == [int(pair == "0, 1")])
+    told = {row["evict, reg-fwd"]: int(row["Seeds of 1 to 60"]) for row in table("evict, reg-fwd")}
+    check("docs/LAB_ANSWERS.md: three orders of one race", told == pairs, pairs)
+    for example, words, by, measure, wanted in (
+            ("tutorial-two-cores", [], "core", "loads", [2, 2]), ("tutorial-two-cores", [], "core", "stores", [2, 2]),
+            ("tutorial-two-cores", [], "core", "registers", [2, 2]), ("tutorial-two-cores", [], "core", "misses-first", [2, 2]),
+            ("tutorial-two-cores", [], "core", "misses", [2, 2]), ("stale-copy", [], "phase", "dropped-phase", [0, 1, 0]),
+            ("stale-copy", [], "phase", "misses-phase", [0, 0, 1]), ("stale-copy", [], "run", "dropped-phase-current", [0]),
+            ("touched-bit", [], "run", "misses", [2]), ("touched-bit", [], "phase", "kept-touched", [1, 1, 0, 0]),
+            ("touched-bit", [], "phase", "dropped-phase-current", [0, 0, 1, 0]), ("touched-bit", [], "phase", "misses-phase", [0, 0, 0, 1]),
+            ("locked-counter", [], "core", "taken", [3, 2, 3, 3]), ("stale-copy", [], "phase", "untold-copies", [0, 1, 0]),
+            ("read-sharing", [], "run", "untold-copies", [0]), ("many-readers", [], "phase", "untold-copies", [0, 240]),
+            ("many-readers", [], "phase", "registers", [15, 16]), ("stencil", [], "run", "untold-copies", [0]),
+            ("stencil", ["--sets", "64", "--ways", "1"], "run", "untold-copies", [4])):
+        check(f"docs/LAB_ANSWERS.md: {measure} of {example}", account_of(example, words, by)[measure] == wanted)
+
+
+def heads_of_examples_say_what_is_printed():
+    """Where the comment at the head of an example quotes a line of an answer, or its first words, one of its commands prints such a line."""
+    for path in sorted(pathlib.Path("examples").glob("*.s")):
+        head = [line.strip("# \n") for line in path.read_text().split("\n") if line.startswith("#")]
+        printed = "".join(run(["bash", "-c", line]).stdout.decode() for line in head if line.startswith("./denovo")).split("\n")
+        for told in re.findall(r"`((?:count|outcome|task|refused|proved|unbounded) [^`]*)`", " ".join(line for line in head if not line.startswith("./"))):
+            check(f"{path}: {told}", any((line + " ").startswith(told + " ") for line in printed))
 
 
 def the_page_on_accounts_has_the_numbers():
@@ -537,7 +629,7 @@ def the_page_on_accounts_has_the_numbers():
         for line in reference.account(document, "run")[1][1:]:
             wanted[line.split(",")[0]].append(line.split(",")[2])
     wanted = {measure: counts for measure, counts in wanted.items() if set(counts) != {"0"}}
-    check("docs/ACCOUNT.md: the numbers of six texts", told == wanted, [(name, told.get(name), wanted.get(name)) for name in reference.MEASURES if told.get(name) != wanted.get(name)])
+    check("docs/ACCOUNT.md: the numbers of its runs", told == wanted, [(name, told.get(name), wanted.get(name)) for name in reference.MEASURES if told.get(name) != wanted.get(name)])
     measures = re.findall(r"^\| `([a-z-]+)` \| [A-Za-z]", page, re.M)
     check("docs/ACCOUNT.md: what each measure counts", sorted(measures) == sorted(reference.MEASURES), set(measures) ^ set(reference.MEASURES))
 
@@ -560,6 +652,9 @@ the_largest_claims_are_read()
 another_simulator_is_compared()
 standard_error_helps()
 pages_show_what_is_printed()
+every_command_of_the_exercises_answers()
+the_answers_to_exercises_have_the_numbers()
+heads_of_examples_say_what_is_printed()
 the_page_on_accounts_has_the_numbers()
 if kind == "proved":
     proved_programs_are_used_where_they_are_those_of_the_sources()
