@@ -21,7 +21,8 @@ use Rattle.dn_machine.specs.declared.picking.Choice.{Choice}
 use Rattle.dn_machine.specs.Ends.{with_end}
 use Rattle.dn_machine.specs.Pick.{known_events, handlings, candidates, picked, pick, chosen}
 use Rattle.dn_machine.specs.Actors.{actor_in}
-use Rattle.dn_machine.specs.Log.{own_core, own_kind, core_of, core_in, with_told, with_event}
+use Rattle.message_net.specs.Kind.{own_kind}
+use Rattle.dn_machine.specs.Log.{own_core, core_of, core_in, with_told, with_event}
 use Rattle.dn_machine.specs.Content.{in_row}
 use Rattle.dn_machine.proofs.OwnRow.{known-row}
 use Rattle.dn_machine.proofs.PickLaws.{known-own}

@@ -8,7 +8,6 @@ use Rattle.message_net.specs.declared.actor.Actor.TheVariants.{Core, Bank, Keepe
 use Rattle.message_net.specs.declared.event.Event.{Event}
 use Rattle.message_net.specs.declared.event.Event.TheVariants.{Instr, Evict, Arrive, Handle}
 use Rattle.message_net.specs.declared.event.EventKind.{EventKind}
-use Rattle.message_net.specs.declared.event.EventKind.TheVariants as kind
 use Rattle.grant_log.specs.Counts.{no_counts, added, AreCounts}
 use Rattle.machine_rules.specs.State.{State}
 use Rattle.machine_rules.specs.Next.{next, observed}
@@ -27,13 +26,6 @@ own_core (Instr core) = Some core
 own_core (Evict core word) = Some core
 own_core (Arrive core) = Some core
 own_core (Handle id) = None
-
--- the kind of a core's own event; for the handling of a mail it says nothing
-abbrev pub own_kind : Event → EventKind
-own_kind (Instr core) = kind.Instr
-own_kind (Evict core word) = kind.Evict
-own_kind (Arrive core) = kind.Arrive
-own_kind (Handle id) = kind.Instr
 
 -- the core that an actor is, if there is one and it is a core
 abbrev pub core_of : Option Actor → Option CoreId

@@ -13,7 +13,7 @@ ghost use Rattle.machine_rules.specs.Sound.{IsMachine};
 ghost use Rattle.dn_machine.specs.Content.{state_of, KnowsOwn, IsWhole};
 ghost use Rattle.dn_machine.specs.Ends.{noted_ending, with_end};
 ghost use Rattle.dn_machine.specs.Kept.{IsKept};
-ghost use Rattle.dn_machine.specs.Log.{own_core, own_kind, core_of, end_there, CameAndNoted, no_log, HasRun};
+ghost use Rattle.dn_machine.specs.Log.{own_core, core_of, end_there, CameAndNoted, no_log, HasRun};
 ghost use Rattle.dn_machine.specs.Pick.{pick};
 ghost use Rattle.dn_machine.specs.Run.{IsSeedsRunOf};
 
@@ -23,7 +23,7 @@ use crate::log::{Log, listed_ends};
 use crate::picking::{Choice, choose};
 use crate::record::RunRecord;
 use dn_base::{CoreId, Memory, Sequence};
-use message_net::{Actor, Event, EventKind};
+use message_net::{Actor, Event};
 use registration_protocol::Context;
 use rv_core::{Ending, TaskEnd, outcome};
 use std::alloc::Global;
@@ -38,19 +38,6 @@ fn own_core(event: Event) -> Option<CoreId>
         Event::Evict(core, _) => Some(core),
         Event::Arrive(core) => Some(core),
         Event::Handle(_) => None,
-    }
-}
-
-/// The kind of a core's own event.
-#[inline(always)]
-fn own_kind(event: Event) -> EventKind
-    ensures { result ≡ own_kind event }
-{
-    match event {
-        Event::Instr(_) => EventKind::Instr,
-        Event::Evict(_, _) => EventKind::Evict,
-        Event::Arrive(_) => EventKind::Arrive,
-        Event::Handle(_) => EventKind::Instr,
     }
 }
 
@@ -104,7 +91,7 @@ impl Content {
         ensures known { KnowsOwn (setting context.now) self.new }
     {
         // It is noted first, so that it needn't be kept until it has come. It grants nothing.
-        log.note_event(event, own_kind(event), None)?;
+        log.note_event(event, event.own_kind(), None)?;
         self.act(context, event);
         self.note_end(own_core(event), log);
         Ok(())

@@ -4,10 +4,10 @@ use Rattle.dn_base.specs.declared.ids.WordId.{WordId}
 use Rattle.registration_protocol.specs.declared.outlook.Outlook.{Outlook}
 use Rattle.registration_protocol.specs.declared.outlook.Outlook.TheVariants.{Goes, Stalls, Lacks}
 
-abbrev pub goes : Outlook → Bool
-goes Goes = true
-goes Stalls = false
-goes (Lacks word) = false
+abbrev pub is_clear : Outlook → Bool
+is_clear Goes = true
+is_clear Stalls = false
+is_clear (Lacks word) = false
 
 abbrev pub lacked : Outlook → Option WordId
 lacked Goes = None

@@ -174,7 +174,7 @@ impl Node {
     pub fn may_instr(&self, context: &Context<'_>) -> bool
         ensures { result ≡ may_instr (setting context.now) self.now }
     {
-        self.is_ready() && self.outlook(self.need(context)).goes()
+        self.is_ready() && self.outlook(self.need(context)).is_clear()
     }
 
     /// The node arrives at the barrier, and tells the keeper whether its task was bad. It may. Takes no memory.

@@ -1,7 +1,7 @@
 ghost use Rattle.std.specs.Prelude.{◌≡◌};
 ghost use Rattle.registration_protocol.specs.Node.{entry_of};
 ghost use Rattle.registration_protocol.specs.OwnEvents.{may_access, lets, crowded, wanted_by};
-ghost use Rattle.registration_protocol.specs.Outlook.{goes, lacked};
+ghost use Rattle.registration_protocol.specs.Outlook.{is_clear, lacked};
 
 use crate::node::Node;
 use dn_base::WordId;
@@ -21,8 +21,8 @@ pub(crate) enum Outlook {
 
 impl Outlook {
     /// Whether the instruction may go on.
-    pub(crate) fn goes(&self) -> bool
-        ensures { result ≡ goes self.now }
+    pub(crate) fn is_clear(&self) -> bool
+        ensures { result ≡ is_clear self.now }
     {
         matches!(self, Outlook::Goes)
     }
@@ -41,7 +41,7 @@ impl Outlook {
 impl Node {
     /// The outlook for an access of the word, by one look at its set.
     fn access(&self, word: WordId) -> Outlook
-        ensures goes { goes result ≡ may_access self.now word.0 (entry_of self.now word.0) }
+        ensures goes { is_clear result ≡ may_access self.now word.0 (entry_of self.now word.0) }
         ensures lacked { lacked result ≡ crowded self.now word }
     {
         match self.cache.probe(word) {
@@ -56,7 +56,7 @@ impl Node {
 
     /// The outlook for an instruction with this need.
     pub(crate) fn outlook(&self, need: Option<Need>) -> Outlook
-        ensures goes { goes result ≡ lets self.now need }
+        ensures goes { is_clear result ≡ lets self.now need }
         ensures lacked { lacked result ≡ wanted_by self.now need }
     {
         match need {

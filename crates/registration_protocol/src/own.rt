@@ -130,7 +130,7 @@ impl Node {
         ensures none { (result ≡ None) ↔ IsStill (setting context.now) self.now }
     {
         let outlook = self.outlook(self.need(context));
-        if self.is_ready() && outlook.goes() {
+        if self.is_ready() && outlook.is_clear() {
             return Some(Event::Instr(self.core));
         }
         match self.eviction(context, outlook.lacked()) {
