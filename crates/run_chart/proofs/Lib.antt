@@ -4,4 +4,7 @@ pub mod Begun
 pub mod Ranged
 pub mod Noted
 pub mod Flown
+pub mod Gathered
+pub mod Others
+pub mod Among
 pub mod Rows

@@ -13,9 +13,11 @@ use Rattle.run_chart.specs.declared.drawing.Drawing.{Drawing}
 use Rattle.run_chart.specs.declared.drawing.Look.{Look}
 use Rattle.run_chart.specs.declared.drawing.Range.{Range}
 use Rattle.run_chart.specs.declared.mails.SentMail.{SentMail}
+use Rattle.run_chart.specs.declared.words.HeldWord.{HeldWord}
 use Rattle.run_chart.specs.Mails.{noted_mails, origin_of, unknown_mails, place_handled, AreNotedFor}
 use Rattle.run_chart.specs.Marks.{is_on_chain}
-use Rattle.run_chart.specs.Words.{changes_in, changes_from, word_state, word_states}
+use Rattle.run_chart.specs.Affected.{affected_by, is_affected, AreGathered}
+use Rattle.run_chart.specs.Words.{changes_in, changes_among, held_words, word_state}
 
 -- the machine after one event more
 abbrev pub moved : Made → Event → Made
@@ -111,12 +113,18 @@ abbrev pub HaveCome : Made → Made → List Event → Bool → Type 0
 HaveCome m n events true = led_to m events ≡ Some n
 HaveCome m n events false = led_to m events ≡ None
 
+-- what an actor has before an event for the words that the event may change
+pub record AreHeldBefore (S : State) (e : Event) (a : Actor) (held : List HeldWord) : Type 0 where
+  pub words : List ℕ
+  pub gathered : AreGathered (length S.setting.program.memory) (is_affected S (affected_by S e)) words
+  pub are : held ≡ held_words S a words
+
 -- what is looked at before an event
 pub record IsLookBefore (S : State) (sent : List SentMail) (e : Event) (look : Look) : Type 0 where
   pub place : look.place ≡ place_handled S.mails e
   pub actor : look.actor ≡ event_maker S e
   pub mail : look.mail ≡ origin_of sent e
-  pub states : look.states ≡ word_states S look.actor
+  pub held : AreHeldBefore S e look.actor look.held
 
 -- the row of an event, by what was looked at before it
 abbrev pub row_with : State → Event → Look → ℕ → ℕ → Bool → ChartRow
@@ -127,7 +135,7 @@ row_with S e look event line on_chain =
       kind = kind_in S e;
       line = line;
       mail = look.mail;
-      changes = changes_from (word_state (next S e) look.actor) 0 look.states;
+      changes = changes_among (word_state (next S e) look.actor) look.held;
       on_chain = on_chain;
     }
 
@@ -136,7 +144,6 @@ pub record HasRow (m n : Made) (e : Event) (look : Look) (event line : ℕ) (on_
   pub may : enabled m.state e ≡ true
   pub moves : n ≡ moved m e
   pub is : row ≡ row_with m.state e look event line on_chain
-  pub most : length row.changes ≤ 65536
 
 -- the drawing d has become f by one row more
 pub record IsNextRow (on_chain : Bool) (d f : Drawing) (e : Event) : Type 0 where

@@ -1,4 +1,5 @@
 pub mod Words
+pub mod Affected
 pub mod Mails
 pub mod Marks
 pub mod Drawing

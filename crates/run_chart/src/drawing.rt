@@ -7,12 +7,13 @@ ghost use Rattle.message_chart.specs.declared.chart.ChartRow.{ChartRow as ARow};
 ghost use Rattle.run_chart.specs.Drawing.{event_maker, height, the_actor, with_rows, HaveCome, HasRow, IsLookBefore, IsRowed};
 ghost use Rattle.run_chart.specs.Mails.{AreNotedFor, mails_left, sent_on};
 
+use crate::gathering::affected_words;
 use crate::mails::{SentMail, after_event, origin_of, place_handled};
 use crate::marks::marks;
-use crate::words::{changes, word_states};
+use crate::words::{HeldWord, changes, held_words};
 use dn_base::{Memory, Sequence};
 use dn_machine::{Machine, a_machine_is_kept};
-use message_chart::{ChartRow, Origin, WordChange, WordState};
+use message_chart::{ChartRow, Origin, WordChange};
 use message_net::{Actor, Event, MailId, Pool};
 use std::alloc::Global;
 use std::mem;
@@ -36,13 +37,13 @@ pub(crate) struct Drawing {
 }
 
 /// What is looked at before an event: the place of the mail that it handles, its actor, where its mail comes from, and what the actor
-/// has for each data word.
+/// has for each data word that the event may change.
 #[derive(Drop)]
 pub(crate) struct Look {
     pub(crate) place: Option<u32>,
     pub(crate) actor: Actor,
     pub(crate) mail: Option<Origin>,
-    pub(crate) states: Sequence<WordState>,
+    pub(crate) held: Sequence<HeldWord>,
 }
 
 /// Makes events one after the other, as long as each may come, and tells whether all of them came.
@@ -96,16 +97,15 @@ fn look_at(
 ) -> Result<Look, Memory>
     requires machine { IsMachine machine.now.state }
     requires sent { AreNotedFor sent.now machine.now.state.mails }
-    ensures look { IfOk result (IsLookBefore machine.now.state sent.now event) }
-    ensures most { IfOk result (λ look. length look.states ≤ 65536) }
+    ensures { IfOk result (IsLookBefore machine.now.state sent.now event) }
 {
     let actor = event_maker(machine, event);
-    let states = word_states(alloc, machine, actor)?;
+    let words = affected_words(alloc, machine, event)?;
     Ok(Look {
         place: place_handled(machine.pool(), event),
         actor,
         mail: origin_of(machine.pool(), sent, event),
-        states,
+        held: held_words(alloc, machine, actor, words.as_slice())?,
     })
 }
 
@@ -120,7 +120,6 @@ fn row_of(
     on_chain: bool,
 ) -> Result<Option<ChartRow>, Memory>
     requires made { machine.old.made < 4000000000 }
-    requires few { length before.now.states ≤ 65536 }
     ensures none { result ≡ Ok None → (enabled machine.old.state event ≡ false) × (machine.new ≡ machine.old) }
     ensures came { (row : ARow) → result ≡ Ok (Some row) → HasRow machine.old machine.new event before.now number line on_chain row }
 {
@@ -130,7 +129,7 @@ fn row_of(
     };
     // for the proof alone: the machine is well formed after the event too
     a_machine_is_kept(machine);
-    let changes = changes(alloc, machine, before.actor, before.states.as_slice())?;
+    let changes = changes(alloc, machine, before.actor, before.held.as_slice())?;
     Ok(Some(ChartRow {
         event: number,
         actor: before.actor,

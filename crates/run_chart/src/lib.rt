@@ -1,10 +1,13 @@
 //! The message chart of a run: which row each event of a range has, where its mail comes from, and what becomes of the words.
 #![tactic(auto)]
 
+mod affected;
 mod charting;
 mod drawing;
+mod gathering;
 mod mails;
 mod marks;
+mod needs;
 mod words;
 
 pub use charting::chart;
