@@ -8,3 +8,4 @@ pub mod Others
 pub mod Among
 pub mod Rows
 pub mod Behind
+pub mod RangeRows

@@ -7,6 +7,7 @@ mod charting;
 mod drawing;
 mod finishing;
 mod gathering;
+mod laws;
 mod mails;
 mod marks;
 mod needs;
@@ -15,3 +16,6 @@ mod words;
 pub use charting::chart;
 pub use drawing::Range;
 pub use finishing::Columns;
+pub use laws::{
+    each_event_of_the_range_has_one_row, rows_do_not_overlap, the_events_of_the_chain_are_marked,
+};
