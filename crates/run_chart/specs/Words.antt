@@ -11,6 +11,7 @@ use Rattle.machine_rules.specs.State.{State, entry_at, word_in}
 use Rattle.message_chart.specs.declared.states.WordState.{WordState}
 use Rattle.message_chart.specs.declared.states.WordState.TheVariants.{Absent, Valid, Touched, Registered, Pending, Leaving, Home, At}
 use Rattle.message_chart.specs.declared.states.WordChange.{WordChange}
+use Rattle.run_chart.specs.declared.words.HeldWord.{HeldWord}
 
 -- what a core has for a word, by the entry of its cache
 abbrev pub of_entry : Option Entry → WordState
@@ -61,3 +62,17 @@ changes_from after w (before ∷ befores) = with_change w before (after w) (chan
 -- the changes of all words for an actor, from one state to another
 abbrev pub changes_in : State → State → Actor → List WordChange
 changes_in S T a = changes_from (word_state T a) 0 (word_states S a)
+
+-- ---- the same by the words that may change alone
+
+-- what an actor has for these words
+abbrev pub held_word : State → Actor → ℕ → HeldWord
+held_word S a w = record { word = record { 0 = w }; state = word_state S a w }
+
+abbrev pub held_words : State → Actor → List ℕ → List HeldWord
+held_words S a words = map (held_word S a) words
+
+-- the changes of these words, which have now what `after` says
+abbrev pub changes_among : (ℕ → WordState) → List HeldWord → List WordChange
+changes_among after [] = []
+changes_among after (h ∷ hs) = with_change h.word.0 h.state (after h.word.0) (changes_among after hs)

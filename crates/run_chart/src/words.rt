@@ -1,14 +1,12 @@
-ghost use Rattle.std.specs.Prelude.{◌≡◌, ◌≤◌, length, map, slice_get, IfOk};
-ghost use Rattle.std.specs.List.{range_with_len};
+ghost use Rattle.std.specs.Prelude.{◌≡◌, slice_get, IfOk};
 ghost use Rattle.machine_rules.specs.State.{entry_at, word_in};
 ghost use Rattle.machine_rules.specs.Sound.{IsMachine};
-ghost use Rattle.run_chart.specs.Words.{changes_from, of_entry, of_home, same_state, word_state, word_states};
+ghost use Rattle.run_chart.specs.Words.{changes_among, held_words, of_entry, of_home, same_state, word_state};
 
 use dn_base::{BankId, CoreId, Memory, Sequence, WordId};
 use dn_machine::Machine;
 use message_chart::{WordChange, WordState};
 use message_net::Actor;
-use region_table::Program;
 use registry_bank::BankWord;
 use std::alloc::Global;
 use word_cache::Entry;
@@ -94,45 +92,35 @@ fn word_state(machine: &Machine, actor: Actor, word: WordId) -> WordState
     }
 }
 
-/// How many data words a program has.
-fn words_of(program: &Program) -> u32
-    ensures is { result ≡ length program.now.memory }
-    ensures most { result ≤ 65536 }
-{
-    program.memory.len() as u32
+/// A word, and what an actor has for it.
+#[derive(Clone, Copy, Debug)]
+pub(crate) struct HeldWord {
+    pub(crate) word: WordId,
+    pub(crate) state: WordState,
 }
 
-/// What an actor has for each of so many words.
-fn states(
-    alloc: Global,
-    machine: &Machine,
-    actor: Actor,
-    words: u32,
-) -> Result<Sequence<WordState>, Memory>
-    requires { IsMachine machine.now.state }
-    ensures { IfOk result (λ states. states ≡ map (word_state machine.now.state actor) (range_with_len 0 words)) }
-{
-    let mut states = Sequence::new(alloc);
-    for word in 0..words {
-        states.push(word_state(machine, actor, WordId(word)))?;
-    }
-    Ok(states)
-}
-
-/// What an actor has for each data word; there are at most 65,536.
+/// What an actor has for each of these words.
 ///
 /// # Errors
 /// `Memory` where there is no room.
-pub(crate) fn word_states(
+pub(crate) fn held_words(
     alloc: Global,
     machine: &Machine,
     actor: Actor,
-) -> Result<Sequence<WordState>, Memory>
+    words: &[u32],
+) -> Result<Sequence<HeldWord>, Memory>
     requires { IsMachine machine.now.state }
-    ensures states { IfOk result (λ states. states ≡ word_states machine.now.state actor) }
-    ensures most { IfOk result (λ states. length states ≤ 65536) }
+    ensures { IfOk result (λ held. held ≡ held_words machine.now.state actor words.now) }
 {
-    states(alloc, machine, actor, words_of(machine.program()))
+    let mut held = Sequence::new(alloc);
+    for word in words {
+        let word = WordId(*word);
+        held.push(HeldWord {
+            word,
+            state: word_state(machine, actor, word),
+        })?;
+    }
+    Ok(held)
 }
 
 /// Whether a word's state is the same as before.
@@ -142,7 +130,7 @@ fn is_same(before: WordState, after: WordState) -> bool
     before == after
 }
 
-/// The changes of all words for an actor, since it had these states.
+/// The changes of these words for an actor, since it had them so.
 ///
 /// # Errors
 /// `Memory` where there is no room.
@@ -150,25 +138,22 @@ pub(crate) fn changes(
     alloc: Global,
     machine: &Machine,
     actor: Actor,
-    befores: &[WordState],
+    befores: &[HeldWord],
 ) -> Result<Sequence<WordChange>, Memory>
-    requires machine { IsMachine machine.now.state }
-    requires few { length befores.now ≤ 65536 }
-    ensures changes { IfOk result (λ changes. changes ≡ changes_from (word_state machine.now.state actor) 0 befores.now) }
-    ensures most { IfOk result (λ changes. length changes ≤ 65536) }
+    requires { IsMachine machine.now.state }
+    ensures { IfOk result (λ changes. changes ≡ changes_among (word_state machine.now.state actor) befores.now) }
 {
     let mut changes = Sequence::new(alloc);
-    let mut word = 0;
     for before in befores {
-        let after = word_state(machine, actor, WordId(word));
-        if !is_same(*before, after) {
+        let word = before.word;
+        let after = word_state(machine, actor, word);
+        if !is_same(before.state, after) {
             changes.push(WordChange {
-                word: WordId(word),
-                before: *before,
+                word,
+                before: before.state,
                 after,
             })?;
         }
-        word += 1;
     }
     Ok(changes)
 }
