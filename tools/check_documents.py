@@ -9,8 +9,11 @@ the commands of their indented blocks and of the comments in examples/:
 - each fenced block of docs/LIBRARY.md, docs/FROM_C.md and docs/TUTORIAL.md has to stand in the file that it quotes, unless it is a
   command's output;
 - the map of docs/ARCHITECTURE.md has the rooms and crates of crates.txt, in its order, and each crate stands on crates before it;
-- what a table of docs/LANGUAGE.md says under "How it is mended" has to be a sentence of a program;
-- `File.name` of docs/DEFINITION.md has to be defined in that file of the source language's definition.
+- what docs/LANGUAGE.md says under "How it is mended", and in its list of how refusals are mended, has to be a sentence of a program;
+- `File.name` of docs/DEFINITION.md has to be defined in that file of the source language's definition;
+- the page PROMISES lists the pages of all crates, by rooms and in the order of crates.txt;
+- no line of a table has more than 300 characters, no cell of one more than 40 words, and no page of a crate more than 40 lines. These
+  limits hold for all pages of the repository.
 Each text of examples/ has to be the same as its copy in crates/worked_rows/data, which the cases run, and the text at the head of
 docs/LANGUAGE.md the same as that of the case language-page.
 It exits 0 where it found nothing, 1 otherwise."""
@@ -79,7 +82,7 @@ for document in documents:
             found.append(f"{document}: no such heading: {path}#{anchor}")
 for document in documents + examples:
     for path in re.findall(r"^[# ]+\./denovo[^\n]*< (\S+)", pathlib.Path(document).read_text(), re.M):
-        if path not in there and path != "run.trace":
+        if path not in there and path not in ("run.trace", "TEXT"):
             found.append(f"{document}: a command reads what isn't there: {path}")
 for file, name in re.findall(r"`([A-Z]\w+)\.(\w+)`", pathlib.Path("docs/DEFINITION.md").read_text()):
     specs = [pathlib.Path(f"crates/{crate}/specs/{file}.antt") for crate in ("rv_assembler", "src_text")]
@@ -88,27 +91,46 @@ for file, name in re.findall(r"`([A-Z]\w+)\.(\w+)`", pathlib.Path("docs/DEFINITI
         found.append(f"docs/DEFINITION.md: no such definition: {file}.{name}")
 said = {kind.lower(): sentence for kind, sentence in
         re.findall(r"^(?:amendment|remedy) \(?\w+\.TheVariants\.(\w+).* = codes \"(.*)\"$", code, re.M)}
-for rows in re.findall(r"^\|[^|\n]*\| How it is mended \|\n\|---\|---\|\n((?:\|.*\n)+)", pathlib.Path("docs/LANGUAGE.md").read_text(), re.M):
-    for kind, sentence in re.findall(r"^\| `([^|`]*)` \| ([^|]*) \|$", rows, re.M):
-        if said.get(kind.replace("-", ""), sentence) != sentence or sentence + '"' not in code:
-            found.append(f"docs/LANGUAGE.md: of {kind} no program says: {sentence}")
+language = pathlib.Path("docs/LANGUAGE.md").read_text()
+mended = [pair for rows in re.findall(r"^\|[^|\n]*\| How it is mended \|\n\|---\|---\|\n((?:\|.*\n)+)", language, re.M)
+          for pair in re.findall(r"^\| `([^|`]*)` \| ([^|]*) \|$", rows, re.M)]
+listed = re.findall(r"^- `([a-z-]+)`: (.*(?:\n  .*)*)$", re.search(r"\nHow each is mended.*\n\n((?:- .*\n(?:  .*\n)*)+)", language)[1], re.M)
+for kind, sentence in mended + [(kind, " ".join(lines.split())) for kind, lines in listed]:
+    if said.get(kind.replace("-", ""), sentence) != sentence or sentence + '"' not in code:
+        found.append(f"docs/LANGUAGE.md: of {kind} no program says: {sentence}")
 # the map: the crates of docs/ARCHITECTURE.md by rooms are those of crates.txt, in the same order, and each stands on crates before it
-rooms, listed = re.findall(r"^# ([a-z ]+): .*\n((?:\w.*\n)+)", pathlib.Path("crates.txt").read_text(), re.M), []
+rooms, listed_crates = re.findall(r"^# ([a-z ]+): .*\n((?:\w.*\n)+)", pathlib.Path("crates.txt").read_text(), re.M), []
 for room, lines in rooms:
     for line in lines.splitlines():
         name, _, libraries = line.partition(":")
-        listed.append((room, name.split()[0]))
+        listed_crates.append((room, name.split()[0]))
         for library in libraries.split():
-            if f"crates/{library}" in folders and library not in [crate for _, crate in listed]:
+            if f"crates/{library}" in folders and library not in [crate for _, crate in listed_crates]:
                 found.append(f"crates.txt: {name} stands on {library}, which isn't named before it")
 drawn, room = [], ""
 for cell, crates in re.findall(r"^\| ([a-z ]*) \| ((?:`\w+`(?:, )?)+) \|", pathlib.Path("docs/ARCHITECTURE.md").read_text(), re.M):
     room = cell.strip() or room
     drawn += [(room, name) for name in re.findall(r"`(\w+)`", crates)]
-if drawn != listed:
-    found.append(f"docs/ARCHITECTURE.md: the map isn't that of crates.txt: {sorted(set(drawn) ^ set(listed)) or 'the order differs'}")
-for crate in sorted({folder for folder in folders if re.fullmatch(r"crates/\w+", folder)} - {"crates/" + crate for _, crate in listed}):
+if drawn != listed_crates:
+    found.append(f"docs/ARCHITECTURE.md: the map isn't that of crates.txt: {sorted(set(drawn) ^ set(listed_crates)) or 'the order differs'}")
+for crate in sorted({folder for folder in folders if re.fullmatch(r"crates/\w+", folder)} - {"crates/" + crate for _, crate in listed_crates}):
     found.append(f"crates.txt: {crate} isn't named")
+paged = [(room, name) for room, pages in re.findall(r"^- \*([a-z ]+)\*: (.*(?:\n  .*)*)$", pathlib.Path("docs", "PROMISES").with_suffix(".md").read_text(), re.M)
+         for name in re.findall(r"\[(\w+)\]", pages)]
+if paged != listed_crates:
+    found.append(f"the page PROMISES: its pages aren't those of crates.txt: {sorted(set(paged) ^ set(listed_crates)) or 'the order differs'}")
+# the limits of form
+for page in (name for name in tracked if name.endswith(".md")):
+    lines = pathlib.Path(page).read_text().split("\n")
+    if re.fullmatch(r"crates/\w+/README\.md", page) and len(lines) > 41:
+        found.append(f"{page}: {len(lines) - 1} lines, and a crate's page has at most 40")
+    for number, line in enumerate(lines, 1):
+        if re.match(r" *(?:\d+\. )?\|", line):
+            if len(line) > 300:
+                found.append(f"{page}: line {number}, of a table, has {len(line)} characters: more than 300")
+            for cell in re.split(r"(?<!\\)\|", line):
+                if len(cell.split()) > 40:
+                    found.append(f"{page}: line {number}, of a table, has a cell of {len(cell.split())} words: more than 40")
 QUOTED = {"docs/LIBRARY.md": ("crates/library_tour/src/main.rt", "crates/library_tour/stdout"),
           "docs/FROM_C.md": ("examples/c/histogram.c", "examples/c/histogram.s"),
           "docs/TUTORIAL.md": tuple(name for name in examples if "tutorial" in name)}

@@ -3,9 +3,10 @@
 .ci/run does, `tools/check_programs.py`. With `--quick` it takes whatever the launchers run, also builds without proof.
 
 It looks that the command words are handed on, that each exit code from 0 to 7 comes out, and 9 for words that aren't UTF-8, that a
-run goes by a pipe into its picture, that explained answers are those of tools/explained.txt, that claims are judged as
-tools/reference.py judges them, that standard error helps, that the tutorial shows what its commands print, and that the proved
-programs are used exactly where they were made of these sources. What a run has to write comes from tools/reference.py. It names each check that fails, and ends with a count."""
+run goes by a pipe into its picture and its account, that accounts are those of tools/reference.py, that explained answers are those of
+tools/explained.txt, that claims are judged as tools/reference.py judges them, that standard error helps, that the
+tutorial and the page on accounts show what their commands print, that the numbers of accounts, of answers to exercises and at the heads of
+examples are those of runs, and that the proved programs are used exactly where they were made of these sources. What a run has to write comes from tools/reference.py. It names each check that fails, and ends with a count."""
 import importlib.util
 import os
 import pathlib
@@ -83,7 +84,7 @@ def every_exit_code_comes():
         check(f"exit code {status} of {example}", as_the_reference(words, example)[0] == status)
     seeds = [seed for seed in range(1, 20) if reference.answer(["--seed", str(seed)], text_of("crossed-locks").decode())[0] == 5]
     check("exit code 5 of crossed-locks", as_the_reference(["--seed", str(seeds[0])], "crossed-locks")[0] == 5)
-    for name in ("denovo", "chart", "referee"):
+    for name in ("denovo", "view", "referee"):
         for program in programs(name):
             label = program[0]
             ran = run(program + ["--help"])
@@ -103,21 +104,93 @@ def every_exit_code_comes():
         ran = run(program, text_of("conflict"))
         wanted = b"refused check phase 0 plain-conflict"
         check(f"{program[0]}: exit code 2", ran.returncode == 2 and ran.stdout.startswith(wanted), ran.stdout)
-    for program in programs("chart"):
-        ran = run(program, b"no document\n")
-        check(f"{program[0]}: exit code 2", (ran.returncode, ran.stdout) == (2, b"refused trace head\n"))
+    for program in programs("view"):
+        for mode in ("chart", "account"):
+            ran = run(program + ["--mode", mode], b"no document\n")
+            check(f"{program[0]} --mode {mode}: exit code 2", (ran.returncode, ran.stdout) == (2, b"refused trace head\n"))
 
 
 def a_run_is_drawn_by_a_pipe():
-    for denovo, chart in zip(programs("denovo"), programs("chart")):
+    for denovo, view in zip(programs("denovo"), programs("view")):
         for example in ("signature", "stale-copy", "store-five"):
-            line = f"{denovo[0]} --banks 1 --mode trace < examples/{example}.s | {chart[0]}"
+            line = f"{denovo[0]} --banks 1 --mode trace < examples/{example}.s | {view[0]}"
             ran = run(["bash", "-o", "pipefail", "-c", line])
             wanted = pathlib.Path("docs/charts", example + ".svg").read_bytes()
             check(line, (ran.returncode, ran.stdout) == (0, wanted))
         document = run(denovo + ["--mode", "trace"], text_of("store-five")).stdout
-        ran = run(chart, document[:document.rindex(b"\n", 0, -1) + 1].replace(b"\nevents 10\n", b"\nevents 9\n"))
-        check(f"{chart[0]}: a run without its last event isn't drawn", (ran.returncode, ran.stdout) == (2, b"refused trace incomplete\n"))
+        for mode in ("chart", "account"):
+            ran = run(view + ["--mode", mode], document[:document.rindex(b"\n", 0, -1) + 1].replace(b"\nevents 10\n", b"\nevents 9\n"))
+            wanted = (2, b"refused trace incomplete\n")
+            check(f"{view[0]} --mode {mode}: a run without its last event isn't seen", (ran.returncode, ran.stdout) == wanted)
+
+
+def a_chart_begins_at_an_event():
+    """The first row is that of the event that is asked for; behind the last event there is none. Only a chart has rows."""
+    events = [b"\nevents 10\n", b"\nevents 0\n"]
+    for view in programs("view"):
+        for text, count, last in ((text_of("store-five"), events[0], 9), (b".region m, 1\n", events[1], 0)):
+            document = run(programs("denovo")[0] + ["--mode", "trace"], text).stdout
+            check(f"the document has{count.decode().rstrip()}", count in document)
+            ran = run(view + ["--first", str(last)], document)
+            check(f"{view[0]}: from the last event on", ran.returncode == 0 and ran.stdout.startswith(b"<svg"), ran.returncode)
+            for first in (last + 1, 4294967295):
+                ran = run(view + ["--first", str(first)], document)
+                check(f"{view[0]}: --first {first}, behind the last event", (ran.returncode, ran.stdout) == (1, b"refused usage\n"))
+                ran = run(view + ["--mode", "account", "--first", str(first)], document)
+                check(f"{view[0]}: an account has no first event", ran.returncode == 0, ran.returncode)
+        ran = run(view + ["--first", "10"], b"no document\n")
+        check(f"{view[0]}: what is no document has no last event", (ran.returncode, ran.stdout) == (2, b"refused trace head\n"))
+
+
+def each_mode_has_its_own_options():
+    """A mode leaves the options of others unused; each has to be in its range."""
+    document = run(programs("denovo")[0] + ["--mode", "trace"], text_of("store-five")).stdout
+    ranges = (("--rows", "0"), ("--rows", "4097"), ("--tick-core", "0"), ("--tick-mail", "1000001"), ("--by", "word"), ("--form", "svg"))
+    for view in programs("view"):
+        for mode, other in (("chart", ["--by", "core", "--form", "csv"]), ("account", ["--first", "3", "--rows", "7", "--tick-bank", "2"])):
+            plain = run([*view, "--mode", mode], document)
+            check(f"{view[0]} --mode {mode} {' '.join(other)}", run([*view, "--mode", mode, *other], document).stdout == plain.stdout)
+            for words in ranges:
+                ran = run([*view, "--mode", mode, *words], document)
+                check(f"{view[0]} --mode {mode} {' '.join(words)}", (ran.returncode, ran.stdout) == (1, b"refused usage\n"), ran.returncode)
+        for words in (("--mode", "page"), ("--mode", "state"), ("--mode", ""), ("--rows", "x"), ("--first", "-1"), ("--by", "run", "--by", "run")):
+            ran = run([*view, *words], document)
+            check(f"{view[0]} {' '.join(words)}", (ran.returncode, ran.stdout) == (1, b"refused usage\n"), ran.returncode)
+        for words in (("--mode", "chart"), ("--rows", "1000"), ("--rows=4096", "--tick-bank", "10"), ("--by", "run", "--form=text")):
+            check(f"{view[0]} {' '.join(words)}: what isn't asked for", run([*view, *words], document).stdout == run(view, document).stdout)
+
+
+def written(lines):
+    return "".join(line + "\n" for line in lines).encode()
+
+
+def accounts_are_those_of_the_reference():
+    """The accounts of the examples that the check accepts, by each group and in each form, whatever the outcome of the run."""
+    examples = [path.stem for path in sorted(pathlib.Path("examples").glob("*.s")) if path.stem != "realistic"]
+    shapes = [["--seed", "7"], ["--seed", "3", "--banks", "2", "--sets", "1", "--ways", "1"]]
+    denovo, outcomes = programs("denovo")[0], set()
+    for example in examples if kind == "proved" else examples[::4]:
+        for words in shapes:
+            ran = run(denovo + ["--mode", "trace"] + words, text_of(example))
+            if ran.returncode == 2:
+                continue
+            outcomes.add(ran.returncode)
+            for by in ("run", "phase", "core", "region"):
+                for form in ("text", "csv"):
+                    wanted = written(reference.account(ran.stdout, by, form)[1])
+                    seen = run(programs("view")[0] + ["--mode", "account", "--by", by, "--form", form], ran.stdout)
+                    check(f"the account of {example} {' '.join(words)}, by {by}, as {form}", (seen.returncode, seen.stdout) == (0, wanted), seen.returncode)
+    check("accounts of runs of each outcome", outcomes == {0, 3, 4, 5} or kind != "proved", outcomes)
+    for launcher in programs("view")[1:]:
+        ran = run(["bash", "-o", "pipefail", "-c", f"./denovo --mode trace < examples/signature.s | {launcher[0]} --mode account --by core"])
+        document = run(denovo + ["--mode", "trace"], text_of("signature")).stdout
+        check("an account by a pipe", (ran.returncode, ran.stdout) == (0, written(reference.account(document, "core", "text")[1])))
+    for text in (text_of("conflict"), b"nonsense\n"):
+        document = written(reference.document(text.decode(), {"banks": 1, "sets": 1, "ways": 1, "fuel": 1}, []))
+        replay = run(denovo + ["--mode", "replay"], document)
+        for mode in ("chart", "account"):
+            ran = run(programs("view")[0] + ["--mode", mode], document)
+            check(f"a refused text, in the mode {mode}", (ran.returncode, ran.stdout) == (2, replay.stdout) and replay.returncode == 2, ran.stdout)
 
 
 def counters(cores, locks):
@@ -316,14 +389,19 @@ def standard_error_helps():
     check("an unknown word", ran.stdout == b"refused usage\n" and b"--seed" in ran.stderr)
     ran = run(["./denovo"], b"")
     check("an empty text", b"standard input was empty" in ran.stderr, ran.stderr)
-    ran = run(["./chart"], b"refused source 1 unknown-word\n")
-    check("a chart of a refusal", b"its input is a refusal: refused source 1 unknown-word" in ran.stderr, ran.stderr)
+    ran = run(["./view"], b"refused source 1 unknown-word\n")
+    check("a view of a refusal", b"its input is a refusal: refused source 1 unknown-word" in ran.stderr, ran.stderr)
     for example, words in (("conflict", b"Conflicts"), ("trap", b"Traps"), ("endless", b"Traps")):
         check(f"the page on {example}", words in run(["./denovo"], text_of(example)).stderr)
     for example, words in (("conflict", []), ("trap", []), ("endless", []), ("crossed-locks", ["--seed", "1"])):
         wanted = " ".join(["./denovo", *words, "< TEXT | ./explain TEXT"]).encode()
         check(f"explain is named behind {example}", wanted in run(["./denovo", *words], text_of(example)).stderr)
     check("and behind unknown words", b"./explain TEXT" in run(["./denovo", "--sed", "3"]).stderr)
+    document = run(["./denovo", "--mode", "trace"], text_of("store-five")).stdout
+    for words in ([], ["--mode", "check"], ["--mode", "replay"]):
+        ran = run(["./denovo", *words], document[:-4])
+        named = b"'./denovo --mode replay' takes one" in ran.stderr
+        check(f"a document, {' '.join(words)}: where it belongs is said unless it is there", ran.returncode == 2 and named == (words[1:] != ["replay"]), ran.stderr)
     slow = run(["bash", "-c", "{ head -c 40; sleep 4; cat; } < examples/store-five.s | ./denovo"])
     check("a pipe from a slow program", slow.stdout == run(["./denovo"], text_of("store-five")).stdout and slow.returncode == 0)
     with tempfile.TemporaryDirectory() as room:
@@ -439,21 +517,130 @@ def proved_programs_are_used_where_they_are_those_of_the_sources():
         check("and not where another program stands in its place", which(copy) == "none")
 
 
+def account_of(example, words, by="run"):
+    """The account of a run, by the second program: its measures, each with a number for each group."""
+    document = written(reference.answer(["--mode", "trace"] + words, text_of(example).decode())[1])
+    numbers = {}
+    for line in reference.account(document, by)[1][1:]:
+        measure, _, count = line.split(",")
+        numbers.setdefault(measure, []).append(int(count))
+    return numbers
+
+
+def by_the_reference(command):
+    """What the second program has to say of a command that makes an account, as a text; nothing for other commands."""
+    made = re.fullmatch(r"\./denovo (.*)--mode trace < examples/(\S+)\.s \| \./view --mode account(?: --by (\w+))?", command)
+    if not made:
+        return None
+    document = written(reference.answer(["--mode", "trace"] + made[1].split(), text_of(made[2]).decode())[1])
+    return written(reference.account(document, made[3] or "run", "text")[1])
+
+
 def pages_show_what_is_printed():
-    """Each block behind a command of the tutorial is a part of what the command prints."""
-    page = pathlib.Path("docs/TUTORIAL.md").read_text()
-    for command, block in re.findall(r"^    (\./denovo[^\n]*)\n\n```\n(.*?)^```$", page, re.M | re.S):
-        ran = run(["bash", "-c", command])
-        check(f"docs/TUTORIAL.md: {command}", block.encode() in ran.stdout, ran.stdout[:300])
-    for command in re.findall(r"^    (\./denovo.*) > \S+$", page, re.M):
-        ran = run(["bash", "-o", "pipefail", "-c", command])
-        check(f"docs/TUTORIAL.md: {command}", ran.returncode == 0 and ran.stdout.startswith(b"<svg"))
+    """Each block behind a command of these pages is a part of what the command prints, and for an account of what it has to print."""
+    for page in ("docs/TUTORIAL.md", "docs/ACCOUNT.md", "docs/COMPARING.md"):
+        text = pathlib.Path(page).read_text()
+        for command, block in re.findall(r"^    ((?:\./denovo|examples/)[^\n]*)\n\n```\n(.*?)^```$", text, re.M | re.S):
+            ran = run(["bash", "-c", command])
+            check(f"{page}: {command}", block.encode() in ran.stdout, ran.stdout[:300])
+            wanted = by_the_reference(command)
+            check(f"{page}: {command}, by tools/reference.py", wanted is None or ran.stdout == wanted, ran.stdout[:300])
+        for command in re.findall(r"^    (\./denovo.*) > \S+\.svg$", text, re.M):
+            ran = run(["bash", "-o", "pipefail", "-c", command])
+            check(f"{page}: {command}", ran.returncode == 0 and ran.stdout.startswith(b"<svg"))
+
+
+def every_command_of_the_exercises_answers():
+    """The commands of docs/LAB.md give what tools/reference.py says, whether they print a run or its account."""
+    for command in re.findall(r"^    (\./denovo.*)$", pathlib.Path("docs/LAB.md").read_text(), re.M):
+        if "examples/" in command:
+            ran, wanted = run(["bash", "-c", command]), by_the_reference(command)
+            if wanted is None:
+                words, example = re.fullmatch(r"\./denovo (.*)< examples/(\S+)\.s", command).groups()
+                wanted = written(reference.answer(words.split(), text_of(example).decode())[1])
+            check(f"docs/LAB.md: {command}", ran.stdout == wanted, ran.stdout[:300])
+
+
+def the_answers_to_exercises_have_the_numbers():
+    """The tables of docs/LAB_ANSWERS.md whose rows are runs, and the numbers that stand beside them."""
+    page = pathlib.Path("docs/LAB_ANSWERS.md").read_text()
+
+    def table(head):
+        found = re.search(r"^(?: *|\d\. )\| (" + re.escape(head) + r".*) \|\n *\|[-|]*\|\n((?: *\|.*\n)+)", page, re.M)
+        heads = [cell.strip(" `") for cell in found[1].split("|")]
+        return [dict(zip(heads, (cell.strip() for cell in row.strip(" |").split("|")))) for row in found[2].splitlines()]
+
+    for row in table("Sets, ways"):
+        sets, ways = row.pop("Sets, ways").split(", ")
+        numbers = account_of("stencil", ["--sets", sets, "--ways", ways])
+        whole = {name: total for name, (total,) in numbers.items()}
+        whole |= {"Places": int(sets) * int(ways), "evict": whole["evicted-copies"] + whole["evicted-registered"]}
+        check(f"docs/LAB_ANSWERS.md: {sets} sets, {ways} ways", all(whole[name] == int(told) for name, told in row.items()), row)
+    for row in table("Order of cores"):
+        words = ["--seed", row.pop("Seed")]
+        lines, numbers = reference.answer(words, text_of("signature").decode())[1], account_of("signature", words)
+        orders = ", ".join(line.split()[2] for line in lines if line.startswith("grant "))
+        values = ", ".join(str(int(line.split()[2], 16)) for line in lines if line.startswith("word "))
+        check(f"docs/LAB_ANSWERS.md: the order {orders}", row.pop("Order of cores") == orders, orders)
+        check(f"docs/LAB_ANSWERS.md: what is read in the order {orders}", values.endswith(row.pop("Values read")), values)
+        check(f"docs/LAB_ANSWERS.md: the account of the order {orders}", all(numbers[name] == [int(told)] for name, told in row.items()), row)
+    pairs = {}
+    for seed in range(1, 61):
+        words = ["--sets", "1", "--ways", "1", "--seed", str(seed)]
+        counts = dict(line.split()[1:] for line in reference.answer(words, text_of("eviction-race").decode())[1] if line.startswith("count "))
+        pair = f"{counts['evict']}, {counts['reg-fwd']}"
+        pairs[pair] = pairs.get(pair, 0) + 1
+        check(f"docs/LAB_ANSWERS.md: taken, of the pair {pair}", account_of("eviction-race", words)["taken"] == [int(pair == "0, 1")])
+    told = {row["evict, reg-fwd"]: int(row["Seeds of 1 to 60"]) for row in table("evict, reg-fwd")}
+    check("docs/LAB_ANSWERS.md: three orders of one race", told == pairs, pairs)
+    for example, words, by, measure, wanted in (
+            ("tutorial-two-cores", [], "core", "loads", [2, 2]), ("tutorial-two-cores", [], "core", "stores", [2, 2]),
+            ("tutorial-two-cores", [], "core", "registers", [2, 2]), ("tutorial-two-cores", [], "core", "misses-first", [2, 2]),
+            ("tutorial-two-cores", [], "core", "misses", [2, 2]), ("stale-copy", [], "phase", "dropped-phase", [0, 1, 0]),
+            ("stale-copy", [], "phase", "misses-phase", [0, 0, 1]), ("stale-copy", [], "run", "dropped-phase-current", [0]),
+            ("touched-bit", [], "run", "misses", [2]), ("touched-bit", [], "phase", "kept-touched", [1, 1, 0, 0]),
+            ("touched-bit", [], "phase", "dropped-phase-current", [0, 0, 1, 0]), ("touched-bit", [], "phase", "misses-phase", [0, 0, 0, 1]),
+            ("locked-counter", [], "core", "taken", [3, 2, 3, 3]), ("stale-copy", [], "phase", "untold-copies", [0, 1, 0]),
+            ("read-sharing", [], "run", "untold-copies", [0]), ("many-readers", [], "phase", "untold-copies", [0, 240]),
+            ("many-readers", [], "phase", "registers", [15, 16]), ("stencil", [], "run", "untold-copies", [0]),
+            ("stencil", ["--sets", "64", "--ways", "1"], "run", "untold-copies", [4])):
+        check(f"docs/LAB_ANSWERS.md: {measure} of {example}", account_of(example, words, by)[measure] == wanted)
+
+
+def heads_of_examples_say_what_is_printed():
+    """Where the comment at the head of an example quotes a line of an answer, or its first words, one of its commands prints such a line."""
+    for path in sorted(pathlib.Path("examples").glob("*.s")):
+        head = [line.strip("# \n") for line in path.read_text().split("\n") if line.startswith("#")]
+        printed = "".join(run(["bash", "-c", line]).stdout.decode() for line in head if line.startswith("./denovo")).split("\n")
+        for told in re.findall(r"`((?:count|outcome|task|refused|proved|unbounded) [^`]*)`", " ".join(line for line in head if not line.startswith("./"))):
+            check(f"{path}: {told}", any((line + " ").startswith(told + " ") for line in printed))
+
+
+def the_page_on_accounts_has_the_numbers():
+    """The table of docs/ACCOUNT.md: a column for a text and the words of its run, and each measure that isn't 0 in all of them."""
+    page = pathlib.Path("docs/ACCOUNT.md").read_text()
+    heads, rows = re.search(r"^\| Measure \|(.*`.*)\|\n\|[-|]*\|\n((?:\|.*\n)+)", page, re.M).groups()
+    rows = [[cell.strip() for cell in row.strip("|").split("|")] for row in rows.splitlines()]
+    told = {row[0].strip("`"): row[1:] for row in rows}
+    wanted = {measure: [] for measure in reference.MEASURES}
+    for head in heads.split("|"):
+        example, *words = head.replace("`", "").split()
+        document = written(reference.answer(["--mode", "trace"] + words, text_of(example).decode())[1])
+        for line in reference.account(document, "run")[1][1:]:
+            wanted[line.split(",")[0]].append(line.split(",")[2])
+    wanted = {measure: counts for measure, counts in wanted.items() if set(counts) != {"0"}}
+    check("docs/ACCOUNT.md: the numbers of its runs", told == wanted, [(name, told.get(name), wanted.get(name)) for name in reference.MEASURES if told.get(name) != wanted.get(name)])
+    measures = re.findall(r"^\| `([a-z-]+)` \| [A-Za-z]", page, re.M)
+    check("docs/ACCOUNT.md: what each measure counts", sorted(measures) == sorted(reference.MEASURES), set(measures) ^ set(reference.MEASURES))
 
 
 words_are_handed_on()
 stored_runs()
 every_exit_code_comes()
 a_run_is_drawn_by_a_pipe()
+a_chart_begins_at_an_event()
+each_mode_has_its_own_options()
+accounts_are_those_of_the_reference()
 answers_are_explained()
 answers_of_other_texts_are_refused()
 answers_before_any_text_are_taken()
@@ -465,6 +652,10 @@ the_largest_claims_are_read()
 another_simulator_is_compared()
 standard_error_helps()
 pages_show_what_is_printed()
+every_command_of_the_exercises_answers()
+the_answers_to_exercises_have_the_numbers()
+heads_of_examples_say_what_is_printed()
+the_page_on_accounts_has_the_numbers()
 if kind == "proved":
     proved_programs_are_used_where_they_are_those_of_the_sources()
 print(f"programs: {passed} passed, {failed} failed")

@@ -4,3 +4,4 @@ pub mod Ticks
 pub mod Others
 pub mod Fronts
 pub mod OneWay
+pub mod Printed

@@ -12,6 +12,6 @@ mod tasks;
 mod timing;
 mod words;
 
-pub use laws::a_line_is_read_in_one_way;
+pub use laws::{a_line_is_read_in_one_way, printed_answers_are_lines};
 pub use line::{AnswerLine, Count, FixedLine, Link};
 pub use reading::read_line;

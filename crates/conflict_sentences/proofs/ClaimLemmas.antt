@@ -1,5 +1,5 @@
 -- The words that an effect gives to a task are those of the definition's claim.
-use Rattle.std.proofs.Common.{◌≡◌, ℕ, zero, suc, ◌+◌, ◌-◌, ◌<◌, ◌≤◌, Bool, true, false, cond, not, ◌&&◌, nat_le, nat_lt, leb, ltb, ltb-true, ltb-false, leb-true, ℤ, pos, negsuc, neg_ℤ, ◌+ℤ◌, ◌*ℤ◌, int_le, int_lt, List, Some, refl, sym, ap, ◌∙◌, arith}
+use Rattle.std.proofs.Common.{◌≡◌, ℕ, zero, suc, ◌+◌, ◌-◌, ◌<◌, ◌≤◌, Bool, true, false, cond, ◌&&◌, nat_le, nat_lt, leb, ltb, ltb-true, ltb-false, leb-true, ℤ, pos, negsuc, neg_ℤ, ◌+ℤ◌, ◌*ℤ◌, int_le, int_lt, Some, refl, sym, ap, ◌∙◌, arith}
 use Rattle.std.specs.List.{list_all, range_with_len}
 use Rattle.std.proofs.lemmas.Int.{ints}
 use Rattle.std.proofs.lemmas.Bool.{leb-false, le-leb, lt-leb, lt-ltb, le-ltb, and_parts, and_from, not-false}
@@ -9,9 +9,9 @@ use Rattle.rv_assembler.specs.declared.draft.Span.{Span}
 use Rattle.rv_assembler.specs.declared.statement.Extent.{Extent}
 use Rattle.rv_assembler.specs.declared.statement.Extent as extent
 use Rattle.rv_assembler.specs.Number.{natural_of, is_within, is_interval}
-use Rattle.rv_assembler.specs.Rows.{from_index, to_index, moved_by, use_at}
+use Rattle.rv_assembler.specs.Rows.{use_at}
 use Rattle.rv_assembler.specs.Fault.{fits_at, stepped_fits, extent_far}
-use Rattle.conflict_sentences.specs.Claims.{moved_has, extent_has, claim_has}
+use Rattle.conflict_sentences.specs.Claims.{extent_has, claim_has}
 
 -- a test of numbers that are moved on
 le-moved : (s a i : ℕ) (b : Bool) → leb a i ≡ b → leb a i ≡ leb (s + a) (s + i)

@@ -1,3 +1,4 @@
 pub mod Guards
 pub mod Claims
+pub mod TableClaims
 pub mod Sentences

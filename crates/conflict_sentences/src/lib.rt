@@ -7,5 +7,7 @@ mod guards;
 mod laws;
 mod sentences;
 
-pub use laws::an_effect_gives_the_words_that_it_claims;
+pub use laws::{
+    a_quoted_effect_claims_the_word_for_its_task, an_effect_gives_the_words_that_it_claims,
+};
 pub use sentences::push_conflict;

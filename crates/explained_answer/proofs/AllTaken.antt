@@ -1,13 +1,17 @@
 -- An answer whose lines are all lines of answers of the program is explained as these lines.
 use Rattle.std.proofs.Common.{◌≡◌, inl, inr, ℕ, ◌<◌, true, false, List, [], ◌∷◌, ◌++◌, length, flat_map, codes, None, All, refl, sym, ap, subst, ◌∙◌, arith, length-append, append_assoc}
-use Rattle.std.proofs.lemmas.List.Elements.{All-head, All-tail}
+use Rattle.std.proofs.lemmas.List.Elements.{All-nil, All-head, All-tail}
 use Rattle.std.proofs.lemmas.List.{append-nil}
+use Rattle.src_text.specs.Line.{cut}
 use Rattle.effect_checker.specs.Faults.{IsLeastFault}
+use Rattle.rv_listing.specs.Listing.{listing_of}
 use Rattle.text_places.specs.declared.places.Located.{Located}
 use Rattle.text_pieces.specs.Pieces.{newline}
 use Rattle.run_replay.specs.Document.{title}
 use Rattle.run_replay.proofs.Forms.{head-parts}
 use Rattle.whole_answers.specs.declared.taken.Taken as taken
+use Rattle.whole_answers.specs.Fronts.{alike, line_behind}
+use Rattle.whole_answers.specs.Listing.{explained_lines}
 use Rattle.whole_answers.specs.Trace.{GoesWrongAt}
 use Rattle.whole_answers.proofs.Heads.{trace-taken}
 use Rattle.answer_lines.specs.declared.line.AnswerLine.{AnswerLine}
@@ -17,8 +21,9 @@ use Rattle.answer_lines.proofs.OneWay.{one-way}
 use Rattle.explained_answer.specs.declared.explaining.Explained.{Explained}
 use Rattle.explained_answer.specs.declared.explaining.Explained.TheVariants.{Text, Refused}
 use Rattle.explained_answer.specs.Lines.{IsLineOf, NoLineOf, fits_program, lines_and_sentences}
-use Rattle.explained_answer.specs.Explained.{IsLocated, HasNoConflict, IsNoListing, IsTraceAnswer, AreAllExplained, IsExplained}
+use Rattle.explained_answer.specs.Explained.{IsLocated, HasNoConflict, IsNoListing, IsListingAnswer, IsTraceAnswer, AreAllExplained, IsExplained}
 use Rattle.explained_answer.proofs.Steps.{line-some}
+use Rattle.explained_answer.proofs.Unlisted.{lines-unlisted}
 use Rattle.explained_answer.proofs.WholeAnswers.{one-located, no-fault, not-listed}
 
 -- ---- lines in front of the same bytes
@@ -119,3 +124,32 @@ module _ (text answer : List ℕ) (l : Located) (is_located : IsLocated text l) 
   lines-taken none no_listing e (inr (inr (inr (inl h)))) = absurd (no-trace e h.answer_is)
   lines-taken none no_listing e (inr (inr (inr (inr h)))) =
       run-answer e (subst (λ (m : Located). AreAllExplained text m answer e) (one-located text h.located l h.is_located is_located) h.answer_is)
+
+-- ---- an answer without a line
+
+module _ (text answer : List ℕ) (l : Located) (is_located : IsLocated text l) (none : HasNoConflict l.program) (is : answer ≡ []) where
+  same-listing : (k : Located) → IsLocated text k → IsNoListing text k answer → IsNoListing text l answer
+  same-listing k has h = subst (λ (m : Located). IsNoListing text m answer) (one-located text k l has is_located) h
+
+  no-line : IsNoListing text l answer → (e : Explained) → IsExplained text answer e → e ≡ Text []
+  no-line no_listing e h = lines-taken text answer l is_located [] (All-nil (IsLineOf l)) is none no_listing e h
+
+  -- where the listing is empty too, it is explained as nothing
+  empty-listing : (k : Located) (e : Explained) → IsListingAnswer text k answer e → e ≡ Text []
+  unfolding line_behind
+  empty-listing k (Text out) h = ap Text (h.1 ∙ ap (λ (bs : List ℕ). explained_lines text k (cut bs)) (sym h.0 ∙ is))
+  empty-listing k (Refused number) h =
+      let first : number ≡ 1 = h.1 ∙ ap (λ (bs : List ℕ). line_behind (alike bs (listing_of k.program))) is in absurd (omega (arith, first, h.2))
+
+  empty-taken : (e : Explained) → IsExplained text answer e → e ≡ Text []
+  empty-taken e (inl h) = absurd (no-fault text answer l is_located h.fault h.is)
+  empty-taken e (inr (inl h)) = empty-listing h.located e h.answer_is
+  empty-taken e (inr (inr (inl h))) = no-line (same-listing h.located h.is_located h.no_listing) e (inr (inr (inl h)))
+  empty-taken e (inr (inr (inr (inl h)))) = no-line (same-listing h.located h.is_located h.no_listing) e (inr (inr (inr (inl h))))
+  empty-taken e (inr (inr (inr (inr h)))) = no-line (same-listing h.located h.is_located h.no_listing) e (inr (inr (inr (inr h))))
+
+pub all-taken : (text answer : List ℕ) (l : Located) → IsLocated text l → (lines : List AnswerLine) → All (IsLineOf l) lines → answer ≡ flat_map answer_line lines → HasNoConflict l.program
+    → (e : Explained) → IsExplained text answer e → e ≡ Text (lines_and_sentences text l lines)
+all-taken text answer l is_located [] are is none e h = empty-taken text answer l is_located none is e h
+all-taken text answer l is_located (x ∷ xs) are is none e h =
+    lines-taken text answer l is_located (x ∷ xs) are is none (lines-unlisted text l answer x xs (All-head (IsLineOf l) x xs are).fits is) e h

@@ -14,7 +14,7 @@ use Rattle.explained_answer.specs.Holders.{is_of_lock, last_grant, AreLastGrants
 use Rattle.explained_answer.specs.Lines.{has_task, has_named_lock, IsLineOf, line_read, lines_in, sentences_behind, explained_line}
 
 -- a grant of another lock is passed over, and one of the lock is its last
-last-push : (gs : List Grant) (g : Grant) (lock : ℕ) → last_grant (gs ++ g ∷ []) lock ≡ cond (g.lock.0 == lock) (Some g) (last_grant gs lock)
+pub last-push : (gs : List Grant) (g : Grant) (lock : ℕ) → last_grant (gs ++ g ∷ []) lock ≡ cond (g.lock.0 == lock) (Some g) (last_grant gs lock)
 last-push gs g lock = ap (find (is_of_lock lock)) (reverse-append gs (g ∷ []))
 
 -- the place of a lock has its new grant, and the others what they had

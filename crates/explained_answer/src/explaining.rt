@@ -129,9 +129,9 @@ fn explained_text(alloc: Global, text: &[u8], answer: &[u8]) -> Result<Explained
 pub fn explain(alloc: Global, text: &[u8], answer: &[u8]) -> Result<Explained, Memory>
     ensures explained { IfOk result (IsExplained text.now answer.now) }
     ensures listing { IfOk result (λ e. (l : LocatedOf) → IsLocated text.now l → answer.now ≡ listing_of l.program → e ≡ TextOf (explained_listing text.now l)) }
-    ensures trace { IfOk result (λ e. (l : LocatedOf) (t : Trace) → IsLocated text.now l → HasNoConflict l.program → IsNoListing text.now l answer.now
+    ensures trace { IfOk result (λ e. (l : LocatedOf) (t : Trace) → IsLocated text.now l → HasNoConflict l.program
         → IsTraceOf text.now answer.now t → e ≡ TextOf answer.now) }
-    ensures taken { IfOk result (λ e. (l : LocatedOf) (lines : List LineOf) → IsLocated text.now l → HasNoConflict l.program → IsNoListing text.now l answer.now
+    ensures taken { IfOk result (λ e. (l : LocatedOf) (lines : List LineOf) → IsLocated text.now l → HasNoConflict l.program
         → All (IsLineOf l) lines → answer.now ≡ flat_map answer_line lines → e ≡ TextOf (lines_and_sentences text.now l lines)) }
 {
     explained_text(alloc, text, answer)

@@ -1,9 +1,0 @@
--- The command is one whose matches and faults are known as functions of its words.
-use Rattle.std.proofs.Common.{refl, ◌≡◌, true}
-use Rattle.clap.specs.Words.{is_simple_and_free}
-use Rattle.clap.proofs.OnLiterals.{clap_on_literals}
-use Rattle.chart_top.specs.Command.{chart_command}
-
-pub is_free : is_simple_and_free chart_command ≡ true
-unfolding chart_command clap_on_literals
-is_free = refl

@@ -1,0 +1,16 @@
+mod Values
+mod Tasks
+mod States
+mod Shown
+mod Ends
+mod Runs
+mod Times
+mod Programs
+mod Refused
+mod Modes
+mod Ranges
+mod Calls
+mod Outputs
+mod Holders
+mod RunHolders
+mod Named

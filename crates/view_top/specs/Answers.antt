@@ -1,0 +1,131 @@
+-- What the program answers to words and a document.
+use Rattle.std.specs.Prelude.{◌≡◌, ◌⊎◌, ℕ, ◌-◌, ◌<◌, ◌≤◌, List, [], ◌++◌, length}
+use Rattle.dn_base.specs.declared.ids.Shape.{Shape}
+use Rattle.region_table.specs.Program.{ProgramParts}
+use Rattle.message_net.specs.declared.event.Event.{Event}
+use Rattle.registration_protocol.specs.Node.{Setting}
+use Rattle.machine_rules.specs.State.{initial_state}
+use Rattle.dn_machine.specs.declared.record.RunRecord.{RunRecord}
+use Rattle.dn_machine.specs.Settings.{IsSettingOf}
+use Rattle.run_replay.specs.declared.trace.Trace.{Trace}
+use Rattle.run_replay.specs.declared.trace.TraceShape.{TraceShape}
+use Rattle.run_timing.specs.declared.ticks.Ticks.{Ticks}
+use Rattle.run_timing.specs.declared.timing.Timing.{Timing}
+use Rattle.run_timing.specs.Ticks.{ticks_by}
+use Rattle.run_timing.specs.Longest.{IsTimingOf, numbers_in}
+use Rattle.account_table.specs.declared.item.Grouping.{Grouping}
+use Rattle.account_table.specs.Tallies.{Tallies}
+use Rattle.run_account.specs.Account.{no_account, account_of_run}
+use Rattle.account_text.specs.declared.form.Form.{Form}
+use Rattle.account_text.specs.declared.form.Form as form
+use Rattle.account_text.specs.Forms.{account_text}
+use Rattle.message_chart.specs.declared.chart.Chart.{Chart}
+use Rattle.message_chart.specs.Picture.{svg_of}
+use Rattle.run_chart.specs.declared.drawing.Range.{Range}
+use Rattle.run_chart.specs.Charts.{IsChartOf}
+use Rattle.front_end.specs.Texts.{HasChecked, usage_line}
+use Rattle.dn_top.specs.Answers.{IsRefusedDocument}
+use Rattle.dn_top.specs.Documents.{HasTrace, IsRunTold, shape_told}
+use Rattle.dn_top.specs.Runs.{reported}
+use Rattle.view_top.specs.declared.answering.Output.{Output}
+use Rattle.view_top.specs.declared.options.View.{View}
+use Rattle.view_top.specs.declared.options.View.TheVariants as view
+use Rattle.view_top.specs.declared.options.ChartOptions.{ChartOptions}
+use Rattle.view_top.specs.declared.options.AccountOptions.{AccountOptions}
+use Rattle.view_top.specs.declared.status.ViewStatus.TheVariants as status
+
+-- ---- the run of a document
+
+-- what a document tells is a complete run, and this holds of the run
+pub record HasToldRun (P : ProgramParts) (t : Trace) (Holds : RunRecord → Type 0) : Type 0 where
+  pub run : RunRecord
+  pub told : IsRunTold P t run
+  pub holds : Holds run
+
+-- the bytes are the document of a complete run of a checked program, and this holds of the program, of the machine's size and fuel, and
+-- of the run
+abbrev pub HasKeptRun : List ℕ → (ProgramParts → TraceShape → RunRecord → Type 0) → Type 0
+HasKeptRun document Holds = HasTrace document (λ t. HasChecked t.text (λ P. HasToldRun P t (Holds P t.shape)))
+
+-- ---- what is written
+
+-- what was made of a run, whatever its outcome
+abbrev pub made : List ℕ → Output
+made bytes = record { status = status.Done; bytes = bytes }
+
+-- what refuses the words
+abbrev pub usage : Output
+usage = record { status = status.Usage; bytes = usage_line }
+
+-- ---- a chart
+
+-- the range of events that the options ask for
+abbrev pub range_for : ChartOptions → Range
+range_for o = record { first = o.first; most = o.rows }
+
+-- the ticks that options give to the kinds of event: those of a core's own, those that a bank handles, and all others
+abbrev pub chart_ticks : ChartOptions → Ticks
+chart_ticks o = ticks_by o.tick_core o.tick_bank o.tick_mail
+
+-- the number of a run's last event; 0 where it has none
+abbrev pub last_number : List Event → ℕ
+last_number events = length events - 1
+
+-- the output is the picture of the run's chart, with the rows that the options ask for and a line through the events of the run's
+-- longest chain
+pub record IsPicture (P : ProgramParts) (s : TraceShape) (o : ChartOptions) (events : List Event) (out : Output) : Type 0 where
+  pub within : o.first ≤ last_number events
+  pub timing : Timing
+  pub times : IsTimingOf P (shape_told P s) s.fuel events (chart_ticks o) timing
+  pub chart : Chart
+  pub is : IsChartOf P (shape_told P s) s.fuel events (range_for o) (numbers_in timing.links.items) chart
+  pub answer : out ≡ made (svg_of chart)
+
+-- the picture would begin behind the run's last event, and the words are refused
+pub record IsPastEnd (o : ChartOptions) (events : List Event) (out : Output) : Type 0 where
+  pub behind : last_number events < o.first
+  pub answer : out ≡ usage
+
+abbrev pub IsDrawn : ProgramParts → TraceShape → ChartOptions → RunRecord → Output → Type 0
+IsDrawn P s o r out = IsPicture P s o r.events out ⊎ IsPastEnd o r.events out
+
+-- ---- an account
+
+-- the numbers are those of the account of these events, which come on the machine of this program, shape and fuel
+pub record IsAccountOf (P : ProgramParts) (shape : Shape) (fuel : ℕ) (events : List Event) (by : Grouping) (tallies : Tallies) : Type 0 where
+  pub setting : Setting
+  pub setting_is : IsSettingOf P shape fuel setting
+  pub is : tallies ≡ (account_of_run (initial_state setting) (no_account setting by) events).tallies
+
+-- what stands above the numbers: for readers the report of the run, for other programs nothing
+abbrev pub heading_of : Form → RunRecord → List ℕ
+heading_of form.TheVariants.Text r = reported r
+heading_of form.TheVariants.Csv r = []
+
+-- the output is the account of the run, in the groups and in the form that the options ask for
+pub record IsAccount (P : ProgramParts) (s : TraceShape) (o : AccountOptions) (r : RunRecord) (out : Output) : Type 0 where
+  pub tallies : Tallies
+  pub counted : IsAccountOf P (shape_told P s) s.fuel r.events o.by tallies
+  pub answer : out ≡ made (heading_of o.form r ++ account_text o.form P tallies)
+
+-- ---- a row for each mode
+
+-- what each mode makes of a document
+abbrev pub view_made : View → List ℕ → Output → Type 0
+view_made (view.Chart o) document out = HasKeptRun document (λ P s r. IsDrawn P s o r out)
+view_made (view.Account o) document out = HasKeptRun document (λ P s r. IsAccount P s o r out)
+
+-- which documents each mode refuses, and with which line: those that the mode replay of denovo refuses, with its line
+abbrev pub view_refused : View → List ℕ → List ℕ → Type 0
+view_refused (view.Chart o) document line = IsRefusedDocument document line
+view_refused (view.Account o) document line = IsRefusedDocument document line
+
+-- ---- answers
+
+pub record IsRefusal (v : View) (document : List ℕ) (out : Output) : Type 0 where
+  pub line : List ℕ
+  pub why : view_refused v document line
+  pub answer : out ≡ record { status = status.Refused; bytes = line }
+
+abbrev pub IsAnswer : View → List ℕ → Output → Type 0
+IsAnswer v document out = view_made v document out ⊎ IsRefusal v document out

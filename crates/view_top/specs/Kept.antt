@@ -1,0 +1,22 @@
+-- The run of a document, as the calls inside hand it on.
+use Rattle.std.specs.Prelude.{◌≡◌, ◌≤◌, length}
+use Rattle.region_table.specs.Program.{ProgramParts}
+use Rattle.dn_machine.specs.declared.record.RunRecord.{RunRecord}
+use Rattle.dn_machine.specs.Settings.{IsRunOn}
+use Rattle.run_replay.specs.declared.trace.TraceShape.{TraceShape}
+use Rattle.run_replay.specs.Document.{IsTraceShape}
+use Rattle.dn_top.specs.Documents.{shape_told}
+use Rattle.dn_top.specs.Runs.{IsPrintable}
+use Rattle.view_top.specs.declared.documents.KeptRun.{KeptRun}
+
+-- the program is there twice
+abbrev pub kept_run_of : ProgramParts → TraceShape → RunRecord → KeptRun
+kept_run_of P sizes run = record { sizes = sizes; run = run; program = P; again = P }
+
+-- what is known of such a run, so that a mode may make its events once more and print it
+pub record IsViewable (k : KeptRun) : Type 0 where
+  pub sizes : IsTraceShape k.sizes
+  pub few : length k.run.events ≤ 25169664
+  pub again : k.again ≡ k.program
+  pub run : IsRunOn k.program (shape_told k.program k.sizes) k.sizes.fuel k.run.events
+  pub printable : IsPrintable k.run

@@ -1,0 +1,5 @@
+pub mod Command
+pub mod Status
+pub mod Answers
+pub mod Kept
+pub mod Serving

@@ -1,0 +1,91 @@
+//! The mode account: what a run cost and why, in numbers.
+ghost use Rattle.std.specs.Prelude.{◌≡◌, ◌≤◌, length, IfOk, IfErr};
+ghost use Rattle.run_replay.specs.Document.{IsTraceShape};
+ghost use Rattle.dn_machine.specs.Settings.{IsRunOn};
+ghost use Rattle.front_end.specs.Texts.{IsStop};
+ghost use Rattle.dn_top.specs.Answers.{IsRefusedDocument};
+ghost use Rattle.dn_top.specs.Documents.{shape_told};
+ghost use Rattle.dn_top.specs.Runs.{IsPrintable};
+ghost use Rattle.view_top.specs.declared.options.View.TheVariants as view;
+ghost use Rattle.view_top.specs.Answers.{heading_of, view_made, IsAccount, IsAccountOf};
+ghost use Rattle.view_top.specs.Kept.{IsViewable};
+
+use crate::answering::{Output, done_with};
+use crate::documents::{KeptRun, kept_run, shape_of};
+use crate::options::AccountOptions;
+use account_table::Grouping;
+use account_text::{Form, push_account};
+use dn_base::Memory;
+use dn_machine::{Machine, a_machine_is_kept};
+use dn_top::RunRecord;
+use effect_checker::Checked;
+use front_end::Stop;
+use message_net::Event;
+use run_account::{Account, account_of};
+use run_replay::TraceShape;
+use run_report::report;
+use std::alloc::Global;
+
+/// The account of a run's events, in these groups.
+fn counted(
+    alloc: Global,
+    sizes: TraceShape,
+    events: &[Event],
+    by: Grouping,
+    program: Checked,
+) -> Result<Account, Memory>
+    requires sizes { IsTraceShape sizes }
+    requires few { length events.now ≤ 25169664 }
+    requires run { IsRunOn program (shape_told program sizes) sizes.fuel events.now }
+    ensures { IfOk result (λ account. IsAccountOf program (shape_told program sizes) sizes.fuel events.now by account.tallies) }
+{
+    let shape = shape_of(sizes, &program);
+    let machine = Machine::start(alloc, program, shape, sizes.fuel)?;
+    // for the proof alone: no event has come, so the machine is the opened one, and the events are a run of it
+    a_machine_is_kept(&machine);
+    match account_of(alloc, machine, events, by)? {
+        Some(account) => Ok(account),
+        None => unreachable!(),
+    }
+}
+
+/// What stands above the numbers: for readers the report of the run, for other programs nothing.
+fn heading(alloc: Global, form: Form, run: &RunRecord) -> Result<Vec<u8>, Memory>
+    requires { IsPrintable run.now }
+    ensures { IfOk result (λ text. text.items ≡ heading_of form run.now) }
+{
+    match form {
+        Form::Text => report(alloc, &run.ending, run.grants.as_slice(), &run.counts),
+        Form::Csv => Ok(Vec::new(alloc)),
+    }
+}
+
+/// The account of a run, as it is printed.
+fn account(alloc: Global, options: &AccountOptions, kept: KeptRun) -> Result<Output, Memory>
+    requires { IsViewable kept }
+    ensures { IfOk result (IsAccount kept.program kept.sizes options.now kept.run) }
+{
+    let KeptRun {
+        sizes,
+        run,
+        program,
+        again,
+    } = kept;
+    let account = counted(alloc, sizes, run.events.as_slice(), options.by, program)?;
+    let mut text = heading(alloc, options.form, &run)?;
+    push_account(&mut text, options.form, again.program(), account.table())?;
+    Ok(done_with(text))
+}
+
+/// The account of a document's run.
+pub(crate) fn account_document(
+    alloc: Global,
+    options: &AccountOptions,
+    document: &[u8],
+) -> Result<Output, Stop>
+    ensures made { IfOk result (view_made (view.Account options.now) document.now) }
+    ensures stop { IfErr result (IsStop (IsRefusedDocument document.now)) }
+{
+    let kept = kept_run(alloc, document)?;
+    Ok(account(alloc, options, kept)?)
+}

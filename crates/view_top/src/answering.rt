@@ -1,0 +1,80 @@
+ghost use Rattle.std.specs.Prelude.{◌≡◌, ◌≢◌, IfOk, IfErr};
+ghost use Rattle.front_end.specs.Texts.{IsStop};
+ghost use Rattle.view_top.specs.Answers.{made, usage, view_made, view_refused, IsAnswer};
+ghost use Rattle.view_top.specs.Command.{IsViewInRange};
+
+use crate::accounts::account_document;
+use crate::charts::draw_document;
+use crate::options::View;
+use crate::status::ViewStatus;
+use dn_base::{Memory, Sequence};
+use front_end::Stop;
+use run_report::{Refusal, refusal_line};
+use std::alloc::Global;
+
+/// A status, and all that is to be written.
+#[derive(Debug, Drop)]
+pub struct Output {
+    pub status: ViewStatus,
+    pub bytes: Sequence<u8>,
+}
+
+/// The output of what was made.
+pub(crate) fn done_with(text: Vec<u8>) -> Output
+    ensures { result ≡ made text.items }
+{
+    Output {
+        status: ViewStatus::Done,
+        bytes: Sequence::from_vec(text),
+    }
+}
+
+/// The output that refuses the command words.
+///
+/// # Errors
+/// `Memory` where there is no room for its line.
+pub(crate) fn refused_words(alloc: Global) -> Result<Output, Memory>
+    ensures { IfOk result (λ output. output ≡ usage) }
+{
+    let line = refusal_line(alloc, &Refusal::Usage)?;
+    Ok(Output {
+        status: ViewStatus::Usage,
+        bytes: Sequence::from_vec(line),
+    })
+}
+
+/// What each mode makes of a document.
+fn view_made(alloc: Global, view: &View, document: &[u8]) -> Result<Output, Stop>
+    requires { IsViewInRange view.now }
+    ensures made { IfOk result (view_made view.now document.now) }
+    ensures stop { IfErr result (IsStop (view_refused view.now document.now)) }
+{
+    match view {
+        View::Chart(options) => draw_document(alloc, options, document),
+        View::Account(options) => account_document(alloc, options, document),
+    }
+}
+
+/// The answer to what the words ask for and the document of a run.
+///
+/// A document is refused as the mode replay of denovo refuses it, with the same line. In the mode chart the answer is the message chart
+/// of the run, as an SVG text. The events that have rows are those that the options ask for, and those of the run's longest chain of
+/// dependent events, by the options' ticks, have a line through them. Where the first row would be behind the run's last event, the words
+/// are refused. In the mode account it is the account of the run in the groups and the form that the options ask for, as a text below the
+/// report of the run, which is what the mode run of denovo prints.
+///
+/// # Errors
+/// `Memory` where there is no room for the run, for what is made of it or for the text.
+pub fn answer(alloc: Global, view: &View, document: &[u8]) -> Result<Output, Memory>
+    requires { IsViewInRange view.now }
+    ensures { IfOk result (IsAnswer view.now document.now) }
+{
+    match view_made(alloc, view, document) {
+        Ok(output) => Ok(output),
+        Err(Stop::Refused(line)) => Ok(Output {
+            status: ViewStatus::Refused,
+            bytes: line,
+        }),
+        Err(Stop::Memory) => Err(Memory),
+    }
+}

@@ -1,0 +1,21 @@
+//! The program view, all but its `main`: from command words and the document of a run to what the words ask to see of the run.
+#![tactic(auto)]
+
+mod accounts;
+mod answering;
+mod charts;
+mod command;
+mod documents;
+mod options;
+mod program;
+mod reading;
+mod serving;
+mod status;
+
+pub use answering::{Output, answer};
+pub use command_words::WordsFault;
+pub use options::{AccountOptions, ChartOptions, View};
+pub use program::view_program;
+pub use reading::read_words;
+pub use serving::view_main;
+pub use status::ViewStatus;

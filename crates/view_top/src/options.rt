@@ -1,0 +1,36 @@
+use account_table::Grouping;
+use account_text::Form;
+
+/// What is made of the run of a document, and with which options. Each mode has its own options, and those of the other modes are
+/// left unused.
+#[derive(Clone, Copy, Debug, PartialEq, Eq)]
+pub enum View {
+    /// The message chart of the run, as an SVG text.
+    Chart(ChartOptions),
+    /// What the run cost and why, in numbers.
+    Account(AccountOptions),
+}
+
+/// What the words ask of a chart.
+#[derive(Clone, Copy, Debug, PartialEq, Eq)]
+pub struct ChartOptions {
+    /// The number of the first event that has a row, from 0.
+    pub first: u32,
+    /// How many rows there are at most, from 1 to 4,096.
+    pub rows: u32,
+    /// Ticks of a core's own event, from 1 to 1,000,000.
+    pub tick_core: u32,
+    /// Ticks of a bank's event, from 1 to 1,000,000.
+    pub tick_bank: u32,
+    /// Ticks of each other event, from 1 to 1,000,000.
+    pub tick_mail: u32,
+}
+
+/// What the words ask of an account.
+#[derive(Clone, Copy, Debug, PartialEq, Eq)]
+pub struct AccountOptions {
+    /// What the groups of its numbers are.
+    pub by: Grouping,
+    /// How it is printed.
+    pub form: Form,
+}

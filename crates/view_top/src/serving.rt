@@ -1,0 +1,81 @@
+ghost use Rattle.std.specs.Prelude.{ℕ, List, Some, IfOk, map, string_bytes};
+ghost use Rattle.program_outside.specs.Outside.{devices, sink_at};
+ghost use Rattle.view_top.specs.declared.options.View.{View as ViewOf};
+ghost use Rattle.view_top.specs.Answers.{usage, IsAnswer};
+ghost use Rattle.view_top.specs.Command.{view_of, IsViewInRange};
+ghost use Rattle.view_top.specs.Serving.{IsReplied, IsWritten, Serves};
+
+use crate::answering::{Output, answer};
+use crate::options::View;
+use crate::reading::read_words;
+use crate::status::ViewStatus;
+use command_words::WordsFault;
+use dn_base::{MOST_OF_DOCUMENT, Memory, Sink, Source};
+use program_outside::{ReadError, read_text, write_text};
+use std::alloc::Global;
+
+/// Writes the bytes, and tells this status, or `WriteFault` where the sink failed.
+fn finish<K: Sink>(sink: &mut K, bytes: &[u8], status: ViewStatus) -> ViewStatus
+    ensures { IsWritten (record { status = status; bytes = bytes.now }) (sink_at (K.content sink.old) (K.flushed sink.old) (K.faults sink.old)) (sink_at (K.content sink.new) (K.flushed sink.new) (K.faults sink.new)) result }
+{
+    match write_text(sink, bytes) {
+        Ok(()) => status,
+        Err(_) => ViewStatus::WriteFault,
+    }
+}
+
+/// Refuses the command words.
+#[tactic(auto, unfolding(run_report::specs::Refusal::refusal_of))]
+fn refuse_words<K: Sink>(sink: &mut K) -> ViewStatus
+    ensures { IsWritten usage (sink_at (K.content sink.old) (K.flushed sink.old) (K.faults sink.old)) (sink_at (K.content sink.new) (K.flushed sink.new) (K.faults sink.new)) result }
+{
+    finish(sink, b"refused usage\n", ViewStatus::Usage)
+}
+
+/// Writes the answer to a document, where there was memory for it.
+fn reply<K: Sink>(sink: &mut K, output: Result<Output, Memory>) -> ViewStatus
+    ensures { (v : ViewOf) (document : List ℕ) → IfOk output (IsAnswer v document)
+        → IsReplied v document (sink_at (K.content sink.old) (K.flushed sink.old) (K.faults sink.old)) (sink_at (K.content sink.new) (K.flushed sink.new) (K.faults sink.new)) result }
+{
+    match output {
+        Ok(Output { status, bytes }) => finish(sink, bytes.as_slice(), status),
+        Err(_) => ViewStatus::Memory,
+    }
+}
+
+/// Answers the document that the source has.
+fn serve<S: Source, K: Sink>(alloc: Global, view: &View, source: &mut S, sink: &mut K) -> ViewStatus
+    requires { IsViewInRange view.now }
+    ensures { Serves (Some view.now)
+        (devices (S.content source.old) (S.faults source.old) (K.content sink.old) (K.flushed sink.old) (K.faults sink.old))
+        (devices (S.content source.new) (S.faults source.new) (K.content sink.new) (K.flushed sink.new) (K.faults sink.new)) result }
+{
+    match read_text(alloc, MOST_OF_DOCUMENT + 1, source) {
+        Ok(document) => reply(sink, answer(alloc, view, document.as_slice())),
+        Err(ReadError::Failed) => ViewStatus::ReadFault,
+        Err(ReadError::NoMemory) => ViewStatus::Memory,
+    }
+}
+
+/// The whole program but its `main`: answers these command words and this source, and tells how it ended.
+///
+/// `Usage` where the words aren't the command's; the source is then left alone. Else the source is read to its end, or one byte past
+/// the most that the document of a run may have, and what was read is answered as `answer` says, with its status. The whole answer is
+/// made, and only then written and flushed. `ReadFault` and `WriteFault` come where the source or the sink failed, and `Memory`
+/// where there was no memory: the sink has then taken no more than a prefix of the answer, and nothing where it didn't fail.
+pub fn view_main<S: Source, K: Sink>(
+    alloc: Global,
+    words: &[String],
+    source: &mut S,
+    sink: &mut K,
+) -> ViewStatus
+    ensures serves { Serves (view_of (map string_bytes words.now))
+        (devices (S.content source.old) (S.faults source.old) (K.content sink.old) (K.flushed sink.old) (K.faults sink.old))
+        (devices (S.content source.new) (S.faults source.new) (K.content sink.new) (K.flushed sink.new) (K.faults sink.new)) result }
+{
+    match read_words(alloc, words) {
+        Ok(view) => serve(alloc, &view, source, sink),
+        Err(WordsFault::Usage) => refuse_words(sink),
+        Err(WordsFault::Memory) => ViewStatus::Memory,
+    }
+}
