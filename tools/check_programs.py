@@ -3,9 +3,9 @@
 .ci/run does, `tools/check_programs.py`. With `--quick` it takes whatever the launchers run, also builds without proof.
 
 It looks that the command words are handed on, that each exit code from 0 to 7 comes out, and 9 for words that aren't UTF-8, that a
-run goes by a pipe into its picture and its account, that accounts are those of tools/reference.py, that explained answers are those of
+run goes by a pipe into its picture, its account and its states, that all three are those of tools/reference.py, that explained answers are those of
 tools/explained.txt, that claims are judged as tools/reference.py judges them, that standard error helps, that the
-tutorial and the page on accounts show what their commands print, that the numbers of accounts, of answers to exercises and at the heads of
+tutorial and the pages on accounts and states show what their commands print, that the numbers of accounts, of answers to exercises and at the heads of
 examples are those of runs, and that the proved programs are used exactly where they were made of these sources. What a run has to write comes from tools/reference.py. It names each check that fails, and ends with a count."""
 import importlib.util
 import os
@@ -105,7 +105,7 @@ def every_exit_code_comes():
         wanted = b"refused check phase 0 plain-conflict"
         check(f"{program[0]}: exit code 2", ran.returncode == 2 and ran.stdout.startswith(wanted), ran.stdout)
     for program in programs("view"):
-        for mode in ("chart", "account"):
+        for mode in ("chart", "account", "state"):
             ran = run(program + ["--mode", mode], b"no document\n")
             check(f"{program[0]} --mode {mode}: exit code 2", (ran.returncode, ran.stdout) == (2, b"refused trace head\n"))
 
@@ -117,6 +117,14 @@ def a_run_is_drawn_by_a_pipe():
             ran = run(["bash", "-o", "pipefail", "-c", line])
             wanted = pathlib.Path("docs/charts", example + ".svg").read_bytes()
             check(line, (ran.returncode, ran.stdout) == (0, wanted))
+        for example, words, first, rows, used in (
+                ("trap", [], 0, 1000, True), ("crossed-locks", ["--seed", "1"], 0, 1000, False), ("stale-copy", [], 20, 15, True),
+                ("signature", [], 9, 1, True), ("eviction-race", ["--sets", "1", "--ways", "1"], 5, 40, False), ("many-readers", [], 30, 50, True)):
+            document = run(denovo + ["--mode", "trace"] + words, text_of(example)).stdout
+            ran = run(view + ["--first", str(first), "--rows", str(rows)] + ["--columns", "used"] * used, document)
+            wanted = reference.Chart(document, first, rows, used=used).text().encode()
+            check(f"{view[0]}: {example}, {rows} rows from event {first}", (ran.returncode, ran.stdout) == (0, wanted))
+            check(f"{example}: fewer banks", not used or wanted != reference.Chart(document, first, rows).text().encode())
         document = run(denovo + ["--mode", "trace"], text_of("store-five")).stdout
         for mode in ("chart", "account"):
             ran = run(view + ["--mode", mode], document[:document.rindex(b"\n", 0, -1) + 1].replace(b"\nevents 10\n", b"\nevents 9\n"))
@@ -145,19 +153,24 @@ def a_chart_begins_at_an_event():
 def each_mode_has_its_own_options():
     """A mode leaves the options of others unused; each has to be in its range."""
     document = run(programs("denovo")[0] + ["--mode", "trace"], text_of("store-five")).stdout
-    ranges = (("--rows", "0"), ("--rows", "4097"), ("--tick-core", "0"), ("--tick-mail", "1000001"), ("--by", "word"), ("--form", "svg"))
+    ranges = (("--rows", "0"), ("--rows", "4097"), ("--columns", "none"), ("--tick-core", "0"), ("--tick-mail", "1000001"), ("--by", "word"),
+              ("--form", "svg"), ("--event", "4294967296"))
     for view in programs("view"):
-        for mode, other in (("chart", ["--by", "core", "--form", "csv"]), ("account", ["--first", "3", "--rows", "7", "--tick-bank", "2"])):
+        for mode, other in (("chart", ["--by", "core", "--form", "csv", "--event", "99"]),
+                            ("account", ["--first", "99", "--rows", "7", "--columns", "used", "--tick-bank", "2", "--event", "99"]),
+                            ("state", ["--first", "99", "--rows", "7", "--columns", "used", "--tick-bank", "2", "--by", "core", "--form", "csv"])):
             plain = run([*view, "--mode", mode], document)
             check(f"{view[0]} --mode {mode} {' '.join(other)}", run([*view, "--mode", mode, *other], document).stdout == plain.stdout)
             for words in ranges:
                 ran = run([*view, "--mode", mode, *words], document)
                 check(f"{view[0]} --mode {mode} {' '.join(words)}", (ran.returncode, ran.stdout) == (1, b"refused usage\n"), ran.returncode)
-        for words in (("--mode", "page"), ("--mode", "state"), ("--mode", ""), ("--rows", "x"), ("--first", "-1"), ("--by", "run", "--by", "run")):
+        for words in (("--mode", "page"), ("--mode", "states"), ("--mode", ""), ("--rows", "x"), ("--first", "-1"), ("--by", "run", "--by", "run")):
             ran = run([*view, *words], document)
             check(f"{view[0]} {' '.join(words)}", (ran.returncode, ran.stdout) == (1, b"refused usage\n"), ran.returncode)
-        for words in (("--mode", "chart"), ("--rows", "1000"), ("--rows=4096", "--tick-bank", "10"), ("--by", "run", "--form=text")):
+        for words in (("--mode", "chart"), ("--rows", "1000"), ("--rows=4096", "--tick-bank", "10"), ("--columns=all",), ("--by", "run", "--form=text")):
             check(f"{view[0]} {' '.join(words)}: what isn't asked for", run([*view, *words], document).stdout == run(view, document).stdout)
+        first = run([*view, "--mode", "state"], document).stdout
+        check(f"{view[0]} --mode state: what isn't asked for", first == run([*view, "--mode", "state", "--event=0"], document).stdout != b"")
 
 
 def written(lines):
@@ -188,9 +201,50 @@ def accounts_are_those_of_the_reference():
     for text in (text_of("conflict"), b"nonsense\n"):
         document = written(reference.document(text.decode(), {"banks": 1, "sets": 1, "ways": 1, "fuel": 1}, []))
         replay = run(denovo + ["--mode", "replay"], document)
-        for mode in ("chart", "account"):
+        for mode in ("chart", "account", "state"):
             ran = run(programs("view")[0] + ["--mode", mode], document)
             check(f"a refused text, in the mode {mode}", (ran.returncode, ran.stdout) == (2, replay.stdout) and replay.returncode == 2, ran.stdout)
+
+
+def states_are_those_of_the_reference():
+    """States of documents, before events of all kinds and at the end. The documents are runs, and what the replay refuses: runs without
+    their last events, and with two neighbouring events in the other order or an event twice."""
+    denovo, statuses = programs("denovo")[0], set()
+    shapes = {"stale-copy": [[]], "signature": [["--banks", "2"]], "crossed-locks": [["--seed", "1"]], "trap": [[]], "touched-bit": [[]],
+              "eviction-race": [["--sets", "1", "--ways", "1"]], "guarded-words": [["--seed", "7", "--sets", "1", "--ways", "2"]]}
+    for example in shapes if kind == "proved" else list(shapes)[:3]:
+        for words in shapes[example]:
+            document = run(denovo + ["--mode", "trace"] + words, text_of(example)).stdout
+            head, count, lines = re.fullmatch(rb"(.*\nevents )(\d+)\n(.*)", document, re.S).groups()
+            events = lines.split(b"\n")[:-1]
+            last = len(events)
+
+            def told(rows):
+                return head + b"%d\n" % len(rows) + b"".join(row + b"\n" for row in rows)
+
+            check(f"the events of {example} {' '.join(words)}", told(events) == document and last == int(count) and last > 12)
+            middle = last // 2
+            whole = [(document, number) for number in range(0, last + 2, max(1, last // 12))] + [(document, last), (document, last + 1)]
+            short = [(told(events[:middle]), number) for number in (0, middle, middle + 1)]
+            twice = [(told(events[:at + 1] + events[at:]), last + 1) for at in (0, middle, last - 1)]
+            other = [(told(events[:at] + [events[at + 1], events[at]] + events[at + 2:]), number) for at in range(2, last - 2, 5) for number in (at, last)]
+            for shown, number in whole + short + twice + other:
+                status, wanted = reference.state(shown, number)
+                statuses.add(status)
+                for view in programs("view")[:1]:
+                    ran = run(view + ["--mode", "state", "--event", str(number)], shown)
+                    check(f"{view[0]}: the state of {example} {' '.join(words)} before event {number}, status {status}",
+                          (ran.returncode, ran.stdout) == (status, written(wanted)), ran.returncode)
+    check("states that are asked for, and those before them", statuses == {0, 1, 3}, statuses)
+    for view in programs("view"):
+        document = run(denovo + ["--mode", "trace"], b".region m, 1\n").stdout
+        ran = run(view + ["--mode", "state"], document)
+        check(f"{view[0]}: the state of a run without an event", (ran.returncode, ran.stdout) == (0, written(reference.state(document, 0)[1])))
+        for number in (1, 4294967295):
+            ran = run(view + ["--mode", "state", "--event", str(number)], document)
+            check(f"{view[0]}: --event {number}, behind the end", (ran.returncode, ran.stdout) == (1, b"refused usage\n"))
+        ran = run(view + ["--mode", "state", "--event", "1"], b"no document\n")
+        check(f"{view[0]}: what is no document has no state", (ran.returncode, ran.stdout) == (2, b"refused trace head\n"))
 
 
 def counters(cores, locks):
@@ -391,6 +445,12 @@ def standard_error_helps():
     check("an empty text", b"standard input was empty" in ran.stderr, ran.stderr)
     ran = run(["./view"], b"refused source 1 unknown-word\n")
     check("a view of a refusal", b"its input is a refusal: refused source 1 unknown-word" in ran.stderr, ran.stderr)
+    document = run(["./denovo", "--mode", "trace"], text_of("store-five")).stdout.replace(b"\ni 0\n", b"\na 0\n", 1)
+    for words in (["./denovo", "--mode", "replay"], ["./view"]):
+        ran = run(words, document)
+        check(f"{words[0]} of a document without a run", ran.stdout == b"refused trace not-enabled 0\n" and b"./view --mode state --event N" in ran.stderr, ran.stderr)
+    ran = run(["./view", "--mode", "state", "--event", "1"], document)
+    check("a state that isn't reached", ran.returncode == 3 and b"docs/STATE.md" in ran.stderr and b"trapped" not in ran.stderr, ran.stderr)
     for example, words in (("conflict", b"Conflicts"), ("trap", b"Traps"), ("endless", b"Traps")):
         check(f"the page on {example}", words in run(["./denovo"], text_of(example)).stderr)
     for example, words in (("conflict", []), ("trap", []), ("endless", []), ("crossed-locks", ["--seed", "1"])):
@@ -528,17 +588,19 @@ def account_of(example, words, by="run"):
 
 
 def by_the_reference(command):
-    """What the second program has to say of a command that makes an account, as a text; nothing for other commands."""
-    made = re.fullmatch(r"\./denovo (.*)--mode trace < examples/(\S+)\.s \| \./view --mode account(?: --by (\w+))?", command)
+    """What the second program has to say of a command that makes an account, as a text, or shows a state; nothing for other commands."""
+    made = re.fullmatch(r"\./denovo (.*)--mode trace < examples/(\S+)\.s \| \./view --mode (account|state)(?: --(?:by|event) (\w+))?", command)
     if not made:
         return None
     document = written(reference.answer(["--mode", "trace"] + made[1].split(), text_of(made[2]).decode())[1])
-    return written(reference.account(document, made[3] or "run", "text")[1])
+    if made[3] == "state":
+        return written(reference.state(document, int(made[4] or "0"))[1])
+    return written(reference.account(document, made[4] or "run", "text")[1])
 
 
 def pages_show_what_is_printed():
     """Each block behind a command of these pages is a part of what the command prints, and for an account of what it has to print."""
-    for page in ("docs/TUTORIAL.md", "docs/ACCOUNT.md", "docs/COMPARING.md"):
+    for page in ("docs/TUTORIAL.md", "docs/ACCOUNT.md", "docs/STATE.md", "docs/COMPARING.md"):
         text = pathlib.Path(page).read_text()
         for command, block in re.findall(r"^    ((?:\./denovo|examples/)[^\n]*)\n\n```\n(.*?)^```$", text, re.M | re.S):
             ran = run(["bash", "-c", command])
@@ -651,6 +713,7 @@ a_run_is_drawn_by_a_pipe()
 a_chart_begins_at_an_event()
 each_mode_has_its_own_options()
 accounts_are_those_of_the_reference()
+states_are_those_of_the_reference()
 answers_are_explained()
 answers_of_other_texts_are_refused()
 answers_before_any_text_are_taken()

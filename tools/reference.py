@@ -1421,45 +1421,44 @@ ABOUT_WORD = ("read-req", "read-fwd", "data-reply", "reg-req", "reg-fwd", "reg-a
 ABOUT_LOCK = ("acquire", "release", "grant")
 
 
+ALU_NAMES = {key: name for name, key in PLAIN.items()}
+NAMES_OF = {kind: {number: name for name, number in names.items()} for kind, names in
+            (("branch", BRANCHES), ("load", LOADS), ("store", STORES))}
+
+
 def instruction_text(word):
-    """A code word as a listing writes it."""
-    i = decode(word)
-    if i is None:
-        return ".raw 0x%08x" % word
-    def name(table, key):
-        return next(n for n, k in table.items() if k == key)
-    def at(offset, base):
-        return "%d(x%d)" % (offset, base)
-    if i[0] == "const":
-        return "lui x%d, %d" % (i[1], word >> 12)
-    if i[0] == "auipc":
-        return "auipc x%d, %d" % (i[1], word >> 12)
-    if i[0] == "jal":
-        return "jal x%d, %d" % i[1:]
-    if i[0] == "jalr":
-        return "jalr x%d, %s" % (i[1], at(i[3], i[2]))
-    if i[0] == "branch":
-        return "%s x%d, x%d, %d" % ((name(BRANCHES, i[1]),) + i[2:])
-    if i[0] == "load":
-        return "%s x%d, %s" % (name(LOADS, i[1]), i[2], at(i[4], i[3]))
-    if i[0] == "store":
-        return "%s x%d, %s" % (name(STORES, i[1]), i[2], at(i[4], i[3]))
-    if i[0] == "alui":
-        if i[1][0] in (1, 5):
-            return "%s x%d, x%d, %d" % (name(SHIFTS, i[1]), i[2], i[3], i[4])
-        return "%s x%d, x%d, %d" % (name(SUMS, i[1][0]), i[2], i[3], signed(i[4]))
-    if i[0] == "alu":
-        return "%s x%d, x%d, x%d" % (name(PLAIN, i[1]), i[2], i[3], i[4])
-    return i[0]
+    """A code word as an instruction by its base mnemonic, or as a number where no instruction is encoded so."""
+    instr = decode(word)
+    name = instr and instr[0]
+    if name in ("const", "auipc"):
+        return "%s x%d, %d" % ("lui" if name == "const" else name, instr[1], instr[2] >> 12)
+    if name == "jal":
+        return "jal x%d, %d" % instr[1:]
+    if name == "jalr":
+        return "jalr x%d, %d(x%d)" % (instr[1], instr[3], instr[2])
+    if name == "branch":
+        return "%s x%d, x%d, %d" % ((NAMES_OF["branch"][instr[1]],) + instr[2:])
+    if name in ("load", "store"):
+        return "%s x%d, %d(x%d)" % (NAMES_OF[name][instr[1]], instr[2], instr[4], instr[3])
+    if name == "alui":
+        return "%si x%d, x%d, %d" % (ALU_NAMES[instr[1]], instr[2], instr[3], signed(instr[4])) if instr[1] != (3, 0) else \
+            "sltiu x%d, x%d, %d" % (instr[2], instr[3], signed(instr[4]))
+    if name == "alu":
+        return "%s x%d, x%d, x%d" % ((ALU_NAMES[instr[1]],) + instr[2:])
+    if name in ("ecall", "ebreak") or name == "fence" and word == 0x0FF0000F:
+        return name
+    return ".raw 0x%08x" % word
 
 
 def code_lines(text):
-    """For each code word of a text its line, and which of the line's words it is."""
-    lines = []
+    """For each code word the number of its line, and which of the line's words it is."""
+    places = []
     for number, (_, word, _) in enumerate(statements(text), 1):
-        if word is not None and (not word.startswith(".") or word == ".raw"):
-            lines += [(number, part) for part in range(2 if word in ("li", "la") else 1)]
-    return lines
+        if word in ("li", "la"):
+            places += [(number, 0), (number, 1)]
+        elif word is not None and (not word.startswith(".") or word == ".raw"):
+            places.append((number, 0))
+    return places
 
 
 class Chart:
@@ -1817,46 +1816,6 @@ def account(data, by, form="csv"):
 
 
 # ---------------------------------------------------------------- the state before an event
-
-ALU_NAMES = {key: name for name, key in PLAIN.items()}
-NAMES_OF = {kind: {number: name for name, number in names.items()} for kind, names in
-            (("branch", BRANCHES), ("load", LOADS), ("store", STORES))}
-
-
-def instruction_text(word):
-    """A code word as an instruction by its base mnemonic, or as a number where no instruction is encoded so."""
-    instr = decode(word)
-    name = instr and instr[0]
-    if name in ("const", "auipc"):
-        return "%s x%d, %d" % ("lui" if name == "const" else name, instr[1], instr[2] >> 12)
-    if name == "jal":
-        return "jal x%d, %d" % instr[1:]
-    if name == "jalr":
-        return "jalr x%d, %d(x%d)" % (instr[1], instr[3], instr[2])
-    if name == "branch":
-        return "%s x%d, x%d, %d" % ((NAMES_OF["branch"][instr[1]],) + instr[2:])
-    if name in ("load", "store"):
-        return "%s x%d, %d(x%d)" % (NAMES_OF[name][instr[1]], instr[2], instr[4], instr[3])
-    if name == "alui":
-        return "%si x%d, x%d, %d" % (ALU_NAMES[instr[1]], instr[2], instr[3], signed(instr[4])) if instr[1] != (3, 0) else \
-            "sltiu x%d, x%d, %d" % (instr[2], instr[3], signed(instr[4]))
-    if name == "alu":
-        return "%s x%d, x%d, x%d" % ((ALU_NAMES[instr[1]],) + instr[2:])
-    if name in ("ecall", "ebreak") or name == "fence" and word == 0x0FF0000F:
-        return name
-    return ".raw 0x%08x" % word
-
-
-def code_lines(text):
-    """For each code word the number of its line, and which of the line's words it is."""
-    places = []
-    for number, (_, word, _) in enumerate(statements(text), 1):
-        if word in ("li", "la"):
-            places += [(number, 0), (number, 1)]
-        elif word is not None and (not word.startswith(".") or word == ".raw"):
-            places.append((number, 0))
-    return places
-
 
 class StateText:
     """The lines that show a state: see docs/STATE.md."""

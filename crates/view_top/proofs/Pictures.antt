@@ -2,6 +2,7 @@
 use Rattle.std.proofs.Common.{◌≡◌, ℕ, ◌≤◌, List, sym, ap, subst, ◌∙◌}
 use Rattle.dn_base.specs.declared.ids.Shape.{Shape}
 use Rattle.region_table.specs.Program.{ProgramParts}
+use Rattle.text_places.specs.declared.places.Located.{Located}
 use Rattle.message_net.specs.declared.event.Event.{Event}
 use Rattle.dn_machine.specs.Settings.{IsRunOn}
 use Rattle.run_replay.specs.declared.trace.TraceShape.{TraceShape}
@@ -21,20 +22,23 @@ module _ (P : ProgramParts) (s : TraceShape) (shape : Shape) (events : List Even
   pub run-at : shape ≡ shape_told P s → IsRunOn P (shape_told P s) s.fuel events → IsRunOn P shape s.fuel events
   run-at is run = subst (λ (x : Shape). IsRunOn P x s.fuel events) (sym is) run
 
-  pub picture-is : (Q : ProgramParts) (o : ChartOptions) (ticks : Ticks) (timing : Timing) (chain : List ℕ) (range : Range) (chart : Chart) (text : List ℕ) (out : Output) → Q ≡ P → shape ≡ shape_told P s
+  pub picture-is : (Q : ProgramParts) (L : Located) (o : ChartOptions) (ticks : Ticks) (timing : Timing) (chain : List ℕ) (range : Range) (chart : Chart) (text : List ℕ) (out : Output) → Q ≡ P → L.program ≡ P → shape ≡ shape_told P s
       → ticks ≡ chart_ticks o → range ≡ range_for o → chain ≡ numbers_in timing.links.items → o.first ≤ last_number events → IsTimingOf P shape s.fuel events ticks timing
-      → IsChartOf Q shape s.fuel events range chain chart → text ≡ svg_of chart → out ≡ made text → IsPicture P s o events out
-  picture-is Q o ticks timing chain range chart text out same is ticks_are range_is chain_is within times charted says answer =
+      → IsChartOf Q shape s.fuel events range chain o.columns chart → text ≡ svg_of chart L → out ≡ made text → IsPicture L s o events out
+  picture-is Q L o ticks timing chain range chart text out same beside is ticks_are range_is chain_is within times charted says answer =
       record {
         within = within;
         timing = timing;
         times =
-            subst (λ (x : Ticks). IsTimingOf P (shape_told P s) s.fuel events x timing) ticks_are
-            (subst (λ (x : Shape). IsTimingOf P x s.fuel events ticks timing) is times);
+            subst (λ (p : ProgramParts). IsTimingOf p (shape_told p s) s.fuel events (chart_ticks o) timing) (sym beside)
+            (subst (λ (x : Ticks). IsTimingOf P (shape_told P s) s.fuel events x timing) ticks_are
+            (subst (λ (x : Shape). IsTimingOf P x s.fuel events ticks timing) is times));
         chart = chart;
         is =
-            subst (λ (x : List ℕ). IsChartOf P (shape_told P s) s.fuel events (range_for o) x chart) chain_is
-            (subst (λ (x : Range). IsChartOf P (shape_told P s) s.fuel events x chain chart) range_is
-            (subst (λ (x : Shape). IsChartOf P x s.fuel events range chain chart) is (subst (λ (p : ProgramParts). IsChartOf p shape s.fuel events range chain chart) same charted)));
+            subst (λ (p : ProgramParts). IsChartOf p (shape_told p s) s.fuel events (range_for o) (numbers_in timing.links.items) o.columns chart) (sym beside)
+            (subst (λ (x : List ℕ). IsChartOf P (shape_told P s) s.fuel events (range_for o) x o.columns chart) chain_is
+            (subst (λ (x : Range). IsChartOf P (shape_told P s) s.fuel events x chain o.columns chart) range_is
+            (subst (λ (x : Shape). IsChartOf P x s.fuel events range chain o.columns chart) is
+            (subst (λ (p : ProgramParts). IsChartOf p shape s.fuel events range chain o.columns chart) same charted))));
         answer = answer ∙ ap made says;
       }

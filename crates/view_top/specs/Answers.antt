@@ -1,7 +1,9 @@
 -- What the program answers to words and a document.
-use Rattle.std.specs.Prelude.{◌≡◌, ◌⊎◌, ℕ, ◌-◌, ◌<◌, ◌≤◌, List, [], ◌++◌, length}
+use Rattle.std.specs.Prelude.{◌≡◌, ◌⊎◌, ℕ, ◌-◌, ◌<◌, ◌≤◌, ◌==◌, List, [], ◌++◌, length, if◌then◌else◌}
 use Rattle.dn_base.specs.declared.ids.Shape.{Shape}
 use Rattle.region_table.specs.Program.{ProgramParts}
+use Rattle.text_places.specs.declared.places.Located.{Located}
+use Rattle.text_places.specs.Places.{text_places}
 use Rattle.message_net.specs.declared.event.Event.{Event}
 use Rattle.registration_protocol.specs.Node.{Setting}
 use Rattle.machine_rules.specs.State.{initial_state}
@@ -23,15 +25,19 @@ use Rattle.message_chart.specs.declared.chart.Chart.{Chart}
 use Rattle.message_chart.specs.Picture.{svg_of}
 use Rattle.run_chart.specs.declared.drawing.Range.{Range}
 use Rattle.run_chart.specs.Charts.{IsChartOf}
-use Rattle.front_end.specs.Texts.{HasChecked, usage_line}
+use Rattle.state_text.specs.declared.answer.StateAnswer.{StateAnswer}
+use Rattle.state_text.specs.Reached.{IsAnswerOf}
+use Rattle.front_end.specs.Texts.{HasChecked, IsUnfit, usage_line}
 use Rattle.dn_top.specs.Answers.{IsRefusedDocument}
-use Rattle.dn_top.specs.Documents.{HasTrace, IsRunTold, shape_told}
+use Rattle.dn_top.specs.Documents.{HasTrace, IsNoDocument, IsRunTold, shape_told}
 use Rattle.dn_top.specs.Runs.{reported}
 use Rattle.view_top.specs.declared.answering.Output.{Output}
 use Rattle.view_top.specs.declared.options.View.{View}
 use Rattle.view_top.specs.declared.options.View.TheVariants as view
 use Rattle.view_top.specs.declared.options.ChartOptions.{ChartOptions}
 use Rattle.view_top.specs.declared.options.AccountOptions.{AccountOptions}
+use Rattle.view_top.specs.declared.options.StateOptions.{StateOptions}
+use Rattle.view_top.specs.declared.status.ViewStatus.{ViewStatus}
 use Rattle.view_top.specs.declared.status.ViewStatus.TheVariants as status
 
 -- ---- the run of a document
@@ -42,10 +48,14 @@ pub record HasToldRun (P : ProgramParts) (t : Trace) (Holds : RunRecord → Type
   pub told : IsRunTold P t run
   pub holds : Holds run
 
--- the bytes are the document of a complete run of a checked program, and this holds of the program, of the machine's size and fuel, and
--- of the run
-abbrev pub HasKeptRun : List ℕ → (ProgramParts → TraceShape → RunRecord → Type 0) → Type 0
-HasKeptRun document Holds = HasTrace document (λ t. HasChecked t.text (λ P. HasToldRun P t (Holds P t.shape)))
+-- the program of a text, and where its parts stand in the text
+abbrev pub located : ProgramParts → List ℕ → Located
+located P text = record { program = P; places = text_places text }
+
+-- the bytes are the document of a complete run of a checked program, and this holds of the program in its text, of the machine's size
+-- and fuel, and of the run
+abbrev pub HasKeptRun : List ℕ → (Located → TraceShape → RunRecord → Type 0) → Type 0
+HasKeptRun document Holds = HasTrace document (λ t. HasChecked t.text (λ P. HasToldRun P t (Holds (located P t.text) t.shape)))
 
 -- ---- what is written
 
@@ -71,23 +81,23 @@ chart_ticks o = ticks_by o.tick_core o.tick_bank o.tick_mail
 abbrev pub last_number : List Event → ℕ
 last_number events = length events - 1
 
--- the output is the picture of the run's chart, with the rows that the options ask for and a line through the events of the run's
--- longest chain
-pub record IsPicture (P : ProgramParts) (s : TraceShape) (o : ChartOptions) (events : List Event) (out : Output) : Type 0 where
+-- the output is the picture of the run's chart, with the rows and the columns that the options ask for, and with marks on the events of
+-- the run's longest chain; words, code words and locks are called by the text
+pub record IsPicture (L : Located) (s : TraceShape) (o : ChartOptions) (events : List Event) (out : Output) : Type 0 where
   pub within : o.first ≤ last_number events
   pub timing : Timing
-  pub times : IsTimingOf P (shape_told P s) s.fuel events (chart_ticks o) timing
+  pub times : IsTimingOf L.program (shape_told L.program s) s.fuel events (chart_ticks o) timing
   pub chart : Chart
-  pub is : IsChartOf P (shape_told P s) s.fuel events (range_for o) (numbers_in timing.links.items) chart
-  pub answer : out ≡ made (svg_of chart)
+  pub is : IsChartOf L.program (shape_told L.program s) s.fuel events (range_for o) (numbers_in timing.links.items) o.columns chart
+  pub answer : out ≡ made (svg_of chart L)
 
 -- the picture would begin behind the run's last event, and the words are refused
 pub record IsPastEnd (o : ChartOptions) (events : List Event) (out : Output) : Type 0 where
   pub behind : last_number events < o.first
   pub answer : out ≡ usage
 
-abbrev pub IsDrawn : ProgramParts → TraceShape → ChartOptions → RunRecord → Output → Type 0
-IsDrawn P s o r out = IsPicture P s o r.events out ⊎ IsPastEnd o r.events out
+abbrev pub IsDrawn : Located → TraceShape → ChartOptions → RunRecord → Output → Type 0
+IsDrawn L s o r out = IsPicture L s o r.events out ⊎ IsPastEnd o r.events out
 
 -- ---- an account
 
@@ -108,17 +118,45 @@ pub record IsAccount (P : ProgramParts) (s : TraceShape) (o : AccountOptions) (r
   pub counted : IsAccountOf P (shape_told P s) s.fuel r.events o.by tallies
   pub answer : out ≡ made (heading_of o.form r ++ account_text o.form P tallies)
 
+-- ---- a state
+
+-- whether the state is shown before the event that is asked for, or before an earlier one
+abbrev pub status_at : ℕ → ℕ → ViewStatus
+status_at asked place = if place == asked then status.Done else status.Unreached
+
+-- the output is the state before the event that is asked for, or before the first that may not come
+pub record IsShown (P : ProgramParts) (t : Trace) (o : StateOptions) (out : Output) : Type 0 where
+  pub within : o.event ≤ length t.events
+  pub shown : StateAnswer
+  pub is : IsAnswerOf P (shape_told P t.shape) t.shape.fuel (text_places t.text) t.events o.event shown
+  pub answer : out ≡ record { status = status_at o.event shown.event; bytes = shown.text.items }
+
+-- the document has fewer events than are asked for, and the words are refused
+pub record IsBehindEnd (t : Trace) (o : StateOptions) (out : Output) : Type 0 where
+  pub behind : length t.events < o.event
+  pub answer : out ≡ usage
+
+abbrev pub IsStateShown : ProgramParts → Trace → StateOptions → Output → Type 0
+IsStateShown P t o out = IsShown P t o out ⊎ IsBehindEnd t o out
+
+-- the bytes are no document, or its text has no program that could be run; the line says why
+abbrev pub IsWithoutProgram : List ℕ → List ℕ → Type 0
+IsWithoutProgram document line = IsNoDocument document line ⊎ HasTrace document (λ t. IsUnfit t.text line)
+
 -- ---- a row for each mode
 
 -- what each mode makes of a document
 abbrev pub view_made : View → List ℕ → Output → Type 0
-view_made (view.Chart o) document out = HasKeptRun document (λ P s r. IsDrawn P s o r out)
-view_made (view.Account o) document out = HasKeptRun document (λ P s r. IsAccount P s o r out)
+view_made (view.Chart o) document out = HasKeptRun document (λ L s r. IsDrawn L s o r out)
+view_made (view.Account o) document out = HasKeptRun document (λ L s r. IsAccount L.program s o r out)
+view_made (view.State o) document out = HasTrace document (λ t. HasChecked t.text (λ P. IsStateShown P t o out))
 
--- which documents each mode refuses, and with which line: those that the mode replay of denovo refuses, with its line
+-- which documents each mode refuses, and with which line: those that the mode replay of denovo refuses, with its line; for a state the
+-- events needn't be a run
 abbrev pub view_refused : View → List ℕ → List ℕ → Type 0
 view_refused (view.Chart o) document line = IsRefusedDocument document line
 view_refused (view.Account o) document line = IsRefusedDocument document line
+view_refused (view.State o) document line = IsWithoutProgram document line
 
 -- ---- answers
 

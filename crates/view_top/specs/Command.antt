@@ -9,11 +9,14 @@ use Rattle.account_table.specs.declared.item.Grouping.{Grouping}
 use Rattle.account_table.specs.declared.item.Grouping.TheVariants as by
 use Rattle.account_text.specs.declared.form.Form.{Form}
 use Rattle.account_text.specs.declared.form.Form as form
+use Rattle.run_chart.specs.declared.finishing.Columns.{Columns}
+use Rattle.run_chart.specs.declared.finishing.Columns as columns
 use Rattle.command_words.specs.Words.{bare, faults_in, number_in, number_rule, text_rule, values_in, where_taken}
 use Rattle.view_top.specs.declared.options.View.{View}
 use Rattle.view_top.specs.declared.options.View as view
 use Rattle.view_top.specs.declared.options.ChartOptions.{ChartOptions}
 use Rattle.view_top.specs.declared.options.AccountOptions.{AccountOptions}
+use Rattle.view_top.specs.declared.options.StateOptions.{StateOptions}
 
 -- ---- the command
 
@@ -21,18 +24,20 @@ use Rattle.view_top.specs.declared.options.AccountOptions.{AccountOptions}
 abbrev pub open_number_rule : Text → Rule
 open_number_rule name = record (new_rule name) { long = Some name; action = Some Set; parser = Some (parser.Signed (pos 0) (pos 4294967295)) }
 
--- the command `view` with its eight options
+-- the command `view` with its ten options
 unfoldable pub view_command : App
 view_command =
-    with_rule (with_rule (with_rule (with_rule (with_rule (with_rule (with_rule (with_rule (bare (new_app (codes "view")))
+    with_rule (with_rule (with_rule (with_rule (with_rule (with_rule (with_rule (with_rule (with_rule (with_rule (bare (new_app (codes "view")))
     (text_rule (codes "mode") (codes "chart")))
     (number_rule (codes "first") (codes "0")))
     (open_number_rule (codes "rows")))
+    (text_rule (codes "columns") (codes "all")))
     (number_rule (codes "tick-core") (codes "1")))
     (number_rule (codes "tick-bank") (codes "10")))
     (number_rule (codes "tick-mail") (codes "5")))
     (text_rule (codes "by") (codes "run")))
-    (text_rule (codes "form") (codes "text"))
+    (text_rule (codes "form") (codes "text")))
+    (number_rule (codes "event") (codes "0"))
 
 -- ---- what the values of its options ask for
 
@@ -45,18 +50,30 @@ where_given (Some text) asked otherwise = asked
 abbrev pub rows_in : List Row → ℕ → ℕ → Option ℕ
 rows_in rows otherwise most = where_given (first_of (codes "rows") rows) (number_in rows (codes "rows") 1 most) otherwise
 
+-- the banks that have a column
+abbrev pub columns_named : Text → Option Columns
+columns_named text =
+    if bytes_eq text (codes "all") then Some columns.TheVariants.All
+    else if bytes_eq text (codes "used") then Some columns.TheVariants.Used
+    else None
+
+abbrev pub columns_in : List Row → Option Columns
+columns_in rows = option_and_then columns_named (first_of (codes "columns") rows)
+
 -- what a chart is asked, where each number is in its range
 unfoldable pub chart_options_from : List Row → Option ChartOptions
 chart_options_from rows =
     option_and_then (λ (first : ℕ).
     option_and_then (λ (most : ℕ).
+    option_and_then (λ (shown : Columns).
     option_and_then (λ (tick_core : ℕ).
     option_and_then (λ (tick_bank : ℕ).
     option_and_then (λ (tick_mail : ℕ).
-    Some (record { first = first; rows = most; tick_core = tick_core; tick_bank = tick_bank; tick_mail = tick_mail }))
+    Some (record { first = first; rows = most; columns = shown; tick_core = tick_core; tick_bank = tick_bank; tick_mail = tick_mail }))
     (number_in rows (codes "tick-mail") 1 1000000))
     (number_in rows (codes "tick-bank") 1 1000000))
     (number_in rows (codes "tick-core") 1 1000000))
+    (columns_in rows))
     (rows_in rows 1000 4096))
     (number_in rows (codes "first") 0 4294967295)
 
@@ -90,11 +107,19 @@ account_options_from rows =
     (form_in rows))
     (grouping_in rows)
 
+-- what a state is asked
+unfoldable pub state_options_from : List Row → Option StateOptions
+state_options_from rows =
+    option_and_then (λ (event : ℕ).
+    Some (record { event = event }))
+    (number_in rows (codes "event") 0 4294967295)
+
 -- the mode that a text names, with what its own options ask for
-abbrev pub view_named : ChartOptions → AccountOptions → Text → Option View
-view_named chart account text =
+abbrev pub view_named : ChartOptions → AccountOptions → StateOptions → Text → Option View
+view_named chart account state text =
     if bytes_eq text (codes "chart") then Some (view.TheVariants.Chart chart)
     else if bytes_eq text (codes "account") then Some (view.TheVariants.Account account)
+    else if bytes_eq text (codes "state") then Some (view.TheVariants.State state)
     else None
 
 -- what the values of all options ask for: each is in its range, also where the mode leaves it unused
@@ -102,8 +127,10 @@ unfoldable pub view_from : List Row → Option View
 view_from rows =
     option_and_then (λ (chart : ChartOptions).
     option_and_then (λ (account : AccountOptions).
-    option_and_then (view_named chart account)
+    option_and_then (λ (state : StateOptions).
+    option_and_then (view_named chart account state)
     (first_of (codes "mode") rows))
+    (state_options_from rows))
     (account_options_from rows))
     (chart_options_from rows)
 
@@ -120,7 +147,8 @@ pub record IsChartInRange (o : ChartOptions) : Type 0 where
   pub tick_bank : IsInRange 1 1000000 o.tick_bank
   pub tick_mail : IsInRange 1 1000000 o.tick_mail
 
--- each number of a mode is; an account has none
+-- each number of a mode is; an account and a state have none that is limited
 abbrev pub IsViewInRange : View → Type 0
 IsViewInRange (view.TheVariants.Chart o) = IsChartInRange o
 IsViewInRange (view.TheVariants.Account o) = Unit {0}
+IsViewInRange (view.TheVariants.State o) = Unit {0}

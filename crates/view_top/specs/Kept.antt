@@ -1,6 +1,6 @@
 -- The run of a document, as the calls inside hand it on.
 use Rattle.std.specs.Prelude.{◌≡◌, ◌≤◌, length}
-use Rattle.region_table.specs.Program.{ProgramParts}
+use Rattle.text_places.specs.declared.places.Located.{Located}
 use Rattle.dn_machine.specs.declared.record.RunRecord.{RunRecord}
 use Rattle.dn_machine.specs.Settings.{IsRunOn}
 use Rattle.run_replay.specs.declared.trace.TraceShape.{TraceShape}
@@ -9,14 +9,15 @@ use Rattle.dn_top.specs.Documents.{shape_told}
 use Rattle.dn_top.specs.Runs.{IsPrintable}
 use Rattle.view_top.specs.declared.documents.KeptRun.{KeptRun}
 
--- the program is there twice
-abbrev pub kept_run_of : ProgramParts → TraceShape → RunRecord → KeptRun
-kept_run_of P sizes run = record { sizes = sizes; run = run; program = P; again = P }
+-- the program is there twice, and once more in its text
+abbrev pub kept_run_of : Located → TraceShape → RunRecord → KeptRun
+kept_run_of L sizes run = record { sizes = sizes; run = run; program = L.program; again = L.program; located = L }
 
 -- what is known of such a run, so that a mode may make its events once more and print it
 pub record IsViewable (k : KeptRun) : Type 0 where
   pub sizes : IsTraceShape k.sizes
   pub few : length k.run.events ≤ 25169664
   pub again : k.again ≡ k.program
+  pub located : k.located.program ≡ k.program
   pub run : IsRunOn k.program (shape_told k.program k.sizes) k.sizes.fuel k.run.events
   pub printable : IsPrintable k.run

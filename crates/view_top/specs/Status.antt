@@ -9,6 +9,7 @@ abbrev pub view_code : ViewStatus → ℕ
 view_code status.TheVariants.Done = 0
 view_code status.TheVariants.Usage = 1
 view_code status.TheVariants.Refused = 2
+view_code status.TheVariants.Unreached = 3
 view_code status.TheVariants.ReadFault = 6
 view_code status.TheVariants.WriteFault = 7
 view_code status.TheVariants.Memory = 8

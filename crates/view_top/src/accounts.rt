@@ -70,6 +70,7 @@ fn account(alloc: Global, options: &AccountOptions, kept: KeptRun) -> Result<Out
         run,
         program,
         again,
+        located: _,
     } = kept;
     let account = counted(alloc, sizes, run.events.as_slice(), options.by, program)?;
     let mut text = heading(alloc, options.form, &run)?;

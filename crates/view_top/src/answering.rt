@@ -6,6 +6,7 @@ ghost use Rattle.view_top.specs.Command.{IsViewInRange};
 use crate::accounts::account_document;
 use crate::charts::draw_document;
 use crate::options::View;
+use crate::states::show_state;
 use crate::status::ViewStatus;
 use dn_base::{Memory, Sequence};
 use front_end::Stop;
@@ -52,16 +53,21 @@ fn view_made(alloc: Global, view: &View, document: &[u8]) -> Result<Output, Stop
     match view {
         View::Chart(options) => draw_document(alloc, options, document),
         View::Account(options) => account_document(alloc, options, document),
+        View::State(options) => show_state(alloc, options, document),
     }
 }
 
 /// The answer to what the words ask for and the document of a run.
 ///
 /// A document is refused as the mode replay of denovo refuses it, with the same line. In the mode chart the answer is the message chart
-/// of the run, as an SVG text. The events that have rows are those that the options ask for, and those of the run's longest chain of
-/// dependent events, by the options' ticks, have a line through them. Where the first row would be behind the run's last event, the words
-/// are refused. In the mode account it is the account of the run in the groups and the form that the options ask for, as a text below the
-/// report of the run, which is what the mode run of denovo prints.
+/// of the run, as an SVG text. The events that have rows and the banks that have columns are those that the options ask for, and the
+/// events of the run's longest chain of dependent events, by the options' ticks, are marked. Where the first row would be behind the run's
+/// last event, the words are refused. In the mode account it is the account of the run in the groups and the form that the options ask
+/// for, as a text below the report of the run, which is what the mode run of denovo prints.
+///
+/// In the mode state it is the state before the event that the options ask for, and what may come there. It takes a document also if its
+/// events are no complete run; where one of those before the event may not come, the state is the one before that, with the status
+/// `Unreached`. Where the document has fewer events than are asked for, the words are refused.
 ///
 /// # Errors
 /// `Memory` where there is no room for the run, for what is made of it or for the text.

@@ -25,6 +25,7 @@ use run_chart::{Range, chart};
 use run_replay::TraceShape;
 use run_timing::{Link, Ticks, time_run};
 use std::alloc::Global;
+use text_places::Located;
 
 /// The range of events that the options ask for.
 fn range_for(options: &ChartOptions) -> Range
@@ -63,7 +64,7 @@ fn numbers_in(alloc: Global, links: &[Link]) -> Result<Sequence<u32>, Memory>
     Ok(numbers)
 }
 
-/// The picture of a run's chart. The program is handed in twice, as the timing and the chart use up one each.
+/// The picture of a run's chart. The program is handed in twice, as the timing and the chart use up one each, and once more in its text.
 fn picture(
     alloc: Global,
     options: &ChartOptions,
@@ -71,14 +72,16 @@ fn picture(
     events: &[Event],
     program: Checked,
     again: Checked,
+    text: &Located,
 ) -> Result<Output, Memory>
     requires limits { IsChartInRange options.now }
     requires within { options.now.first ≤ last_number events.now }
     requires sizes { IsTraceShape sizes }
     requires few { length events.now ≤ 25169664 }
     requires again { again ≡ program }
+    requires text { text.now.program ≡ program }
     requires run { IsRunOn program (shape_told program sizes) sizes.fuel events.now }
-    ensures { IfOk result (IsPicture program sizes options.now events.now) }
+    ensures { IfOk result (IsPicture text.now sizes options.now events.now) }
 {
     let shape = shape_of(sizes, &program);
     let timing = time_run(
@@ -99,27 +102,29 @@ fn picture(
         events,
         range,
         chain.as_slice(),
+        options.columns,
     )?;
-    Ok(done_with(chart_text(alloc, &chart)?))
+    Ok(done_with(chart_text(alloc, &chart, text)?))
 }
 
 /// The picture of a run's chart, or the refusal of a picture that would begin behind the run's last event.
 fn draw(alloc: Global, options: &ChartOptions, kept: KeptRun) -> Result<Output, Memory>
     requires limits { IsChartInRange options.now }
     requires kept { IsViewable kept }
-    ensures { IfOk result (IsDrawn kept.program kept.sizes options.now kept.run) }
+    ensures { IfOk result (IsDrawn kept.located kept.sizes options.now kept.run) }
 {
     let KeptRun {
         sizes,
         run,
         program,
         again,
+        located,
     } = kept;
     let events = run.events.as_slice();
     if options.first as usize > last_number(events) {
         return refused_words(alloc);
     }
-    picture(alloc, options, sizes, events, program, again)
+    picture(alloc, options, sizes, events, program, again, &located)
 }
 
 /// The chart of a document's run.

@@ -17,7 +17,7 @@ fn open_number_option<'a>(alloc: Global, name: &'a str) -> Arg<'a>
         .value_parser(clap::value_parser!(u32))
 }
 
-/// The command with its eight options.
+/// The command with its ten options.
 #[tactic(auto, unfolding(crate::specs::Command::view_command))]
 pub(crate) fn view_command<'a>(alloc: Global) -> Result<Command<'a>, AllocError>
     ensures { IfOk result (λ made. app_of made ≡ view_command) }
@@ -26,10 +26,12 @@ pub(crate) fn view_command<'a>(alloc: Global) -> Result<Command<'a>, AllocError>
     let made = with_option(made, text_option(alloc, "mode", "chart"))?;
     let made = with_option(made, number_option(alloc, "first", "0"))?;
     let made = with_option(made, open_number_option(alloc, "rows"))?;
+    let made = with_option(made, text_option(alloc, "columns", "all"))?;
     let made = with_option(made, number_option(alloc, "tick-core", "1"))?;
     let made = with_option(made, number_option(alloc, "tick-bank", "10"))?;
     let made = with_option(made, number_option(alloc, "tick-mail", "5"))?;
     let made = with_option(made, text_option(alloc, "by", "run"))?;
     let made = with_option(made, text_option(alloc, "form", "text"))?;
+    let made = with_option(made, number_option(alloc, "event", "0"))?;
     Ok(made)
 }

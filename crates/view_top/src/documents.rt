@@ -1,25 +1,31 @@
-//! From a document to its run: what every mode does first that takes the document of a complete run.
-ghost use Rattle.std.specs.Prelude.{◌≡◌, IfOk, IfErr};
+//! From a document to its program and its run: what modes do first.
+ghost use Rattle.std.specs.Prelude.{◌≡◌, ◌≢◌, IfOk, IfErr, Ok, Err};
+ghost use Rattle.rv_assembler.specs.declared.fault.SourceFault.{SourceFault};
+ghost use Rattle.rv_assembler.specs.Source.{source};
+ghost use Rattle.text_places.specs.Places.{text_places};
 ghost use Rattle.front_end.specs.Texts.{IsStop};
 ghost use Rattle.dn_top.specs.Answers.{IsRefusedDocument};
 ghost use Rattle.dn_top.specs.Documents.{shape_told};
 ghost use Rattle.view_top.specs.Answers.{HasKeptRun};
 ghost use Rattle.view_top.specs.Kept.{kept_run_of, IsViewable};
 
-use dn_base::Shape;
+use dn_base::{Memory, Shape};
 use dn_top::{RunRecord, run_told, shape_told, trace_in};
 use effect_checker::Checked;
 use front_end::{Stop, checked_of};
 use run_replay::TraceShape;
 use std::alloc::Global;
+use text_places::{Located, located_program};
 
-/// The run of a document, with the size of its machine and its program. The program is there twice, since a machine uses up one.
+/// The run of a document, with the size of its machine and its program. The program is there twice, since a machine uses up one, and
+/// once more with the places of its parts in the text.
 #[derive(Drop)]
 pub(crate) struct KeptRun {
     pub(crate) sizes: TraceShape,
     pub(crate) run: RunRecord,
     pub(crate) program: Checked,
     pub(crate) again: Checked,
+    pub(crate) located: Located,
 }
 
 /// The machine of a checked program, in the size that a document tells.
@@ -29,12 +35,24 @@ pub(crate) fn shape_of(sizes: TraceShape, checked: &Checked) -> Shape
     shape_told(sizes, checked.program())
 }
 
+/// The program of a text that has one, and where its parts stand in the text.
+pub(crate) fn places_in(alloc: Global, text: &[u8]) -> Result<Located, Memory>
+    requires { (fault : SourceFault) → source text.now ≢ Err fault }
+    ensures program { IfOk result (λ located. source text.now ≡ Ok located.program) }
+    ensures places { IfOk result (λ located. located.places ≡ text_places text.now) }
+{
+    match located_program(alloc, text) {
+        Ok(located) => Ok(located),
+        Err(_) => Err(Memory),
+    }
+}
+
 /// The run of a document.
 ///
 /// # Errors
 /// `Refused` with the line by which the mode replay of denovo refuses the document, and `Memory` where there is no room.
 pub(crate) fn kept_run(alloc: Global, document: &[u8]) -> Result<KeptRun, Stop>
-    ensures kept { IfOk result (λ kept. HasKeptRun document.now (λ P sizes run. kept ≡ kept_run_of P sizes run)) }
+    ensures kept { IfOk result (λ kept. HasKeptRun document.now (λ L sizes run. kept ≡ kept_run_of L sizes run)) }
     ensures ready { IfOk result IsViewable }
     ensures stop { IfErr result (IsStop (IsRefusedDocument document.now)) }
 {
@@ -43,6 +61,7 @@ pub(crate) fn kept_run(alloc: Global, document: &[u8]) -> Result<KeptRun, Stop>
     let checked = checked_of(alloc, text)?;
     let program = checked_of(alloc, text)?;
     let again = checked_of(alloc, text)?;
+    let located = places_in(alloc, text)?;
     let sizes = trace.shape;
     let run = run_told(alloc, trace, checked)?;
     Ok(KeptRun {
@@ -50,5 +69,6 @@ pub(crate) fn kept_run(alloc: Global, document: &[u8]) -> Result<KeptRun, Stop>
         run,
         program,
         again,
+        located,
     })
 }

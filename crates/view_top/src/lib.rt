@@ -1,4 +1,5 @@
-//! The program view, all but its `main`: from command words and the document of a run to what the words ask to see of the run.
+//! The program view, all but its `main`: from command words and the document of a run to what the words ask to see of
+//! the run.
 #![tactic(auto)]
 
 mod accounts;
@@ -10,11 +11,12 @@ mod options;
 mod program;
 mod reading;
 mod serving;
+mod states;
 mod status;
 
 pub use answering::{Output, answer};
 pub use command_words::WordsFault;
-pub use options::{AccountOptions, ChartOptions, View};
+pub use options::{AccountOptions, ChartOptions, StateOptions, View};
 pub use program::view_program;
 pub use reading::read_words;
 pub use serving::view_main;

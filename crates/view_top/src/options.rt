@@ -1,7 +1,8 @@
 use account_table::Grouping;
 use account_text::Form;
+use run_chart::Columns;
 
-/// What is made of the run of a document, and with which options. Each mode has its own options, and those of the other modes are
+/// What is made of the document of a run, and with which options. Each mode has its own options, and those of the other modes are
 /// left unused.
 #[derive(Clone, Copy, Debug, PartialEq, Eq)]
 pub enum View {
@@ -9,6 +10,8 @@ pub enum View {
     Chart(ChartOptions),
     /// What the run cost and why, in numbers.
     Account(AccountOptions),
+    /// A state of the run, and what may come there.
+    State(StateOptions),
 }
 
 /// What the words ask of a chart.
@@ -18,6 +21,8 @@ pub struct ChartOptions {
     pub first: u32,
     /// How many rows there are at most, from 1 to 4,096.
     pub rows: u32,
+    /// Which banks have a column.
+    pub columns: Columns,
     /// Ticks of a core's own event, from 1 to 1,000,000.
     pub tick_core: u32,
     /// Ticks of a bank's event, from 1 to 1,000,000.
@@ -33,4 +38,11 @@ pub struct AccountOptions {
     pub by: Grouping,
     /// How it is printed.
     pub form: Form,
+}
+
+/// What the words ask of a state.
+#[derive(Clone, Copy, Debug, PartialEq, Eq)]
+pub struct StateOptions {
+    /// The number of the event, from 0, before which the state is. The number of all events asks for the state behind the last one.
+    pub event: u32,
 }

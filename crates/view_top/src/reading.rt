@@ -2,14 +2,15 @@ ghost use Rattle.std.specs.Prelude.{◌≡◌, ◌≤◌, IfOk, IfErr, map, stri
 ghost use Rattle.std.specs.Int.{IsInRange};
 ghost use Rattle.clap.specs.Words.{rows_of, found_of, first_of};
 ghost use Rattle.command_words.specs.declared.words.WordsFault.TheVariants.{Usage};
-ghost use Rattle.view_top.specs.Command.{account_options_from, chart_options_from, form_in, form_named, grouping_in, grouping_named, rows_in, view_from, view_named, view_of, IsChartInRange, IsViewInRange};
+ghost use Rattle.view_top.specs.Command.{account_options_from, chart_options_from, columns_in, columns_named, form_in, form_named, grouping_in, grouping_named, rows_in, state_options_from, view_from, view_named, view_of, IsChartInRange, IsViewInRange};
 
 use crate::command::view_command;
-use crate::options::{AccountOptions, ChartOptions, View};
+use crate::options::{AccountOptions, ChartOptions, StateOptions, View};
 use account_table::Grouping;
 use account_text::Form;
 use clap::ArgMatches;
 use command_words::{WordsFault, matches_by, number};
+use run_chart::Columns;
 use std::alloc::Global;
 
 /// The text of an option.
@@ -31,6 +32,27 @@ fn rows(matches: &ArgMatches<'_>, otherwise: u32, most: u32) -> Option<u32>
     }
 }
 
+/// The columns of this name.
+fn columns_named(text: &str) -> Option<Columns>
+    ensures { result ≡ columns_named text.now }
+{
+    match text {
+        "all" => Some(Columns::All),
+        "used" => Some(Columns::Used),
+        _ => None,
+    }
+}
+
+/// The columns that the words ask for.
+fn columns(matches: &ArgMatches<'_>) -> Option<Columns>
+    ensures { result ≡ columns_in (rows_of (found_of matches.now)) }
+{
+    match text_of(matches, "columns") {
+        Some(text) => columns_named(text),
+        None => None,
+    }
+}
+
 /// What a chart is asked, where each number is in its range.
 #[tactic(auto, unfolding(crate::specs::Command::chart_options_from))]
 fn chart_options(matches: &ArgMatches<'_>) -> Option<ChartOptions>
@@ -40,6 +62,7 @@ fn chart_options(matches: &ArgMatches<'_>) -> Option<ChartOptions>
     Some(ChartOptions {
         first: number(matches, "first", 0, 4_294_967_295)?,
         rows: rows(matches, 1000, 4096)?,
+        columns: columns(matches)?,
         tick_core: number(matches, "tick-core", 1, 1_000_000)?,
         tick_bank: number(matches, "tick-bank", 1, 1_000_000)?,
         tick_mail: number(matches, "tick-mail", 1, 1_000_000)?,
@@ -101,15 +124,31 @@ fn account_options(matches: &ArgMatches<'_>) -> Option<AccountOptions>
     })
 }
 
+/// What a state is asked.
+#[tactic(auto, unfolding(crate::specs::Command::state_options_from))]
+fn state_options(matches: &ArgMatches<'_>) -> Option<StateOptions>
+    ensures { result ≡ state_options_from (rows_of (found_of matches.now)) }
+{
+    Some(StateOptions {
+        event: number(matches, "event", 0, 4_294_967_295)?,
+    })
+}
+
 /// The mode of this name, with what its own options ask for.
-fn view_named(text: &str, chart: ChartOptions, account: AccountOptions) -> Option<View>
+fn view_named(
+    text: &str,
+    chart: ChartOptions,
+    account: AccountOptions,
+    state: StateOptions,
+) -> Option<View>
     requires { IsChartInRange chart }
-    ensures value { result ≡ view_named chart account text.now }
+    ensures value { result ≡ view_named chart account state text.now }
     ensures limits { (v : _) → result ≡ Some v → IsViewInRange v }
 {
     match text {
         "chart" => Some(View::Chart(chart)),
         "account" => Some(View::Account(account)),
+        "state" => Some(View::State(state)),
         _ => None,
     }
 }
@@ -122,18 +161,19 @@ fn asked_view(matches: &ArgMatches<'_>) -> Option<View>
 {
     let chart = chart_options(matches)?;
     let account = account_options(matches)?;
+    let state = state_options(matches)?;
     match text_of(matches, "mode") {
-        Some(text) => view_named(text, chart, account),
+        Some(text) => view_named(text, chart, account, state),
         None => None,
     }
 }
 
 /// What the command's words ask for; the program's own name isn't among them.
 ///
-/// The command has the options `--mode`, `--first`, `--rows`, `--tick-core`, `--tick-bank`, `--tick-mail`, `--by` and `--form`, each
-/// with one value, and no other words; `View` has the ranges of the numbers. An option may be written as `--rows 7` or `--rows=7`,
-/// and stands once at most; what isn't given is chart, 0, 1000, 1, 10, 5, run and text. A mode leaves the options of other modes
-/// unused, but each has to be in its range.
+/// The command has the options `--mode`, `--first`, `--rows`, `--columns`, `--tick-core`, `--tick-bank`, `--tick-mail`, `--by`,
+/// `--form` and `--event`, each with one value, and no other words; `View` has the ranges of the numbers. An option may be written as
+/// `--rows 7` or `--rows=7`, and stands once at most; what isn't given is chart, 0, 1000, all, 1, 10, 5, run, text and 0. A mode
+/// leaves the options of other modes unused, but each has to be in its range.
 ///
 /// # Errors
 /// `Usage` where the words aren't the command's, `Memory` where there is no room to read them.

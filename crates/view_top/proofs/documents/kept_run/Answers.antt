@@ -1,15 +1,18 @@
-use Rattle.view_top.proofs.Kept.{kept-run, viewable, no-run, handed-on}
+use Rattle.view_top.proofs.Kept.{is-located, kept-run, viewable, no-run, handed-on}
 use Rattle.view_top.proofs.documents.kept_run.Goals as goal
 
 pub returns-clause-kept : goal.returns-clause-kept
 returns-clause-kept c =
-    kept-run c.args.document.now c.as_slice-text.result.now c.in_ok-trace.trace c.in_ok-checked.checked c.in_ok-run.run' c.in_ok-program.program c.in_ok-again.again c.in_ok-trace.ensures.ok c.as_slice-text.ensures
-    c.in_ok-checked.ensures.ok c.in_ok-checked.ensures.checked c.in_ok-program.ensures.ok c.in_ok-again.ensures.ok c.in_ok-run.ensures.told
+    let here = is-located c.args.document.now c.as_slice-text.result.now c.in_ok-trace.trace c.in_ok-checked.checked c.in_ok-located.located c.as_slice-text.ensures c.in_ok-checked.ensures.ok
+    c.in_ok-located.ensures.program c.in_ok-located.ensures.places
+    in
+    kept-run c.args.document.now c.as_slice-text.result.now c.in_ok-trace.trace c.in_ok-checked.checked c.in_ok-run.run' c.in_ok-program.program c.in_ok-again.again c.in_ok-located.located c.in_ok-trace.ensures.ok
+    c.as_slice-text.ensures c.in_ok-checked.ensures.ok c.in_ok-checked.ensures.checked c.in_ok-program.ensures.ok c.in_ok-again.ensures.ok here c.in_ok-run.ensures.told
 
 pub returns-clause-ready : goal.returns-clause-ready
 returns-clause-ready c =
-    viewable c.args.document.now c.as_slice-text.result.now c.in_ok-trace.trace c.in_ok-checked.checked c.in_ok-run.run' c.in_ok-program.program c.in_ok-again.again c.in_ok-trace.ensures.ok
-    c.in_ok-checked.ensures.ok c.in_ok-program.ensures.ok c.in_ok-again.ensures.ok c.in_ok-run.ensures.told c.in_ok-run.ensures.printable
+    viewable c.args.document.now c.as_slice-text.result.now c.in_ok-trace.trace c.in_ok-checked.checked c.in_ok-run.run' c.in_ok-program.program c.in_ok-again.again c.in_ok-located.located c.in_ok-trace.ensures.ok
+    c.in_ok-checked.ensures.ok c.in_ok-program.ensures.ok c.in_ok-again.ensures.ok c.in_ok-located.ensures.program c.in_ok-run.ensures.told c.in_ok-run.ensures.printable
 
 pub returns-in_err-run-clause-stop : goal.returns-in_err-run-clause-stop
 returns-in_err-run-clause-stop c =

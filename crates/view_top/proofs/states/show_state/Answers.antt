@@ -1,0 +1,7 @@
+use Rattle.view_top.proofs.Kept.{state-shown, without-program}
+use Rattle.view_top.proofs.states.show_state.Goals as goal
+
+pub returns-clause-made : goal.returns-clause-made
+returns-clause-made c =
+    state-shown c.args.document.now c.as_slice-text.result.now c.in_ok-trace.trace c.in_ok-checked.checked c.args.options.now c.in_ok-state_in.field-0 c.in_ok-trace.ensures.ok c.as_slice-text.ensures
+    c.in_ok-checked.ensures.ok c.in_ok-checked.ensures.checked c.in_ok-state_in.ensures

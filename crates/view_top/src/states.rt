@@ -1,0 +1,73 @@
+//! The mode state: a state of a document's run, and what may come there.
+ghost use Rattle.std.specs.Prelude.{◌≡◌, IfOk, IfErr};
+ghost use Rattle.run_replay.specs.Document.{IsTrace};
+ghost use Rattle.text_places.specs.Places.{text_places};
+ghost use Rattle.front_end.specs.Texts.{IsStop};
+ghost use Rattle.view_top.specs.declared.options.View.TheVariants as view;
+ghost use Rattle.view_top.specs.Answers.{status_at, view_made, IsStateShown, IsWithoutProgram};
+
+use crate::answering::{Output, refused_words};
+use crate::documents::{places_in, shape_of};
+use crate::options::StateOptions;
+use crate::status::ViewStatus;
+use dn_base::{Memory, Sequence};
+use dn_top::trace_in;
+use effect_checker::Checked;
+use front_end::{Stop, checked_of};
+use run_replay::Trace;
+use state_text::state_at;
+use std::alloc::Global;
+use text_places::Places;
+
+/// The status of a state before the event of a number, where another number was asked for or this one.
+fn status_at(asked: u32, place: u32) -> ViewStatus
+    ensures { result ≡ status_at asked place }
+{
+    if place == asked {
+        ViewStatus::Done
+    } else {
+        ViewStatus::Unreached
+    }
+}
+
+/// The state before the event that the options ask for, or before the first that may not come; or the refusal of a number that is
+/// behind the document's last event.
+fn state_in(
+    alloc: Global,
+    options: &StateOptions,
+    trace: &Trace,
+    places: &Places,
+    checked: Checked,
+) -> Result<Output, Memory>
+    requires told { IsTrace trace.now }
+    requires places { places.now ≡ text_places trace.now.text }
+    ensures { IfOk result (IsStateShown checked trace.now options.now) }
+{
+    let events = trace.events.as_slice();
+    if options.event as usize > events.len() {
+        return refused_words(alloc);
+    }
+    let shape = shape_of(trace.shape, &checked);
+    let fuel = trace.shape.fuel;
+    let shown = state_at(alloc, places, checked, shape, fuel, events, options.event)?;
+    Ok(Output {
+        status: status_at(options.event, shown.event),
+        bytes: Sequence::from_vec(shown.text),
+    })
+}
+
+/// The state before an event of a document. Only those before it need be events of a run.
+pub(crate) fn show_state(
+    alloc: Global,
+    options: &StateOptions,
+    document: &[u8],
+) -> Result<Output, Stop>
+    ensures made { IfOk result (view_made (view.State options.now) document.now) }
+    ensures stop { IfErr result (IsStop (IsWithoutProgram document.now)) }
+{
+    let trace = trace_in(alloc, document)?;
+    let text = trace.text.as_slice();
+    let checked = checked_of(alloc, text)?;
+    let located = places_in(alloc, text)?;
+    Ok(state_in(alloc, options, &trace, &located.places, checked)?)
+}
