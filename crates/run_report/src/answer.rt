@@ -44,7 +44,11 @@ pub(crate) fn push_outcome(out: &mut Vec<u8>, outcome: Outcome) -> Result<(), Me
     push(out, b"\n")
 }
 
-fn push_end(out: &mut Vec<u8>, end: EndShown) -> Result<(), Memory>
+/// Adds how a task stands, as the line of the task has it: `finished`, `fuel`, `waits 0`, or a trap with its kind, address and value.
+///
+/// # Errors
+/// `Memory` where there is no room.
+pub fn push_end(out: &mut Vec<u8>, end: EndShown) -> Result<(), Memory>
     ensures { OnOk result (out.new.items ≡ out.old.items ++ end_text end) }
 {
     match end {
