@@ -115,6 +115,11 @@ def a_run_is_drawn_by_a_pipe():
             ran = run(["bash", "-o", "pipefail", "-c", line])
             wanted = pathlib.Path("docs/charts", example + ".svg").read_bytes()
             check(line, (ran.returncode, ran.stdout) == (0, wanted))
+        for example, first, rows in (("trap", 0, 1000), ("crossed-locks", 0, 1000), ("stale-copy", 20, 15), ("signature", 9, 1), ("touched-bit", 30, 50)):
+            document = run(denovo + ["--mode", "trace"], text_of(example)).stdout
+            ran = run(chart + ["--first", str(first), "--rows", str(rows)], document)
+            wanted = reference.Chart(document, first, rows).text().encode()
+            check(f"{chart[0]}: {example}, {rows} rows from event {first}", ran.stdout == wanted)
         document = run(denovo + ["--mode", "trace"], text_of("store-five")).stdout
         ran = run(chart, document[:document.rindex(b"\n", 0, -1) + 1].replace(b"\nevents 10\n", b"\nevents 9\n"))
         check(f"{chart[0]}: a run without its last event isn't drawn", (ran.returncode, ran.stdout) == (2, b"refused trace incomplete\n"))

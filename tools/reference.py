@@ -13,6 +13,8 @@ somewhere else to come from. It takes texts that assemble and check; it refuses 
     tools/reference.py account [run|phase|core|region [csv|text]] < DOCUMENT
                                             what the run of a document cost and why, as lines `measure,group,count`, or as the run's
                                             report and a table
+    tools/reference.py chart [--first=N] [--rows=N] [--tick-core=N] [--tick-bank=N] [--tick-mail=N] [--columns=used] < DOCUMENT
+                                            the message chart of a document that replays, by docs/CHART.md
     tools/reference.py cases FOLDER [NAME]  runs the cases of the folder's files, of those modes and of scripts, and says which
                                             outputs aren't the computed ones, and how many cases reached each kind of event and
                                             each row of the tables of docs/PROTOCOL.md
@@ -1260,6 +1262,11 @@ def slowest(behind, ticks):
 
 
 def timing(machine, seed, ticks):
+    """The longest chain of the events of a seed's run."""
+    return timed(machine, lambda trace: machine.run(seed, trace), ticks)
+
+
+def timed(machine, run, ticks):
     """The longest chain of the events of a run: an event depends on the one before it of its actor, and on its mail's sender."""
     finish, before, kinds, last, sender, both = [], [], [], {}, {}, []
 
@@ -1293,7 +1300,8 @@ def timing(machine, seed, ticks):
             for number in range(numbers.get(actor, 0), machine.numbers.get(actor, 0)):
                 sender[actor, number] = at
             numbers[actor] = machine.numbers.get(actor, 0)
-    machine.run(seed, trace)
+    run(trace)
+    note_sent()
     chain, total = [], max(finish, default=0)
     at = finish.index(total) if finish else None
     while at is not None:
@@ -1301,7 +1309,7 @@ def timing(machine, seed, ticks):
         at = before[at]
     if len(both) <= MOST_SEARCHED:
         assert total == slowest(both, [ticks[kind] for kind in kinds])
-        searched.append(seed)
+        searched.append(len(both))
     return ["time %d" % total, "chain %d" % len(chain)] + [
         "link %d %s %d" % (at, kinds[at], finish[at]) for at in reversed(chain)]
 
@@ -1382,6 +1390,267 @@ def replayed(data):
         return 2, ["refused trace incomplete"]
     agree_with_flat(machine)
     return STATUS[outcome(machine.ending()[0])], run_text(machine)
+
+
+# ---------------------------------------------------------------- the message chart of a run, by docs/CHART.md
+
+CHART_STYLE = """<style>.denovo-ground{fill:#fff}.denovo-odd{fill:#edf2f7}.denovo-rule{stroke:#7d8b99}.denovo-lane{stroke:#b4bac0}
+.denovo-mail,.denovo-cut{stroke:#26598c;fill:none}.denovo-cut{stroke-dasharray:7 4}.denovo-event,.denovo-head{fill:#26598c}
+.denovo-path{stroke:#f93;stroke-width:7;stroke-opacity:.45;stroke-linejoin:round;fill:none}.denovo-ring{stroke:#b34700;stroke-width:2;fill:none}
+.denovo-text{fill:#1c2126;paint-order:stroke;stroke:#fff;stroke-width:4;stroke-linejoin:round}.denovo-left{text-anchor:end}
+.denovo-title{font-size:15px}.denovo-actor{font-weight:bold;text-anchor:middle}.denovo-number{fill:#4d565f}.denovo-change{fill:#832a00}
+.denovo-end{fill:#8c0d0d;font-weight:bold}
+@media (prefers-color-scheme:dark){.denovo-ground{fill:#14181d}.denovo-odd{fill:#1e2731}.denovo-rule{stroke:#7d8b99}.denovo-lane{stroke:#545d66}
+.denovo-mail,.denovo-cut{stroke:#86b9ec}.denovo-event,.denovo-head{fill:#86b9ec}.denovo-path{stroke-opacity:.4}.denovo-ring{stroke:#ffb454}
+.denovo-text{fill:#e6e9ec;stroke:#14181d}.denovo-number{fill:#aab4be}.denovo-change{fill:#ffb489}.denovo-end{fill:#ff9d9d}}</style>
+"""
+
+CHART_LEGEND = """<circle class='denovo-event' cx='14' cy='60' r='4'/><text class='denovo-text' x='26' y='64'>event</text>
+<circle class='denovo-ring' cx='84' cy='60' r='8'/><text class='denovo-text' x='98' y='64'>on the longest chain</text>
+<path class='denovo-mail' d='M254 60H282'/><path class='denovo-head' d='M290 60l-8 -4v8z'/><text class='denovo-text' x='296' y='64'>mail</text>
+<path class='denovo-cut' d='M342 60H370'/><path class='denovo-head' d='M378 60l-8 -4v8z'/><text class='denovo-text' x='384' y='64'>mail from before or to behind the range</text>
+<text class='denovo-text denovo-change' x='682' y='64'>word: before &#8594; after</text>
+"""
+
+CHART_MEANING = (". Each column is a core, a bank, or the keeper of the phases. Each row is an event of the run, in their order. "
+                 "An arrow leads from the event that sent a mail to the event that handles it.")
+# what a message is about, by its kind
+ABOUT_WORD = ("read-req", "read-fwd", "data-reply", "reg-req", "reg-fwd", "reg-ack", "write-back", "wb-ack")
+ABOUT_LOCK = ("acquire", "release", "grant")
+
+
+def instruction_text(word):
+    """A code word as a listing writes it."""
+    i = decode(word)
+    if i is None:
+        return ".raw 0x%08x" % word
+    def name(table, key):
+        return next(n for n, k in table.items() if k == key)
+    def at(offset, base):
+        return "%d(x%d)" % (offset, base)
+    if i[0] == "const":
+        return "lui x%d, %d" % (i[1], word >> 12)
+    if i[0] == "auipc":
+        return "auipc x%d, %d" % (i[1], word >> 12)
+    if i[0] == "jal":
+        return "jal x%d, %d" % i[1:]
+    if i[0] == "jalr":
+        return "jalr x%d, %s" % (i[1], at(i[3], i[2]))
+    if i[0] == "branch":
+        return "%s x%d, x%d, %d" % ((name(BRANCHES, i[1]),) + i[2:])
+    if i[0] == "load":
+        return "%s x%d, %s" % (name(LOADS, i[1]), i[2], at(i[4], i[3]))
+    if i[0] == "store":
+        return "%s x%d, %s" % (name(STORES, i[1]), i[2], at(i[4], i[3]))
+    if i[0] == "alui":
+        if i[1][0] in (1, 5):
+            return "%s x%d, x%d, %d" % (name(SHIFTS, i[1]), i[2], i[3], i[4])
+        return "%s x%d, x%d, %d" % (name(SUMS, i[1][0]), i[2], i[3], signed(i[4]))
+    if i[0] == "alu":
+        return "%s x%d, x%d, x%d" % (name(PLAIN, i[1]), i[2], i[3], i[4])
+    return i[0]
+
+
+def code_lines(text):
+    """For each code word of a text its line, and which of the line's words it is."""
+    lines = []
+    for number, (_, word, _) in enumerate(statements(text), 1):
+        if word is not None and (not word.startswith(".") or word == ".raw"):
+            lines += [(number, part) for part in range(2 if word in ("li", "la") else 1)]
+    return lines
+
+
+class Chart:
+    """The message chart of a range of a document's events, as an SVG text."""
+
+    def __init__(self, data, first=0, most=1000, ticks=(1, 10, 5), used=False):
+        sizes, text, self.events = read_document(data)
+        self.first, self.total = first, len(self.events)
+        self.program = assemble(text.decode("utf-8", "replace"))
+        self.machine = Machine(self.program, *sizes)
+        self.lines_of_code = code_lines(text.decode("utf-8", "replace"))
+        self.chain = self.longest(sizes, ticks)
+        self.rows, self.sent, self.line = [], {}, 0
+        for number, event in enumerate(self.events[:first + most]):
+            if number < first:
+                self.machine.step(event)
+            else:
+                self.add(number, event)
+        self.leaving = [(mail, self.sent[mail[:2]]) for mail in self.machine.pool if mail[:2] in self.sent]
+        self.waits = []
+        if first + most >= self.total:
+            self.waits = [(node.core, node.wait[1]) for node in self.machine.nodes if node.wait and node.wait[0] == "locking"]
+        self.banks = list(range(self.machine.banks))
+        if used:
+            busy = {row["actor"] for row in self.rows} | {row["from"][0] for row in self.rows if row["from"]}
+            busy |= {mail[2] for mail, _ in self.leaving}
+            self.banks = [bank for bank in self.banks if ("bank", bank) in busy]
+
+    def longest(self, sizes, ticks):
+        """The numbers of the events of the longest chain, where a core's own event, one of a bank and another take so many ticks."""
+        core, bank, mail = ticks
+        kinds = {kind: core if kind in ("instr", "evict", "arrive") else
+                 bank if kind in ("read-req", "reg-req", "write-back", "acquire", "release") else mail for kind in KINDS}
+        machine = Machine(self.program, *sizes)
+
+        def again(trace):
+            for event in self.events:
+                trace(event)
+                machine.step(event)
+        return {int(line.split()[1]) for line in timed(machine, again, kinds)[2:]}
+
+    def states(self, actor):
+        """What an actor has for each word that it has something for."""
+        if actor == "keeper":
+            return {}
+        if actor[0] == "core":
+            kinds = {("V", False): "valid", ("V", True): "touched", ("R", False): "registered", ("R", True): "pending"}
+            return {word: "%s 0x%08x" % (kinds.get((entry[0], entry[2]), "leaving"), entry[1])
+                    for places in self.machine.nodes[actor[1]].cache for word, entry in places.items()}
+        return {word: "home 0x%08x" % what if state == "home" else "at core %d" % what
+                for word, (state, what) in self.machine.homes[actor[1]].words.items()}
+
+    def add(self, number, event):
+        machine = self.machine
+        row = {"event": number, "line": self.line, "from": None, "about": "", "end": None, "phase": machine.keeper.phase}
+        if event[0] == "handle":
+            mail = next(mail for mail in machine.pool if mail[:2] == event[1:])
+            row.update({"actor": mail[2], "kind": mail[3][0], "from": (mail[0], self.sent.pop(mail[:2], None)), "about": self.about(mail[3])})
+        else:
+            row.update({"actor": ("core", event[1]), "kind": event[0]})
+            task = machine.nodes[event[1]].task
+            if event[0] == "instr":
+                at = (task.pc - 0x1000) // 4
+                if task.pc % 4 == 0 and 0 <= at < len(self.program.code):
+                    line, part = self.lines_of_code[at]
+                    row["kind"] = "line %d%s: %s" % (line, " (second word)" if part else "", instruction_text(self.program.code[at]))
+                if machine.nodes[event[1]].next[0] == "end":
+                    row["end"] = machine.nodes[event[1]].next[1]
+            elif event[0] == "evict":
+                row["about"] = " " + self.word(event[2])
+        before, numbers = self.states(row["actor"]), dict(machine.numbers)
+        machine.step(event)
+        after = self.states(row["actor"])
+        row["changes"] = [(word, before.get(word, "none"), after.get(word, "none"))
+                          for word in sorted(before.keys() | after.keys()) if before.get(word) != after.get(word)]
+        actor = row["actor"]
+        for sent in range(numbers.get(actor, 0), machine.numbers.get(actor, 0)):
+            self.sent[actor, sent] = self.line
+        self.line += 1 + len(row["changes"]) + (row["end"] is not None)
+        self.rows.append(row)
+
+    def word(self, word):
+        for name, (start, length) in self.program.regions.items():
+            if start <= word < start + length:
+                return "%s[%d]" % (name, word - start)
+        return "word %d" % word
+
+    def lock(self, lock):
+        return "%s (lock %d)" % (self.program.locks[lock], lock)
+
+    def about(self, message):
+        if message[0] in ABOUT_WORD:
+            return " " + self.word(message[1])
+        if message[0] in ABOUT_LOCK:
+            return " " + self.lock(message[1])
+        return " phase %d" % message[1] if message[0] == "go" else ""
+
+    # where things stand
+
+    def x(self, actor):
+        place = self.machine.cores + len(self.banks)
+        if actor != "keeper":
+            place = actor[1] if actor[0] == "core" else self.machine.cores + len([bank for bank in self.banks if bank < actor[1]])
+        return 300 + 132 * place
+
+    @staticmethod
+    def y(line):
+        return 130 + 18 * line
+
+    # what is drawn
+
+    def text(self):
+        width = self.x("keeper") + 300
+        bottom = self.y(self.line + len(self.leaving) + len(self.waits))
+        height = bottom + 18
+        machine = self.machine
+        count = len(self.rows)
+        title = "Message chart: events %d to %d of %d" % (self.first, self.first + count - 1, self.total) if count else \
+            "Message chart: no event of %d" % self.total
+        size = "Machine: cores %d, banks %d, sets %d, ways %d, fuel %d" % (machine.cores, machine.banks, machine.sets, machine.ways, machine.fuel)
+        out = ["<svg xmlns='http://www.w3.org/2000/svg' class='denovo-chart' role='img' font-family='monospace' font-size='12' width='%d' height='%d' "
+               "viewBox='0 0 %d %d'>\n" % (width, height, width, height),
+               "<title>%s</title>\n<desc>%s%s</desc>\n" % (title, size, CHART_MEANING), CHART_STYLE,
+               "<rect class='denovo-ground' width='%d' height='%d'/>\n" % (width, height),
+               self.words("denovo-title", 8, 22, title), self.words("denovo-size", 8, 40, size), CHART_LEGEND]
+        phase = None
+        for row in self.rows:
+            top = self.y(row["line"]) - 9
+            if row["phase"] % 2:
+                out.append("<rect class='denovo-odd' x='0' y='%d' width='%d' height='%d'/>\n" % (top, width, 18 * self.height(row)))
+            if row["phase"] != phase:
+                out.append("<path class='denovo-rule' d='M0 %dH%d'/>\n" % (top, width))
+                out.append(self.words("denovo-left denovo-number", width - 8, top + 13, "phase %d" % row["phase"]))
+            phase = row["phase"]
+        for actor in [("core", core) for core in range(machine.cores)] + [("bank", bank) for bank in self.banks] + ["keeper"]:
+            x = self.x(actor)
+            out.append(self.words("denovo-actor", x, 96, self.actor(actor)))
+            out.append("<path class='denovo-lane' d='M%d 104V%d'/>\n" % (x, bottom))
+        points = "".join("%d,%d " % (self.x(row["actor"]), self.y(row["line"])) for row in self.rows if row["event"] in self.chain)
+        out.append("<polyline class='denovo-path' points='%s'/>\n" % points)
+        for row in self.rows:
+            if row["from"]:
+                sender, line = row["from"]
+                out.append(self.arrow(line is None, self.x(sender), 104 if line is None else self.y(line), self.x(row["actor"]), self.y(row["line"])))
+        for at, (mail, line) in enumerate(self.leaving):
+            out.append(self.arrow(True, self.x(mail[0]), self.y(line), self.x(mail[2]), self.y(self.line + at)))
+        for row in self.rows:
+            out.append(self.row(row))
+        for at, (mail, line) in enumerate(self.leaving):
+            out.append(self.beside(self.x(mail[0]) > self.x(mail[2]), self.x(mail[2]), self.y(self.line + at), mail[3][0] + self.about(mail[3])))
+        for at, (core, lock) in enumerate(self.waits):
+            y = self.y(self.line + len(self.leaving) + at)
+            out.append(self.words("denovo-end", self.x(("core", core)) + 14, y + 4, "waits for " + self.lock(lock)))
+        return "".join(out) + "</svg>\n"
+
+    @staticmethod
+    def height(row):
+        return 1 + len(row["changes"]) + (row["end"] is not None)
+
+    @staticmethod
+    def actor(actor):
+        return "keeper" if actor == "keeper" else "%s %d" % actor
+
+    @staticmethod
+    def words(kind, x, y, words):
+        return "<text class='denovo-text %s' x='%d' y='%d'>%s</text>\n" % (kind, x, y, words)
+
+    @staticmethod
+    def arrow(cut, x1, y1, x2, y2):
+        kind = "denovo-cut" if cut else "denovo-mail"
+        if x1 > x2:
+            return "<path class='%s' d='M%d %dL%d %d'/>\n<path class='denovo-head' d='M%d %dl8 -4v8z'/>\n" % (kind, x1, y1, x2 + 13, y2, x2 + 5, y2)
+        return "<path class='%s' d='M%d %dL%d %d'/>\n<path class='denovo-head' d='M%d %dl-8 -4v8z'/>\n" % (kind, x1, y1, x2 - 13, y2, x2 - 5, y2)
+
+    def beside(self, from_right, x, y, words):
+        return self.words("denovo-left", x - 14, y + 4, words) if from_right else self.words("denovo-right", x + 14, y + 4, words)
+
+    def row(self, row):
+        x, y = self.x(row["actor"]), self.y(row["line"])
+        out = self.words("denovo-number", 8, y + 4, "%d %s" % (row["event"], self.actor(row["actor"])))
+        if row["event"] in self.chain:
+            out += "<circle class='denovo-ring' cx='%d' cy='%d' r='8'/>\n" % (x, y)
+        out += "<circle class='denovo-event' cx='%d' cy='%d' r='4'/>\n" % (x, y)
+        from_right = row["from"] is not None and self.x(row["from"][0]) > x
+        out += self.beside(from_right, x, y, row["kind"] + row["about"])
+        if row["end"] is not None:
+            y += 18
+            out += self.words("denovo-end", x + 14, y + 4, "ends: " + row["end"])
+        lines = ["<tspan x='%d' dy='18'>%s (word %d): %s &#8594; %s</tspan>" % (x + 14, self.word(word), word, before, after)
+                 for word, before, after in row["changes"]]
+        if lines:
+            out += self.words("denovo-change", x + 14, y + 4, "".join(lines))
+        return out
 
 
 # ---------------------------------------------------------------- the account of a run
@@ -2187,6 +2456,13 @@ def command(words):
     if words[:1] == ["events"]:
         o = options(words[1:])
         opened(assemble(sys.stdin.read()), o).run(o["seed"], lambda event: print(event_line(event)))
+        return 0
+    if words[:1] == ["chart"]:
+        o = {"first": 0, "rows": 1000, "tick-core": 1, "tick-bank": 10, "tick-mail": 5, "columns": "all"}
+        o.update(word.lstrip("-").split("=") for word in words[1:])
+        ticks = tuple(int(o["tick-" + kind]) for kind in ("core", "bank", "mail"))
+        chart = Chart(sys.stdin.buffer.read(), int(o["first"]), int(o["rows"]), ticks, o["columns"] == "used")
+        print(chart.text(), end="")
         return 0
     if words[:1] == ["account"]:
         by, form = words[1:3] + ["run", "csv"][len(words[1:3]):]
