@@ -12,7 +12,10 @@ use Rattle.front_end.specs.Texts.{IsStop}
 use Rattle.dn_top.specs.Documents.{IsNoRun}
 use Rattle.chart_top.specs.declared.answering.Output.{Output}
 use Rattle.chart_top.specs.declared.options.Options.{Options}
-use Rattle.chart_top.specs.Answers.{IsPicture, IsDrawn}
+use Rattle.rv_assembler.specs.declared.fault.SourceFault.{SourceFault}
+use Rattle.text_places.specs.declared.places.Located.{Located}
+use Rattle.text_places.specs.Places.{text_places}
+use Rattle.chart_top.specs.Answers.{IsPicture, IsDrawn, located}
 
 module _ (document text : List ℕ) (t : Trace) (P : ProgramParts) where
   pub run-drawn : (o : Options) (r : Result Output Stop) → IsDocument document t → text ≡ t.text → source text ≡ Ok P → IsChecked P → IfOk r (IsPicture P t o) → IfOk r (IsDrawn o document)
@@ -28,3 +31,13 @@ module _ (document text : List ℕ) (t : Trace) (P : ProgramParts) where
   pub run-refused : (r : Result Output Stop) → IsDocument document t → text ≡ t.text → source text ≡ Ok P → IsChecked P → IfErr r (IsStop (IsNoRun P t)) → IfErr r (IsStop (IsRefusedDocument document))
   run-refused (Ok out) told same is checked h = tt
   run-refused (Err s) told same is checked h = refused-stop s told same is checked h
+
+  ok-same : (Q R : ProgramParts) → ◌≡◌ {A = Result ProgramParts SourceFault} (Ok Q) (Ok R) → Q ≡ R
+  ok-same Q R same = cc
+
+  -- what is found of the text is its program, and where the parts come from
+  pub located-is : (L : Located) → source text ≡ Ok L.program → L.places ≡ text_places text → text ≡ t.text → source text ≡ Ok P → L ≡ located P t
+  located-is L program places same is =
+      let one : L.program ≡ P = ok-same L.program P (sym program ∙ is) in
+      let all : L.places ≡ text_places t.text = places ∙ ap text_places same in
+      rw (one, all) refl

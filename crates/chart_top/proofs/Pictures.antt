@@ -23,10 +23,12 @@ use Rattle.run_timing.specs.Longest.{IsTimingOf, numbers_in}
 use Rattle.message_chart.specs.declared.chart.Chart.{Chart}
 use Rattle.message_chart.specs.Picture.{svg_of}
 use Rattle.run_chart.specs.declared.drawing.Range.{Range}
+use Rattle.run_chart.specs.declared.finishing.Columns.TheVariants.{All}
 use Rattle.run_chart.specs.Charts.{IsChartOf}
+use Rattle.text_places.specs.declared.places.Located.{Located}
 use Rattle.dn_top.specs.Documents.{shape_told, IsReplayIn}
 use Rattle.chart_top.specs.declared.options.Options.{Options}
-use Rattle.chart_top.specs.Answers.{IsCompleteTrace, IsPicture, range_for, chart_ticks}
+use Rattle.chart_top.specs.Answers.{IsCompleteTrace, IsPicture, range_for, chart_ticks, located}
 
 -- the events of a replayed document are a run of its machine
 run-on : (P : ProgramParts) (t : Trace) (ending : Ending) → IsCompleteTrace P t ending → IsRunOn P (shape_told P t.shape) t.shape.fuel t.events
@@ -50,11 +52,11 @@ module _ (P : ProgramParts) (t : Trace) (s : Shape) (events : List Event) where
       in
       subst (λ (p : ProgramParts). IsCompleteTrace p t ending) (sym same) (record { grants = grants; counts = counts; is = told })
 
-  pub picture-is : (Q : ProgramParts) (o : Options) (ending : Ending) (ticks : Ticks) (timing : Timing) (chain : List ℕ) (range : Range) (chart : Chart) (status : Status) (text : List ℕ) → Q ≡ P
+  pub picture-is : (Q : ProgramParts) (o : Options) (ending : Ending) (ticks : Ticks) (timing : Timing) (chain : List ℕ) (range : Range) (chart : Chart) (L : Located) (status : Status) (text : List ℕ) → Q ≡ P → L ≡ located P t
       → s ≡ shape_told P t.shape → events ≡ t.events → ticks ≡ chart_ticks o → range ≡ range_for o → chain ≡ numbers_in timing.links.items → IsCompleteTrace P t ending
-      → IsTimingOf P s t.shape.fuel events ticks timing → IsChartOf Q s t.shape.fuel events range chain chart → status ≡ status_of ending.outcome → text ≡ svg_of chart
+      → IsTimingOf P s t.shape.fuel events ticks timing → IsChartOf Q s t.shape.fuel events range chain All chart → status ≡ status_of ending.outcome → text ≡ svg_of chart L
       → IsPicture P t o (record { status = status; bytes = text })
-  picture-is Q o ending ticks timing chain range chart status text same shape are ticks_are range_is chain_is replayed times charted ends says =
+  picture-is Q o ending ticks timing chain range chart L status text same place shape are ticks_are range_is chain_is replayed times charted ends says =
       record {
         ending = ending;
         replayed = replayed;
@@ -64,9 +66,9 @@ module _ (P : ProgramParts) (t : Trace) (s : Shape) (events : List Event) where
             (subst (λ (es : List Event). IsTimingOf P (shape_told P t.shape) t.shape.fuel es ticks timing) are (subst (λ (x : Shape). IsTimingOf P x t.shape.fuel events ticks timing) shape times));
         chart = chart;
         is =
-            subst (λ (x : List ℕ). IsChartOf P (shape_told P t.shape) t.shape.fuel t.events (range_for o) x chart) chain_is
-            (subst (λ (x : Range). IsChartOf P (shape_told P t.shape) t.shape.fuel t.events x chain chart) range_is
-            (subst (λ (es : List Event). IsChartOf P (shape_told P t.shape) t.shape.fuel es range chain chart) are
-            (subst (λ (x : Shape). IsChartOf P x t.shape.fuel events range chain chart) shape (subst (λ (p : ProgramParts). IsChartOf p s t.shape.fuel events range chain chart) same charted))));
-        answer = rw (ends, says) refl;
+            subst (λ (x : List ℕ). IsChartOf P (shape_told P t.shape) t.shape.fuel t.events (range_for o) x All chart) chain_is
+            (subst (λ (x : Range). IsChartOf P (shape_told P t.shape) t.shape.fuel t.events x chain All chart) range_is
+            (subst (λ (es : List Event). IsChartOf P (shape_told P t.shape) t.shape.fuel es range chain All chart) are
+            (subst (λ (x : Shape). IsChartOf P x t.shape.fuel events range chain All chart) shape (subst (λ (p : ProgramParts). IsChartOf p s t.shape.fuel events range chain All chart) same charted))));
+        answer = rw (ends, says, place) refl;
       }

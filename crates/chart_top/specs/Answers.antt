@@ -15,7 +15,10 @@ use Rattle.run_timing.specs.Longest.{IsTimingOf, numbers_in}
 use Rattle.message_chart.specs.declared.chart.Chart.{Chart}
 use Rattle.message_chart.specs.Picture.{svg_of}
 use Rattle.run_chart.specs.declared.drawing.Range.{Range}
+use Rattle.run_chart.specs.declared.finishing.Columns.TheVariants.{All}
 use Rattle.run_chart.specs.Charts.{IsChartOf}
+use Rattle.text_places.specs.declared.places.Located.{Located}
+use Rattle.text_places.specs.Places.{text_places}
 use Rattle.dn_top.specs.Answers.{IsRefusedDocument}
 use Rattle.front_end.specs.Texts.{HasChecked}
 use Rattle.dn_top.specs.Documents.{HasTrace, IsReplayIn, shape_told}
@@ -36,6 +39,10 @@ pub record IsCompleteTrace (P : ProgramParts) (t : Trace) (ending : Ending) : Ty
   pub counts : Counts
   pub is : IsReplayIn P t (Complete ending grants counts)
 
+-- the program of a trace's text, and where its parts come from
+abbrev pub located : ProgramParts → Trace → Located
+located P t = record { program = P; places = text_places t.text }
+
 -- the document's events are a complete run of its machine; the output is the picture of that run's chart, with a line through the
 -- events of the run's longest chain, and its status is that of the run's outcome
 pub record IsPicture (P : ProgramParts) (t : Trace) (o : Options) (out : Output) : Type 0 where
@@ -44,8 +51,8 @@ pub record IsPicture (P : ProgramParts) (t : Trace) (o : Options) (out : Output)
   pub timing : Timing
   pub times : IsTimingOf P (shape_told P t.shape) t.shape.fuel t.events (chart_ticks o) timing
   pub chart : Chart
-  pub is : IsChartOf P (shape_told P t.shape) t.shape.fuel t.events (range_for o) (numbers_in timing.links.items) chart
-  pub answer : out ≡ record { status = status_of ending.outcome; bytes = svg_of chart }
+  pub is : IsChartOf P (shape_told P t.shape) t.shape.fuel t.events (range_for o) (numbers_in timing.links.items) All chart
+  pub answer : out ≡ record { status = status_of ending.outcome; bytes = svg_of chart (located P t) }
 
 -- the bytes are the document of a run of a checked program, and the output is its picture
 abbrev pub IsDrawn : Options → List ℕ → Output → Type 0

@@ -1,11 +1,14 @@
-ghost use Rattle.std.specs.Prelude.{◌≡◌, IfOk, IfErr};
+ghost use Rattle.std.specs.Prelude.{◌≡◌, ◌≢◌, IfOk, IfErr, Ok, Err};
+ghost use Rattle.rv_assembler.specs.declared.fault.SourceFault.{SourceFault};
+ghost use Rattle.rv_assembler.specs.Source.{source};
+ghost use Rattle.text_places.specs.Places.{text_places};
 ghost use Rattle.run_replay.specs.Document.{IsTrace};
 ghost use Rattle.run_timing.specs.Longest.{numbers_in};
 ghost use Rattle.run_timing.specs.Ticks.{AreWithinLimits};
 ghost use Rattle.dn_top.specs.Answers.{IsRefusedDocument};
 ghost use Rattle.front_end.specs.Texts.{IsStop};
 ghost use Rattle.dn_top.specs.Documents.{IsNoRun, shape_told};
-ghost use Rattle.chart_top.specs.Answers.{IsAnswer, IsDrawn, IsPicture, IsCompleteTrace, range_for, chart_ticks};
+ghost use Rattle.chart_top.specs.Answers.{IsAnswer, IsDrawn, IsPicture, IsCompleteTrace, range_for, chart_ticks, located};
 ghost use Rattle.chart_top.specs.Command.{ViewOptionsInRange};
 
 use crate::options::Options;
@@ -15,11 +18,12 @@ use effect_checker::Checked;
 use front_end::{Stop, checked_of};
 use message_chart::chart_text;
 use region_table::a_program_is_well_formed;
-use run_chart::{Range, chart};
+use run_chart::{Columns, Range, chart};
 use run_replay::{Replayed, Trace, TraceRefusal, replay};
 use run_timing::{Link, Ticks, time_run};
 use rv_core::Ending;
 use std::alloc::Global;
+use text_places::{Located, located_program};
 
 /// A status, and all that is to be written.
 #[derive(Debug, Drop)]
@@ -65,12 +69,14 @@ fn picture(
     trace: &Trace,
     shape: Shape,
     ending: &Ending,
+    text: &Located,
     first: Checked,
     second: Checked,
 ) -> Result<Output, Memory>
     requires limits { ViewOptionsInRange options.now }
     requires told { IsTrace trace.now }
     requires same { second ≡ first }
+    requires text { text.now ≡ located first trace.now }
     requires shape { shape ≡ shape_told first trace.now.shape }
     requires replayed { IsCompleteTrace first trace.now ending.now }
     ensures { IfOk result (IsPicture first trace.now options.now) }
@@ -80,10 +86,19 @@ fn picture(
     let timing = time_run(alloc, first, shape, fuel, events, &chart_ticks(options))?;
     let chain = numbers_in(alloc, timing.links.as_slice())?;
     let range = range_for(options);
-    let chart = chart(alloc, second, shape, fuel, events, range, chain.as_slice())?;
+    let chart = chart(
+        alloc,
+        second,
+        shape,
+        fuel,
+        events,
+        range,
+        chain.as_slice(),
+        Columns::All,
+    )?;
     Ok(Output {
         status: Status::from(ending.outcome),
-        bytes: Sequence::from_vec(chart_text(alloc, &chart)?),
+        bytes: Sequence::from_vec(chart_text(alloc, &chart, text)?),
     })
 }
 
@@ -92,6 +107,7 @@ fn draw_again(
     alloc: Global,
     options: &Options,
     trace: &Trace,
+    text: &Located,
     checked: Checked,
     first: Checked,
     second: Checked,
@@ -100,6 +116,7 @@ fn draw_again(
     requires told { IsTrace trace.now }
     requires first { first ≡ checked }
     requires second { second ≡ checked }
+    requires text { text.now ≡ located checked trace.now }
     ensures ok { IfOk result (IsPicture checked trace.now options.now) }
     ensures stop { IfErr result (IsStop (IsNoRun checked trace.now)) }
 {
@@ -117,11 +134,23 @@ fn draw_again(
             ending,
             grants: _,
             counts: _,
-        } => Ok(picture(alloc, options, trace, shape, &ending, first, second)?),
+        } => Ok(picture(alloc, options, trace, shape, &ending, text, first, second)?),
         Replayed::NotEnabled { number } => {
             Err(refused_trace(alloc, &TraceRefusal::NotEnabled { number }))
         }
         Replayed::Incomplete => Err(refused_trace(alloc, &TraceRefusal::Incomplete)),
+    }
+}
+
+/// The program of a text that has one, and where its parts come from.
+fn places_in(alloc: Global, text: &[u8]) -> Result<Located, Memory>
+    requires { (fault : SourceFault) → source text.now ≢ Err fault }
+    ensures program { IfOk result (λ located. source text.now ≡ Ok located.program) }
+    ensures places { IfOk result (λ located. located.places ≡ text_places text.now) }
+{
+    match located_program(alloc, text) {
+        Ok(located) => Ok(located),
+        Err(_) => Err(Memory),
     }
 }
 
@@ -136,7 +165,8 @@ fn drawn(alloc: Global, options: &Options, document: &[u8]) -> Result<Output, St
     let checked = checked_of(alloc, text)?;
     let first = checked_of(alloc, text)?;
     let second = checked_of(alloc, text)?;
-    draw_again(alloc, options, &trace, checked, first, second)
+    let located = places_in(alloc, text)?;
+    draw_again(alloc, options, &trace, &located, checked, first, second)
 }
 
 /// The answer to options and the document of a run: the run's message chart, as an SVG text, with the status of the run's outcome.

@@ -1,2 +1,4 @@
 pub mod Marks
+pub mod Places
+pub mod Labels
 pub mod Picture

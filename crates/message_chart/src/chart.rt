@@ -1,6 +1,18 @@
 use crate::states::WordChange;
-use dn_base::Sequence;
+use dn_base::{CoreId, LockId, PhaseId, Sequence, Shape, WordId};
 use message_net::{Actor, EventKind};
+use rv_core::End;
+
+/// What an event or a mail is about.
+#[derive(Clone, Copy, Debug, PartialEq, Eq)]
+pub enum About {
+    Nothing,
+    /// The code word of this number, which is the task's next instruction.
+    Code(u32),
+    Word(WordId),
+    Lock(LockId),
+    Phase(PhaseId),
+}
 
 /// Where a mail comes from: its sender, and the line of the event that sent it; None where that comes before the chart's first row.
 #[derive(Clone, Copy, Debug, PartialEq, Eq)]
@@ -17,22 +29,61 @@ pub struct ChartRow {
     /// The actor that makes the event.
     pub actor: Actor,
     pub kind: EventKind,
-    /// The line on which the row begins, from 0. A row has a line for each change, and at least one.
+    /// What the event is about: the instruction, the word that is evicted, or what the mail that it handles is about.
+    pub about: About,
+    /// The phase of the barrier's keeper before the event.
+    pub phase: PhaseId,
+    /// The line on which the row begins, from 0.
     pub line: u32,
+    /// How many lines the row has: one for the event, one for a task's end, and one for each change.
+    pub lines: u32,
     /// Where the mail comes from that the event handles, if it handles one.
     pub mail: Option<Origin>,
     /// What becomes of the words for which the actor has something else after the event.
     pub changes: Sequence<WordChange>,
-    /// Whether the event is on the chain that the picture has a line through.
+    /// How the actor's task ends with the event, if it does.
+    pub end: Option<End>,
+    /// Whether the event is on the chain that the picture marks.
     pub on_chain: bool,
 }
 
-/// The message chart of some events that follow each other in a run of a machine with so many cores and banks.
+/// A mail that an event of the chart sent and none of its events handles.
+#[derive(Clone, Copy, Debug, PartialEq, Eq)]
+pub struct LeavingMail {
+    pub sender: Actor,
+    /// The line of the event that sent it.
+    pub sent: u32,
+    pub to: Actor,
+    pub kind: EventKind,
+    pub about: About,
+    /// Its own line, behind all rows.
+    pub line: u32,
+}
+
+/// A task that waits for a lock as the run ends.
+#[derive(Clone, Copy, Debug, PartialEq, Eq)]
+pub struct WaitingTask {
+    pub core: CoreId,
+    pub lock: LockId,
+    /// Its own line, behind all rows and leaving mails.
+    pub line: u32,
+}
+
+/// The message chart of some events that follow each other in a run.
 #[derive(Debug, Drop)]
 pub struct Chart {
-    pub cores: u32,
-    pub banks: u32,
+    /// The size of the machine.
+    pub shape: Shape,
+    /// How many instructions a task of it may retire.
+    pub fuel: u32,
+    /// The number of the first event that has a row, and how many events the run has.
+    pub first: u32,
+    pub events: u32,
+    /// Which banks have a column, by their numbers.
+    pub shown: Sequence<bool>,
     pub rows: Sequence<ChartRow>,
-    /// How many lines the rows have in all.
+    pub leaving: Sequence<LeavingMail>,
+    pub waiting: Sequence<WaitingTask>,
+    /// How many lines these have in all.
     pub lines: u32,
 }

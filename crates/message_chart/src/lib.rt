@@ -5,11 +5,16 @@
 #![tactic(auto)]
 
 mod chart;
+mod head;
+mod labels;
+mod laws;
 mod marks;
 mod picture;
+mod places;
 mod rows;
 mod states;
 
-pub use chart::{Chart, ChartRow, Origin};
+pub use chart::{About, Chart, ChartRow, LeavingMail, Origin, WaitingTask};
+pub use laws::{different_actors_have_different_columns, rows_on_other_lines_are_drawn_apart};
 pub use picture::chart_text;
 pub use states::{WordChange, WordState};

@@ -1,97 +1,22 @@
-ghost use Rattle.std.specs.Prelude.{◌≡◌, ◌≤◌, ◌++◌, flat_map, OnOk};
-ghost use Rattle.message_net.specs.Mail.{actor_index};
-ghost use Rattle.message_chart.specs.Marks.{x_of, y_of};
-ghost use Rattle.message_chart.specs.Picture.{actor_name, arrow, arrow_from, state_change, change_words, changes_beside, column, comes_from_right, height_of, kind_words, named, number_words, point, row_words, side, state_words};
+//! The rows with their arrows, and what stands behind them.
+ghost use Rattle.std.specs.Prelude.{◌≡◌, ◌≤◌, ◌++◌, ◌*◌, ◌+◌, flat_map, OnOk};
+ghost use Rattle.message_chart.specs.Marks.{y_of};
+ghost use Rattle.message_chart.specs.Picture.{arrow, arrow_between, beside, change_words, changes_below, comes_from_right, dot, end_lines, ending_words, height_of, label, leaving_arrow, leaving_words, mail_class, number_words, point, ring, row_words, waiting_words};
+ghost use Rattle.message_chart.specs.Places.{column};
+ghost use Rattle.message_chart.specs.Labels.{label_text};
 
-use crate::chart::{Chart, ChartRow, Origin};
+use crate::chart::{About, Chart, ChartRow, LeavingMail, Origin, WaitingTask};
+use crate::labels::{push_actor, push_change_text, push_ending, push_label, push_waiting};
 use crate::marks::{
-    Point, push_attribute, push_dot, push_segment, push_words_begin, push_words_end, x_of, y_of,
+    Point, TOP, push_attribute, push_circle, push_head_from_left, push_head_from_right, push_line,
+    push_words_begin, push_words_end, y_of,
 };
-use crate::states::{WordChange, WordState};
+use crate::states::WordChange;
 use dn_base::Memory;
-use message_net::Actor;
-use run_report::event_name;
+use message_net::{Actor, EventKind};
+use rv_core::End;
 use text_pieces::{push, push_decimal, push_long};
-
-/// Where the columns begin.
-pub(crate) const TOP: u64 = 28;
-
-impl Chart {
-    /// The middle of an actor's column.
-    pub(crate) fn column(&self, actor: Actor) -> u64
-        ensures value { result ≡ column self.now actor }
-        ensures least { 216 ≤ result }
-        ensures most { result ≤ 1340029796256 }
-    {
-        match actor {
-            Actor::Core(core) => x_of(core.0 as u64),
-            Actor::Bank(bank) => x_of(self.cores as u64 + bank.0 as u64),
-            Actor::Keeper => x_of(self.cores as u64 + self.banks as u64),
-        }
-    }
-
-    /// The middle of the column behind the last one.
-    pub(crate) fn side(&self) -> u64
-        ensures value { result ≡ side self.now }
-        ensures most { result ≤ 1340029796256 }
-    {
-        x_of(self.cores as u64 + self.banks as u64 + 1)
-    }
-
-    /// The dot of a row.
-    fn dot(&self, row: &ChartRow) -> Point
-        ensures x { result.x ≡ column self.now row.now.actor }
-        ensures y { result.y ≡ y_of row.now.line }
-        ensures least_x { 216 ≤ result.x }
-        ensures most_x { result.x ≤ 1340029796256 }
-        ensures least_y { 46 ≤ result.y }
-        ensures most_y { result.y ≤ 77309411356 }
-    {
-        Point {
-            x: self.column(row.actor),
-            y: y_of(row.line),
-        }
-    }
-}
-
-/// Adds a name and a number.
-#[tactic(auto, unfolding(crate::specs::Picture::named))]
-fn push_named(out: &mut Vec<u8>, name: &[u8], number: u32) -> Result<(), Memory>
-    ensures { OnOk result (out.new.items ≡ out.old.items ++ named name.now number) }
-{
-    push(out, name)?;
-    push(out, b" ")?;
-    push_decimal(out, number)
-}
-
-/// Adds an actor's name.
-#[tactic(auto, unfolding(crate::specs::Picture::actor_name))]
-pub(crate) fn push_actor(out: &mut Vec<u8>, actor: Actor) -> Result<(), Memory>
-    ensures { OnOk result (out.new.items ≡ out.old.items ++ actor_name actor) }
-{
-    match actor {
-        Actor::Core(core) => push_named(out, b"core", core.0),
-        Actor::Bank(bank) => push_named(out, b"bank", bank.0),
-        Actor::Keeper => push(out, b"keeper"),
-    }
-}
-
-/// Adds what an actor has for a word.
-#[tactic(auto, unfolding(crate::specs::Picture::state_words))]
-fn push_state(out: &mut Vec<u8>, state: WordState) -> Result<(), Memory>
-    ensures { OnOk result (out.new.items ≡ out.old.items ++ state_words state) }
-{
-    match state {
-        WordState::Absent => push(out, b"none"),
-        WordState::Valid(value) => push_named(out, b"valid", value),
-        WordState::Touched(value) => push_named(out, b"touched", value),
-        WordState::Registered(value) => push_named(out, b"registered", value),
-        WordState::Pending(value) => push_named(out, b"pending", value),
-        WordState::Leaving(value) => push_named(out, b"leaving", value),
-        WordState::Home(value) => push_named(out, b"home", value),
-        WordState::At(core) => push_named(out, b"at core", core.0),
-    }
-}
+use text_places::Located;
 
 /// Adds the point of an event of the chain.
 #[tactic(auto, unfolding(crate::specs::Picture::point))]
@@ -118,6 +43,23 @@ pub(crate) fn push_points(out: &mut Vec<u8>, chart: &Chart, rows: &[ChartRow]) -
     Ok(())
 }
 
+/// Adds an arrow of a class from one point to another.
+#[tactic(auto, unfolding(crate::specs::Picture::arrow_between))]
+fn push_arrow_between(out: &mut Vec<u8>, class: &[u8], from: Point, to: Point) -> Result<(), Memory>
+    requires least { 300 ≤ to.x }
+    requires most { to.x ≤ 566935685352 }
+    ensures { OnOk result (out.new.items ≡ out.old.items ++ arrow_between class.now from.x from.y to.x to.y) }
+{
+    let Point { x, y } = to;
+    if x < from.x {
+        push_line(out, class, from, Point { x: x + 13, y })?;
+        push_head_from_right(out, Point { x: x + 5, y })
+    } else {
+        push_line(out, class, from, Point { x: x - 13, y })?;
+        push_head_from_left(out, Point { x: x - 5, y })
+    }
+}
+
 /// The height at which a mail is sent.
 fn height_of(line: Option<u32>) -> u64
     ensures { result ≡ height_of line }
@@ -125,6 +67,16 @@ fn height_of(line: Option<u32>) -> u64
     match line {
         Some(line) => y_of(line),
         None => TOP,
+    }
+}
+
+/// The class of the arrow of a mail that an event handles.
+fn mail_class(line: Option<u32>) -> &'static [u8]
+    ensures { result.now ≡ mail_class line }
+{
+    match line {
+        Some(_) => b"mail",
+        None => b"cut",
     }
 }
 
@@ -139,15 +91,44 @@ fn push_arrow(out: &mut Vec<u8>, chart: &Chart, row: &ChartRow) -> Result<(), Me
         x: chart.column(mail.sender),
         y: height_of(mail.line),
     };
-    push_segment(out, b"mail", from, chart.dot(row))
+    push_arrow_between(out, mail_class(mail.line), from, chart.dot(row))
 }
 
-/// Adds the arrows of all mails.
+/// Adds the arrows of all mails that are handled.
 pub(crate) fn push_arrows(out: &mut Vec<u8>, chart: &Chart, rows: &[ChartRow]) -> Result<(), Memory>
     ensures { OnOk result (out.new.items ≡ out.old.items ++ flat_map (arrow chart.now) rows.now) }
 {
     for row in rows {
         push_arrow(out, chart, row)?;
+    }
+    Ok(())
+}
+
+/// Adds the arrow of a mail that no event of the chart handles.
+fn push_leaving_arrow(out: &mut Vec<u8>, chart: &Chart, mail: &LeavingMail) -> Result<(), Memory>
+    ensures { OnOk result (out.new.items ≡ out.old.items ++ leaving_arrow chart.now mail.now) }
+{
+    let from = Point {
+        x: chart.column(mail.sender),
+        y: y_of(mail.sent),
+    };
+    let to = Point {
+        x: chart.column(mail.to),
+        y: y_of(mail.line),
+    };
+    push_arrow_between(out, b"cut", from, to)
+}
+
+/// Adds these arrows.
+pub(crate) fn push_leaving_arrows(
+    out: &mut Vec<u8>,
+    chart: &Chart,
+    mails: &[LeavingMail],
+) -> Result<(), Memory>
+    ensures { OnOk result (out.new.items ≡ out.old.items ++ flat_map (leaving_arrow chart.now) mails.now) }
+{
+    for mail in mails {
+        push_leaving_arrow(out, chart, mail)?;
     }
     Ok(())
 }
@@ -161,106 +142,254 @@ fn push_number(out: &mut Vec<u8>, row: &ChartRow) -> Result<(), Memory>
         x: 8,
         y: y_of(row.line) + 4,
     };
-    push_words_begin(out, b"event-number", at)?;
+    push_words_begin(out, b"number", at)?;
     push_decimal(out, row.event)?;
     push(out, b" ")?;
     push_actor(out, row.actor)?;
     push_words_end(out)
 }
 
-/// Whether the mail that an event handles comes from a column to the right.
-fn comes_from_right(chart: &Chart, row: &ChartRow) -> bool
-    ensures { result ≡ comes_from_right chart.now row.now row.now.mail }
+/// Adds the mark of an event of the chain.
+#[tactic(auto, unfolding(crate::specs::Picture::ring))]
+fn push_ring(out: &mut Vec<u8>, chart: &Chart, row: &ChartRow) -> Result<(), Memory>
+    ensures { OnOk result (out.new.items ≡ out.old.items ++ ring chart.now row.now) }
 {
-    match row.mail {
-        Some(mail) => chart.column(row.actor) < chart.column(mail.sender),
+    if row.on_chain {
+        push_circle(out, b"ring", chart.dot(row), 8)?;
+    }
+    Ok(())
+}
+
+/// Adds the dot of an event.
+#[tactic(auto, unfolding(crate::specs::Picture::dot))]
+fn push_dot(out: &mut Vec<u8>, chart: &Chart, row: &ChartRow) -> Result<(), Memory>
+    ensures { OnOk result (out.new.items ≡ out.old.items ++ dot chart.now row.now) }
+{
+    push_circle(out, b"event", chart.dot(row), 4)
+}
+
+/// Begins words beside a point, on the side from which no arrow comes.
+fn push_beside(
+    out: &mut Vec<u8>,
+    text: &Located,
+    from_right: bool,
+    at: Point,
+    kind: EventKind,
+    about: About,
+) -> Result<(), Memory>
+    requires least { 300 ≤ at.x }
+    requires most_x { at.x ≤ 566935685352 }
+    requires most_y { at.y ≤ 77309411440 }
+    ensures { OnOk result (out.new.items ≡ out.old.items ++ beside from_right at.x at.y (label_text text.now kind about)) }
+{
+    let Point { x, y } = at;
+    let y = y + 4;
+    if from_right {
+        push_words_begin(out, b"left", Point { x: x - 14, y })?;
+    } else {
+        push_words_begin(out, b"right", Point { x: x + 14, y })?;
+    }
+    push_label(out, text, kind, about)?;
+    push_words_end(out)
+}
+
+/// Whether the mail that an event handles comes from a column to the right.
+fn comes_from_right(chart: &Chart, actor: Actor, mail: Option<Origin>) -> bool
+    ensures { result ≡ comes_from_right chart.now actor mail }
+{
+    match mail {
+        Some(mail) => chart.column(actor) < chart.column(mail.sender),
         None => false,
     }
 }
 
-/// Adds the event's kind.
-#[tactic(auto, unfolding(crate::specs::Picture::kind_words))]
-fn push_kind(out: &mut Vec<u8>, chart: &Chart, row: &ChartRow) -> Result<(), Memory>
-    ensures { OnOk result (out.new.items ≡ out.old.items ++ kind_words chart.now row.now) }
+/// Adds what the event is.
+#[tactic(auto, unfolding(crate::specs::Picture::label))]
+fn push_row_label(
+    out: &mut Vec<u8>,
+    chart: &Chart,
+    text: &Located,
+    row: &ChartRow,
+) -> Result<(), Memory>
+    ensures { OnOk result (out.new.items ≡ out.old.items ++ label chart.now text.now row.now) }
 {
-    let Point { x, y } = chart.dot(row);
-    let y = y + 4;
-    if comes_from_right(chart, row) {
-        push_words_begin(out, b"before", Point { x: x - 8, y })?;
-    } else {
-        push_words_begin(out, b"behind", Point { x: x + 8, y })?;
-    }
-    push(out, event_name(row.kind))?;
-    push_words_end(out)
+    let from_right = comes_from_right(chart, row.actor, row.mail);
+    push_beside(out, text, from_right, chart.dot(row), row.kind, row.about)
 }
 
-/// Adds what becomes of a word.
-#[tactic(auto, unfolding(crate::specs::Picture::state_change))]
-fn push_becomes(out: &mut Vec<u8>, change: WordChange) -> Result<(), Memory>
-    ensures { OnOk result (out.new.items ≡ out.old.items ++ state_change change) }
+/// Adds how the task ends with the event, if it does.
+fn push_row_ending(out: &mut Vec<u8>, at: Point, end: Option<End>) -> Result<(), Memory>
+    requires most_x { at.x ≤ 566935685352 }
+    requires most_y { at.y ≤ 77309411440 }
+    ensures { OnOk result (out.new.items ≡ out.old.items ++ ending_words at.x at.y end) }
 {
-    push_named(out, b"word", change.word.0)?;
-    push(out, b": ")?;
-    push_state(out, change.before)?;
-    push(out, b" &#8594; ")?;
-    push_state(out, change.after)
+    let Some(end) = end else {
+        return Ok(());
+    };
+    let below = Point {
+        x: at.x + 14,
+        y: at.y + 22,
+    };
+    push_words_begin(out, b"end", below)?;
+    push_ending(out, end)?;
+    push_words_end(out)
 }
 
 /// Adds a change.
 #[tactic(auto, unfolding(crate::specs::Picture::change_words))]
-fn push_change(out: &mut Vec<u8>, x: u64, change: WordChange) -> Result<(), Memory>
-    ensures { OnOk result (out.new.items ≡ out.old.items ++ change_words x change) }
+fn push_change(out: &mut Vec<u8>, text: &Located, x: u64, change: WordChange) -> Result<(), Memory>
+    ensures { OnOk result (out.new.items ≡ out.old.items ++ change_words text.now x change) }
 {
     push(out, b"<tspan")?;
     push_attribute(out, b"x", x)?;
     push_attribute(out, b"dy", 18)?;
     push(out, b">")?;
-    push_becomes(out, change)?;
+    push_change_text(out, text, change)?;
     push(out, b"</tspan>")
 }
 
-fn push_each_change(out: &mut Vec<u8>, x: u64, changes: &[WordChange]) -> Result<(), Memory>
-    ensures { OnOk result (out.new.items ≡ out.old.items ++ flat_map (change_words x) changes.now) }
+fn push_each_change(
+    out: &mut Vec<u8>,
+    text: &Located,
+    x: u64,
+    changes: &[WordChange],
+) -> Result<(), Memory>
+    ensures { OnOk result (out.new.items ≡ out.old.items ++ flat_map (change_words text.now x) changes.now) }
 {
     for change in changes {
-        push_change(out, x, *change)?;
+        push_change(out, text, x, *change)?;
     }
     Ok(())
 }
 
-/// Adds the changes of an event.
-fn push_changes(out: &mut Vec<u8>, chart: &Chart, row: &ChartRow) -> Result<(), Memory>
-    ensures { OnOk result (out.new.items ≡ out.old.items ++ changes_beside chart.now row.now row.now.changes) }
+/// Adds the changes of an event, the first of them below a point.
+fn push_changes(
+    out: &mut Vec<u8>,
+    text: &Located,
+    above: Point,
+    changes: &[WordChange],
+) -> Result<(), Memory>
+    requires { above.y ≤ 77309411458 }
+    ensures { OnOk result (out.new.items ≡ out.old.items ++ changes_below text.now above.x above.y changes.now) }
 {
-    if row.changes.len() == 0 {
+    if changes.is_empty() {
         return Ok(());
     }
     let at = Point {
-        x: chart.side(),
-        y: chart.dot(row).y - 14,
+        x: above.x,
+        y: above.y + 4,
     };
     push_words_begin(out, b"change", at)?;
-    push_each_change(out, at.x, row.changes.as_slice())?;
+    push_each_change(out, text, above.x, changes)?;
     push_words_end(out)
+}
+
+/// How many lines a task's end takes.
+fn end_lines(end: Option<End>) -> u64
+    ensures value { result ≡ end_lines end }
+    ensures most { result ≤ 1 }
+{
+    match end {
+        Some(_) => 1,
+        None => 0,
+    }
 }
 
 /// Adds all that is written for an event but its arrow.
 #[tactic(auto, unfolding(crate::specs::Picture::row_words))]
-fn push_row(out: &mut Vec<u8>, chart: &Chart, row: &ChartRow) -> Result<(), Memory>
-    ensures { OnOk result (out.new.items ≡ out.old.items ++ row_words chart.now row.now) }
+fn push_row(out: &mut Vec<u8>, chart: &Chart, text: &Located, row: &ChartRow) -> Result<(), Memory>
+    ensures { OnOk result (out.new.items ≡ out.old.items ++ row_words chart.now text.now row.now) }
 {
+    let at = chart.dot(row);
+    let above = Point {
+        x: at.x + 14,
+        y: at.y + 18 * end_lines(row.end),
+    };
     push_number(out, row)?;
-    push_dot(out, chart.dot(row))?;
-    push_kind(out, chart, row)?;
-    push_changes(out, chart, row)
+    push_ring(out, chart, row)?;
+    push_dot(out, chart, row)?;
+    push_row_label(out, chart, text, row)?;
+    push_row_ending(out, at, row.end)?;
+    push_changes(out, text, above, row.changes.as_slice())
 }
 
 /// Adds the same for all events.
-pub(crate) fn push_rows(out: &mut Vec<u8>, chart: &Chart, rows: &[ChartRow]) -> Result<(), Memory>
-    ensures { OnOk result (out.new.items ≡ out.old.items ++ flat_map (row_words chart.now) rows.now) }
+pub(crate) fn push_rows(
+    out: &mut Vec<u8>,
+    chart: &Chart,
+    text: &Located,
+    rows: &[ChartRow],
+) -> Result<(), Memory>
+    ensures { OnOk result (out.new.items ≡ out.old.items ++ flat_map (row_words chart.now text.now) rows.now) }
 {
     for row in rows {
-        push_row(out, chart, row)?;
+        push_row(out, chart, text, row)?;
+    }
+    Ok(())
+}
+
+/// Adds what a mail is that no event of the chart handles.
+fn push_leaving(
+    out: &mut Vec<u8>,
+    chart: &Chart,
+    text: &Located,
+    mail: &LeavingMail,
+) -> Result<(), Memory>
+    ensures { OnOk result (out.new.items ≡ out.old.items ++ leaving_words chart.now text.now mail.now) }
+{
+    let at = Point {
+        x: chart.column(mail.to),
+        y: y_of(mail.line),
+    };
+    let from_right = at.x < chart.column(mail.sender);
+    push_beside(out, text, from_right, at, mail.kind, mail.about)
+}
+
+/// Adds the same of all of them.
+pub(crate) fn push_leaving_mails(
+    out: &mut Vec<u8>,
+    chart: &Chart,
+    text: &Located,
+    mails: &[LeavingMail],
+) -> Result<(), Memory>
+    ensures { OnOk result (out.new.items ≡ out.old.items ++ flat_map (leaving_words chart.now text.now) mails.now) }
+{
+    for mail in mails {
+        push_leaving(out, chart, text, mail)?;
+    }
+    Ok(())
+}
+
+/// Adds that a task waits for a lock.
+#[tactic(auto, unfolding(crate::specs::Picture::waiting_words))]
+fn push_waiting_task(
+    out: &mut Vec<u8>,
+    chart: &Chart,
+    text: &Located,
+    task: &WaitingTask,
+) -> Result<(), Memory>
+    ensures { OnOk result (out.new.items ≡ out.old.items ++ waiting_words chart.now text.now task.now) }
+{
+    let at = Point {
+        x: chart.column(Actor::Core(task.core)) + 14,
+        y: y_of(task.line) + 4,
+    };
+    push_words_begin(out, b"end", at)?;
+    push_waiting(out, text, task.lock)?;
+    push_words_end(out)
+}
+
+/// Adds the same of all that wait.
+pub(crate) fn push_waiting_tasks(
+    out: &mut Vec<u8>,
+    chart: &Chart,
+    text: &Located,
+    tasks: &[WaitingTask],
+) -> Result<(), Memory>
+    ensures { OnOk result (out.new.items ≡ out.old.items ++ flat_map (waiting_words chart.now text.now) tasks.now) }
+{
+    for task in tasks {
+        push_waiting_task(out, chart, text, task)?;
     }
     Ok(())
 }

@@ -1,5 +1,9 @@
 -- How a chart begins: with the opened machine of its program, shape and fuel.
-use Rattle.std.proofs.Common.{◌≡◌, ℕ, List, [], refl, sym, ap, subst, ◌∙◌}
+use Rattle.std.proofs.Common.{◌≡◌, ℕ, ◌*◌, ◌≤◌, Bool, true, false, List, length, Option, refl, ap, subst, ◌∙◌, arith, mul-le-mul}
+use Rattle.phase_barrier.specs.Barrier.{all_arrived}
+use Rattle.machine_rules.specs.Flight.{bit}
+use Rattle.machine_rules.specs.Sound.{rounds}
+use Rattle.run_chart.proofs.Noted.{same-lengths}
 use Rattle.dn_base.specs.declared.ids.Shape.{Shape}
 use Rattle.region_table.specs.Program.{ProgramParts}
 use Rattle.region_table.specs.Plan.{ArePlans}
@@ -9,8 +13,10 @@ use Rattle.dn_machine.specs.Kept.{Made, IsKept, IsInitialMachine}
 use Rattle.dn_machine.specs.Settings.{IsSettingOf}
 use Rattle.run_chart.specs.declared.drawing.Drawing.{Drawing}
 use Rattle.run_chart.specs.declared.drawing.Range.{Range}
-use Rattle.run_chart.specs.Drawing.{draw, SameRows}
-use Rattle.run_chart.specs.Charts.{blank, chart_in, chart_of, IsChartOf}
+use Rattle.run_chart.specs.declared.charting.Frame.{Frame}
+use Rattle.run_chart.specs.declared.finishing.Columns.{Columns}
+use Rattle.message_chart.specs.declared.chart.Chart.{Chart}
+use Rattle.run_chart.specs.Charts.{drawn, chart_in, chart_of, IsChartOf, IsFinishable}
 
 setting-of : (P : ProgramParts) (machine : Shape) (most : ℕ) (m : Made) → IsInitialMachine P machine most m → IsKept m.state m.made → IsSettingOf P machine most m.state.setting
 setting-of P machine most m opens kept =
@@ -25,25 +31,42 @@ setting-of P machine most m opens kept =
 made-is : (s t : State) (n k : ℕ) → s ≡ t → n ≡ k → ◌≡◌ {A = Made} (record { state = s; made = n }) (record { state = t; made = k })
 made-is s t n k states counts = rw (states, counts) refl
 
-chart-is : (m : Made) (shape : Shape) (range : Range) (chain : List ℕ) (events : List Event) (d : Drawing) → m.state ≡ initial_state m.state.setting → m.made ≡ 0 → m.state.setting.shape ≡ shape
-    → SameRows d (draw range chain (blank m) events) → chart_in shape d ≡ chart_of m.state.setting events range chain
-chart-is m shape range chain events d opens none is drawn =
-    let first : m ≡ record { state = initial_state m.state.setting; made = 0 } = made-is m.state (initial_state m.state.setting) m.made 0 opens none in
-    let all : chart_in shape d ≡ chart_in shape (draw range chain (blank m) events) = rw (drawn.0, drawn.1) refl in
-    all
-    ∙ ap (λ (x : Made). chart_in shape (draw range chain (blank x) events)) first
-    ∙ ap (λ (s : Shape). chart_in s (draw range chain (blank (record { state = initial_state m.state.setting; made = 0 })) events)) (sym is)
+frame-of : (m : Made) → (shape : Shape) (fuel : ℕ) (range : Range) (count : ℕ) (columns : Columns) → m.state.setting.shape ≡ shape → m.state.setting.fuel ≡ fuel
+    → ◌≡◌ {A = Frame} (record { shape = shape; fuel = fuel; range = range; events = count; columns = columns }) (record { shape = m.state.setting.shape; fuel = m.state.setting.fuel; range = range; events = count; columns = columns })
+frame-of m shape fuel range count columns shapes fuels = rw (shapes, fuels) refl
 
-pub chart-of : (P : ProgramParts) (shape : Shape) (fuel : ℕ) (m : Made) (range : Range) (chain : List ℕ) (events : List Event) (d : Drawing) → IsInitialMachine P shape fuel m → IsKept m.state m.made
-    → SameRows d (draw range chain (blank m) events) → IsChartOf P shape fuel events range chain (chart_in shape d)
-chart-of P shape fuel m range chain events d opens kept drawn =
+chart-is : (m : Made) (shape : Shape) (fuel : ℕ) (range : Range) (chain : List ℕ) (events : List Event) (columns : Columns) → m.state ≡ initial_state m.state.setting → m.made ≡ 0 → m.state.setting.shape ≡ shape
+    → m.state.setting.fuel ≡ fuel
+    → chart_in (record { shape = shape; fuel = fuel; range = range; events = length events; columns = columns }) (drawn m range chain events) ≡ chart_of m.state.setting events range chain columns
+chart-is m shape fuel range chain events columns opens none shapes fuels =
+    let first : m ≡ record { state = initial_state m.state.setting; made = 0 } = made-is m.state (initial_state m.state.setting) m.made 0 opens none in
+    ap (λ (f : Frame). chart_in f (drawn m range chain events)) (frame-of m shape fuel range (length events) columns shapes fuels)
+    ∙ ap (λ (x : Made). chart_in (record { shape = m.state.setting.shape; fuel = m.state.setting.fuel; range = range; events = length events; columns = columns }) (drawn x range chain events)) first
+
+pub chart-of : (P : ProgramParts) (shape : Shape) (fuel : ℕ) (m : Made) (range : Range) (chain : List ℕ) (events : List Event) (columns : Columns) (frame : Frame) (d : Option Drawing) (chart : Chart)
+    → IsInitialMachine P shape fuel m → IsKept m.state m.made → frame ≡ record { shape = shape; fuel = fuel; range = range; events = length events; columns = columns } → d ≡ drawn m range chain events
+    → chart ≡ chart_in frame d → IsChartOf P shape fuel events range chain columns chart
+chart-of P shape fuel m range chain events columns frame d chart opens kept frames drawings charts =
     record {
       setting = m.state.setting;
       setting_is = setting-of P shape fuel m opens kept;
-      is = chart-is m shape range chain events d opens.state opens.made opens.shape_is drawn;
+      is =
+          charts ∙ ap (λ (f : Frame). chart_in f d) frames
+          ∙ ap (λ (x : Option Drawing). chart_in (record { shape = shape; fuel = fuel; range = range; events = length events; columns = columns }) x) drawings
+          ∙ chart-is m shape fuel range chain events columns opens.state opens.made opens.shape_is opens.fuel_is;
     }
 
--- no mail is in flight as a run begins
-pub no-mails : (P : ProgramParts) (shape : Shape) (fuel : ℕ) (m : Made) → IsInitialMachine P shape fuel m → m.state.mails ≡ []
-unfolding initial_state
-no-mails P shape fuel m opens = ap (λ (x : State). x.mails) opens.state
+-- ---- how many mails are in flight
+
+bit-most : (b : Bool) → bit b ≤ 1
+bit-most true = omega arith
+bit-most false = omega arith
+
+few-flying : (S : State) (made : ℕ) → IsKept S made → made ≤ 25173760 → length S.mails ≤ 25174800
+few-flying S made kept few =
+    let turns : rounds S ≤ 65 = omega (arith, kept.sound.within, kept.sound.machine.program.phases, bit-most (all_arrived S.keeper)) in
+    let letters : S.setting.shape.cores * rounds S ≤ 1040 = mul-le-mul kept.most turns in
+    omega (arith, kept.sound.mails, letters, few)
+
+pub few-noted : (d : Drawing) → IsKept d.machine.state d.machine.made → IsFinishable d → length d.sent ≤ 25174800
+few-noted d kept fits = omega (arith, few-flying d.machine.state d.machine.made kept fits.made, same-lengths d.sent d.machine.state.mails fits.sent)

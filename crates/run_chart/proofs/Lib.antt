@@ -1,10 +1,11 @@
 pub mod Items
 pub mod Marked
 pub mod Begun
-pub mod Ranged
 pub mod Noted
 pub mod Flown
 pub mod Gathered
 pub mod Others
 pub mod Among
 pub mod Rows
+pub mod Behind
+pub mod RangeRows

@@ -1,5 +1,5 @@
 -- One row more.
-use Rattle.std.proofs.Common.{◌≡◌, ℕ, ◌+◌, ◌*◌, ◌<◌, ◌≤◌, Bool, List, [], ◌∷◌, ◌++◌, length, map, drop, get_or, Option, Some, refl, sym, ap, subst, ◌∙◌, arith, length-append}
+use Rattle.std.proofs.Common.{◌≡◌, ℕ, ◌+◌, ◌*◌, ◌<◌, ◌≤◌, Bool, List, [], ◌∷◌, ◌++◌, length, map, drop, get_or, Option, Some, None, refl, sym, ap, subst, ◌∙◌, arith, length-append}
 use Rattle.std.proofs.lemmas.List.{at_drop_more}
 use Rattle.message_net.specs.declared.actor.Actor.{Actor}
 use Rattle.message_net.specs.declared.event.Event.{Event}
@@ -7,13 +7,15 @@ use Rattle.machine_rules.specs.State.{State}
 use Rattle.machine_rules.specs.Next.{next}
 use Rattle.machine_rules.specs.Sound.{IsMachine}
 use Rattle.dn_machine.specs.Kept.{Made}
+use Rattle.rv_core.specs.declared.task.End.{End}
 use Rattle.message_chart.specs.declared.chart.ChartRow.{ChartRow}
+use Rattle.message_chart.specs.Picture.{end_lines}
 use Rattle.message_chart.specs.declared.states.WordChange.{WordChange}
 use Rattle.run_chart.specs.declared.drawing.Drawing.{Drawing}
 use Rattle.run_chart.specs.declared.drawing.Look.{Look}
 use Rattle.run_chart.specs.declared.mails.SentMail.{SentMail}
 use Rattle.run_chart.specs.declared.words.HeldWord.{HeldWord}
-use Rattle.run_chart.specs.Drawing.{event_maker, height, row_by, row_of, row_with, with_row, with_rows, IsLookBefore, HasRow, IsNextRow}
+use Rattle.run_chart.specs.Drawing.{event_maker, row_by, row_of, row_with, with_row, with_rows, IsLookBefore, HasRow, IsNextRow}
 use Rattle.run_chart.specs.Mails.{noted_mails, place_handled, mails_left, sent_on, AreNotedFor}
 use Rattle.run_chart.specs.Marks.{is_on_chain}
 use Rattle.run_chart.specs.Words.{word_state, changes_among, changes_in, held_words}
@@ -32,7 +34,7 @@ with_this d n place row =
       machine = n;
       sent = noted_after d n place;
       event = d.event + 1;
-      line = d.line + height row.changes;
+      line = d.line + row.lines;
       rows = d.rows ++ row ∷ [];
     }
 
@@ -48,7 +50,7 @@ changes-are S sent e look good seen =
 row-is : (S : State) (sent : List SentMail) (e : Event) (look : Look) (number line : ℕ) (mark : Bool) (m : Made) → m.state ≡ S → IsMachine S → IsLookBefore S sent e look
     → row_with S e look number line mark ≡ row_by m sent e number line mark
 row-is S sent e look number line mark m same good seen =
-    rw (changes-are S sent e look good seen, seen.actor, seen.mail, same) refl
+    rw (changes-are S sent e look good seen, seen.actor, seen.about, seen.phase, seen.mail, seen.end, same) refl
 
 module _ (d : Drawing) (e : Event) (look : Look) (n : Made) (row : ChartRow) (mark : Bool) where
   is-next : (chain : List ℕ) → IsMachine d.machine.state → AreNotedFor d.sent d.machine.state.mails → IsLookBefore d.machine.state d.sent e look → HasRow d.machine n e look d.event d.line mark row
@@ -64,7 +66,7 @@ module _ (d : Drawing) (e : Event) (look : Look) (n : Made) (row : ChartRow) (ma
       rw (flying, row_is, came.moves) refl
 
   pub next-row : (f : Drawing) → IsMachine d.machine.state → AreNotedFor d.sent d.machine.state.mails → IsLookBefore d.machine.state d.sent e look → HasRow d.machine n e look d.event d.line mark row
-      → d.line ≤ 65536 * length d.rows → height row.changes ≤ 65536 → f ≡ with_this d n look.place row → IsNextRow mark d f e
+      → d.line ≤ 65538 * length d.rows → row.lines ≤ 65538 → f ≡ with_this d n look.place row → IsNextRow mark d f e
   next-row f good same seen came lines tall is =
       record {
         may = came.may;
@@ -72,7 +74,7 @@ module _ (d : Drawing) (e : Event) (look : Look) (n : Made) (row : ChartRow) (ma
         made = ap (λ (x : Drawing). x.machine.made) is ∙ ap (λ (x : Made). x.made) came.moves;
         event = ap (λ (x : Drawing). x.event) is;
         rows = ap (λ (x : Drawing). length x.rows) is ∙ length-append d.rows (row ∷ []) ∙ omega arith;
-        line = subst (λ (x : Drawing). x.line ≤ 65536 * length x.rows) (sym is) (omega (arith, lines, tall, length-append d.rows (row ∷ [])));
+        line = subst (λ (x : Drawing). x.line ≤ 65538 * length x.rows) (sym is) (omega (arith, lines, tall, length-append d.rows (row ∷ [])));
         sent = subst (λ (x : Drawing). AreNotedFor x.sent x.machine.state.mails) (sym is) in_step;
       }
     where
@@ -89,14 +91,19 @@ module _ (d : Drawing) (e : Event) (look : Look) (n : Made) (row : ChartRow) (ma
           rw (flying, mails) noted
 
 -- and they are few
-pub few-in-row : (S : State) (sent : List SentMail) (e : Event) (look : Look) (event line : ℕ) (mark : Bool) (row : ChartRow) → IsMachine S → IsLookBefore S sent e look → row ≡ row_with S e look event line mark
-    → length row.changes ≤ 65536
-few-in-row S sent e look event line mark row good seen is =
-    subst (λ (l : List WordChange). length l ≤ 65536) (sym (ap (λ (r : ChartRow). r.changes) is ∙ changes-are S sent e look good seen)) (few-changes S (next S e) (event_maker S e) good)
+pub few-among : (S : State) (sent : List SentMail) (e : Event) (look : Look) → IsMachine S → IsLookBefore S sent e look
+    → length (changes_among (word_state (next S e) look.actor) look.held) ≤ 65536
+few-among S sent e look good seen =
+    subst (λ (l : List WordChange). length l ≤ 65536) (sym (changes-are S sent e look good seen)) (few-changes S (next S e) (event_maker S e) good)
 
-pub height-most : (changes : List WordChange) → length changes ≤ 65536 → height changes ≤ 65536
-height-most [] most = omega arith
-height-most (c ∷ cs) most = most
+end-most : (o : Option End) → end_lines o ≤ 1
+end-most None = omega arith
+end-most (Some by) = omega arith
+
+pub few-lines : (S : State) (sent : List SentMail) (e : Event) (look : Look) (event line : ℕ) (mark : Bool) (row : ChartRow) → IsMachine S → IsLookBefore S sent e look → row ≡ row_with S e look event line mark
+    → row.lines ≤ 65538
+few-lines S sent e look event line mark row good seen is =
+    subst (λ (n : ℕ). n ≤ 65538) (sym (ap (λ (r : ChartRow). r.lines) is)) (omega (arith, end-most look.end, few-among S sent e look good seen))
 
 -- the rows of one event more of a list
 pub rows-step : (chain : List ℕ) (d f : Drawing) (es : List Event) (i : ℕ) (other : Event) (whole : Drawing) (mark : Bool) → i < length es → IsNextRow mark d f (get_or es i other)

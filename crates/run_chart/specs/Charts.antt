@@ -1,31 +1,89 @@
 -- The message chart of a range of a run's events.
-use Rattle.std.specs.Prelude.{◌≡◌, ℕ, List, []}
+use Rattle.std.specs.Prelude.{◌≡◌, ℕ, ◌+◌, ◌≤◌, Bool, true, false, nat_le, List, [], length, take, drop, Option, Some, None}
 use Rattle.dn_base.specs.declared.ids.Shape.{Shape}
 use Rattle.region_table.specs.Program.{ProgramParts}
 use Rattle.message_net.specs.declared.event.Event.{Event}
 use Rattle.registration_protocol.specs.Node.{Setting}
-use Rattle.machine_rules.specs.State.{initial_state}
+use Rattle.machine_rules.specs.State.{State, initial_state}
 use Rattle.dn_machine.specs.Kept.{Made}
 use Rattle.dn_machine.specs.Settings.{IsSettingOf}
 use Rattle.message_chart.specs.declared.chart.Chart.{Chart}
+use Rattle.message_chart.specs.declared.chart.ChartRow.{ChartRow}
+use Rattle.message_chart.specs.declared.chart.LeavingMail.{LeavingMail}
+use Rattle.message_chart.specs.declared.chart.WaitingTask.{WaitingTask}
+use Rattle.run_chart.specs.declared.charting.Frame.{Frame}
 use Rattle.run_chart.specs.declared.drawing.Drawing.{Drawing}
 use Rattle.run_chart.specs.declared.drawing.Range.{Range}
-use Rattle.run_chart.specs.Drawing.{draw}
+use Rattle.run_chart.specs.declared.finishing.Columns.{Columns}
+use Rattle.run_chart.specs.Drawing.{led_to, begun, with_rows}
+use Rattle.run_chart.specs.Mails.{AreNotedFor}
+use Rattle.run_chart.specs.Finishing.{leaving_from, waiting_from, shown_banks}
 
--- nothing is drawn yet, and no event has come
-abbrev pub blank : Made → Drawing
-blank m = record { machine = m; sent = []; event = 0; line = 0; rows = [] }
+-- the events before a range, and those of it
+abbrev pub before : Range → List Event → List Event
+before range events = take range.first events
 
--- the chart that a drawing is
-abbrev pub chart_in : Shape → Drawing → Chart
-chart_in shape d = record { cores = shape.cores; banks = shape.banks; rows = d.rows; lines = d.line }
+abbrev pub inside : Range → List Event → List Event
+inside range events = take range.most (drop range.first events)
+
+-- whether no event comes behind the range
+abbrev pub reaches_end : Range → ℕ → Bool
+reaches_end range events = nat_le events (range.first + range.most)
+
+-- what is drawn of these events behind the machine to which so many others led; nothing where they lead to none
+abbrev pub drawn_behind : List ℕ → ℕ → List Event → Option Made → Option Drawing
+drawn_behind chain event wanted None = None
+drawn_behind chain event wanted (Some m) = Some (with_rows chain (begun m event) wanted)
+
+-- what is drawn of a range of the events that come from a machine on
+abbrev pub drawn : Made → Range → List ℕ → List Event → Option Drawing
+drawn m range chain events = drawn_behind chain (length (before range events)) (inside range events) (led_to m (before range events))
+
+-- the tasks that wait for a lock as the run ends, where the chart reaches its end
+abbrev pub waiting_at : Bool → ℕ → State → List WaitingTask
+waiting_at true line S = waiting_from line S.nodes
+waiting_at false line S = []
+
+-- the chart of these rows, which end before a line, mails and tasks
+abbrev pub chart_by : Frame → List ChartRow → List LeavingMail → List WaitingTask → ℕ → Chart
+chart_by frame rows leaving tasks line =
+    record {
+      shape = frame.shape;
+      fuel = frame.fuel;
+      first = frame.range.first;
+      events = frame.events;
+      shown = shown_banks frame.columns rows leaving frame.shape.banks;
+      rows = rows;
+      leaving = leaving;
+      waiting = tasks;
+      lines = line + length leaving + length tasks;
+    }
+
+-- the chart that a drawing is: behind its rows stand the mails that leave it, and then the tasks that wait
+abbrev pub leaving_in : Drawing → List LeavingMail
+leaving_in d = leaving_from d.line d.sent d.machine.state.mails
+
+abbrev pub waiting_in : Range → ℕ → Drawing → List WaitingTask
+waiting_in range events d = waiting_at (reaches_end range events) (d.line + length (leaving_in d)) d.machine.state
+
+abbrev pub chart_in : Frame → Option Drawing → Chart
+chart_in frame None = chart_by frame [] [] [] 0
+chart_in frame (Some d) = chart_by frame d.rows (leaving_in d) (waiting_in frame.range frame.events d) d.line
 
 -- the chart of the events that come from the initial machine on
-abbrev pub chart_of : Setting → List Event → Range → List ℕ → Chart
-chart_of C events range chain = chart_in C.shape (draw range chain (blank (record { state = initial_state C; made = 0 })) events)
+abbrev pub chart_of : Setting → List Event → Range → List ℕ → Columns → Chart
+chart_of C events range chain columns =
+    chart_in (record { shape = C.shape; fuel = C.fuel; range = range; events = length events; columns = columns })
+    (drawn (record { state = initial_state C; made = 0 }) range chain events)
 
 -- the chart of a run of the machine of this program, shape and fuel
-pub record IsChartOf (P : ProgramParts) (shape : Shape) (fuel : ℕ) (events : List Event) (range : Range) (chain : List ℕ) (chart : Chart) : Type 0 where
+pub record IsChartOf (P : ProgramParts) (shape : Shape) (fuel : ℕ) (events : List Event) (range : Range) (chain : List ℕ) (columns : Columns) (chart : Chart) : Type 0 where
   pub setting : Setting
   pub setting_is : IsSettingOf P shape fuel setting
-  pub is : chart ≡ chart_of setting events range chain
+  pub is : chart ≡ chart_of setting events range chain columns
+
+-- a drawing whose mails are noted, and whose lines are so few that those of mails and tasks can stand behind them
+pub record IsFinishable (d : Drawing) : Type 0 where
+  pub sent : AreNotedFor d.sent d.machine.state.mails
+  pub made : d.machine.made ≤ 25173760
+  pub lines : d.line ≤ 268443648

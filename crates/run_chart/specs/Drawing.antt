@@ -1,5 +1,5 @@
 -- How a chart is drawn, event by event.
-use Rattle.std.specs.Prelude.{◌≡◌, ℕ, ◌+◌, ◌*◌, ◌≤◌, Bool, true, false, ◌&&◌, nat_le, nat_lt, List, [], ◌∷◌, ◌++◌, length, Option, Some, None, if◌then◌else◌}
+use Rattle.std.specs.Prelude.{◌≡◌, ℕ, ◌+◌, ◌*◌, ◌≤◌, Bool, true, false, List, [], ◌∷◌, ◌++◌, length, Option, Some, None, if◌then◌else◌}
 use Rattle.message_net.specs.declared.actor.Actor.{Actor}
 use Rattle.message_net.specs.declared.actor.Actor.TheVariants.{Keeper}
 use Rattle.message_net.specs.declared.event.Event.{Event}
@@ -7,15 +7,17 @@ use Rattle.machine_rules.specs.State.{State}
 use Rattle.machine_rules.specs.Next.{next, enabled, kind_in}
 use Rattle.dn_machine.specs.Actors.{actor_in}
 use Rattle.dn_machine.specs.Kept.{Made}
+use Rattle.rv_core.specs.declared.task.End.{End}
 use Rattle.message_chart.specs.declared.chart.ChartRow.{ChartRow}
+use Rattle.message_chart.specs.Picture.{end_lines}
 use Rattle.message_chart.specs.declared.states.WordChange.{WordChange}
 use Rattle.run_chart.specs.declared.drawing.Drawing.{Drawing}
 use Rattle.run_chart.specs.declared.drawing.Look.{Look}
-use Rattle.run_chart.specs.declared.drawing.Range.{Range}
 use Rattle.run_chart.specs.declared.mails.SentMail.{SentMail}
 use Rattle.run_chart.specs.declared.words.HeldWord.{HeldWord}
 use Rattle.run_chart.specs.Mails.{noted_mails, origin_of, unknown_mails, place_handled, AreNotedFor}
 use Rattle.run_chart.specs.Marks.{is_on_chain}
+use Rattle.run_chart.specs.About.{about_in, end_in}
 use Rattle.run_chart.specs.Affected.{affected_by, is_affected, AreGathered}
 use Rattle.run_chart.specs.Words.{changes_in, changes_among, held_words, word_state}
 
@@ -31,80 +33,54 @@ the_actor (Some a) = a
 abbrev pub event_maker : State → Event → Actor
 event_maker S e = the_actor (actor_in S e)
 
--- how many lines a row with these changes has
-abbrev pub height : List WordChange → ℕ
-height [] = 1
-height (c ∷ cs) = length (c ∷ cs)
+-- how many lines a row has: one for its event, one where a task ends, and one for each change
+abbrev pub lines_of : Option End → List WordChange → ℕ
+lines_of end changes = 1 + end_lines end + length changes
 
--- whether the next event has a row: it isn't before the first, and the rows aren't as many as are wanted
-abbrev pub has_row : Range → Drawing → Bool
-has_row range d = nat_le range.first d.event && nat_lt (length d.rows) range.most
-
--- the row of event number `event`, on its first line, by the machine and the lines of the mails before it
+-- the row of event number `event`, from a line on, by the machine and the lines of the mails before it
 abbrev pub row_by : Made → List SentMail → Event → ℕ → ℕ → Bool → ChartRow
 row_by m sent e event line on_chain =
     record {
       event = event;
       actor = event_maker m.state e;
       kind = kind_in m.state e;
+      about = about_in m.state e;
+      phase = record { 0 = m.state.keeper.phase };
       line = line;
+      lines = lines_of (end_in m.state e) (changes_in m.state (next m.state e) (event_maker m.state e));
       mail = origin_of sent e;
       changes = changes_in m.state (next m.state e) (event_maker m.state e);
+      end = end_in m.state e;
       on_chain = on_chain;
     }
 
 abbrev pub row_of : List ℕ → Drawing → Event → ChartRow
 row_of chain d e = row_by d.machine d.sent e d.event d.line (is_on_chain chain d.event)
 
--- the drawing with one event more, which has a row
+-- the drawing with the row of one event more
 abbrev pub with_row : List ℕ → Drawing → Event → Drawing
 with_row chain d e =
     record {
       machine = moved d.machine e;
       sent = noted_mails (next d.machine.state e).mails (Some d.line) d.sent;
       event = d.event + 1;
-      line = d.line + height (row_of chain d e).changes;
+      line = d.line + (row_of chain d e).lines;
       rows = d.rows ++ row_of chain d e ∷ [];
     }
-
--- or has none
-abbrev pub without_row : Drawing → Event → Drawing
-without_row d e =
-    record {
-      machine = moved d.machine e;
-      sent = noted_mails (next d.machine.state e).mails None d.sent;
-      event = d.event + 1;
-      line = d.line;
-      rows = d.rows;
-    }
-
-abbrev pub drawn : Range → List ℕ → Drawing → Event → Drawing
-drawn range chain d e = if has_row range d then with_row chain d e else without_row d e
-
--- the drawing with these events more, as long as each may come
-abbrev pub draw : Range → List ℕ → Drawing → List Event → Drawing
-draw range chain d [] = d
-draw range chain d (e ∷ es) = if enabled d.machine.state e then draw range chain (drawn range chain d e) es else d
-
--- ---- how it is drawn in parts: first the events before the range come, then those of the range, and those behind it change no row
-
--- the machine to which events lead that come one after the other; None where one of them may not come in its turn
-abbrev pub led_to : Made → List Event → Option Made
-led_to m [] = Some m
-led_to m (e ∷ es) = if enabled m.state e then led_to (moved m e) es else None
-
--- no event has a row so far, and so many came
-abbrev pub waiting : Made → ℕ → Drawing
-waiting m event = record { machine = m; sent = unknown_mails m.state.mails; event = event; line = 0; rows = [] }
 
 -- the drawing with the rows of these events more, as long as each may come
 abbrev pub with_rows : List ℕ → Drawing → List Event → Drawing
 with_rows chain d [] = d
 with_rows chain d (e ∷ es) = if enabled d.machine.state e then with_rows chain (with_row chain d e) es else d
 
--- two drawings have the same rows, on as many lines
-abbrev pub SameRows : Drawing → Drawing → Type 0
-SameRows d f = (d.rows ≡ f.rows) × (d.line ≡ f.line)
+-- the machine to which events lead that come one after the other; None where one of them may not come in its turn
+abbrev pub led_to : Made → List Event → Option Made
+led_to m [] = Some m
+led_to m (e ∷ es) = if enabled m.state e then led_to (moved m e) es else None
+
+-- no event has a row so far, and so many came; no line is known of the mails that are in flight
+abbrev pub begun : Made → ℕ → Drawing
+begun m event = record { machine = m; sent = unknown_mails m.state.mails; event = event; line = 0; rows = [] }
 
 -- ---- what the parts of a row's drawing come to
 
@@ -123,7 +99,10 @@ pub record AreHeldBefore (S : State) (e : Event) (a : Actor) (held : List HeldWo
 pub record IsLookBefore (S : State) (sent : List SentMail) (e : Event) (look : Look) : Type 0 where
   pub place : look.place ≡ place_handled S.mails e
   pub actor : look.actor ≡ event_maker S e
+  pub about : look.about ≡ about_in S e
+  pub phase : look.phase ≡ record { 0 = S.keeper.phase }
   pub mail : look.mail ≡ origin_of sent e
+  pub end : look.end ≡ end_in S e
   pub held : AreHeldBefore S e look.actor look.held
 
 -- the row of an event, by what was looked at before it
@@ -133,9 +112,13 @@ row_with S e look event line on_chain =
       event = event;
       actor = look.actor;
       kind = kind_in S e;
+      about = look.about;
+      phase = look.phase;
       line = line;
+      lines = lines_of look.end (changes_among (word_state (next S e) look.actor) look.held);
       mail = look.mail;
       changes = changes_among (word_state (next S e) look.actor) look.held;
+      end = look.end;
       on_chain = on_chain;
     }
 
@@ -152,7 +135,7 @@ pub record IsNextRow (on_chain : Bool) (d f : Drawing) (e : Event) : Type 0 wher
   pub made : f.machine.made ≡ d.machine.made + 1
   pub event : f.event ≡ d.event + 1
   pub rows : length f.rows ≡ length d.rows + 1
-  pub line : f.line ≤ 65536 * length f.rows
+  pub line : f.line ≤ 65538 * length f.rows
   pub sent : AreNotedFor f.sent f.machine.state.mails
 
 -- what came of an event that was to have a row: nothing, as it may not come, or it came

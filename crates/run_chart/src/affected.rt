@@ -61,7 +61,7 @@ fn by_bank_message(message: Message) -> Affected
 }
 
 /// The mail in flight with this id, if there is one.
-fn mail_of(pool: &Pool, id: MailId) -> Option<Mail>
+pub(crate) fn mail_of(pool: &Pool, id: MailId) -> Option<Mail>
     ensures { result ≡ (removed id pool.now.mails).0 }
 {
     match pool.place_of(id) {

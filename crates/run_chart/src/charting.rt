@@ -1,20 +1,23 @@
-ghost use Rattle.std.specs.Prelude.{◌≡◌, ◌+◌, ◌*◌, ◌<◌, ◌≤◌, [], true, length, IfOk};
+ghost use Rattle.std.specs.Prelude.{◌≡◌, ◌+◌, ◌*◌, ◌<◌, ◌≤◌, [], true, length, take, drop, None, Some, IfOk, IfSome};
 ghost use Rattle.dn_machine.specs.Sizes.{FitsMachine};
-ghost use Rattle.run_chart.specs.Charts.{IsChartOf, blank};
-ghost use Rattle.run_chart.specs.Drawing.{draw, waiting, SameRows};
+ghost use Rattle.machine_rules.specs.Sound.{IsMachine};
+ghost use Rattle.run_chart.specs.Charts.{chart_by, drawn, leaving_in, reaches_end, waiting_at, waiting_in, IsChartOf, IsFinishable};
+ghost use Rattle.run_chart.specs.Drawing.{begun};
+ghost use Rattle.run_chart.specs.Mails.{AreNotedFor};
 
 use crate::drawing::{Drawing, Range, pass};
+use crate::finishing::{Columns, leaving_mails, shown_banks, waiting_tasks};
 use crate::mails::unknown_mails;
 use dn_base::{Memory, Sequence, Shape};
 use dn_machine::{Machine, a_machine_is_kept};
 use effect_checker::Checked;
-use message_chart::Chart;
+use message_chart::{Chart, ChartRow, LeavingMail, WaitingTask};
 use message_net::Event;
 use std::alloc::Global;
 
 /// A drawing without rows, behind so many events.
-fn waiting(alloc: Global, machine: Machine, event: u32) -> Result<Drawing, Memory>
-    ensures { IfOk result (λ drawing. drawing ≡ waiting machine event) }
+fn begun(alloc: Global, machine: Machine, event: u32) -> Result<Drawing, Memory>
+    ensures { IfOk result (λ drawing. drawing ≡ begun machine event) }
 {
     let sent = unknown_mails(alloc, machine.pool())?;
     Ok(Drawing {
@@ -26,52 +29,170 @@ fn waiting(alloc: Global, machine: Machine, event: u32) -> Result<Drawing, Memor
     })
 }
 
-/// How many of so many things are wanted, where there are `wanted` at most.
-fn at_most(wanted: u32, there: usize) -> usize
-    ensures most { result ≤ wanted }
-    ensures within { result ≤ there }
-    ensures either { result < wanted → result ≡ there }
+/// The first so many of some events, or all where there are no more.
+fn first_of(events: &[Event], wanted: u32) -> (&[Event], &[Event])
+    ensures front { result.0.now ≡ take wanted events.now }
+    ensures back { result.1.now ≡ drop wanted events.now }
+    ensures most { length result.0.now ≤ wanted }
 {
     let wanted = wanted as usize;
-    if wanted < there { wanted } else { there }
+    if wanted < events.len() {
+        events.split_at(wanted)
+    } else {
+        events.split_at(events.len())
+    }
 }
 
-/// What is drawn of a range of events. Those before it are only made, and those behind it change no row: they aren't even made.
+/// What is drawn of a range of events. Those before it are only made, and those behind it aren't looked at. None where one before it may
+/// not come in its turn.
 fn drawn(
     alloc: Global,
     machine: Machine,
     events: &[Event],
     range: Range,
     chain: &[u32],
-) -> Result<Drawing, Memory>
+) -> Result<Option<Drawing>, Memory>
     requires made { machine.made ≡ 0 }
-    requires mails { machine.state.mails ≡ [] }
     requires few { length events.now ≤ 25169664 }
     requires most { range.most ≤ 4096 }
-    ensures { IfOk result (λ drawing. SameRows drawing (draw range chain.now (blank machine) events.now)) }
+    ensures drawn { IfOk result (λ d. d ≡ drawn machine range chain.now events.now) }
+    ensures fits { IfOk result (λ d. IfSome d IsFinishable) }
 {
     let mut machine = machine;
-    let (before, rest) = events.split_at(at_most(range.first, events.len()));
-    let all = pass(&mut machine, before)?;
-    let mut drawing = waiting(alloc, machine, before.len() as u32)?;
-    if all {
-        let (wanted, _) = rest.split_at(at_most(range.most, rest.len()));
-        drawing.add_rows(alloc, wanted, chain)?;
+    let (before, rest) = first_of(events, range.first);
+    if !pass(&mut machine, before)? {
+        return Ok(None);
     }
-    Ok(drawing)
+    let mut drawing = begun(alloc, machine, before.len() as u32)?;
+    let (wanted, _) = first_of(rest, range.most);
+    drawing.add_rows(alloc, wanted, chain)?;
+    Ok(Some(drawing))
 }
 
-/// The message chart of a range of a run's events, with a line through the events whose numbers the chain has.
+/// Whether no event comes behind the range, of so many.
+fn reaches_end(range: Range, events: u32) -> bool
+    ensures { result ≡ reaches_end range events }
+{
+    events as u64 <= range.first as u64 + range.most as u64
+}
+
+/// The tasks that wait for a lock as the run ends, if the chart reaches its end.
+fn waiting_at(
+    alloc: Global,
+    is_end: bool,
+    machine: &Machine,
+    line: u32,
+) -> Result<Sequence<WaitingTask>, Memory>
+    requires machine { IsMachine machine.now.state }
+    requires few { line ≤ 4000000000 }
+    requires cores { machine.now.state.setting.shape.cores ≤ 16 }
+    ensures value { IfOk result (λ waiting. waiting ≡ waiting_at is_end line machine.now.state) }
+    ensures most { IfOk result (λ waiting. length waiting ≤ 16) }
+{
+    if is_end {
+        waiting_tasks(alloc, machine, line)
+    } else {
+        Ok(Sequence::new(alloc))
+    }
+}
+
+/// What all charts of a run have in common.
+#[derive(Clone, Copy)]
+pub(crate) struct Frame {
+    pub(crate) shape: Shape,
+    pub(crate) fuel: u32,
+    pub(crate) range: Range,
+    pub(crate) events: u32,
+    pub(crate) columns: Columns,
+}
+
+/// The chart of these rows, which end before a line, mails and tasks.
+fn chart_with(
+    alloc: Global,
+    frame: Frame,
+    rows: Sequence<ChartRow>,
+    leaving: Sequence<LeavingMail>,
+    waiting: Sequence<WaitingTask>,
+    line: u32,
+) -> Result<Chart, Memory>
+    requires { line + length leaving + length waiting ≤ 4294967295 }
+    ensures { IfOk result (λ chart. chart ≡ chart_by frame rows leaving waiting line) }
+{
+    let lines = line + leaving.len() as u32 + waiting.len() as u32;
+    let shown = shown_banks(
+        alloc,
+        frame.columns,
+        rows.as_slice(),
+        leaving.as_slice(),
+        frame.shape.banks,
+    )?;
+    Ok(Chart {
+        shape: frame.shape,
+        fuel: frame.fuel,
+        first: frame.range.first,
+        events: frame.events,
+        shown,
+        rows,
+        leaving,
+        waiting,
+        lines,
+    })
+}
+
+/// The chart without rows.
+fn empty_chart(alloc: Global, frame: Frame) -> Result<Chart, Memory>
+    ensures { IfOk result (λ chart. chart ≡ chart_by frame [] [] [] 0) }
+{
+    chart_with(
+        alloc,
+        frame,
+        Sequence::new(alloc),
+        Sequence::new(alloc),
+        Sequence::new(alloc),
+        0,
+    )
+}
+
+/// The chart that a drawing is.
+fn finished(alloc: Global, frame: Frame, drawing: Drawing) -> Result<Chart, Memory>
+    requires { IsFinishable drawing }
+    ensures { IfOk result (λ chart. chart ≡ chart_by frame drawing.rows (leaving_in drawing) (waiting_in frame.range frame.events drawing) drawing.line) }
+{
+    // for the proof alone: the machine is well formed, and few mails are in flight
+    a_machine_is_kept(&drawing.machine);
+    let leaving = leaving_mails(
+        alloc,
+        drawing.sent.as_slice(),
+        drawing.machine.pool(),
+        drawing.line,
+    )?;
+    let behind = drawing.line + leaving.len() as u32;
+    let is_end = reaches_end(frame.range, frame.events);
+    let waiting = waiting_at(alloc, is_end, &drawing.machine, behind)?;
+    let Drawing {
+        machine: _,
+        sent: _,
+        event: _,
+        line,
+        rows,
+    } = drawing;
+    chart_with(alloc, frame, rows, leaving, waiting, line)
+}
+
+/// The message chart of a range of a run's events, with marks for the events whose numbers the chain has.
 ///
-/// A row tells which actor makes the event, its kind, where the mail that it handles comes from, and each data word for which
-/// the actor has something else after the event than before it. The chart goes as far as the events may come one after the other from
-/// the initial machine of the checked program, this shape and this fuel on; those of a run all may.
+/// A row tells which actor makes the event, what it is and what it is about, where the mail that it handles comes from, how a task ends
+/// with it, and each data word for which the actor has something else after the event. Behind the rows stand the mails that an
+/// event of the range sent and none of them handles, and, where no event comes behind the range, the tasks that wait for a lock. The
+/// chart goes as far as the events may come one after the other from the initial machine of the checked program, this shape and
+/// this fuel on; those of a run all may.
 ///
 /// The shape has the cores that the program needs, 1 to 16 banks, 1 to 256 sets and 1 to 16 ways, a task may retire `fuel`
 /// instructions, 1 to 32,768, there are at most 25,169,664 events, and the range has at most 4,096.
 ///
 /// An event before the range is only made, and one behind it isn't looked at. One of the range costs what it sends and takes,
-/// however many mails are in flight, and two looks at each data word. The chain is gone through once, and needn't be in order.
+/// however many mails are in flight, and looks at the words that it may change: at one, or at a Grant or a Go at each of the core's
+/// entries. The chain is gone through once, and needn't be in order.
 ///
 /// # Errors
 /// `Memory` where there is no room for the machine, its mails or the rows.
@@ -83,26 +204,25 @@ pub fn chart(
     events: &[Event],
     range: Range,
     chain: &[u32],
+    columns: Columns,
 ) -> Result<Chart, Memory>
     requires fits { FitsMachine checked shape fuel }
     requires few { length events.now ≤ 25169664 }
     requires most { range.most ≤ 4096 }
-    ensures { IfOk result (IsChartOf checked shape fuel events.now range chain.now) }
+    ensures { IfOk result (IsChartOf checked shape fuel events.now range chain.now columns) }
 {
     let machine = Machine::start(alloc, checked, shape, fuel)?;
-    // for the proof alone: no event has come, so the machine is the opened one, sound and coherent
+    // for the proof alone: no event has come, so the machine is the initial one
     a_machine_is_kept(&machine);
-    let Drawing {
-        machine: _,
-        sent: _,
-        event: _,
-        line,
-        rows,
-    } = drawn(alloc, machine, events, range, chain)?;
-    Ok(Chart {
-        cores: shape.cores,
-        banks: shape.banks,
-        rows,
-        lines: line,
-    })
+    let frame = Frame {
+        shape,
+        fuel,
+        range,
+        events: events.len() as u32,
+        columns,
+    };
+    match drawn(alloc, machine, events, range, chain)? {
+        Some(drawing) => finished(alloc, frame, drawing),
+        None => empty_chart(alloc, frame),
+    }
 }

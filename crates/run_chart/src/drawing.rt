@@ -1,20 +1,24 @@
 ghost use Rattle.std.specs.Prelude.{◌≡◌, ◌+◌, ◌*◌, ◌++◌, ◌∷◌, ◌<◌, ◌≤◌, ℕ, [], false, None, Some, Ok, drop, length, map, IfOk, OnOk};
 ghost use Rattle.message_net.specs.Pool.{removed};
-ghost use Rattle.machine_rules.specs.Next.{enabled};
+ghost use Rattle.machine_rules.specs.Next.{enabled, next};
 ghost use Rattle.machine_rules.specs.Sound.{IsMachine};
 ghost use Rattle.dn_machine.specs.Actors.{receiver_of};
 ghost use Rattle.message_chart.specs.declared.chart.ChartRow.{ChartRow as ARow};
-ghost use Rattle.run_chart.specs.Drawing.{event_maker, height, the_actor, with_rows, HaveCome, HasRow, IsLookBefore, IsRowed};
+ghost use Rattle.run_chart.specs.Drawing.{event_maker, lines_of, the_actor, with_rows, HaveCome, HasRow, IsLookBefore, IsRowed};
+ghost use Rattle.message_chart.specs.Picture.{end_lines};
 ghost use Rattle.run_chart.specs.Mails.{AreNotedFor, mails_left, sent_on};
+ghost use Rattle.run_chart.specs.Words.{changes_among, word_state};
 
+use crate::about::{about, end_in};
 use crate::gathering::affected_words;
 use crate::mails::{SentMail, after_event, origin_of, place_handled};
 use crate::marks::marks;
 use crate::words::{HeldWord, changes, held_words};
-use dn_base::{Memory, Sequence};
+use dn_base::{Memory, PhaseId, Sequence};
 use dn_machine::{Machine, a_machine_is_kept};
-use message_chart::{ChartRow, Origin, WordChange};
+use message_chart::{About, ChartRow, Origin, WordChange};
 use message_net::{Actor, Event, MailId, Pool};
+use rv_core::End;
 use std::alloc::Global;
 use std::mem;
 
@@ -36,13 +40,20 @@ pub(crate) struct Drawing {
     pub(crate) rows: Sequence<ChartRow>,
 }
 
-/// What is looked at before an event: the place of the mail that it handles, its actor, where its mail comes from, and what the actor
-/// has for each data word that the event may change.
+/// What is looked at before an event.
 #[derive(Drop)]
 pub(crate) struct Look {
+    /// The place of the mail that it handles.
     pub(crate) place: Option<u32>,
     pub(crate) actor: Actor,
+    pub(crate) about: About,
+    /// The keeper's phase.
+    pub(crate) phase: PhaseId,
+    /// Where its mail comes from.
     pub(crate) mail: Option<Origin>,
+    /// How the actor's task ends with it.
+    pub(crate) end: Option<End>,
+    /// What the actor has for each data word that it may change.
     pub(crate) held: Sequence<HeldWord>,
 }
 
@@ -104,9 +115,31 @@ fn look_at(
     Ok(Look {
         place: place_handled(machine.pool(), event),
         actor,
+        about: about(machine, event),
+        phase: machine.keeper().phase(),
         mail: origin_of(machine.pool(), sent, event),
+        end: end_in(machine, event),
         held: held_words(alloc, machine, actor, words.as_slice())?,
     })
+}
+
+/// How many lines a task's end takes.
+fn end_lines(end: Option<End>) -> u32
+    ensures value { result ≡ end_lines end }
+    ensures most { result ≤ 1 }
+{
+    match end {
+        Some(_) => 1,
+        None => 0,
+    }
+}
+
+/// How many lines a row has: one for its event, one where a task ends, and one for each change.
+fn lines_of(end: Option<End>, changes: &[WordChange]) -> u32
+    requires { length changes.now ≤ 65536 }
+    ensures { result ≡ lines_of end changes.now }
+{
+    1 + end_lines(end) + changes.len() as u32
 }
 
 /// Makes an event, where it may come, and gives its row, which has this number and this first line; None where it may not.
@@ -120,6 +153,7 @@ fn row_of(
     on_chain: bool,
 ) -> Result<Option<ChartRow>, Memory>
     requires made { machine.old.made < 4000000000 }
+    requires few { length (changes_among (word_state (next machine.old.state event) before.now.actor) before.now.held) ≤ 65536 }
     ensures none { result ≡ Ok None → (enabled machine.old.state event ≡ false) × (machine.new ≡ machine.old) }
     ensures came { (row : ARow) → result ≡ Ok (Some row) → HasRow machine.old machine.new event before.now number line on_chain row }
 {
@@ -134,23 +168,15 @@ fn row_of(
         event: number,
         actor: before.actor,
         kind: stepped.kind,
+        about: before.about,
+        phase: before.phase,
         line,
+        lines: lines_of(before.end, changes.as_slice()),
         mail: before.mail,
         changes,
+        end: before.end,
         on_chain,
     }))
-}
-
-/// How many lines a row with these changes has.
-fn height(changes: &[WordChange]) -> u32
-    requires { length changes.now ≤ 65536 }
-    ensures height { result ≡ height changes.now }
-    ensures most { result ≤ 65536 }
-{
-    match changes.len() {
-        0 => 1,
-        lines => lines as u32,
-    }
 }
 
 impl Drawing {
@@ -159,19 +185,19 @@ impl Drawing {
         requires place { (p : ℕ) → place ≡ Some p → p < length self.old.sent }
         requires fewer { length (mails_left place self.old.sent) ≤ length self.old.machine.state.mails }
         requires event { self.old.event < 4000000000 }
-        requires line { self.old.line ≤ 65536 * length self.old.rows }
+        requires line { self.old.line ≤ 65538 * length self.old.rows }
         requires rows { length self.old.rows < 4096 }
-        requires most { length row.changes ≤ 65536 }
+        requires most { row.lines ≤ 65538 }
         ensures { OnOk result (self.new ≡ record self.old {
           sent = mails_left place self.old.sent ++ map (sent_on (Some self.old.line)) (drop (length (mails_left place self.old.sent)) self.old.machine.state.mails);
           event = self.old.event + 1;
-          line = self.old.line + height row.changes;
+          line = self.old.line + row.lines;
           rows = self.old.rows ++ row ∷ [];
         }) }
     {
         let sent = mem::replace(&mut self.sent, Sequence::new(alloc));
         self.sent = after_event(sent, place, self.machine.pool(), self.line)?;
-        self.line += height(row.changes.as_slice());
+        self.line += row.lines;
         self.event += 1;
         self.rows.push(row)
     }
@@ -180,7 +206,7 @@ impl Drawing {
     fn add_row(&mut self, alloc: Global, event: Event, on_chain: bool) -> Result<bool, Memory>
         requires made { self.old.machine.made < 4000000000 }
         requires event { self.old.event < 4000000000 }
-        requires line { self.old.line ≤ 65536 * length self.old.rows }
+        requires line { self.old.line ≤ 65538 * length self.old.rows }
         requires rows { length self.old.rows < 4096 }
         requires sent { AreNotedFor self.old.sent self.old.machine.state.mails }
         ensures { IfOk result (IsRowed on_chain self.old self.new event) }
@@ -220,7 +246,10 @@ impl Drawing {
         requires rows { self.old.rows ≡ [] }
         requires few { length events.now ≤ 4096 }
         requires sent { AreNotedFor self.old.sent self.old.machine.state.mails }
-        ensures { OnOk result (self.new ≡ with_rows chain.now self.old events.now) }
+        ensures rows { OnOk result (self.new ≡ with_rows chain.now self.old events.now) }
+        ensures sent { OnOk result (AreNotedFor self.new.sent self.new.machine.state.mails) }
+        ensures made { OnOk result (self.new.machine.made ≤ 25173760) }
+        ensures lines { OnOk result (self.new.line ≤ 268443648) }
     {
         let marks = marks(alloc, chain, self.event, events.len())?;
         let mut place = 0;

@@ -1,10 +1,13 @@
 //! The message chart of a run: which row each event of a range has, where its mail comes from, and what becomes of the words.
 #![tactic(auto)]
 
+mod about;
 mod affected;
 mod charting;
 mod drawing;
+mod finishing;
 mod gathering;
+mod laws;
 mod mails;
 mod marks;
 mod needs;
@@ -12,3 +15,7 @@ mod words;
 
 pub use charting::chart;
 pub use drawing::Range;
+pub use finishing::Columns;
+pub use laws::{
+    each_event_of_the_range_has_one_row, rows_do_not_overlap, the_events_of_the_chain_are_marked,
+};

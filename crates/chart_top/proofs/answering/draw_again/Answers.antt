@@ -1,13 +1,16 @@
 use Rattle.std.proofs.Common.{sym, ap, subst, ◌∙◌}
 use Rattle.region_table.specs.Program.{ProgramParts}
 use Rattle.dn_top.specs.Documents.{shape_told}
-use Rattle.chart_top.specs.Answers.{IsPicture}
+use Rattle.chart_top.specs.Answers.{IsPicture, located}
 use Rattle.chart_top.proofs.Pictures.{replayed-at}
 use Rattle.chart_top.proofs.answering.draw_again.Goals as goal
 
 pub picture-requires-clause-shape : goal.picture-requires-clause-shape
 picture-requires-clause-shape c =
     c.shape_told-shape.ensures ∙ ap (λ (p : ProgramParts). shape_told p c.args.trace.now.shape) (c.program-program.ensures.value ∙ sym c.requires.first)
+
+pub picture-requires-clause-text : goal.picture-requires-clause-text
+picture-requires-clause-text c = c.requires.text ∙ ap (λ (p : ProgramParts). located p c.args.trace.now) (sym c.requires.first)
 
 pub picture-requires-clause-replayed : goal.picture-requires-clause-replayed
 picture-requires-clause-replayed c =

@@ -1,5 +1,10 @@
-use Rattle.chart_top.proofs.Drawn.{run-drawn, run-refused}
+use Rattle.chart_top.proofs.Drawn.{run-drawn, run-refused, located-is}
 use Rattle.chart_top.proofs.answering.drawn.Goals as goal
+
+pub draw_again-requires-clause-text : goal.draw_again-requires-clause-text
+draw_again-requires-clause-text c =
+    located-is c.args.document.now c.as_slice-text.result.now c.in_ok-trace.trace c.in_ok-checked.checked c.in_ok-located.located c.in_ok-located.ensures.program c.in_ok-located.ensures.places c.as_slice-text.ensures
+    c.in_ok-checked.ensures.ok
 
 pub returns-clause-ok : goal.returns-clause-ok
 returns-clause-ok c =

@@ -1,6 +1,8 @@
 use Rattle.std.proofs.Common.{ℕ, List, ap, subst, sym, ◌∙◌}
 use Rattle.message_net.specs.declared.message.Mail.{Mail}
 use Rattle.message_net.specs.Pool.{AreDistinct}
+use Rattle.dn_base.specs.declared.ids.PhaseId.{PhaseId}
+use Rattle.phase_barrier.specs.Barrier.{Barrier}
 use Rattle.run_chart.specs.Mails.{place_handled}
 use Rattle.run_chart.specs.Words.{held_words}
 use Rattle.run_chart.proofs.drawing.look_at.Goals as goal
@@ -14,7 +16,10 @@ returns c =
     record {
       place = c.place_handled.ensures ∙ ap (λ (mails : List Mail). place_handled mails c.args.event) c.pool.ensures;
       actor = c.event_maker-actor.ensures;
+      about = c.about.ensures;
+      phase = ap {B = PhaseId} (λ (n : ℕ). record { 0 = n }) (c.phase.ensures ∙ ap (λ (k : Barrier). k.phase) c.keeper.ensures);
       mail = c.origin_of.ensures;
+      end = c.end_in.ensures;
       held =
           record {
             words = c.in_ok-words.words.items;

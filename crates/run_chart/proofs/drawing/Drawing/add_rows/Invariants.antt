@@ -10,7 +10,7 @@ invariant-loop-event l =
       made : l.self.machine.made ≡ l.fn.self.machine.made + l.event-index;
       event : l.self.event ≡ l.fn.self.event + l.event-index;
       rows : length l.self.rows ≡ l.event-index;
-      line : l.self.line ≤ 65536 * length l.self.rows;
+      line : l.self.line ≤ 65538 * length l.self.rows;
       sent : AreNotedFor l.self.sent l.self.machine.state.mails;
       so_far : with_rows l.chain l.self (drop l.event-index l.events) ≡ with_rows l.chain l.fn.self l.events;
     }

@@ -1,0 +1,259 @@
+//! The words of a chart.
+ghost use Rattle.std.specs.Prelude.{◌≡◌, ◌++◌, ◌-◌, length, slice_get, option_copied, OnOk};
+ghost use Rattle.message_chart.specs.Labels.{actor_name, actors_text, caches_text, change_text, code_label, empty_text, ending_text, events_text, instruction_text, label_text, machine_begin, machine_text, named, no_event, range_text, state_words, title_begin, title_text, valued, waiting_text};
+
+use crate::chart::{About, Chart, ChartRow};
+use crate::states::{WordChange, WordState};
+use dn_base::{LockId, Memory, Shape};
+use message_net::{Actor, EventKind};
+use place_texts::{push_code_place, push_lock, push_word};
+use run_report::{event_name, push_end};
+use rv_core::{End, EndShown};
+use rv_listing::push_code_word;
+use text_pieces::{push, push_decimal, push_hexadecimal};
+use text_places::{CodePlace, Located};
+
+/// Adds a name and a number.
+#[tactic(auto, unfolding(crate::specs::Labels::named))]
+pub(crate) fn push_named(out: &mut Vec<u8>, name: &[u8], number: u32) -> Result<(), Memory>
+    ensures { OnOk result (out.new.items ≡ out.old.items ++ named name.now number) }
+{
+    push(out, name)?;
+    push(out, b" ")?;
+    push_decimal(out, number)
+}
+
+/// Adds an actor's name.
+#[tactic(auto, unfolding(crate::specs::Labels::actor_name))]
+pub(crate) fn push_actor(out: &mut Vec<u8>, actor: Actor) -> Result<(), Memory>
+    ensures { OnOk result (out.new.items ≡ out.old.items ++ actor_name actor) }
+{
+    match actor {
+        Actor::Core(core) => push_named(out, b"core", core.0),
+        Actor::Bank(bank) => push_named(out, b"bank", bank.0),
+        Actor::Keeper => push(out, b"keeper"),
+    }
+}
+
+/// Adds a name and a value.
+#[tactic(auto, unfolding(crate::specs::Labels::valued))]
+fn push_valued(out: &mut Vec<u8>, name: &[u8], value: u32) -> Result<(), Memory>
+    ensures { OnOk result (out.new.items ≡ out.old.items ++ valued name.now value) }
+{
+    push(out, name)?;
+    push(out, b" ")?;
+    push_hexadecimal(out, value)
+}
+
+/// Adds what an actor has for a word.
+#[tactic(auto, unfolding(crate::specs::Labels::state_words))]
+fn push_state(out: &mut Vec<u8>, state: WordState) -> Result<(), Memory>
+    ensures { OnOk result (out.new.items ≡ out.old.items ++ state_words state) }
+{
+    match state {
+        WordState::Absent => push(out, b"none"),
+        WordState::Valid(value) => push_valued(out, b"valid", value),
+        WordState::Touched(value) => push_valued(out, b"touched", value),
+        WordState::Registered(value) => push_valued(out, b"registered", value),
+        WordState::Pending(value) => push_valued(out, b"pending", value),
+        WordState::Leaving(value) => push_valued(out, b"leaving", value),
+        WordState::Home(value) => push_valued(out, b"home", value),
+        WordState::At(core) => push_named(out, b"at core", core.0),
+    }
+}
+
+/// Adds what becomes of a word.
+#[tactic(auto, unfolding(crate::specs::Labels::change_text))]
+pub(crate) fn push_change_text(
+    out: &mut Vec<u8>,
+    text: &Located,
+    change: WordChange,
+) -> Result<(), Memory>
+    ensures { OnOk result (out.new.items ≡ out.old.items ++ change_text text.now change) }
+{
+    push_word(out, &text.program, change.word.0)?;
+    push(out, b" (word ")?;
+    push_decimal(out, change.word.0)?;
+    push(out, b"): ")?;
+    push_state(out, change.before)?;
+    push(out, b" &#8594; ")?;
+    push_state(out, change.after)
+}
+
+/// Adds an instruction behind its line.
+#[tactic(auto, unfolding(crate::specs::Labels::instruction_text))]
+fn push_instruction(out: &mut Vec<u8>, place: CodePlace, word: u32) -> Result<(), Memory>
+    ensures { OnOk result (out.new.items ≡ out.old.items ++ instruction_text place word) }
+{
+    push_code_place(out, place)?;
+    push(out, b": ")?;
+    push_code_word(out, word)
+}
+
+/// Adds a code word of the text, or the kind of the event where there is none.
+fn push_code(
+    out: &mut Vec<u8>,
+    place: Option<CodePlace>,
+    word: Option<&u32>,
+    kind: EventKind,
+) -> Result<(), Memory>
+    ensures { OnOk result (out.new.items ≡ out.old.items ++ code_label place (option_copied word.entry) kind) }
+{
+    match (place, word) {
+        (Some(place), Some(word)) => push_instruction(out, place, *word),
+        _ => push(out, event_name(kind)),
+    }
+}
+
+/// Adds what an event or a mail is, and what it is about.
+#[tactic(auto, unfolding(crate::specs::Labels::label_text))]
+pub(crate) fn push_label(
+    out: &mut Vec<u8>,
+    text: &Located,
+    kind: EventKind,
+    about: About,
+) -> Result<(), Memory>
+    ensures { OnOk result (out.new.items ≡ out.old.items ++ label_text text.now kind about) }
+{
+    match about {
+        About::Nothing => push(out, event_name(kind)),
+        About::Code(number) => push_code(
+            out,
+            text.places.code_word(number as usize),
+            text.program.code.get(number as usize),
+            kind,
+        ),
+        About::Word(word) => {
+            push(out, event_name(kind))?;
+            push(out, b" ")?;
+            push_word(out, &text.program, word.0)
+        }
+        About::Lock(lock) => {
+            push(out, event_name(kind))?;
+            push(out, b" ")?;
+            push_lock(out, text.program.locks.as_slice(), lock.0 as usize)
+        }
+        About::Phase(phase) => {
+            push(out, event_name(kind))?;
+            push_named(out, b" phase", phase.0)
+        }
+    }
+}
+
+/// Adds how a task ends.
+#[tactic(auto, unfolding(crate::specs::Labels::ending_text))]
+pub(crate) fn push_ending(out: &mut Vec<u8>, end: End) -> Result<(), Memory>
+    ensures { OnOk result (out.new.items ≡ out.old.items ++ ending_text end) }
+{
+    push(out, b"ends: ")?;
+    push_end(out, EndShown::from(end))
+}
+
+/// Adds that a task waits for a lock.
+#[tactic(auto, unfolding(crate::specs::Labels::waiting_text))]
+pub(crate) fn push_waiting(out: &mut Vec<u8>, text: &Located, lock: LockId) -> Result<(), Memory>
+    ensures { OnOk result (out.new.items ≡ out.old.items ++ waiting_text text.now lock.0) }
+{
+    push(out, b"waits for ")?;
+    push_lock(out, text.program.locks.as_slice(), lock.0 as usize)
+}
+
+#[tactic(auto, unfolding(crate::specs::Labels::range_text))]
+fn push_range(out: &mut Vec<u8>, first: u32, last: u32, events: u32) -> Result<(), Memory>
+    ensures { OnOk result (out.new.items ≡ out.old.items ++ range_text first last events) }
+{
+    push(out, b"events ")?;
+    push_decimal(out, first)?;
+    push(out, b" to ")?;
+    push_decimal(out, last)?;
+    push(out, b" of ")?;
+    push_decimal(out, events)
+}
+
+#[tactic(auto, unfolding(crate::specs::Labels::no_event))]
+fn push_no_event(out: &mut Vec<u8>) -> Result<(), Memory>
+    ensures { OnOk result (out.new.items ≡ out.old.items ++ no_event) }
+{
+    push(out, b"no event of ")
+}
+
+#[tactic(auto, unfolding(crate::specs::Labels::empty_text))]
+fn push_empty(out: &mut Vec<u8>, events: u32) -> Result<(), Memory>
+    ensures { OnOk result (out.new.items ≡ out.old.items ++ empty_text events) }
+{
+    push_no_event(out)?;
+    push_decimal(out, events)
+}
+
+/// Adds which events have rows, by the first of them and the last row.
+fn push_events(
+    out: &mut Vec<u8>,
+    first: u32,
+    last: Option<&ChartRow>,
+    events: u32,
+) -> Result<(), Memory>
+    ensures { OnOk result (out.new.items ≡ out.old.items ++ events_text first (option_copied last.entry) events) }
+{
+    match last {
+        Some(last) => push_range(out, first, last.event, events),
+        None => push_empty(out, events),
+    }
+}
+
+#[tactic(auto, unfolding(crate::specs::Labels::title_begin))]
+fn push_title_begin(out: &mut Vec<u8>) -> Result<(), Memory>
+    ensures { OnOk result (out.new.items ≡ out.old.items ++ title_begin) }
+{
+    push(out, b"Message chart: ")
+}
+
+/// The number of the last of so many things, or 0.
+fn last_of(count: usize) -> usize
+    ensures { result ≡ count - 1 }
+{
+    if count == 0 { 0 } else { count - 1 }
+}
+
+/// Adds the title.
+#[tactic(auto, unfolding(crate::specs::Labels::title_text))]
+pub(crate) fn push_title(out: &mut Vec<u8>, chart: &Chart) -> Result<(), Memory>
+    ensures { OnOk result (out.new.items ≡ out.old.items ++ title_text chart.now) }
+{
+    push_title_begin(out)?;
+    let last = chart.rows.get(last_of(chart.rows.len()));
+    push_events(out, chart.first, last, chart.events)
+}
+
+#[tactic(auto, unfolding(crate::specs::Labels::machine_begin))]
+fn push_machine_begin(out: &mut Vec<u8>) -> Result<(), Memory>
+    ensures { OnOk result (out.new.items ≡ out.old.items ++ machine_begin) }
+{
+    push(out, b"Machine: cores ")
+}
+
+#[tactic(auto, unfolding(crate::specs::Labels::actors_text))]
+fn push_actors(out: &mut Vec<u8>, shape: Shape) -> Result<(), Memory>
+    ensures { OnOk result (out.new.items ≡ out.old.items ++ actors_text shape) }
+{
+    push_machine_begin(out)?;
+    push_decimal(out, shape.cores)?;
+    push_named(out, b", banks", shape.banks)
+}
+
+#[tactic(auto, unfolding(crate::specs::Labels::caches_text))]
+fn push_caches(out: &mut Vec<u8>, shape: Shape, fuel: u32) -> Result<(), Memory>
+    ensures { OnOk result (out.new.items ≡ out.old.items ++ caches_text shape fuel) }
+{
+    push_named(out, b", sets", shape.sets)?;
+    push_named(out, b", ways", shape.ways)?;
+    push_named(out, b", fuel", fuel)
+}
+
+/// Adds the size of the machine.
+#[tactic(auto, unfolding(crate::specs::Labels::machine_text))]
+pub(crate) fn push_machine(out: &mut Vec<u8>, shape: Shape, fuel: u32) -> Result<(), Memory>
+    ensures { OnOk result (out.new.items ≡ out.old.items ++ machine_text shape fuel) }
+{
+    push_actors(out, shape)?;
+    push_caches(out, shape, fuel)
+}

@@ -1,0 +1,72 @@
+-- What a chart has behind its rows, and which banks have a column.
+use Rattle.std.specs.Prelude.{ℕ, ◌+◌, ◌==◌, ◌||◌, Bool, true, false, List, [], ◌∷◌, map, Option, Some, None}
+use Rattle.std.specs.List.{list_any, range_with_len}
+use Rattle.dn_base.specs.declared.ids.LockId.{LockId}
+use Rattle.message_net.specs.declared.actor.Actor.{Actor}
+use Rattle.message_net.specs.declared.actor.Actor.TheVariants.{Bank}
+use Rattle.message_net.specs.declared.message.Mail.{Mail}
+use Rattle.message_net.specs.Kind.{kind_of}
+use Rattle.registration_protocol.specs.declared.node.NodeWait as wait
+use Rattle.registration_protocol.specs.declared.node.NodeWait.{NodeWait}
+use Rattle.registration_protocol.specs.Node.{NodeParts}
+use Rattle.message_chart.specs.declared.chart.ChartRow.{ChartRow}
+use Rattle.message_chart.specs.declared.chart.LeavingMail.{LeavingMail}
+use Rattle.message_chart.specs.declared.chart.Origin.{Origin}
+use Rattle.message_chart.specs.declared.chart.WaitingTask.{WaitingTask}
+use Rattle.run_chart.specs.declared.finishing.Columns.{Columns}
+use Rattle.run_chart.specs.declared.finishing.Columns.TheVariants.{All, Used}
+use Rattle.run_chart.specs.declared.mails.SentMail.{SentMail}
+use Rattle.run_chart.specs.About.{about_message}
+
+-- a mail in flight that was sent on a line, on a line of its own
+abbrev pub leaving_mail : Mail → ℕ → ℕ → LeavingMail
+leaving_mail m sent line =
+    record { sender = m.id.sender; sent = sent; to = m.to; kind = kind_of m.message; about = about_message m.message; line = line }
+
+abbrev pub leaving_by : ℕ → Option ℕ → Mail → (ℕ → List LeavingMail) → List LeavingMail
+leaving_by line None m rest = rest line
+leaving_by line (Some sent) m rest = leaving_mail m sent line ∷ rest (line + 1)
+
+-- the mails in flight that events with a row sent, each on a line of its own from this one on
+abbrev pub leaving_from : ℕ → List SentMail → List Mail → List LeavingMail
+leaving_from line [] mails = []
+leaving_from line (s ∷ ss) [] = []
+leaving_from line (s ∷ ss) (m ∷ ms) = leaving_by line s.line m (λ next. leaving_from next ss ms)
+
+-- the lock that a node waits for
+abbrev pub lock_wanted : NodeWait → Option LockId
+lock_wanted (wait.TheVariants.Locking lock) = Some lock
+lock_wanted _ = None
+
+abbrev pub waiting_by : ℕ → NodeParts → Option LockId → (ℕ → List WaitingTask) → List WaitingTask
+waiting_by line n None rest = rest line
+waiting_by line n (Some lock) rest = record { core = record { 0 = n.core }; lock = lock; line = line } ∷ rest (line + 1)
+
+-- the tasks that wait for a lock, each on a line of its own from this one on
+abbrev pub waiting_from : ℕ → List NodeParts → List WaitingTask
+waiting_from line [] = []
+waiting_from line (n ∷ ns) = waiting_by line n (lock_wanted n.waiting) (λ next. waiting_from next ns)
+
+-- whether an actor is a bank, and whether a mail comes from it or goes to it
+abbrev pub is_bank : ℕ → Actor → Bool
+is_bank bank (Bank other) = other.0 == bank
+is_bank bank _ = false
+
+abbrev pub comes_from : ℕ → Option Origin → Bool
+comes_from bank None = false
+comes_from bank (Some mail) = is_bank bank mail.sender
+
+abbrev pub goes_to : ℕ → LeavingMail → Bool
+goes_to bank mail = is_bank bank mail.to
+
+-- whether a row is about an event of a bank, or the handling of a mail that comes from it
+abbrev pub uses_bank : ℕ → ChartRow → Bool
+uses_bank bank row = is_bank bank row.actor || comes_from bank row.mail
+
+-- whether a bank has a column: it does something in the chart, or all of them have one
+abbrev pub has_column : Columns → List ChartRow → List LeavingMail → ℕ → Bool
+has_column All rows leaving bank = true
+has_column Used rows leaving bank = list_any (uses_bank bank) rows || list_any (goes_to bank) leaving
+
+abbrev pub shown_banks : Columns → List ChartRow → List LeavingMail → ℕ → List Bool
+shown_banks columns rows leaving banks = map (has_column columns rows leaving) (range_with_len 0 banks)
