@@ -612,6 +612,16 @@ def pages_show_what_is_printed():
             check(f"{page}: {command}", ran.returncode == 0 and ran.stdout.startswith(b"<svg"))
 
 
+def the_first_page_shows_a_whole_answer():
+    """README explains an answer line by line: its text, its lines and the program's are those of the example."""
+    page = pathlib.Path("README.md").read_text()
+    shown, printed = (re.search(rf"{before}\n\n((?:    .*\n)+)", page)[1] for before in ("core 1 copies it again in phase 2:", "The program prints"))
+    for block, wanted in ((shown, text_of("stale-copy").decode().split("\n")), (printed, reference.answer([], text_of("stale-copy").decode())[1])):
+        lines = [re.split("  +", line.strip())[0] for line in block.splitlines()]
+        wanted = [line for line in wanted if not line.startswith("#")]
+        check(f"README.md: {lines[0]} and so on", lines == wanted[:len(lines)] and (block is shown or len(lines) == len(wanted)))
+
+
 def every_command_of_the_exercises_answers():
     """The commands of docs/LAB.md give what tools/reference.py says, whether they print a run or its account."""
     for command in re.findall(r"^    (\./denovo.*)$", pathlib.Path("docs/LAB.md").read_text(), re.M):
@@ -715,6 +725,7 @@ the_largest_claims_are_read()
 another_simulator_is_compared()
 standard_error_helps()
 pages_show_what_is_printed()
+the_first_page_shows_a_whole_answer()
 every_command_of_the_exercises_answers()
 the_answers_to_exercises_have_the_numbers()
 heads_of_examples_say_what_is_printed()

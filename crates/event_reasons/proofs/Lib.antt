@@ -1,5 +1,4 @@
 pub mod Exact
 pub mod Held
 pub mod Steps
-pub mod Sorted
 pub mod Listed

@@ -1,19 +1,14 @@
 -- The events that may come in a state, in a fixed order.
-use Rattle.std.specs.Prelude.{ℕ, nat_lt, Bool, List, [], ◌∷◌, ◌++◌, flat_map, if◌then◌else◌}
+use Rattle.std.specs.Prelude.{ℕ, List, [], ◌∷◌, ◌++◌, flat_map, if◌then◌else◌}
 use Rattle.std.specs.List.{filter, range_with_len}
 use Rattle.message_net.specs.declared.event.Event.{Event}
 use Rattle.message_net.specs.declared.event.Event.TheVariants.{Instr, Evict, Arrive}
-use Rattle.word_cache.specs.declared.row.Place.{Place}
 use Rattle.word_cache.specs.Cache.{Cache, Pair, in_set}
 use Rattle.registration_protocol.specs.Node.{NodeParts}
 use Rattle.registration_protocol.specs.OwnEvents.{me}
 use Rattle.machine_rules.specs.State.{State}
 use Rattle.machine_rules.specs.Next.{enabled}
 use Rattle.dn_machine.specs.Pick.{handlings}
-
--- whether a place was used after a time
-abbrev pub is_later : ℕ → Place → Bool
-is_later time place = nat_lt time place.used
 
 -- the pairs of a set of a cache, and those of all its sets, set by set: in each set the least recently used word comes first
 abbrev pub set_pairs : Cache → ℕ → List Pair

@@ -3,13 +3,11 @@
 
 mod coming;
 mod conditions;
-mod needs;
 mod order;
 mod reason;
 mod standing;
 
 pub use coming::enabled_events;
-pub use needs::need;
 pub use order::pairs_by_set;
 pub use reason::Reason;
 pub use standing::reason_against;

@@ -2,6 +2,7 @@
 ghost use Rattle.std.specs.Prelude.{◌≡◌, ◌↔◌, ◌<◌, true, IfSome, None, option_copied, slice_get};
 ghost use Rattle.message_net.specs.declared.event.Event.TheVariants as event;
 ghost use Rattle.registration_protocol.specs.Fit.{Fits};
+ghost use Rattle.registration_protocol.specs.Node.{need_now};
 ghost use Rattle.machine_rules.specs.Next.{enabled};
 ghost use Rattle.event_reasons.specs.Holding.{HoldsIn};
 ghost use Rattle.event_reasons.specs.Reasons.{instr_reason, evict_reason, arrive_reason, reason_against};
@@ -9,12 +10,12 @@ ghost use Rattle.event_reasons.specs.Reasons.{instr_reason, evict_reason, arrive
 use crate::conditions::{
     filled, inactive, needing, pending, waiting, wanted, with_task, without_room, without_task,
 };
-use crate::needs::need;
 use crate::reason::Reason;
 use dn_base::{CoreId, WordId};
 use dn_machine::{Machine, a_machine_is_kept};
 use message_net::Event;
 use registration_protocol::Node;
+use rv_core::Need;
 
 /// The node of a core, if the machine has it.
 pub(crate) fn node_of(machine: &Machine, core: CoreId) -> Option<&Node>
@@ -28,6 +29,13 @@ pub(crate) fn node_of(machine: &Machine, core: CoreId) -> Option<&Node>
     } else {
         None
     }
+}
+
+/// What a node's next instruction needs; None where the node has no task that goes on.
+fn need(machine: &Machine, node: &Node) -> Option<Need>
+    ensures { result ≡ need_now machine.now.state.setting node.now }
+{
+    node.needs(machine.program(), machine.fuel())
 }
 
 /// Why a node's instruction may not come.

@@ -68,15 +68,15 @@ label_text L kind (about.Lock lock) = event_word kind ++ space ++ lock_text L.pr
 label_text L kind (about.Phase phase) = event_word kind ++ named (codes " phase") phase.0
 
 -- how a task ends
-unfoldable pub ending_text : End → List ℕ
-ending_text by = codes "ends: " ++ end_text (shown_end by)
+unfoldable pub task_end_text : End → List ℕ
+task_end_text by = codes "ends: " ++ end_text (shown_end by)
 
 unfoldable pub waiting_text : Located → ℕ → List ℕ
 waiting_text L lock = codes "waits for " ++ lock_text L.program.locks lock
 
 -- which events have rows, of how many
-unfoldable pub range_text : ℕ → ℕ → ℕ → List ℕ
-range_text first last events = codes "events " ++ decimal first ++ codes " to " ++ decimal last ++ codes " of " ++ decimal events
+unfoldable pub numbers_text : ℕ → ℕ → ℕ → List ℕ
+numbers_text first last events = codes "events " ++ decimal first ++ codes " to " ++ decimal last ++ codes " of " ++ decimal events
 
 unfoldable pub no_event : List ℕ
 no_event = codes "no event of "
@@ -87,7 +87,7 @@ empty_text events = no_event ++ decimal events
 -- by the last row, if there is one
 abbrev pub events_text : ℕ → Option ChartRow → ℕ → List ℕ
 events_text first None events = empty_text events
-events_text first (Some last) events = range_text first last.event events
+events_text first (Some last) events = numbers_text first last.event events
 
 unfoldable pub title_begin : List ℕ
 title_begin = codes "Message chart: "

@@ -51,8 +51,8 @@ upright class x y bottom = path_begin class x y ++ codes "V" ++ decimal bottom +
 unfoldable pub level : List ℕ → ℕ → ℕ → List ℕ
 level class y right = path_begin class 0 y ++ codes "H" ++ decimal right ++ path_end
 
-unfoldable pub line : List ℕ → ℕ → ℕ → ℕ → ℕ → List ℕ
-line class x1 y1 x2 y2 = path_begin class x1 y1 ++ codes "L" ++ decimal x2 ++ space ++ decimal y2 ++ path_end
+unfoldable pub line_to : List ℕ → ℕ → ℕ → ℕ → ℕ → List ℕ
+line_to class x1 y1 x2 y2 = path_begin class x1 y1 ++ codes "L" ++ decimal x2 ++ space ++ decimal y2 ++ path_end
 
 -- the head of an arrow that comes from the left, and from the right; it ends at a point
 unfoldable pub head_from_left : ℕ → ℕ → List ℕ

@@ -17,9 +17,9 @@ use Rattle.message_chart.specs.declared.chart.LeavingMail.{LeavingMail}
 use Rattle.message_chart.specs.declared.chart.WaitingTask.{WaitingTask}
 use Rattle.message_chart.specs.declared.chart.Origin.{Origin}
 use Rattle.message_chart.specs.declared.states.WordChange.{WordChange}
-use Rattle.message_chart.specs.Marks.{y_of, top, attribute, circle, rectangle, upright, level, line, head_from_left, head_from_right, words_at}
+use Rattle.message_chart.specs.Marks.{y_of, top, attribute, circle, rectangle, upright, level, line_to, head_from_left, head_from_right, words_at}
 use Rattle.message_chart.specs.Places.{is_shown, column}
-use Rattle.message_chart.specs.Labels.{actor_name, change_text, label_text, ending_text, waiting_text, title_text, machine_text, named}
+use Rattle.message_chart.specs.Labels.{actor_name, change_text, label_text, task_end_text, waiting_text, title_text, machine_text, named}
 
 -- ---- its size
 
@@ -90,12 +90,12 @@ phase_begin chart row =
     level (codes "rule") (y_of row.line - 9) (width chart)
     ++ words_at (codes "left denovo-number") (width chart - 8) (y_of row.line + 4) (named (codes "phase") row.phase.0)
 
-abbrev pub is_phase : Option PhaseId → PhaseId → Bool
-is_phase None phase = false
-is_phase (Some before) phase = before.0 == phase.0
+abbrev pub is_of_phase : Option PhaseId → PhaseId → Bool
+is_of_phase None phase = false
+is_of_phase (Some before) phase = before.0 == phase.0
 
 abbrev pub phase_if_new : Chart → Option PhaseId → ChartRow → List ℕ
-phase_if_new chart before row = if is_phase before row.phase then [] else phase_begin chart row
+phase_if_new chart before row = if is_of_phase before row.phase then [] else phase_begin chart row
 
 -- the bands of rows, behind one of this phase
 abbrev pub bands : Chart → Option PhaseId → List ChartRow → List ℕ
@@ -129,8 +129,8 @@ point chart row =
 unfoldable pub chain_begin : List ℕ
 chain_begin = codes "<polyline class='denovo-path' points='"
 
-unfoldable pub chain_line : Chart → List ℕ
-chain_line chart = chain_begin ++ flat_map (point chart) chart.rows ++ codes "'/>\n"
+unfoldable pub chain_path : Chart → List ℕ
+chain_path chart = chain_begin ++ flat_map (point chart) chart.rows ++ codes "'/>\n"
 
 -- ---- the arrows
 
@@ -147,7 +147,7 @@ mail_class (Some line) = codes "mail"
 -- an arrow of a class from one point to another; the last points before it leave room for its head
 unfoldable pub arrow_between : List ℕ → ℕ → ℕ → ℕ → ℕ → List ℕ
 arrow_between class x1 y1 x2 y2 =
-    if nat_lt x2 x1 then line class x1 y1 (x2 + 13) y2 ++ head_from_right (x2 + 5) y2 else line class x1 y1 (x2 - 13) y2 ++ head_from_left (x2 - 5) y2
+    if nat_lt x2 x1 then line_to class x1 y1 (x2 + 13) y2 ++ head_from_right (x2 + 5) y2 else line_to class x1 y1 (x2 - 13) y2 ++ head_from_left (x2 - 5) y2
 
 -- the arrow of the mail that an event handles
 abbrev pub arrow_from : Chart → ChartRow → Option Origin → List ℕ
@@ -193,7 +193,7 @@ label chart L row =
 -- how the actor's task ends, on the line below the event's
 abbrev pub ending_words : ℕ → ℕ → Option End → List ℕ
 ending_words x y None = []
-ending_words x y (Some by) = words_at (codes "end") (x + 14) (y + 22) (ending_text by)
+ending_words x y (Some by) = words_at (codes "end") (x + 14) (y + 22) (task_end_text by)
 
 abbrev pub end_lines : Option End → ℕ
 end_lines None = 0
@@ -228,5 +228,5 @@ waiting_words chart L task =
 
 unfoldable pub svg_of : Chart → Located → List ℕ
 svg_of chart L =
-    opening chart ++ bands chart None chart.rows ++ lanes chart ++ chain_line chart ++ flat_map (arrow chart) chart.rows ++ flat_map (leaving_arrow chart) chart.leaving
+    opening chart ++ bands chart None chart.rows ++ lanes chart ++ chain_path chart ++ flat_map (arrow chart) chart.rows ++ flat_map (leaving_arrow chart) chart.leaving
     ++ flat_map (row_words chart L) chart.rows ++ flat_map (leaving_words chart L) chart.leaving ++ flat_map (waiting_words chart L) chart.waiting ++ codes "</svg>\n"

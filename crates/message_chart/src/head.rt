@@ -1,7 +1,7 @@
 //! What stands before the rows: the document's head, the bands of the phases and the columns.
 ghost use Rattle.std.specs.Prelude.{◌≡◌, ◌≤◌, ◌++◌, flat_map, None, OnOk};
 ghost use Rattle.std.specs.List.{range_with_len};
-ghost use Rattle.message_chart.specs.Picture.{band, bands, bank_lane, core_lane, description, ground, heading, is_phase, lane, lanes, legend, meaning, opening, phase_begin, phase_if_new, sizes, style, svg_begin, title_element, view_box, view_box_begin};
+ghost use Rattle.message_chart.specs.Picture.{band, bands, bank_lane, core_lane, description, ground, heading, is_of_phase, lane, lanes, legend, meaning, opening, phase_begin, phase_if_new, sizes, style, svg_begin, title_element, view_box, view_box_begin};
 
 use crate::chart::{Chart, ChartRow};
 use crate::labels::{push_actor, push_machine, push_named, push_title};
@@ -178,8 +178,8 @@ fn push_phase_begin(out: &mut Vec<u8>, chart: &Chart, row: &ChartRow) -> Result<
 }
 
 /// Whether the row before is of this phase.
-fn is_phase(before: Option<PhaseId>, phase: PhaseId) -> bool
-    ensures { result ≡ is_phase before phase }
+fn is_of_phase(before: Option<PhaseId>, phase: PhaseId) -> bool
+    ensures { result ≡ is_of_phase before phase }
 {
     match before {
         Some(before) => before.0 == phase.0,
@@ -196,7 +196,7 @@ fn push_phase_if_new(
 ) -> Result<(), Memory>
     ensures { OnOk result (out.new.items ≡ out.old.items ++ phase_if_new chart.now before row.now) }
 {
-    if is_phase(before, row.phase) {
+    if is_of_phase(before, row.phase) {
         Ok(())
     } else {
         push_phase_begin(out, chart, row)

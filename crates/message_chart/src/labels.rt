@@ -1,6 +1,6 @@
 //! The words of a chart.
 ghost use Rattle.std.specs.Prelude.{◌≡◌, ◌++◌, ◌-◌, length, slice_get, option_copied, OnOk};
-ghost use Rattle.message_chart.specs.Labels.{actor_name, actors_text, caches_text, change_text, code_label, empty_text, ending_text, events_text, instruction_text, label_text, machine_begin, machine_text, named, no_event, range_text, state_words, title_begin, title_text, valued, waiting_text};
+ghost use Rattle.message_chart.specs.Labels.{actor_name, actors_text, caches_text, change_text, code_label, empty_text, task_end_text, events_text, instruction_text, label_text, machine_begin, machine_text, named, no_event, numbers_text, state_words, title_begin, title_text, valued, waiting_text};
 
 use crate::chart::{About, Chart, ChartRow};
 use crate::states::{WordChange, WordState};
@@ -141,9 +141,9 @@ pub(crate) fn push_label(
 }
 
 /// Adds how a task ends.
-#[tactic(auto, unfolding(crate::specs::Labels::ending_text))]
+#[tactic(auto, unfolding(crate::specs::Labels::task_end_text))]
 pub(crate) fn push_ending(out: &mut Vec<u8>, end: End) -> Result<(), Memory>
-    ensures { OnOk result (out.new.items ≡ out.old.items ++ ending_text end) }
+    ensures { OnOk result (out.new.items ≡ out.old.items ++ task_end_text end) }
 {
     push(out, b"ends: ")?;
     push_end(out, EndShown::from(end))
@@ -158,9 +158,9 @@ pub(crate) fn push_waiting(out: &mut Vec<u8>, text: &Located, lock: LockId) -> R
     push_lock(out, text.program.locks.as_slice(), lock.0 as usize)
 }
 
-#[tactic(auto, unfolding(crate::specs::Labels::range_text))]
+#[tactic(auto, unfolding(crate::specs::Labels::numbers_text))]
 fn push_range(out: &mut Vec<u8>, first: u32, last: u32, events: u32) -> Result<(), Memory>
-    ensures { OnOk result (out.new.items ≡ out.old.items ++ range_text first last events) }
+    ensures { OnOk result (out.new.items ≡ out.old.items ++ numbers_text first last events) }
 {
     push(out, b"events ")?;
     push_decimal(out, first)?;

@@ -1,6 +1,6 @@
 //! The elements of the picture.
 ghost use Rattle.std.specs.Prelude.{◌≡◌, ◌≤◌, ◌++◌, OnOk};
-ghost use Rattle.message_chart.specs.Marks.{attribute, class_begin, rectangle, circle, element, element_end, head_from_left, head_from_right, level, line, path_begin, path_end, upright, words_begin, words_end, x_of, y_of};
+ghost use Rattle.message_chart.specs.Marks.{attribute, class_begin, rectangle, circle, element, element_end, head_from_left, head_from_right, level, line_to, path_begin, path_end, upright, words_begin, words_end, x_of, y_of};
 
 use dn_base::Memory;
 use text_pieces::{push, push_long};
@@ -155,14 +155,14 @@ pub(crate) fn push_level(out: &mut Vec<u8>, class: &[u8], y: u64, right: u64) ->
 }
 
 /// Adds a line from one point to another.
-#[tactic(auto, unfolding(crate::specs::Marks::line))]
+#[tactic(auto, unfolding(crate::specs::Marks::line_to))]
 pub(crate) fn push_line(
     out: &mut Vec<u8>,
     class: &[u8],
     from: Point,
     to: Point,
 ) -> Result<(), Memory>
-    ensures { OnOk result (out.new.items ≡ out.old.items ++ line class.now from.x from.y to.x to.y) }
+    ensures { OnOk result (out.new.items ≡ out.old.items ++ line_to class.now from.x from.y to.x to.y) }
 {
     push_path_begin(out, class, from)?;
     push(out, b"L")?;

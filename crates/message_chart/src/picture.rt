@@ -1,5 +1,5 @@
 ghost use Rattle.std.specs.Prelude.{◌≡◌, ◌++◌, IfOk, OnOk};
-ghost use Rattle.message_chart.specs.Picture.{chain_begin, chain_line, svg_of};
+ghost use Rattle.message_chart.specs.Picture.{chain_begin, chain_path, svg_of};
 
 use crate::chart::Chart;
 use crate::head::{push_bands, push_lanes, push_opening};
@@ -20,9 +20,9 @@ fn push_chain_begin(out: &mut Vec<u8>) -> Result<(), Memory>
 }
 
 /// Adds the line through the chain's events.
-#[tactic(auto, unfolding(crate::specs::Picture::chain_line))]
+#[tactic(auto, unfolding(crate::specs::Picture::chain_path))]
 fn push_chain_line(out: &mut Vec<u8>, chart: &Chart) -> Result<(), Memory>
-    ensures { OnOk result (out.new.items ≡ out.old.items ++ chain_line chart.now) }
+    ensures { OnOk result (out.new.items ≡ out.old.items ++ chain_path chart.now) }
 {
     push_chain_begin(out)?;
     push_points(out, chart, chart.rows.as_slice())?;

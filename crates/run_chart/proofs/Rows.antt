@@ -15,7 +15,7 @@ use Rattle.run_chart.specs.declared.drawing.Drawing.{Drawing}
 use Rattle.run_chart.specs.declared.drawing.Look.{Look}
 use Rattle.run_chart.specs.declared.mails.SentMail.{SentMail}
 use Rattle.run_chart.specs.declared.words.HeldWord.{HeldWord}
-use Rattle.run_chart.specs.Drawing.{event_maker, lines_of, row_by, row_of, row_with, with_row, with_rows, IsLookBefore, HasRow, IsNextRow}
+use Rattle.run_chart.specs.Drawing.{event_maker, row_by, row_of, row_with, with_row, with_rows, IsLookBefore, HasRow, IsNextRow}
 use Rattle.run_chart.specs.Mails.{noted_mails, place_handled, mails_left, sent_on, AreNotedFor}
 use Rattle.run_chart.specs.Marks.{is_on_chain}
 use Rattle.run_chart.specs.Words.{word_state, changes_among, changes_in, held_words}

@@ -61,17 +61,17 @@ about_in S (Arrive core) = Nothing
 about_in S (Handle id) = about_mail (removed id S.mails).0
 
 -- a task ends with the instruction that needs it to
-abbrev pub end_by : Option Need → Option End
-end_by (Some (need.TheVariants.End cause)) = Some cause
-end_by _ = None
+abbrev pub need_ends_by : Option Need → Option End
+need_ends_by (Some (need.TheVariants.End cause)) = Some cause
+need_ends_by _ = None
 
-abbrev pub end_of_node : Setting → Option NodeParts → Option End
-end_of_node C None = None
-end_of_node C (Some n) = end_by (need_now C n)
+abbrev pub node_ends_by : Setting → Option NodeParts → Option End
+node_ends_by C None = None
+node_ends_by C (Some n) = need_ends_by (need_now C n)
 
-abbrev pub end_at : State → CoreId → Option End
-end_at S core = end_of_node S.setting (slice_get S.nodes core.0)
+abbrev pub core_ends_by : State → CoreId → Option End
+core_ends_by S core = node_ends_by S.setting (slice_get S.nodes core.0)
 
-abbrev pub end_in : State → Event → Option End
-end_in S (Instr core) = end_at S core
-end_in S _ = None
+abbrev pub ends_by : State → Event → Option End
+ends_by S (Instr core) = core_ends_by S core
+ends_by S _ = None

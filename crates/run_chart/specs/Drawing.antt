@@ -17,7 +17,7 @@ use Rattle.run_chart.specs.declared.mails.SentMail.{SentMail}
 use Rattle.run_chart.specs.declared.words.HeldWord.{HeldWord}
 use Rattle.run_chart.specs.Mails.{noted_mails, origin_of, unknown_mails, place_handled, AreNotedFor}
 use Rattle.run_chart.specs.Marks.{is_on_chain}
-use Rattle.run_chart.specs.About.{about_in, end_in}
+use Rattle.run_chart.specs.About.{about_in, ends_by}
 use Rattle.run_chart.specs.Affected.{affected_by, is_affected, AreGathered}
 use Rattle.run_chart.specs.Words.{changes_in, changes_among, held_words, word_state}
 
@@ -34,8 +34,8 @@ abbrev pub event_maker : State → Event → Actor
 event_maker S e = the_actor (actor_in S e)
 
 -- how many lines a row has: one for its event, one where a task ends, and one for each change
-abbrev pub lines_of : Option End → List WordChange → ℕ
-lines_of end changes = 1 + end_lines end + length changes
+abbrev pub row_lines : Option End → List WordChange → ℕ
+row_lines end changes = 1 + end_lines end + length changes
 
 -- the row of event number `event`, from a line on, by the machine and the lines of the mails before it
 abbrev pub row_by : Made → List SentMail → Event → ℕ → ℕ → Bool → ChartRow
@@ -47,10 +47,10 @@ row_by m sent e event line on_chain =
       about = about_in m.state e;
       phase = record { 0 = m.state.keeper.phase };
       line = line;
-      lines = lines_of (end_in m.state e) (changes_in m.state (next m.state e) (event_maker m.state e));
+      lines = row_lines (ends_by m.state e) (changes_in m.state (next m.state e) (event_maker m.state e));
       mail = origin_of sent e;
       changes = changes_in m.state (next m.state e) (event_maker m.state e);
-      end = end_in m.state e;
+      end = ends_by m.state e;
       on_chain = on_chain;
     }
 
@@ -102,7 +102,7 @@ pub record IsLookBefore (S : State) (sent : List SentMail) (e : Event) (look : L
   pub about : look.about ≡ about_in S e
   pub phase : look.phase ≡ record { 0 = S.keeper.phase }
   pub mail : look.mail ≡ origin_of sent e
-  pub end : look.end ≡ end_in S e
+  pub end : look.end ≡ ends_by S e
   pub held : AreHeldBefore S e look.actor look.held
 
 -- the row of an event, by what was looked at before it
@@ -115,7 +115,7 @@ row_with S e look event line on_chain =
       about = look.about;
       phase = look.phase;
       line = line;
-      lines = lines_of look.end (changes_among (word_state (next S e) look.actor) look.held);
+      lines = row_lines look.end (changes_among (word_state (next S e) look.actor) look.held);
       mail = look.mail;
       changes = changes_among (word_state (next S e) look.actor) look.held;
       end = look.end;

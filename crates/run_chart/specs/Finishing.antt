@@ -3,7 +3,7 @@ use Rattle.std.specs.Prelude.{ℕ, ◌+◌, ◌==◌, ◌||◌, Bool, true, fals
 use Rattle.std.specs.List.{list_any, range_with_len}
 use Rattle.dn_base.specs.declared.ids.LockId.{LockId}
 use Rattle.message_net.specs.declared.actor.Actor.{Actor}
-use Rattle.message_net.specs.declared.actor.Actor.TheVariants.{Core, Bank, Keeper}
+use Rattle.message_net.specs.declared.actor.Actor.TheVariants.{Bank}
 use Rattle.message_net.specs.declared.message.Mail.{Mail}
 use Rattle.message_net.specs.Kind.{kind_of}
 use Rattle.registration_protocol.specs.declared.node.NodeWait as wait
@@ -56,8 +56,8 @@ abbrev pub comes_from : ℕ → Option Origin → Bool
 comes_from bank None = false
 comes_from bank (Some mail) = is_bank bank mail.sender
 
-abbrev pub goes_to : ℕ → LeavingMail → Bool
-goes_to bank mail = is_bank bank mail.to
+abbrev pub leaves_for : ℕ → LeavingMail → Bool
+leaves_for bank mail = is_bank bank mail.to
 
 -- whether a row is about an event of a bank, or the handling of a mail that comes from it
 abbrev pub uses_bank : ℕ → ChartRow → Bool
@@ -66,7 +66,7 @@ uses_bank bank row = is_bank bank row.actor || comes_from bank row.mail
 -- whether a bank has a column: it does something in the chart, or all of them have one
 abbrev pub has_column : Columns → List ChartRow → List LeavingMail → ℕ → Bool
 has_column All rows leaving bank = true
-has_column Used rows leaving bank = list_any (uses_bank bank) rows || list_any (goes_to bank) leaving
+has_column Used rows leaving bank = list_any (uses_bank bank) rows || list_any (leaves_for bank) leaving
 
 abbrev pub shown_banks : Columns → List ChartRow → List LeavingMail → ℕ → List Bool
 shown_banks columns rows leaving banks = map (has_column columns rows leaving) (range_with_len 0 banks)

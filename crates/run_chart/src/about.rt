@@ -2,7 +2,7 @@
 ghost use Rattle.std.specs.Prelude.{◌≡◌, length, option_copied};
 ghost use Rattle.machine_rules.specs.Sound.{IsMachine};
 ghost use Rattle.message_net.specs.Pool.{removed};
-ghost use Rattle.run_chart.specs.About.{about_code, about_core, about_in, about_mail, about_message, about_task, end_at, end_by, end_in};
+ghost use Rattle.run_chart.specs.About.{about_code, about_core, about_in, about_mail, about_message, about_task, core_ends_by, need_ends_by, ends_by};
 
 use crate::affected::mail_of;
 use crate::needs::need;
@@ -101,8 +101,8 @@ pub(crate) fn about(machine: &Machine, event: Event) -> About
 }
 
 /// How a task ends with its next instruction, by what that needs.
-fn end_by(need: Option<Need>) -> Option<End>
-    ensures { result ≡ end_by need }
+fn need_ends_by(need: Option<Need>) -> Option<End>
+    ensures { result ≡ need_ends_by need }
 {
     match need {
         Some(Need::End { cause }) => Some(cause),
@@ -111,24 +111,24 @@ fn end_by(need: Option<Need>) -> Option<End>
 }
 
 /// How a core's task ends with its next instruction, if it does.
-fn end_at(machine: &Machine, core: CoreId) -> Option<End>
+fn core_ends_by(machine: &Machine, core: CoreId) -> Option<End>
     requires { IsMachine machine.now.state }
-    ensures { result ≡ end_at machine.now.state core }
+    ensures { result ≡ core_ends_by machine.now.state core }
 {
     if core.0 < machine.shape().cores {
-        end_by(need(machine, machine.node(core)))
+        need_ends_by(need(machine, machine.node(core)))
     } else {
         None
     }
 }
 
 /// How the task of the event's actor ends with the event, if it does.
-pub(crate) fn end_in(machine: &Machine, event: Event) -> Option<End>
+pub(crate) fn ends_by(machine: &Machine, event: Event) -> Option<End>
     requires { IsMachine machine.now.state }
-    ensures { result ≡ end_in machine.now.state event }
+    ensures { result ≡ ends_by machine.now.state event }
 {
     match event {
-        Event::Instr(core) => end_at(machine, core),
+        Event::Instr(core) => core_ends_by(machine, core),
         _ => None,
     }
 }

@@ -4,12 +4,12 @@ ghost use Rattle.machine_rules.specs.Next.{enabled, next};
 ghost use Rattle.machine_rules.specs.Sound.{IsMachine};
 ghost use Rattle.dn_machine.specs.Actors.{receiver_of};
 ghost use Rattle.message_chart.specs.declared.chart.ChartRow.{ChartRow as ARow};
-ghost use Rattle.run_chart.specs.Drawing.{event_maker, lines_of, the_actor, with_rows, HaveCome, HasRow, IsLookBefore, IsRowed};
+ghost use Rattle.run_chart.specs.Drawing.{event_maker, row_lines, the_actor, with_rows, HaveCome, HasRow, IsLookBefore, IsRowed};
 ghost use Rattle.message_chart.specs.Picture.{end_lines};
 ghost use Rattle.run_chart.specs.Mails.{AreNotedFor, mails_left, sent_on};
 ghost use Rattle.run_chart.specs.Words.{changes_among, word_state};
 
-use crate::about::{about, end_in};
+use crate::about::{about, ends_by};
 use crate::gathering::affected_words;
 use crate::mails::{SentMail, after_event, origin_of, place_handled};
 use crate::marks::marks;
@@ -118,7 +118,7 @@ fn look_at(
         about: about(machine, event),
         phase: machine.keeper().phase(),
         mail: origin_of(machine.pool(), sent, event),
-        end: end_in(machine, event),
+        end: ends_by(machine, event),
         held: held_words(alloc, machine, actor, words.as_slice())?,
     })
 }
@@ -135,9 +135,9 @@ fn end_lines(end: Option<End>) -> u32
 }
 
 /// How many lines a row has: one for its event, one where a task ends, and one for each change.
-fn lines_of(end: Option<End>, changes: &[WordChange]) -> u32
+fn row_lines(end: Option<End>, changes: &[WordChange]) -> u32
     requires { length changes.now ≤ 65536 }
-    ensures { result ≡ lines_of end changes.now }
+    ensures { result ≡ row_lines end changes.now }
 {
     1 + end_lines(end) + changes.len() as u32
 }
@@ -171,7 +171,7 @@ fn row_of(
         about: before.about,
         phase: before.phase,
         line,
-        lines: lines_of(before.end, changes.as_slice()),
+        lines: row_lines(before.end, changes.as_slice()),
         mail: before.mail,
         changes,
         end: before.end,

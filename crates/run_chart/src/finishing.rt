@@ -2,7 +2,7 @@
 ghost use Rattle.std.specs.Prelude.{◌≡◌, ◌+◌, ◌≤◌, [], length, map, IfOk};
 ghost use Rattle.std.specs.List.{list_any, range_with_len};
 ghost use Rattle.machine_rules.specs.Sound.{IsMachine};
-ghost use Rattle.run_chart.specs.Finishing.{comes_from, goes_to, has_column, is_bank, leaving_from, shown_banks, uses_bank, waiting_from, lock_wanted, leaving_mail};
+ghost use Rattle.run_chart.specs.Finishing.{comes_from, leaves_for, has_column, is_bank, leaving_from, shown_banks, uses_bank, waiting_from, lock_wanted, leaving_mail};
 ghost use Rattle.run_chart.specs.Mails.{AreNotedFor};
 
 use crate::about::about_message;
@@ -143,7 +143,7 @@ fn any_uses(bank: u32, rows: &[ChartRow]) -> bool
 
 /// Whether some mail that leaves the chart goes to a bank.
 fn any_goes(bank: u32, mails: &[LeavingMail]) -> bool
-    ensures { result ≡ list_any (goes_to bank) mails.now }
+    ensures { result ≡ list_any (leaves_for bank) mails.now }
 {
     mails.iter().any(|mail| is_bank(bank, mail.to))
 }

@@ -18,7 +18,12 @@ use Rattle.dn_machine.proofs.ScheduleLaws.{after-more}
 use Rattle.text_places.specs.declared.places.Places.{Places}
 use Rattle.state_text.specs.declared.answer.StateAnswer.{StateAnswer}
 use Rattle.state_text.specs.Shown.{shown_text}
-use Rattle.state_text.specs.Reached.{IsFollowed, IsAnswerOf, state_before}
+use Rattle.state_text.specs.Reached.{IsFollowed, IsReasoned, AreListed, IsAnswerOf, state_before}
+use Rattle.event_reasons.proofs.Exact.{none-exactly}
+use Rattle.event_reasons.proofs.Held.{stands}
+use Rattle.event_reasons.proofs.Listed.{listed-exactly, in-place}
+use Rattle.machine_rules.specs.Sound.{IsMachine}
+use Rattle.registration_protocol.specs.Node.{NodeParts}
 
 -- what is known of an event that came, and of one that didn't
 pub came-some : (S T : State) (e : Event) (o : Option (Actor × Stepped)) (x : Actor × Stepped) → o ≡ Some x → IsTried S T e o → HasStepped S T e x
@@ -77,10 +82,17 @@ get-front [] (suc n) i x is = absurd (cc)
 get-front (y ∷ ys) (suc n) zero x is = is
 get-front (y ∷ ys) (suc n) (suc i) x is = get-front ys n i x is
 
+-- what event_reasons says of the state of a machine
+reasoned-of : (T : State) → IsMachine T → (e : Event) → IsReasoned T e
+reasoned-of T machine e = record { holds = stands T e; none = none-exactly T e (λ (core : ℕ) (n : NodeParts) there. (machine.node core n there).fits) }
+
+listed-of : (T : State) → IsMachine T → AreListed T
+listed-of T machine = listed-exactly T (in-place T machine)
+
 pub answer-of : (P : ProgramParts) (shape : Shape) (fuel : ℕ) (m : Made) (places : Places) (events before : List Event) (asked : ℕ) (T : State) (a : StateAnswer)
     → IsInitialMachine P shape fuel m → IsKept m.state m.made → before ≡ take asked events → asked ≤ length events → IsFollowed m.state T before a.event
-    → a.text.items ≡ shown_text places T events asked a.event → IsAnswerOf P shape fuel places events asked a
-answer-of P shape fuel m places events before asked T a at kept front within followed shown =
+    → IsMachine T → a.text.items ≡ shown_text places T events asked a.event → IsAnswerOf P shape fuel places events asked a
+answer-of P shape fuel m places events before asked T a at kept front within followed machine shown =
     let low : a.event ≤ asked = omega (arith, followed.within, ap length front, length-take-le asked events within) in
     let long : asked ≤ length before = omega (arith, ap length front, length-take-le asked events within) in
     let same : take a.event before ≡ take a.event events = ap (take a.event) front ∙ take-take a.event asked events low in
@@ -99,5 +111,7 @@ answer-of P shape fuel m places events before asked T a at kept front within fol
           subst (λ (S : State). enabled S (followed.stopped (omega (arith, before_asked, long))).0 ≡ false) leads (followed.stopped (omega (arith, before_asked, long))).2,
         );
       };
+      reasoned = λ (e : Event). subst (λ (S : State). IsReasoned S e) leads (reasoned-of T machine e);
+      listed = subst AreListed leads (listed-of T machine);
       text_is = shown ∙ ap (λ (S : State). shown_text places S events asked a.event) leads;
     }

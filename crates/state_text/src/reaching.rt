@@ -34,12 +34,13 @@ fn follow(machine: &mut Machine, events: &[Event]) -> Result<u32, Memory>
 }
 
 /// The state before the event of a number, from 0, as text; or before an earlier event, if that is the first that may not come. The
-/// number of all events asks for the state behind the last one.
+/// number of all events asks for the state behind the last one. The reason against the event holds, and the events that are listed
+/// are exactly those that may come.
 ///
 /// The places are those of the program's text: lines and names are taken from them and from the program. The shape has the cores that
 /// the program needs, 1 to 16 banks, 1 to 256 sets and 1 to 16 ways, a task may retire `fuel` instructions, 1 to 32,768, and there are at
-/// most 25,169,664 events. Only those before the one that is asked for are made; the mail that one of them handles is found by its id in
-/// constant time. Then each part of the state is looked at once.
+/// most 25,169,664 events. Only those before the one that is asked for are made; the mail that one of them handles is found by its
+/// id in constant time. Then each part of the state is looked at once.
 ///
 /// # Errors
 /// `Memory` where there is no room for the machine, its mails or the text.
@@ -62,6 +63,8 @@ pub fn state_at(
     a_machine_is_kept(&machine);
     let (before, _) = events.split_at(asked as usize);
     let event = follow(&mut machine, before)?;
+    // for the proof alone: the state is one of the machine, as the clause says of its reasons and of the events that are listed
+    a_machine_is_kept(&machine);
     let text = shown(alloc, &machine, places, events, asked, event)?;
     Ok(StateAnswer { event, text })
 }

@@ -1,5 +1,4 @@
-use Rattle.std.proofs.Common.{List, length, ap, ◌∙◌, arith}
-use Rattle.message_chart.specs.declared.chart.LeavingMail.{LeavingMail}
+use Rattle.std.proofs.Common.{List, length, ap, arith}
 use Rattle.run_chart.specs.declared.mails.SentMail.{SentMail}
 use Rattle.run_chart.proofs.Begun.{few-noted}
 use Rattle.run_chart.proofs.charting.finished.Goals as goal

@@ -19,7 +19,7 @@ returns c =
       about = c.about.ensures;
       phase = ap {B = PhaseId} (λ (n : ℕ). record { 0 = n }) (c.phase.ensures ∙ ap (λ (k : Barrier). k.phase) c.keeper.ensures);
       mail = c.origin_of.ensures;
-      end = c.end_in.ensures;
+      end = c.ends_by.ensures;
       held =
           record {
             words = c.in_ok-words.words.items;

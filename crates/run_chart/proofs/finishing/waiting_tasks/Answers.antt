@@ -1,6 +1,4 @@
-use Rattle.std.proofs.Common.{◌≡◌, ℕ, ◌∷◌, [], List, Option, Some, length, ap, sym, ◌∙◌, arith, length-append}
-use Rattle.dn_base.specs.declared.ids.CoreId.{CoreId}
-use Rattle.dn_base.specs.declared.ids.LockId.{LockId}
+use Rattle.std.proofs.Common.{◌≡◌, ℕ, ◌∷◌, [], List, length, ap, sym, ◌∙◌, arith, length-append}
 use Rattle.registration_protocol.specs.declared.node.NodeWait.{NodeWait}
 use Rattle.message_chart.specs.declared.chart.WaitingTask.{WaitingTask}
 use Rattle.run_chart.specs.Finishing.{lock_wanted, waiting_from}
