@@ -1,5 +1,10 @@
-use Rattle.view_top.proofs.Kept.{state-shown, without-program}
+use Rattle.std.proofs.Common.{ap, ◌∙◌}
+use Rattle.text_places.specs.Places.{text_places}
+use Rattle.view_top.proofs.Kept.{state-shown}
 use Rattle.view_top.proofs.states.show_state.Goals as goal
+
+pub state_in-requires-clause-places : goal.state_in-requires-clause-places
+state_in-requires-clause-places c = c.in_ok-located.ensures.places ∙ ap text_places c.as_slice-text.ensures
 
 pub returns-clause-made : goal.returns-clause-made
 returns-clause-made c =
