@@ -5,6 +5,7 @@ use crate::node::{Node, NodeWait};
 use dn_base::{CoreId, PhaseId};
 use rv_core::TaskState;
 use word_cache::WordCache;
+use write_signature::Signature;
 
 impl Node {
     /// The core.
@@ -40,6 +41,13 @@ impl Node {
         ensures { result ≡ self.now.waiting }
     {
         self.wait
+    }
+
+    /// The signature that the core has for each lock, in the order of the locks.
+    pub fn signatures(&self) -> &[Signature]
+        ensures { result.now ≡ self.now.signatures }
+    {
+        self.signatures.as_slice()
     }
 
     /// Whether the core has arrived at the barrier, and waits there.

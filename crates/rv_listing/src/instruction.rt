@@ -146,9 +146,13 @@ fn push_raw(out: &mut Vec<u8>, word: u32) -> Result<(), Memory>
     push_line(out, b".raw", &[Operand::Word(word)])
 }
 
-/// Adds the line of a code word.
+/// Adds the line of a code word, as it stands in a listing, with its newline: the word's instruction, or the word as a number where it
+/// is none that is encoded so.
+///
+/// # Errors
+/// `Memory` where there is no room for the line.
 #[tactic(auto, unfolding(crate::specs::Instruction::code_line))]
-pub(crate) fn push_code(out: &mut Vec<u8>, word: u32) -> Result<(), Memory>
+pub fn push_code(out: &mut Vec<u8>, word: u32) -> Result<(), Memory>
     ensures { OnOk result (out.new.items ≡ out.old.items ++ ended (code_line word)) }
 {
     match decode(word) {

@@ -6,4 +6,5 @@ mod instruction;
 mod statement;
 mod writing;
 
+pub use instruction::push_code;
 pub use writing::listing;

@@ -1,0 +1,45 @@
+-- What an event changes and sends.
+use Rattle.std.specs.Prelude.{◌≡◌, ℕ, ◌-◌, List, map, drop, length, Some}
+use Rattle.message_net.specs.declared.actor.Actor.{Actor}
+use Rattle.message_net.specs.declared.event.Event.{Event}
+use Rattle.message_net.specs.declared.event.Event.TheVariants.{Handle}
+use Rattle.message_net.specs.declared.message.Mail.{Mail}
+use Rattle.message_net.specs.declared.message.Outgoing.{Outgoing}
+use Rattle.machine_rules.specs.State.{State}
+use Rattle.machine_rules.specs.Next.{next, seen_in, kind_in}
+use Rattle.machine_rules.specs.declared.stepped.Stepped.{Stepped}
+use Rattle.dn_machine.specs.Actors.{actor_in}
+use Rattle.run_changes.specs.declared.change.Change.{Change}
+use Rattle.run_changes.specs.declared.change.EventMade.{EventMade}
+use Rattle.run_changes.specs.declared.look.Look.{Look}
+use Rattle.run_changes.specs.Looks.{look_at}
+use Rattle.run_changes.specs.Changes.{changes_from}
+
+-- what an event changes in its actor's state, and what it read and wrote
+unfoldable pub changes_in : State → Event → List Change
+changes_in S e = changes_from (look_at S e) (seen_in S e) (next S e)
+
+-- how many mails are left in flight before an event sends any: one that is handled leaves
+abbrev pub count_left_by : List Mail → Event → ℕ
+count_left_by mails (Handle id) = length mails - 1
+count_left_by mails _ = length mails
+
+-- what a mail carries, and where to
+abbrev pub outgoing_of : Mail → Outgoing
+outgoing_of m = record { to = m.to; message = m.message }
+
+-- what an event sends: the mails that stand behind those that are left
+unfoldable pub sent_in : State → Event → List Outgoing
+sent_in S e = map outgoing_of (drop (count_left_by S.mails e) (next S e).mails)
+
+-- an event that was made in a state
+pub record IsMadeIn (S : State) (e : Event) (m : EventMade) : Type 0 where
+  pub actor : actor_in S e ≡ Some m.actor
+  pub kind : m.kind ≡ kind_in S e
+  pub changes : m.changes ≡ changes_in S e
+  pub sent : m.sent ≡ sent_in S e
+
+-- what is told of an event that came and led to a state, by what was looked at before it and how many mails were left
+abbrev pub event_told : State → Look → ℕ → Actor × Stepped → EventMade
+event_told T look left came =
+    record { actor = came.0; kind = came.1.kind; changes = changes_from look came.1.seen T; sent = map outgoing_of (drop left T.mails) }

@@ -1,0 +1,16 @@
+//! What an event changes: the state of its actor, change by change, what the actor sends, and what is different in a state from the
+//! beginning of its run.
+#![tactic(auto)]
+
+mod banks;
+mod change;
+mod look;
+mod looking;
+mod making;
+mod nodes;
+mod parts;
+mod since;
+
+pub use change::{ActorChange, Change, EventMade};
+pub use making::make;
+pub use since::changes_since;

@@ -1,0 +1,251 @@
+//! What is different in a state from the beginning of its machine.
+ghost use Rattle.std.specs.Prelude.{◌≡◌, ◌++◌, ◌<◌, ◌≤◌, ◌∷◌, [], length, map, replicate, slice_get, Some, IfOk, OnOk};
+ghost use Rattle.message_net.specs.declared.actor.Actor.TheVariants.{Core as OfCore, Bank as OfBank};
+ghost use Rattle.write_signature.specs.Signature.{empty};
+ghost use Rattle.registry_bank.specs.declared.bank.BankWord.TheVariants.{Home as AtHome};
+ghost use Rattle.machine_rules.specs.Sound.{IsMachine};
+ghost use Rattle.machine_rules.specs.State.{home_at, lock_at};
+ghost use Rattle.run_changes.specs.Changes.{home_change, queue_change, lock_changes, locks_held};
+ghost use Rattle.run_changes.specs.Since.{of_actor, pair_held, pairs_held, end_since, task_since, node_since, core_since, cores_since, home_of, words_since, free_look, locks_since, changes_since};
+
+use crate::banks::{barrier_of, note_home, note_queue};
+use crate::change::{ActorChange, Change};
+use crate::look::LockLook;
+use crate::parts::{locks_held, note, note_flag, note_locks, note_wait};
+use dn_base::{BankId, CoreId, LockId, Memory, PhaseId, Sequence, WordId, remainder};
+use dn_machine::{Machine, a_machine_is_kept};
+use message_net::Actor;
+use registration_protocol::{Node, NodeWait};
+use registry_bank::BankWord;
+use rv_core::{End, TaskState};
+use std::alloc::Global;
+use word_cache::{Entry, WordCache};
+use write_signature::Signature;
+
+/// Adds the entries of pairs.
+fn add_pairs(out: &mut Vec<Change>, pairs: &[(WordId, Entry)]) -> Result<(), Memory>
+    ensures { OnOk result (out.new.items ≡ out.old.items ++ map pair_held pairs.now) }
+{
+    for (word, entry) in pairs {
+        note(out, Change::Holds(*word, *entry))?;
+    }
+    Ok(())
+}
+
+/// Adds every entry that a cache has.
+fn note_cache(alloc: Global, out: &mut Vec<Change>, cache: &WordCache) -> Result<(), Memory>
+    ensures { OnOk result (out.new.items ≡ out.old.items ++ pairs_held cache.now) }
+{
+    for set in 0..cache.sets() {
+        let pairs = cache.pairs(alloc, set)?;
+        add_pairs(out, pairs.as_slice())?;
+    }
+    Ok(())
+}
+
+/// How a task has ended.
+fn note_end(out: &mut Vec<Change>, end: Option<End>) -> Result<(), Memory>
+    ensures { OnOk result (out.new.items ≡ out.old.items ++ end_since end) }
+{
+    match end {
+        None => Ok(()),
+        Some(by) => note(out, Change::Ended(by)),
+    }
+}
+
+/// How a task has ended, and where it is.
+fn note_task(out: &mut Vec<Change>, task: Option<TaskState>) -> Result<(), Memory>
+    ensures { OnOk result (out.new.items ≡ out.old.items ++ task_since task) }
+{
+    match task {
+        None => Ok(()),
+        Some(task) => {
+            note_end(out, task.end)?;
+            let at = Change::At {
+                pc: task.pc,
+                retired: task.retired,
+            };
+            note(out, at)
+        }
+    }
+}
+
+/// So many empty signatures of a phase.
+fn empty_signatures(alloc: Global, phase: PhaseId, locks: usize) -> Result<Vec<Signature>, Memory>
+    ensures { IfOk result (λ signatures. signatures.items ≡ replicate locks (empty phase.0)) }
+{
+    Ok(vec![in alloc; Signature::empty(phase); locks]?)
+}
+
+/// What is different of the locks of a node from those of one that holds none and has empty signatures.
+fn note_own_locks(alloc: Global, out: &mut Vec<Change>, node: &Node) -> Result<(), Memory>
+    requires { length node.now.signatures ≤ 32 }
+    ensures { OnOk result (out.new.items ≡ out.old.items ++ lock_changes 0 (locks_held node.now.task) 0 (replicate (length node.now.signatures) (empty node.now.phase)) node.now.signatures) }
+{
+    let signatures = node.signatures();
+    let before = empty_signatures(alloc, node.phase(), signatures.len())?;
+    let held = locks_held(node.task().copied());
+    note_locks(out, 0, held, before.as_slice(), signatures)
+}
+
+/// What is different of a node from one in which its phase begins without entries.
+fn node_since(alloc: Global, node: &Node) -> Result<Vec<Change>, Memory>
+    requires { length node.now.signatures ≤ 32 }
+    ensures { IfOk result (λ changes. changes.items ≡ node_since node.now) }
+{
+    let mut out = Vec::new(alloc);
+    note(&mut out, Change::Begins(node.phase()))?;
+    note_cache(alloc, &mut out, node.cache())?;
+    note_task(&mut out, node.task().copied())?;
+    note_wait(&mut out, NodeWait::None, node.wait())?;
+    note_own_locks(alloc, &mut out, node)?;
+    note_flag(&mut out, false, node.has_arrived(), Change::Arrived)?;
+    note_flag(&mut out, false, node.has_halted(), Change::Halted)?;
+    Ok(out)
+}
+
+/// Adds the changes of an actor.
+fn add_all(
+    out: &mut Sequence<ActorChange>,
+    actor: Actor,
+    changes: Vec<Change>,
+) -> Result<(), Memory>
+    ensures { OnOk result (out.new ≡ out.old ++ map (of_actor actor) changes.items) }
+{
+    for change in changes {
+        out.push(ActorChange { actor, change })?;
+    }
+    Ok(())
+}
+
+/// What is different of each core.
+fn add_cores(
+    alloc: Global,
+    out: &mut Sequence<ActorChange>,
+    machine: &Machine,
+) -> Result<(), Memory>
+    requires { IsMachine machine.now.state }
+    ensures { OnOk result (out.new ≡ out.old ++ cores_since machine.now.state 0 machine.now.state.setting.shape.cores) }
+{
+    for core in 0..machine.shape().cores {
+        let changes = node_since(alloc, machine.node(CoreId(core)))?;
+        add_all(out, Actor::Core(CoreId(core)), changes)?;
+    }
+    Ok(())
+}
+
+/// The bank of a word or a lock.
+fn home_of(machine: &Machine, number: u32) -> BankId
+    requires { IsMachine machine.now.state }
+    ensures bank { OfBank result ≡ home_of machine.now.state number }
+    ensures there { result.0 < machine.now.state.setting.shape.banks }
+{
+    BankId(remainder(number, machine.shape().banks))
+}
+
+/// What is different of a word at its home from its first value.
+fn word_since(
+    alloc: Global,
+    machine: &Machine,
+    bank: BankId,
+    word: WordId,
+    first: u32,
+) -> Result<Vec<Change>, Memory>
+    requires there { bank.0 < machine.now.state.setting.shape.banks }
+    requires home { OfBank bank ≡ home_of machine.now.state word.0 }
+    ensures { IfOk result (λ changes. changes.items ≡ home_change word (Some (AtHome first)) (home_at machine.now.state word.0)) }
+{
+    let mut out = Vec::new(alloc);
+    let now = machine.bank(bank).word(word);
+    note_home(&mut out, word, Some(BankWord::Home(first)), now)?;
+    Ok(out)
+}
+
+/// What is different of each word at its home.
+fn add_words(
+    alloc: Global,
+    out: &mut Sequence<ActorChange>,
+    machine: &Machine,
+) -> Result<(), Memory>
+    requires { IsMachine machine.now.state }
+    ensures { OnOk result (out.new ≡ out.old ++ words_since machine.now.state 0 machine.now.state.setting.program.memory) }
+{
+    let mut word = 0;
+    for first in machine.program().memory.as_slice() {
+        let bank = home_of(machine, word);
+        let changes = word_since(alloc, machine, bank, WordId(word), *first)?;
+        add_all(out, Actor::Bank(bank), changes)?;
+        word += 1;
+    }
+    Ok(())
+}
+
+/// A lock that is free, with the empty signature of phase 0.
+fn free_look() -> LockLook
+    ensures { result ≡ free_look }
+{
+    LockLook {
+        holder: None,
+        waiting: 0,
+        kept: Signature::empty(PhaseId(0)),
+    }
+}
+
+/// What is different of a lock at its home from a free one.
+fn lock_since(
+    alloc: Global,
+    machine: &Machine,
+    bank: BankId,
+    lock: LockId,
+) -> Result<Vec<Change>, Memory>
+    requires there { bank.0 < machine.now.state.setting.shape.banks }
+    requires home { OfBank bank ≡ home_of machine.now.state lock.0 }
+    ensures { IfOk result (λ changes. changes.items ≡ queue_change lock free_look (lock_at machine.now.state lock.0)) }
+{
+    let mut out = Vec::new(alloc);
+    let now = machine.bank(bank).lock(lock);
+    note_queue(alloc, &mut out, lock, &free_look(), now)?;
+    Ok(out)
+}
+
+/// What is different of each lock at its home.
+fn add_locks(
+    alloc: Global,
+    out: &mut Sequence<ActorChange>,
+    machine: &Machine,
+) -> Result<(), Memory>
+    requires { IsMachine machine.now.state }
+    ensures { OnOk result (out.new ≡ out.old ++ locks_since machine.now.state 0 (length machine.now.state.setting.program.locks)) }
+{
+    for lock in 0..machine.program().locks.len() as u32 {
+        let bank = home_of(machine, lock);
+        let changes = lock_since(alloc, machine, bank, LockId(lock))?;
+        add_all(out, Actor::Bank(bank), changes)?;
+    }
+    Ok(())
+}
+
+/// What is different in a machine's state from the beginning of its run: the changes that lead there from a machine whose homes have the
+/// first values, whose locks are free and in which each core is in phase 0 without entries. Each core's changes begin with those of
+/// a phase that begins, and the keeper is told whole.
+///
+/// It looks at each place of the caches, at each data word and at each lock once.
+///
+/// # Errors
+/// `Memory` where there is no room.
+#[tactic(auto, unfolding(crate::specs::Since::changes_since))]
+pub fn changes_since(alloc: Global, machine: &Machine) -> Result<Sequence<ActorChange>, Memory>
+    ensures { IfOk result (λ changes. changes ≡ changes_since machine.now.state) }
+{
+    // for the proof alone: the machine is well formed, so it has the nodes and banks that its size says
+    a_machine_is_kept(machine);
+    let mut out = Sequence::new(alloc);
+    add_cores(alloc, &mut out, machine)?;
+    add_words(alloc, &mut out, machine)?;
+    add_locks(alloc, &mut out, machine)?;
+    out.push(ActorChange {
+        actor: Actor::Keeper,
+        change: barrier_of(alloc, machine.keeper())?,
+    })?;
+    Ok(out)
+}
