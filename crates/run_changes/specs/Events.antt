@@ -1,6 +1,7 @@
 -- What an event changes and sends.
-use Rattle.std.specs.Prelude.{◌≡◌, ℕ, ◌-◌, List, map, drop, length, Some}
+use Rattle.std.specs.Prelude.{ℕ, ◌-◌, ◌×◌, List, map, drop, length, Option, Some, None}
 use Rattle.message_net.specs.declared.actor.Actor.{Actor}
+use Rattle.message_net.specs.declared.actor.Actor.TheVariants.{Keeper}
 use Rattle.message_net.specs.declared.event.Event.{Event}
 use Rattle.message_net.specs.declared.event.Event.TheVariants.{Handle}
 use Rattle.message_net.specs.declared.message.Mail.{Mail}
@@ -32,12 +33,14 @@ outgoing_of m = record { to = m.to; message = m.message }
 unfoldable pub sent_in : State → Event → List Outgoing
 sent_in S e = map outgoing_of (drop (count_left_by S.mails e) (next S e).mails)
 
--- an event that was made in a state
-pub record IsMadeIn (S : State) (e : Event) (m : EventMade) : Type 0 where
-  pub actor : actor_in S e ≡ Some m.actor
-  pub kind : m.kind ≡ kind_in S e
-  pub changes : m.changes ≡ changes_in S e
-  pub sent : m.sent ≡ sent_in S e
+-- the actor that makes an event; one that may come is some actor's
+abbrev pub maker_of : Option Actor → Actor
+maker_of None = Keeper
+maker_of (Some a) = a
+
+-- what an event does that comes in a state
+abbrev pub made_in : State → Event → EventMade
+made_in S e = record { actor = maker_of (actor_in S e); kind = kind_in S e; changes = changes_in S e; sent = sent_in S e }
 
 -- what is told of an event that came and led to a state, by what was looked at before it and how many mails were left
 abbrev pub event_told : State → Look → ℕ → Actor × Stepped → EventMade

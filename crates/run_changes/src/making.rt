@@ -4,7 +4,7 @@ ghost use Rattle.machine_rules.specs.Next.{next, enabled};
 ghost use Rattle.machine_rules.specs.Sound.{IsMachine};
 ghost use Rattle.machine_rules.specs.State.{word_in, lock_in};
 ghost use Rattle.run_changes.specs.Changes.{core_changes, home_change, queue_change, changes_from};
-ghost use Rattle.run_changes.specs.Events.{count_left_by, outgoing_of, event_told, IsMadeIn};
+ghost use Rattle.run_changes.specs.Events.{count_left_by, outgoing_of, event_told, made_in};
 
 use crate::banks::{note_barrier, note_home, note_queue};
 use crate::change::{Change, EventMade};
@@ -153,7 +153,7 @@ pub fn make(alloc: Global, machine: &mut Machine, event: Event) -> Result<Option
     requires { machine.old.made < 4000000000 }
     ensures none { IfOk result (λ came. IfNone came ((enabled machine.old.state event ≡ false) × (machine.new ≡ machine.old))) }
     ensures may { IfOk result (λ came. IfSome came (λ made. enabled machine.old.state event ≡ true)) }
-    ensures made { IfOk result (λ came. IfSome came (IsMadeIn machine.old.state event)) }
+    ensures made { IfOk result (λ came. IfSome came (λ made. made ≡ made_in machine.old.state event)) }
     ensures state { IfOk result (λ came. IfSome came (λ made. machine.new.state ≡ next machine.old.state event)) }
     ensures count { IfOk result (λ came. IfSome came (λ made. machine.new.made ≡ machine.old.made + 1)) }
 {

@@ -6,7 +6,8 @@ use rv_core::{EndShown, Ending, TaskEnd, TrapKind};
 use std::alloc::Global;
 use text_pieces::{push, push_decimal, push_hexadecimal};
 
-fn outcome_name(outcome: Outcome) -> &'static [u8]
+/// An outcome, as it is printed.
+pub fn outcome_name(outcome: Outcome) -> &'static [u8]
     ensures { result.now ≡ outcome_word outcome }
 {
     match outcome {
@@ -17,7 +18,8 @@ fn outcome_name(outcome: Outcome) -> &'static [u8]
     }
 }
 
-fn kind_name(kind: TrapKind) -> &'static [u8]
+/// The kind of a trap, as it is printed.
+pub fn kind_name(kind: TrapKind) -> &'static [u8]
     ensures { result.now ≡ kind_word kind }
 {
     match kind {

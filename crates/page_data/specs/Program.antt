@@ -1,0 +1,79 @@
+-- What the page is told of the machine and its program.
+use Rattle.std.specs.Prelude.{ℕ, ◌+◌, ◌==◌, Bool, true, false, List, [], ◌∷◌, ◌++◌, codes, flat_map, length, if◌then◌else◌}
+use Rattle.std.specs.Fmt.{decimal}
+use Rattle.src_text.specs.Laws.{ended}
+use Rattle.region_table.specs.declared.declared.Phase.{Phase}
+use Rattle.region_table.specs.declared.declared.Region.{Region}
+use Rattle.region_table.specs.declared.declared.TaskDecl.{TaskDecl}
+use Rattle.region_table.specs.declared.interval.Interval.{Interval}
+use Rattle.region_table.specs.declared.plan.PhasePlan.{PhasePlan}
+use Rattle.region_table.specs.Program.{ProgramParts}
+use Rattle.registration_protocol.specs.Node.{Setting}
+use Rattle.rv_listing.specs.Instruction.{code_line}
+use Rattle.page_data.specs.Json.{gap, string_text, list_text, item_texts, further_all}
+
+-- how large the machine is, the fuel of a task, and how many data words there are
+unfoldable pub size_text : Setting → List ℕ
+size_text C =
+    codes ",\"cores\":" ++ (decimal C.shape.cores
+    ++ (codes ",\"banks\":" ++ (decimal C.shape.banks
+    ++ (codes ",\"sets\":" ++ (decimal C.shape.sets
+    ++ (codes ",\"ways\":" ++ (decimal C.shape.ways
+    ++ (codes ",\"fuel\":" ++ (decimal C.fuel
+    ++ (codes ",\"words\":" ++ decimal (length C.program.memory)))))))))))
+
+-- two numbers
+unfoldable pub pair_text : ℕ → ℕ → List ℕ
+pair_text a b = codes "[" ++ (decimal a ++ (further_all (b ∷ []) ++ codes "]"))
+
+-- the first values of the words from one on that aren't 0
+abbrev pub value_texts : Bool → ℕ → List ℕ → List ℕ
+value_texts first w [] = []
+value_texts first w (value ∷ values) =
+    if value == 0 then value_texts first (w + 1) values else gap first ++ (pair_text w value ++ value_texts false (w + 1) values)
+
+unfoldable pub values_text : List ℕ → List ℕ
+values_text memory = codes ",\"memory\":[" ++ (value_texts true 0 memory ++ codes "]")
+
+-- the name, the first word and the length of a region
+unfoldable pub region_text : Region → List ℕ
+region_text r = codes "[" ++ (string_text r.name ++ (further_all (r.start ∷ r.len ∷ []) ++ codes "]"))
+
+-- a set of words, as the intervals that it is
+abbrev pub interval_text : Interval → List ℕ
+interval_text i = pair_text i.lo i.hi
+
+abbrev pub words_text : List Interval → List ℕ
+words_text set = list_text interval_text set
+
+-- the core, the entry and the argument of a task
+unfoldable pub task_text : TaskDecl → List ℕ
+task_text t = codes "[" ++ (decimal t.core.0 ++ (further_all (t.entry ∷ t.arg ∷ []) ++ codes "]"))
+
+-- the words that a phase may write, in whole regions, those that each lock guards in it, and its tasks
+unfoldable pub phase_text : Phase → PhasePlan → List ℕ
+phase_text p plan =
+    codes "{\"written\":" ++ (words_text plan.written
+    ++ (codes ",\"guarded\":" ++ (list_text words_text plan.guarded
+    ++ (codes ",\"tasks\":" ++ (list_text task_text p.tasks ++ codes "}")))))
+
+abbrev pub phase_texts : Bool → List Phase → List PhasePlan → List ℕ
+phase_texts first (p ∷ ps) (plan ∷ plans) = gap first ++ (phase_text p plan ++ phase_texts false ps plans)
+phase_texts first _ _ = []
+
+unfoldable pub phases_text : List Phase → List PhasePlan → List ℕ
+phases_text phases plans = codes ",\"phases\":[" ++ (phase_texts true phases plans ++ codes "]")
+
+-- each code word as a listing writes it, on a line of its own
+abbrev pub code_lines : List ℕ → List ℕ
+code_lines code = flat_map (λ (w : ℕ). ended (code_line w)) code
+
+-- the program, and its text
+unfoldable pub program_text : Setting → List ℕ → List ℕ
+program_text C source =
+    values_text C.program.memory
+    ++ (codes ",\"regions\":" ++ (list_text region_text C.program.regions
+    ++ (codes ",\"locks\":" ++ (list_text string_text C.program.locks
+    ++ (phases_text C.program.phases C.plans
+    ++ (codes ",\"code\":" ++ (string_text (code_lines C.program.code)
+    ++ (codes ",\"source\":" ++ string_text source))))))))
