@@ -43,8 +43,8 @@ chain_texts p first (link ∷ links) =
 -- how the run ended, how many events of each kind it has, and which of them the page has
 unfoldable pub run_part : Page → ℕ → List ℕ
 run_part p events =
-    codes ",\"outcome\":\"" ++ (outcome_word p.ending.outcome
-    ++ (codes "\",\"ends\":" ++ (list_text end_row p.ending.tasks
+    codes ",\"outcome\":\"" ++ (outcome_word p.ending.now.outcome
+    ++ (codes "\",\"ends\":" ++ (list_text end_row p.ending.now.tasks
     ++ (codes ",\"counts\":" ++ (list_text decimal p.counts.kinds
     ++ (codes ",\"total\":" ++ (decimal events
     ++ (codes ",\"first\":" ++ decimal p.first))))))))
@@ -53,9 +53,9 @@ run_part p events =
 unfoldable pub timing_part : Page → List ℕ
 timing_part p =
     codes ",\"ticks\":[" ++ (decimal p.tick_core ++ (further_all (p.tick_bank ∷ p.tick_mail ∷ [])
-    ++ (codes "],\"time\":" ++ (decimal p.timing.total
-    ++ (codes ",\"links\":" ++ (decimal (length p.timing.links.items)
-    ++ (codes ",\"chain\":[" ++ (chain_texts p true p.timing.links.items ++ codes "]"))))))))
+    ++ (codes "],\"time\":" ++ (decimal p.timing.now.total
+    ++ (codes ",\"links\":" ++ (decimal (length p.timing.now.links.items)
+    ++ (codes ",\"chain\":[" ++ (chain_texts p true p.timing.now.links.items ++ codes "]"))))))))
 
 -- ---- the page's first state, and its events
 
@@ -85,15 +85,15 @@ first_state C events p = after (initial_state C) (take p.first events)
 abbrev pub page_events : List Event → Page → List Event
 page_events events p = take p.most (drop p.first events)
 
+-- what doesn't change in the run
+abbrev pub head_part : Setting → Page → ℕ → List ℕ
+head_part C p events = title_part p.name.now ++ (size_text C ++ (program_text C p.source.now ++ (run_part p events ++ timing_part p)))
+
 -- the data of the page of a run
 unfoldable pub page_text : Setting → List Event → Page → List ℕ
 page_text C events p =
-    title_part p.name.now
-    ++ (size_text C
-    ++ (program_text C p.source.now
-    ++ (run_part p (length events)
-    ++ (timing_part p
-    ++ (start_part (first_state C events p) ++ events_part (first_state C events p) (page_events events p))))))
+    head_part C p (length events)
+    ++ (start_part (first_state C events p) ++ events_part (first_state C events p) (page_events events p))
 
 -- the data of the page of a run of the machine of this program, shape and fuel
 pub record IsPageOf (P : ProgramParts) (shape : Shape) (fuel : ℕ) (events : List Event) (p : Page) (text : List ℕ) : Type 0 where
