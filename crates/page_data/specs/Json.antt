@@ -5,15 +5,15 @@ use Rattle.text_pieces.specs.Pieces.{hex_at}
 
 -- whether a byte stands for itself in a string: printable ASCII, but for the quote, the backslash, and `<`, with which a tag of the
 -- page around the data could begin
-abbrev pub is_plain : ℕ → Bool
-is_plain b = nat_le 32 b && (nat_le b 126 && (not (b == 34) && (not (b == 92) && not (b == 60))))
+abbrev pub is_unescaped : ℕ → Bool
+is_unescaped b = nat_le 32 b && (nat_le b 126 && (not (b == 34) && (not (b == 92) && not (b == 60))))
 
 -- a byte as a character of a string: itself, or its number in base 16
 abbrev pub escape : ℕ → List ℕ
 escape b = if b == 10 then codes "\\n" else codes "\\u00" ++ hex_at b 1 ∷ hex_at b 0 ∷ []
 
 unfoldable pub character : ℕ → List ℕ
-character b = if is_plain b then b ∷ [] else escape b
+character b = if is_unescaped b then b ∷ [] else escape b
 
 unfoldable pub string_text : List ℕ → List ℕ
 string_text bytes = codes "\"" ++ (flat_map character bytes ++ codes "\"")

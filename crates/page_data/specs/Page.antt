@@ -13,18 +13,18 @@ use Rattle.machine_rules.specs.Runs.{after}
 use Rattle.dn_machine.specs.Settings.{IsSettingOf}
 use Rattle.run_report.specs.Answer.{outcome_word}
 use Rattle.run_timing.specs.declared.timing.Link.{Link}
-use Rattle.run_changes.specs.Events.{made_in}
+use Rattle.run_changes.specs.Events.{event_made}
 use Rattle.run_changes.specs.Since.{changes_since}
 use Rattle.page_data.specs.declared.page.Page.{Page}
 use Rattle.page_data.specs.Json.{gap, string_text, list_text, further_all}
-use Rattle.page_data.specs.Rows.{cause_text, actor_change_text, mail_text, event_text}
+use Rattle.page_data.specs.Rows.{cause_fields, actor_change_text, mail_item, event_text}
 use Rattle.page_data.specs.Program.{size_text, program_text}
 
 -- ---- the run as a whole
 
 -- how a task stands at the end, and how many instructions it has retired
 unfoldable pub end_row : TaskEnd → List ℕ
-end_row t = codes "[" ++ (decimal t.phase.0 ++ (further_all (t.core.0 ∷ t.retired ∷ []) ++ (cause_text t.end ++ codes "]")))
+end_row t = codes "[" ++ (decimal t.phase.0 ++ (further_all (t.core.0 ∷ t.retired ∷ []) ++ (cause_fields t.end ++ codes "]")))
 
 -- whether an event is one of the page's
 abbrev pub is_on_page : Page → ℕ → Bool
@@ -63,12 +63,12 @@ timing_part p =
 unfoldable pub start_part : State → List ℕ
 start_part S =
     codes ",\"start\":{\"changes\":" ++ (list_text actor_change_text (changes_since S)
-    ++ (codes ",\"next\":" ++ (list_text decimal S.numbers ++ (codes ",\"mails\":" ++ (list_text mail_text S.mails ++ codes "}")))))
+    ++ (codes ",\"next\":" ++ (list_text decimal S.numbers ++ (codes ",\"mails\":" ++ (list_text mail_item S.mails ++ codes "}")))))
 
 -- each event on a line of its own, with what it does in the state in which it comes
 abbrev pub event_rows : Bool → State → List Event → List ℕ
 event_rows first S [] = []
-event_rows first S (e ∷ es) = gap first ++ (newline ++ (event_text e (made_in S e) ++ event_rows false (next S e) es))
+event_rows first S (e ∷ es) = gap first ++ (newline ++ (event_text e (event_made S e) ++ event_rows false (next S e) es))
 
 unfoldable pub events_part : State → List Event → List ℕ
 events_part S events = codes ",\"events\":[" ++ (event_rows true S events ++ codes "\n]}\n")

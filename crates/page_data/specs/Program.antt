@@ -40,29 +40,29 @@ unfoldable pub region_text : Region → List ℕ
 region_text r = codes "[" ++ (string_text r.name ++ (further_all (r.start ∷ r.len ∷ []) ++ codes "]"))
 
 -- a set of words, as the intervals that it is
-abbrev pub interval_text : Interval → List ℕ
-interval_text i = pair_text i.lo i.hi
+abbrev pub interval_pair : Interval → List ℕ
+interval_pair i = pair_text i.lo i.hi
 
 abbrev pub words_text : List Interval → List ℕ
-words_text set = list_text interval_text set
+words_text set = list_text interval_pair set
 
 -- the core, the entry and the argument of a task
-unfoldable pub task_text : TaskDecl → List ℕ
-task_text t = codes "[" ++ (decimal t.core.0 ++ (further_all (t.entry ∷ t.arg ∷ []) ++ codes "]"))
+unfoldable pub task_item : TaskDecl → List ℕ
+task_item t = codes "[" ++ (decimal t.core.0 ++ (further_all (t.entry ∷ t.arg ∷ []) ++ codes "]"))
 
 -- the words that a phase may write, in whole regions, those that each lock guards in it, and its tasks
-unfoldable pub phase_text : Phase → PhasePlan → List ℕ
-phase_text p plan =
+unfoldable pub phase_object : Phase → PhasePlan → List ℕ
+phase_object p plan =
     codes "{\"written\":" ++ (words_text plan.written
     ++ (codes ",\"guarded\":" ++ (list_text words_text plan.guarded
-    ++ (codes ",\"tasks\":" ++ (list_text task_text p.tasks ++ codes "}")))))
+    ++ (codes ",\"tasks\":" ++ (list_text task_item p.tasks ++ codes "}")))))
 
-abbrev pub phase_texts : Bool → List Phase → List PhasePlan → List ℕ
-phase_texts first (p ∷ ps) (plan ∷ plans) = gap first ++ (phase_text p plan ++ phase_texts false ps plans)
-phase_texts first _ _ = []
+abbrev pub phase_objects : Bool → List Phase → List PhasePlan → List ℕ
+phase_objects first (p ∷ ps) (plan ∷ plans) = gap first ++ (phase_object p plan ++ phase_objects false ps plans)
+phase_objects first _ _ = []
 
 unfoldable pub phases_text : List Phase → List PhasePlan → List ℕ
-phases_text phases plans = codes ",\"phases\":[" ++ (phase_texts true phases plans ++ codes "]")
+phases_text phases plans = codes ",\"phases\":[" ++ (phase_objects true phases plans ++ codes "]")
 
 -- each code word as a listing writes it, on a line of its own
 abbrev pub code_lines : List ℕ → List ℕ

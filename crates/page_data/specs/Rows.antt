@@ -53,11 +53,11 @@ unfoldable pub signature_text : Signature → List ℕ
 signature_text s = further_all (tag s ∷ []) ++ further_all (set_bits s 0 256)
 
 -- how a task has ended, or which lock it waits for
-abbrev pub cause_text : EndShown → List ℕ
-cause_text shown.Finished = codes ",\"finished\""
-cause_text shown.Fuel = codes ",\"fuel\""
-cause_text (shown.Trap kind pc value) = codes ",\"trap\",\"" ++ (kind_word kind ++ (codes "\"" ++ further_all (pc ∷ value ∷ [])))
-cause_text (shown.Waits lock) = codes ",\"waits\"" ++ further_all (lock.0 ∷ [])
+abbrev pub cause_fields : EndShown → List ℕ
+cause_fields shown.Finished = codes ",\"finished\""
+cause_fields shown.Fuel = codes ",\"fuel\""
+cause_fields (shown.Trap kind pc value) = codes ",\"trap\",\"" ++ (kind_word kind ++ (codes "\"" ++ further_all (pc ∷ value ∷ [])))
+cause_fields (shown.Waits lock) = codes ",\"waits\"" ++ further_all (lock.0 ∷ [])
 
 -- ---- changes
 
@@ -90,9 +90,9 @@ home_text word (content.Home value) = tagged (codes "H") (further_all (word.0 �
 home_text word (content.Reg core) = tagged (codes "G") (further_all (word.0 ∷ core.0 ∷ []))
 
 -- the holder of a lock; -1 where nobody holds it
-abbrev pub holder_text : Option CoreId → List ℕ
-holder_text None = codes ",-1"
-holder_text (Some core) = further_all (core.0 ∷ [])
+abbrev pub holder_field : Option CoreId → List ℕ
+holder_field None = codes ",-1"
+holder_field (Some core) = further_all (core.0 ∷ [])
 
 abbrev pub core_numbers : List CoreId → List ℕ
 core_numbers cores = map (λ (core : CoreId). core.0) cores
@@ -102,7 +102,7 @@ change_text (change.Gone word) = tagged (codes "I") (further_all (word.0 ∷ [])
 change_text (change.Holds word e) = tagged (entry_tag e) (further_all (word.0 ∷ entry_number e ∷ []))
 change_text (change.Retired pc) = tagged (codes "x") (further_all (pc ∷ []))
 change_text (change.At pc retired) = tagged (codes "j") (further_all (pc ∷ retired ∷ []))
-change_text (change.Ended by) = tagged (codes "e") (cause_text (shown_end by))
+change_text (change.Ended by) = tagged (codes "e") (cause_fields (shown_end by))
 change_text (change.Waits waiting) = tagged (codes "w") (further_all (wait_numbers waiting))
 change_text (change.Takes lock) = tagged (codes "+") (further_all (lock.0 ∷ []))
 change_text (change.Gives lock) = tagged (codes "-") (further_all (lock.0 ∷ []))
@@ -112,7 +112,7 @@ change_text change.Halted = tagged (codes "z") []
 change_text (change.Begins phase) = tagged (codes "b") (further_all (phase.0 ∷ []))
 change_text (change.Home word there) = home_text word there
 change_text (change.Queue lock holder waiting) =
-    tagged (codes "o") (further_all (lock.0 ∷ []) ++ (holder_text holder ++ further_all (core_numbers waiting)))
+    tagged (codes "o") (further_all (lock.0 ∷ []) ++ (holder_field holder ++ further_all (core_numbers waiting)))
 change_text (change.Barrier phase bad arrived) =
     tagged (codes "k") (further_all (phase.0 ∷ flag_number bad ∷ []) ++ further_all (core_numbers arrived))
 change_text (change.Loaded seen) = tagged (codes "ld") (further_all (seen.word.0 ∷ seen.value ∷ []))
@@ -149,8 +149,8 @@ unfoldable pub outgoing_text : Outgoing → List ℕ
 outgoing_text o = codes "[" ++ (outgoing_fields o.to o.message ++ codes "]")
 
 -- a mail in flight: its sender, its number, and what is sent
-unfoldable pub mail_text : Mail → List ℕ
-mail_text m =
+unfoldable pub mail_item : Mail → List ℕ
+mail_item m =
     codes "[" ++ (decimal (actor_number m.id.sender) ++ (further_all (m.id.number ∷ []) ++ (codes "," ++ (outgoing_fields m.to m.message ++ codes "]"))))
 
 -- ---- events

@@ -3,7 +3,7 @@ ghost use Rattle.std.specs.Prelude.{◌≡◌, ◌++◌, ◌∷◌, [], codes, m
 ghost use Rattle.std.specs.Fmt.{decimal};
 ghost use Rattle.rv_core.specs.Ending.{shown_end};
 ghost use Rattle.page_data.specs.Json.{list_text, item_texts, further_all};
-ghost use Rattle.page_data.specs.Rows.{actor_number, signature_text, cause_text, tagged, entry_tag, entry_number, flag_number, wait_numbers, home_text, holder_text, core_numbers, change_text, actor_change_text};
+ghost use Rattle.page_data.specs.Rows.{actor_number, signature_text, cause_fields, tagged, entry_tag, entry_number, flag_number, wait_numbers, home_text, holder_field, core_numbers, change_text, actor_change_text};
 
 use crate::json::{push_all, push_gap};
 use crate::mails::{flag_number, push_actor, push_signature};
@@ -19,7 +19,7 @@ use write_signature::Signature;
 
 /// Adds how a task has ended, or which lock it waits for.
 pub(crate) fn push_cause(out: &mut Vec<u8>, end: EndShown) -> Result<(), Memory>
-    ensures { OnOk result (out.new.items ≡ out.old.items ++ cause_text end) }
+    ensures { OnOk result (out.new.items ≡ out.old.items ++ cause_fields end) }
 {
     match end {
         EndShown::Finished => push(out, b",\"finished\""),
@@ -101,7 +101,7 @@ fn wait_numbers(wait: NodeWait) -> [u32; 2]
 /// Adds the end of a task.
 #[tactic(auto, unfolding(crate::specs::Rows::tagged))]
 fn push_ended(out: &mut Vec<u8>, by: End) -> Result<(), Memory>
-    ensures { OnOk result (out.new.items ≡ out.old.items ++ tagged (codes "e") (cause_text (shown_end by))) }
+    ensures { OnOk result (out.new.items ≡ out.old.items ++ tagged (codes "e") (cause_fields (shown_end by))) }
 {
     push_tag(out, b"e")?;
     push_cause(out, EndShown::from(by))?;
@@ -131,7 +131,7 @@ fn push_home(out: &mut Vec<u8>, word: WordId, there: BankWord) -> Result<(), Mem
 
 /// Adds the holder of a lock.
 fn push_holder(out: &mut Vec<u8>, holder: Option<CoreId>) -> Result<(), Memory>
-    ensures { OnOk result (out.new.items ≡ out.old.items ++ holder_text holder) }
+    ensures { OnOk result (out.new.items ≡ out.old.items ++ holder_field holder) }
 {
     match holder {
         None => push(out, b",-1"),
@@ -158,7 +158,7 @@ fn push_queue(
     holder: Option<CoreId>,
     waiting: &[CoreId],
 ) -> Result<(), Memory>
-    ensures { OnOk result (out.new.items ≡ out.old.items ++ tagged (codes "o") (further_all (lock.0 ∷ []) ++ (holder_text holder ++ further_all (core_numbers waiting.now)))) }
+    ensures { OnOk result (out.new.items ≡ out.old.items ++ tagged (codes "o") (further_all (lock.0 ∷ []) ++ (holder_field holder ++ further_all (core_numbers waiting.now)))) }
 {
     push_tag(out, b"o")?;
     push_all(out, &[lock.0])?;

@@ -4,7 +4,7 @@ ghost use Rattle.std.specs.Fmt.{decimal};
 ghost use Rattle.text_pieces.specs.Pieces.{newline};
 ghost use Rattle.machine_rules.specs.Next.{next, enabled};
 ghost use Rattle.machine_rules.specs.Runs.{after, IsRun};
-ghost use Rattle.run_changes.specs.Events.{made_in};
+ghost use Rattle.run_changes.specs.Events.{event_made};
 ghost use Rattle.page_data.specs.Json.{gap, list_text, item_texts};
 ghost use Rattle.page_data.specs.Rows.{event_text};
 ghost use Rattle.page_data.specs.Page.{start_part, event_rows, events_part};
@@ -91,7 +91,7 @@ fn make_row(
 ) -> Result<(), Memory>
     requires may { enabled machine.old.state event ≡ true }
     requires made { machine.old.made < 4000000000 }
-    ensures row { OnOk result (out.new.items ≡ out.old.items ++ (gap first ++ (newline ++ event_text event (made_in machine.old.state event)))) }
+    ensures row { OnOk result (out.new.items ≡ out.old.items ++ (gap first ++ (newline ++ event_text event (event_made machine.old.state event)))) }
     ensures state { OnOk result (machine.new.state ≡ next machine.old.state event) }
     ensures made { OnOk result (machine.new.made ≡ machine.old.made + 1) }
 {

@@ -1,14 +1,14 @@
 //! JSON strings, and what stands between items.
 ghost use Rattle.std.specs.Prelude.{◌≡◌, ◌++◌, ◌&&◌, ◌∷◌, [], flat_map, OnOk};
 ghost use Rattle.std.specs.Fmt.{decimal};
-ghost use Rattle.page_data.specs.Json.{is_plain, escape, character, string_text, gap, further, further_all};
+ghost use Rattle.page_data.specs.Json.{is_unescaped, escape, character, string_text, gap, further, further_all};
 
 use dn_base::Memory;
 use text_pieces::{push, push_decimal, to_hexadecimal};
 
 /// Whether a byte stands for itself in a string.
-fn is_plain(byte: u8) -> bool
-    ensures { result ≡ is_plain byte }
+fn is_unescaped(byte: u8) -> bool
+    ensures { result ≡ is_unescaped byte }
 {
     32 <= byte && byte <= 126 && byte != b'"' && byte != b'\\' && byte != b'<'
 }
@@ -30,7 +30,7 @@ fn push_escape(out: &mut Vec<u8>, byte: u8) -> Result<(), Memory>
 fn push_character(out: &mut Vec<u8>, byte: u8) -> Result<(), Memory>
     ensures { OnOk result (out.new.items ≡ out.old.items ++ character byte) }
 {
-    if is_plain(byte) {
+    if is_unescaped(byte) {
         push(out, &[byte])
     } else {
         push_escape(out, byte)

@@ -2,7 +2,7 @@
 ghost use Rattle.std.specs.Prelude.{◌≡◌, ◌++◌, ◌∷◌, ◌+◌, [], OnOk};
 ghost use Rattle.std.specs.Fmt.{decimal};
 ghost use Rattle.page_data.specs.Json.{list_text, item_texts, further_all};
-ghost use Rattle.page_data.specs.Rows.{actor_number, flag_number, set_bits, signature_text, message_fields, outgoing_fields, outgoing_text, mail_text, handled_text, sent_text};
+ghost use Rattle.page_data.specs.Rows.{actor_number, flag_number, set_bits, signature_text, message_fields, outgoing_fields, outgoing_text, mail_item, handled_text, sent_text};
 
 use crate::json::{push_all, push_gap};
 use dn_base::Memory;
@@ -109,9 +109,9 @@ fn push_outgoing(out: &mut Vec<u8>, outgoing: &Outgoing) -> Result<(), Memory>
 }
 
 /// Adds a mail in flight.
-#[tactic(auto, unfolding(crate::specs::Rows::mail_text))]
+#[tactic(auto, unfolding(crate::specs::Rows::mail_item))]
 fn push_mail(out: &mut Vec<u8>, mail: &Mail) -> Result<(), Memory>
-    ensures { OnOk result (out.new.items ≡ out.old.items ++ mail_text mail.now) }
+    ensures { OnOk result (out.new.items ≡ out.old.items ++ mail_item mail.now) }
 {
     push(out, b"[")?;
     push_actor(out, mail.id.sender)?;
@@ -123,7 +123,7 @@ fn push_mail(out: &mut Vec<u8>, mail: &Mail) -> Result<(), Memory>
 
 /// Adds the mails in flight, each behind a comma but the first.
 fn push_mail_items(out: &mut Vec<u8>, pool: &Pool) -> Result<(), Memory>
-    ensures { OnOk result (out.new.items ≡ out.old.items ++ item_texts mail_text true pool.now.mails) }
+    ensures { OnOk result (out.new.items ≡ out.old.items ++ item_texts mail_item true pool.now.mails) }
 {
     let mut first = true;
     for place in 0..pool.count() {
@@ -137,7 +137,7 @@ fn push_mail_items(out: &mut Vec<u8>, pool: &Pool) -> Result<(), Memory>
 /// Adds the mails in flight.
 #[tactic(auto, unfolding(crate::specs::Json::list_text))]
 pub(crate) fn push_mails(out: &mut Vec<u8>, pool: &Pool) -> Result<(), Memory>
-    ensures { OnOk result (out.new.items ≡ out.old.items ++ list_text mail_text pool.now.mails) }
+    ensures { OnOk result (out.new.items ≡ out.old.items ++ list_text mail_item pool.now.mails) }
 {
     push(out, b"[")?;
     push_mail_items(out, pool)?;

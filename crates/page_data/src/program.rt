@@ -2,7 +2,7 @@
 ghost use Rattle.std.specs.Prelude.{◌≡◌, ◌++◌, ◌≤◌, ◌∷◌, [], length, IfOk, OnOk};
 ghost use Rattle.std.specs.Fmt.{decimal};
 ghost use Rattle.page_data.specs.Json.{string_text, list_text, item_texts};
-ghost use Rattle.page_data.specs.Program.{size_text, pair_text, value_texts, values_text, region_text, interval_text, words_text, task_text, phase_text, phase_texts, phases_text, code_lines, program_text};
+ghost use Rattle.page_data.specs.Program.{size_text, pair_text, value_texts, values_text, region_text, interval_pair, words_text, task_item, phase_object, phase_objects, phases_text, code_lines, program_text};
 
 use crate::json::{push_all, push_gap, push_string};
 use dn_base::{Memory, Name};
@@ -130,7 +130,7 @@ fn push_names(out: &mut Vec<u8>, names: &[Name]) -> Result<(), Memory>
 }
 
 fn push_interval_items(out: &mut Vec<u8>, intervals: &[Interval]) -> Result<(), Memory>
-    ensures { OnOk result (out.new.items ≡ out.old.items ++ item_texts interval_text true intervals.now) }
+    ensures { OnOk result (out.new.items ≡ out.old.items ++ item_texts interval_pair true intervals.now) }
 {
     let mut first = true;
     for interval in intervals {
@@ -173,9 +173,9 @@ fn push_sets(out: &mut Vec<u8>, sets: &[WordSet]) -> Result<(), Memory>
 }
 
 /// Adds the core, the entry and the argument of a task.
-#[tactic(auto, unfolding(crate::specs::Program::task_text))]
+#[tactic(auto, unfolding(crate::specs::Program::task_item))]
 fn push_task(out: &mut Vec<u8>, task: &TaskDecl) -> Result<(), Memory>
-    ensures { OnOk result (out.new.items ≡ out.old.items ++ task_text task.now) }
+    ensures { OnOk result (out.new.items ≡ out.old.items ++ task_item task.now) }
 {
     push(out, b"[")?;
     push_decimal(out, task.core.0)?;
@@ -184,7 +184,7 @@ fn push_task(out: &mut Vec<u8>, task: &TaskDecl) -> Result<(), Memory>
 }
 
 fn push_task_items(out: &mut Vec<u8>, tasks: &[TaskDecl]) -> Result<(), Memory>
-    ensures { OnOk result (out.new.items ≡ out.old.items ++ item_texts task_text true tasks.now) }
+    ensures { OnOk result (out.new.items ≡ out.old.items ++ item_texts task_item true tasks.now) }
 {
     let mut first = true;
     for task in tasks {
@@ -197,7 +197,7 @@ fn push_task_items(out: &mut Vec<u8>, tasks: &[TaskDecl]) -> Result<(), Memory>
 
 #[tactic(auto, unfolding(crate::specs::Json::list_text))]
 fn push_tasks(out: &mut Vec<u8>, tasks: &[TaskDecl]) -> Result<(), Memory>
-    ensures { OnOk result (out.new.items ≡ out.old.items ++ list_text task_text tasks.now) }
+    ensures { OnOk result (out.new.items ≡ out.old.items ++ list_text task_item tasks.now) }
 {
     push(out, b"[")?;
     push_task_items(out, tasks)?;
@@ -205,9 +205,9 @@ fn push_tasks(out: &mut Vec<u8>, tasks: &[TaskDecl]) -> Result<(), Memory>
 }
 
 /// Adds what a phase may write, what each lock guards in it, and its tasks.
-#[tactic(auto, unfolding(crate::specs::Program::phase_text))]
+#[tactic(auto, unfolding(crate::specs::Program::phase_object))]
 fn push_phase(out: &mut Vec<u8>, phase: &Phase, plan: &PhasePlan) -> Result<(), Memory>
-    ensures { OnOk result (out.new.items ≡ out.old.items ++ phase_text phase.now plan.now) }
+    ensures { OnOk result (out.new.items ≡ out.old.items ++ phase_object phase.now plan.now) }
 {
     push(out, b"{\"written\":")?;
     push_words(out, &plan.written)?;
@@ -219,7 +219,7 @@ fn push_phase(out: &mut Vec<u8>, phase: &Phase, plan: &PhasePlan) -> Result<(), 
 }
 
 fn push_phase_items(out: &mut Vec<u8>, phases: &[Phase], plans: &[PhasePlan]) -> Result<(), Memory>
-    ensures { OnOk result (out.new.items ≡ out.old.items ++ phase_texts true phases.now plans.now) }
+    ensures { OnOk result (out.new.items ≡ out.old.items ++ phase_objects true phases.now plans.now) }
 {
     let mut first = true;
     let mut number = 0;

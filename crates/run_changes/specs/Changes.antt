@@ -187,9 +187,9 @@ barrier_change k = change.Barrier (record { 0 = k.phase }) k.bad (arrived_from k
 -- ---- any actor
 
 -- what an event changes, by what was looked at before it, the load that it completed, and the state after it
-unfoldable pub changes_from : Look → Option LoadSeen → State → List Change
-changes_from Nothing seen T = []
-changes_from (Node core look) seen T = core_changes look seen (slice_get T.nodes core.0)
-changes_from (Word bank word before) seen T = home_change word before (word_in word.0 (slice_get T.banks bank.0))
-changes_from (LockAt bank lock look) seen T = queue_change lock look (lock_in lock.0 (slice_get T.banks bank.0))
-changes_from Keeper seen T = barrier_change T.keeper ∷ []
+unfoldable pub changes_by : Look → Option LoadSeen → State → List Change
+changes_by Nothing seen T = []
+changes_by (Node core look) seen T = core_changes look seen (slice_get T.nodes core.0)
+changes_by (Word bank word before) seen T = home_change word before (word_in word.0 (slice_get T.banks bank.0))
+changes_by (LockAt bank lock look) seen T = queue_change lock look (lock_in lock.0 (slice_get T.banks bank.0))
+changes_by Keeper seen T = barrier_change T.keeper ∷ []

@@ -14,11 +14,11 @@ use Rattle.run_changes.specs.declared.change.Change.{Change}
 use Rattle.run_changes.specs.declared.change.EventMade.{EventMade}
 use Rattle.run_changes.specs.declared.look.Look.{Look}
 use Rattle.run_changes.specs.Looks.{look_at}
-use Rattle.run_changes.specs.Changes.{changes_from}
+use Rattle.run_changes.specs.Changes.{changes_by}
 
 -- what an event changes in its actor's state, and what it read and wrote
-unfoldable pub changes_in : State → Event → List Change
-changes_in S e = changes_from (look_at S e) (seen_in S e) (next S e)
+unfoldable pub event_changes : State → Event → List Change
+event_changes S e = changes_by (look_at S e) (seen_in S e) (next S e)
 
 -- how many mails are left in flight before an event sends any: one that is handled leaves
 abbrev pub count_left_by : List Mail → Event → ℕ
@@ -39,10 +39,10 @@ maker_of None = Keeper
 maker_of (Some a) = a
 
 -- what an event does that comes in a state
-abbrev pub made_in : State → Event → EventMade
-made_in S e = record { actor = maker_of (actor_in S e); kind = kind_in S e; changes = changes_in S e; sent = sent_in S e }
+abbrev pub event_made : State → Event → EventMade
+event_made S e = record { actor = maker_of (actor_in S e); kind = kind_in S e; changes = event_changes S e; sent = sent_in S e }
 
 -- what is told of an event that came and led to a state, by what was looked at before it and how many mails were left
 abbrev pub event_told : State → Look → ℕ → Actor × Stepped → EventMade
 event_told T look left came =
-    record { actor = came.0; kind = came.1.kind; changes = changes_from look came.1.seen T; sent = map outgoing_of (drop left T.mails) }
+    record { actor = came.0; kind = came.1.kind; changes = changes_by look came.1.seen T; sent = map outgoing_of (drop left T.mails) }

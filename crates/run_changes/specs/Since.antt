@@ -18,8 +18,8 @@ use Rattle.run_changes.specs.Looks.{pairs_from}
 use Rattle.run_changes.specs.Changes.{home_change, queue_change, barrier_change, wait_change, lock_changes, locks_held, flag_change}
 use Rattle.word_cache.specs.Cache.{Cache, Pair}
 
-abbrev pub of_actor : Actor → Change → ActorChange
-of_actor a c = record { actor = a; change = c }
+abbrev pub change_of : Actor → Change → ActorChange
+change_of a c = record { actor = a; change = c }
 
 -- every entry that a cache has
 abbrev pub pair_held : Pair → Change
@@ -49,7 +49,7 @@ node_since n =
 
 abbrev pub core_since : ℕ → Option NodeParts → List ActorChange
 core_since core None = []
-core_since core (Some n) = map (of_actor (actor.Core (record { 0 = core }))) (node_since n)
+core_since core (Some n) = map (change_of (actor.Core (record { 0 = core }))) (node_since n)
 
 -- of so many cores from one on
 abbrev pub cores_since : State → ℕ → ℕ → List ActorChange
@@ -64,7 +64,7 @@ home_of S number = actor.Bank (record { 0 = number % S.setting.shape.banks })
 abbrev pub words_since : State → ℕ → List ℕ → List ActorChange
 words_since S w [] = []
 words_since S w (value ∷ values) =
-    map (of_actor (home_of S w)) (home_change (record { 0 = w }) (Some (Home value)) (home_at S w)) ++ words_since S (w + 1) values
+    map (change_of (home_of S w)) (home_change (record { 0 = w }) (Some (Home value)) (home_at S w)) ++ words_since S (w + 1) values
 
 -- a lock that is free, and whose signature is the empty one of phase 0
 abbrev pub free_look : LockLook
@@ -74,7 +74,7 @@ free_look = record { holder = None; waiting = 0; kept = empty 0 }
 abbrev pub locks_since : State → ℕ → ℕ → List ActorChange
 locks_since S l zero = []
 locks_since S l (suc n) =
-    map (of_actor (home_of S l)) (queue_change (record { 0 = l }) free_look (lock_at S l)) ++ locks_since S (l + 1) n
+    map (change_of (home_of S l)) (queue_change (record { 0 = l }) free_look (lock_at S l)) ++ locks_since S (l + 1) n
 
 -- of all actors: the cores, the homes of words and locks, and the keeper
 unfoldable pub changes_since : State → List ActorChange
@@ -82,4 +82,4 @@ changes_since S =
     cores_since S 0 S.setting.shape.cores
     ++ (words_since S 0 S.setting.program.memory
     ++ (locks_since S 0 (length S.setting.program.locks)
-    ++ of_actor actor.Keeper (barrier_change S.keeper) ∷ []))
+    ++ change_of actor.Keeper (barrier_change S.keeper) ∷ []))

@@ -3,8 +3,8 @@ ghost use Rattle.std.specs.Prelude.{◌≡◌, ◌-◌, ◌+◌, ◌<◌, ◌≤
 ghost use Rattle.machine_rules.specs.Next.{next, enabled};
 ghost use Rattle.machine_rules.specs.Sound.{IsMachine};
 ghost use Rattle.machine_rules.specs.State.{word_in, lock_in};
-ghost use Rattle.run_changes.specs.Changes.{core_changes, home_change, queue_change, changes_from};
-ghost use Rattle.run_changes.specs.Events.{count_left_by, outgoing_of, event_told, made_in};
+ghost use Rattle.run_changes.specs.Changes.{core_changes, home_change, queue_change, changes_by};
+ghost use Rattle.run_changes.specs.Events.{count_left_by, outgoing_of, event_told, event_made};
 
 use crate::banks::{note_barrier, note_home, note_queue};
 use crate::change::{Change, EventMade};
@@ -74,7 +74,7 @@ fn note_queue_at(
 }
 
 /// What an event changed, by what was looked at before it and the load that it completed.
-#[tactic(auto, unfolding(crate::specs::Changes::changes_from))]
+#[tactic(auto, unfolding(crate::specs::Changes::changes_by))]
 fn note_changes(
     alloc: Global,
     out: &mut Vec<Change>,
@@ -83,7 +83,7 @@ fn note_changes(
     seen: Option<LoadSeen>,
 ) -> Result<(), Memory>
     requires { IsMachine machine.now.state }
-    ensures { OnOk result (out.new.items ≡ out.old.items ++ changes_from look.now seen machine.now.state) }
+    ensures { OnOk result (out.new.items ≡ out.old.items ++ changes_by look.now seen machine.now.state) }
 {
     match look {
         Look::Nothing => Ok(()),
@@ -153,7 +153,7 @@ pub fn make(alloc: Global, machine: &mut Machine, event: Event) -> Result<Option
     requires { machine.old.made < 4000000000 }
     ensures none { IfOk result (λ came. IfNone came ((enabled machine.old.state event ≡ false) × (machine.new ≡ machine.old))) }
     ensures may { IfOk result (λ came. IfSome came (λ made. enabled machine.old.state event ≡ true)) }
-    ensures made { IfOk result (λ came. IfSome came (λ made. made ≡ made_in machine.old.state event)) }
+    ensures made { IfOk result (λ came. IfSome came (λ made. made ≡ event_made machine.old.state event)) }
     ensures state { IfOk result (λ came. IfSome came (λ made. machine.new.state ≡ next machine.old.state event)) }
     ensures count { IfOk result (λ came. IfSome came (λ made. machine.new.made ≡ machine.old.made + 1)) }
 {

@@ -6,7 +6,7 @@ ghost use Rattle.registry_bank.specs.declared.bank.BankWord.TheVariants.{Home as
 ghost use Rattle.machine_rules.specs.Sound.{IsMachine};
 ghost use Rattle.machine_rules.specs.State.{home_at, lock_at};
 ghost use Rattle.run_changes.specs.Changes.{home_change, queue_change, lock_changes, locks_held};
-ghost use Rattle.run_changes.specs.Since.{of_actor, pair_held, pairs_held, end_since, task_since, node_since, core_since, cores_since, home_of, words_since, free_look, locks_since, changes_since};
+ghost use Rattle.run_changes.specs.Since.{change_of, pair_held, pairs_held, end_since, task_since, node_since, core_since, cores_since, home_of, words_since, free_look, locks_since, changes_since};
 
 use crate::banks::{barrier_of, note_home, note_queue};
 use crate::change::{ActorChange, Change};
@@ -110,7 +110,7 @@ fn add_all(
     actor: Actor,
     changes: Vec<Change>,
 ) -> Result<(), Memory>
-    ensures { OnOk result (out.new ≡ out.old ++ map (of_actor actor) changes.items) }
+    ensures { OnOk result (out.new ≡ out.old ++ map (change_of actor) changes.items) }
 {
     for change in changes {
         out.push(ActorChange { actor, change })?;
