@@ -1,16 +1,14 @@
 //! What a machine's state is, part by part, for whoever shows it. No call takes memory, and none takes the machine apart.
 ghost use Rattle.std.specs.Prelude.{◌≡◌, ◌<◌, Some, slice_get};
 ghost use Rattle.registration_protocol.specs.Fit.{Fits};
-ghost use Rattle.registration_protocol.specs.Node.{NodeParts, need_now};
 
-use crate::machine::{Machine, context_of};
+use crate::machine::Machine;
 use dn_base::{BankId, CoreId, Shape};
 use message_net::Pool;
 use phase_barrier::Keeper;
 use region_table::{PhasePlan, Program};
 use registration_protocol::Node;
 use registry_bank::Bank;
-use rv_core::Need;
 
 impl Machine {
     /// The node of a core, which is below the cores of the machine's shape. The node fits the machine: its cache has the
@@ -21,16 +19,6 @@ impl Machine {
         ensures fits { Fits self.now.state.setting result.now }
     {
         &self.content.nodes[core.0 as usize]
-    }
-
-    /// What the next instruction of a core needs, which is below the cores of the machine's shape; None where the core has no task
-    /// that goes on.
-    pub fn need(&self, core: CoreId) -> Option<Need>
-        requires { core.0 < self.now.state.setting.shape.cores }
-        ensures { (n : NodeParts) → slice_get self.now.state.nodes core.0 ≡ Some n → result ≡ need_now self.now.state.setting n }
-    {
-        let context = context_of(&self.decoded, &self.plans, self.shape, self.fuel);
-        self.node(core).need(&context)
     }
 
     /// The bank of this number, which is below the banks of the machine's shape.

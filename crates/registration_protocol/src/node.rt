@@ -149,8 +149,8 @@ impl Node {
         !(self.halted || self.arrived) && !self.is_running() && self.is_settled()
     }
 
-    /// What the next instruction of the node's task needs; None where the node has no task that goes on. Takes no memory.
-    pub fn need(&self, context: &Context<'_>) -> Option<Need>
+    /// What the next instruction of the node's task needs; None where the node has no task that goes on.
+    pub(crate) fn need(&self, context: &Context<'_>) -> Option<Need>
         ensures { result ≡ need_now (setting context.now) self.now }
     {
         let task = self.task.as_ref()?;

@@ -1,9 +1,12 @@
 //! What a node is, for whoever shows it. No call takes memory.
 ghost use Rattle.std.specs.Prelude.{◌≡◌, option_copied};
+ghost use Rattle.registration_protocol.specs.Node.{Setting, need_now};
 
 use crate::node::{Node, NodeWait};
+use crate::setting::declaration;
 use dn_base::{CoreId, PhaseId};
-use rv_core::TaskState;
+use region_table::Program;
+use rv_core::{Need, TaskState};
 use word_cache::WordCache;
 use write_signature::Signature;
 
@@ -62,5 +65,18 @@ impl Node {
         ensures { result ≡ self.now.halted }
     {
         self.halted
+    }
+
+    /// What the next instruction of the node's task needs, in a machine of this program and fuel; None where the node has no task that
+    /// goes on.
+    pub fn needs(&self, program: &Program, fuel: u32) -> Option<Need>
+        ensures { (C : Setting) → C.program ≡ program.now → C.fuel ≡ fuel → result ≡ need_now C self.now }
+    {
+        let task = self.task.as_ref()?;
+        if task.end.is_some() {
+            return None;
+        }
+        let declared = declaration(program, self.phase, self.core)?;
+        Some(task.need(program, declared, fuel))
     }
 }

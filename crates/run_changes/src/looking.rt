@@ -131,7 +131,7 @@ fn look_at_instr(alloc: Global, machine: &Machine, core: CoreId) -> Result<Look,
         return Ok(Look::Nothing);
     }
     let node = machine.node(core);
-    let needs = machine.need(core);
+    let needs = node.needs(machine.program(), machine.fuel());
     let entries = words_needed(alloc, node, needs)?;
     Ok(Look::Node(core, node_look(alloc, node, needs, entries)?))
 }
