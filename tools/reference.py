@@ -1746,18 +1746,17 @@ def event_row(machine, event):
 
 
 def since(machine):
-    """What leads to the machine's state from its beginning, as rows of an actor and a change."""
-    out = []
-    for node in machine.nodes:
-        out += [[node.core, row] for row in node_since(node)]
+    """What leads to the machine's state from its beginning: for each actor its changes, for each bank word by word and lock by lock."""
+    out = [[node.core, node_since(node)] for node in machine.nodes]
     for word, value in enumerate(machine.program.memory):
         content = machine.homes[word % machine.banks].words[word]
         if content != ("home", value):
-            out.append([16 + word % machine.banks, home_row(word, content)])
+            out.append([16 + word % machine.banks, [home_row(word, content)]])
     for lock in range(len(machine.program.locks)):
-        home = machine.homes[lock % machine.banks].locks[lock]
-        out += [[16 + lock % machine.banks, row] for row in queue_rows(lock, (None, [], (0, 0)), home)]
-    return out + [[32, keeper_row(machine.keeper)]]
+        rows = queue_rows(lock, (None, [], (0, 0)), machine.homes[lock % machine.banks].locks[lock])
+        if rows:
+            out.append([16 + lock % machine.banks, rows])
+    return out + [[32, [keeper_row(machine.keeper)]]]
 
 
 def listed_code(program):

@@ -17,7 +17,7 @@ use Rattle.run_changes.specs.Events.{event_made}
 use Rattle.run_changes.specs.Since.{changes_since}
 use Rattle.page_data.specs.declared.page.Page.{Page}
 use Rattle.page_data.specs.Json.{gap, string_text, list_text, further_all}
-use Rattle.page_data.specs.Rows.{cause_fields, actor_change_text, mail_item, event_text}
+use Rattle.page_data.specs.Rows.{cause_fields, actor_changes_text, mail_item, event_text}
 use Rattle.page_data.specs.Program.{size_text, program_text}
 
 -- ---- the run as a whole
@@ -62,7 +62,7 @@ timing_part p =
 -- what leads to a state from the machine's beginning, the number of each actor's next mail, and the mails in flight
 unfoldable pub start_part : State → List ℕ
 start_part S =
-    codes ",\"start\":{\"changes\":" ++ (list_text actor_change_text (changes_since S)
+    codes ",\"start\":{\"changes\":" ++ (list_text actor_changes_text (changes_since S)
     ++ (codes ",\"next\":" ++ (list_text decimal S.numbers ++ (codes ",\"mails\":" ++ (list_text mail_item S.mails ++ codes "}")))))
 
 -- each event on a line of its own, with what it does in the state in which it comes

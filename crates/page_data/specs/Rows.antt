@@ -25,7 +25,7 @@ use Rattle.registry_bank.specs.declared.bank.BankWord.TheVariants as content
 use Rattle.registration_protocol.specs.declared.node.NodeWait.{NodeWait}
 use Rattle.registration_protocol.specs.declared.node.NodeWait.TheVariants as wait
 use Rattle.run_report.specs.Answer.{kind_word}
-use Rattle.run_changes.specs.declared.change.ActorChange.{ActorChange}
+use Rattle.run_changes.specs.declared.change.ActorChanges.{ActorChanges}
 use Rattle.run_changes.specs.declared.change.Change.{Change}
 use Rattle.run_changes.specs.declared.change.Change.TheVariants as change
 use Rattle.run_changes.specs.declared.change.EventMade.{EventMade}
@@ -118,9 +118,9 @@ change_text (change.Barrier phase bad arrived) =
 change_text (change.Loaded seen) = tagged (codes "ld") (further_all (seen.word.0 ∷ seen.value ∷ []))
 change_text (change.Stored word value) = tagged (codes "st") (further_all (word.0 ∷ value ∷ []))
 
--- an actor, and one change of it
-unfoldable pub actor_change_text : ActorChange → List ℕ
-actor_change_text c = codes "[" ++ (decimal (actor_number c.actor) ++ (codes "," ++ (change_text c.change ++ codes "]")))
+-- an actor, and changes of it
+unfoldable pub actor_changes_text : ActorChanges → List ℕ
+actor_changes_text c = codes "[" ++ (decimal (actor_number c.actor) ++ (codes "," ++ (list_text change_text c.changes ++ codes "]")))
 
 -- ---- mails
 

@@ -3,14 +3,14 @@ ghost use Rattle.std.specs.Prelude.{◌≡◌, ◌++◌, ◌∷◌, [], codes, m
 ghost use Rattle.std.specs.Fmt.{decimal};
 ghost use Rattle.rv_core.specs.Ending.{shown_end};
 ghost use Rattle.page_data.specs.Json.{list_text, item_texts, further_all};
-ghost use Rattle.page_data.specs.Rows.{actor_number, signature_text, cause_fields, tagged, entry_tag, entry_number, flag_number, wait_numbers, home_text, holder_field, core_numbers, change_text, actor_change_text};
+ghost use Rattle.page_data.specs.Rows.{actor_number, signature_text, cause_fields, tagged, entry_tag, entry_number, flag_number, wait_numbers, home_text, holder_field, core_numbers, change_text, actor_changes_text};
 
 use crate::json::{push_all, push_gap};
 use crate::mails::{flag_number, push_actor, push_signature};
 use dn_base::{CoreId, LockId, Memory, PhaseId, WordId};
 use registration_protocol::NodeWait;
 use registry_bank::BankWord;
-use run_changes::{ActorChange, Change};
+use run_changes::{ActorChanges, Change};
 use run_report::kind_name;
 use rv_core::{End, EndShown};
 use text_pieces::push;
@@ -243,25 +243,25 @@ pub(crate) fn push_changes(out: &mut Vec<u8>, changes: &[Change]) -> Result<(), 
     push(out, b"]")
 }
 
-/// Adds an actor, and one change of it.
-#[tactic(auto, unfolding(crate::specs::Rows::actor_change_text))]
-fn push_actor_change(out: &mut Vec<u8>, change: &ActorChange) -> Result<(), Memory>
-    ensures { OnOk result (out.new.items ≡ out.old.items ++ actor_change_text change.now) }
+/// Adds an actor, and changes of it.
+#[tactic(auto, unfolding(crate::specs::Rows::actor_changes_text))]
+fn push_one_actor(out: &mut Vec<u8>, change: &ActorChanges) -> Result<(), Memory>
+    ensures { OnOk result (out.new.items ≡ out.old.items ++ actor_changes_text change.now) }
 {
     push(out, b"[")?;
     push_actor(out, change.actor)?;
     push(out, b",")?;
-    push_change(out, &change.change)?;
+    push_changes(out, change.changes.as_slice())?;
     push(out, b"]")
 }
 
-fn push_actor_change_items(out: &mut Vec<u8>, changes: &[ActorChange]) -> Result<(), Memory>
-    ensures { OnOk result (out.new.items ≡ out.old.items ++ item_texts actor_change_text true changes.now) }
+fn push_actor_items(out: &mut Vec<u8>, changes: &[ActorChanges]) -> Result<(), Memory>
+    ensures { OnOk result (out.new.items ≡ out.old.items ++ item_texts actor_changes_text true changes.now) }
 {
     let mut first = true;
     for change in changes {
         push_gap(out, first)?;
-        push_actor_change(out, change)?;
+        push_one_actor(out, change)?;
         first = false;
     }
     Ok(())
@@ -269,10 +269,10 @@ fn push_actor_change_items(out: &mut Vec<u8>, changes: &[ActorChange]) -> Result
 
 /// Adds changes of all actors.
 #[tactic(auto, unfolding(crate::specs::Json::list_text))]
-pub(crate) fn push_actor_changes(out: &mut Vec<u8>, changes: &[ActorChange]) -> Result<(), Memory>
-    ensures { OnOk result (out.new.items ≡ out.old.items ++ list_text actor_change_text changes.now) }
+pub(crate) fn push_actor_changes(out: &mut Vec<u8>, changes: &[ActorChanges]) -> Result<(), Memory>
+    ensures { OnOk result (out.new.items ≡ out.old.items ++ list_text actor_changes_text changes.now) }
 {
     push(out, b"[")?;
-    push_actor_change_items(out, changes)?;
+    push_actor_items(out, changes)?;
     push(out, b"]")
 }

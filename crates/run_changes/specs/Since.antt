@@ -9,7 +9,7 @@ use Rattle.registry_bank.specs.declared.bank.BankWord.TheVariants.{Home}
 use Rattle.registration_protocol.specs.declared.node.NodeWait.TheVariants as wait
 use Rattle.registration_protocol.specs.Node.{NodeParts}
 use Rattle.machine_rules.specs.State.{State, home_at, lock_at}
-use Rattle.run_changes.specs.declared.change.ActorChange.{ActorChange}
+use Rattle.run_changes.specs.declared.change.ActorChanges.{ActorChanges}
 use Rattle.run_changes.specs.declared.change.Change.{Change}
 use Rattle.run_changes.specs.declared.change.Change.TheVariants as change
 use Rattle.run_changes.specs.declared.look.EntryBefore.{EntryBefore}
@@ -18,8 +18,10 @@ use Rattle.run_changes.specs.Looks.{pairs_from}
 use Rattle.run_changes.specs.Changes.{home_change, queue_change, barrier_change, wait_change, lock_changes, locks_held, flag_change}
 use Rattle.word_cache.specs.Cache.{Cache, Pair}
 
-abbrev pub change_of : Actor → Change → ActorChange
-change_of a c = record { actor = a; change = c }
+-- the changes of an actor, if there are any
+abbrev pub changes_of : Actor → List Change → List ActorChanges
+changes_of a [] = []
+changes_of a (c ∷ cs) = record { actor = a; changes = c ∷ cs } ∷ []
 
 -- every entry that a cache has
 abbrev pub pair_held : Pair → Change
@@ -47,12 +49,12 @@ node_since n =
     ++ (lock_changes 0 (locks_held n.task) 0 (replicate (length n.signatures) (empty n.phase)) n.signatures
     ++ (flag_change false n.arrived change.Arrived ++ flag_change false n.halted change.Halted)))))
 
-abbrev pub core_since : ℕ → Option NodeParts → List ActorChange
+abbrev pub core_since : ℕ → Option NodeParts → List ActorChanges
 core_since core None = []
-core_since core (Some n) = map (change_of (actor.Core (record { 0 = core }))) (node_since n)
+core_since core (Some n) = changes_of (actor.Core (record { 0 = core })) (node_since n)
 
 -- of so many cores from one on
-abbrev pub cores_since : State → ℕ → ℕ → List ActorChange
+abbrev pub cores_since : State → ℕ → ℕ → List ActorChanges
 cores_since S core zero = []
 cores_since S core (suc n) = core_since core (slice_get S.nodes core) ++ cores_since S (core + 1) n
 
@@ -61,25 +63,25 @@ abbrev pub home_of : State → ℕ → Actor
 home_of S number = actor.Bank (record { 0 = number % S.setting.shape.banks })
 
 -- of the words from one on, with their first values
-abbrev pub words_since : State → ℕ → List ℕ → List ActorChange
+abbrev pub words_since : State → ℕ → List ℕ → List ActorChanges
 words_since S w [] = []
 words_since S w (value ∷ values) =
-    map (change_of (home_of S w)) (home_change (record { 0 = w }) (Some (Home value)) (home_at S w)) ++ words_since S (w + 1) values
+    changes_of (home_of S w) (home_change (record { 0 = w }) (Some (Home value)) (home_at S w)) ++ words_since S (w + 1) values
 
 -- a lock that is free, and whose signature is the empty one of phase 0
 abbrev pub free_look : LockLook
 free_look = record { holder = None; waiting = 0; kept = empty 0 }
 
 -- of so many locks from one on
-abbrev pub locks_since : State → ℕ → ℕ → List ActorChange
+abbrev pub locks_since : State → ℕ → ℕ → List ActorChanges
 locks_since S l zero = []
 locks_since S l (suc n) =
-    map (change_of (home_of S l)) (queue_change (record { 0 = l }) free_look (lock_at S l)) ++ locks_since S (l + 1) n
+    changes_of (home_of S l) (queue_change (record { 0 = l }) free_look (lock_at S l)) ++ locks_since S (l + 1) n
 
 -- of all actors: the cores, the homes of words and locks, and the keeper
-unfoldable pub changes_since : State → List ActorChange
+unfoldable pub changes_since : State → List ActorChanges
 changes_since S =
     cores_since S 0 S.setting.shape.cores
     ++ (words_since S 0 S.setting.program.memory
     ++ (locks_since S 0 (length S.setting.program.locks)
-    ++ change_of actor.Keeper (barrier_change S.keeper) ∷ []))
+    ++ changes_of actor.Keeper (barrier_change S.keeper ∷ [])))

@@ -112,7 +112,7 @@ fn arrived_at(alloc: Global, keeper: &Keeper) -> Result<Sequence<CoreId>, Memory
 }
 
 /// What the keeper is.
-pub(crate) fn barrier_of(alloc: Global, keeper: &Keeper) -> Result<Change, Memory>
+fn barrier_of(alloc: Global, keeper: &Keeper) -> Result<Change, Memory>
     ensures { IfOk result (λ change. change ≡ barrier_change keeper.now) }
 {
     Ok(Change::Barrier {

@@ -60,11 +60,11 @@ pub enum Change {
     Stored(WordId, u32),
 }
 
-/// A change of an actor.
+/// Changes of an actor.
 #[derive(Debug, Drop)]
-pub struct ActorChange {
+pub struct ActorChanges {
     pub actor: Actor,
-    pub change: Change,
+    pub changes: Sequence<Change>,
 }
 
 /// An event that was made: its actor, its kind, what it changed in the actor's state, and what the actor sent.

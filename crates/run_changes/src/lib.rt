@@ -11,6 +11,6 @@ mod nodes;
 mod parts;
 mod since;
 
-pub use change::{ActorChange, Change, EventMade};
+pub use change::{ActorChanges, Change, EventMade};
 pub use making::make;
 pub use since::changes_since;

@@ -39,10 +39,10 @@ fn one_word(alloc: Global, node: &Node, word: WordId) -> Result<Sequence<EntryBe
 fn add_pairs(out: &mut Sequence<EntryBefore>, pairs: &[(WordId, Entry)]) -> Result<(), Memory>
     ensures { OnOk result (out.new ≡ out.old ++ map pair_before pairs.now) }
 {
-    for (word, entry) in pairs {
+    for pair in pairs {
         out.push(EntryBefore {
-            word: *word,
-            entry: Some(*entry),
+            word: pair.0,
+            entry: Some(pair.1),
         })?;
     }
     Ok(())

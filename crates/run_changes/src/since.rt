@@ -1,20 +1,22 @@
 //! What is different in a state from the beginning of its machine.
 ghost use Rattle.std.specs.Prelude.{◌≡◌, ◌++◌, ◌<◌, ◌≤◌, ◌∷◌, [], length, map, replicate, slice_get, Some, IfOk, OnOk};
-ghost use Rattle.message_net.specs.declared.actor.Actor.TheVariants.{Core as OfCore, Bank as OfBank};
+ghost use Rattle.message_net.specs.declared.actor.Actor.TheVariants.{Core as OfCore, Bank as OfBank, Keeper as OfKeeper};
 ghost use Rattle.write_signature.specs.Signature.{empty};
 ghost use Rattle.registry_bank.specs.declared.bank.BankWord.TheVariants.{Home as AtHome};
 ghost use Rattle.machine_rules.specs.Sound.{IsMachine};
 ghost use Rattle.machine_rules.specs.State.{home_at, lock_at};
-ghost use Rattle.run_changes.specs.Changes.{home_change, queue_change, lock_changes, locks_held};
-ghost use Rattle.run_changes.specs.Since.{change_of, pair_held, pairs_held, end_since, task_since, node_since, core_since, cores_since, home_of, words_since, free_look, locks_since, changes_since};
+ghost use Rattle.run_changes.specs.Changes.{barrier_change, home_change, queue_change, lock_changes, locks_held};
+ghost use Rattle.run_changes.specs.Since.{changes_of, pair_held, pairs_held, end_since, task_since, node_since, core_since, cores_since, home_of, words_since, free_look, locks_since, changes_since};
 
-use crate::banks::{barrier_of, note_home, note_queue};
-use crate::change::{ActorChange, Change};
+use crate::banks::{note_barrier, note_home, note_queue};
+use crate::change::{ActorChanges, Change};
 use crate::look::LockLook;
 use crate::parts::{locks_held, note, note_flag, note_locks, note_wait};
 use dn_base::{BankId, CoreId, LockId, Memory, PhaseId, Sequence, WordId, remainder};
 use dn_machine::{Machine, a_machine_is_kept};
 use message_net::Actor;
+use phase_barrier::Keeper;
+use region_table::a_program_is_well_formed;
 use registration_protocol::{Node, NodeWait};
 use registry_bank::BankWord;
 use rv_core::{End, TaskState};
@@ -26,8 +28,8 @@ use write_signature::Signature;
 fn add_pairs(out: &mut Vec<Change>, pairs: &[(WordId, Entry)]) -> Result<(), Memory>
     ensures { OnOk result (out.new.items ≡ out.old.items ++ map pair_held pairs.now) }
 {
-    for (word, entry) in pairs {
-        note(out, Change::Holds(*word, *entry))?;
+    for pair in pairs {
+        note(out, Change::Holds(pair.0, pair.1))?;
     }
     Ok(())
 }
@@ -104,24 +106,27 @@ fn node_since(alloc: Global, node: &Node) -> Result<Vec<Change>, Memory>
     Ok(out)
 }
 
-/// Adds the changes of an actor.
-fn add_all(
-    out: &mut Sequence<ActorChange>,
+/// Adds the changes of an actor, if there are any.
+fn add_changes(
+    out: &mut Sequence<ActorChanges>,
     actor: Actor,
     changes: Vec<Change>,
 ) -> Result<(), Memory>
-    ensures { OnOk result (out.new ≡ out.old ++ map (change_of actor) changes.items) }
+    ensures { OnOk result (out.new ≡ out.old ++ changes_of actor changes.items) }
 {
-    for change in changes {
-        out.push(ActorChange { actor, change })?;
+    if changes.is_empty() {
+        return Ok(());
     }
-    Ok(())
+    out.push(ActorChanges {
+        actor,
+        changes: Sequence::from_vec(changes),
+    })
 }
 
 /// What is different of each core.
 fn add_cores(
     alloc: Global,
-    out: &mut Sequence<ActorChange>,
+    out: &mut Sequence<ActorChanges>,
     machine: &Machine,
 ) -> Result<(), Memory>
     requires { IsMachine machine.now.state }
@@ -129,7 +134,7 @@ fn add_cores(
 {
     for core in 0..machine.shape().cores {
         let changes = node_since(alloc, machine.node(CoreId(core)))?;
-        add_all(out, Actor::Core(CoreId(core)), changes)?;
+        add_changes(out, Actor::Core(CoreId(core)), changes)?;
     }
     Ok(())
 }
@@ -161,20 +166,22 @@ fn word_since(
     Ok(out)
 }
 
-/// What is different of each word at its home.
+/// What is different of each word at its home, by the first values of the words.
 fn add_words(
     alloc: Global,
-    out: &mut Sequence<ActorChange>,
+    out: &mut Sequence<ActorChanges>,
     machine: &Machine,
+    memory: &[u32],
 ) -> Result<(), Memory>
-    requires { IsMachine machine.now.state }
-    ensures { OnOk result (out.new ≡ out.old ++ words_since machine.now.state 0 machine.now.state.setting.program.memory) }
+    requires machine { IsMachine machine.now.state }
+    requires memory { length memory.now ≤ 65536 }
+    ensures { OnOk result (out.new ≡ out.old ++ words_since machine.now.state 0 memory.now) }
 {
     let mut word = 0;
-    for first in machine.program().memory.as_slice() {
+    for first in memory {
         let bank = home_of(machine, word);
         let changes = word_since(alloc, machine, bank, WordId(word), *first)?;
-        add_all(out, Actor::Bank(bank), changes)?;
+        add_changes(out, Actor::Bank(bank), changes)?;
         word += 1;
     }
     Ok(())
@@ -208,21 +215,35 @@ fn lock_since(
     Ok(out)
 }
 
-/// What is different of each lock at its home.
+/// What is different of so many locks at their homes.
 fn add_locks(
     alloc: Global,
-    out: &mut Sequence<ActorChange>,
+    out: &mut Sequence<ActorChanges>,
     machine: &Machine,
+    locks: u32,
 ) -> Result<(), Memory>
     requires { IsMachine machine.now.state }
-    ensures { OnOk result (out.new ≡ out.old ++ locks_since machine.now.state 0 (length machine.now.state.setting.program.locks)) }
+    ensures { OnOk result (out.new ≡ out.old ++ locks_since machine.now.state 0 locks) }
 {
-    for lock in 0..machine.program().locks.len() as u32 {
+    for lock in 0..locks {
         let bank = home_of(machine, lock);
         let changes = lock_since(alloc, machine, bank, LockId(lock))?;
-        add_all(out, Actor::Bank(bank), changes)?;
+        add_changes(out, Actor::Bank(bank), changes)?;
     }
     Ok(())
+}
+
+/// Adds what the keeper is.
+fn add_keeper(
+    alloc: Global,
+    out: &mut Sequence<ActorChanges>,
+    keeper: &Keeper,
+) -> Result<(), Memory>
+    ensures { OnOk result (out.new ≡ out.old ++ changes_of OfKeeper (barrier_change keeper.now ∷ [])) }
+{
+    let mut changes = Vec::new(alloc);
+    note_barrier(alloc, &mut changes, keeper)?;
+    add_changes(out, Actor::Keeper, changes)
 }
 
 /// What is different in a machine's state from the beginning of its run: the changes that lead there from a machine whose homes have the
@@ -234,18 +255,17 @@ fn add_locks(
 /// # Errors
 /// `Memory` where there is no room.
 #[tactic(auto, unfolding(crate::specs::Since::changes_since))]
-pub fn changes_since(alloc: Global, machine: &Machine) -> Result<Sequence<ActorChange>, Memory>
+pub fn changes_since(alloc: Global, machine: &Machine) -> Result<Sequence<ActorChanges>, Memory>
     ensures { IfOk result (λ changes. changes ≡ changes_since machine.now.state) }
 {
     // for the proof alone: the machine is well formed, so it has the nodes and banks that its size says
     a_machine_is_kept(machine);
     let mut out = Sequence::new(alloc);
     add_cores(alloc, &mut out, machine)?;
-    add_words(alloc, &mut out, machine)?;
-    add_locks(alloc, &mut out, machine)?;
-    out.push(ActorChange {
-        actor: Actor::Keeper,
-        change: barrier_of(alloc, machine.keeper())?,
-    })?;
+    let program = machine.program();
+    a_program_is_well_formed(program);
+    add_words(alloc, &mut out, machine, program.memory.as_slice())?;
+    add_locks(alloc, &mut out, machine, program.locks.len() as u32)?;
+    add_keeper(alloc, &mut out, machine.keeper())?;
     Ok(out)
 }
