@@ -38,7 +38,10 @@ STEPS = """
 
 
 def reference(*words, data):
-    return subprocess.run([sys.executable, os.path.join(HERE, "reference.py")] + list(words), input=data, stdout=subprocess.PIPE, check=True).stdout
+    done = subprocess.run([sys.executable, os.path.join(HERE, "reference.py")] + list(words), input=data, stdout=subprocess.PIPE)
+    if done.returncode == 9:
+        sys.exit("tools/reference.py can't take this text")
+    return done.stdout
 
 
 def browser():

@@ -4,6 +4,7 @@
 
 mod banks;
 mod change;
+mod laws;
 mod look;
 mod looking;
 mod making;
@@ -12,5 +13,6 @@ mod parts;
 mod since;
 
 pub use change::{ActorChanges, Change, EventMade};
+pub use laws::an_event_changes_its_actor_alone;
 pub use making::make;
 pub use since::changes_since;
