@@ -1,2 +1,3 @@
 mod Alone
-mod Listed
+pub mod Listed
+pub mod Made

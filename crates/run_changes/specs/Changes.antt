@@ -1,5 +1,5 @@
 -- What becomes of an actor's state, change by change: the difference of what was looked at before an event and the state after it.
-use Rattle.std.specs.Prelude.{ℕ, zero, suc, ◌+◌, ◌==◌, Bool, true, false, ◌&&◌, not, List, [], ◌∷◌, ◌++◌, length, flat_map, slice_get, Option, Some, None, if◌then◌else◌}
+use Rattle.std.specs.Prelude.{ℕ, zero, suc, ◌+◌, ◌==◌, Bool, true, false, ◌&&◌, not, List, [], ◌∷◌, ◌++◌, length, flat_map, slice_get, slice_index_or, Option, Some, None, if◌then◌else◌}
 use Rattle.std.specs.Option.{is_some}
 use Rattle.dn_base.specs.declared.ids.CoreId.{CoreId}
 use Rattle.dn_base.specs.declared.ids.LoadSeen.{LoadSeen}
@@ -99,11 +99,12 @@ hold_change lock _ _ = []
 abbrev pub sign_change : ℕ → Signature → Signature → List Change
 sign_change lock before after = change_unless (same_signature before after) (change.Signed (record { 0 = lock }) after)
 
--- of each lock from one on, with the locks that are held before and after
-abbrev pub lock_changes : ℕ → ℕ → ℕ → List Signature → List Signature → List Change
-lock_changes before after lock (s ∷ ss) (t ∷ ts) =
-    hold_change lock (is_held before lock) (is_held after lock) ++ (sign_change lock s t ++ lock_changes before after (lock + 1) ss ts)
-lock_changes before after lock _ _ = []
+-- of the locks from one on, with the locks that are held before and after, all signatures before, and these locks' signatures after
+abbrev pub lock_changes : ℕ → ℕ → List Signature → ℕ → List Signature → List Change
+lock_changes before after signatures lock [] = []
+lock_changes before after signatures lock (s ∷ ss) =
+    hold_change lock (is_held before lock) (is_held after lock)
+    ++ (sign_change lock (slice_index_or signatures lock s) s ++ lock_changes before after signatures (lock + 1) ss)
 
 -- ---- flags
 
@@ -118,7 +119,7 @@ abbrev pub part_changes : NodeLook → NodeParts → List Change
 part_changes look n =
     task_change look.task n.task
     ++ (wait_change look.wait n.waiting
-    ++ (lock_changes (locks_held look.task) (locks_held n.task) 0 look.signatures n.signatures
+    ++ (lock_changes (locks_held look.task) (locks_held n.task) look.signatures 0 n.signatures
     ++ (flag_change look.arrived n.arrived change.Arrived ++ flag_change look.halted n.halted change.Halted)))
 
 -- what becomes of a node: a phase begins, or its parts change one by one; entries change either way
@@ -175,10 +176,15 @@ queue_change lock look (Some h) =
 
 -- ---- the keeper
 
+-- a core that has arrived, or none
+abbrev pub arrived_core : ℕ → Bool → List CoreId
+arrived_core core true = record { 0 = core } ∷ []
+arrived_core core false = []
+
 -- of so many cores from one on those that have arrived
 abbrev pub arrived_from : Barrier → ℕ → ℕ → List CoreId
 arrived_from k core zero = []
-arrived_from k core (suc n) = if has_arrived core k then record { 0 = core } ∷ arrived_from k (core + 1) n else arrived_from k (core + 1) n
+arrived_from k core (suc n) = arrived_core core (has_arrived core k) ++ arrived_from k (core + 1) n
 
 -- what the keeper is, which is told whole
 abbrev pub barrier_change : Barrier → Change

@@ -1,5 +1,5 @@
 -- What an event changes and sends.
-use Rattle.std.specs.Prelude.{ℕ, ◌-◌, ◌×◌, List, map, drop, length, Option, Some, None}
+use Rattle.std.specs.Prelude.{ℕ, ◌-◌, List, map, drop, length, Option, Some, None}
 use Rattle.message_net.specs.declared.actor.Actor.{Actor}
 use Rattle.message_net.specs.declared.actor.Actor.TheVariants.{Keeper}
 use Rattle.message_net.specs.declared.event.Event.{Event}

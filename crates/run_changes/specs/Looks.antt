@@ -36,14 +36,14 @@ entry_before n word = record { word = word; entry = entry_of n word.0 }
 abbrev pub pair_before : Pair → EntryBefore
 pair_before p = record { word = p.0; entry = Some p.1 }
 
--- the pairs of so many sets of a cache from one on: set by set, in each the least recently used first
-abbrev pub pairs_from : Cache → ℕ → ℕ → List Pair
-pairs_from c set zero = []
-pairs_from c set (suc n) = filter (in_set c.sets set) c.pairs ++ pairs_from c (set + 1) n
+-- the words of so many sets of a cache from one on: set by set, in each the least recently used first
+abbrev pub cached_from : Cache → ℕ → ℕ → List EntryBefore
+cached_from c set zero = []
+cached_from c set (suc n) = map pair_before (filter (in_set c.sets set) c.pairs) ++ cached_from c (set + 1) n
 
 -- every word that a cache has
 abbrev pub cached : Cache → List EntryBefore
-cached c = map pair_before (pairs_from c 0 c.sets)
+cached c = cached_from c 0 c.sets
 
 -- ---- cores
 

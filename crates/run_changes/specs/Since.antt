@@ -1,5 +1,6 @@
 -- What is different in a state from the beginning of its machine: the changes that lead there from the beginning.
 use Rattle.std.specs.Prelude.{ℕ, zero, suc, ◌+◌, ◌%◌, false, List, [], ◌∷◌, ◌++◌, length, map, flat_map, replicate, slice_get, Option, Some, None}
+use Rattle.std.specs.List.{filter}
 use Rattle.message_net.specs.declared.actor.Actor.{Actor}
 use Rattle.message_net.specs.declared.actor.Actor.TheVariants as actor
 use Rattle.rv_core.specs.declared.task.End.{End}
@@ -14,9 +15,8 @@ use Rattle.run_changes.specs.declared.change.Change.{Change}
 use Rattle.run_changes.specs.declared.change.Change.TheVariants as change
 use Rattle.run_changes.specs.declared.look.EntryBefore.{EntryBefore}
 use Rattle.run_changes.specs.declared.look.LockLook.{LockLook}
-use Rattle.run_changes.specs.Looks.{pairs_from}
 use Rattle.run_changes.specs.Changes.{home_change, queue_change, barrier_change, wait_change, lock_changes, locks_held, flag_change}
-use Rattle.word_cache.specs.Cache.{Cache, Pair}
+use Rattle.word_cache.specs.Cache.{Cache, Pair, in_set}
 
 -- the changes of an actor, if there are any
 abbrev pub changes_of : Actor → List Change → List ActorChanges
@@ -27,8 +27,10 @@ changes_of a (c ∷ cs) = record { actor = a; changes = c ∷ cs } ∷ []
 abbrev pub pair_held : Pair → Change
 pair_held p = change.Holds p.0 p.1
 
-abbrev pub pairs_held : Cache → List Change
-pairs_held c = map pair_held (pairs_from c 0 c.sets)
+-- of so many sets from one on: set by set, in each the least recently used first
+abbrev pub held_from : Cache → ℕ → ℕ → List Change
+held_from c set zero = []
+held_from c set (suc n) = map pair_held (filter (in_set c.sets set) c.pairs) ++ held_from c (set + 1) n
 
 -- how a task has ended, and where it is; the end comes first, as the instruction that finishes a task retires
 abbrev pub end_since : Option End → List Change
@@ -43,10 +45,10 @@ task_since (Some t) = end_since t.end ++ change.At t.pc t.retired ∷ []
 abbrev pub node_since : NodeParts → List Change
 node_since n =
     change.Begins (record { 0 = n.phase })
-    ∷ (pairs_held n.cache
+    ∷ (held_from n.cache 0 n.cache.sets
     ++ (task_since n.task
     ++ (wait_change wait.None n.waiting
-    ++ (lock_changes 0 (locks_held n.task) 0 (replicate (length n.signatures) (empty n.phase)) n.signatures
+    ++ (lock_changes 0 (locks_held n.task) (replicate (length n.signatures) (empty n.phase)) 0 n.signatures
     ++ (flag_change false n.arrived change.Arrived ++ flag_change false n.halted change.Halted)))))
 
 abbrev pub core_since : ℕ → Option NodeParts → List ActorChanges
@@ -62,21 +64,27 @@ cores_since S core (suc n) = core_since core (slice_get S.nodes core) ++ cores_s
 abbrev pub home_of : State → ℕ → Actor
 home_of S number = actor.Bank (record { 0 = number % S.setting.shape.banks })
 
+-- a word at its home, with its first value
+abbrev pub word_since : State → ℕ → ℕ → List ActorChanges
+word_since S w value = changes_of (home_of S w) (home_change (record { 0 = w }) (Some (Home value)) (home_at S w))
+
 -- of the words from one on, with their first values
 abbrev pub words_since : State → ℕ → List ℕ → List ActorChanges
 words_since S w [] = []
-words_since S w (value ∷ values) =
-    changes_of (home_of S w) (home_change (record { 0 = w }) (Some (Home value)) (home_at S w)) ++ words_since S (w + 1) values
+words_since S w (value ∷ values) = word_since S w value ++ words_since S (w + 1) values
 
 -- a lock that is free, and whose signature is the empty one of phase 0
 abbrev pub free_look : LockLook
 free_look = record { holder = None; waiting = 0; kept = empty 0 }
 
+-- a lock at its home
+abbrev pub lock_since : State → ℕ → List ActorChanges
+lock_since S l = changes_of (home_of S l) (queue_change (record { 0 = l }) free_look (lock_at S l))
+
 -- of so many locks from one on
 abbrev pub locks_since : State → ℕ → ℕ → List ActorChanges
 locks_since S l zero = []
-locks_since S l (suc n) =
-    changes_of (home_of S l) (queue_change (record { 0 = l }) free_look (lock_at S l)) ++ locks_since S (l + 1) n
+locks_since S l (suc n) = lock_since S l ++ locks_since S (l + 1) n
 
 -- of all actors: the cores, the homes of words and locks, and the keeper
 unfoldable pub changes_since : State → List ActorChanges

@@ -1,6 +1,6 @@
 //! What becomes of a word, of a lock and of the keeper.
 ghost use Rattle.std.specs.Prelude.{◌≡◌, ◌++◌, ◌≤◌, ◌<◌, ◌∷◌, [], length, option_copied, IfOk, OnOk};
-ghost use Rattle.run_changes.specs.Changes.{same_content, home_change, same_holder, same_queue, queue_change, arrived_from, barrier_change};
+ghost use Rattle.run_changes.specs.Changes.{same_content, home_change, same_holder, same_queue, queue_change, arrived_core, arrived_from, barrier_change};
 
 use crate::change::Change;
 use crate::look::LockLook;
@@ -98,15 +98,23 @@ pub(crate) fn note_queue(
     }
 }
 
+/// Adds a core, if it has arrived.
+fn add_arrived(out: &mut Sequence<CoreId>, core: u32, arrived: bool) -> Result<(), Memory>
+    ensures { OnOk result (out.new ≡ out.old ++ arrived_core core arrived) }
+{
+    if arrived {
+        out.push(CoreId(core))?;
+    }
+    Ok(())
+}
+
 /// The cores that have arrived at the barrier.
 fn arrived_at(alloc: Global, keeper: &Keeper) -> Result<Sequence<CoreId>, Memory>
     ensures { IfOk result (λ arrived. arrived ≡ arrived_from keeper.now 0 (length keeper.now.arrived)) }
 {
     let mut arrived = Sequence::new(alloc);
     for core in 0..keeper.cores() {
-        if keeper.has_arrived(CoreId(core)) {
-            arrived.push(CoreId(core))?;
-        }
+        add_arrived(&mut arrived, core, keeper.has_arrived(CoreId(core)))?;
     }
     Ok(arrived)
 }

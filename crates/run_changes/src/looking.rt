@@ -1,8 +1,10 @@
 //! What is looked at before an event.
 ghost use Rattle.std.specs.Prelude.{◌≡◌, ◌++◌, ◌<◌, ◌≤◌, length, map, slice_get, option_copied, Some, [], ◌∷◌, IfOk, OnOk};
+ghost use Rattle.std.specs.List.{filter};
 ghost use Rattle.message_net.specs.Pool.{removed};
+ghost use Rattle.word_cache.specs.Cache.{in_set};
 ghost use Rattle.machine_rules.specs.Sound.{IsMachine};
-ghost use Rattle.run_changes.specs.Looks.{entry_before, pair_before, pairs_from, cached, words_needed, words_of_message, node_look, instr_look, evict_look, arrive_look, message_look, core_look, lock_look, bank_look, receiver_look, mail_look, look_at};
+ghost use Rattle.run_changes.specs.Looks.{entry_before, pair_before, cached, words_needed, words_of_message, node_look, instr_look, evict_look, arrive_look, message_look, core_look, lock_look, bank_look, receiver_look, mail_look, look_at};
 
 use crate::look::{EntryBefore, LockLook, Look, NodeLook};
 use dn_base::{BankId, CoreId, LockId, Memory, Sequence, WordId};
@@ -48,14 +50,27 @@ fn add_pairs(out: &mut Sequence<EntryBefore>, pairs: &[(WordId, Entry)]) -> Resu
     Ok(())
 }
 
+/// Adds the words of a set of a cache.
+fn add_set(
+    alloc: Global,
+    out: &mut Sequence<EntryBefore>,
+    cache: &WordCache,
+    set: u32,
+) -> Result<(), Memory>
+    requires { set < cache.now.sets }
+    ensures { OnOk result (out.new ≡ out.old ++ map pair_before (filter (in_set cache.now.sets set) cache.now.pairs)) }
+{
+    let pairs = cache.pairs(alloc, set)?;
+    add_pairs(out, pairs.as_slice())
+}
+
 /// Every word that a cache has.
 fn cached(alloc: Global, cache: &WordCache) -> Result<Sequence<EntryBefore>, Memory>
     ensures { IfOk result (λ entries. entries ≡ cached cache.now) }
 {
     let mut entries = Sequence::new(alloc);
     for set in 0..cache.sets() {
-        let pairs = cache.pairs(alloc, set)?;
-        add_pairs(&mut entries, pairs.as_slice())?;
+        add_set(alloc, &mut entries, cache, set)?;
     }
     Ok(entries)
 }

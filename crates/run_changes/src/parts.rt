@@ -1,5 +1,5 @@
 //! What becomes of the parts of a core's node.
-ghost use Rattle.std.specs.Prelude.{◌≡◌, ◌++◌, ◌<◌, ◌≤◌, ◌∷◌, [], length, OnOk};
+ghost use Rattle.std.specs.Prelude.{◌≡◌, ◌++◌, ◌<◌, ◌≤◌, ◌∷◌, [], length, slice_index_or, OnOk};
 ghost use Rattle.rv_core.specs.Access.{is_held};
 ghost use Rattle.run_changes.specs.Changes.{change_unless, same_entry, entry_change, change_before, entry_changes, retire_change, end_change, task_change, locks_held, same_wait, wait_change, hold_change, sign_change, lock_changes, flag_change};
 
@@ -162,6 +162,37 @@ fn note_signature(
     )
 }
 
+/// The signature that a lock had before; the one that it has after where there was none.
+fn signature_at(before: &[Signature], lock: usize, after: &Signature) -> Signature
+    ensures { result ≡ slice_index_or before.now lock after.now }
+{
+    match before.get(lock) {
+        Some(signature) => *signature,
+        None => *after,
+    }
+}
+
+/// What becomes of a lock, by whether it is held before and after, and by the signatures before and after.
+fn note_lock(
+    out: &mut Vec<Change>,
+    lock: u32,
+    held: u32,
+    holds: u32,
+    before: &[Signature],
+    after: &Signature,
+) -> Result<(), Memory>
+    requires { lock < 32 }
+    ensures { OnOk result (out.new.items ≡ out.old.items ++ (hold_change lock (is_held held lock) (is_held holds lock) ++ sign_change lock (slice_index_or before.now lock after.now) after.now)) }
+{
+    note_hold(out, lock, is_held(held, lock), is_held(holds, lock))?;
+    note_signature(
+        out,
+        lock,
+        &signature_at(before, lock as usize, after),
+        after,
+    )
+}
+
 /// What becomes of each lock, by the locks that are held before and after, and by the signatures before and after. There are at most
 /// 32.
 pub(crate) fn note_locks(
@@ -172,13 +203,11 @@ pub(crate) fn note_locks(
     after: &[Signature],
 ) -> Result<(), Memory>
     requires { length after.now ≤ 32 }
-    ensures { OnOk result (out.new.items ≡ out.old.items ++ lock_changes held holds 0 before.now after.now) }
+    ensures { OnOk result (out.new.items ≡ out.old.items ++ lock_changes held holds before.now 0 after.now) }
 {
     let mut lock = 0;
-    while lock < after.len() && lock < before.len() {
-        let number = lock as u32;
-        note_hold(out, number, is_held(held, number), is_held(holds, number))?;
-        note_signature(out, number, &before[lock], &after[lock])?;
+    for signature in after {
+        note_lock(out, lock, held, holds, before, signature)?;
         lock += 1;
     }
     Ok(())

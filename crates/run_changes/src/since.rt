@@ -1,12 +1,14 @@
 //! What is different in a state from the beginning of its machine.
 ghost use Rattle.std.specs.Prelude.{◌≡◌, ◌++◌, ◌<◌, ◌≤◌, ◌∷◌, [], length, map, replicate, slice_get, Some, IfOk, OnOk};
+ghost use Rattle.std.specs.List.{filter};
+ghost use Rattle.word_cache.specs.Cache.{in_set};
 ghost use Rattle.message_net.specs.declared.actor.Actor.TheVariants.{Core as OfCore, Bank as OfBank, Keeper as OfKeeper};
 ghost use Rattle.write_signature.specs.Signature.{empty};
 ghost use Rattle.registry_bank.specs.declared.bank.BankWord.TheVariants.{Home as AtHome};
 ghost use Rattle.machine_rules.specs.Sound.{IsMachine};
 ghost use Rattle.machine_rules.specs.State.{home_at, lock_at};
 ghost use Rattle.run_changes.specs.Changes.{barrier_change, home_change, queue_change, lock_changes, locks_held};
-ghost use Rattle.run_changes.specs.Since.{changes_of, pair_held, pairs_held, end_since, task_since, node_since, core_since, cores_since, home_of, words_since, free_look, locks_since, changes_since};
+ghost use Rattle.run_changes.specs.Since.{changes_of, pair_held, held_from, end_since, task_since, node_since, core_since, cores_since, home_of, word_since, words_since, free_look, lock_since, locks_since, changes_since};
 
 use crate::banks::{note_barrier, note_home, note_queue};
 use crate::change::{ActorChanges, Change};
@@ -34,13 +36,21 @@ fn add_pairs(out: &mut Vec<Change>, pairs: &[(WordId, Entry)]) -> Result<(), Mem
     Ok(())
 }
 
+/// Adds the entries of a set of a cache.
+fn note_set(alloc: Global, out: &mut Vec<Change>, cache: &WordCache, set: u32) -> Result<(), Memory>
+    requires { set < cache.now.sets }
+    ensures { OnOk result (out.new.items ≡ out.old.items ++ map pair_held (filter (in_set cache.now.sets set) cache.now.pairs)) }
+{
+    let pairs = cache.pairs(alloc, set)?;
+    add_pairs(out, pairs.as_slice())
+}
+
 /// Adds every entry that a cache has.
 fn note_cache(alloc: Global, out: &mut Vec<Change>, cache: &WordCache) -> Result<(), Memory>
-    ensures { OnOk result (out.new.items ≡ out.old.items ++ pairs_held cache.now) }
+    ensures { OnOk result (out.new.items ≡ out.old.items ++ held_from cache.now 0 cache.now.sets) }
 {
     for set in 0..cache.sets() {
-        let pairs = cache.pairs(alloc, set)?;
-        add_pairs(out, pairs.as_slice())?;
+        note_set(alloc, out, cache, set)?;
     }
     Ok(())
 }
@@ -82,7 +92,7 @@ fn empty_signatures(alloc: Global, phase: PhaseId, locks: usize) -> Result<Vec<S
 /// What is different of the locks of a node from those of one that holds none and has empty signatures.
 fn note_own_locks(alloc: Global, out: &mut Vec<Change>, node: &Node) -> Result<(), Memory>
     requires { length node.now.signatures ≤ 32 }
-    ensures { OnOk result (out.new.items ≡ out.old.items ++ lock_changes 0 (locks_held node.now.task) 0 (replicate (length node.now.signatures) (empty node.now.phase)) node.now.signatures) }
+    ensures { OnOk result (out.new.items ≡ out.old.items ++ lock_changes 0 (locks_held node.now.task) (replicate (length node.now.signatures) (empty node.now.phase)) 0 node.now.signatures) }
 {
     let signatures = node.signatures();
     let before = empty_signatures(alloc, node.phase(), signatures.len())?;
@@ -123,18 +133,34 @@ fn add_changes(
     })
 }
 
-/// What is different of each core.
+/// What is different of a core, which is there.
+fn add_core(
+    alloc: Global,
+    out: &mut Sequence<ActorChanges>,
+    machine: &Machine,
+    core: u32,
+) -> Result<(), Memory>
+    requires machine { IsMachine machine.now.state }
+    requires core { core < machine.now.state.setting.shape.cores }
+    ensures { OnOk result (out.new ≡ out.old ++ core_since core (slice_get machine.now.state.nodes core)) }
+{
+    let changes = node_since(alloc, machine.node(CoreId(core)))?;
+    add_changes(out, Actor::Core(CoreId(core)), changes)
+}
+
+/// What is different of so many cores, which are there.
 fn add_cores(
     alloc: Global,
     out: &mut Sequence<ActorChanges>,
     machine: &Machine,
+    cores: u32,
 ) -> Result<(), Memory>
-    requires { IsMachine machine.now.state }
-    ensures { OnOk result (out.new ≡ out.old ++ cores_since machine.now.state 0 machine.now.state.setting.shape.cores) }
+    requires machine { IsMachine machine.now.state }
+    requires cores { cores ≤ machine.now.state.setting.shape.cores }
+    ensures { OnOk result (out.new ≡ out.old ++ cores_since machine.now.state 0 cores) }
 {
-    for core in 0..machine.shape().cores {
-        let changes = node_since(alloc, machine.node(CoreId(core)))?;
-        add_changes(out, Actor::Core(CoreId(core)), changes)?;
+    for core in 0..cores {
+        add_core(alloc, out, machine, core)?;
     }
     Ok(())
 }
@@ -149,21 +175,21 @@ fn home_of(machine: &Machine, number: u32) -> BankId
 }
 
 /// What is different of a word at its home from its first value.
-fn word_since(
+fn add_word(
     alloc: Global,
+    out: &mut Sequence<ActorChanges>,
     machine: &Machine,
-    bank: BankId,
-    word: WordId,
+    word: u32,
     first: u32,
-) -> Result<Vec<Change>, Memory>
-    requires there { bank.0 < machine.now.state.setting.shape.banks }
-    requires home { OfBank bank ≡ home_of machine.now.state word.0 }
-    ensures { IfOk result (λ changes. changes.items ≡ home_change word (Some (AtHome first)) (home_at machine.now.state word.0)) }
+) -> Result<(), Memory>
+    requires { IsMachine machine.now.state }
+    ensures { OnOk result (out.new ≡ out.old ++ word_since machine.now.state word first) }
 {
-    let mut out = Vec::new(alloc);
-    let now = machine.bank(bank).word(word);
-    note_home(&mut out, word, Some(BankWord::Home(first)), now)?;
-    Ok(out)
+    let bank = home_of(machine, word);
+    let now = machine.bank(bank).word(WordId(word));
+    let mut changes = Vec::new(alloc);
+    note_home(&mut changes, WordId(word), Some(BankWord::Home(first)), now)?;
+    add_changes(out, Actor::Bank(bank), changes)
 }
 
 /// What is different of each word at its home, by the first values of the words.
@@ -179,9 +205,7 @@ fn add_words(
 {
     let mut word = 0;
     for first in memory {
-        let bank = home_of(machine, word);
-        let changes = word_since(alloc, machine, bank, WordId(word), *first)?;
-        add_changes(out, Actor::Bank(bank), changes)?;
+        add_word(alloc, out, machine, word, *first)?;
         word += 1;
     }
     Ok(())
@@ -199,20 +223,20 @@ fn free_look() -> LockLook
 }
 
 /// What is different of a lock at its home from a free one.
-fn lock_since(
+fn add_lock(
     alloc: Global,
+    out: &mut Sequence<ActorChanges>,
     machine: &Machine,
-    bank: BankId,
-    lock: LockId,
-) -> Result<Vec<Change>, Memory>
-    requires there { bank.0 < machine.now.state.setting.shape.banks }
-    requires home { OfBank bank ≡ home_of machine.now.state lock.0 }
-    ensures { IfOk result (λ changes. changes.items ≡ queue_change lock free_look (lock_at machine.now.state lock.0)) }
+    lock: u32,
+) -> Result<(), Memory>
+    requires { IsMachine machine.now.state }
+    ensures { OnOk result (out.new ≡ out.old ++ lock_since machine.now.state lock) }
 {
-    let mut out = Vec::new(alloc);
-    let now = machine.bank(bank).lock(lock);
-    note_queue(alloc, &mut out, lock, &free_look(), now)?;
-    Ok(out)
+    let bank = home_of(machine, lock);
+    let now = machine.bank(bank).lock(LockId(lock));
+    let mut changes = Vec::new(alloc);
+    note_queue(alloc, &mut changes, LockId(lock), &free_look(), now)?;
+    add_changes(out, Actor::Bank(bank), changes)
 }
 
 /// What is different of so many locks at their homes.
@@ -226,9 +250,7 @@ fn add_locks(
     ensures { OnOk result (out.new ≡ out.old ++ locks_since machine.now.state 0 locks) }
 {
     for lock in 0..locks {
-        let bank = home_of(machine, lock);
-        let changes = lock_since(alloc, machine, bank, LockId(lock))?;
-        add_changes(out, Actor::Bank(bank), changes)?;
+        add_lock(alloc, out, machine, lock)?;
     }
     Ok(())
 }
@@ -261,7 +283,7 @@ pub fn changes_since(alloc: Global, machine: &Machine) -> Result<Sequence<ActorC
     // for the proof alone: the machine is well formed, so it has the nodes and banks that its size says
     a_machine_is_kept(machine);
     let mut out = Sequence::new(alloc);
-    add_cores(alloc, &mut out, machine)?;
+    add_cores(alloc, &mut out, machine, machine.shape().cores)?;
     let program = machine.program();
     a_program_is_well_formed(program);
     add_words(alloc, &mut out, machine, program.memory.as_slice())?;
