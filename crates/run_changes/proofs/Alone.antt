@@ -1,5 +1,5 @@
 -- An event changes the state of no actor but its own.
-use Rattle.std.proofs.Common.{◌≡◌, ◌≢◌, ℕ, ◌==◌, Bool, true, false, List, slice_get, Option, Some, None, refl, ap, ◌∙◌, arith}
+use Rattle.std.proofs.Common.{◌≡◌, ◌≢◌, ℕ, zero, suc, ◌==◌, Bool, true, false, List, [], ◌∷◌, slice_get, slice_set, Option, Some, None, refl, ap, ◌∙◌, arith}
 use Rattle.std.proofs.lemmas.Bool.Decides.{nat_tests}
 use Rattle.dn_base.specs.declared.ids.BankId.{BankId}
 use Rattle.dn_base.specs.declared.ids.CoreId.{CoreId}
@@ -13,10 +13,19 @@ use Rattle.message_net.specs.declared.message.Outgoing.{Outgoing}
 use Rattle.message_net.specs.Pool.{removed}
 use Rattle.registry_bank.specs.Bank.{BankParts, bank_gets}
 use Rattle.registration_protocol.specs.Node.{NodeParts}
+use Rattle.registration_protocol.specs.OwnEvents.{instructed, evicted, arrives}
+use Rattle.registration_protocol.specs.Messages.{node_gets}
 use Rattle.machine_rules.specs.State.{State}
 use Rattle.machine_rules.specs.Next.{next, core_does, bank_does, does_instr, does_evict, does_arrive, core_gets, bank_handles, handles, gets}
-use Rattle.machine_rules.proofs.Lists.{get-set}
 use Rattle.dn_machine.specs.Actors.{actor_in, receiver_of}
+
+-- an item of a list, where another one becomes x
+get-other : {X : Type 0} (xs : List X) (i j : ℕ) (x : X) → (i == j) ≡ false → slice_get (slice_set xs i x) j ≡ slice_get xs j
+get-other [] i j x other = refl
+get-other (y ∷ ys) zero zero x other = absurd (grind (arith, nat_tests))
+get-other (y ∷ ys) zero (suc j) x other = refl
+get-other (y ∷ ys) (suc i) zero x other = refl
+get-other (y ∷ ys) (suc i) (suc j) x other = get-other ys i j x (grind (arith, nat_tests, other))
 
 cores-differ : (c d : CoreId) → Some (Core c) ≢ Some (Core d) → (c.0 == d.0) ≡ false
 cores-differ c d other = by_test (c.0 == d.0) refl where
@@ -36,17 +45,17 @@ banks-differ a b other = by_test (a.0 == b.0) refl where
 
 -- another core's node, and any bank's, where a core does something
 core-else : (S : State) (c d : CoreId) (m : NodeParts) (sent : Option Outgoing) → (c.0 == d.0) ≡ false → slice_get (core_does S c m sent).nodes d.0 ≡ slice_get S.nodes d.0
-core-else S c d m sent other = get-set S.nodes c.0 d.0 m ∙ rw (other) refl
+core-else S c d m sent other = get-other S.nodes c.0 d.0 m other
 
 bank-else : (S : State) (a b : BankId) (x : BankParts) (sent : Option Outgoing) → (a.0 == b.0) ≡ false → slice_get (bank_does S a.0 x sent (Bank a)).banks b.0 ≡ slice_get S.banks b.0
-bank-else S a b x sent other = get-set S.banks a.0 b.0 x ∙ rw (other) refl
+bank-else S a b x sent other = get-other S.banks a.0 b.0 x other
 
 -- what an actor does with a message
 cores-by-mail : (S : State) (to : Actor) (m : Message) (d : CoreId) → Some to ≢ Some (Core d) → slice_get (gets S to m).nodes d.0 ≡ slice_get S.nodes d.0
 cores-by-mail S (Core c) m d other = at_node (slice_get S.nodes c.0) where
   at_node : (o : Option NodeParts) → slice_get (core_gets S c m o).nodes d.0 ≡ slice_get S.nodes d.0
   at_node None = refl
-  at_node (Some n) = core-else S c d _ _ (cores-differ c d other)
+  at_node (Some n) = core-else S c d (node_gets S.setting n m).0 (node_gets S.setting n m).1.sent (cores-differ c d other)
 cores-by-mail S (Bank b) m d other = at_bank (slice_get S.banks b.0) where
   at_bank : (o : Option BankParts) → slice_get (bank_handles S (Bank b) b.0 m o).nodes d.0 ≡ slice_get S.nodes d.0
   at_bank None = refl
@@ -61,7 +70,7 @@ banks-by-mail S (Core c) m b other = at_node (slice_get S.nodes c.0) where
 banks-by-mail S (Bank a) m b other = at_bank (slice_get S.banks a.0) where
   at_bank : (o : Option BankParts) → slice_get (bank_handles S (Bank a) a.0 m o).banks b.0 ≡ slice_get S.banks b.0
   at_bank None = refl
-  at_bank (Some x) = bank-else S a b _ _ (banks-differ a b other)
+  at_bank (Some x) = bank-else S a b (bank_gets x m).0 (bank_gets x m).1 (banks-differ a b other)
 banks-by-mail S Keeper m b other = refl
 
 keeper-by-mail : (S : State) (to : Actor) (m : Message) → Some to ≢ Some Keeper → (gets S to m).keeper ≡ S.keeper
@@ -93,15 +102,15 @@ unfolding next actor_in
 cores-alone S (Instr c) d other = at_node (slice_get S.nodes c.0) where
   at_node : (o : Option NodeParts) → slice_get (does_instr S c o).nodes d.0 ≡ slice_get S.nodes d.0
   at_node None = refl
-  at_node (Some n) = core-else S c d _ _ (cores-differ c d other)
+  at_node (Some n) = core-else S c d (instructed S.setting n).0 (instructed S.setting n).1.sent (cores-differ c d other)
 cores-alone S (Evict c word) d other = at_node (slice_get S.nodes c.0) where
   at_node : (o : Option NodeParts) → slice_get (does_evict S c word o).nodes d.0 ≡ slice_get S.nodes d.0
   at_node None = refl
-  at_node (Some n) = core-else S c d _ _ (cores-differ c d other)
+  at_node (Some n) = core-else S c d (evicted S.setting n word).0 (evicted S.setting n word).1 (cores-differ c d other)
 cores-alone S (Arrive c) d other = at_node (slice_get S.nodes c.0) where
   at_node : (o : Option NodeParts) → slice_get (does_arrive S c o).nodes d.0 ≡ slice_get S.nodes d.0
   at_node None = refl
-  at_node (Some n) = core-else S c d _ _ (cores-differ c d other)
+  at_node (Some n) = core-else S c d (arrives n).0 (arrives n).1 (cores-differ c d other)
 cores-alone S (Handle id) d other = cores-by-handling S (removed id S.mails) d other
 
 pub banks-alone : (S : State) (e : Event) (b : BankId) → actor_in S e ≢ Some (Bank b) → slice_get (next S e).banks b.0 ≡ slice_get S.banks b.0

@@ -42,6 +42,9 @@ nothing_behind (x ∷ xs) = ap (λ (l : List _). x ∷ l) (nothing_behind xs)
 pub is_all : {X : Type 0} (so_far left all : List X) → left ≡ [] → so_far ++ left ≡ all → so_far ≡ all
 is_all so_far left all end led = sym (nothing_behind so_far) ∙ ap (λ (l : List _). so_far ++ l) (sym end) ∙ led
 
+pub nothing_added : {X : Type 0} (xs added : List X) → added ≡ [] → xs ≡ xs ++ added
+nothing_added xs added none = rw (none) (sym (nothing_behind xs))
+
 -- one step of what is counted upward to an end
 one_less : (i n : ℕ) → i < n → n - i ≡ suc (n - (i + 1))
 one_less i n below = omega (arith, below)

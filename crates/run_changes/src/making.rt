@@ -19,7 +19,6 @@ use registry_bank::BankWord;
 use std::alloc::Global;
 
 /// What an event changed at a core.
-#[tactic(auto, using(crate::proofs::Listed::no_core))]
 fn note_core_at(
     out: &mut Vec<Change>,
     machine: &Machine,
@@ -150,7 +149,6 @@ fn told(
 ///
 /// # Errors
 /// `Memory` where there is no room; the event may have come then, and nothing says so.
-#[tactic(auto, using(crate::proofs::Made::made_is))]
 pub fn make(alloc: Global, machine: &mut Machine, event: Event) -> Result<Option<EventMade>, Memory>
     requires { machine.old.made < 4000000000 }
     ensures none { IfOk result (λ came. IfNone came ((enabled machine.old.state event ≡ false) × (machine.new ≡ machine.old))) }
