@@ -43,14 +43,23 @@ abbrev pub flag_number : Bool → ℕ
 flag_number true = 1
 flag_number false = 0
 
+-- a bit that is set, or nothing
+abbrev pub bit_text : ℕ → Bool → List ℕ
+bit_text bit true = further_all (bit ∷ [])
+bit_text bit false = []
+
 -- of so many bits of a signature from one on those that are set
-abbrev pub set_bits : Signature → ℕ → ℕ → List ℕ
-set_bits s bit zero = []
-set_bits s bit (suc n) = if has_bit s bit then bit ∷ set_bits s (bit + 1) n else set_bits s (bit + 1) n
+abbrev pub bit_texts : Signature → ℕ → ℕ → List ℕ
+bit_texts s bit zero = []
+bit_texts s bit (suc n) = bit_text bit (has_bit s bit) ++ bit_texts s (bit + 1) n
+
+-- all bits that are set
+unfoldable pub all_bits : Signature → List ℕ
+all_bits s = bit_texts s 0 256
 
 -- a signature: its phase, and its bits that are set
 unfoldable pub signature_text : Signature → List ℕ
-signature_text s = further_all (tag s ∷ []) ++ further_all (set_bits s 0 256)
+signature_text s = further_all (tag s ∷ []) ++ all_bits s
 
 -- how a task has ended, or which lock it waits for
 abbrev pub cause_fields : EndShown → List ℕ

@@ -1,5 +1,5 @@
 //! Changes.
-ghost use Rattle.std.specs.Prelude.{◌≡◌, ◌++◌, ◌∷◌, [], codes, map, OnOk};
+ghost use Rattle.std.specs.Prelude.{true, ◌≡◌, ◌++◌, ◌∷◌, [], codes, map, OnOk};
 ghost use Rattle.std.specs.Fmt.{decimal};
 ghost use Rattle.rv_core.specs.Ending.{shown_end};
 ghost use Rattle.page_data.specs.Json.{list_text, item_texts, further_all};

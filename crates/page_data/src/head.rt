@@ -1,5 +1,5 @@
 //! The run as a whole: its title, how it ended, how many events it has, and its longest chain.
-ghost use Rattle.std.specs.Prelude.{◌≡◌, ◌++◌, ◌∷◌, ◌-◌, ◌&&◌, nat_le, nat_lt, [], length, OnOk};
+ghost use Rattle.std.specs.Prelude.{true, ◌≡◌, ◌++◌, ◌∷◌, ◌-◌, ◌&&◌, nat_le, nat_lt, [], length, OnOk};
 ghost use Rattle.std.specs.Fmt.{decimal};
 ghost use Rattle.page_data.specs.Json.{list_text, item_texts, further_all};
 ghost use Rattle.page_data.specs.Page.{end_row, is_on_page, link_text, chain_texts, run_part, timing_part, title_part};

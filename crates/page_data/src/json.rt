@@ -14,6 +14,7 @@ fn is_unescaped(byte: u8) -> bool
 }
 
 /// Adds a byte that doesn't stand for itself.
+#[tactic(auto, unfolding(text_pieces::specs::Pieces::hexadecimal))]
 fn push_escape(out: &mut Vec<u8>, byte: u8) -> Result<(), Memory>
     ensures { OnOk result (out.new.items ≡ out.old.items ++ escape byte) }
 {

@@ -1,8 +1,8 @@
 //! Actors, messages and mails.
-ghost use Rattle.std.specs.Prelude.{◌≡◌, ◌++◌, ◌∷◌, ◌+◌, [], OnOk};
+ghost use Rattle.std.specs.Prelude.{true, ◌≡◌, ◌++◌, ◌∷◌, ◌+◌, ◌≤◌, [], OnOk};
 ghost use Rattle.std.specs.Fmt.{decimal};
 ghost use Rattle.page_data.specs.Json.{list_text, item_texts, further_all};
-ghost use Rattle.page_data.specs.Rows.{actor_number, flag_number, set_bits, signature_text, message_fields, outgoing_fields, outgoing_text, mail_item, handled_text, sent_text};
+ghost use Rattle.page_data.specs.Rows.{actor_number, flag_number, bit_text, bit_texts, all_bits, signature_text, message_fields, outgoing_fields, outgoing_text, mail_item, handled_text, sent_text};
 
 use crate::json::{push_all, push_gap};
 use dn_base::Memory;
@@ -35,17 +35,30 @@ pub(crate) fn flag_number(flag: bool) -> u32
     if flag { 1 } else { 0 }
 }
 
-/// Adds the numbers of the bits that are set.
-#[tactic(auto, unfolding(crate::specs::Json::further_all))]
-fn push_bits(out: &mut Vec<u8>, signature: &Signature) -> Result<(), Memory>
-    ensures { OnOk result (out.new.items ≡ out.old.items ++ further_all (set_bits signature.now 0 256)) }
+/// Adds the number of a bit, if it is set.
+fn push_bit(out: &mut Vec<u8>, bit: u32, set: bool) -> Result<(), Memory>
+    ensures { OnOk result (out.new.items ≡ out.old.items ++ bit_text bit set) }
 {
-    for bit in 0..256 {
-        if signature.has(bit) {
-            push_all(out, &[bit])?;
-        }
+    if set { push_all(out, &[bit]) } else { Ok(()) }
+}
+
+/// Adds the numbers of those of the first so many bits that are set.
+fn push_bits(out: &mut Vec<u8>, signature: &Signature, count: u32) -> Result<(), Memory>
+    requires { count ≤ 256 }
+    ensures { OnOk result (out.new.items ≡ out.old.items ++ bit_texts signature.now 0 count) }
+{
+    for bit in 0..count {
+        push_bit(out, bit, signature.has(bit))?;
     }
     Ok(())
+}
+
+/// Adds the numbers of all bits that are set.
+#[tactic(auto, unfolding(crate::specs::Rows::all_bits))]
+fn push_all_bits(out: &mut Vec<u8>, signature: &Signature) -> Result<(), Memory>
+    ensures { OnOk result (out.new.items ≡ out.old.items ++ all_bits signature.now) }
+{
+    push_bits(out, signature, 256)
 }
 
 /// Adds a signature.
@@ -54,7 +67,7 @@ pub(crate) fn push_signature(out: &mut Vec<u8>, signature: &Signature) -> Result
     ensures { OnOk result (out.new.items ≡ out.old.items ++ signature_text signature.now) }
 {
     push_all(out, &[signature.phase().0])?;
-    push_bits(out, signature)
+    push_all_bits(out, signature)
 }
 
 /// Adds what a message says.

@@ -37,14 +37,16 @@ pub struct Page<'a> {
     pub most: u32,
 }
 
-/// How many of so many things are wanted, where there are `wanted` at most.
-fn at_most(wanted: u32, there: usize) -> usize
-    ensures most { result ≤ wanted }
-    ensures within { result ≤ there }
-    ensures either { result < wanted → result ≡ there }
+/// The first so many events, and those behind them.
+#[tactic(auto, using(std::proofs::lemmas::List::take_all, std::proofs::lemmas::List::drop_all))]
+fn parted(events: &[Event], wanted: u32) -> (&[Event], &[Event])
+    ensures front { result.0.now ≡ take wanted events.now }
+    ensures back { result.1.now ≡ drop wanted events.now }
 {
-    let wanted = wanted as usize;
-    if wanted < there { wanted } else { there }
+    match events.split_at_checked(wanted as usize) {
+        Some(parts) => parts,
+        None => (events, &[]),
+    }
 }
 
 /// Adds what doesn't change in the run.
@@ -80,7 +82,7 @@ fn push_states(
 }
 
 /// The data of a machine's page.
-#[tactic(auto, unfolding(crate::specs::Page::page_text))]
+#[tactic(auto, using(crate::proofs::Runs::run_front, crate::proofs::Runs::run_back), unfolding(crate::specs::Page::page_text))]
 fn text_of(
     alloc: Global,
     machine: Machine,
@@ -96,9 +98,9 @@ fn text_of(
     let mut machine = machine;
     let mut out = Vec::new(alloc);
     push_head(alloc, &mut out, &machine, page, events.len())?;
-    let (before, rest) = events.split_at(at_most(page.first, events.len()));
+    let (before, rest) = parted(events, page.first);
     pass(&mut machine, before)?;
-    let (wanted, _) = rest.split_at(at_most(page.most, rest.len()));
+    let (wanted, _) = parted(rest, page.most);
     push_states(alloc, &mut out, &mut machine, wanted)?;
     Ok(out)
 }

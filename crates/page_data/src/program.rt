@@ -1,5 +1,5 @@
 //! The machine and its program.
-ghost use Rattle.std.specs.Prelude.{◌≡◌, ◌++◌, ◌≤◌, ◌∷◌, [], length, IfOk, OnOk};
+ghost use Rattle.std.specs.Prelude.{true, ◌≡◌, ◌++◌, ◌≤◌, ◌∷◌, [], length, IfOk, OnOk};
 ghost use Rattle.std.specs.Fmt.{decimal};
 ghost use Rattle.page_data.specs.Json.{string_text, list_text, item_texts};
 ghost use Rattle.page_data.specs.Program.{size_text, pair_text, value_texts, values_text, region_text, interval_pair, words_text, task_item, phase_object, phase_objects, phases_text, code_lines, program_text};
