@@ -40,30 +40,49 @@ chain_texts p first [] = []
 chain_texts p first (link ∷ links) =
     if is_on_page p link.event then gap first ++ (link_text link ++ chain_texts p false links) else chain_texts p first links
 
+unfoldable pub outcome_field : Page → List ℕ
+outcome_field p = codes ",\"outcome\":\"" ++ (outcome_word p.ending.now.outcome ++ codes "\"")
+
+unfoldable pub ends_field : Page → List ℕ
+ends_field p = codes ",\"ends\":" ++ list_text end_row p.ending.now.tasks
+
+unfoldable pub counts_field : Page → List ℕ
+counts_field p = codes ",\"counts\":" ++ list_text decimal p.counts.kinds
+
+unfoldable pub range_fields : Page → ℕ → List ℕ
+range_fields p events = codes ",\"total\":" ++ (decimal events ++ (codes ",\"first\":" ++ decimal p.first))
+
 -- how the run ended, how many events of each kind it has, and which of them the page has
 unfoldable pub run_part : Page → ℕ → List ℕ
-run_part p events =
-    codes ",\"outcome\":\"" ++ (outcome_word p.ending.now.outcome
-    ++ (codes "\",\"ends\":" ++ (list_text end_row p.ending.now.tasks
-    ++ (codes ",\"counts\":" ++ (list_text decimal p.counts.kinds
-    ++ (codes ",\"total\":" ++ (decimal events
-    ++ (codes ",\"first\":" ++ decimal p.first))))))))
+run_part p events = outcome_field p ++ (ends_field p ++ (counts_field p ++ range_fields p events))
+
+unfoldable pub ticks_field : Page → List ℕ
+ticks_field p = codes ",\"ticks\":[" ++ (decimal p.tick_core ++ (further_all (p.tick_bank ∷ p.tick_mail ∷ []) ++ codes "]"))
+
+unfoldable pub time_fields : Page → List ℕ
+time_fields p = codes ",\"time\":" ++ (decimal p.timing.now.total ++ (codes ",\"links\":" ++ decimal (length p.timing.now.links.items)))
+
+unfoldable pub chain_field : Page → List ℕ
+chain_field p = codes ",\"chain\":[" ++ (chain_texts p true p.timing.now.links.items ++ codes "]")
 
 -- how long the run takes by these ticks, and its longest chain
 unfoldable pub timing_part : Page → List ℕ
-timing_part p =
-    codes ",\"ticks\":[" ++ (decimal p.tick_core ++ (further_all (p.tick_bank ∷ p.tick_mail ∷ [])
-    ++ (codes "],\"time\":" ++ (decimal p.timing.now.total
-    ++ (codes ",\"links\":" ++ (decimal (length p.timing.now.links.items)
-    ++ (codes ",\"chain\":[" ++ (chain_texts p true p.timing.now.links.items ++ codes "]"))))))))
+timing_part p = ticks_field p ++ (time_fields p ++ chain_field p)
 
 -- ---- the page's first state, and its events
 
+unfoldable pub changes_field : State → List ℕ
+changes_field S = codes ",\"start\":{\"changes\":" ++ list_text actor_changes_text (changes_since S)
+
+unfoldable pub next_field : State → List ℕ
+next_field S = codes ",\"next\":" ++ list_text decimal S.numbers
+
+unfoldable pub mails_field : State → List ℕ
+mails_field S = codes ",\"mails\":" ++ (list_text mail_item S.mails ++ codes "}")
+
 -- what leads to a state from the machine's beginning, the number of each actor's next mail, and the mails in flight
 unfoldable pub start_part : State → List ℕ
-start_part S =
-    codes ",\"start\":{\"changes\":" ++ (list_text actor_changes_text (changes_since S)
-    ++ (codes ",\"next\":" ++ (list_text decimal S.numbers ++ (codes ",\"mails\":" ++ (list_text mail_item S.mails ++ codes "}")))))
+start_part S = changes_field S ++ (next_field S ++ mails_field S)
 
 -- each event on a line of its own, with what it does in the state in which it comes
 abbrev pub event_rows : Bool → State → List Event → List ℕ

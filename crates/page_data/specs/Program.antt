@@ -50,12 +50,18 @@ words_text set = list_text interval_pair set
 unfoldable pub task_item : TaskDecl → List ℕ
 task_item t = codes "[" ++ (decimal t.core.0 ++ (further_all (t.entry ∷ t.arg ∷ []) ++ codes "]"))
 
+unfoldable pub written_field : PhasePlan → List ℕ
+written_field plan = codes "{\"written\":" ++ words_text plan.written
+
+unfoldable pub guarded_field : PhasePlan → List ℕ
+guarded_field plan = codes ",\"guarded\":" ++ list_text words_text plan.guarded
+
+unfoldable pub tasks_field : Phase → List ℕ
+tasks_field p = codes ",\"tasks\":" ++ (list_text task_item p.tasks ++ codes "}")
+
 -- the words that a phase may write, in whole regions, those that each lock guards in it, and its tasks
 unfoldable pub phase_object : Phase → PhasePlan → List ℕ
-phase_object p plan =
-    codes "{\"written\":" ++ (words_text plan.written
-    ++ (codes ",\"guarded\":" ++ (list_text words_text plan.guarded
-    ++ (codes ",\"tasks\":" ++ (list_text task_item p.tasks ++ codes "}")))))
+phase_object p plan = written_field plan ++ (guarded_field plan ++ tasks_field p)
 
 abbrev pub phase_objects : Bool → List Phase → List PhasePlan → List ℕ
 phase_objects first (p ∷ ps) (plan ∷ plans) = gap first ++ (phase_object p plan ++ phase_objects false ps plans)
@@ -68,12 +74,20 @@ phases_text phases plans = codes ",\"phases\":[" ++ (phase_objects true phases p
 abbrev pub code_lines : List ℕ → List ℕ
 code_lines code = flat_map (λ (w : ℕ). ended (code_line w)) code
 
+unfoldable pub regions_field : ProgramParts → List ℕ
+regions_field P = codes ",\"regions\":" ++ list_text region_text P.regions
+
+unfoldable pub locks_field : ProgramParts → List ℕ
+locks_field P = codes ",\"locks\":" ++ list_text string_text P.locks
+
+unfoldable pub code_field : ProgramParts → List ℕ
+code_field P = codes ",\"code\":" ++ string_text (code_lines P.code)
+
+unfoldable pub source_field : List ℕ → List ℕ
+source_field source = codes ",\"source\":" ++ string_text source
+
 -- the program, and its text
 unfoldable pub program_text : Setting → List ℕ → List ℕ
 program_text C source =
     values_text C.program.memory
-    ++ (codes ",\"regions\":" ++ (list_text region_text C.program.regions
-    ++ (codes ",\"locks\":" ++ (list_text string_text C.program.locks
-    ++ (phases_text C.program.phases C.plans
-    ++ (codes ",\"code\":" ++ (string_text (code_lines C.program.code)
-    ++ (codes ",\"source\":" ++ string_text source))))))))
+    ++ (regions_field C.program ++ (locks_field C.program ++ (phases_text C.program.phases C.plans ++ (code_field C.program ++ source_field source))))

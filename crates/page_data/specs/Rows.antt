@@ -174,11 +174,13 @@ abbrev pub sent_text : List Outgoing → List ℕ
 sent_text [] = []
 sent_text (o ∷ os) = codes "," ++ list_text outgoing_text (o ∷ os)
 
--- the kind and the actor of an event, the mail that it handles, what it changes, and what it sends
+-- the kind and the actor of an event, and the mail that it handles
+unfoldable pub event_head : Event → EventMade → List ℕ
+event_head e m = codes "[" ++ (decimal (kind_index m.kind) ++ (codes "," ++ (decimal (actor_number m.actor) ++ (codes "," ++ handled_text e))))
+
+-- what it changes, and what it sends
+unfoldable pub event_tail : EventMade → List ℕ
+event_tail m = codes "," ++ (list_text change_text m.changes ++ (sent_text m.sent ++ codes "]"))
+
 unfoldable pub event_text : Event → EventMade → List ℕ
-event_text e m =
-    codes "["
-    ++ (decimal (kind_index m.kind)
-    ++ (codes ","
-    ++ (decimal (actor_number m.actor)
-    ++ (codes "," ++ (handled_text e ++ (codes "," ++ (list_text change_text m.changes ++ (sent_text m.sent ++ codes "]"))))))))
+event_text e m = event_head e m ++ event_tail m

@@ -6,8 +6,8 @@ ghost use Rattle.machine_rules.specs.Next.{next, enabled};
 ghost use Rattle.machine_rules.specs.Runs.{after, IsRun};
 ghost use Rattle.run_changes.specs.Events.{event_made};
 ghost use Rattle.page_data.specs.Json.{gap, list_text, item_texts};
-ghost use Rattle.page_data.specs.Rows.{event_text};
-ghost use Rattle.page_data.specs.Page.{start_part, event_rows, events_part};
+ghost use Rattle.page_data.specs.Rows.{event_head, event_tail, event_text};
+ghost use Rattle.page_data.specs.Page.{changes_field, next_field, mails_field, start_part, event_rows, events_part};
 
 use crate::changes::{push_actor_changes, push_changes};
 use crate::json::push_gap;
@@ -40,19 +40,62 @@ fn push_numbers(out: &mut Vec<u8>, numbers: &[u32]) -> Result<(), Memory>
     push(out, b"]")
 }
 
+#[tactic(auto, unfolding(crate::specs::Page::changes_field))]
+fn push_since(alloc: Global, out: &mut Vec<u8>, machine: &Machine) -> Result<(), Memory>
+    ensures { OnOk result (out.new.items ≡ out.old.items ++ changes_field machine.now.state) }
+{
+    let changes = changes_since(alloc, machine)?;
+    push(out, b",\"start\":{\"changes\":")?;
+    push_actor_changes(out, changes.as_slice())
+}
+
+#[tactic(auto, unfolding(crate::specs::Page::next_field))]
+fn push_next(out: &mut Vec<u8>, machine: &Machine) -> Result<(), Memory>
+    ensures { OnOk result (out.new.items ≡ out.old.items ++ next_field machine.now.state) }
+{
+    push(out, b",\"next\":")?;
+    push_numbers(out, machine.numbers())
+}
+
+#[tactic(auto, unfolding(crate::specs::Page::mails_field))]
+fn push_flying(out: &mut Vec<u8>, machine: &Machine) -> Result<(), Memory>
+    ensures { OnOk result (out.new.items ≡ out.old.items ++ mails_field machine.now.state) }
+{
+    push(out, b",\"mails\":")?;
+    push_mails(out, machine.pool())?;
+    push(out, b"}")
+}
+
 /// Adds what leads to a machine's state from the beginning of its run, the number of each actor's next mail, and the mails in flight.
 #[tactic(auto, unfolding(crate::specs::Page::start_part))]
 pub(crate) fn push_start(alloc: Global, out: &mut Vec<u8>, machine: &Machine) -> Result<(), Memory>
     ensures { OnOk result (out.new.items ≡ out.old.items ++ start_part machine.now.state) }
 {
-    let changes = changes_since(alloc, machine)?;
-    push(out, b",\"start\":{\"changes\":")?;
-    push_actor_changes(out, changes.as_slice())?;
-    push(out, b",\"next\":")?;
-    push_numbers(out, machine.numbers())?;
-    push(out, b",\"mails\":")?;
-    push_mails(out, machine.pool())?;
-    push(out, b"}")
+    push_since(alloc, out, machine)?;
+    push_next(out, machine)?;
+    push_flying(out, machine)
+}
+
+#[tactic(auto, unfolding(crate::specs::Rows::event_head))]
+fn push_event_head(out: &mut Vec<u8>, event: Event, made: &EventMade) -> Result<(), Memory>
+    ensures { OnOk result (out.new.items ≡ out.old.items ++ event_head event made.now) }
+{
+    push(out, b"[")?;
+    push_decimal(out, made.kind.index() as u32)?;
+    push(out, b",")?;
+    push_actor(out, made.actor)?;
+    push(out, b",")?;
+    push_handled(out, event)
+}
+
+#[tactic(auto, unfolding(crate::specs::Rows::event_tail))]
+fn push_event_tail(out: &mut Vec<u8>, made: &EventMade) -> Result<(), Memory>
+    ensures { OnOk result (out.new.items ≡ out.old.items ++ event_tail made.now) }
+{
+    push(out, b",")?;
+    push_changes(out, made.changes.as_slice())?;
+    push_sent(out, made.sent.as_slice())?;
+    push(out, b"]")
 }
 
 /// Adds what an event did that was made.
@@ -60,16 +103,8 @@ pub(crate) fn push_start(alloc: Global, out: &mut Vec<u8>, machine: &Machine) ->
 fn push_event(out: &mut Vec<u8>, event: Event, made: &EventMade) -> Result<(), Memory>
     ensures { OnOk result (out.new.items ≡ out.old.items ++ event_text event made.now) }
 {
-    push(out, b"[")?;
-    push_decimal(out, made.kind.index() as u32)?;
-    push(out, b",")?;
-    push_actor(out, made.actor)?;
-    push(out, b",")?;
-    push_handled(out, event)?;
-    push(out, b",")?;
-    push_changes(out, made.changes.as_slice())?;
-    push_sent(out, made.sent.as_slice())?;
-    push(out, b"]")
+    push_event_head(out, event, made)?;
+    push_event_tail(out, made)
 }
 
 /// Adds the row of an event that was made.

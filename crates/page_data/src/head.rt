@@ -2,7 +2,7 @@
 ghost use Rattle.std.specs.Prelude.{true, ◌≡◌, ◌++◌, ◌∷◌, ◌-◌, ◌&&◌, nat_le, nat_lt, [], length, OnOk};
 ghost use Rattle.std.specs.Fmt.{decimal};
 ghost use Rattle.page_data.specs.Json.{list_text, item_texts, further_all};
-ghost use Rattle.page_data.specs.Page.{end_row, is_on_page, link_text, chain_texts, run_part, timing_part, title_part};
+ghost use Rattle.page_data.specs.Page.{end_row, is_on_page, link_text, chain_texts, outcome_field, ends_field, counts_field, range_fields, run_part, ticks_field, time_fields, chain_field, timing_part, title_part};
 
 use crate::changes::push_cause;
 use crate::json::{push_all, push_gap, push_string};
@@ -76,21 +76,50 @@ fn push_counts(out: &mut Vec<u8>, counts: &[u64]) -> Result<(), Memory>
     push(out, b"]")
 }
 
+#[tactic(auto, unfolding(crate::specs::Page::outcome_field))]
+fn push_outcome(out: &mut Vec<u8>, page: &Page<'_>) -> Result<(), Memory>
+    ensures { OnOk result (out.new.items ≡ out.old.items ++ outcome_field page.now) }
+{
+    push(out, b",\"outcome\":\"")?;
+    push(out, outcome_name(page.ending.outcome))?;
+    push(out, b"\"")
+}
+
+#[tactic(auto, unfolding(crate::specs::Page::ends_field))]
+fn push_ends_field(out: &mut Vec<u8>, page: &Page<'_>) -> Result<(), Memory>
+    ensures { OnOk result (out.new.items ≡ out.old.items ++ ends_field page.now) }
+{
+    push(out, b",\"ends\":")?;
+    push_ends(out, page.ending.tasks.as_slice())
+}
+
+#[tactic(auto, unfolding(crate::specs::Page::counts_field))]
+fn push_counts_field(out: &mut Vec<u8>, page: &Page<'_>) -> Result<(), Memory>
+    ensures { OnOk result (out.new.items ≡ out.old.items ++ counts_field page.now) }
+{
+    push(out, b",\"counts\":")?;
+    push_counts(out, &page.counts.kinds)
+}
+
+#[tactic(auto, unfolding(crate::specs::Page::range_fields))]
+fn push_range(out: &mut Vec<u8>, page: &Page<'_>, events: usize) -> Result<(), Memory>
+    ensures { OnOk result (out.new.items ≡ out.old.items ++ range_fields page.now events) }
+{
+    push(out, b",\"total\":")?;
+    push_long(out, events as u64)?;
+    push(out, b",\"first\":")?;
+    push_decimal(out, page.first)
+}
+
 /// Adds how the run ended, how many events of each kind it has, and which the page's first one is.
 #[tactic(auto, unfolding(crate::specs::Page::run_part))]
 pub(crate) fn push_run(out: &mut Vec<u8>, page: &Page<'_>, events: usize) -> Result<(), Memory>
     ensures { OnOk result (out.new.items ≡ out.old.items ++ run_part page.now events) }
 {
-    push(out, b",\"outcome\":\"")?;
-    push(out, outcome_name(page.ending.outcome))?;
-    push(out, b"\",\"ends\":")?;
-    push_ends(out, page.ending.tasks.as_slice())?;
-    push(out, b",\"counts\":")?;
-    push_counts(out, &page.counts.kinds)?;
-    push(out, b",\"total\":")?;
-    push_long(out, events as u64)?;
-    push(out, b",\"first\":")?;
-    push_decimal(out, page.first)
+    push_outcome(out, page)?;
+    push_ends_field(out, page)?;
+    push_counts_field(out, page)?;
+    push_range(out, page, events)
 }
 
 /// Whether an event is one of the page's.
@@ -126,19 +155,41 @@ fn push_chain(out: &mut Vec<u8>, page: &Page<'_>, links: &[Link]) -> Result<(), 
     Ok(())
 }
 
+#[tactic(auto, unfolding(crate::specs::Page::ticks_field))]
+fn push_ticks(out: &mut Vec<u8>, page: &Page<'_>) -> Result<(), Memory>
+    ensures { OnOk result (out.new.items ≡ out.old.items ++ ticks_field page.now) }
+{
+    push(out, b",\"ticks\":[")?;
+    push_decimal(out, page.tick_core)?;
+    push_all(out, &[page.tick_bank, page.tick_mail])?;
+    push(out, b"]")
+}
+
+#[tactic(auto, unfolding(crate::specs::Page::time_fields))]
+fn push_time(out: &mut Vec<u8>, page: &Page<'_>) -> Result<(), Memory>
+    ensures { OnOk result (out.new.items ≡ out.old.items ++ time_fields page.now) }
+{
+    push(out, b",\"time\":")?;
+    push_long(out, page.timing.total)?;
+    push(out, b",\"links\":")?;
+    push_long(out, page.timing.links.len() as u64)
+}
+
+#[tactic(auto, unfolding(crate::specs::Page::chain_field))]
+fn push_chain_field(out: &mut Vec<u8>, page: &Page<'_>) -> Result<(), Memory>
+    ensures { OnOk result (out.new.items ≡ out.old.items ++ chain_field page.now) }
+{
+    push(out, b",\"chain\":[")?;
+    push_chain(out, page, page.timing.links.as_slice())?;
+    push(out, b"]")
+}
+
 /// Adds how long the run takes, and its longest chain.
 #[tactic(auto, unfolding(crate::specs::Page::timing_part))]
 pub(crate) fn push_timing(out: &mut Vec<u8>, page: &Page<'_>) -> Result<(), Memory>
     ensures { OnOk result (out.new.items ≡ out.old.items ++ timing_part page.now) }
 {
-    push(out, b",\"ticks\":[")?;
-    push_decimal(out, page.tick_core)?;
-    push_all(out, &[page.tick_bank, page.tick_mail])?;
-    push(out, b"],\"time\":")?;
-    push_long(out, page.timing.total)?;
-    push(out, b",\"links\":")?;
-    push_long(out, page.timing.links.len() as u64)?;
-    push(out, b",\"chain\":[")?;
-    push_chain(out, page, page.timing.links.as_slice())?;
-    push(out, b"]")
+    push_ticks(out, page)?;
+    push_time(out, page)?;
+    push_chain_field(out, page)
 }

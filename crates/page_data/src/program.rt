@@ -2,13 +2,13 @@
 ghost use Rattle.std.specs.Prelude.{true, ◌≡◌, ◌++◌, ◌≤◌, ◌∷◌, [], length, IfOk, OnOk};
 ghost use Rattle.std.specs.Fmt.{decimal};
 ghost use Rattle.page_data.specs.Json.{string_text, list_text, item_texts};
-ghost use Rattle.page_data.specs.Program.{size_text, pair_text, value_texts, values_text, region_text, interval_pair, words_text, task_item, phase_object, phase_objects, phases_text, code_lines, program_text};
+ghost use Rattle.page_data.specs.Program.{size_text, pair_text, value_texts, values_text, region_text, interval_pair, words_text, task_item, written_field, guarded_field, tasks_field, phase_object, phase_objects, phases_text, code_lines, regions_field, locks_field, code_field, source_field, program_text};
 
 use crate::json::{push_all, push_gap, push_string};
 use dn_base::{Memory, Name};
 use dn_machine::Machine;
 use region_table::{
-    Interval, Phase, PhasePlan, Region, TaskDecl, WordSet, a_program_is_well_formed,
+    Interval, Phase, PhasePlan, Program, Region, TaskDecl, WordSet, a_program_is_well_formed,
 };
 use rv_listing::push_code;
 use std::alloc::Global;
@@ -204,18 +204,39 @@ fn push_tasks(out: &mut Vec<u8>, tasks: &[TaskDecl]) -> Result<(), Memory>
     push(out, b"]")
 }
 
+#[tactic(auto, unfolding(crate::specs::Program::written_field))]
+fn push_written(out: &mut Vec<u8>, plan: &PhasePlan) -> Result<(), Memory>
+    ensures { OnOk result (out.new.items ≡ out.old.items ++ written_field plan.now) }
+{
+    push(out, b"{\"written\":")?;
+    push_words(out, &plan.written)
+}
+
+#[tactic(auto, unfolding(crate::specs::Program::guarded_field))]
+fn push_guarded(out: &mut Vec<u8>, plan: &PhasePlan) -> Result<(), Memory>
+    ensures { OnOk result (out.new.items ≡ out.old.items ++ guarded_field plan.now) }
+{
+    push(out, b",\"guarded\":")?;
+    push_sets(out, plan.guarded.as_slice())
+}
+
+#[tactic(auto, unfolding(crate::specs::Program::tasks_field))]
+fn push_tasks_field(out: &mut Vec<u8>, phase: &Phase) -> Result<(), Memory>
+    ensures { OnOk result (out.new.items ≡ out.old.items ++ tasks_field phase.now) }
+{
+    push(out, b",\"tasks\":")?;
+    push_tasks(out, phase.tasks.as_slice())?;
+    push(out, b"}")
+}
+
 /// Adds what a phase may write, what each lock guards in it, and its tasks.
 #[tactic(auto, unfolding(crate::specs::Program::phase_object))]
 fn push_phase(out: &mut Vec<u8>, phase: &Phase, plan: &PhasePlan) -> Result<(), Memory>
     ensures { OnOk result (out.new.items ≡ out.old.items ++ phase_object phase.now plan.now) }
 {
-    push(out, b"{\"written\":")?;
-    push_words(out, &plan.written)?;
-    push(out, b",\"guarded\":")?;
-    push_sets(out, plan.guarded.as_slice())?;
-    push(out, b",\"tasks\":")?;
-    push_tasks(out, phase.tasks.as_slice())?;
-    push(out, b"}")
+    push_written(out, plan)?;
+    push_guarded(out, plan)?;
+    push_tasks_field(out, phase)
 }
 
 fn push_phase_items(out: &mut Vec<u8>, phases: &[Phase], plans: &[PhasePlan]) -> Result<(), Memory>
@@ -253,11 +274,37 @@ fn code_lines(alloc: Global, code: &[u32]) -> Result<Vec<u8>, Memory>
 }
 
 /// Adds the code, as one string.
-fn push_code_string(alloc: Global, out: &mut Vec<u8>, code: &[u32]) -> Result<(), Memory>
-    ensures { OnOk result (out.new.items ≡ out.old.items ++ string_text (code_lines code.now)) }
+#[tactic(auto, unfolding(crate::specs::Program::code_field))]
+fn push_code_field(alloc: Global, out: &mut Vec<u8>, program: &Program) -> Result<(), Memory>
+    ensures { OnOk result (out.new.items ≡ out.old.items ++ code_field program.now) }
 {
-    let lines = code_lines(alloc, code)?;
+    let lines = code_lines(alloc, program.code.as_slice())?;
+    push(out, b",\"code\":")?;
     push_string(out, lines.as_slice())
+}
+
+#[tactic(auto, unfolding(crate::specs::Program::regions_field))]
+fn push_regions_field(out: &mut Vec<u8>, program: &Program) -> Result<(), Memory>
+    ensures { OnOk result (out.new.items ≡ out.old.items ++ regions_field program.now) }
+{
+    push(out, b",\"regions\":")?;
+    push_regions(out, program.regions.as_slice())
+}
+
+#[tactic(auto, unfolding(crate::specs::Program::locks_field))]
+fn push_locks_field(out: &mut Vec<u8>, program: &Program) -> Result<(), Memory>
+    ensures { OnOk result (out.new.items ≡ out.old.items ++ locks_field program.now) }
+{
+    push(out, b",\"locks\":")?;
+    push_names(out, program.locks.as_slice())
+}
+
+#[tactic(auto, unfolding(crate::specs::Program::source_field))]
+fn push_source_field(out: &mut Vec<u8>, source: &[u8]) -> Result<(), Memory>
+    ensures { OnOk result (out.new.items ≡ out.old.items ++ source_field source.now) }
+{
+    push(out, b",\"source\":")?;
+    push_string(out, source)
 }
 
 /// Adds the program of a machine, and its text.
@@ -273,13 +320,9 @@ pub(crate) fn push_program(
     let program = machine.program();
     a_program_is_well_formed(program);
     push_values(out, program.memory.as_slice())?;
-    push(out, b",\"regions\":")?;
-    push_regions(out, program.regions.as_slice())?;
-    push(out, b",\"locks\":")?;
-    push_names(out, program.locks.as_slice())?;
+    push_regions_field(out, program)?;
+    push_locks_field(out, program)?;
     push_phases(out, program.phases.as_slice(), machine.plans())?;
-    push(out, b",\"code\":")?;
-    push_code_string(alloc, out, program.code.as_slice())?;
-    push(out, b",\"source\":")?;
-    push_string(out, source)
+    push_code_field(alloc, out, program)?;
+    push_source_field(out, source)
 }
