@@ -41,7 +41,7 @@ chain_texts p first (link ∷ links) =
     if is_on_page p link.event then gap first ++ (link_text link ++ chain_texts p false links) else chain_texts p first links
 
 unfoldable pub outcome_field : Page → List ℕ
-outcome_field p = codes ",\"outcome\":\"" ++ (outcome_word p.ending.now.outcome ++ codes "\"")
+outcome_field p = codes ",\"outcome\":" ++ string_text (outcome_word p.ending.now.outcome)
 
 unfoldable pub ends_field : Page → List ℕ
 ends_field p = codes ",\"ends\":" ++ list_text end_row p.ending.now.tasks
@@ -89,8 +89,11 @@ abbrev pub event_rows : Bool → State → List Event → List ℕ
 event_rows first S [] = []
 event_rows first S (e ∷ es) = gap first ++ (newline ++ (event_text e (event_made S e) ++ event_rows false (next S e) es))
 
+unfoldable pub event_list : State → List Event → List ℕ
+event_list S events = codes "[" ++ (event_rows true S events ++ codes "\n]}\n")
+
 unfoldable pub events_part : State → List Event → List ℕ
-events_part S events = codes ",\"events\":[" ++ (event_rows true S events ++ codes "\n]}\n")
+events_part S events = codes ",\"events\":" ++ event_list S events
 
 -- ---- the page
 

@@ -1,5 +1,5 @@
 -- What the page is told of the machine and its program.
-use Rattle.std.specs.Prelude.{ℕ, ◌+◌, ◌==◌, Bool, true, false, List, [], ◌∷◌, ◌++◌, codes, flat_map, length, if◌then◌else◌}
+use Rattle.std.specs.Prelude.{ℕ, ◌+◌, ◌==◌, Bool, true, false, List, [], ◌∷◌, ◌++◌, codes, flat_map, length, slice_get, Option, Some, None, if◌then◌else◌}
 use Rattle.std.specs.Fmt.{decimal}
 use Rattle.src_text.specs.Laws.{ended}
 use Rattle.region_table.specs.declared.declared.Phase.{Phase}
@@ -32,8 +32,11 @@ value_texts first w [] = []
 value_texts first w (value ∷ values) =
     if value == 0 then value_texts first (w + 1) values else gap first ++ (pair_text w value ++ value_texts false (w + 1) values)
 
+unfoldable pub value_list : List ℕ → List ℕ
+value_list memory = codes "[" ++ (value_texts true 0 memory ++ codes "]")
+
 unfoldable pub values_text : List ℕ → List ℕ
-values_text memory = codes ",\"memory\":[" ++ (value_texts true 0 memory ++ codes "]")
+values_text memory = codes ",\"memory\":" ++ value_list memory
 
 -- the name, the first word and the length of a region
 unfoldable pub region_text : Region → List ℕ
@@ -59,16 +62,29 @@ guarded_field plan = codes ",\"guarded\":" ++ list_text words_text plan.guarded
 unfoldable pub tasks_field : Phase → List ℕ
 tasks_field p = codes ",\"tasks\":" ++ (list_text task_item p.tasks ++ codes "}")
 
--- the words that a phase may write, in whole regions, those that each lock guards in it, and its tasks
-unfoldable pub phase_object : Phase → PhasePlan → List ℕ
-phase_object p plan = written_field plan ++ (guarded_field plan ++ tasks_field p)
+-- the words that a phase may write, in whole regions, those that each lock guards in it, and its tasks; every phase of a machine has
+-- a plan
+unfoldable pub planned_text : Phase → PhasePlan → List ℕ
+planned_text p plan = written_field plan ++ (guarded_field plan ++ tasks_field p)
 
-abbrev pub phase_objects : Bool → List Phase → List PhasePlan → List ℕ
-phase_objects first (p ∷ ps) (plan ∷ plans) = gap first ++ (phase_object p plan ++ phase_objects false ps plans)
-phase_objects first _ _ = []
+unfoldable pub unplanned_text : Phase → List ℕ
+unplanned_text p = codes "{\"written\":[],\"guarded\":[]" ++ tasks_field p
+
+abbrev pub phase_object : Phase → Option PhasePlan → List ℕ
+phase_object p None = unplanned_text p
+phase_object p (Some plan) = planned_text p plan
+
+-- the phases from one on, with the plans of all phases
+abbrev pub phase_objects : Bool → List PhasePlan → ℕ → List Phase → List ℕ
+phase_objects first plans number [] = []
+phase_objects first plans number (p ∷ ps) =
+    gap first ++ (phase_object p (slice_get plans number) ++ phase_objects false plans (number + 1) ps)
+
+unfoldable pub phase_list : List Phase → List PhasePlan → List ℕ
+phase_list phases plans = codes "[" ++ (phase_objects true plans 0 phases ++ codes "]")
 
 unfoldable pub phases_text : List Phase → List PhasePlan → List ℕ
-phases_text phases plans = codes ",\"phases\":[" ++ (phase_objects true phases plans ++ codes "]")
+phases_text phases plans = codes ",\"phases\":" ++ phase_list phases plans
 
 -- each code word as a listing writes it, on a line of its own
 abbrev pub code_lines : List ℕ → List ℕ

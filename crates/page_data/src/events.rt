@@ -7,7 +7,7 @@ ghost use Rattle.machine_rules.specs.Runs.{after, IsRun};
 ghost use Rattle.run_changes.specs.Events.{event_made};
 ghost use Rattle.page_data.specs.Json.{gap, list_text, item_texts};
 ghost use Rattle.page_data.specs.Rows.{event_head, event_tail, event_text};
-ghost use Rattle.page_data.specs.Page.{changes_field, next_field, mails_field, start_part, event_rows, events_part};
+ghost use Rattle.page_data.specs.Page.{changes_field, next_field, mails_field, start_part, event_rows, event_list, events_part};
 
 use crate::changes::{push_actor_changes, push_changes};
 use crate::json::push_gap;
@@ -155,6 +155,22 @@ fn make_rows(
     Ok(())
 }
 
+#[tactic(auto, unfolding(crate::specs::Page::event_list))]
+fn push_event_list(
+    alloc: Global,
+    out: &mut Vec<u8>,
+    machine: &mut Machine,
+    events: &[Event],
+) -> Result<(), Memory>
+    requires run { IsRun machine.old.state events.now }
+    requires few { machine.old.made + length events.now ≤ 4000000000 }
+    ensures { OnOk result (out.new.items ≡ out.old.items ++ event_list machine.old.state events.now) }
+{
+    push(out, b"[")?;
+    make_rows(alloc, out, machine, events)?;
+    push(out, b"\n]}\n")
+}
+
 /// Makes events, which may come one after the other, and adds what each does.
 #[tactic(auto, unfolding(crate::specs::Page::events_part))]
 pub(crate) fn push_events(
@@ -167,9 +183,8 @@ pub(crate) fn push_events(
     requires few { machine.old.made + length events.now ≤ 4000000000 }
     ensures { OnOk result (out.new.items ≡ out.old.items ++ events_part machine.old.state events.now) }
 {
-    push(out, b",\"events\":[")?;
-    make_rows(alloc, out, machine, events)?;
-    push(out, b"\n]}\n")
+    push(out, b",\"events\":")?;
+    push_event_list(alloc, out, machine, events)
 }
 
 /// Makes events, which may come one after the other.

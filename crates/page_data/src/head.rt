@@ -80,9 +80,8 @@ fn push_counts(out: &mut Vec<u8>, counts: &[u64]) -> Result<(), Memory>
 fn push_outcome(out: &mut Vec<u8>, page: &Page<'_>) -> Result<(), Memory>
     ensures { OnOk result (out.new.items ≡ out.old.items ++ outcome_field page.now) }
 {
-    push(out, b",\"outcome\":\"")?;
-    push(out, outcome_name(page.ending.outcome))?;
-    push(out, b"\"")
+    push(out, b",\"outcome\":")?;
+    push_string(out, outcome_name(page.ending.outcome))
 }
 
 #[tactic(auto, unfolding(crate::specs::Page::ends_field))]

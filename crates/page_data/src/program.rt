@@ -1,8 +1,8 @@
 //! The machine and its program.
-ghost use Rattle.std.specs.Prelude.{true, ◌≡◌, ◌++◌, ◌≤◌, ◌∷◌, [], length, IfOk, OnOk};
+ghost use Rattle.std.specs.Prelude.{true, ◌≡◌, ◌++◌, ◌≤◌, ◌∷◌, [], length, option_copied, slice_get, IfOk, OnOk};
 ghost use Rattle.std.specs.Fmt.{decimal};
 ghost use Rattle.page_data.specs.Json.{string_text, list_text, item_texts};
-ghost use Rattle.page_data.specs.Program.{size_text, pair_text, value_texts, values_text, region_text, interval_pair, words_text, task_item, written_field, guarded_field, tasks_field, phase_object, phase_objects, phases_text, code_lines, regions_field, locks_field, code_field, source_field, program_text};
+ghost use Rattle.page_data.specs.Program.{size_text, pair_text, value_texts, value_list, values_text, region_text, interval_pair, words_text, task_item, written_field, guarded_field, tasks_field, planned_text, unplanned_text, phase_object, phase_objects, phase_list, phases_text, code_lines, regions_field, locks_field, code_field, source_field, program_text};
 
 use crate::json::{push_all, push_gap, push_string};
 use dn_base::{Memory, Name};
@@ -66,14 +66,23 @@ fn push_value_items(out: &mut Vec<u8>, memory: &[u32]) -> Result<(), Memory>
     Ok(())
 }
 
+#[tactic(auto, unfolding(crate::specs::Program::value_list))]
+fn push_value_list(out: &mut Vec<u8>, memory: &[u32]) -> Result<(), Memory>
+    requires { length memory.now ≤ 65536 }
+    ensures { OnOk result (out.new.items ≡ out.old.items ++ value_list memory.now) }
+{
+    push(out, b"[")?;
+    push_value_items(out, memory)?;
+    push(out, b"]")
+}
+
 #[tactic(auto, unfolding(crate::specs::Program::values_text))]
 fn push_values(out: &mut Vec<u8>, memory: &[u32]) -> Result<(), Memory>
     requires { length memory.now ≤ 65536 }
     ensures { OnOk result (out.new.items ≡ out.old.items ++ values_text memory.now) }
 {
-    push(out, b",\"memory\":[")?;
-    push_value_items(out, memory)?;
-    push(out, b"]")
+    push(out, b",\"memory\":")?;
+    push_value_list(out, memory)
 }
 
 /// Adds the name, the first word and the length of a region.
@@ -230,36 +239,66 @@ fn push_tasks_field(out: &mut Vec<u8>, phase: &Phase) -> Result<(), Memory>
 }
 
 /// Adds what a phase may write, what each lock guards in it, and its tasks.
-#[tactic(auto, unfolding(crate::specs::Program::phase_object))]
-fn push_phase(out: &mut Vec<u8>, phase: &Phase, plan: &PhasePlan) -> Result<(), Memory>
-    ensures { OnOk result (out.new.items ≡ out.old.items ++ phase_object phase.now plan.now) }
+#[tactic(auto, unfolding(crate::specs::Program::planned_text))]
+fn push_planned(out: &mut Vec<u8>, phase: &Phase, plan: &PhasePlan) -> Result<(), Memory>
+    ensures { OnOk result (out.new.items ≡ out.old.items ++ planned_text phase.now plan.now) }
 {
     push_written(out, plan)?;
     push_guarded(out, plan)?;
     push_tasks_field(out, phase)
 }
 
+#[tactic(auto, unfolding(crate::specs::Program::unplanned_text))]
+fn push_unplanned(out: &mut Vec<u8>, phase: &Phase) -> Result<(), Memory>
+    ensures { OnOk result (out.new.items ≡ out.old.items ++ unplanned_text phase.now) }
+{
+    push(out, b"{\"written\":[],\"guarded\":[]")?;
+    push_tasks_field(out, phase)
+}
+
+/// Adds a phase with its plan, if it has one.
+fn push_phase(out: &mut Vec<u8>, phase: &Phase, plan: Option<&PhasePlan>) -> Result<(), Memory>
+    ensures { OnOk result (out.new.items ≡ out.old.items ++ phase_object phase.now (option_copied plan.entry)) }
+{
+    match plan {
+        None => push_unplanned(out, phase),
+        Some(plan) => push_planned(out, phase, plan),
+    }
+}
+
+/// Adds phases, of which there are at most 64, with their plans.
 fn push_phase_items(out: &mut Vec<u8>, phases: &[Phase], plans: &[PhasePlan]) -> Result<(), Memory>
-    ensures { OnOk result (out.new.items ≡ out.old.items ++ phase_objects true phases.now plans.now) }
+    requires { length phases.now ≤ 64 }
+    ensures { OnOk result (out.new.items ≡ out.old.items ++ phase_objects true plans.now 0 phases.now) }
 {
     let mut first = true;
     let mut number = 0;
-    while number < phases.len() && number < plans.len() {
+    for phase in phases {
         push_gap(out, first)?;
-        push_phase(out, &phases[number], &plans[number])?;
+        push_phase(out, phase, plans.get(number))?;
         first = false;
         number += 1;
     }
     Ok(())
 }
 
-#[tactic(auto, unfolding(crate::specs::Program::phases_text))]
-fn push_phases(out: &mut Vec<u8>, phases: &[Phase], plans: &[PhasePlan]) -> Result<(), Memory>
-    ensures { OnOk result (out.new.items ≡ out.old.items ++ phases_text phases.now plans.now) }
+#[tactic(auto, unfolding(crate::specs::Program::phase_list))]
+fn push_phase_list(out: &mut Vec<u8>, phases: &[Phase], plans: &[PhasePlan]) -> Result<(), Memory>
+    requires { length phases.now ≤ 64 }
+    ensures { OnOk result (out.new.items ≡ out.old.items ++ phase_list phases.now plans.now) }
 {
-    push(out, b",\"phases\":[")?;
+    push(out, b"[")?;
     push_phase_items(out, phases, plans)?;
     push(out, b"]")
+}
+
+#[tactic(auto, unfolding(crate::specs::Program::phases_text))]
+fn push_phases(out: &mut Vec<u8>, phases: &[Phase], plans: &[PhasePlan]) -> Result<(), Memory>
+    requires { length phases.now ≤ 64 }
+    ensures { OnOk result (out.new.items ≡ out.old.items ++ phases_text phases.now plans.now) }
+{
+    push(out, b",\"phases\":")?;
+    push_phase_list(out, phases, plans)
 }
 
 /// Each code word as a listing writes it, on a line of its own.
