@@ -1816,8 +1816,8 @@ def page(data, name, first, most, ticks):
     phases = []
     for tasks, (written, guarded) in zip(program.phases, program.plans()):
         rows = [[core, task.entry, task.arg] for core, task in sorted(tasks.items())]
-        phases.append('{"written":%s,"guarded":%s,"tasks":%s}' % (
-            value_text(intervals(written)), value_text([intervals(words) for words in guarded]), value_text(rows)))
+        phases.append('{"tasks":%s,"written":%s,"guarded":%s}' % (
+            value_text(rows), value_text(intervals(written)), value_text([intervals(words) for words in guarded])))
     parts = [("format", string(b"denovo-page 2")), ("name", string(name.encode())), ("cores", str(machine.cores)),
              ("banks", str(sizes[0])), ("sets", str(sizes[1])), ("ways", str(sizes[2])), ("fuel", str(sizes[3])),
              ("words", str(len(program.memory))),

@@ -53,26 +53,23 @@ words_text set = list_text interval_pair set
 unfoldable pub task_item : TaskDecl → List ℕ
 task_item t = codes "[" ++ (decimal t.core.0 ++ (further_all (t.entry ∷ t.arg ∷ []) ++ codes "]"))
 
+unfoldable pub tasks_field : Phase → List ℕ
+tasks_field p = codes "{\"tasks\":" ++ list_text task_item p.tasks
+
 unfoldable pub written_field : PhasePlan → List ℕ
-written_field plan = codes "{\"written\":" ++ words_text plan.written
+written_field plan = codes ",\"written\":" ++ words_text plan.written
 
 unfoldable pub guarded_field : PhasePlan → List ℕ
 guarded_field plan = codes ",\"guarded\":" ++ list_text words_text plan.guarded
 
-unfoldable pub tasks_field : Phase → List ℕ
-tasks_field p = codes ",\"tasks\":" ++ (list_text task_item p.tasks ++ codes "}")
+-- the words that a phase may write, in whole regions, and those that each lock guards in it; every phase of a machine has a plan
+abbrev pub plan_fields : Option PhasePlan → List ℕ
+plan_fields None = []
+plan_fields (Some plan) = written_field plan ++ guarded_field plan
 
--- the words that a phase may write, in whole regions, those that each lock guards in it, and its tasks; every phase of a machine has
--- a plan
-unfoldable pub planned_text : Phase → PhasePlan → List ℕ
-planned_text p plan = written_field plan ++ (guarded_field plan ++ tasks_field p)
-
-unfoldable pub unplanned_text : Phase → List ℕ
-unplanned_text p = codes "{\"written\":[],\"guarded\":[]" ++ tasks_field p
-
-abbrev pub phase_object : Phase → Option PhasePlan → List ℕ
-phase_object p None = unplanned_text p
-phase_object p (Some plan) = planned_text p plan
+-- the tasks of a phase, and its plan
+unfoldable pub phase_object : Phase → Option PhasePlan → List ℕ
+phase_object p plan = tasks_field p ++ (plan_fields plan ++ codes "}")
 
 -- the phases from one on, with the plans of all phases
 abbrev pub phase_objects : Bool → List PhasePlan → ℕ → List Phase → List ℕ

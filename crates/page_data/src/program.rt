@@ -1,8 +1,8 @@
 //! The machine and its program.
-ghost use Rattle.std.specs.Prelude.{true, ◌≡◌, ◌++◌, ◌≤◌, ◌∷◌, [], length, option_copied, slice_get, IfOk, OnOk};
+ghost use Rattle.std.specs.Prelude.{true, ◌≡◌, ◌++◌, ◌≤◌, ◌∷◌, [], length, slice_get, IfOk, OnOk};
 ghost use Rattle.std.specs.Fmt.{decimal};
 ghost use Rattle.page_data.specs.Json.{string_text, list_text, item_texts};
-ghost use Rattle.page_data.specs.Program.{size_text, pair_text, value_texts, value_list, values_text, region_text, interval_pair, words_text, task_item, written_field, guarded_field, tasks_field, planned_text, unplanned_text, phase_object, phase_objects, phase_list, phases_text, code_lines, regions_field, locks_field, code_field, source_field, program_text};
+ghost use Rattle.page_data.specs.Program.{size_text, pair_text, value_texts, value_list, values_text, region_text, interval_pair, words_text, task_item, tasks_field, written_field, guarded_field, plan_fields, phase_object, phase_objects, phase_list, phases_text, code_lines, regions_field, locks_field, code_field, source_field, program_text};
 
 use crate::json::{push_all, push_gap, push_string};
 use dn_base::{Memory, Name};
@@ -213,11 +213,19 @@ fn push_tasks(out: &mut Vec<u8>, tasks: &[TaskDecl]) -> Result<(), Memory>
     push(out, b"]")
 }
 
+#[tactic(auto, unfolding(crate::specs::Program::tasks_field))]
+fn push_tasks_field(out: &mut Vec<u8>, phase: &Phase) -> Result<(), Memory>
+    ensures { OnOk result (out.new.items ≡ out.old.items ++ tasks_field phase.now) }
+{
+    push(out, b"{\"tasks\":")?;
+    push_tasks(out, phase.tasks.as_slice())
+}
+
 #[tactic(auto, unfolding(crate::specs::Program::written_field))]
 fn push_written(out: &mut Vec<u8>, plan: &PhasePlan) -> Result<(), Memory>
     ensures { OnOk result (out.new.items ≡ out.old.items ++ written_field plan.now) }
 {
-    push(out, b"{\"written\":")?;
+    push(out, b",\"written\":")?;
     push_words(out, &plan.written)
 }
 
@@ -229,41 +237,32 @@ fn push_guarded(out: &mut Vec<u8>, plan: &PhasePlan) -> Result<(), Memory>
     push_sets(out, plan.guarded.as_slice())
 }
 
-#[tactic(auto, unfolding(crate::specs::Program::tasks_field))]
-fn push_tasks_field(out: &mut Vec<u8>, phase: &Phase) -> Result<(), Memory>
-    ensures { OnOk result (out.new.items ≡ out.old.items ++ tasks_field phase.now) }
+/// Adds what a phase may write and what each lock guards in it, by its number.
+fn push_plan(out: &mut Vec<u8>, plans: &[PhasePlan], number: usize) -> Result<(), Memory>
+    ensures { OnOk result (out.new.items ≡ out.old.items ++ plan_fields (slice_get plans.now number)) }
 {
-    push(out, b",\"tasks\":")?;
-    push_tasks(out, phase.tasks.as_slice())?;
-    push(out, b"}")
-}
-
-/// Adds what a phase may write, what each lock guards in it, and its tasks.
-#[tactic(auto, unfolding(crate::specs::Program::planned_text))]
-fn push_planned(out: &mut Vec<u8>, phase: &Phase, plan: &PhasePlan) -> Result<(), Memory>
-    ensures { OnOk result (out.new.items ≡ out.old.items ++ planned_text phase.now plan.now) }
-{
-    push_written(out, plan)?;
-    push_guarded(out, plan)?;
-    push_tasks_field(out, phase)
-}
-
-#[tactic(auto, unfolding(crate::specs::Program::unplanned_text))]
-fn push_unplanned(out: &mut Vec<u8>, phase: &Phase) -> Result<(), Memory>
-    ensures { OnOk result (out.new.items ≡ out.old.items ++ unplanned_text phase.now) }
-{
-    push(out, b"{\"written\":[],\"guarded\":[]")?;
-    push_tasks_field(out, phase)
-}
-
-/// Adds a phase with its plan, if it has one.
-fn push_phase(out: &mut Vec<u8>, phase: &Phase, plan: Option<&PhasePlan>) -> Result<(), Memory>
-    ensures { OnOk result (out.new.items ≡ out.old.items ++ phase_object phase.now (option_copied plan.entry)) }
-{
-    match plan {
-        None => push_unplanned(out, phase),
-        Some(plan) => push_planned(out, phase, plan),
+    match plans.get(number) {
+        None => Ok(()),
+        Some(plan) => {
+            push_written(out, plan)?;
+            push_guarded(out, plan)
+        }
     }
+}
+
+/// Adds the tasks of a phase, and its plan.
+#[tactic(auto, unfolding(crate::specs::Program::phase_object))]
+fn push_phase(
+    out: &mut Vec<u8>,
+    phase: &Phase,
+    plans: &[PhasePlan],
+    number: usize,
+) -> Result<(), Memory>
+    ensures { OnOk result (out.new.items ≡ out.old.items ++ phase_object phase.now (slice_get plans.now number)) }
+{
+    push_tasks_field(out, phase)?;
+    push_plan(out, plans, number)?;
+    push(out, b"}")
 }
 
 /// Adds phases, of which there are at most 64, with their plans.
@@ -275,7 +274,7 @@ fn push_phase_items(out: &mut Vec<u8>, phases: &[Phase], plans: &[PhasePlan]) ->
     let mut number = 0;
     for phase in phases {
         push_gap(out, first)?;
-        push_phase(out, phase, plans.get(number))?;
+        push_phase(out, phase, plans, number)?;
         first = false;
         number += 1;
     }
