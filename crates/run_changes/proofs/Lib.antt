@@ -1,3 +1,4 @@
 mod Alone
 pub mod Listed
 pub mod Made
+mod Sent

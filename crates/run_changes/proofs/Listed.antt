@@ -35,7 +35,7 @@ pub goes_on : {X : Type 0} (so_far more added left rest all : List X) → more �
 goes_on so_far more added left rest all is split led =
     ap (λ (l : List _). l ++ rest) is ∙ append_assoc so_far added rest ∙ ap (λ (l : List _). so_far ++ l) (sym split) ∙ led
 
-nothing_behind : {X : Type 0} (xs : List X) → xs ++ [] ≡ xs
+pub nothing_behind : {X : Type 0} (xs : List X) → xs ++ [] ≡ xs
 nothing_behind [] = refl
 nothing_behind (x ∷ xs) = ap (λ (l : List _). x ∷ l) (nothing_behind xs)
 

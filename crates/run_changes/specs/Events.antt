@@ -6,6 +6,7 @@ use Rattle.message_net.specs.declared.event.Event.{Event}
 use Rattle.message_net.specs.declared.event.Event.TheVariants.{Handle}
 use Rattle.message_net.specs.declared.message.Mail.{Mail}
 use Rattle.message_net.specs.declared.message.Outgoing.{Outgoing}
+use Rattle.message_net.specs.Pool.{removed}
 use Rattle.machine_rules.specs.State.{State}
 use Rattle.machine_rules.specs.Next.{next, seen_in, kind_in}
 use Rattle.machine_rules.specs.declared.stepped.Stepped.{Stepped}
@@ -24,6 +25,11 @@ event_changes S e = changes_by (look_at S e) (seen_in S e) (next S e)
 abbrev pub count_left_by : List Mail → Event → ℕ
 count_left_by mails (Handle id) = length mails - 1
 count_left_by mails _ = length mails
+
+-- the mails that are left in flight before an event sends any
+abbrev pub left_in_flight : State → Event → List Mail
+left_in_flight S (Handle id) = (removed id S.mails).1
+left_in_flight S _ = S.mails
 
 -- what a mail carries, and where to
 abbrev pub outgoing_of : Mail → Outgoing

@@ -2,3 +2,4 @@ pub mod Looks
 pub mod Changes
 pub mod Events
 pub mod Since
+pub mod Applied

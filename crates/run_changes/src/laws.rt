@@ -1,17 +1,27 @@
 //! What an event changes and leaves alone, for whoever goes on from one state to the next by what it is told.
 //! These are laws: functions that do nothing, whose contracts say it.
-ghost use Rattle.std.specs.Prelude.{◌≡◌, ◌≢◌, Some, slice_get};
+ghost use Rattle.std.specs.Prelude.{◌≡◌, ◌≢◌, ◌++◌, Some, slice_get};
 ghost use Rattle.dn_base.specs.declared.ids.BankId.{BankId};
 ghost use Rattle.dn_base.specs.declared.ids.CoreId.{CoreId};
+ghost use Rattle.message_net.specs.declared.actor.Actor.{Actor};
 ghost use Rattle.message_net.specs.declared.actor.Actor.TheVariants.{Core, Bank, Keeper};
 ghost use Rattle.message_net.specs.declared.event.Event.{Event};
+ghost use Rattle.message_net.specs.Mail.{mails_of};
 ghost use Rattle.machine_rules.specs.State.{State};
-ghost use Rattle.machine_rules.specs.Next.{next};
+ghost use Rattle.machine_rules.specs.Next.{next, next_number};
 ghost use Rattle.dn_machine.specs.Actors.{actor_in};
+ghost use Rattle.run_changes.specs.Events.{left_in_flight, sent_in};
 
 /// An event changes the state of the actor that makes it, and no other actor's.
 pub fn an_event_changes_its_actor_alone()
     ensures cores { (S : State) (e : Event) (core : CoreId) → actor_in S e ≢ Some (Core core) → slice_get (next S e).nodes core.0 ≡ slice_get S.nodes core.0 }
     ensures banks { (S : State) (e : Event) (bank : BankId) → actor_in S e ≢ Some (Bank bank) → slice_get (next S e).banks bank.0 ≡ slice_get S.banks bank.0 }
     ensures keeper { (S : State) (e : Event) → actor_in S e ≢ Some Keeper → (next S e).keeper ≡ S.keeper }
+{}
+
+/// What an event sends joins the mails in flight, behind those that are left: they are the mails of the actor that makes the event, numbered
+/// on from its next number. A mail that is handled leaves.
+pub fn what_is_sent_joins_the_mails()
+    ensures { (S : State) (e : Event) (actor : Actor) → actor_in S e ≡ Some actor
+        → (next S e).mails ≡ left_in_flight S e ++ mails_of actor (next_number S actor) (sent_in S e) }
 {}

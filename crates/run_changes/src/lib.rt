@@ -13,6 +13,6 @@ mod parts;
 mod since;
 
 pub use change::{ActorChanges, Change, EventMade};
-pub use laws::an_event_changes_its_actor_alone;
+pub use laws::{an_event_changes_its_actor_alone, what_is_sent_joins_the_mails};
 pub use making::make;
 pub use since::changes_since;
