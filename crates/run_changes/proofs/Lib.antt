@@ -2,3 +2,4 @@ mod Alone
 pub mod Listed
 pub mod Made
 mod Sent
+mod Applied

@@ -1,6 +1,6 @@
 -- What changes make of a core's state, part by part, where they are applied one after the other.
-use Rattle.std.specs.Prelude.{◌≡◌, ◌⊎◌, ℕ, ◌+◌, ◌<◌, ◌==◌, Bool, true, false, List, length, Option, Some, None, if◌then◌else◌}
-use Rattle.std.specs.List.{fold, All, Any}
+use Rattle.std.specs.Prelude.{◌≡◌, ℕ, ◌+◌, ◌==◌, ◌||◌, Bool, true, false, List, [], ◌∷◌, Option, Some, None, if◌then◌else◌}
+use Rattle.std.specs.List.{fold}
 use Rattle.rv_core.specs.declared.task.End.{End}
 use Rattle.rv_core.specs.Task.{retires_at}
 use Rattle.write_signature.specs.declared.signature.Signature.{Signature}
@@ -8,7 +8,7 @@ use Rattle.write_signature.specs.Signature.{empty}
 use Rattle.word_cache.specs.declared.row.Entry.{Entry}
 use Rattle.registration_protocol.specs.declared.node.NodeWait.{NodeWait}
 use Rattle.registration_protocol.specs.declared.node.NodeWait.TheVariants as wait
-use Rattle.registration_protocol.specs.Node.{NodeParts, entry_of, signature_of}
+use Rattle.registration_protocol.specs.Node.{NodeParts, entry_of}
 use Rattle.run_changes.specs.declared.change.Change.{Change}
 use Rattle.run_changes.specs.declared.change.Change.TheVariants as change
 use Rattle.run_changes.specs.declared.look.EntryBefore.{EntryBefore}
@@ -66,10 +66,20 @@ end_step x (change.Ended by) = Some by
 end_step x (change.Begins q) = None
 end_step x _ = x
 
--- the words that were looked at have their entries before, and every other word's entry stays
+-- each of these words has the entry that a node has of it
+abbrev pub AreEntriesOf : NodeParts → List EntryBefore → Type 0
+AreEntriesOf n [] = Unit {0}
+AreEntriesOf n (e ∷ es) = (e.entry ≡ entry_of n e.word.0) × AreEntriesOf n es
+
+-- whether a word is one of them
+abbrev pub is_among : ℕ → List EntryBefore → Bool
+is_among w [] = false
+is_among w (e ∷ es) = (e.word.0 == w) || is_among w es
+
+-- the words that were looked at had their entries before, and every other word's entry stays
 pub record AreLookedAt (n m : NodeParts) (entries : List EntryBefore) : Type 0 where
-  pub before : All (λ (e : EntryBefore). e.entry ≡ entry_of n e.word.0) entries
-  pub others : (w : ℕ) → Any (λ (e : EntryBefore). e.word.0 ≡ w) entries ⊎ (entry_of m w ≡ entry_of n w)
+  pub before : AreEntriesOf n entries
+  pub others : (w : ℕ) → is_among w entries ≡ false → entry_of m w ≡ entry_of n w
 
 -- changes lead from a node's entries, phase, wait and flags to another's
 pub record LeadOn (n : NodeParts) (changes : List Change) (m : NodeParts) : Type 0 where

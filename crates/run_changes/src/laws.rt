@@ -1,12 +1,20 @@
 //! What an event changes and leaves alone, for whoever goes on from one state to the next by what it is told.
 //! These are laws: functions that do nothing, whose contracts say it.
-ghost use Rattle.std.specs.Prelude.{◌≡◌, ◌≢◌, ◌++◌, Some, slice_get};
+ghost use Rattle.std.specs.Prelude.{◌≡◌, ◌≢◌, ◌++◌, ℕ, List, Option, Some, slice_get};
+ghost use Rattle.std.specs.List.{fold};
 ghost use Rattle.dn_base.specs.declared.ids.BankId.{BankId};
 ghost use Rattle.dn_base.specs.declared.ids.CoreId.{CoreId};
+ghost use Rattle.dn_base.specs.declared.ids.LoadSeen.{LoadSeen};
+ghost use Rattle.rv_core.specs.declared.need.Need.{Need};
 ghost use Rattle.message_net.specs.declared.actor.Actor.{Actor};
 ghost use Rattle.message_net.specs.declared.actor.Actor.TheVariants.{Core, Bank, Keeper};
 ghost use Rattle.message_net.specs.declared.event.Event.{Event};
 ghost use Rattle.message_net.specs.Mail.{mails_of};
+ghost use Rattle.registration_protocol.specs.Node.{NodeParts, entry_of};
+ghost use Rattle.run_changes.specs.declared.look.EntryBefore.{EntryBefore};
+ghost use Rattle.run_changes.specs.Looks.{node_look};
+ghost use Rattle.run_changes.specs.Changes.{core_changes};
+ghost use Rattle.run_changes.specs.Applied.{entry_step, AreLookedAt};
 ghost use Rattle.machine_rules.specs.State.{State};
 ghost use Rattle.machine_rules.specs.Next.{next, next_number};
 ghost use Rattle.dn_machine.specs.Actors.{actor_in};
@@ -24,4 +32,11 @@ pub fn an_event_changes_its_actor_alone()
 pub fn what_is_sent_joins_the_mails()
     ensures { (S : State) (e : Event) (actor : Actor) → actor_in S e ≡ Some actor
         → (next S e).mails ≡ left_in_flight S e ++ mails_of actor (next_number S actor) (sent_in S e) }
+{}
+
+/// The changes of a core, applied one after the other to the entry that it had of a word, give the entry that it has then: they tell what
+/// became of the words that were looked at, where every other word's entry stays.
+pub fn the_changes_of_a_core_lead_on()
+    ensures { (n m : NodeParts) (needs : Option Need) (entries : List EntryBefore) (seen : Option LoadSeen) (w : ℕ) → AreLookedAt n m entries
+        → fold (entry_step w) (entry_of n w) (core_changes (node_look n needs entries) seen (Some m)) ≡ entry_of m w }
 {}
