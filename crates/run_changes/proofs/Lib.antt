@@ -3,3 +3,6 @@ pub mod Listed
 pub mod Made
 mod Sent
 mod Applied
+mod Cached
+mod Looked
+mod Led

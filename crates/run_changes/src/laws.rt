@@ -1,6 +1,6 @@
 //! What an event changes and leaves alone, for whoever goes on from one state to the next by what it is told.
 //! These are laws: functions that do nothing, whose contracts say it.
-ghost use Rattle.std.specs.Prelude.{◌≡◌, ◌≢◌, ◌++◌, ℕ, List, Option, Some, slice_get};
+ghost use Rattle.std.specs.Prelude.{◌≡◌, ◌≢◌, ◌++◌, ℕ, true, List, Option, Some, slice_get};
 ghost use Rattle.std.specs.List.{fold};
 ghost use Rattle.dn_base.specs.declared.ids.BankId.{BankId};
 ghost use Rattle.dn_base.specs.declared.ids.CoreId.{CoreId};
@@ -16,9 +16,10 @@ ghost use Rattle.run_changes.specs.Looks.{node_look};
 ghost use Rattle.run_changes.specs.Changes.{core_changes};
 ghost use Rattle.run_changes.specs.Applied.{entry_step, AreLookedAt};
 ghost use Rattle.machine_rules.specs.State.{State};
-ghost use Rattle.machine_rules.specs.Next.{next, next_number};
+ghost use Rattle.machine_rules.specs.Next.{next, next_number, enabled};
+ghost use Rattle.machine_rules.specs.Sound.{IsMachine};
 ghost use Rattle.dn_machine.specs.Actors.{actor_in};
-ghost use Rattle.run_changes.specs.Events.{left_in_flight, sent_in};
+ghost use Rattle.run_changes.specs.Events.{event_changes, left_in_flight, sent_in};
 
 /// An event changes the state of the actor that makes it, and no other actor's.
 pub fn an_event_changes_its_actor_alone()
@@ -39,4 +40,11 @@ pub fn what_is_sent_joins_the_mails()
 pub fn the_changes_of_a_core_lead_on()
     ensures { (n m : NodeParts) (needs : Option Need) (entries : List EntryBefore) (seen : Option LoadSeen) (w : ℕ) → AreLookedAt n m entries
         → fold (entry_step w) (entry_of n w) (core_changes (node_look n needs entries) seen (Some m)) ≡ entry_of m w }
+{}
+
+/// The changes of an event of a core, applied one after the other to the entry that the core had of a word, give the entry that it has
+/// after the event.
+pub fn a_cores_entries_follow_its_changes()
+    ensures { (S : State) (e : Event) (core : CoreId) (n m : NodeParts) (w : ℕ) → IsMachine S → enabled S e ≡ true → actor_in S e ≡ Some (Core core)
+        → slice_get S.nodes core.0 ≡ Some n → slice_get (next S e).nodes core.0 ≡ Some m → fold (entry_step w) (entry_of n w) (event_changes S e) ≡ entry_of m w }
 {}
