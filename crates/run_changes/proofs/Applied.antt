@@ -30,15 +30,15 @@ use Rattle.run_changes.specs.Applied.{entry_step, phase_step, wait_step, arrived
 
 -- ---- which changes a part of a node's changes has
 
-abbrev Every : {X : Type 0} → (X → Type 0) → List X → Type 0
+abbrev pub Every : {X : Type 0} → (X → Type 0) → List X → Type 0
 Every P [] = Unit {0}
 Every P (x ∷ xs) = P x × Every P xs
 
-all-append : {X : Type 0} (P : X → Type 0) (xs ys : List X) → Every P xs → Every P ys → Every P (xs ++ ys)
+pub all-append : {X : Type 0} (P : X → Type 0) (xs ys : List X) → Every P xs → Every P ys → Every P (xs ++ ys)
 all-append P [] ys a b = b
 all-append P (x ∷ xs) ys a b = (a.0, all-append P xs ys a.1 b)
 
-all-unless : (P : Change → Type 0) (same : Bool) (c : Change) → P c → Every P (change_unless same c)
+pub all-unless : (P : Change → Type 0) (same : Bool) (c : Change) → P c → Every P (change_unless same c)
 all-unless P true c p = tt
 all-unless P false c p = (p, tt)
 
@@ -49,7 +49,7 @@ module _ (P : Change → Type 0) (gone : (w : WordId) → P (change.Gone w)) (ho
   all-entry w None (Some f) = (holds w f, tt)
   all-entry w (Some e) (Some f) = all-unless P (same_entry e f) (change.Holds w f) (holds w f)
 
-  all-entries : (m : NodeParts) (es : List EntryBefore) → Every P (entry_changes m es)
+  pub all-entries : (m : NodeParts) (es : List EntryBefore) → Every P (entry_changes m es)
   all-entries m [] = tt
   all-entries m (e ∷ es) = all-append P (change_before m e) (entry_changes m es) (all-entry e.word e.entry (entry_of m e.word.0)) (all-entries m es)
 
@@ -58,7 +58,7 @@ module _ (P : Change → Type 0) (retired : (pc : ℕ) → P (change.Retired pc)
   all-end t u None = all-unless P (t.retired == u.retired) (change.Retired u.pc) (retired u.pc)
   all-end t u (Some by) = all-unless P _ (change.Ended by) (ended by)
 
-  all-task : (t u : Option TaskState) → Every P (task_change t u)
+  pub all-task : (t u : Option TaskState) → Every P (task_change t u)
   all-task None u = tt
   all-task (Some t) None = tt
   all-task (Some t) (Some u) = all-end t u u.end
@@ -70,13 +70,13 @@ module _ (P : Change → Type 0) (takes : (l : LockId) → P (change.Takes l)) (
   all-hold l true true = tt
   all-hold l false false = tt
 
-  all-locks : (a b : ℕ) (ss : List Signature) (l : ℕ) (ts : List Signature) → Every P (lock_changes a b ss l ts)
+  pub all-locks : (a b : ℕ) (ss : List Signature) (l : ℕ) (ts : List Signature) → Every P (lock_changes a b ss l ts)
   all-locks a b ss l [] = tt
   all-locks a b ss l (t ∷ ts) =
       all-append P (hold_change l (is_held a l) (is_held b l)) _ (all-hold l (is_held a l) (is_held b l))
       (all-append P (sign_change l (slice_index_or ss l t) t) (lock_changes a b ss (l + 1) ts) (all-unless P _ (change.Signed (record { 0 = l }) t) (signed (record { 0 = l }) t)) (all-locks a b ss (l + 1) ts))
 
-all-flag : (P : Change → Type 0) (a b : Bool) (c : Change) → P c → Every P (flag_change a b c)
+pub all-flag : (P : Change → Type 0) (a b : Bool) (c : Change) → P c → Every P (flag_change a b c)
 all-flag P false true c p = (p, tt)
 all-flag P true true c p = tt
 all-flag P true false c p = tt
@@ -102,17 +102,17 @@ module _ (P : Change → Type 0) (loaded : (s : LoadSeen) → P (change.Loaded s
 
 -- ---- steps that a change leaves alone
 
-abbrev Leaves : {X : Type 0} → (X → Change → X) → Change → Type 0
+abbrev pub Leaves : {X : Type 0} → (X → Change → X) → Change → Type 0
 Leaves {X} step c = (x : X) → step x c ≡ x
 
-steady : {X : Type 0} (step : X → Change → X) (x : X) (cs : List Change) → Every (Leaves step) cs → fold step x cs ≡ x
+pub steady : {X : Type 0} (step : X → Change → X) (x : X) (cs : List Change) → Every (Leaves step) cs → fold step x cs ≡ x
 steady step x [] all = refl
 steady step x (c ∷ cs) all = ap (λ y. fold step y cs) (all.0 x) ∙ steady step x cs all.1
 
-skip : {X : Type 0} (step : X → Change → X) (x : X) (cs ds : List Change) → Every (Leaves step) cs → fold step x (cs ++ ds) ≡ fold step x ds
+pub skip : {X : Type 0} (step : X → Change → X) (x : X) (cs ds : List Change) → Every (Leaves step) cs → fold step x (cs ++ ds) ≡ fold step x ds
 skip step x cs ds all = fold-append step x cs ds ∙ ap (λ y. fold step y ds) (steady step x cs all)
 
-behind : {X : Type 0} (step : X → Change → X) (x y : X) (cs ds : List Change) → fold step x cs ≡ y → Every (Leaves step) ds → fold step x (cs ++ ds) ≡ y
+pub behind : {X : Type 0} (step : X → Change → X) (x y : X) (cs ds : List Change) → fold step x cs ≡ y → Every (Leaves step) ds → fold step x (cs ++ ds) ≡ y
 behind step x y cs ds is all = fold-append step x cs ds ∙ steady step (fold step x cs) ds all ∙ is
 
 equal-numbers : (a b : ℕ) → (a == b) ≡ true → a ≡ b
@@ -169,19 +169,19 @@ waits-same (wait.Locking a) (wait.Reading b) e = cc
 waits-same (wait.Locking a) (wait.Filled b) e = cc
 
 -- the change of the wait, and of a flag that only rises
-wait-leads : (a b : NodeWait) → fold wait_step a (wait_change a b) ≡ b
+pub wait-leads : (a b : NodeWait) → fold wait_step a (wait_change a b) ≡ b
 wait-leads a b = by_test (same_wait a b) refl where
   by_test : (t : Bool) → same_wait a b ≡ t → fold wait_step a (change_unless t (change.Waits b)) ≡ b
   by_test true e = waits-same a b e
   by_test false e = refl
 
-arrived-leads : (a b : Bool) → (a ≡ true → b ≡ true) → fold arrived_step a (flag_change a b change.Arrived) ≡ b
+pub arrived-leads : (a b : Bool) → (a ≡ true → b ≡ true) → fold arrived_step a (flag_change a b change.Arrived) ≡ b
 arrived-leads false true rises = refl
 arrived-leads false false rises = refl
 arrived-leads true true rises = refl
 arrived-leads true false rises = sym (rises refl)
 
-halted-leads : (a b : Bool) → (a ≡ true → b ≡ true) → fold halted_step a (flag_change a b change.Halted) ≡ b
+pub halted-leads : (a b : Bool) → (a ≡ true → b ≡ true) → fold halted_step a (flag_change a b change.Halted) ≡ b
 halted-leads false true rises = refl
 halted-leads false false rises = refl
 halted-leads true true rises = refl
@@ -244,7 +244,7 @@ module _ (n m : NodeParts) (w : ℕ) where
 -- ---- a whole node
 
 module _ (n m : NodeParts) (es : List EntryBefore) (rest : List Change) where
-  abbrev parts : List Change
+  abbrev pub parts : List Change
   parts =
       task_change n.task m.task
       ++ (wait_change n.waiting m.waiting
@@ -253,7 +253,7 @@ module _ (n m : NodeParts) (es : List EntryBefore) (rest : List Change) where
 
   -- a step that leaves all changes of a node's parts alone
   module _ {X : Type 0} (step : X → Change → X) where
-    leaves-parts : ((pc : ℕ) → Leaves step (change.Retired pc)) → ((by : End) → Leaves step (change.Ended by)) → ((x : NodeWait) → Leaves step (change.Waits x))
+    pub leaves-parts : ((pc : ℕ) → Leaves step (change.Retired pc)) → ((by : End) → Leaves step (change.Ended by)) → ((x : NodeWait) → Leaves step (change.Waits x))
         → ((l : LockId) → Leaves step (change.Takes l)) → ((l : LockId) → Leaves step (change.Gives l)) → ((l : LockId) (s : Signature) → Leaves step (change.Signed l s))
         → Leaves step change.Arrived → Leaves step change.Halted → Every (Leaves step) parts
     leaves-parts retired ended waits takes gives signed arrived halted =
@@ -276,7 +276,7 @@ entries-of-node n m needs es w looked = by_test (n.phase == m.phase) where
       (leaves-parts n m es [] (entry_step w) (λ pc x. refl) (λ by x. refl) (λ y x. refl) (λ l x. refl) (λ l x. refl) (λ l s x. refl) (λ x. refl) (λ x. refl))
   by_test false = swept
 
-told-all : {X : Type 0} (step : X → Change → X) (n m : NodeParts) (needs : Option Need) (es : List EntryBefore) (seen : Option LoadSeen) → ((s : LoadSeen) → Leaves step (change.Loaded s)) → ((w : WordId) (v : ℕ) → Leaves step (change.Stored w v))
+pub told-all : {X : Type 0} (step : X → Change → X) (n m : NodeParts) (needs : Option Need) (es : List EntryBefore) (seen : Option LoadSeen) → ((s : LoadSeen) → Leaves step (change.Loaded s)) → ((w : WordId) (v : ℕ) → Leaves step (change.Stored w v))
     → Every (Leaves step) (load_change seen ++ store_change (node_look n needs es) m needs)
 told-all step n m needs es seen loaded stored =
     all-append (Leaves step) (load_change seen) _ (all-load (Leaves step) loaded stored seen) (all-store (Leaves step) loaded stored (node_look n needs es) m needs)

@@ -6,3 +6,4 @@ mod Applied
 mod Cached
 mod Looked
 mod Led
+mod Status

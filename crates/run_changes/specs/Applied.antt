@@ -81,9 +81,8 @@ pub record AreLookedAt (n m : NodeParts) (entries : List EntryBefore) : Type 0 w
   pub before : AreEntriesOf n entries
   pub others : (w : ℕ) → is_among w entries ≡ false → entry_of m w ≡ entry_of n w
 
--- changes lead from a node's entries, phase, wait and flags to another's
-pub record LeadOn (n : NodeParts) (changes : List Change) (m : NodeParts) : Type 0 where
-  pub entries : (w : ℕ) → fold (entry_step w) (entry_of n w) changes ≡ entry_of m w
+-- changes lead from a core's phase, wait and flags to another's
+pub record StatusFollows (n : NodeParts) (changes : List Change) (m : NodeParts) : Type 0 where
   pub phase : fold phase_step n.phase changes ≡ m.phase
   pub waiting : fold wait_step n.waiting changes ≡ m.waiting
   pub arrived : fold arrived_step n.arrived changes ≡ m.arrived

@@ -14,7 +14,7 @@ ghost use Rattle.registration_protocol.specs.Node.{NodeParts, entry_of};
 ghost use Rattle.run_changes.specs.declared.look.EntryBefore.{EntryBefore};
 ghost use Rattle.run_changes.specs.Looks.{node_look};
 ghost use Rattle.run_changes.specs.Changes.{core_changes};
-ghost use Rattle.run_changes.specs.Applied.{entry_step, AreLookedAt};
+ghost use Rattle.run_changes.specs.Applied.{entry_step, AreLookedAt, StatusFollows};
 ghost use Rattle.machine_rules.specs.State.{State};
 ghost use Rattle.machine_rules.specs.Next.{next, next_number, enabled};
 ghost use Rattle.machine_rules.specs.Sound.{IsMachine};
@@ -47,4 +47,11 @@ pub fn the_changes_of_a_core_lead_on()
 pub fn a_cores_entries_follow_its_changes()
     ensures { (S : State) (e : Event) (core : CoreId) (n m : NodeParts) (w : ℕ) → IsMachine S → enabled S e ≡ true → actor_in S e ≡ Some (Core core)
         → slice_get S.nodes core.0 ≡ Some n → slice_get (next S e).nodes core.0 ≡ Some m → fold (entry_step w) (entry_of n w) (event_changes S e) ≡ entry_of m w }
+{}
+
+/// The changes of an event of a core, applied one after the other, lead from its phase, its wait and its flags before the event to those
+/// after it.
+pub fn a_cores_status_follows_its_changes()
+    ensures { (S : State) (e : Event) (core : CoreId) (n m : NodeParts) → IsMachine S → enabled S e ≡ true → actor_in S e ≡ Some (Core core)
+        → slice_get S.nodes core.0 ≡ Some n → slice_get (next S e).nodes core.0 ≡ Some m → StatusFollows n (event_changes S e) m }
 {}
