@@ -7,3 +7,4 @@ mod Cached
 mod Looked
 mod Led
 mod Status
+mod Homes

@@ -6,6 +6,7 @@ use Rattle.rv_core.specs.Task.{retires_at}
 use Rattle.write_signature.specs.declared.signature.Signature.{Signature}
 use Rattle.write_signature.specs.Signature.{empty}
 use Rattle.word_cache.specs.declared.row.Entry.{Entry}
+use Rattle.registry_bank.specs.declared.bank.BankWord.{BankWord}
 use Rattle.registration_protocol.specs.declared.node.NodeWait.{NodeWait}
 use Rattle.registration_protocol.specs.declared.node.NodeWait.TheVariants as wait
 use Rattle.registration_protocol.specs.Node.{NodeParts, entry_of}
@@ -80,6 +81,11 @@ is_among w (e ∷ es) = (e.word.0 == w) || is_among w es
 pub record AreLookedAt (n m : NodeParts) (entries : List EntryBefore) : Type 0 where
   pub before : AreEntriesOf n entries
   pub others : (w : ℕ) → is_among w entries ≡ false → entry_of m w ≡ entry_of n w
+
+-- what a word's home has for it
+abbrev pub home_step : ℕ → Option BankWord → Change → Option BankWord
+home_step w x (change.Home word there) = if word.0 == w then Some there else x
+home_step w x _ = x
 
 -- changes lead from a core's phase, wait and flags to another's
 pub record StatusFollows (n : NodeParts) (changes : List Change) (m : NodeParts) : Type 0 where

@@ -10,11 +10,12 @@ ghost use Rattle.message_net.specs.declared.actor.Actor.{Actor};
 ghost use Rattle.message_net.specs.declared.actor.Actor.TheVariants.{Core, Bank, Keeper};
 ghost use Rattle.message_net.specs.declared.event.Event.{Event};
 ghost use Rattle.message_net.specs.Mail.{mails_of};
+ghost use Rattle.registry_bank.specs.Bank.{BankParts, bank_word};
 ghost use Rattle.registration_protocol.specs.Node.{NodeParts, entry_of};
 ghost use Rattle.run_changes.specs.declared.look.EntryBefore.{EntryBefore};
 ghost use Rattle.run_changes.specs.Looks.{node_look};
 ghost use Rattle.run_changes.specs.Changes.{core_changes};
-ghost use Rattle.run_changes.specs.Applied.{entry_step, AreLookedAt, StatusFollows};
+ghost use Rattle.run_changes.specs.Applied.{entry_step, home_step, AreLookedAt, StatusFollows};
 ghost use Rattle.machine_rules.specs.State.{State};
 ghost use Rattle.machine_rules.specs.Next.{next, next_number, enabled};
 ghost use Rattle.machine_rules.specs.Sound.{IsMachine};
@@ -54,4 +55,10 @@ pub fn a_cores_entries_follow_its_changes()
 pub fn a_cores_status_follows_its_changes()
     ensures { (S : State) (e : Event) (core : CoreId) (n m : NodeParts) → IsMachine S → enabled S e ≡ true → actor_in S e ≡ Some (Core core)
         → slice_get S.nodes core.0 ≡ Some n → slice_get (next S e).nodes core.0 ≡ Some m → StatusFollows n (event_changes S e) m }
+{}
+
+/// The changes of an event of a bank, applied one after the other to what the bank had for a word, give what it has after the event.
+pub fn a_banks_words_follow_its_changes()
+    ensures { (S : State) (e : Event) (bank : BankId) (b c : BankParts) (w : ℕ) → IsMachine S → enabled S e ≡ true → actor_in S e ≡ Some (Bank bank)
+        → slice_get S.banks bank.0 ≡ Some b → slice_get (next S e).banks bank.0 ≡ Some c → fold (home_step w) (bank_word b w) (event_changes S e) ≡ bank_word c w }
 {}
