@@ -6,6 +6,7 @@ use Rattle.std.specs.List.{fold}
 use Rattle.dn_base.specs.declared.ids.CoreId.{CoreId}
 use Rattle.dn_base.specs.declared.ids.WordId.{WordId}
 use Rattle.rv_core.specs.declared.need.Need.{Need}
+use Rattle.rv_core.specs.declared.task.TaskState.{TaskState}
 use Rattle.message_net.specs.declared.actor.Actor.{Actor}
 use Rattle.message_net.specs.declared.actor.Actor.TheVariants.{Core}
 use Rattle.message_net.specs.declared.actor.MailId.{MailId}
@@ -28,9 +29,10 @@ use Rattle.run_changes.specs.declared.look.Look.TheVariants.{Node}
 use Rattle.run_changes.specs.Looks.{node_look, words_needed, words_of_message, entry_before, look_at}
 use Rattle.run_changes.specs.Changes.{core_changes, changes_by}
 use Rattle.run_changes.specs.Events.{event_changes}
-use Rattle.run_changes.specs.Applied.{entry_step, AreLookedAt, StatusFollows}
+use Rattle.run_changes.specs.Applied.{entry_step, AreLookedAt, StatusFollows, TaskFollows}
 use Rattle.run_changes.proofs.Applied.{entries-lead}
 use Rattle.run_changes.proofs.Status.{StatusMoves, status-leads, moves-instr, moves-evict, moves-arrive, moves-message}
+use Rattle.run_changes.proofs.Task.{TaskMoves, task-leads, tasks-instr, tasks-evict, tasks-arrive, tasks-message}
 use Rattle.run_changes.proofs.Looked.{looked-instr, looked-evict, looked-arrive, looked-message}
 
 -- a core that was looked at so: the words that weren't looked at stay, and its flags move as they may
@@ -42,6 +44,7 @@ record IsLook (S : State) (e : Event) (c : CoreId) (n : NodeParts) : Type 0 wher
   there : slice_get (next S e).nodes c.0 ≡ Some after
   looked : AreLookedAt n after words
   moves : StatusMoves n after
+  tasks : TaskMoves n after
 
 by-look : (S : State) (e : Event) (c : CoreId) (n m : NodeParts) (needs : Option Need) (es : List EntryBefore) → look_at S e ≡ Node c (node_look n needs es) → slice_get (next S e).nodes c.0 ≡ Some m
     → event_changes S e ≡ core_changes (node_look n needs es) (seen_in S e) (Some m)
@@ -72,6 +75,7 @@ own-instr S c n may found =
       there = left-there c.0 n (instructed S.setting n).0 (instr-step S c n found);
       looked = looked-instr S.setting n (ready S c n may found);
       moves = moves-instr S.setting n;
+      tasks = tasks-instr S.setting n (ready S c n may found);
     }
 
 looks-evict : (S : State) (c : CoreId) (word : WordId) (n : NodeParts) → slice_get S.nodes c.0 ≡ Some n → look_at S (Evict c word) ≡ Node c (node_look n None (entry_before n word ∷ []))
@@ -88,6 +92,7 @@ own-evict S c word n found =
       there = left-there c.0 n (evicted S.setting n word).0 (evict-step S c word n found);
       looked = looked-evict S.setting n word;
       moves = moves-evict S.setting n word;
+      tasks = tasks-evict S.setting n word;
     }
 
 looks-arrive : (S : State) (c : CoreId) (n : NodeParts) → slice_get S.nodes c.0 ≡ Some n → look_at S (Arrive c) ≡ Node c (node_look n None [])
@@ -104,6 +109,7 @@ own-arrive S c n found =
       there = left-there c.0 n (arrives n).0 (arrive-step S c n found);
       looked = looked-arrive n;
       moves = moves-arrive n;
+      tasks = tasks-arrive n;
     }
 
 looks-mail : (S : State) (id : MailId) (m : Mail) (c : CoreId) (n : NodeParts) → (removed id S.mails).0 ≡ Some m → m.to ≡ Core c → slice_get S.nodes c.0 ≡ Some n
@@ -123,6 +129,7 @@ by-mail S id m c n machine h to found =
       there = left-there c.0 n (node_gets S.setting n m.message).0 (core-step S id m c n h to found);
       looked = looked-message S.setting n m.message fits.cache some;
       moves = moves-message S.setting n m.message;
+      tasks = tasks-message S.setting n m.message fits.waiting;
     }
 
 -- the core of an actor, or this one
@@ -156,3 +163,12 @@ pub followed : (S : State) (e : Event) (c : CoreId) (n : NodeParts) → IsMachin
 followed S e c n machine may is found k here =
     let l = is-look S e c n machine may is found in
     rw (by-look S e c n l.after l.needs l.words l.look l.there, ← same_Some l.after k (sym l.there ∙ here)) (status-leads n l.after l.needs l.words (seen_in S e) l.moves)
+
+-- the task
+pub tasked : (S : State) (e : Event) (c : CoreId) (n : NodeParts) → IsMachine S → enabled S e ≡ true → actor_in S e ≡ Some (Core c) → slice_get S.nodes c.0 ≡ Some n
+    → (k : NodeParts) → slice_get (next S e).nodes c.0 ≡ Some k → (t u : TaskState) → k.phase ≡ n.phase → n.task ≡ Some t → k.task ≡ Some u → TaskFollows t (event_changes S e) u
+tasked S e c n machine may is found k here t u stays has leaves =
+    let l = is-look S e c n machine may is found in
+    let one : l.after ≡ k = same_Some l.after k (sym l.there ∙ here) in
+    let phase : (n.phase == l.after.phase) ≡ true = grind (arith, nat_tests, one, stays) in
+    rw (by-look S e c n l.after l.needs l.words l.look l.there) (task-leads n l.after l.needs l.words (seen_in S e) t u l.tasks phase has (ap (λ (x : NodeParts). x.task) one ∙ leaves))

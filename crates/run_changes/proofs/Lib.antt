@@ -7,4 +7,5 @@ mod Cached
 mod Looked
 mod Led
 mod Status
+mod Task
 mod Homes

@@ -75,7 +75,7 @@ module _ (n m : NodeParts) (es : List EntryBefore) where
 -- ---- a whole node
 
 -- whether the phase is the same decides
-by-phase : {X : Type 0} (step : X → Change → X) (x y : X) (n m : NodeParts) (needs : Option Need) (es : List EntryBefore)
+pub by-phase : {X : Type 0} (step : X → Change → X) (x y : X) (n m : NodeParts) (needs : Option Need) (es : List EntryBefore)
     → ((n.phase == m.phase) ≡ true → fold step x (entry_changes m es ++ parts n m es []) ≡ y)
     → ((n.phase == m.phase) ≡ false → fold step (step x (change.Begins (record { 0 = m.phase }))) (entry_changes m es) ≡ y) → fold step x (node_changes (node_look n needs es) m) ≡ y
 unfolding node_changes

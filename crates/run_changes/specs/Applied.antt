@@ -2,6 +2,7 @@
 use Rattle.std.specs.Prelude.{◌≡◌, ℕ, ◌+◌, ◌==◌, ◌||◌, Bool, true, false, List, [], ◌∷◌, Option, Some, None, if◌then◌else◌}
 use Rattle.std.specs.List.{fold}
 use Rattle.rv_core.specs.declared.task.End.{End}
+use Rattle.rv_core.specs.declared.task.TaskState.{TaskState}
 use Rattle.rv_core.specs.Task.{retires_at}
 use Rattle.write_signature.specs.declared.signature.Signature.{Signature}
 use Rattle.write_signature.specs.Signature.{empty}
@@ -54,7 +55,12 @@ hold_step l x (change.Gives lock) = if lock.0 == l then false else x
 hold_step l x (change.Begins q) = false
 hold_step l x _ = x
 
--- how many instructions have retired, and how the task has ended
+-- the pc of a task that a phase has begun, how many instructions have retired, and how the task has ended
+abbrev pub pc_step : ℕ → Change → ℕ
+pc_step x (change.Retired pc) = pc
+pc_step x (change.At pc retired) = pc
+pc_step x _ = x
+
 abbrev pub retired_step : ℕ → Change → ℕ
 retired_step n (change.Retired pc) = n + 1
 retired_step n (change.At pc retired) = retired
@@ -93,3 +99,9 @@ pub record StatusFollows (n : NodeParts) (changes : List Change) (m : NodeParts)
   pub waiting : fold wait_step n.waiting changes ≡ m.waiting
   pub arrived : fold arrived_step n.arrived changes ≡ m.arrived
   pub halted : fold halted_step n.halted changes ≡ m.halted
+
+-- changes lead from a task's pc, its retired instructions and its end to another's
+pub record TaskFollows (t : TaskState) (changes : List Change) (u : TaskState) : Type 0 where
+  pub pc : fold pc_step t.pc changes ≡ u.pc
+  pub retired : fold retired_step t.retired changes ≡ u.retired
+  pub end : fold end_step t.end changes ≡ u.end

@@ -6,6 +6,7 @@ ghost use Rattle.dn_base.specs.declared.ids.BankId.{BankId};
 ghost use Rattle.dn_base.specs.declared.ids.CoreId.{CoreId};
 ghost use Rattle.dn_base.specs.declared.ids.LoadSeen.{LoadSeen};
 ghost use Rattle.rv_core.specs.declared.need.Need.{Need};
+ghost use Rattle.rv_core.specs.declared.task.TaskState.{TaskState};
 ghost use Rattle.message_net.specs.declared.actor.Actor.{Actor};
 ghost use Rattle.message_net.specs.declared.actor.Actor.TheVariants.{Core, Bank, Keeper};
 ghost use Rattle.message_net.specs.declared.event.Event.{Event};
@@ -15,7 +16,7 @@ ghost use Rattle.registration_protocol.specs.Node.{NodeParts, entry_of};
 ghost use Rattle.run_changes.specs.declared.look.EntryBefore.{EntryBefore};
 ghost use Rattle.run_changes.specs.Looks.{node_look};
 ghost use Rattle.run_changes.specs.Changes.{core_changes};
-ghost use Rattle.run_changes.specs.Applied.{entry_step, home_step, AreLookedAt, StatusFollows};
+ghost use Rattle.run_changes.specs.Applied.{entry_step, home_step, AreLookedAt, StatusFollows, TaskFollows};
 ghost use Rattle.machine_rules.specs.State.{State};
 ghost use Rattle.machine_rules.specs.Next.{next, next_number, enabled};
 ghost use Rattle.machine_rules.specs.Sound.{IsMachine};
@@ -55,6 +56,14 @@ pub fn a_cores_entries_follow_its_changes()
 pub fn a_cores_status_follows_its_changes()
     ensures { (S : State) (e : Event) (core : CoreId) (n m : NodeParts) → IsMachine S → enabled S e ≡ true → actor_in S e ≡ Some (Core core)
         → slice_get S.nodes core.0 ≡ Some n → slice_get (next S e).nodes core.0 ≡ Some m → StatusFollows n (event_changes S e) m }
+{}
+
+/// The changes of an event of a core that stays in its phase, applied one after the other, lead from its task's pc, its retired instructions
+/// and its end before the event to those after it. Where a phase begins the program tells the task.
+pub fn a_cores_task_follows_its_changes()
+    ensures { (S : State) (e : Event) (core : CoreId) (n m : NodeParts) (t u : TaskState) → IsMachine S → enabled S e ≡ true → actor_in S e ≡ Some (Core core)
+        → slice_get S.nodes core.0 ≡ Some n → slice_get (next S e).nodes core.0 ≡ Some m → m.phase ≡ n.phase → n.task ≡ Some t → m.task ≡ Some u
+        → TaskFollows t (event_changes S e) u }
 {}
 
 /// The changes of an event of a bank, applied one after the other to what the bank had for a word, give what it has after the event.
