@@ -1,12 +1,10 @@
 -- The changes of a node, applied to what it was, give what it is.
-use Rattle.std.proofs.Common.{◌≡◌, ◌⊎◌, ℕ, ◌+◌, ◌==◌, Bool, true, false, cond, ◌&&◌, ◌||◌, List, [], ◌∷◌, ◌++◌, length, flat_map, slice_index_or, Option, Some, None, refl, sym, ap, ◌∙◌, arith}
+use Rattle.std.proofs.Common.{◌≡◌, ◌⊎◌, ℕ, ◌+◌, ◌==◌, Bool, true, false, cond, List, [], ◌∷◌, ◌++◌, slice_index_or, Option, Some, None, refl, sym, ap, ◌∙◌, arith}
 use mathlib.Core.Logic.{inl, inr}
 use Rattle.std.specs.List.{fold}
 use Rattle.std.proofs.lemmas.Bool.Decides.{nat_tests}
 use Rattle.std.proofs.lemmas.List.Sums.{fold-append}
-use Rattle.dn_base.specs.declared.ids.CoreId.{CoreId}
 use Rattle.dn_base.specs.declared.ids.LockId.{LockId}
-use Rattle.dn_base.specs.declared.ids.PhaseId.{PhaseId}
 use Rattle.dn_base.specs.declared.ids.WordId.{WordId}
 use Rattle.dn_base.specs.declared.ids.LoadSeen.{LoadSeen}
 use Rattle.rv_core.specs.declared.need.Need.{Need}
@@ -25,8 +23,8 @@ use Rattle.run_changes.specs.declared.change.Change.TheVariants as change
 use Rattle.run_changes.specs.declared.look.EntryBefore.{EntryBefore}
 use Rattle.run_changes.specs.declared.look.NodeLook.{NodeLook}
 use Rattle.run_changes.specs.Looks.{node_look}
-use Rattle.run_changes.specs.Changes.{change_unless, same_entry, entry_change, change_before, entry_changes, end_change, task_change, locks_held, same_wait, wait_change, hold_change, sign_change, lock_changes, flag_change, part_changes, node_changes, load_change, has_retired, store_change, core_changes}
-use Rattle.run_changes.specs.Applied.{entry_step, phase_step, wait_step, arrived_step, halted_step, AreEntriesOf, is_among, AreLookedAt}
+use Rattle.run_changes.specs.Changes.{change_unless, same_entry, entry_change, change_before, entry_changes, end_change, task_change, locks_held, same_wait, wait_change, hold_change, sign_change, lock_changes, flag_change, node_changes, load_change, has_retired, store_change, core_changes}
+use Rattle.run_changes.specs.Applied.{entry_step, wait_step, arrived_step, halted_step, AreEntriesOf, is_among, AreLookedAt}
 
 -- ---- which changes a part of a node's changes has
 

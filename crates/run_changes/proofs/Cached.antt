@@ -3,10 +3,10 @@ use Rattle.std.proofs.Common.{◌≡◌, ℕ, zero, suc, ◌+◌, ◌%◌, ◌<�
 use Rattle.std.specs.List.{filter}
 use Rattle.std.proofs.lemmas.Bool.Decides.{nat_tests}
 use Rattle.std.proofs.lemmas.Nat.{mod_below}
-use Rattle.std.proofs.lemmas.Option.{none-some, same_Some}
+use Rattle.std.proofs.lemmas.Option.{none-some}
 use Rattle.word_cache.specs.declared.row.Entry.{Entry}
 use Rattle.word_cache.specs.Cache.{Cache, Pair, in_set, lookup, AreDifferent}
-use Rattle.registration_protocol.specs.Node.{NodeParts, entry_of}
+use Rattle.registration_protocol.specs.Node.{NodeParts}
 use Rattle.run_changes.specs.declared.look.EntryBefore.{EntryBefore}
 use Rattle.run_changes.specs.Looks.{pair_before, cached_from, cached}
 use Rattle.run_changes.specs.Applied.{AreEntriesOf, is_among}

@@ -1,8 +1,7 @@
 -- The changes of an event lead from what its bank had for its words to what it has.
-use Rattle.std.proofs.Common.{◌≡◌, ℕ, ◌<◌, ◌==◌, nat_lt, Bool, true, false, cond, length, List, [], ◌∷◌, ◌++◌, slice_get, Option, Some, None, refl, sym, ap, ◌∙◌, arith}
+use Rattle.std.proofs.Common.{◌≡◌, ℕ, ◌<◌, ◌==◌, nat_lt, Bool, true, false, cond, length, slice_get, Option, Some, None, refl, sym, ap, ◌∙◌, arith}
 use Rattle.std.proofs.lemmas.Bool.Decides.{nat_tests}
 use Rattle.std.proofs.lemmas.Option.{same_Some}
-use Rattle.std.proofs.lemmas.List.Sums.{fold-append}
 use Rattle.std.specs.List.{fold}
 use Rattle.dn_base.specs.declared.ids.BankId.{BankId}
 use Rattle.dn_base.specs.declared.ids.CoreId.{CoreId}
@@ -10,7 +9,6 @@ use Rattle.dn_base.specs.declared.ids.LoadSeen.{LoadSeen}
 use Rattle.dn_base.specs.declared.ids.LockId.{LockId}
 use Rattle.dn_base.specs.declared.ids.WordId.{WordId}
 use Rattle.write_signature.specs.declared.signature.Signature.{Signature}
-use Rattle.message_net.specs.declared.actor.Actor.{Actor}
 use Rattle.message_net.specs.declared.actor.Actor.TheVariants.{Core, Bank}
 use Rattle.message_net.specs.declared.actor.MailId.{MailId}
 use Rattle.message_net.specs.declared.event.Event.{Event}
@@ -23,17 +21,15 @@ use Rattle.message_net.specs.Pool.{removed}
 use Rattle.queue_lock.specs.Lock.{Lock}
 use Rattle.registry_bank.specs.declared.bank.BankWord.{BankWord}
 use Rattle.registry_bank.specs.declared.bank.BankWord.TheVariants.{Home, Reg}
-use Rattle.registry_bank.specs.Bank.{BankParts, IsBank, bank_word, bank_lock, with_word, reads, registers, takes_back, acquires, releases, from_core, is_same_core, bank_gets}
+use Rattle.registry_bank.specs.Bank.{BankParts, bank_word, bank_lock, with_word, reads, registers, takes_back, acquires, releases, from_core, is_same_core, bank_gets}
 use Rattle.registry_bank.proofs.ChangeLemmas.{word-changed}
 use Rattle.machine_rules.specs.State.{State, lock_in}
 use Rattle.machine_rules.specs.Next.{next, enabled, seen_in}
 use Rattle.machine_rules.specs.Sound.{IsMachine}
-use Rattle.machine_rules.proofs.Steps.{BankStep, Handled, handled, bank-step}
+use Rattle.machine_rules.proofs.Steps.{Handled, handled, bank-step}
 use Rattle.dn_machine.specs.Actors.{actor_in}
-use Rattle.run_changes.specs.declared.change.Change.{Change}
 use Rattle.run_changes.specs.declared.change.Change.TheVariants as change
 use Rattle.run_changes.specs.declared.look.LockLook.{LockLook}
-use Rattle.run_changes.specs.declared.look.Look.{Look}
 use Rattle.run_changes.specs.Looks.{bank_look, lock_look, look_at}
 use Rattle.run_changes.specs.Changes.{change_unless, same_content, home_change, same_queue, queue_change, changes_by}
 use Rattle.run_changes.specs.Events.{event_changes}

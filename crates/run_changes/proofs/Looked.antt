@@ -1,8 +1,5 @@
 -- What is looked at before an event is all of a cache that the event may change.
-use Rattle.std.proofs.Common.{◌≡◌, ℕ, ◌+◌, ◌<◌, ◌==◌, ◌||◌, ◌&&◌, not, nat_lt, Bool, true, false, cond, length, List, [], ◌∷◌, slice_get, Option, Some, None, refl, sym, ap, ◌∙◌, arith}
-use Rattle.std.proofs.lemmas.Bool.Decides.{nat_tests}
-use Rattle.std.proofs.lemmas.Option.{same_Some}
-use Rattle.std.specs.List.{fold}
+use Rattle.std.proofs.Common.{◌≡◌, ℕ, ◌+◌, ◌<◌, ◌==◌, ◌||◌, ◌&&◌, not, nat_lt, Bool, true, false, cond, length, [], ◌∷◌, slice_get, Option, Some, None, refl, sym, ap, ◌∙◌}
 use Rattle.dn_base.specs.declared.ids.CoreId.{CoreId}
 use Rattle.dn_base.specs.declared.ids.WordId.{WordId}
 use Rattle.dn_base.specs.declared.ids.LockId.{LockId}
@@ -11,13 +8,8 @@ use Rattle.rv_core.specs.declared.need.Need.{Need}
 use Rattle.rv_core.specs.declared.need.Need.TheVariants as need
 use Rattle.rv_core.specs.declared.task.TaskState.{TaskState}
 use Rattle.write_signature.specs.declared.signature.Signature.{Signature}
-use Rattle.message_net.specs.declared.actor.Actor.TheVariants.{Core}
-use Rattle.message_net.specs.declared.event.Event.{Event}
-use Rattle.message_net.specs.declared.event.Event.TheVariants.{Instr, Evict, Arrive, Handle}
-use Rattle.message_net.specs.declared.message.Mail.{Mail}
 use Rattle.message_net.specs.declared.message.Message.{Message}
 use Rattle.message_net.specs.declared.message.Message.TheVariants as message
-use Rattle.message_net.specs.Pool.{removed}
 use Rattle.word_cache.specs.declared.row.Entry.{Entry}
 use Rattle.word_cache.specs.declared.row.Entry.TheVariants.{Valid}
 use Rattle.word_cache.specs.Cache.{has_room, put, IsCache, entry_after_grant, entry_after_phase}
@@ -32,9 +24,8 @@ use Rattle.registration_protocol.specs.Parts.{Instructs, accessed}
 use Rattle.registration_protocol.proofs.EntryLemmas.{gets-ack, gets-forward, gets-back, gets-read, evict-entry}
 use Rattle.registration_protocol.proofs.MessageLemmas.{grant-entries, begin-entries}
 use Rattle.registration_protocol.proofs.InstrLemmas.{may-instruct, instructed-is, instr-parts}
-use Rattle.run_changes.specs.declared.look.EntryBefore.{EntryBefore}
 use Rattle.run_changes.specs.Looks.{entry_before, words_needed, words_of_message, cached}
-use Rattle.run_changes.specs.Applied.{is_among, AreLookedAt}
+use Rattle.run_changes.specs.Applied.{AreLookedAt}
 use Rattle.run_changes.proofs.Cached.{cached-entries, cached-others}
 
 not-first : (a b : Bool) → (a || b) ≡ false → a ≡ false

@@ -1,5 +1,5 @@
 -- The changes of an event lead from the phase, the wait and the flags that its core had to those that it has.
-use Rattle.std.proofs.Common.{◌≡◌, ℕ, ◌+◌, ◌==◌, ◌&&◌, not, nat_lt, Bool, true, false, cond, length, List, [], ◌∷◌, ◌++◌, slice_get, Option, Some, None, refl, sym, ap, ◌∙◌, arith}
+use Rattle.std.proofs.Common.{◌≡◌, ℕ, ◌+◌, ◌==◌, ◌&&◌, not, nat_lt, Bool, true, false, cond, length, List, [], ◌∷◌, ◌++◌, Option, Some, refl, sym, ◌∙◌, arith}
 use Rattle.std.proofs.lemmas.Bool.Decides.{nat_tests}
 use Rattle.std.specs.List.{fold}
 use Rattle.dn_base.specs.declared.ids.LockId.{LockId}
@@ -12,15 +12,15 @@ use Rattle.registration_protocol.specs.declared.node.NodeWait.TheVariants as wai
 use Rattle.registration_protocol.specs.Node.{NodeParts, Setting}
 use Rattle.registration_protocol.specs.OwnEvents.{instructed, evicted, arrives}
 use Rattle.registration_protocol.specs.Messages.{node_gets, go_row, halt_row, begins, becomes}
-use Rattle.registration_protocol.specs.Changes.{KeepsPhase, KeepsTask}
+use Rattle.registration_protocol.specs.Changes.{KeepsPhase}
 use Rattle.registration_protocol.proofs.PhaseLemmas.{instr-phase, evict-keeps, gets-phase}
 use Rattle.run_changes.specs.declared.change.Change.{Change}
 use Rattle.run_changes.specs.declared.change.Change.TheVariants as change
 use Rattle.run_changes.specs.declared.look.EntryBefore.{EntryBefore}
 use Rattle.run_changes.specs.Looks.{node_look}
-use Rattle.run_changes.specs.Changes.{entry_changes, task_change, wait_change, same_wait, locks_held, lock_changes, flag_change, node_changes, core_changes, load_change, store_change}
+use Rattle.run_changes.specs.Changes.{entry_changes, task_change, wait_change, same_wait, locks_held, lock_changes, flag_change, node_changes, core_changes}
 use Rattle.run_changes.specs.Applied.{phase_step, wait_step, arrived_step, halted_step, StatusFollows}
-use Rattle.run_changes.proofs.Applied.{Every, Leaves, all-append, all-entries, all-task, all-locks, all-flag, all-unless, steady, skip, behind, told-all, wait-leads, arrived-leads, halted-leads, parts, leaves-parts}
+use Rattle.run_changes.proofs.Applied.{Leaves, all-append, all-entries, all-task, all-locks, all-flag, all-unless, steady, skip, behind, told-all, wait-leads, arrived-leads, halted-leads, parts, leaves-parts}
 
 -- what an event does to the flags of a node that stays in its phase, and to one for which a phase begins
 pub record StatusMoves (n m : NodeParts) : Type 0 where

@@ -1,5 +1,5 @@
 -- The changes of an event lead from the task that its core had to the one that it has, where its phase stays.
-use Rattle.std.proofs.Common.{◌≡◌, ℕ, ◌+◌, ◌<◌, ◌==◌, ◌&&◌, not, nat_lt, Bool, true, false, cond, length, List, [], ◌∷◌, ◌++◌, Option, Some, None, refl, sym, ap, subst, ◌∙◌, arith}
+use Rattle.std.proofs.Common.{◌≡◌, ℕ, ◌+◌, ◌==◌, ◌&&◌, not, nat_lt, Bool, true, false, cond, length, List, [], ◌++◌, Option, Some, None, refl, sym, ap, subst, ◌∙◌, arith}
 use Rattle.std.proofs.lemmas.Bool.Decides.{nat_tests}
 use Rattle.std.proofs.lemmas.Option.{same_Some}
 use Rattle.std.specs.Option.{is_some}
@@ -26,11 +26,11 @@ use Rattle.word_cache.specs.declared.row.Entry.TheVariants.{Valid, Registered, L
 use Rattle.word_cache.specs.Cache.{has_room, put}
 use Rattle.registration_protocol.specs.declared.node.NodeWait.{NodeWait}
 use Rattle.registration_protocol.specs.declared.node.NodeWait.TheVariants as wait
-use Rattle.registration_protocol.specs.Fit.{Fits, NeedsLock}
+use Rattle.registration_protocol.specs.Fit.{NeedsLock}
 use Rattle.registration_protocol.specs.Node.{NodeParts, Setting, need_now, entry_of, keeping}
-use Rattle.registration_protocol.specs.OwnEvents.{instructed, evicted, arrives, may_instr, instr_row}
+use Rattle.registration_protocol.specs.OwnEvents.{instructed, evicted, arrives, may_instr}
 use Rattle.registration_protocol.specs.Messages.{node_gets, data_reply_row, fills, grant_row, granted_to, holds_now, go_row, halt_row, begins, becomes}
-use Rattle.registration_protocol.specs.Parts.{Instructs, accessed, completes, task_by}
+use Rattle.registration_protocol.specs.Parts.{accessed, completes, task_by}
 use Rattle.registration_protocol.proofs.InstrLemmas.{may-instruct, instructed-is, instr-parts, has-next}
 use Rattle.registration_protocol.proofs.MessageLemmas.{ack-kept, forward-kept, read-kept, back-kept}
 use Rattle.registration_protocol.proofs.PhaseLemmas.{evict-keeps}

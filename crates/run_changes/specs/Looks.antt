@@ -22,7 +22,6 @@ use Rattle.registration_protocol.specs.Node.{NodeParts, Setting, need_now, entry
 use Rattle.machine_rules.specs.State.{State}
 use Rattle.run_changes.specs.declared.look.EntryBefore.{EntryBefore}
 use Rattle.run_changes.specs.declared.look.NodeLook.{NodeLook}
-use Rattle.run_changes.specs.declared.look.LockLook.{LockLook}
 use Rattle.run_changes.specs.declared.look.Look.{Look}
 use Rattle.run_changes.specs.declared.look.Look.TheVariants.{Nothing, Node, Word, Keeper}
 use Rattle.run_changes.specs.declared.look.Look.TheVariants.{Lock as LockAt}

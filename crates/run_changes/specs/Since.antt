@@ -1,5 +1,5 @@
 -- What is different in a state from the beginning of its machine: the changes that lead there from the beginning.
-use Rattle.std.specs.Prelude.{ℕ, zero, suc, ◌+◌, ◌%◌, false, List, [], ◌∷◌, ◌++◌, length, map, flat_map, replicate, slice_get, Option, Some, None}
+use Rattle.std.specs.Prelude.{ℕ, zero, suc, ◌+◌, ◌%◌, false, List, [], ◌∷◌, ◌++◌, length, map, replicate, slice_get, Option, Some, None}
 use Rattle.std.specs.List.{filter}
 use Rattle.message_net.specs.declared.actor.Actor.{Actor}
 use Rattle.message_net.specs.declared.actor.Actor.TheVariants as actor
@@ -13,7 +13,6 @@ use Rattle.machine_rules.specs.State.{State, home_at, lock_at}
 use Rattle.run_changes.specs.declared.change.ActorChanges.{ActorChanges}
 use Rattle.run_changes.specs.declared.change.Change.{Change}
 use Rattle.run_changes.specs.declared.change.Change.TheVariants as change
-use Rattle.run_changes.specs.declared.look.EntryBefore.{EntryBefore}
 use Rattle.run_changes.specs.declared.look.LockLook.{LockLook}
 use Rattle.run_changes.specs.Changes.{home_change, queue_change, barrier_change, wait_change, lock_changes, locks_held, flag_change}
 use Rattle.word_cache.specs.Cache.{Cache, Pair, in_set}
