@@ -1,9 +1,8 @@
 -- What is told of an event that came is what the event does.
-use Rattle.std.proofs.Common.{◌≡◌, ℕ, List, refl}
+use Rattle.std.proofs.Common.{◌≡◌, ℕ, refl}
 use Rattle.message_net.specs.declared.actor.Actor.{Actor}
 use Rattle.message_net.specs.declared.event.Event.{Event}
 use Rattle.machine_rules.specs.State.{State}
-use Rattle.machine_rules.specs.Next.{observed}
 use Rattle.machine_rules.specs.declared.stepped.Stepped.{Stepped}
 use Rattle.dn_machine.specs.Tried.{HasStepped}
 use Rattle.run_changes.specs.declared.look.Look.{Look}

@@ -1,4 +1,4 @@
-use Rattle.std.proofs.Common.{◌≡◌, ◌++◌, ◌+◌, ◌-◌, ◌<◌, Bool, length, ap, ◌∙◌, arith}
+use Rattle.std.proofs.Common.{◌++◌, ◌+◌, ◌-◌, ◌<◌, Bool, length, ap, ◌∙◌, arith}
 use Rattle.phase_barrier.specs.Barrier.{has_arrived}
 use Rattle.run_changes.specs.Changes.{arrived_core, arrived_from}
 use Rattle.run_changes.proofs.Listed.{goes_on, arrived_step}

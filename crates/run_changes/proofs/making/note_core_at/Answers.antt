@@ -1,5 +1,4 @@
-use Rattle.std.proofs.Common.{◌≤◌, slice_get, arith}
-use Rattle.dn_base.specs.declared.ids.Shape.{Shape}
+use Rattle.std.proofs.Common.{◌≤◌, slice_get}
 use Rattle.run_changes.specs.Changes.{core_changes}
 use Rattle.run_changes.proofs.Listed.{nothing_added, no_core}
 use Rattle.run_changes.proofs.making.note_core_at.Goals as goal
