@@ -17,7 +17,7 @@ use Rattle.run_changes.specs.Events.{event_made}
 use Rattle.run_changes.specs.Since.{changes_since}
 use Rattle.page_data.specs.declared.page.Page.{Page}
 use Rattle.page_data.specs.Json.{gap, string_text, list_text, further_all}
-use Rattle.page_data.specs.Rows.{cause_fields, actor_changes_text, mail_item, event_text}
+use Rattle.page_data.specs.Rows.{cause_fields, actor_changes_text, mail_item, event_row}
 use Rattle.page_data.specs.Program.{size_text, program_text}
 
 -- ---- the run as a whole
@@ -87,7 +87,7 @@ start_part S = changes_field S ++ (next_field S ++ mails_field S)
 -- each event on a line of its own, with what it does in the state in which it comes
 abbrev pub event_rows : Bool → State → List Event → List ℕ
 event_rows first S [] = []
-event_rows first S (e ∷ es) = gap first ++ (newline ++ (event_text e (event_made S e) ++ event_rows false (next S e) es))
+event_rows first S (e ∷ es) = gap first ++ (newline ++ (event_row e (event_made S e) ++ event_rows false (next S e) es))
 
 unfoldable pub event_list : State → List Event → List ℕ
 event_list S events = codes "[" ++ (event_rows true S events ++ codes "\n]}\n")

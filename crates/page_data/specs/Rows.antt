@@ -94,9 +94,9 @@ wait_numbers (wait.Filled word) = 2 ∷ word.0 ∷ []
 wait_numbers (wait.Locking lock) = 3 ∷ lock.0 ∷ []
 
 -- a word at its home: its value, or its registrant
-abbrev pub home_text : WordId → BankWord → List ℕ
-home_text word (content.Home value) = tagged (codes "H") (further_all (word.0 ∷ value ∷ []))
-home_text word (content.Reg core) = tagged (codes "G") (further_all (word.0 ∷ core.0 ∷ []))
+abbrev pub home_item : WordId → BankWord → List ℕ
+home_item word (content.Home value) = tagged (codes "H") (further_all (word.0 ∷ value ∷ []))
+home_item word (content.Reg core) = tagged (codes "G") (further_all (word.0 ∷ core.0 ∷ []))
 
 -- the holder of a lock; -1 where nobody holds it
 abbrev pub holder_field : Option CoreId → List ℕ
@@ -106,30 +106,30 @@ holder_field (Some core) = further_all (core.0 ∷ [])
 abbrev pub core_numbers : List CoreId → List ℕ
 core_numbers cores = map (λ (core : CoreId). core.0) cores
 
-unfoldable pub change_text : Change → List ℕ
-change_text (change.Gone word) = tagged (codes "I") (further_all (word.0 ∷ []))
-change_text (change.Holds word e) = tagged (entry_tag e) (further_all (word.0 ∷ entry_number e ∷ []))
-change_text (change.Retired pc) = tagged (codes "x") (further_all (pc ∷ []))
-change_text (change.At pc retired) = tagged (codes "j") (further_all (pc ∷ retired ∷ []))
-change_text (change.Ended by) = tagged (codes "e") (cause_fields (shown_end by))
-change_text (change.Waits waiting) = tagged (codes "w") (further_all (wait_numbers waiting))
-change_text (change.Takes lock) = tagged (codes "+") (further_all (lock.0 ∷ []))
-change_text (change.Gives lock) = tagged (codes "-") (further_all (lock.0 ∷ []))
-change_text (change.Signed lock s) = tagged (codes "s") (further_all (lock.0 ∷ []) ++ signature_text s)
-change_text change.Arrived = tagged (codes "a") []
-change_text change.Halted = tagged (codes "z") []
-change_text (change.Begins phase) = tagged (codes "b") (further_all (phase.0 ∷ []))
-change_text (change.Home word there) = home_text word there
-change_text (change.Queue lock holder waiting) =
+unfoldable pub change_item : Change → List ℕ
+change_item (change.Gone word) = tagged (codes "I") (further_all (word.0 ∷ []))
+change_item (change.Holds word e) = tagged (entry_tag e) (further_all (word.0 ∷ entry_number e ∷ []))
+change_item (change.Retired pc) = tagged (codes "x") (further_all (pc ∷ []))
+change_item (change.At pc retired) = tagged (codes "j") (further_all (pc ∷ retired ∷ []))
+change_item (change.Ended by) = tagged (codes "e") (cause_fields (shown_end by))
+change_item (change.Waits waiting) = tagged (codes "w") (further_all (wait_numbers waiting))
+change_item (change.Takes lock) = tagged (codes "+") (further_all (lock.0 ∷ []))
+change_item (change.Gives lock) = tagged (codes "-") (further_all (lock.0 ∷ []))
+change_item (change.Signed lock s) = tagged (codes "s") (further_all (lock.0 ∷ []) ++ signature_text s)
+change_item change.Arrived = tagged (codes "a") []
+change_item change.Halted = tagged (codes "z") []
+change_item (change.Begins phase) = tagged (codes "b") (further_all (phase.0 ∷ []))
+change_item (change.Home word there) = home_item word there
+change_item (change.Queue lock holder waiting) =
     tagged (codes "o") (further_all (lock.0 ∷ []) ++ (holder_field holder ++ further_all (core_numbers waiting)))
-change_text (change.Barrier phase bad arrived) =
+change_item (change.Barrier phase bad arrived) =
     tagged (codes "k") (further_all (phase.0 ∷ flag_number bad ∷ []) ++ further_all (core_numbers arrived))
-change_text (change.Loaded seen) = tagged (codes "ld") (further_all (seen.word.0 ∷ seen.value ∷ []))
-change_text (change.Stored word value) = tagged (codes "st") (further_all (word.0 ∷ value ∷ []))
+change_item (change.Loaded seen) = tagged (codes "ld") (further_all (seen.word.0 ∷ seen.value ∷ []))
+change_item (change.Stored word value) = tagged (codes "st") (further_all (word.0 ∷ value ∷ []))
 
 -- an actor, and changes of it
 unfoldable pub actor_changes_text : ActorChanges → List ℕ
-actor_changes_text c = codes "[" ++ (decimal (actor_number c.actor) ++ (codes "," ++ (list_text change_text c.changes ++ codes "]")))
+actor_changes_text c = codes "[" ++ (decimal (actor_number c.actor) ++ (codes "," ++ (list_text change_item c.changes ++ codes "]")))
 
 -- ---- mails
 
@@ -175,12 +175,12 @@ sent_text [] = []
 sent_text (o ∷ os) = codes "," ++ list_text outgoing_text (o ∷ os)
 
 -- the kind and the actor of an event, and the mail that it handles
-unfoldable pub event_head : Event → EventMade → List ℕ
-event_head e m = codes "[" ++ (decimal (kind_index m.kind) ++ (codes "," ++ (decimal (actor_number m.actor) ++ (codes "," ++ handled_text e))))
+unfoldable pub row_head : Event → EventMade → List ℕ
+row_head e m = codes "[" ++ (decimal (kind_index m.kind) ++ (codes "," ++ (decimal (actor_number m.actor) ++ (codes "," ++ handled_text e))))
 
 -- what it changes, and what it sends
-unfoldable pub event_tail : EventMade → List ℕ
-event_tail m = codes "," ++ (list_text change_text m.changes ++ (sent_text m.sent ++ codes "]"))
+unfoldable pub row_tail : EventMade → List ℕ
+row_tail m = codes "," ++ (list_text change_item m.changes ++ (sent_text m.sent ++ codes "]"))
 
-unfoldable pub event_text : Event → EventMade → List ℕ
-event_text e m = event_head e m ++ event_tail m
+unfoldable pub event_row : Event → EventMade → List ℕ
+event_row e m = row_head e m ++ row_tail m

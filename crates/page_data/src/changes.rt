@@ -3,7 +3,7 @@ ghost use Rattle.std.specs.Prelude.{true, ◌≡◌, ◌++◌, ◌∷◌, [], co
 ghost use Rattle.std.specs.Fmt.{decimal};
 ghost use Rattle.rv_core.specs.Ending.{shown_end};
 ghost use Rattle.page_data.specs.Json.{list_text, item_texts, further_all};
-ghost use Rattle.page_data.specs.Rows.{actor_number, signature_text, cause_fields, tagged, entry_tag, entry_number, flag_number, wait_numbers, home_text, holder_field, core_numbers, change_text, actor_changes_text};
+ghost use Rattle.page_data.specs.Rows.{actor_number, signature_text, cause_fields, tagged, entry_tag, entry_number, flag_number, wait_numbers, home_item, holder_field, core_numbers, change_item, actor_changes_text};
 
 use crate::json::{push_all, push_gap};
 use crate::mails::{flag_number, push_actor, push_signature};
@@ -121,7 +121,7 @@ fn push_signed(out: &mut Vec<u8>, lock: LockId, signature: &Signature) -> Result
 
 /// Adds what a word's home has for it.
 fn push_home(out: &mut Vec<u8>, word: WordId, there: BankWord) -> Result<(), Memory>
-    ensures { OnOk result (out.new.items ≡ out.old.items ++ home_text word there) }
+    ensures { OnOk result (out.new.items ≡ out.old.items ++ home_item word there) }
 {
     match there {
         BankWord::Home(value) => push_tagged(out, b"H", &[word.0, value]),
@@ -184,9 +184,9 @@ fn push_barrier(
 }
 
 /// Adds a change.
-#[tactic(auto, unfolding(crate::specs::Rows::change_text))]
+#[tactic(auto, unfolding(crate::specs::Rows::change_item))]
 fn push_change(out: &mut Vec<u8>, change: &Change) -> Result<(), Memory>
-    ensures { OnOk result (out.new.items ≡ out.old.items ++ change_text change.now) }
+    ensures { OnOk result (out.new.items ≡ out.old.items ++ change_item change.now) }
 {
     match change {
         Change::Gone(word) => push_tagged(out, b"I", &[word.0]),
@@ -222,7 +222,7 @@ fn push_change(out: &mut Vec<u8>, change: &Change) -> Result<(), Memory>
 }
 
 fn push_change_items(out: &mut Vec<u8>, changes: &[Change]) -> Result<(), Memory>
-    ensures { OnOk result (out.new.items ≡ out.old.items ++ item_texts change_text true changes.now) }
+    ensures { OnOk result (out.new.items ≡ out.old.items ++ item_texts change_item true changes.now) }
 {
     let mut first = true;
     for change in changes {
@@ -236,7 +236,7 @@ fn push_change_items(out: &mut Vec<u8>, changes: &[Change]) -> Result<(), Memory
 /// Adds changes.
 #[tactic(auto, unfolding(crate::specs::Json::list_text))]
 pub(crate) fn push_changes(out: &mut Vec<u8>, changes: &[Change]) -> Result<(), Memory>
-    ensures { OnOk result (out.new.items ≡ out.old.items ++ list_text change_text changes.now) }
+    ensures { OnOk result (out.new.items ≡ out.old.items ++ list_text change_item changes.now) }
 {
     push(out, b"[")?;
     push_change_items(out, changes)?;

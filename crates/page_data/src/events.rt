@@ -6,7 +6,7 @@ ghost use Rattle.machine_rules.specs.Next.{next, enabled};
 ghost use Rattle.machine_rules.specs.Runs.{after, IsRun};
 ghost use Rattle.run_changes.specs.Events.{event_made};
 ghost use Rattle.page_data.specs.Json.{gap, list_text, item_texts};
-ghost use Rattle.page_data.specs.Rows.{event_head, event_tail, event_text};
+ghost use Rattle.page_data.specs.Rows.{row_head, row_tail, event_row};
 ghost use Rattle.page_data.specs.Page.{changes_field, next_field, mails_field, start_part, event_rows, event_list, events_part};
 
 use crate::changes::{push_actor_changes, push_changes};
@@ -76,9 +76,9 @@ pub(crate) fn push_start(alloc: Global, out: &mut Vec<u8>, machine: &Machine) ->
     push_flying(out, machine)
 }
 
-#[tactic(auto, unfolding(crate::specs::Rows::event_head))]
+#[tactic(auto, unfolding(crate::specs::Rows::row_head))]
 fn push_event_head(out: &mut Vec<u8>, event: Event, made: &EventMade) -> Result<(), Memory>
-    ensures { OnOk result (out.new.items ≡ out.old.items ++ event_head event made.now) }
+    ensures { OnOk result (out.new.items ≡ out.old.items ++ row_head event made.now) }
 {
     push(out, b"[")?;
     push_decimal(out, made.kind.index() as u32)?;
@@ -88,9 +88,9 @@ fn push_event_head(out: &mut Vec<u8>, event: Event, made: &EventMade) -> Result<
     push_handled(out, event)
 }
 
-#[tactic(auto, unfolding(crate::specs::Rows::event_tail))]
+#[tactic(auto, unfolding(crate::specs::Rows::row_tail))]
 fn push_event_tail(out: &mut Vec<u8>, made: &EventMade) -> Result<(), Memory>
-    ensures { OnOk result (out.new.items ≡ out.old.items ++ event_tail made.now) }
+    ensures { OnOk result (out.new.items ≡ out.old.items ++ row_tail made.now) }
 {
     push(out, b",")?;
     push_changes(out, made.changes.as_slice())?;
@@ -99,9 +99,9 @@ fn push_event_tail(out: &mut Vec<u8>, made: &EventMade) -> Result<(), Memory>
 }
 
 /// Adds what an event did that was made.
-#[tactic(auto, unfolding(crate::specs::Rows::event_text))]
+#[tactic(auto, unfolding(crate::specs::Rows::event_row))]
 fn push_event(out: &mut Vec<u8>, event: Event, made: &EventMade) -> Result<(), Memory>
-    ensures { OnOk result (out.new.items ≡ out.old.items ++ event_text event made.now) }
+    ensures { OnOk result (out.new.items ≡ out.old.items ++ event_row event made.now) }
 {
     push_event_head(out, event, made)?;
     push_event_tail(out, made)
@@ -109,7 +109,7 @@ fn push_event(out: &mut Vec<u8>, event: Event, made: &EventMade) -> Result<(), M
 
 /// Adds the row of an event that was made.
 fn push_row(out: &mut Vec<u8>, first: bool, event: Event, made: &EventMade) -> Result<(), Memory>
-    ensures { OnOk result (out.new.items ≡ out.old.items ++ (gap first ++ (newline ++ event_text event made.now))) }
+    ensures { OnOk result (out.new.items ≡ out.old.items ++ (gap first ++ (newline ++ event_row event made.now))) }
 {
     push_gap(out, first)?;
     push(out, b"\n")?;
@@ -126,7 +126,7 @@ fn make_row(
 ) -> Result<(), Memory>
     requires may { enabled machine.old.state event ≡ true }
     requires made { machine.old.made < 4000000000 }
-    ensures row { OnOk result (out.new.items ≡ out.old.items ++ (gap first ++ (newline ++ event_text event (event_made machine.old.state event)))) }
+    ensures row { OnOk result (out.new.items ≡ out.old.items ++ (gap first ++ (newline ++ event_row event (event_made machine.old.state event)))) }
     ensures state { OnOk result (machine.new.state ≡ next machine.old.state event) }
     ensures made { OnOk result (machine.new.made ≡ machine.old.made + 1) }
 {
