@@ -2,3 +2,4 @@ pub mod Commands
 pub mod Kept
 pub mod Pictures
 pub mod Counted
+pub mod Shown
