@@ -10,7 +10,7 @@ use Rattle.region_table.specs.declared.plan.PhasePlan.{PhasePlan}
 use Rattle.region_table.specs.Program.{ProgramParts}
 use Rattle.registration_protocol.specs.Node.{Setting}
 use Rattle.rv_listing.specs.Instruction.{code_line}
-use Rattle.page_data.specs.Json.{gap, string_text, list_text, item_texts, further_all}
+use Rattle.page_data.specs.Json.{gap, string_text, list_text, further_all}
 
 -- how large the machine is, the fuel of a task, and how many data words there are
 unfoldable pub size_text : Setting → List ℕ
