@@ -1,0 +1,4 @@
+pub mod Json
+pub mod Rows
+pub mod Program
+pub mod Page

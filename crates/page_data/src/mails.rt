@@ -1,0 +1,200 @@
+//! Actors, messages and mails.
+ghost use Rattle.std.specs.Prelude.{true, ◌≡◌, ◌++◌, ◌∷◌, ◌+◌, ◌≤◌, [], OnOk};
+ghost use Rattle.std.specs.Fmt.{decimal};
+ghost use Rattle.page_data.specs.Json.{list_text, item_texts, further_all};
+ghost use Rattle.page_data.specs.Rows.{actor_number, flag_number, bit_text, bit_texts, all_bits, signature_text, message_fields, outgoing_fields, outgoing_text, mail_item, handled_text, sent_text};
+
+use crate::json::{push_all, push_gap};
+use dn_base::Memory;
+use message_net::{Actor, Event, Mail, Message, Outgoing, Pool};
+use text_pieces::{push, push_decimal, push_long};
+use write_signature::Signature;
+
+/// The number of an actor: cores from 0 on, banks from 16 on, and the keeper.
+fn actor_number(actor: Actor) -> u64
+    ensures { result ≡ actor_number actor }
+{
+    match actor {
+        Actor::Core(core) => u64::from(core.0),
+        Actor::Bank(bank) => 16 + u64::from(bank.0),
+        Actor::Keeper => 32,
+    }
+}
+
+/// Adds the number of an actor.
+pub(crate) fn push_actor(out: &mut Vec<u8>, actor: Actor) -> Result<(), Memory>
+    ensures { OnOk result (out.new.items ≡ out.old.items ++ decimal (actor_number actor)) }
+{
+    push_long(out, actor_number(actor))
+}
+
+/// A flag as a number.
+pub(crate) fn flag_number(flag: bool) -> u32
+    ensures { result ≡ flag_number flag }
+{
+    if flag { 1 } else { 0 }
+}
+
+/// Adds the number of a bit, if it is set.
+fn push_bit(out: &mut Vec<u8>, bit: u32, set: bool) -> Result<(), Memory>
+    ensures { OnOk result (out.new.items ≡ out.old.items ++ bit_text bit set) }
+{
+    if set { push_all(out, &[bit]) } else { Ok(()) }
+}
+
+/// Adds the numbers of those of the first so many bits that are set.
+fn push_bits(out: &mut Vec<u8>, signature: &Signature, count: u32) -> Result<(), Memory>
+    requires { count ≤ 256 }
+    ensures { OnOk result (out.new.items ≡ out.old.items ++ bit_texts signature.now 0 count) }
+{
+    for bit in 0..count {
+        push_bit(out, bit, signature.has(bit))?;
+    }
+    Ok(())
+}
+
+/// Adds the numbers of all bits that are set.
+#[tactic(auto, unfolding(crate::specs::Rows::all_bits))]
+fn push_all_bits(out: &mut Vec<u8>, signature: &Signature) -> Result<(), Memory>
+    ensures { OnOk result (out.new.items ≡ out.old.items ++ all_bits signature.now) }
+{
+    push_bits(out, signature, 256)
+}
+
+/// Adds a signature.
+#[tactic(auto, unfolding(crate::specs::Rows::signature_text))]
+pub(crate) fn push_signature(out: &mut Vec<u8>, signature: &Signature) -> Result<(), Memory>
+    ensures { OnOk result (out.new.items ≡ out.old.items ++ signature_text signature.now) }
+{
+    push_all(out, &[signature.phase().0])?;
+    push_all_bits(out, signature)
+}
+
+/// Adds what a message says.
+fn push_fields(out: &mut Vec<u8>, message: &Message) -> Result<(), Memory>
+    ensures { OnOk result (out.new.items ≡ out.old.items ++ message_fields message.now) }
+{
+    match message {
+        Message::ReadReq { word, reader } => push_all(out, &[word.0, reader.0]),
+        Message::ReadFwd { word, reader } => push_all(out, &[word.0, reader.0]),
+        Message::DataReply { word, value } => push_all(out, &[word.0, *value]),
+        Message::RegReq { word, core } => push_all(out, &[word.0, core.0]),
+        Message::RegFwd { word, core } => push_all(out, &[word.0, core.0]),
+        Message::RegAck { word } => push_all(out, &[word.0]),
+        Message::WriteBack { word, value, core } => push_all(out, &[word.0, *value, core.0]),
+        Message::WbAck { word } => push_all(out, &[word.0]),
+        Message::Acquire { lock, core } => push_all(out, &[lock.0, core.0]),
+        Message::Release {
+            lock,
+            core,
+            signature,
+        } => {
+            push_all(out, &[lock.0, core.0])?;
+            push_signature(out, signature)
+        }
+        Message::Grant { lock, signature } => {
+            push_all(out, &[lock.0])?;
+            push_signature(out, signature)
+        }
+        Message::Arrived { core, bad } => push_all(out, &[core.0, flag_number(*bad)]),
+        Message::Go { phase } => push_all(out, &[phase.0]),
+        Message::Halt => Ok(()),
+    }
+}
+
+/// Adds to whom a message goes, its kind, and what it says.
+#[tactic(auto, unfolding(crate::specs::Rows::outgoing_fields))]
+fn push_outgoing_fields(out: &mut Vec<u8>, to: Actor, message: &Message) -> Result<(), Memory>
+    ensures { OnOk result (out.new.items ≡ out.old.items ++ outgoing_fields to message.now) }
+{
+    push_actor(out, to)?;
+    push_all(out, &[message.kind().index() as u32])?;
+    push_fields(out, message)
+}
+
+#[tactic(auto, unfolding(crate::specs::Rows::outgoing_text))]
+fn push_outgoing(out: &mut Vec<u8>, outgoing: &Outgoing) -> Result<(), Memory>
+    ensures { OnOk result (out.new.items ≡ out.old.items ++ outgoing_text outgoing.now) }
+{
+    push(out, b"[")?;
+    push_outgoing_fields(out, outgoing.to, &outgoing.message)?;
+    push(out, b"]")
+}
+
+/// Adds a mail in flight.
+#[tactic(auto, unfolding(crate::specs::Rows::mail_item))]
+fn push_mail(out: &mut Vec<u8>, mail: &Mail) -> Result<(), Memory>
+    ensures { OnOk result (out.new.items ≡ out.old.items ++ mail_item mail.now) }
+{
+    push(out, b"[")?;
+    push_actor(out, mail.id.sender)?;
+    push_all(out, &[mail.id.number])?;
+    push(out, b",")?;
+    push_outgoing_fields(out, mail.to, &mail.message)?;
+    push(out, b"]")
+}
+
+/// Adds the mails in flight, each behind a comma but the first.
+fn push_mail_items(out: &mut Vec<u8>, pool: &Pool) -> Result<(), Memory>
+    ensures { OnOk result (out.new.items ≡ out.old.items ++ item_texts mail_item true pool.now.mails) }
+{
+    let mut first = true;
+    for place in 0..pool.count() {
+        push_gap(out, first)?;
+        push_mail(out, &pool.at(place))?;
+        first = false;
+    }
+    Ok(())
+}
+
+/// Adds the mails in flight.
+#[tactic(auto, unfolding(crate::specs::Json::list_text))]
+pub(crate) fn push_mails(out: &mut Vec<u8>, pool: &Pool) -> Result<(), Memory>
+    ensures { OnOk result (out.new.items ≡ out.old.items ++ list_text mail_item pool.now.mails) }
+{
+    push(out, b"[")?;
+    push_mail_items(out, pool)?;
+    push(out, b"]")
+}
+
+/// Adds the sender and the number of the mail that an event handles.
+pub(crate) fn push_handled(out: &mut Vec<u8>, event: Event) -> Result<(), Memory>
+    ensures { OnOk result (out.new.items ≡ out.old.items ++ handled_text event) }
+{
+    match event {
+        Event::Handle(id) => {
+            push(out, b"[")?;
+            push_actor(out, id.sender)?;
+            push_all(out, &[id.number])?;
+            push(out, b"]")
+        }
+        Event::Instr(_) => push(out, b"-1"),
+        Event::Evict(_, _) => push(out, b"-1"),
+        Event::Arrive(_) => push(out, b"-1"),
+    }
+}
+
+fn push_sent_items(out: &mut Vec<u8>, sent: &[Outgoing]) -> Result<(), Memory>
+    ensures { OnOk result (out.new.items ≡ out.old.items ++ item_texts outgoing_text true sent.now) }
+{
+    let mut first = true;
+    for outgoing in sent {
+        push_gap(out, first)?;
+        push_outgoing(out, outgoing)?;
+        first = false;
+    }
+    Ok(())
+}
+
+/// Adds what is sent, if something is.
+#[tactic(auto, unfolding(crate::specs::Json::list_text))]
+pub(crate) fn push_sent(out: &mut Vec<u8>, sent: &[Outgoing]) -> Result<(), Memory>
+    ensures { OnOk result (out.new.items ≡ out.old.items ++ sent_text sent.now) }
+{
+    if sent.is_empty() {
+        return Ok(());
+    }
+    push(out, b",[")?;
+    push_sent_items(out, sent)?;
+    push(out, b"]")
+}

@@ -1,0 +1,138 @@
+ghost use Rattle.std.specs.Prelude.{◌≡◌, ◌++◌, ◌+◌, ◌<◌, ◌≤◌, length, take, drop, IfOk, OnOk};
+ghost use Rattle.machine_rules.specs.Runs.{IsRun};
+ghost use Rattle.dn_machine.specs.Settings.{IsRunOn};
+ghost use Rattle.dn_machine.specs.Sizes.{FitsMachine};
+ghost use Rattle.machine_rules.specs.State.{initial_state};
+ghost use Rattle.page_data.specs.Page.{head_part, start_part, events_part, page_text, IsPageOf};
+
+use crate::events::{pass, push_events, push_start};
+use crate::head::{push_run, push_timing, push_title};
+use crate::program::{push_program, push_sizes};
+use dn_base::{Memory, Sequence, Shape};
+use dn_machine::{Machine, a_machine_is_kept};
+use effect_checker::Checked;
+use grant_log::Counts;
+use message_net::Event;
+use run_timing::Timing;
+use rv_core::Ending;
+use std::alloc::Global;
+
+/// The most events of a page.
+pub const MOST_ROWS: u32 = 20_000;
+
+/// What a page tells of its run beside the program and the events: a title, the program's text, how the run ended, how many events of
+/// each kind it has, its longest chain by these ticks, and which events the page has: the first of them, from 0, and how many there are at
+/// most.
+#[derive(Clone, Copy)]
+pub struct Page<'a> {
+    pub name: &'a [u8],
+    pub source: &'a [u8],
+    pub ending: &'a Ending,
+    pub counts: Counts,
+    pub tick_core: u32,
+    pub tick_bank: u32,
+    pub tick_mail: u32,
+    pub timing: &'a Timing,
+    pub first: u32,
+    pub most: u32,
+}
+
+/// The first so many events, and those behind them.
+#[tactic(auto, using(std::proofs::lemmas::List::take_all, std::proofs::lemmas::List::drop_all))]
+fn parted(events: &[Event], wanted: u32) -> (&[Event], &[Event])
+    ensures front { result.0.now ≡ take wanted events.now }
+    ensures back { result.1.now ≡ drop wanted events.now }
+{
+    match events.split_at_checked(wanted as usize) {
+        Some(parts) => parts,
+        None => (events, &[]),
+    }
+}
+
+/// Adds what doesn't change in the run.
+fn push_head(
+    alloc: Global,
+    out: &mut Vec<u8>,
+    machine: &Machine,
+    page: &Page<'_>,
+    events: usize,
+) -> Result<(), Memory>
+    ensures { OnOk result (out.new.items ≡ out.old.items ++ head_part machine.now.state.setting page.now events) }
+{
+    push_title(out, page.name)?;
+    push_sizes(out, machine)?;
+    push_program(alloc, out, machine, page.source)?;
+    push_run(out, page, events)?;
+    push_timing(out, page)
+}
+
+/// Adds the state before some events, and then the events.
+fn push_states(
+    alloc: Global,
+    out: &mut Vec<u8>,
+    machine: &mut Machine,
+    events: &[Event],
+) -> Result<(), Memory>
+    requires run { IsRun machine.old.state events.now }
+    requires few { machine.old.made + length events.now ≤ 4000000000 }
+    ensures { OnOk result (out.new.items ≡ out.old.items ++ (start_part machine.old.state ++ events_part machine.old.state events.now)) }
+{
+    push_start(alloc, out, machine)?;
+    push_events(alloc, out, machine, events)
+}
+
+/// The data of a machine's page.
+#[tactic(auto, using(crate::proofs::Runs::run_front, crate::proofs::Runs::run_back), unfolding(crate::specs::Page::page_text))]
+fn text_of(
+    alloc: Global,
+    machine: Machine,
+    events: &[Event],
+    page: &Page<'_>,
+) -> Result<Vec<u8>, Memory>
+    requires initial { machine.state ≡ initial_state machine.state.setting }
+    requires made { machine.made ≡ 0 }
+    requires run { IsRun machine.state events.now }
+    requires few { length events.now ≤ 25169664 }
+    ensures { IfOk result (λ text. text.items ≡ page_text machine.state.setting events.now page.now) }
+{
+    let mut machine = machine;
+    let mut out = Vec::new(alloc);
+    push_head(alloc, &mut out, &machine, page, events.len())?;
+    let (before, rest) = parted(events, page.first);
+    pass(&mut machine, before)?;
+    let (wanted, _) = parted(rest, page.most);
+    push_states(alloc, &mut out, &mut machine, wanted)?;
+    Ok(out)
+}
+
+/// The data of the page of a run, as one JSON text in ASCII, in which no `<` stands: the program and its text, how the run ended, the
+/// state before the page's first event, and what each of its events changes in its actor's state and sends.
+///
+/// The events are a run of the initial machine of the checked program, this shape and this fuel. The shape has the cores that the
+/// program needs, 1 to 16 banks, 1 to 256 sets and 1 to 16 ways, a task may retire `fuel` instructions, 1 to 32,768, there are at most
+/// 25,169,664 events, and the page has at most 20,000 of them.
+///
+/// An event before the page is only made, and one behind it isn't looked at. A Go and a Grant on the page look at each place of one
+/// cache, and any other event at a few words, at each lock and at what it sends.
+///
+/// # Errors
+/// `Memory` where there is no room for the machine, its mails or the text.
+pub fn page_text(
+    alloc: Global,
+    checked: Checked,
+    shape: Shape,
+    fuel: u32,
+    events: &[Event],
+    page: &Page<'_>,
+) -> Result<Sequence<u8>, Memory>
+    requires fits { FitsMachine checked shape fuel }
+    requires run { IsRunOn checked shape fuel events.now }
+    requires few { length events.now ≤ 25169664 }
+    requires most { page.now.most ≤ 20000 }
+    ensures { IfOk result (IsPageOf checked shape fuel events.now page.now) }
+{
+    let machine = Machine::start(alloc, checked, shape, fuel)?;
+    // for the proof alone: no event has come, so the machine is the opened one, and the events are a run of it
+    a_machine_is_kept(&machine);
+    Ok(Sequence::from_vec(text_of(alloc, machine, events, page)?))
+}

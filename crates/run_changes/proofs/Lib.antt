@@ -1,0 +1,11 @@
+mod Alone
+pub mod Listed
+pub mod Made
+mod Sent
+mod Applied
+mod Cached
+mod Looked
+mod Led
+mod Status
+mod Task
+mod Homes

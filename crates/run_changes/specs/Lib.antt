@@ -1,0 +1,5 @@
+pub mod Looks
+pub mod Changes
+pub mod Events
+pub mod Since
+pub mod Applied

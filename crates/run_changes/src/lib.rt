@@ -1,0 +1,22 @@
+//! What an event changes: the state of its actor, change by change, what the actor sends, and what is different in a state from the
+//! beginning of its run.
+#![tactic(auto)]
+
+mod banks;
+mod change;
+mod laws;
+mod look;
+mod looking;
+mod making;
+mod nodes;
+mod parts;
+mod since;
+
+pub use change::{ActorChanges, Change, EventMade};
+pub use laws::{
+    a_banks_words_follow_its_changes, a_cores_entries_follow_its_changes,
+    a_cores_status_follows_its_changes, a_cores_task_follows_its_changes,
+    an_event_changes_its_actor_alone, the_changes_of_a_core_lead_on, what_is_sent_joins_the_mails,
+};
+pub use making::make;
+pub use since::changes_since;
