@@ -14,7 +14,6 @@ use Rattle.dn_machine.specs.declared.record.RunRecord.{RunRecord}
 use Rattle.dn_machine.specs.Settings.{IsRunOn}
 use Rattle.dn_machine.proofs.OneSetting.{same-setting}
 use Rattle.run_replay.specs.declared.trace.Trace.{Trace}
-use Rattle.run_replay.specs.declared.trace.TraceShape.{TraceShape}
 use Rattle.run_replay.specs.Document.{IsDocument}
 use Rattle.front_end.specs.declared.programs.Stop.{Stop}
 use Rattle.front_end.specs.declared.programs.Stop.TheVariants.{Refused, Memory}
