@@ -538,7 +538,7 @@ def by_the_reference(command):
 
 def pages_show_what_is_printed():
     """Each block behind a command of these pages is a part of what the command prints, and for an account of what it has to print."""
-    for page in ("docs/TUTORIAL.md", "docs/ACCOUNT.md"):
+    for page in ("docs/TUTORIAL.md", "docs/ACCOUNT.md", "docs/COMPARING.md"):
         text = pathlib.Path(page).read_text()
         for command, block in re.findall(r"^    (\./denovo[^\n]*)\n\n```\n(.*?)^```$", text, re.M | re.S):
             ran = run(["bash", "-c", command])
