@@ -6,7 +6,7 @@ the commands of their indented blocks and of the comments in examples/:
 - a path has to be there, from the top, from crates/, or from the folder that the same line names;
 - a name of code (with a capital, or with `_` or `::`) has to be in the code, its contracts or its definitions;
 - a command `./denovo ..` has to read a text that is there;
-- each fenced block of docs/LIBRARY.md, docs/FROM_C.md and docs/TUTORIAL.md has to stand in the file that it quotes, unless it is a
+- each fenced block of docs/LIBRARY.md, docs/FROM_C.md, docs/AUDIT.md and docs/TUTORIAL.md has to stand in the file that it quotes, unless it is a
   command's output;
 - the map of docs/ARCHITECTURE.md has the rooms and crates of crates.txt, in its order, and each crate stands on crates before it;
 - what docs/LANGUAGE.md says under "How it is mended", and in its list of how refusals are mended, has to be a sentence of a program;
@@ -125,7 +125,7 @@ for page in (name for name in tracked if name.endswith(".md")):
     if re.fullmatch(r"crates/\w+/README\.md", page) and len(lines) > 41:
         found.append(f"{page}: {len(lines) - 1} lines, and a crate's page has at most 40")
     for number, line in enumerate(lines, 1):
-        if line.startswith("|"):
+        if re.match(r" *(?:\d+\. )?\|", line):
             if len(line) > 300:
                 found.append(f"{page}: line {number}, of a table, has {len(line)} characters: more than 300")
             for cell in re.split(r"(?<!\\)\|", line):
@@ -133,6 +133,7 @@ for page in (name for name in tracked if name.endswith(".md")):
                     found.append(f"{page}: line {number}, of a table, has a cell of {len(cell.split())} words: more than 40")
 QUOTED = {"docs/LIBRARY.md": ("crates/library_tour/src/main.rt", "crates/library_tour/stdout"),
           "docs/FROM_C.md": ("examples/c/histogram.c", "examples/c/histogram.s"),
+          "docs/AUDIT.md": ("crates/dn_top/src/lib.rt", "crates/machine_rules/src/laws.rt"),
           "docs/TUTORIAL.md": tuple(name for name in examples if "tutorial" in name)}
 for document, sources in QUOTED.items():
     whole = "\n".join(pathlib.Path(source).read_text() for source in sources)

@@ -540,7 +540,7 @@ def pages_show_what_is_printed():
     """Each block behind a command of these pages is a part of what the command prints, and for an account of what it has to print."""
     for page in ("docs/TUTORIAL.md", "docs/ACCOUNT.md", "docs/COMPARING.md"):
         text = pathlib.Path(page).read_text()
-        for command, block in re.findall(r"^    (\./denovo[^\n]*)\n\n```\n(.*?)^```$", text, re.M | re.S):
+        for command, block in re.findall(r"^    ((?:\./denovo|examples/)[^\n]*)\n\n```\n(.*?)^```$", text, re.M | re.S):
             ran = run(["bash", "-c", command])
             check(f"{page}: {command}", block.encode() in ran.stdout, ran.stdout[:300])
             wanted = by_the_reference(command)
@@ -548,6 +548,16 @@ def pages_show_what_is_printed():
         for command in re.findall(r"^    (\./denovo.*) > \S+\.svg$", text, re.M):
             ran = run(["bash", "-o", "pipefail", "-c", command])
             check(f"{page}: {command}", ran.returncode == 0 and ran.stdout.startswith(b"<svg"))
+
+
+def the_first_page_shows_a_whole_answer():
+    """README explains an answer line by line: its text, its lines and the program's are those of the example."""
+    page = pathlib.Path("README.md").read_text()
+    shown, printed = (re.search(rf"{before}\n\n((?:    .*\n)+)", page)[1] for before in ("core 1 copies it again in phase 2:", "The program prints"))
+    for block, wanted in ((shown, text_of("stale-copy").decode().split("\n")), (printed, reference.answer([], text_of("stale-copy").decode())[1])):
+        lines = [re.split("  +", line.strip())[0] for line in block.splitlines()]
+        wanted = [line for line in wanted if not line.startswith("#")]
+        check(f"README.md: {lines[0]} and so on", lines == wanted[:len(lines)] and (block is shown or len(lines) == len(wanted)))
 
 
 def every_command_of_the_exercises_answers():
@@ -566,9 +576,9 @@ def the_answers_to_exercises_have_the_numbers():
     page = pathlib.Path("docs/LAB_ANSWERS.md").read_text()
 
     def table(head):
-        found = re.search(r"^ *\| " + re.escape(head) + r".*\|\n *\|[-|]*\|\n((?: *\|.*\n)+)", page, re.M)
-        heads = [cell.strip(" `") for cell in found[0].split("\n")[0].strip(" |").split("|")]
-        return [dict(zip(heads, (cell.strip() for cell in row.strip(" |").split("|")))) for row in found[1].splitlines()]
+        found = re.search(r"^(?: *|\d\. )\| (" + re.escape(head) + r".*) \|\n *\|[-|]*\|\n((?: *\|.*\n)+)", page, re.M)
+        heads = [cell.strip(" `") for cell in found[1].split("|")]
+        return [dict(zip(heads, (cell.strip() for cell in row.strip(" |").split("|")))) for row in found[2].splitlines()]
 
     for row in table("Sets, ways"):
         sets, ways = row.pop("Sets, ways").split(", ")
@@ -608,13 +618,12 @@ def the_answers_to_exercises_have_the_numbers():
 
 
 def heads_of_examples_say_what_is_printed():
-    """Where the comment at the head of an example quotes a line of an answer, one of its commands prints this line."""
+    """Where the comment at the head of an example quotes a line of an answer, or its first words, one of its commands prints such a line."""
     for path in sorted(pathlib.Path("examples").glob("*.s")):
         head = [line.strip("# \n") for line in path.read_text().split("\n") if line.startswith("#")]
         printed = "".join(run(["bash", "-c", line]).stdout.decode() for line in head if line.startswith("./denovo")).split("\n")
         for told in re.findall(r"`((?:count|outcome|task|refused|proved|unbounded) [^`]*)`", " ".join(line for line in head if not line.startswith("./"))):
-            whole = re.search(r" \d|outcome|proved", told)
-            check(f"{path}: {told}", told in printed if whole else any(line.startswith(told + " ") for line in printed))
+            check(f"{path}: {told}", any((line + " ").startswith(told + " ") for line in printed))
 
 
 def the_page_on_accounts_has_the_numbers():
@@ -653,6 +662,7 @@ the_largest_claims_are_read()
 another_simulator_is_compared()
 standard_error_helps()
 pages_show_what_is_printed()
+the_first_page_shows_a_whole_answer()
 every_command_of_the_exercises_answers()
 the_answers_to_exercises_have_the_numbers()
 heads_of_examples_say_what_is_printed()
