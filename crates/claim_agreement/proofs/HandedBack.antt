@@ -130,7 +130,7 @@ mode-ran mode.TheVariants.Replay o document out r is e =
         program = by.program;
         is = by.is;
         checked = by.checked;
-        holds = made by.program (shape_told by.program is.trace.shape) is.trace.shape.fuel by.holds.run r by.holds.is (out-run out _ (Some r) by.holds.answer e);
+        holds = made by.program (shape_told by.program is.trace.shape) is.trace.shape.fuel by.holds.run r by.holds.told.is (out-run out _ (Some r) by.holds.answer e);
       };
     }
 mode-ran mode.TheVariants.Check o text out r is e = absurd (some-none r out.run (ap (λ (x : Output). x.run) is.holds) e)

@@ -3,8 +3,10 @@ use Rattle.std.proofs.Common.{◌≡◌, ℕ, true, List, ◌++◌, slice_get, m
 use Rattle.std.specs.Option.{option_or}
 use Rattle.std.proofs.lemmas.Option.{none-some, same_Some}
 use Rattle.dn_base.specs.declared.ids.CoreId.{CoreId}
+use Rattle.dn_base.specs.declared.ids.Grant.{Grant}
 use Rattle.dn_base.specs.declared.ids.WordId.{WordId}
 use Rattle.message_net.specs.declared.event.Event.{Event}
+use Rattle.message_net.specs.declared.event.EventKind.{EventKind}
 use Rattle.message_net.specs.declared.event.Event.TheVariants.{Instr, Evict, Arrive, Handle}
 use Rattle.message_net.specs.declared.message.Mail.{Mail}
 use Rattle.message_net.specs.Pool.{AreDistinct, removed, without_mail_at}
@@ -12,10 +14,15 @@ use Rattle.message_net.proofs.PoolLemmas.{taken-of_id}
 use Rattle.registration_protocol.specs.Node.{NodeParts, Setting, need_now}
 use Rattle.registration_protocol.specs.OwnEvents.{may_instr, may_evict, may_arrive, me, wanted_by, victim_for, eviction_of, eviction, arrival, own_event}
 use Rattle.machine_rules.specs.State.{State}
+use Rattle.machine_rules.specs.Next.{observed, kind_in, granted_in}
+use Rattle.dn_machine.specs.declared.log.Happened.{Happened}
+use Rattle.dn_machine.specs.declared.log.Log.{Log}
 use Rattle.dn_machine.specs.declared.picking.Choice.{Choice}
+use Rattle.dn_machine.specs.Ends.{with_end}
 use Rattle.dn_machine.specs.Pick.{known_events, handlings, candidates, picked, pick, chosen}
 use Rattle.dn_machine.specs.Actors.{actor_in}
-use Rattle.dn_machine.specs.Log.{own_core, core_of, core_in}
+use Rattle.message_net.specs.Kind.{own_kind}
+use Rattle.dn_machine.specs.Log.{own_core, core_of, core_in, with_told, with_event}
 use Rattle.dn_machine.specs.Content.{in_row}
 use Rattle.dn_machine.proofs.OwnRow.{known-row}
 use Rattle.dn_machine.proofs.PickLaws.{known-own}
@@ -29,6 +36,27 @@ own-core-in S (Instr c) core is = refl
 own-core-in S (Evict c word) core is = refl
 own-core-in S (Arrive c) core is = refl
 own-core-in S (Handle id) core is = absurd (none-some core is)
+
+-- an own event grants nothing
+pub own-grants : (S : State) (e : Event) (core : CoreId) → own_core e ≡ Some core → (observed S e).granted ≡ None
+unfolding granted_in
+own-grants S (Instr c) core is = refl
+own-grants S (Evict c word) core is = refl
+own-grants S (Arrive c) core is = refl
+own-grants S (Handle id) core is = absurd (none-some core is)
+
+-- an own event has the kind that it names
+pub own-told : (S : State) (e : Event) (core : CoreId) → own_core e ≡ Some core → (observed S e).kind ≡ own_kind e
+unfolding kind_in
+own-told S (Instr c) core is = refl
+own-told S (Evict c word) core is = refl
+own-told S (Arrive c) core is = refl
+own-told S (Handle id) core is = absurd (none-some core is)
+
+-- an event is noted, and its task's end behind it
+pub noted-behind : (log first last : Log) (h : Happened) (kind : EventKind) (granted : Option Grant) → first ≡ with_told h.event kind granted None log → h.observed.kind ≡ kind → h.observed.granted ≡ granted
+    → last ≡ record first { ends = with_end h.end first.ends } → last ≡ with_event h log
+noted-behind log first last h kind granted noted same_kind same_grant behind = rw (behind, noted, same_kind, same_grant) refl
 
 -- the own event of a node is of its core
 own-is : (C : Setting) (n : NodeParts) (e : Event) → own_event C n ≡ Some e → own_core e ≡ Some (me n)

@@ -17,6 +17,7 @@ use message_net::{Actor, Event, EventKind, MailId, Message, Outgoing};
 use registration_protocol::Context;
 
 /// What an event tells that reads nothing and grants nothing.
+#[inline(always)]
 fn silent(kind: EventKind) -> Stepped
     ensures { result ≡ record { kind = kind; seen = None; granted = None } }
 {
@@ -29,11 +30,12 @@ fn silent(kind: EventKind) -> Stepped
 
 impl Content {
     /// What a core sends is in flight, and what it does next by itself is found anew.
-    fn core_sends(&mut self, context: &Context<'_>, core: CoreId, sent: Option<Outgoing>)
+    #[inline(always)]
+    fn core_sends(&mut self, context: &Context<'_>, core: CoreId, sent: &Option<Outgoing>)
         requires whole { IsWhole (state_of (setting context.now) self.old) }
         requires core { core.0 < length self.old.nodes.items }
         requires spare { 1 ≤ self.old.pool.spare }
-        ensures state { state_of (setting context.now) self.new ≡ sends (state_of (setting context.now) self.old) (TheCore core) sent }
+        ensures state { state_of (setting context.now) self.new ≡ sends (state_of (setting context.now) self.old) (TheCore core) sent.now }
         ensures own { (n : NodeParts) → slice_get self.old.nodes.items core.0 ≡ Some n
             → self.new.own ≡ slice_set self.old.own core.0 (own_event (setting context.now) n) }
     {
@@ -50,6 +52,7 @@ impl Content {
     }
 
     /// The next instruction of a core, which may go on.
+    #[inline(always)]
     pub(crate) fn instruct(&mut self, context: &Context<'_>, core: CoreId) -> Stepped
         requires whole { IsWhole (state_of (setting context.now) self.old) }
         requires known { KnowsOwn (setting context.now) self.old }
@@ -60,7 +63,7 @@ impl Content {
         ensures known { KnowsOwn (setting context.now) self.new }
     {
         let step = instruct_at(&mut self.nodes, core.0 as usize, context);
-        self.core_sends(context, core, step.sent);
+        self.core_sends(context, core, &step.sent);
         Stepped {
             kind: EventKind::Instr,
             seen: step.seen,
@@ -69,6 +72,7 @@ impl Content {
     }
 
     /// A core, which may, evicts a word.
+    #[inline(always)]
     pub(crate) fn evict(&mut self, context: &Context<'_>, core: CoreId, word: WordId) -> Stepped
         requires whole { IsWhole (state_of (setting context.now) self.old) }
         requires known { KnowsOwn (setting context.now) self.old }
@@ -79,11 +83,12 @@ impl Content {
         ensures known { KnowsOwn (setting context.now) self.new }
     {
         let sent = evict_at(&mut self.nodes, core.0 as usize, context, word);
-        self.core_sends(context, core, sent);
+        self.core_sends(context, core, &sent);
         silent(EventKind::Evict)
     }
 
     /// A core, which may, arrives at the barrier.
+    #[inline(always)]
     pub(crate) fn arrive(&mut self, context: &Context<'_>, core: CoreId) -> Stepped
         requires whole { IsWhole (state_of (setting context.now) self.old) }
         requires known { KnowsOwn (setting context.now) self.old }
@@ -94,71 +99,74 @@ impl Content {
         ensures known { KnowsOwn (setting context.now) self.new }
     {
         let sent = arrive_at(&mut self.nodes, core.0 as usize, context);
-        self.core_sends(context, core, Some(sent));
+        self.core_sends(context, core, &Some(sent));
         silent(EventKind::Arrive)
     }
 
     /// A core gets a message, where it is there; the lock that it is granted by it.
-    fn core_gets(&mut self, context: &Context<'_>, core: CoreId, message: Message) -> Option<Grant>
+    #[inline(always)]
+    fn core_gets(&mut self, context: &Context<'_>, core: CoreId, message: &Message) -> Option<Grant>
         requires whole { IsWhole (state_of (setting context.now) self.old) }
         requires known { KnowsOwn (setting context.now) self.old }
         requires spare { 1 ≤ self.old.pool.spare }
-        ensures state { state_of (setting context.now) self.new ≡ core_gets (state_of (setting context.now) self.old) core message (slice_get self.old.nodes.items core.0) }
-        ensures granted { result ≡ granted_by (setting context.now) message (slice_get self.old.nodes.items core.0) }
+        ensures state { state_of (setting context.now) self.new ≡ core_gets (state_of (setting context.now) self.old) core message.now (slice_get self.old.nodes.items core.0) }
+        ensures granted { result ≡ granted_by (setting context.now) message.now (slice_get self.old.nodes.items core.0) }
         ensures known { KnowsOwn (setting context.now) self.new }
     {
         let place = core.0 as usize;
         if place >= self.nodes.len() {
             return None;
         }
-        let received = receive_at(&mut self.nodes, place, context, message);
-        self.core_sends(context, core, received.sent);
+        let received = receive_at(&mut self.nodes, place, context, *message);
+        self.core_sends(context, core, &received.sent);
         received.granted
     }
 
     /// A bank gets a message, where it is there.
-    fn bank_gets(&mut self, context: &Context<'_>, bank: BankId, message: Message)
+    #[inline(always)]
+    fn bank_gets(&mut self, context: &Context<'_>, bank: BankId, message: &Message)
         requires whole { IsWhole (state_of (setting context.now) self.old) }
         requires known { KnowsOwn (setting context.now) self.old }
         requires spare { 1 ≤ self.old.pool.spare }
-        ensures state { state_of (setting context.now) self.new ≡ bank_handles (state_of (setting context.now) self.old) (TheBank bank) bank.0 message (slice_get self.old.banks.items bank.0) }
+        ensures state { state_of (setting context.now) self.new ≡ bank_handles (state_of (setting context.now) self.old) (TheBank bank) bank.0 message.now (slice_get self.old.banks.items bank.0) }
         ensures known { KnowsOwn (setting context.now) self.new }
     {
         if bank.0 as usize >= self.banks.len() {
             return;
         }
-        let sent = handle_at(&mut self.banks, bank.0 as usize, message);
+        let sent = handle_at(&mut self.banks, bank.0 as usize, *message);
         let from = Actor::Bank(bank);
         let index = from.index(context.shape.cores, context.shape.banks);
-        send(&mut self.pool, &mut self.numbers, index, from, sent);
+        send(&mut self.pool, &mut self.numbers, index, from, &sent);
     }
 
     /// The keeper gets a message.
-    fn keeper_gets(&mut self, context: &Context<'_>, message: Message)
+    fn keeper_gets(&mut self, context: &Context<'_>, message: &Message)
         requires whole { IsWhole (state_of (setting context.now) self.old) }
         requires known { KnowsOwn (setting context.now) self.old }
         requires spare { (setting context.now).shape.cores ≤ self.old.pool.spare }
-        ensures state { state_of (setting context.now) self.new ≡ keeper_handles (state_of (setting context.now) self.old) (keeper_gets self.old.keeper message) }
+        ensures state { state_of (setting context.now) self.new ≡ keeper_handles (state_of (setting context.now) self.old) (keeper_gets self.old.keeper message.now) }
         ensures known { KnowsOwn (setting context.now) self.new }
     {
-        let verdict = self.keeper.handle(message);
+        let verdict = self.keeper.handle(*message);
         let cores = context.shape.cores;
         let index = Actor::Keeper.index(cores, context.shape.banks);
         send_letters(&mut self.pool, &mut self.numbers, index, cores, verdict);
     }
 
     /// An actor gets a message; the lock that a core is granted by it.
+    #[inline(always)]
     pub(crate) fn deliver(
         &mut self,
         context: &Context<'_>,
         to: Actor,
-        message: Message,
+        message: &Message,
     ) -> Option<Grant>
         requires whole { IsWhole (state_of (setting context.now) self.old) }
         requires known { KnowsOwn (setting context.now) self.old }
         requires spare { (setting context.now).shape.cores ≤ self.old.pool.spare }
-        ensures state { state_of (setting context.now) self.new ≡ gets (state_of (setting context.now) self.old) to message }
-        ensures granted { result ≡ grant_of_mail (state_of (setting context.now) self.old) to message }
+        ensures state { state_of (setting context.now) self.new ≡ gets (state_of (setting context.now) self.old) to message.now }
+        ensures granted { result ≡ grant_of_mail (state_of (setting context.now) self.old) to message.now }
         ensures known { KnowsOwn (setting context.now) self.new }
     {
         match to {
@@ -187,7 +195,7 @@ impl Content {
         match self.pool.take(id) {
             None => silent(EventKind::Instr),
             Some(mail) => {
-                let granted = self.deliver(context, mail.to, mail.message);
+                let granted = self.deliver(context, mail.to, &mail.message);
                 Stepped {
                     kind: mail.message.kind(),
                     seen: None,

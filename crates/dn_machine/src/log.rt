@@ -1,4 +1,4 @@
-ghost use Rattle.std.specs.Prelude.{◌≡◌, ◌+◌, ◌*◌, ◌<◌, ◌≤◌, [], ◌∷◌, ◌++◌, length, slice_get, Some, OnOk, IfOk};
+ghost use Rattle.std.specs.Prelude.{◌≡◌, ◌+◌, ◌*◌, ◌<◌, ◌≤◌, [], ◌∷◌, ◌++◌, length, slice_get, Some, None, OnOk, IfOk};
 ghost use Rattle.std.specs.List.{filter_map};
 ghost use Rattle.grant_log.specs.Counts.{kind_count};
 ghost use Rattle.dn_machine.specs.Ends.{no_ends, with_end, end_in, end_index, noted_ends};
@@ -46,6 +46,7 @@ fn no_ends(alloc: Global, phases: usize) -> Result<Sequence<Option<TaskEnd>>, Me
 }
 
 /// Notes an end in its place.
+#[inline(always)]
 fn note_end(table: &mut Sequence<Option<TaskEnd>>, end: Option<TaskEnd>)
     ensures { table.new ≡ with_end end table.old }
 {
@@ -75,8 +76,7 @@ impl Log {
         })
     }
 
-    /// Notes an event of a kind, the grant that it tells, and how the task of the core that it changed stands. The kind's count is
-    /// below the greatest of its type.
+    /// Notes an event of a kind, and the grant that it tells. The kind's count is below the greatest of its type.
     ///
     /// # Errors
     /// `Memory` where there is no room; the log is then of no more use.
@@ -86,17 +86,15 @@ impl Log {
         event: Event,
         kind: EventKind,
         granted: Option<Grant>,
-        end: Option<TaskEnd>,
     ) -> Result<(), Memory>
         requires { kind_count kind self.old.counts < 18446744073709551615 }
-        ensures { OnOk result (self.new ≡ with_told event kind granted end self.old) }
+        ensures { OnOk result (self.new ≡ with_told event kind granted None self.old) }
     {
         self.events.push(event)?;
         if let Some(grant) = granted {
             self.grants.push(grant)?;
         }
         self.counts.add(kind);
-        note_end(&mut self.ends, end);
         Ok(())
     }
 
@@ -110,7 +108,9 @@ impl Log {
         ensures { OnOk result (self.new ≡ with_event happened self.old) }
     {
         let told = happened.observed;
-        self.note_event(happened.event, told.kind, told.granted, happened.end)
+        self.note_event(happened.event, told.kind, told.granted)?;
+        note_end(&mut self.ends, happened.end);
+        Ok(())
     }
 
     /// Notes how a task stands, in its place.

@@ -12,6 +12,7 @@ use registration_protocol::{Context, Node, Received, Step};
 use registry_bank::Bank;
 
 /// The next instruction of the node at this place.
+#[inline(always)]
 pub(crate) fn instruct_at(nodes: &mut Vec<Node>, place: usize, context: &Context<'_>) -> Step
     requires context { IsContext (setting context.now) }
     requires place { place < length nodes.old.items }
@@ -26,6 +27,7 @@ pub(crate) fn instruct_at(nodes: &mut Vec<Node>, place: usize, context: &Context
 }
 
 /// The node at this place evicts a word.
+#[inline(always)]
 pub(crate) fn evict_at(
     nodes: &mut Vec<Node>,
     place: usize,
@@ -45,6 +47,7 @@ pub(crate) fn evict_at(
 }
 
 /// The node at this place arrives at the barrier.
+#[inline(always)]
 pub(crate) fn arrive_at(nodes: &mut Vec<Node>, place: usize, context: &Context<'_>) -> Outgoing
     requires place { place < length nodes.old.items }
     requires fits { (n : NodeParts) → slice_get nodes.old.items place ≡ Some n → Fits (setting context.now) n }
@@ -58,6 +61,7 @@ pub(crate) fn arrive_at(nodes: &mut Vec<Node>, place: usize, context: &Context<'
 }
 
 /// The node at this place gets a message.
+#[inline(always)]
 pub(crate) fn receive_at(
     nodes: &mut Vec<Node>,
     place: usize,
@@ -76,6 +80,7 @@ pub(crate) fn receive_at(
 }
 
 /// What the node at this place does next by itself.
+#[inline(always)]
 pub(crate) fn own_at(nodes: &[Node], place: usize, context: &Context<'_>) -> Option<Event>
     requires context { IsContext (setting context.now) }
     requires place { place < length nodes.now }
@@ -87,6 +92,7 @@ pub(crate) fn own_at(nodes: &[Node], place: usize, context: &Context<'_>) -> Opt
 }
 
 /// The bank at this place gets a message.
+#[inline(always)]
 pub(crate) fn handle_at(banks: &mut Vec<Bank>, place: usize, message: Message) -> Option<Outgoing>
     requires place { place < length banks.old.items }
     ensures { (b : BankParts) → slice_get banks.old.items place ≡ Some b

@@ -10,6 +10,7 @@ use message_net::{Actor, Message, Outgoing, Pool};
 use phase_barrier::Verdict;
 
 /// The number of an actor's next mail.
+#[inline(always)]
 pub(crate) fn next_number(numbers: &Sequence<u32>, place: usize) -> u32
     requires { place < length numbers.now }
     ensures { result ≡ slice_index numbers.now place }
@@ -18,20 +19,21 @@ pub(crate) fn next_number(numbers: &Sequence<u32>, place: usize) -> u32
 }
 
 /// An actor that stands at the place sends a message, if it does: a mail with the actor's next number is in flight.
+#[inline(always)]
 pub(crate) fn send(
     pool: &mut Pool,
     numbers: &mut Sequence<u32>,
     place: usize,
     from: Actor,
-    sent: Option<Outgoing>,
+    sent: &Option<Outgoing>,
 )
     requires place { place < length numbers.old }
     requires few { slice_index numbers.old place < 4294967295 }
     requires new { count_of (record { sender = from; number = slice_index numbers.old place }) pool.old.mails ≡ 0 }
     requires room { length pool.old.mails < 4294967295 }
     requires spare { 1 ≤ pool.old.spare }
-    ensures mails { pool.new.mails ≡ mails_with from (slice_index numbers.old place) sent pool.old.mails }
-    ensures numbers { numbers.new ≡ numbers_with place sent numbers.old }
+    ensures mails { pool.new.mails ≡ mails_with from (slice_index numbers.old place) sent.now pool.old.mails }
+    ensures numbers { numbers.new ≡ numbers_with place sent.now numbers.old }
 {
     if let Some(outgoing) = sent {
         let number = next_number(numbers, place);

@@ -11,7 +11,7 @@ ghost use Rattle.machine_rules.specs.State.{initial_state};
 ghost use Rattle.machine_rules.specs.Next.{enabled};
 ghost use Rattle.machine_rules.specs.Sound.{IsMachine};
 ghost use Rattle.dn_machine.specs.Content.{state_of, KnowsOwn, IsWhole};
-ghost use Rattle.dn_machine.specs.Ends.{noted_ending};
+ghost use Rattle.dn_machine.specs.Ends.{noted_ending, with_end};
 ghost use Rattle.dn_machine.specs.Kept.{IsKept};
 ghost use Rattle.dn_machine.specs.Log.{own_core, core_of, end_there, CameAndNoted, no_log, HasRun};
 ghost use Rattle.dn_machine.specs.Pick.{pick};
@@ -65,10 +65,21 @@ impl Content {
         }
     }
 
+    /// Notes how the task of a core stands, where a core is asked for, and its task has ended or waits for a lock.
+    #[inline(always)]
+    fn note_end(&self, core: Option<CoreId>, log: &mut Log)
+        ensures { (C : Setting) → log.new ≡ record log.old { ends = with_end (end_there (state_of C self.now) core) log.old.ends } }
+    {
+        if let Some(end) = self.end_there(core) {
+            log.note_end(end);
+        }
+    }
+
     /// The own event of a core, which may come, and is noted.
     ///
     /// # Errors
     /// `Memory` where there is no room for the log.
+    #[inline(always)]
     fn make_own(&mut self, context: &Context<'_>, event: Event, log: &mut Log) -> Result<(), Memory>
         requires whole { IsWhole (state_of (setting context.now) self.old) }
         requires known { KnowsOwn (setting context.now) self.old }
@@ -79,15 +90,18 @@ impl Content {
         ensures came { OnOk result (CameAndNoted (state_of (setting context.now) self.old) (state_of (setting context.now) self.new) event log.old log.new) }
         ensures known { KnowsOwn (setting context.now) self.new }
     {
-        let observed = self.act(context, event);
-        let end = self.end_there(own_core(event));
-        log.note_event(event, observed.kind, observed.granted, end)
+        // It is noted first, so that it needn't be kept until it has come. It grants nothing.
+        log.note_event(event, event.own_kind(), None)?;
+        self.act(context, event);
+        self.note_end(own_core(event), log);
+        Ok(())
     }
 
     /// The handling of the mail at a place of the pool, which is taken from there; it is noted.
     ///
     /// # Errors
     /// `Memory` where there is no room for the log.
+    #[inline(always)]
     fn make_handling(
         &mut self,
         context: &Context<'_>,
@@ -105,15 +119,17 @@ impl Content {
         ensures known { KnowsOwn (setting context.now) self.new }
     {
         let mail = self.pool.take_at(place);
-        let granted = self.deliver(context, mail.to, mail.message);
-        let end = self.end_there(core_of(mail.to));
-        log.note_event(Event::Handle(mail.id), mail.message.kind(), granted, end)
+        let granted = self.deliver(context, mail.to, &mail.message);
+        log.note_event(Event::Handle(mail.id), mail.message.kind(), granted)?;
+        self.note_end(core_of(mail.to), log);
+        Ok(())
     }
 
     /// The event that a draw picks, if one may come, and is noted; there is room for the mails. Whether one came.
     ///
     /// # Errors
     /// `Memory` where there is no room for the log.
+    #[inline(always)]
     fn make(&mut self, context: &Context<'_>, draw: u32, log: &mut Log) -> Result<bool, Memory>
         requires machine { IsMachine (state_of (setting context.now) self.old) }
         requires whole { IsWhole (state_of (setting context.now) self.old) }
@@ -143,6 +159,7 @@ impl Content {
     ///
     /// # Errors
     /// `Memory` where there is no room for the mails or the log.
+    #[inline(always)]
     fn advance(&mut self, context: &Context<'_>, draw: u32, log: &mut Log) -> Result<bool, Memory>
         requires machine { IsMachine (state_of (setting context.now) self.old) }
         requires whole { IsWhole (state_of (setting context.now) self.old) }

@@ -24,7 +24,7 @@ impl Content {
         ensures known { KnowsOwn (setting context.now) self.new }
     {
         let mail = self.pool.take(id)?;
-        let granted = self.deliver(context, mail.to, mail.message);
+        let granted = self.deliver(context, mail.to, &mail.message);
         let stepped = Stepped {
             kind: mail.message.kind(),
             seen: None,

@@ -1,7 +1,8 @@
 ghost use Rattle.std.specs.Prelude.{◌≡◌, ◌<◌, IfOk, slice_get};
 ghost use Rattle.registration_protocol.specs.Setting.{setting};
+ghost use Rattle.registration_protocol.specs.Node.{entry_of};
 ghost use Rattle.machine_rules.specs.State.{entry_in, home_at};
-ghost use Rattle.machine_rules.specs.Memory.{pending_among, value_in_entry, kept_value, word_value, memory_of};
+ghost use Rattle.machine_rules.specs.Memory.{pending_value, pending_among, value_in_entry, kept_value, word_value, memory_of};
 ghost use Rattle.dn_machine.specs.Content.{state_of};
 
 use crate::content::Content;
@@ -11,18 +12,25 @@ use registry_bank::BankWord;
 use std::alloc::Global;
 use word_cache::Entry;
 
+/// The value that a core is about to register for a word. A cache is searched only where some entry of it is pending.
+fn pending_at(node: &Node, word: WordId) -> Option<u32>
+    ensures { result ≡ pending_value (entry_of node.now word.0) }
+{
+    if node.cache().pending() == 0 {
+        return None;
+    }
+    match node.entry(word) {
+        Some(Entry::Registered { value, pending }) if pending => Some(value),
+        _ => None,
+    }
+}
+
 /// The value that some core is about to register for a word.
 fn pending_among(nodes: &[Node], word: WordId) -> Option<u32>
     ensures { result ≡ pending_among nodes.now word.0 }
 {
     for node in nodes {
-        if let Some(
-            Entry::Registered {
-                value,
-                pending: true,
-            },
-        ) = node.entry(word)
-        {
+        if let Some(value) = pending_at(node, word) {
             return Some(value);
         }
     }

@@ -66,11 +66,13 @@ one-replayed P t a b is also =
 
 replayed_run-one : (P : ProgramParts) (t : Trace) (out other : Output) → IsReplayedRun P t out → IsReplayedRun P t other → out ≡ other
 replayed_run-one P t out other is also =
-    let same : is.is.setting ≡ also.is.setting = same-setting P (shape_told P t.shape) t.shape.fuel is.is.setting also.is.setting is.is.setting_is also.is.setting_is in
+    let first = is.told in
+    let second = also.told in
+    let same : first.is.setting ≡ second.is.setting = same-setting P (shape_told P t.shape) t.shape.fuel first.is.setting second.is.setting first.is.setting_is second.is.setting_is in
     let run : is.run ≡ also.run =
-    one-record (initial_state also.is.setting) is.run also.run (is.events ∙ sym also.events) is.is.each_kind also.is.each_kind
-    (subst (λ (C : Setting). IsRecord (initial_state C) is.run) same is.is.machine.is_true)
-    also.is.machine.is_true
+    one-record (initial_state second.is.setting) is.run also.run (first.events ∙ sym second.events) first.is.each_kind second.is.each_kind
+    (subst (λ (C : Setting). IsRecord (initial_state C) is.run) same first.is.machine.is_true)
+    second.is.machine.is_true
     in
     is.answer ∙ ap (λ (r : RunRecord). output_of_run (reported r) r) run ∙ sym also.answer
 
@@ -86,7 +88,7 @@ no_run-one P t l k is also =
 
 run-or_none : (P : ProgramParts) (t : Trace) (line : List ℕ) (out : Output) → IsReplayedRun P t out → IsNoRun P t line → ⊥
 run-or_none P t line out is none =
-    let same : none.replayed ≡ Complete is.run.ending is.run.grants is.run.counts = one-replayed P t none.replayed _ none.is is.replay in
+    let same : none.replayed ≡ Complete is.run.ending is.run.grants is.run.counts = one-replayed P t none.replayed _ none.is is.told.replay in
     subst (λ (r : Replayed). refused_by r line) same none.says
 
 -- ---- the answer

@@ -124,7 +124,7 @@ done-run mode.TheVariants.Trace o text out h =
     subst (RunsWell mode.TheVariants.Trace o) (sym h.holds.answer) (record { program = h.program; checked = h.checked; run = h.holds.is; ends = refl })
 done-run mode.TheVariants.Replay o text out h =
     subst (RunsWell mode.TheVariants.Replay o) (sym h.holds.holds.answer)
-    (record { program = h.holds.program; checked = h.holds.checked; run = (h.trace.shape, h.is.told.head.shape, h.holds.holds.is); ends = refl })
+    (record { program = h.holds.program; checked = h.holds.checked; run = (h.trace.shape, h.is.told.head.shape, h.holds.holds.told.is); ends = refl })
 done-run mode.TheVariants.Time o text out h =
     subst (RunsWell mode.TheVariants.Time o) (sym h.holds.timed.answer) (record { program = h.program; checked = h.checked; run = h.holds.is; ends = refl })
 done-run mode.TheVariants.Prove o text out h = subst (RunsWell mode.TheVariants.Prove o) (sym h.holds.answer) tt

@@ -23,7 +23,7 @@ replay-of_run P o text r is =
 
 run-again : (P : ProgramParts) (o : Options) (text : List ℕ) (document answer : Output) (is : IsTracedRun P o text document) → answer ≡ output_of_run (reported is.run) is.run
     → IsReplayedRun P (trace_of o text is.run) answer
-run-again P o text document answer is e = record { run = is.run; events = refl; replay = replay-of_run P o text is.run is.is; is = is.is.run; answer = e }
+run-again P o text document answer is e = record { run = is.run; told = record { events = refl; replay = replay-of_run P o text is.run is.is; is = is.is.run }; answer = e }
 
 replays-as : (o : Options) (text : List ℕ) (document answer : Output) (is : HasChecked text (λ P. IsTracedRun P o text document))
     → answer ≡ output_of_run (reported is.holds.run) is.holds.run → IsReplayed document.bytes answer

@@ -56,12 +56,16 @@ shape_told P s = record { cores = cores_of P; banks = s.banks; sets = s.sets; wa
 abbrev pub IsReplayIn : ProgramParts → Trace → Replayed → Type 0
 IsReplayIn P t r = IsReplayOf P (shape_told P t.shape) t.shape.fuel t.events r
 
--- the document's events are a complete run of its machine: the output hands that run back, and reports it
+-- the events that a document tells are a complete run of its machine, and r is the record of that run
+pub record IsRunTold (P : ProgramParts) (t : Trace) (r : RunRecord) : Type 0 where
+  pub events : r.events ≡ t.events
+  pub replay : IsReplayIn P t (Complete r.ending r.grants r.counts)
+  pub is : IsRunOf P (shape_told P t.shape) t.shape.fuel r
+
+-- the output hands the run of a document back, and reports it
 pub record IsReplayedRun (P : ProgramParts) (t : Trace) (out : Output) : Type 0 where
   pub run : RunRecord
-  pub events : run.events ≡ t.events
-  pub replay : IsReplayIn P t (Complete run.ending run.grants run.counts)
-  pub is : IsRunOf P (shape_told P t.shape) t.shape.fuel run
+  pub told : IsRunTold P t run
   pub answer : out ≡ output_of_run (reported run) run
 
 -- the line that refuses events whose replay gives this; none refuses a complete run

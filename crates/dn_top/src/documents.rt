@@ -5,8 +5,8 @@ ghost use Rattle.run_replay.specs.Document.{IsDocument, IsTrace, document_of};
 ghost use Rattle.run_replay.specs.Refusal.{refusal_text};
 ghost use Rattle.dn_top.specs.Answers.{IsRefusedDocument, IsReplayed};
 ghost use Rattle.front_end.specs.Texts.{IsStop};
-ghost use Rattle.dn_top.specs.Documents.{IsNoDocument, IsNoRun, IsReplayedRun, shape_told, sizes_of, trace_of};
-ghost use Rattle.dn_top.specs.Runs.{output_of_run};
+ghost use Rattle.dn_top.specs.Documents.{IsNoDocument, IsNoRun, IsReplayedRun, IsRunTold, shape_told, sizes_of, trace_of};
+ghost use Rattle.dn_top.specs.Runs.{output_of_run, IsPrintable};
 
 use crate::output::Output;
 use crate::runs::{handed_back, report_run};
@@ -53,7 +53,7 @@ pub(crate) fn trace_run(
 
 /// The refusal of a document for this fault, which isn't out of memory: `Refused` with its line, or `Memory` where there is no
 /// room for that.
-pub fn refused_trace(alloc: Global, why: &TraceRefusal) -> Stop
+fn refused_trace(alloc: Global, why: &TraceRefusal) -> Stop
     requires { why.now ≢ OfFault NoMemory }
     ensures { IsStop (λ line. line ≡ refusal_text why.now) result }
 {
@@ -90,10 +90,16 @@ pub fn shape_told(sizes: TraceShape, program: &Program) -> Shape
     }
 }
 
-/// Makes the events of a document once more, and reports the run.
-fn run_again(alloc: Global, trace: Trace, checked: Checked) -> Result<Output, Stop>
+/// The run that a document tells: its events are made once more on the machine of the document's checked program.
+///
+/// The run has few words, tasks and events, so that it can be printed.
+///
+/// # Errors
+/// `Refused` with the line that says why the events are no complete run, and `Memory` where there is no room.
+pub fn run_told(alloc: Global, trace: Trace, checked: Checked) -> Result<RunRecord, Stop>
     requires { IsTrace trace }
-    ensures ok { IfOk result (IsReplayedRun checked trace) }
+    ensures told { IfOk result (IsRunTold checked trace) }
+    ensures printable { IfOk result IsPrintable }
     ensures stop { IfErr result (IsStop (IsNoRun checked trace)) }
 {
     let program = checked.program();
@@ -106,20 +112,27 @@ fn run_again(alloc: Global, trace: Trace, checked: Checked) -> Result<Output, St
             ending,
             grants,
             counts,
-        } => Ok(report_run(
-            alloc,
-            RunRecord {
-                events: trace.events,
-                grants,
-                counts,
-                ending,
-            },
-        )?),
+        } => Ok(RunRecord {
+            events: trace.events,
+            grants,
+            counts,
+            ending,
+        }),
         Replayed::NotEnabled { number } => {
             Err(refused_trace(alloc, &TraceRefusal::NotEnabled { number }))
         }
         Replayed::Incomplete => Err(refused_trace(alloc, &TraceRefusal::Incomplete)),
     }
+}
+
+/// Makes the events of a document once more, and reports the run.
+fn run_again(alloc: Global, trace: Trace, checked: Checked) -> Result<Output, Stop>
+    requires { IsTrace trace }
+    ensures ok { IfOk result (IsReplayedRun checked trace) }
+    ensures stop { IfErr result (IsStop (IsNoRun checked trace)) }
+{
+    let run = run_told(alloc, trace, checked)?;
+    Ok(report_run(alloc, run)?)
 }
 
 /// Takes a document, and makes its run once more: the first that is wrong refuses it, of the bytes, of the text that they tell,

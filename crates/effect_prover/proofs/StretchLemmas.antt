@@ -2,19 +2,21 @@
 use Rattle.std.proofs.Common.{◌≡◌, ℕ, zero, suc, ◌+◌, ◌-◌, ◌*◌, ◌/◌, ◌%◌, ◌^◌, ◌<◌, ◌≤◌, max, Bool, true, false, ◌&&◌, ◌||◌, nat_lt, nat_le, List, [], ◌∷◌, ◌++◌, length, get_or, take, slice_get, Some, None, refl, sym, ap, ◌∙◌, subst, arith, ⊎_elim, Decides}
 use Rattle.std.proofs.lemmas.Bool.{true≢false, false≢true, cases_lt, or_left, or_right, or_from, and_from, and_left, and_right, le-leb, lt-ltb, le-ltb, lt-leb, cond-true, cond-false}
 use Rattle.std.proofs.lemmas.List.{take_more, take_all, length-take-le}
+use Rattle.std.specs.List.{All}
+use Rattle.std.proofs.lemmas.List.Elements.{All-nil, All-cons}
 use Rattle.std.proofs.lemmas.Option.{none-some, same_Some}
 use Rattle.region_table.specs.declared.declared.TaskDecl.{TaskDecl}
-use Rattle.effect_prover.specs.declared.inside.Access.{Access}
+use Rattle.effect_prover.specs.declared.usable.Access.{Access}
 use Rattle.rv_isa.specs.declared.instr.Width.{Width}
 use Rattle.rv_isa.specs.declared.instr.Width as width
 use Rattle.region_table.specs.declared.interval.Interval.{Interval}
-use Rattle.region_table.specs.Words.{has, in_interval}
+use Rattle.region_table.specs.Words.{has, in_interval, AreApart}
 use Rattle.rv_core.specs.Access.{is_held, under}
 use Rattle.rv_core.proofs.HighLocks.{holds-high}
 use Rattle.rv_core.specs.Address.{data_at, size_of}
 use Rattle.effect_prover.specs.declared.range.Range.{Range}
 use Rattle.effect_prover.specs.Inside.{IsAllowed, AreAllowed}
-use Rattle.effect_prover.specs.Stretch.{IsStretch, may_use, AreUsable, IsLastMultiple, IsFirstMultiple}
+use Rattle.effect_prover.specs.Stretch.{IsStretch, may_use, AreUsable, HasWord, IsLastMultiple, IsFirstMultiple}
 
 -- ---- stretches
 
@@ -68,11 +70,11 @@ stretch-free held lock is word h = stretch-none (λ w. is_held held lock && has 
 pub stretch-high : (held lock : ℕ) (is : List Interval) (word : ℕ) → held < 2 ^ 32 → 32 ≤ lock → IsStretch (λ w. is_held held lock && has is w) word word
 stretch-high held lock is word small high = stretch-free held lock is word (holds-high held lock small high)
 
-or-none : (a : Bool) → (a || false) ≡ a
+pub or-none : (a : Bool) → (a || false) ≡ a
 or-none true = refl
 or-none false = refl
 
-or-assoc : (a b c : Bool) → (a || (b || c)) ≡ ((a || b) || c)
+pub or-assoc : (a b c : Bool) → (a || (b || c)) ≡ ((a || b) || c)
 or-assoc true b c = refl
 or-assoc false b c = refl
 
@@ -87,14 +89,19 @@ under-push (t ∷ ss) s first held w =
     ∙ or-assoc here rest (is_held held (first + 1 + length ss) && has s w)
     ∙ ap (λ (n : ℕ). (here || rest) || (is_held held n && has s w)) (let e : first + 1 + length ss ≡ first + suc (length ss) = omega arith in e)
 
+-- one more set of a lock
+pub under-more : (sets : List (List Interval)) (k : ℕ) (s : List Interval) (held w : ℕ) → s ≡ get_or sets k s → k < length sets
+    → under (take (k + 1) sets) 0 held w ≡ (under (take k sets) 0 held w || (is_held held k && has s w))
+under-more sets k s held w is within =
+    ap (λ (ss : List (List Interval)). under ss 0 held w) (take_more sets k s within ∙ ap (λ (x : List Interval). take k sets ++ x ∷ []) (sym is))
+    ∙ under-push (take k sets) s 0 held w
+    ∙ ap (λ (n : ℕ). under (take k sets) 0 held w || (is_held held n && has s w)) (let l = length-take-le k sets (omega arith) in let e : 0 + length (take k sets) ≡ k = omega arith in e)
+
 pub stretch-push : (sets : List (List Interval)) (k : ℕ) (s : List Interval) (held word e f : ℕ) → s ≡ get_or sets k s → k < length sets → IsStretch (under (take k sets) 0 held) word e
     → IsStretch (λ w. is_held held k && has s w) word f → IsStretch (under (take (k + 1) sets) 0 held) word (max e f)
 stretch-push sets k s held word e f is within h g =
     stretch-same (λ w. under (take k sets) 0 held w || (is_held held k && has s w)) (under (take (k + 1) sets) 0 held) word (max e f)
-    (λ w.
-    ap (λ (ss : List (List Interval)). under ss 0 held w) (take_more sets k s within ∙ ap (λ (x : List Interval). take k sets ++ x ∷ []) (sym is))
-    ∙ under-push (take k sets) s 0 held w
-    ∙ ap (λ (n : ℕ). under (take k sets) 0 held w || (is_held held n && has s w)) (let l = length-take-le k sets (omega arith) in let e : 0 + length (take k sets) ≡ k = omega arith in e))
+    (λ w. under-more sets k s held w is within)
     (stretch-or (under (take k sets) 0 held) (λ w. is_held held k && has s w) word e f h g)
 
 pub stretch-first : (sets : List (List Interval)) (held word : ℕ) → IsStretch (under (take 0 sets) 0 held) word word
@@ -116,6 +123,23 @@ pub usable-more : (access : Access) (d : TaskDecl) (held first word end : ℕ) �
     → (w : ℕ) → first ≤ w → w < end → may_use access d held w ≡ true
 usable-more access d held first word end h s w l m =
     ⊎_elim (λ (before : w < word). h w l before) (λ (past : word ≤ w). s.all w past m) (cases_lt w word)
+
+pub in-no : (set : List Interval) (first last word : ℕ) → first ≤ word → word ≤ last → has set word ≡ false → Decides false ((w : ℕ) → first ≤ w → w ≤ last → has set w ≡ true)
+in-no set first last word l h none = (λ e. absurd (false≢true e), λ k. absurd (true≢false (sym (k word l h) ∙ none)))
+
+pub in-yes : (set : List Interval) (first last word : ℕ) → last < word → ((w : ℕ) → first ≤ w → w < word → has set w ≡ true) → Decides true ((w : ℕ) → first ≤ w → w ≤ last → has set w ≡ true)
+in-yes set first last word past h = (λ e w l m. h w l (omega arith), λ k. refl)
+
+pub in-more : (set : List Interval) (first word end : ℕ) → ((w : ℕ) → first ≤ w → w < word → has set w ≡ true) → IsStretch (has set) word end → (w : ℕ) → first ≤ w → w < end → has set w ≡ true
+in-more set first word end h s w l m =
+    ⊎_elim (λ (before : w < word). h w l before) (λ (past : word ≤ w). s.all w past m) (cases_lt w word)
+
+-- ---- one set of several
+
+-- each interval of a set has a word
+pub words-some : (from : ℕ) (is : List Interval) → AreApart from is → All HasWord is
+words-some from [] a = All-nil HasWord
+words-some from (i ∷ is) a = All-cons HasWord i is a.1 (words-some (i.hi + 1) is a.2)
 
 -- ---- addresses
 
@@ -196,5 +220,7 @@ allowed-some access d held words w range first last b h f l low high k = (λ e. 
 pub ruleset stretches = (stretch-none, stretch-one, stretch-or, stretch-interval, stretch-held, stretch-free, stretch-high)
 
 pub ruleset usable = (usable-no, usable-yes, usable-more)
+
+pub ruleset within = (in-no, in-yes, in-more)
 
 pub ruleset allowing = (allowed-none, allowed-low, allowed-high, allowed-some)

@@ -1,5 +1,5 @@
 -- Tables to which rows are given, word by word.
-use Rattle.std.proofs.Common.{◌≡◌, ◌≢◌, ℕ, zero, suc, ◌+◌, ◌-◌, ◌*◌, ◌<◌, ◌≤◌, ◌⊎◌, inl, inr, Bool, true, false, Decides, List, length, get_or, replicate, slice_index_or, slice_set, Option, Some, None, refl, sym, ap, ◌∙◌, subst, arith, ⊎_elim}
+use Rattle.std.proofs.Common.{◌≡◌, ◌≢◌, ℕ, zero, suc, ◌+◌, ◌-◌, ◌*◌, ◌<◌, ◌≤◌, ◌⊎◌, inl, inr, Bool, true, false, List, length, get_or, replicate, slice_index_or, slice_set, Option, Some, None, refl, sym, ap, ◌∙◌, subst, arith, ⊎_elim}
 use Rattle.std.proofs.lemmas.Bool.{true≢false, cases_eq, cases_lt, eq-eqb, eqb-true}
 use Rattle.std.proofs.lemmas.List.{length-set, get_or-set_same, get_or-set_other, set-get_or, get_or_past, get_or-replicate, length-replicate, ext_get_or}
 use Rattle.std.proofs.lemmas.List.Sums.{sum_by-set}
@@ -27,7 +27,7 @@ use Rattle.effect_prover.specs.Row.{range_of, start_row, IsRow, IsBelow, IsUnder
 use Rattle.effect_prover.specs.Successors.{successors}
 use Rattle.effect_prover.specs.Table.{Table, row_at, address_at, instr_of, target_of, IsLoopHead, IsHeadRange, IsTable, Covers, IsPassedOn, IsClosed, IsLeastTable}
 use Rattle.effect_prover.specs.Blocks.{is_straight, IsStraightAt, is_leader, HasLeaders, leader_of, IsLast, row_behind, filled_row, filled_before, filled}
-use Rattle.effect_prover.specs.Sweep.{IsJoinedTo, row_room, room_of, table_room, HasHeads, row_is_pending, IsTableUnder, HasPassedOn, IsSwept, CoversAt, IsRowGiven, IsPut, AreMarked}
+use Rattle.effect_prover.specs.Sweep.{IsJoinedTo, IsTakenIn, row_room, room_of, table_room, HasHeads, row_is_pending, IsTableUnder, HasPassedOn, IsSwept, CoversAt, IsRowGiven, IsPut, AreMarked}
 use Rattle.effect_prover.proofs.RowLemmas.{under-itself, under-trans}
 use Rattle.effect_prover.proofs.JoinLemmas.{joined-row, joined-first, joined-second, joined-least, grown-room, row-room, same_row, same_range}
 use Rattle.effect_prover.proofs.SuccessorLemmas.{IsRowIn}
@@ -131,7 +131,7 @@ pub before-known : (P : ProgramParts) (L : List Bool) (t : Table) (i : ℕ) → 
 before-known P L t zero within rows = tt
 before-known P L t (suc i) within rows = filled-known P L t i (omega arith) rows
 
-pub put-none : (head : Bool) (argument : ℕ) (t : Table) (place : ℕ) (given row : Row) → IsJoinedTo head argument (row_at t place) given row → row_at t place ≡ Some row
+put-none : (head : Bool) (argument : ℕ) (t : Table) (place : ℕ) (given row : Row) → IsJoinedTo head argument (row_at t place) given row → row_at t place ≡ Some row
     → IsPut head argument t place given t false
 put-none head argument t place given row j same =
     record {
@@ -141,6 +141,17 @@ put-none head argument t place given row j same =
       changed = λ e. absurd (true≢false (sym e));
       unchanged = λ e. same;
     }
+
+-- a row that is taken in changes nothing
+pub put-taken : (head : Bool) (argument : ℕ) (t : Table) (place : ℕ) (given : Row) → IsTakenIn head argument (row_at t place) given → IsPut head argument t place given t false
+put-taken head argument t place given taken = by_row (row_at t place) refl taken
+  where
+    by_row : (o : Option Row) → row_at t place ≡ o → IsTakenIn head argument o given → IsPut head argument t place given t false
+    by_row None e h = absurd h
+    by_row (Some old) e h = put-none head argument t place given old (subst (λ (o : Option Row). IsJoinedTo head argument o given old) (sym e) h) e
+
+pub taken-itself : (head : Bool) (argument : ℕ) (o : Option Row) (given row : Row) → o ≡ Some row → IsJoinedTo head argument o given row → IsTakenIn head argument o given
+taken-itself head argument o given row e h = subst (λ (p : Option Row). IsTakenIn head argument p given) (sym e) (subst (λ (p : Option Row). IsJoinedTo head argument p given row) e h)
 
 pub put-some : (head : Bool) (argument : ℕ) (t : Table) (place : ℕ) (given row : Row) → IsJoinedTo head argument (row_at t place) given row → row_at t place ≢ Some row
     → IsPut head argument t place given (slice_set t place (Some row)) true
@@ -375,15 +386,6 @@ two-passed P d L t t1 t2 p q1 q2 cursor last c1 c2 row instr pc aim s good h wit
 pub known-rows : (o : Option Row) → IsRowIn o → IfSome o IsRow
 known-rows None h = tt
 known-rows (Some row) h = h
-
-pub to-count : (head : Bool) (argument : ℕ) (o : Option Row) (given row : Row) → IsJoinedTo head argument o given row → length row.ranges ≡ 32
-to-count head argument None given row j = j.count
-to-count head argument (Some old) given row j = j.count
-
--- two rows with the same ranges are the same where their locks are
-pub same-decided : (a b : Row) (r : Bool) → length a.ranges ≡ 32 → length b.ranges ≡ 32 → ((k : ℕ) → k < 32 → range_of a k ≡ range_of b k) → Decides r (a.held ≡ b.held) → Decides r (a ≡ b)
-same-decided a b r ca cb same h =
-    (λ e. same_row a b (ext_get_or (one 0) a.ranges b.ranges (omega arith) (λ k l. same k (omega arith))) (h.0 e), λ e. h.1 (ap (λ (z : Row). z.held) e))
 
 -- ---- where the sweep begins and ends
 

@@ -1,5 +1,5 @@
 -- The table that is kept from task to task.
-use Rattle.std.specs.Prelude.{◌≡◌, ℕ, Bool, List, length, Option, Some, None}
+use Rattle.std.specs.Prelude.{◌≡◌, Bool, List, length, Option, Some, None}
 use Rattle.region_table.specs.Program.{ProgramParts}
 use Rattle.region_table.specs.declared.declared.TaskDecl.{TaskDecl}
 use Rattle.effect_prover.specs.declared.task_table.TaskTable.{TaskTable}

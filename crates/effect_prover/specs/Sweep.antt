@@ -43,6 +43,11 @@ abbrev pub IsJoinedTo : Bool → ℕ → Option Row → Row → Row → Type 0
 IsJoinedTo head argument None given new = IsRowJoined head argument given given new
 IsJoinedTo head argument (Some old) given new = IsRowJoined head argument old given new
 
+-- the row of a word contains a row so that joining that to it changes nothing
+abbrev pub IsTakenIn : Bool → ℕ → Option Row → Row → Type 0
+IsTakenIn head argument None given = ⊥
+IsTakenIn head argument (Some old) given = IsRowJoined head argument old given old
+
 -- ---- room
 
 -- how many numbers of 32 bits aren't in the range

@@ -1,6 +1,6 @@
 //! The least ranges and rows that contain two: at a head with ends of a few kinds alone, so that a row there grows only a
 //! few times.
-ghost use Rattle.std.specs.Prelude.{◌≡◌, ◌≤◌, ◌<◌, min, max};
+ghost use Rattle.std.specs.Prelude.{◌≡◌, ◌≤◌, ◌<◌, min, max, Decides};
 ghost use Rattle.effect_prover.specs.Range.{IsRange};
 ghost use Rattle.effect_prover.specs.Row.{IsRow};
 ghost use Rattle.effect_prover.specs.Sweep.{IsEndUpTo, IsEndFrom, IsJoinedRange, IsRowJoined};
@@ -94,5 +94,23 @@ impl Row {
             ranges,
             held: self.held & given.held,
         }
+    }
+
+    /// Whether that row is this one.
+    pub(crate) fn takes_in(&self, given: &Row, head: bool, argument: u32) -> bool
+        requires old { IsRow self.now }
+        requires given { IsRow given.now }
+        ensures { Decides result (IsRowJoined head argument self.now given.now self.now) }
+    {
+        if self.held & given.held != self.held {
+            return false;
+        }
+        for number in 0..32 {
+            let range = self.ranges[number];
+            if !range.is_same(range.joined(given.ranges[number], head, argument)) {
+                return false;
+            }
+        }
+        true
     }
 }

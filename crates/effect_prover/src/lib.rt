@@ -18,6 +18,7 @@ mod row;
 mod successors;
 mod sweep;
 mod task_table;
+mod usable;
 
 pub use laws::{a_proven_program_runs_inside, a_task_has_one_least_table};
 pub use proved::{Proved, prove_text};

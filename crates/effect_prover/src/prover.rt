@@ -10,6 +10,7 @@ ghost use Rattle.effect_prover.specs.Blocks.{AreLed, filled_row, filled};
 ghost use Rattle.effect_prover.specs.Inside.{IsInsideAt, IsFirstOutside};
 ghost use Rattle.effect_prover.specs.Sweep.{HasHeads};
 ghost use Rattle.effect_prover.specs.Kept.{IsTableKept, IsTableReady};
+ghost use Rattle.effect_prover.specs.Stretch.{AreUsableKept};
 ghost use Rattle.effect_prover.specs.Answer.{IsProversAnswer, RunsInside, IsTaskAnswer, IsPhaseAnswer};
 
 use crate::blocks::row_here;
@@ -19,6 +20,7 @@ use crate::proved::Proved;
 use crate::row::Row;
 use crate::sweep::{address, heads, instr_at};
 use crate::task_table::{TaskTable, keep};
+use crate::usable::UsableSets;
 use dn_base::{CoreId, Memory, PhaseId};
 use effect_checker::Checked;
 use region_table::{Phase, Program, TaskDecl, a_program_has_words, a_program_is_well_formed};
@@ -26,62 +28,83 @@ use std::alloc::Global;
 
 /// Whether what a word's row says of its instruction is inside.
 fn place_is_inside(
+    alloc: Global,
     program: &Program,
     task: &TaskDecl,
     leaders: &[bool],
     rows: &[Option<Row>],
     row: &Option<Row>,
     place: usize,
-) -> bool
+    usable: &mut UsableSets,
+) -> Result<bool, Memory>
     requires program { IsProgram program.now }
     requires within { place < length program.now.code }
     requires row { IfSome row.now IsRow }
     requires here { row.now ≡ filled_row program.now leaders.now rows.now place }
-    ensures { Decides result (IsInsideAt program.now task.now (filled program.now leaders.now rows.now) place) }
+    requires kept { AreUsableKept task.now usable.old }
+    ensures kept { AreUsableKept task.now usable.new }
+    ensures answer { IfOk result (λ inside. Decides inside (IsInsideAt program.now task.now (filled program.now leaders.now rows.now) place)) }
 {
     let Some(row) = row else {
-        return true;
+        return Ok(true);
     };
     let Some(instr) = instr_at(program, place) else {
-        return true;
+        return Ok(true);
     };
-    is_inside(program, task, row, &instr)
+    is_inside(alloc, program, task, row, &instr, usable)
 }
 
 /// The first word of a table that isn't inside, where these are the table's rows at the leaders.
 #[tactic(auto, using(crate::proofs::AnswerLemmas::answers))]
 fn first_outside(
+    alloc: Global,
     program: &Program,
     task: &TaskDecl,
     leaders: &[bool],
     rows: &[Option<Row>],
-) -> Option<usize>
+) -> Result<Option<usize>, Memory>
     requires program { IsProgram program.now }
     requires led { AreLed program.now.code (length program.now.code) leaders.now }
     requires words { length rows.now ≡ length program.now.code }
     requires rows { (i : ℕ) (row : Row) → row_at (filled program.now leaders.now rows.now) i ≡ Some row → IsRow row }
-    ensures { IsFirstOutside program.now task.now (filled program.now leaders.now rows.now) result }
+    ensures { IfOk result (IsFirstOutside program.now task.now (filled program.now leaders.now rows.now)) }
 {
+    let mut usable = UsableSets::none();
     let mut row = None;
     for place in 0..rows.len() {
         row = row_here(program, leaders, rows, place, row);
-        if !place_is_inside(program, task, leaders, rows, &row, place) {
-            return Some(place);
+        if !place_is_inside(
+            alloc,
+            program,
+            task,
+            leaders,
+            rows,
+            &row,
+            place,
+            &mut usable,
+        )? {
+            return Ok(Some(place));
         }
     }
-    None
+    Ok(None)
 }
 
 /// The first word of a task's least table that isn't inside, where that table is kept.
-fn check_kept(program: &Program, task: &TaskDecl, kept: &Option<TaskTable>) -> Option<usize>
+fn check_kept(
+    alloc: Global,
+    program: &Program,
+    task: &TaskDecl,
+    kept: &Option<TaskTable>,
+) -> Result<Option<usize>, Memory>
     requires program { IsProgram program.now }
     requires ready { IsTableReady program.now task.now kept.now }
-    ensures { IsTaskAnswer program.now task.now result }
+    ensures { IfOk result (IsTaskAnswer program.now task.now) }
 {
     let Some(table) = kept else {
-        return None;
+        return Ok(None);
     };
     first_outside(
+        alloc,
         program,
         task,
         table.leaders.as_slice(),
@@ -104,7 +127,7 @@ fn check_task(
     ensures answer { IfOk result (IsTaskAnswer program.now task.now) }
 {
     keep(alloc, program, task, heads, kept)?;
-    Ok(check_kept(program, task, kept))
+    check_kept(alloc, program, task, kept)
 }
 
 /// A word that isn't inside: the core whose task reaches it, and its place.

@@ -1,5 +1,5 @@
 //! What a table says of a task at one code word.
-ghost use Rattle.std.specs.Prelude.{◌≡◌, ◌<◌, Decides, length};
+ghost use Rattle.std.specs.Prelude.{◌≡◌};
 ghost use Rattle.effect_prover.specs.Row.{range_of, with_range, start_row, IsRow};
 
 use crate::range::Range;
@@ -58,20 +58,6 @@ impl Row {
         let mut row = *self;
         row.set(reg, range);
         row
-    }
-
-    /// Whether the other row is the same.
-    pub(crate) fn is_same(&self, other: &Row) -> bool
-        requires first { length self.now.ranges ≡ 32 }
-        requires second { length other.now.ranges ≡ 32 }
-        ensures { Decides result (self.now ≡ other.now) }
-    {
-        for number in 0..32 {
-            if !self.ranges[number].is_same(other.ranges[number]) {
-                return false;
-            }
-        }
-        self.held == other.held
     }
 
     /// The row with other locks.

@@ -79,7 +79,10 @@ impl Row {
         if both.hi < both.lo {
             return None;
         }
-        Some(self.with(a, both).with(b, both))
+        let mut row = *self;
+        row.set(a, both);
+        row.set(b, both);
+        Some(row)
     }
 
     /// The row where the first register is less than the second without sign, if it can be.
@@ -99,7 +102,10 @@ impl Row {
             lo: greater(y.lo, x.lo + 1),
             hi: y.hi,
         };
-        Some(self.with(a, low).with(b, high))
+        let mut row = *self;
+        row.set(a, low);
+        row.set(b, high);
+        Some(row)
     }
 
     /// The row where the first register isn't less than the second without sign, if it can be.
@@ -119,7 +125,10 @@ impl Row {
             lo: y.lo,
             hi: lesser(y.hi, x.hi),
         };
-        Some(self.with(a, high).with(b, low))
+        let mut row = *self;
+        row.set(a, high);
+        row.set(b, low);
+        Some(row)
     }
 
     /// The row where the two registers differ, if they can.

@@ -7,7 +7,7 @@ ghost use Rattle.effect_prover.specs.Successors.{successors};
 ghost use Rattle.effect_prover.specs.declared.row.Row.{Row};
 ghost use Rattle.effect_prover.specs.Table.{row_at, address_at, instr_of, target_of, Covers, IsTable, IsLeastTable};
 ghost use Rattle.effect_prover.specs.Blocks.{is_leader, HasLeaders, filled};
-ghost use Rattle.effect_prover.specs.Sweep.{HasHeads, IsJoinedTo, IsPut, IsTableUnder, IsSwept, IsRowGiven, AreMarked, table_room};
+ghost use Rattle.effect_prover.specs.Sweep.{HasHeads, IsJoinedTo, IsTakenIn, IsPut, IsTableUnder, IsSwept, IsRowGiven, AreMarked, table_room};
 
 use crate::blocks::last_of_block;
 use crate::row::Row;
@@ -64,14 +64,14 @@ fn joined_to(old: &Option<Row>, given: &Row, head: bool, argument: u32) -> Row
     }
 }
 
-/// Whether a word's row is this one.
-fn has_row(old: &Option<Row>, row: &Row) -> bool
+/// Whether the row of a word is reached and stays the same where a row is joined to it.
+fn takes_in(old: &Option<Row>, given: &Row, head: bool, argument: u32) -> bool
     requires old { IfSome old.now IsRow }
-    requires row { length row.now.ranges ≡ 32 }
-    ensures { Decides result (old.now ≡ Some row.now) }
+    requires given { IsRow given.now }
+    ensures { Decides result (IsTakenIn head argument old.now given.now) }
 {
     match old {
-        Some(old) => old.is_same(row),
+        Some(row) => row.takes_in(given, head, argument),
         None => false,
     }
 }
@@ -83,10 +83,10 @@ fn put(rows: &mut [Option<Row>], place: usize, given: &Row, head: bool, argument
     requires given { IsRow given.now }
     ensures { IsPut head argument rows.old place given.now rows.new result }
 {
-    let joined = joined_to(&rows[place], given, head, argument);
-    if has_row(&rows[place], &joined) {
+    if takes_in(&rows[place], given, head, argument) {
         return false;
     }
+    let joined = joined_to(&rows[place], given, head, argument);
     rows[place] = Some(joined);
     true
 }
@@ -171,10 +171,10 @@ fn pass_block(
     ensures room_less { result ≤ at → table_room rows.new < table_room rows.old }
 {
     pending[at] = false;
-    let Some(row) = rows[at] else {
+    let Some(row) = &rows[at] else {
         return at + 1;
     };
-    let last = last_of_block(program, leaders, at, &row);
+    let last = last_of_block(program, leaders, at, row);
     let Some(instr) = instr_at(program, last.place) else {
         return at + 1;
     };

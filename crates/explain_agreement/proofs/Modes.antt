@@ -139,7 +139,7 @@ module _ (once : IsRefusedOnce) where
       let l = located t.text told.program in
       let at' = is-located t.text told.program told.is in
       printed-taken t.text told.program told.is told.checked (reported did.run) out.bytes (out-bytes out _ did.answer)
-      (report-printed t.text l at' t.shape.fuel most (shape_told told.program t.shape) did.run did.is) e
+      (report-printed t.text l at' t.shape.fuel most (shape_told told.program t.shape) did.run did.told.is) e
       (subst (λ (x : List ℕ). IsExplained x out.bytes e) (beside t has.is) h)
 
   -- a line by which the bytes are refused as no document

@@ -12,7 +12,6 @@ ghost use Rattle.host_workers.specs.Crews.{held_of, owned_has_numbers, HasRoom};
 ghost use Rattle.host_workers.specs.Deeds.{HasMoved, IsNoted, IsEarly, step_of_deed};
 
 use crate::deeds::{NodeCame, act, receive};
-use crate::stamps::own_kind;
 use bank_hall::{Posted, has_numbers_left, stamp_of};
 use dn_base::{CoreId, Memory};
 use grant_log::Stamped;
@@ -139,7 +138,7 @@ impl Owned {
         ensures fits { Fits (setting context.now) self.new.node }
     {
         let stamp = self.clock + 1;
-        let kind = own_kind(&event);
+        let kind = event.own_kind();
         let came = act(&mut self.node, context, event);
         self.note(stamp, event, kind, came)
     }

@@ -2,6 +2,8 @@
 use Rattle.std.specs.Prelude.{ℕ}
 use Rattle.message_net.specs.declared.message.Message as message
 use Rattle.message_net.specs.declared.message.Message.{Message}
+use Rattle.message_net.specs.declared.event.Event.{Event}
+use Rattle.message_net.specs.declared.event.Event.TheVariants.{Instr, Evict, Arrive, Handle}
 use Rattle.message_net.specs.declared.event.EventKind as kind
 use Rattle.message_net.specs.declared.event.EventKind.{EventKind}
 
@@ -21,6 +23,13 @@ kind_of (message.TheVariants.Grant lock signature) = kind.TheVariants.Grant
 kind_of (message.TheVariants.Arrived core bad) = kind.TheVariants.Arrived
 kind_of (message.TheVariants.Go phase) = kind.TheVariants.Go
 kind_of message.TheVariants.Halt = kind.TheVariants.Halt
+
+-- the kind of a core's own event; for the handling of a mail it says nothing
+abbrev pub own_kind : Event → EventKind
+own_kind (Instr core) = kind.TheVariants.Instr
+own_kind (Evict core word) = kind.TheVariants.Evict
+own_kind (Arrive core) = kind.TheVariants.Arrive
+own_kind (Handle id) = kind.TheVariants.Instr
 
 -- the seventeen kinds in their order, each with its index: a core's own events, and then the messages
 abbrev pub kind_index : EventKind → ℕ

@@ -1,5 +1,5 @@
 ghost use Rattle.std.specs.Prelude.{◌≡◌, ◌<◌};
-ghost use Rattle.message_net.specs.Kind.{kind_index};
+ghost use Rattle.message_net.specs.Kind.{kind_index, own_kind};
 
 use crate::actor::MailId;
 use dn_base::{CoreId, WordId};
@@ -15,6 +15,20 @@ pub enum Event {
     Arrive(CoreId),
     /// The mail is handled by the actor that it goes to.
     Handle(MailId),
+}
+
+impl Event {
+    /// The kind of a core's own event. Of the handling of a mail it says nothing: that has the kind of the mail's message.
+    #[inline(always)]
+    pub fn own_kind(&self) -> EventKind
+        ensures { result ≡ own_kind self.now }
+    {
+        match self {
+            Event::Instr(_) | Event::Handle(_) => EventKind::Instr,
+            Event::Evict(_, _) => EventKind::Evict,
+            Event::Arrive(_) => EventKind::Arrive,
+        }
+    }
 }
 
 /// The kinds of event: a core's own, and the handling of each kind of message. Counts and ticks stand in this order.

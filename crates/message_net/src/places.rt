@@ -103,6 +103,8 @@ impl Places {
     }
 
     /// A mail with this id stands at this place from now on.
+    #[cold]
+    #[inline(never)]
     pub(crate) fn note(&mut self, id: MailId, place: u32) {
         let bucket = bucket(id);
         let behind = told(self.first.as_slice(), bucket);
@@ -122,6 +124,8 @@ impl Places {
     }
 
     /// The mail at this place is about to leave, and the last one to move there.
+    #[cold]
+    #[inline(never)]
     pub(crate) fn free(&mut self, mails: &[Mail], place: u32)
         requires place { place < length mails.now }
         requires few { length mails.now ≤ 4294967295 }

@@ -78,6 +78,25 @@ victim_room n v (Some wanted) is may = by_find (find (gives_way n.cache.sets wan
         let in_set : shares_set n.cache.sets wanted.0 p ≡ true = (and_parts (shares_set n.cache.sets wanted.0 p) (is_evictable p.1) passes).0 in
         and_from (v.0 % n.cache.sets == wanted.0 % n.cache.sets) (may_go (entry_of n v.0)) (subst (λ (x : WordId). (x.0 % n.cache.sets == wanted.0 % n.cache.sets) ≡ true) same in_set) may
 
+and_true : (a b : Bool) → b ≡ true → (a && b) ≡ a
+and_true true b is = is
+and_true false b is = refl
+
+-- whether the victim may be evicted is a matter of the node's flags and its wait
+pub victim-idles : (C : Setting) (n : NodeParts) (v : WordId) → victim_for n (wanted_by n (need_now C n)) ≡ Some v → may_go (entry_of n v.0) ≡ true
+    → may_evict C n v.0 ≡ (is_active n && waits_for_nothing n.waiting)
+victim-idles C n v is may =
+    and_true (is_active n && waits_for_nothing n.waiting) (makes_room n v.0 (wanted_by n (need_now C n))) (victim_room n v (wanted_by n (need_now C n)) is may)
+
+-- a test doesn't give both answers
+pub not-both : (b : Bool) → b ≡ true → b ≡ false → ⊥
+not-both b is not = cc
+
+-- the victim is evicted where it may be
+pub victim-evicted : (C : Setting) (n : NodeParts) (v : WordId) (b : Bool) → victim_for n (wanted_by n (need_now C n)) ≡ Some v → may_evict C n v.0 ≡ b
+    → eviction C n ≡ cond b (Some (event.TheVariants.Evict (me n) v)) None
+victim-evicted C n v b is may = ap (eviction_of C n) is ∙ ap (λ (x : Bool). cond x (Some (event.TheVariants.Evict (me n) v)) None) may
+
 -- where the victim may not be evicted, nothing may
 pub victim-stays : (C : Setting) (n : NodeParts) (v : WordId) → victim_for n (wanted_by n (need_now C n)) ≡ Some v → may_go (entry_of n v.0) ≡ true → may_evict C n v.0 ≡ false → (w : ℕ)
     → may_evict C n w ≡ false

@@ -10,8 +10,7 @@ use Rattle.rv_core.specs.declared.task.TaskState.{TaskState}
 use Rattle.rv_core.specs.declared.need.Need as need
 use Rattle.rv_core.specs.declared.need.Need.{Need}
 use Rattle.rv_core.specs.Access.{is_held}
-use Rattle.rv_core.specs.declared.need.Next.{Next}
-use Rattle.rv_core.specs.Next.{IsNextOf}
+use Rattle.rv_core.specs.Need.{need_of}
 use Rattle.write_signature.specs.declared.signature.Signature.{Signature}
 use Rattle.write_signature.specs.Signature.{tag}
 use Rattle.word_cache.specs.Cache.{IsCache}
@@ -63,8 +62,8 @@ pub record Fits (C : Setting) (n : NodeParts) : Type 0 where
   pub ways : n.cache.ways ≡ C.shape.ways
   pub waiting : NeedsLock (need_now C n) n.waiting
 
--- a look is at the next instruction of a task that goes on
-pub record IsLook (C : Setting) (d : TaskDecl) (next : Next) (t : TaskState) : Type 0 where
+-- a need is that of the next instruction of a task that goes on
+pub record IsNeed (C : Setting) (d : TaskDecl) (asked : Need) (t : TaskState) : Type 0 where
   pub going : t.end ≡ None
   pub fuel : t.retired ≤ C.fuel
-  pub is_next : IsNextOf C.program d C.fuel t next
+  pub is_need : asked ≡ need_of C.program d C.fuel t

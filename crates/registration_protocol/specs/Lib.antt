@@ -1,6 +1,7 @@
 pub mod Node
 pub mod Fit
 pub mod OwnEvents
+pub mod Outlook
 pub mod Messages
 pub mod Changes
 pub mod Parts

@@ -9,7 +9,7 @@ ghost use Rattle.message_net.specs.declared.message.Message.TheVariants.{Acquire
 ghost use Rattle.message_net.specs.Mail.{to_home};
 ghost use Rattle.word_cache.specs.declared.row.Entry.TheVariants.{Registered as AsRegistered};
 ghost use Rattle.word_cache.specs.Cache.{has_room, IsProbe, lookup, put};
-ghost use Rattle.registration_protocol.specs.Fit.{IsContext, Fits, IsLook};
+ghost use Rattle.registration_protocol.specs.Fit.{IsContext, Fits, IsNeed};
 ghost use Rattle.registration_protocol.specs.Node.{entry_of, signature_of};
 ghost use Rattle.registration_protocol.specs.declared.node.NodeWait.TheVariants.{None as WaitsForNothing, Locking};
 ghost use Rattle.registration_protocol.specs.OwnEvents.{may_access, lets, may_instr, misses, me, stored, registers_word, load_row, store_row, instr_row, instructed, noted};
@@ -21,7 +21,7 @@ use crate::signatures::note;
 use dn_base::{LoadSeen, LockId, PhaseId, Sequence, WordId};
 use message_net::{Message, Outgoing};
 use region_table::TaskDecl;
-use rv_core::{End, Need, Next, TaskState};
+use rv_core::{End, Need, TaskState};
 use word_cache::{Entry, Probe, WordCache};
 use write_signature::Signature;
 
@@ -53,13 +53,13 @@ fn is_plain(task: &TaskDecl, word: WordId) -> bool
 }
 
 /// The next instruction retires: it needs nothing, or is a store, an acquire or a release.
-fn advance(task: &mut Option<TaskState>, context: &Context<'_>, declared: &TaskDecl, next: &Next)
-    requires look { IfSome task.old (IsLook (setting context.now) declared.now next.now) }
-    requires kind { IsAdvance next.now.need }
+fn advance(task: &mut Option<TaskState>, context: &Context<'_>, declared: &TaskDecl, need: &Need)
+    requires look { IfSome task.old (IsNeed (setting context.now) declared.now need.now) }
+    requires kind { IsAdvance need.now }
     ensures { task.new ≡ option_map (advanced (setting context.now).program) task.old }
 {
     if let Some(task) = task {
-        task.complete(context.decoded.program(), declared, context.fuel, next);
+        context.decoded.advance(task, declared, context.fuel);
     }
 }
 
@@ -68,21 +68,15 @@ fn load(
     task: &mut Option<TaskState>,
     context: &Context<'_>,
     declared: &TaskDecl,
-    next: &Next,
+    need: &Need,
     value: u32,
 )
-    requires look { IfSome task.old (IsLook (setting context.now) declared.now next.now) }
-    requires kind { IsLoad next.now.need }
+    requires look { IfSome task.old (IsNeed (setting context.now) declared.now need.now) }
+    requires kind { IsLoad need.now }
     ensures { task.new ≡ option_map (loaded_of (setting context.now).program value) task.old }
 {
     if let Some(task) = task {
-        task.complete_load(
-            context.decoded.program(),
-            declared,
-            context.fuel,
-            next,
-            value,
-        );
+        context.decoded.loaded(task, declared, context.fuel, value);
     }
 }
 
@@ -150,16 +144,16 @@ impl Node {
         &mut self,
         context: &Context<'_>,
         declared: &TaskDecl,
-        next: &Next,
+        need: &Need,
         word: WordId,
         value: u32,
     ) -> Step
-        requires look { IfSome self.old.task (IsLook (setting context.now) declared.now next.now) }
-        requires kind { IsLoad next.now.need }
+        requires look { IfSome self.old.task (IsNeed (setting context.now) declared.now need.now) }
+        requires kind { IsLoad need.now }
         ensures node { self.new ≡ record self.old { task = option_map (loaded_of (setting context.now).program value) self.old.task; waiting = WaitsForNothing } }
         ensures step { result ≡ record { sent = None; seen = Some (record { word = word; value = value }) } }
     {
-        load(&mut self.task, context, declared, next, value);
+        load(&mut self.task, context, declared, need, value);
         self.wait = NodeWait::None;
         Step {
             sent: None,
@@ -172,12 +166,12 @@ impl Node {
         &mut self,
         context: &Context<'_>,
         declared: &TaskDecl,
-        next: &Next,
+        need: &Need,
         word: WordId,
     ) -> Step
         requires banks { 0 < (setting context.now).shape.banks }
-        requires look { IfSome self.old.task (IsLook (setting context.now) declared.now next.now) }
-        requires kind { IsLoad next.now.need }
+        requires look { IfSome self.old.task (IsNeed (setting context.now) declared.now need.now) }
+        requires kind { IsLoad need.now }
         ensures node { (t : TaskState) → self.old.task ≡ Some t → self.new ≡ (load_row (setting context.now) self.old declared.now t word (entry_of self.old word.0)).0 }
         ensures step { (t : TaskState) → self.old.task ≡ Some t → result ≡ (load_row (setting context.now) self.old declared.now t word (entry_of self.old word.0)).1 }
     {
@@ -191,30 +185,24 @@ impl Node {
                     marked: marked || is_plain(declared, word),
                 };
                 self.cache.set_at(Some(place), word, entry);
-                self.see(context, declared, next, word, value)
+                self.see(context, declared, need, word, value)
             }
             Entry::Registered { value, .. } => {
                 self.cache.touch_at(Some(place), word);
-                self.see(context, declared, next, word, value)
+                self.see(context, declared, need, word, value)
             }
             Entry::Leaving(_) => silence(),
         }
     }
 
     /// The word after the task's store, where the word's value was `old`.
-    fn merged(&self, context: &Context<'_>, declared: &TaskDecl, next: &Next, old: u32) -> u32
-        requires look { IfSome self.now.task (IsLook (setting context.now) declared.now next.now) }
-        requires kind { IsStore next.now.need }
+    fn merged(&self, context: &Context<'_>, declared: &TaskDecl, need: &Need, old: u32) -> u32
+        requires look { IfSome self.now.task (IsNeed (setting context.now) declared.now need.now) }
+        requires kind { IsStore need.now }
         ensures { (t : TaskState) → self.now.task ≡ Some t → result ≡ merged_of (setting context.now).program old t }
     {
         match &self.task {
-            Some(task) => task.merged_by(
-                context.decoded.program(),
-                declared,
-                context.fuel,
-                next,
-                old,
-            ),
+            Some(task) => context.decoded.merged(task, declared, context.fuel, old),
             None => old,
         }
     }
@@ -224,12 +212,12 @@ impl Node {
         &mut self,
         context: &Context<'_>,
         declared: &TaskDecl,
-        next: &Next,
+        need: &Need,
         target: Target,
         pending: bool,
     )
-        requires look { IfSome self.old.task (IsLook (setting context.now) declared.now next.now) }
-        requires kind { IsStore next.now.need }
+        requires look { IfSome self.old.task (IsNeed (setting context.now) declared.now need.now) }
+        requires kind { IsStore need.now }
         requires locks { length self.old.signatures ≤ 32 }
         requires probe { IsProbe target.probe (entry_of self.old target.word.0) (has_room self.old.cache target.word.0) }
         requires room { (is_some (entry_of self.old target.word.0) || has_room self.old.cache target.word.0) ≡ true }
@@ -237,11 +225,11 @@ impl Node {
             → self.new ≡ stored (setting context.now) self.old declared.now t target.word (AsRegistered (merged_of (setting context.now).program target.old t) pending) }
     {
         let Target { word, probe, old } = target;
-        let value = self.merged(context, declared, next, old);
+        let value = self.merged(context, declared, need, old);
         sign(&mut self.signatures, &self.task, declared, word, self.phase);
         let entry = Entry::Registered { value, pending };
         enter(&mut self.cache, word, probe, entry);
-        advance(&mut self.task, context, declared, next);
+        advance(&mut self.task, context, declared, need);
         self.wait = NodeWait::None;
     }
 
@@ -250,12 +238,12 @@ impl Node {
         &mut self,
         context: &Context<'_>,
         declared: &TaskDecl,
-        next: &Next,
+        need: &Need,
         target: Target,
     ) -> Step
         requires banks { 0 < (setting context.now).shape.banks }
-        requires look { IfSome self.old.task (IsLook (setting context.now) declared.now next.now) }
-        requires kind { IsStore next.now.need }
+        requires look { IfSome self.old.task (IsNeed (setting context.now) declared.now need.now) }
+        requires kind { IsStore need.now }
         requires locks { length self.old.signatures ≤ 32 }
         requires probe { IsProbe target.probe (entry_of self.old target.word.0) (has_room self.old.cache target.word.0) }
         requires room { (is_some (entry_of self.old target.word.0) || has_room self.old.cache target.word.0) ≡ true }
@@ -266,7 +254,7 @@ impl Node {
     {
         let word = target.word;
         let core = self.core;
-        self.write(context, declared, next, target, true);
+        self.write(context, declared, need, target, true);
         sending(send_home(context, word.0, Message::RegReq { word, core }))
     }
 
@@ -275,14 +263,14 @@ impl Node {
         &mut self,
         context: &Context<'_>,
         declared: &TaskDecl,
-        next: &Next,
+        need: &Need,
         word: WordId,
         probe: Probe,
         whole: bool,
     ) -> Step
         requires banks { 0 < (setting context.now).shape.banks }
-        requires look { IfSome self.old.task (IsLook (setting context.now) declared.now next.now) }
-        requires kind { IsStore next.now.need }
+        requires look { IfSome self.old.task (IsNeed (setting context.now) declared.now need.now) }
+        requires kind { IsStore need.now }
         requires locks { length self.old.signatures ≤ 32 }
         requires probe { IsProbe probe (entry_of self.old word.0) (has_room self.old.cache word.0) }
         requires room { has_room self.old.cache word.0 ≡ true }
@@ -298,7 +286,7 @@ impl Node {
             probe,
             old: 0,
         };
-        self.register(context, declared, next, target)
+        self.register(context, declared, need, target)
     }
 
     /// A store to the word; `whole` where it gives all four bytes.
@@ -306,13 +294,13 @@ impl Node {
         &mut self,
         context: &Context<'_>,
         declared: &TaskDecl,
-        next: &Next,
+        need: &Need,
         word: WordId,
         whole: bool,
     ) -> Step
         requires banks { 0 < (setting context.now).shape.banks }
-        requires look { IfSome self.old.task (IsLook (setting context.now) declared.now next.now) }
-        requires kind { IsStore next.now.need }
+        requires look { IfSome self.old.task (IsNeed (setting context.now) declared.now need.now) }
+        requires kind { IsStore need.now }
         requires locks { length self.old.signatures ≤ 32 }
         requires access { may_access self.old word.0 (entry_of self.old word.0) ≡ true }
         ensures node { (t : TaskState) → self.old.task ≡ Some t → self.new ≡ (store_row (setting context.now) self.old declared.now t word whole (entry_of self.old word.0)).0 }
@@ -320,7 +308,7 @@ impl Node {
     {
         let probe = self.cache.probe(word);
         let Probe::Hit { entry, .. } = probe else {
-            return self.store_new(context, declared, next, word, probe, whole);
+            return self.store_new(context, declared, need, word, probe, whole);
         };
         match entry {
             Entry::Valid { value, .. } => {
@@ -329,7 +317,7 @@ impl Node {
                     probe,
                     old: value,
                 };
-                self.register(context, declared, next, target)
+                self.register(context, declared, need, target)
             }
             Entry::Registered { value, pending } => {
                 let target = Target {
@@ -337,7 +325,7 @@ impl Node {
                     probe,
                     old: value,
                 };
-                self.write(context, declared, next, target, pending);
+                self.write(context, declared, need, target, pending);
                 silence()
             }
             Entry::Leaving(_) => silence(),
@@ -385,29 +373,29 @@ impl Node {
     }
 
     /// The instruction of this look.
-    fn perform(&mut self, context: &Context<'_>, declared: &TaskDecl, next: &Next) -> Step
+    fn perform(&mut self, context: &Context<'_>, declared: &TaskDecl, need: &Need) -> Step
         requires banks { 0 < (setting context.now).shape.banks }
         requires most { (setting context.now).fuel ≤ 32768 }
-        requires look { IfSome self.old.task (IsLook (setting context.now) declared.now next.now) }
+        requires look { IfSome self.old.task (IsNeed (setting context.now) declared.now need.now) }
         requires locks { length self.old.signatures ≤ 32 }
-        requires lets { lets self.old (Some next.now.need) ≡ true }
-        ensures node { (t : TaskState) → self.old.task ≡ Some t → self.new ≡ (instr_row (setting context.now) self.old declared.now t next.now.need).0 }
-        ensures step { (t : TaskState) → self.old.task ≡ Some t → result ≡ (instr_row (setting context.now) self.old declared.now t next.now.need).1 }
+        requires lets { lets self.old (Some need.now) ≡ true }
+        ensures node { (t : TaskState) → self.old.task ≡ Some t → self.new ≡ (instr_row (setting context.now) self.old declared.now t need.now).0 }
+        ensures step { (t : TaskState) → self.old.task ≡ Some t → result ≡ (instr_row (setting context.now) self.old declared.now t need.now).1 }
     {
-        match next.need {
+        match *need {
             Need::Local => {
-                advance(&mut self.task, context, declared, next);
+                advance(&mut self.task, context, declared, need);
                 silence()
             }
             Need::End { cause } => {
                 stop(&mut self.task, cause);
                 silence()
             }
-            Need::Load { word } => self.load(context, declared, next, word),
-            Need::Store { word, whole } => self.store(context, declared, next, word, whole),
+            Need::Load { word } => self.load(context, declared, need, word),
+            Need::Store { word, whole } => self.store(context, declared, need, word, whole),
             Need::Acquire { lock } => self.acquire(context, lock),
             Need::Release { lock } => {
-                advance(&mut self.task, context, declared, next);
+                advance(&mut self.task, context, declared, need);
                 self.release(context, lock)
             }
         }
@@ -431,8 +419,8 @@ impl Node {
         if task.end.is_some() {
             return silence();
         }
-        let next = context.decoded.next(task, declared, context.fuel);
-        self.perform(context, declared, &next)
+        let need = context.decoded.need(task, declared, context.fuel);
+        self.perform(context, declared, &need)
     }
 
     /// The node's next instruction, which may go on: it retires, or asks for what it lacks, or ends the task. A load of a word

@@ -6,6 +6,7 @@
 mod instr;
 mod laws;
 mod node;
+mod outlook;
 mod own;
 mod reading;
 mod receive;

@@ -150,6 +150,7 @@ impl Node {
     }
 
     /// What the next instruction of the node's task needs; None where the node has no task that goes on.
+    #[inline(always)]
     pub(crate) fn need(&self, context: &Context<'_>) -> Option<Need>
         ensures { result ≡ need_now (setting context.now) self.now }
     {
@@ -161,45 +162,19 @@ impl Node {
         Some(context.decoded.need(task, declared, context.fuel))
     }
 
-    /// Whether an access of the word may go on.
-    fn may_access(&self, word: WordId) -> bool
-        ensures { result ≡ may_access self.now word.0 (entry_of self.now word.0) }
-    {
-        match self.cache.probe(word) {
-            Probe::Hit { entry, .. } => match entry {
-                Entry::Valid { .. } | Entry::Registered { .. } => true,
-                Entry::Leaving(_) => false,
-            },
-            Probe::Room { .. } => true,
-            Probe::Full => false,
-        }
-    }
-
-    /// Whether an instruction with this need may go on.
-    fn lets(&self, need: Option<Need>) -> bool
-        ensures { result ≡ lets self.now need }
-    {
-        match need {
-            None => false,
-            Some(Need::Local | Need::End { .. } | Need::Acquire { .. }) => true,
-            Some(Need::Release { .. }) => self.is_settled(),
-            Some(Need::Load { word } | Need::Store { word, .. }) => self.may_access(word),
-        }
-    }
-
-    /// Whether the node's next instruction, which has this need, may go on.
-    pub(crate) fn may_go_on(&self, need: Option<Need>) -> bool
-        ensures { result ≡ (is_active self.now && is_ready self.now.waiting && lets self.now need) }
+    /// Whether the node's flags and its wait let an instruction go on.
+    pub(crate) fn is_ready(&self) -> bool
+        ensures { result ≡ (is_active self.now && is_ready self.now.waiting) }
     {
         let ready = matches!(self.wait, NodeWait::None | NodeWait::Filled(_));
-        !(self.halted || self.arrived) && ready && self.lets(need)
+        !(self.halted || self.arrived) && ready
     }
 
     /// Whether the node's next instruction may go on. Takes no memory.
     pub fn may_instr(&self, context: &Context<'_>) -> bool
         ensures { result ≡ may_instr (setting context.now) self.now }
     {
-        self.may_go_on(self.need(context))
+        self.is_ready() && self.outlook(self.need(context)).is_clear()
     }
 
     /// The node arrives at the barrier, and tells the keeper whether its task was bad. It may. Takes no memory.

@@ -2,15 +2,15 @@ ghost use Rattle.std.specs.Prelude.{◌≡◌, ◌↔◌, ℕ, true, false, None
 ghost use Rattle.word_cache.specs.Cache.{may_go};
 ghost use Rattle.registration_protocol.specs.Fit.{IsContext, Fits};
 ghost use Rattle.registration_protocol.specs.Node.{need_now, entry_of, is_active, waits_for_nothing};
-ghost use Rattle.registration_protocol.specs.OwnEvents.{crowded, wanted_by, makes_room, may_evict, may_arrive, evicted, victim_for, eviction, arrival, own_event, IsStill, shown_by, end_of};
+ghost use Rattle.registration_protocol.specs.OwnEvents.{wanted_by, makes_room, may_evict, may_arrive, evicted, victim_for, eviction, arrival, own_event, IsStill, shown_by, end_of};
 ghost use Rattle.registration_protocol.specs.Setting.{setting};
 
 use crate::node::{Node, NodeWait};
 use crate::setting::Context;
 use dn_base::{WordId, remainder};
 use message_net::{Event, Outgoing};
-use rv_core::{End, EndShown, Need, TaskEnd};
-use word_cache::{Entry, Probe};
+use rv_core::{End, EndShown, TaskEnd};
+use word_cache::Entry;
 
 /// How a task stands that ended so, or that goes on at a node with this wait; None where it goes on and waits for no lock.
 fn shown(end: Option<End>, wait: NodeWait) -> Option<EndShown>
@@ -26,27 +26,6 @@ fn shown(end: Option<End>, wait: NodeWait) -> Option<EndShown>
 }
 
 impl Node {
-    /// The word, where it has no entry and its set has no room.
-    fn crowded(&self, word: WordId) -> Option<WordId>
-        ensures { result ≡ crowded self.now word }
-    {
-        match self.cache.probe(word) {
-            Probe::Hit { .. } | Probe::Room { .. } => None,
-            Probe::Full => Some(word),
-        }
-    }
-
-    /// The word for which an instruction with this need lacks a place, if there is one.
-    fn wanted(&self, need: Option<Need>) -> Option<WordId>
-        ensures { result ≡ wanted_by self.now need }
-    {
-        match need {
-            Some(Need::Load { word }) => self.crowded(word),
-            Some(Need::Store { word, .. }) => self.crowded(word),
-            _ => None,
-        }
-    }
-
     /// Whether the word's entry may be evicted.
     fn may_go(&self, word: WordId) -> bool
         ensures { result ≡ may_go (entry_of self.now word.0) }
@@ -58,6 +37,13 @@ impl Node {
         }
     }
 
+    /// Whether the node's flags and its wait let it evict a word.
+    fn is_idle(&self) -> bool
+        ensures { result ≡ (is_active self.now && waits_for_nothing self.now.waiting) }
+    {
+        !(self.halted || self.arrived) && self.wait == NodeWait::None
+    }
+
     /// Whether the node may evict the word to make room for the wanted one, if there is one.
     fn may_make_room(&self, context: &Context<'_>, word: WordId, wanted: Option<WordId>) -> bool
         requires context { IsContext (setting context.now) }
@@ -65,9 +51,8 @@ impl Node {
         ensures { result ≡ (is_active self.now && waits_for_nothing self.now.waiting && makes_room self.now word.0 wanted) }
     {
         let sets = context.shape.sets;
-        let idle = !(self.halted || self.arrived) && self.wait == NodeWait::None;
         match wanted {
-            Some(wanted) => idle
+            Some(wanted) => self.is_idle()
                 && remainder(word.0, sets) == remainder(wanted.0, sets)
                 && self.may_go(word),
             None => false,
@@ -81,7 +66,7 @@ impl Node {
         requires fits { Fits (setting context.now) self.now }
         ensures { result ≡ may_evict (setting context.now) self.now word.0 }
     {
-        self.may_make_room(context, word, self.wanted(self.need(context)))
+        self.may_make_room(context, word, self.outlook(self.need(context)).lacked())
     }
 
     /// Evicts a word, which may be evicted: a copy goes, and a registered word goes back to its home. Takes no memory.
@@ -107,17 +92,15 @@ impl Node {
         }
     }
 
-    /// The eviction that the node makes next, whose next instruction has this need.
-    fn eviction(&self, context: &Context<'_>, need: Option<Need>) -> Option<Event>
-        requires context { IsContext (setting context.now) }
-        requires fits { Fits (setting context.now) self.now }
-        requires need { need ≡ need_now (setting context.now) self.now }
+    /// The eviction that the node makes next, whose next instruction lacks a place for the wanted word, if there is one. The
+    /// cache's victim is of that word's set, and may go, so neither is tested. The context is there for the clauses alone.
+    fn eviction(&self, context: &Context<'_>, wanted: Option<WordId>) -> Option<Event>
+        requires wanted { wanted ≡ wanted_by self.now (need_now (setting context.now) self.now) }
         ensures value { result ≡ eviction (setting context.now) self.now }
         ensures none { (result ≡ None) ↔ ((w : ℕ) → may_evict (setting context.now) self.now w ≡ false) }
     {
-        let wanted = self.wanted(need);
         let victim = self.victim(wanted)?;
-        if self.may_make_room(context, victim, wanted) {
+        if self.is_idle() {
             Some(Event::Evict(self.core, victim))
         } else {
             None
@@ -146,11 +129,11 @@ impl Node {
         // None exactly where none of its events may come
         ensures none { (result ≡ None) ↔ IsStill (setting context.now) self.now }
     {
-        let need = self.need(context);
-        if self.may_go_on(need) {
+        let outlook = self.outlook(self.need(context));
+        if self.is_ready() && outlook.is_clear() {
             return Some(Event::Instr(self.core));
         }
-        match self.eviction(context, need) {
+        match self.eviction(context, outlook.lacked()) {
             Some(event) => Some(event),
             None => self.arrival(),
         }

@@ -1,10 +1,14 @@
 //! What a node is, for whoever shows it. No call takes memory.
 ghost use Rattle.std.specs.Prelude.{◌≡◌, option_copied};
+ghost use Rattle.registration_protocol.specs.Node.{Setting, need_now};
 
 use crate::node::{Node, NodeWait};
+use crate::setting::declaration;
 use dn_base::{CoreId, PhaseId};
-use rv_core::TaskState;
+use region_table::Program;
+use rv_core::{Need, TaskState};
 use word_cache::WordCache;
+use write_signature::Signature;
 
 impl Node {
     /// The core.
@@ -42,6 +46,13 @@ impl Node {
         self.wait
     }
 
+    /// The signature that the core has for each lock, in the order of the locks.
+    pub fn signatures(&self) -> &[Signature]
+        ensures { result.now ≡ self.now.signatures }
+    {
+        self.signatures.as_slice()
+    }
+
     /// Whether the core has arrived at the barrier, and waits there.
     pub fn has_arrived(&self) -> bool
         ensures { result ≡ self.now.arrived }
@@ -54,5 +65,18 @@ impl Node {
         ensures { result ≡ self.now.halted }
     {
         self.halted
+    }
+
+    /// What the next instruction of the node's task needs, in a machine of this program and fuel; None where the node has no task that
+    /// goes on.
+    pub fn needs(&self, program: &Program, fuel: u32) -> Option<Need>
+        ensures { (C : Setting) → C.program ≡ program.now → C.fuel ≡ fuel → result ≡ need_now C self.now }
+    {
+        let task = self.task.as_ref()?;
+        if task.end.is_some() {
+            return None;
+        }
+        let declared = declaration(program, self.phase, self.core)?;
+        Some(task.need(program, declared, fuel))
     }
 }

@@ -6,10 +6,9 @@ use Rattle.message_net.specs.declared.actor.Actor.{Actor}
 use Rattle.message_net.specs.declared.actor.Actor.TheVariants.{Core, Bank, Keeper}
 use Rattle.message_net.specs.declared.event.Event.{Event}
 use Rattle.message_net.specs.declared.event.Event.TheVariants.{Instr, Evict, Arrive, Handle}
-use Rattle.message_net.specs.declared.event.EventKind as kind
 use Rattle.message_net.specs.declared.event.EventKind.{EventKind}
 use Rattle.message_net.specs.declared.message.Outgoing.{Outgoing}
-use Rattle.message_net.specs.Kind.{kind_of}
+use Rattle.message_net.specs.Kind.{kind_of, own_kind}
 use Rattle.message_net.specs.Mail.{has_actor}
 use Rattle.registry_bank.specs.Bank.{BankParts, bank_gets}
 use Rattle.phase_barrier.specs.declared.keeper.Verdict.{Verdict}
@@ -65,12 +64,6 @@ pub data Deed : Type 0 where
 abbrev pub event_of : Deed → Event
 event_of (Handles p) = Handle p.mail.id
 event_of (Makes e) = e
-
-abbrev pub own_kind : Event → EventKind
-own_kind (Instr core) = kind.TheVariants.Instr
-own_kind (Evict core word) = kind.TheVariants.Evict
-own_kind (Arrive core) = kind.TheVariants.Arrive
-own_kind (Handle id) = kind.TheVariants.Instr
 
 abbrev pub deed_kind : Deed → EventKind
 deed_kind (Handles p) = kind_of p.mail.message

@@ -6,7 +6,8 @@ use rv_core::{EndShown, Ending, TaskEnd, TrapKind};
 use std::alloc::Global;
 use text_pieces::{push, push_decimal, push_hexadecimal};
 
-fn outcome_name(outcome: Outcome) -> &'static [u8]
+/// An outcome, as it is printed.
+pub fn outcome_name(outcome: Outcome) -> &'static [u8]
     ensures { result.now ≡ outcome_word outcome }
 {
     match outcome {
@@ -17,7 +18,8 @@ fn outcome_name(outcome: Outcome) -> &'static [u8]
     }
 }
 
-fn kind_name(kind: TrapKind) -> &'static [u8]
+/// The kind of a trap, as it is printed.
+pub fn kind_name(kind: TrapKind) -> &'static [u8]
     ensures { result.now ≡ kind_word kind }
 {
     match kind {
@@ -44,7 +46,11 @@ pub(crate) fn push_outcome(out: &mut Vec<u8>, outcome: Outcome) -> Result<(), Me
     push(out, b"\n")
 }
 
-fn push_end(out: &mut Vec<u8>, end: EndShown) -> Result<(), Memory>
+/// Adds how a task stands, as the line of the task has it: `finished`, `fuel`, `waits 0`, or a trap with its kind, address and value.
+///
+/// # Errors
+/// `Memory` where there is no room.
+pub fn push_end(out: &mut Vec<u8>, end: EndShown) -> Result<(), Memory>
     ensures { OnOk result (out.new.items ≡ out.old.items ++ end_text end) }
 {
     match end {

@@ -10,7 +10,7 @@ mod refusal;
 mod run;
 mod totals;
 
-pub use answer::answer_text;
+pub use answer::{answer_text, kind_name, outcome_name, push_end};
 pub use grants::grant_text;
 pub use refusal::{Refusal, refusal_line};
 pub use run::{event_name, report};

@@ -28,3 +28,6 @@ pub mod DoubledLemmas
 pub mod RisingLemmas
 pub mod FamilyLemmas
 pub mod RowLemmas
+pub mod ClaimRowLemmas
+pub mod RowPhases
+pub mod FarthestLemmas

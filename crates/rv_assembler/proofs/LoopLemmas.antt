@@ -1,6 +1,7 @@
 -- One turn of a loop that goes so many times.
-use Rattle.std.proofs.Common.{◌≡◌, ℕ, zero, suc, ◌+◌, ◌-◌, ◌<◌, Bool, true, ◌&&◌, ℤ, ◌+ℤ◌, List, [], ◌∷◌, ◌++◌, map, refl, ap, sym, ◌∙◌, append_assoc, arith}
-use Rattle.std.specs.List.{range_with_len}
+use Rattle.std.proofs.Common.{◌≡◌, ℕ, zero, suc, ◌+◌, ◌-◌, ◌<◌, Bool, true, ◌&&◌, ℤ, ◌+ℤ◌, List, [], ◌∷◌, ◌++◌, map, Option, Some, None, refl, ap, sym, ◌∙◌, append_assoc, append-nil, arith}
+use Rattle.std.specs.Option.{option_to_list}
+use Rattle.std.specs.List.{range_with_len, cons_option}
 use Rattle.rv_assembler.specs.declared.draft.Start.{Start}
 use Rattle.rv_assembler.specs.declared.draft.Claim.{Claim}
 use Rattle.rv_assembler.specs.Number.{is_interval}
@@ -29,3 +30,7 @@ stepped_join len step lo hi n inside rest l e i r = let s : is_interval lo hi le
 pub map_step : {X : Type 0} (f : ℕ → X) (done : List X) (a n k : ℕ) (all : List X) → n ≡ suc k → done ++ map f (range_with_len a n) ≡ all → (done ++ f a ∷ []) ++ map f (range_with_len (a + 1) k) ≡ all
 map_step f done a n k all e h =
     let s : done ++ map f (range_with_len a (suc k)) ≡ all = rw e at h in append_assoc done (f a ∷ []) (map f (range_with_len (a + 1) k)) ∙ s
+
+pub one-more : {X : Type 0} (done rest : List X) (o : Option X) → (done ++ option_to_list o) ++ rest ≡ done ++ cons_option o rest
+one-more done rest None = ap (λ xs. xs ++ rest) (append-nil done)
+one-more done rest (Some x) = append_assoc done (x ∷ []) rest

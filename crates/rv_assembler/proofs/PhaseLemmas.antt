@@ -37,7 +37,7 @@ all-map : {X : Type 0} (P : X → Type 0) (f : ℕ → X) (ns : List ℕ) → ((
 all-map P f [] h = All-nil P
 all-map P f (n ∷ ns) h = All-cons P (f n) (map f ns) (h n) (all-map P f ns h)
 
-interval-valid : (words : ℕ) (u : Usage) (c : Claim) → IfSome (interval_within words u c) (IsSome words)
+pub interval-valid : (words : ℕ) (u : Usage) (c : Claim) → IfSome (interval_within words u c) (IsSome words)
 interval-valid words u c =
     ⊎_elim
     (λ (e : (same_usage c.usage u && (ltb c.lo c.hi && leb c.hi words)) ≡ true).

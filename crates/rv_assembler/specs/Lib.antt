@@ -25,6 +25,8 @@ pub mod ShapeRow
 pub mod Gathering
 pub mod Drafting
 pub mod Finishing
+pub mod ClaimRows
+pub mod Farthest
 pub mod Testing
 pub mod Adding
 pub mod AddedLine

@@ -1,14 +1,15 @@
 //! From what the lines of a text add up to, to the program.
-ghost use Rattle.std.specs.Prelude.{◌≡◌, ℕ, ◌<◌, ◌≤◌, length, IfOk, List, map, filter, filter_map, replicate, slice_set, [], ◌∷◌, ◌++◌, OnOk, option_map, find};
+ghost use Rattle.std.specs.Prelude.{◌≡◌, ◌≤◌, length, IfOk, map, replicate, slice_set, ◌++◌, OnOk, option_map, find};
 ghost use Rattle.std.specs.Option.{option_to_list};
-ghost use Rattle.std.specs.List.{All, range_with_len};
-ghost use Rattle.region_table.specs.declared.interval.Interval.{Interval};
+ghost use Rattle.std.specs.List.{range_with_len};
 ghost use Rattle.region_table.specs.Program.{IsProgram};
-ghost use Rattle.rv_assembler.specs.Program.{same_usage, is_claim_of, is_task};
-ghost use Rattle.rv_assembler.specs.Finishing.{interval_within, words_within, guarded_reads_within, guarded_writes_within, effects_within, task_within, core_task_within, phase_within, with_first_values, finished_program};
+ghost use Rattle.rv_assembler.specs.Program.{is_task};
+ghost use Rattle.rv_assembler.specs.Finishing.{phase_within, with_first_values, finished_program};
+ghost use Rattle.rv_assembler.specs.ClaimRows.{AreRowsWithin, words_by_rows, guarded_reads_by_rows, guarded_writes_by_rows, effects_by_rows, task_by_rows, phase_by_rows};
 
+use crate::claim_rows::{claim_rows, intervals_of};
 use crate::draft::{Claim, Draft, FirstValue, Start, Usage};
-use crate::uniting::united;
+use crate::uniting::words_in;
 use dn_base::{CoreId, Memory, Sequence};
 use region_table::{Effects, Interval, Phase, Program, TaskDecl, WordSet};
 use std::alloc::Global;
@@ -34,79 +35,36 @@ fn first_memory(alloc: Global, words: u32, values: &[FirstValue]) -> Result<Vec<
     Ok(memory)
 }
 
-fn same_usage(a: Usage, b: Usage) -> bool
-    ensures { result ≡ same_usage a b }
-{
-    match (a, b) {
-        (Usage::Reads, Usage::Reads) | (Usage::Writes, Usage::Writes) => true,
-        (Usage::GuardedReads(k), Usage::GuardedReads(l))
-        | (Usage::GuardedWrites(k), Usage::GuardedWrites(l)) => k == l,
-        _ => false,
-    }
-}
-
-/// The words of a claim of this usage, if they are words of the memory.
-fn interval_in(words: u32, usage: Usage, claim: Claim) -> Option<Interval>
-    ensures { result ≡ interval_within words usage claim }
-{
-    if same_usage(claim.usage, usage) && claim.lo < claim.hi && claim.hi <= words {
-        Some(Interval {
-            lo: claim.lo,
-            hi: claim.hi,
-        })
-    } else {
-        None
-    }
-}
-
-/// Adds an interval, if there is one.
-fn push(intervals: &mut Vec<Interval>, interval: Option<Interval>) -> Result<(), Memory>
-    ensures { OnOk result (intervals.new.items ≡ intervals.old.items ++ option_to_list interval) }
-{
-    if let Some(interval) = interval {
-        intervals.push(interval)?;
-    }
-    Ok(())
-}
-
-/// The intervals of the claims of this usage.
-fn intervals(
+/// The words that a task claims by a usage.
+fn words_of(
     alloc: Global,
     words: u32,
-    claims: &[Claim],
+    rows: &[Sequence<Interval>],
+    task: Start,
     usage: Usage,
-) -> Result<Vec<Interval>, Memory>
-    ensures { IfOk result (λ found. found.items ≡ filter_map (interval_within words usage) claims.now) }
+) -> Result<WordSet, Memory>
+    requires words { words ≤ 65536 }
+    requires rows { AreRowsWithin words rows.now }
+    ensures { IfOk result (λ set. set ≡ words_by_rows rows.now task usage) }
 {
-    let mut found = Vec::new(alloc);
-    for claim in claims {
-        push(&mut found, interval_in(words, usage, *claim))?;
-    }
-    Ok(found)
+    words_in(alloc, words, intervals_of(rows, task, usage))
 }
 
-/// The words that claims of this usage have.
-fn words_of(alloc: Global, words: u32, claims: &[Claim], usage: Usage) -> Result<WordSet, Memory>
-    requires { words ≤ 65536 }
-    ensures { IfOk result (λ set. set ≡ words_within words claims.now usage) }
-{
-    let intervals = intervals(alloc, words, claims, usage)?;
-    united(alloc, intervals)
-}
-
-/// By the number of a lock, the words that claims have under it, to read.
+/// By the number of a lock, the words that a task claims under it, to read.
 fn guarded_reads(
     alloc: Global,
     words: u32,
     locks: u32,
-    claims: &[Claim],
+    rows: &[Sequence<Interval>],
+    task: Start,
 ) -> Result<Sequence<WordSet>, Memory>
-    requires { words ≤ 65536 }
-    ensures { IfOk result (λ sets. sets ≡ map (guarded_reads_within words claims.now) (range_with_len 0 locks)) }
+    requires words { words ≤ 65536 }
+    requires rows { AreRowsWithin words rows.now }
+    ensures { IfOk result (λ sets. sets ≡ map (guarded_reads_by_rows rows.now task) (range_with_len 0 locks)) }
 {
     let mut sets = Sequence::new(alloc);
     for lock in 0..locks {
-        sets.push(words_of(alloc, words, claims, Usage::GuardedReads(lock))?)?;
+        sets.push(words_of(alloc, words, rows, task, Usage::GuardedReads(lock))?)?;
     }
     Ok(sets)
 }
@@ -116,48 +74,37 @@ fn guarded_writes(
     alloc: Global,
     words: u32,
     locks: u32,
-    claims: &[Claim],
+    rows: &[Sequence<Interval>],
+    task: Start,
 ) -> Result<Sequence<WordSet>, Memory>
-    requires { words ≤ 65536 }
-    ensures { IfOk result (λ sets. sets ≡ map (guarded_writes_within words claims.now) (range_with_len 0 locks)) }
+    requires words { words ≤ 65536 }
+    requires rows { AreRowsWithin words rows.now }
+    ensures { IfOk result (λ sets. sets ≡ map (guarded_writes_by_rows rows.now task) (range_with_len 0 locks)) }
 {
     let mut sets = Sequence::new(alloc);
     for lock in 0..locks {
-        sets.push(words_of(alloc, words, claims, Usage::GuardedWrites(lock))?)?;
+        sets.push(words_of(alloc, words, rows, task, Usage::GuardedWrites(lock))?)?;
     }
     Ok(sets)
 }
 
-/// Whether it is a claim of the task.
-fn is_claim_of(task: Start, claim: Claim) -> bool
-    ensures { result ≡ is_claim_of task claim }
-{
-    claim.phase == task.phase && claim.core == task.core
-}
-
-/// The claims of a task.
-fn claims_of(alloc: Global, claims: &[Claim], task: Start) -> Result<Vec<Claim>, Memory>
-    ensures { IfOk result (λ own. own.items ≡ filter (is_claim_of task) claims.now) }
-{
-    let mut own = Vec::new(alloc);
-    for claim in claims {
-        if is_claim_of(task, *claim) {
-            own.push(*claim)?;
-        }
-    }
-    Ok(own)
-}
-
-/// The effects of a task by its claims.
-fn effects_in(alloc: Global, words: u32, locks: u32, claims: &[Claim]) -> Result<Effects, Memory>
-    requires { words ≤ 65536 }
-    ensures { IfOk result (λ effects. effects ≡ effects_within words locks claims.now) }
+/// The effects of a task.
+fn effects_in(
+    alloc: Global,
+    words: u32,
+    locks: u32,
+    rows: &[Sequence<Interval>],
+    task: Start,
+) -> Result<Effects, Memory>
+    requires words { words ≤ 65536 }
+    requires rows { AreRowsWithin words rows.now }
+    ensures { IfOk result (λ effects. effects ≡ effects_by_rows locks rows.now task) }
 {
     Ok(Effects {
-        reads: words_of(alloc, words, claims, Usage::Reads)?,
-        writes: words_of(alloc, words, claims, Usage::Writes)?,
-        guarded_reads: guarded_reads(alloc, words, locks, claims)?,
-        guarded_writes: guarded_writes(alloc, words, locks, claims)?,
+        reads: words_of(alloc, words, rows, task, Usage::Reads)?,
+        writes: words_of(alloc, words, rows, task, Usage::Writes)?,
+        guarded_reads: guarded_reads(alloc, words, locks, rows, task)?,
+        guarded_writes: guarded_writes(alloc, words, locks, rows, task)?,
     })
 }
 
@@ -165,18 +112,18 @@ fn declared(
     alloc: Global,
     words: u32,
     locks: u32,
-    claims: &[Claim],
+    rows: &[Sequence<Interval>],
     task: Start,
 ) -> Result<TaskDecl, Memory>
-    requires { words ≤ 65536 }
-    ensures { IfOk result (λ declared. declared ≡ task_within words locks claims.now task) }
+    requires words { words ≤ 65536 }
+    requires rows { AreRowsWithin words rows.now }
+    ensures { IfOk result (λ declared. declared ≡ task_by_rows locks rows.now task) }
 {
-    let own = claims_of(alloc, claims, task)?;
     Ok(TaskDecl {
         core: CoreId(task.core),
         entry: task.entry,
         arg: task.arg,
-        effects: effects_in(alloc, words, locks, own.as_slice())?,
+        effects: effects_in(alloc, words, locks, rows, task)?,
     })
 }
 
@@ -203,15 +150,16 @@ fn push_task(
     tasks: &mut Sequence<TaskDecl>,
     words: u32,
     locks: u32,
-    claims: &[Claim],
+    rows: &[Sequence<Interval>],
     task: Option<Start>,
 ) -> Result<(), Memory>
-    requires { words ≤ 65536 }
-    ensures { OnOk result (tasks.new ≡ tasks.old ++ option_to_list (option_map (task_within words locks claims.now) task)) }
+    requires words { words ≤ 65536 }
+    requires rows { AreRowsWithin words rows.now }
+    ensures { OnOk result (tasks.new ≡ tasks.old ++ option_to_list (option_map (task_by_rows locks rows.now) task)) }
 {
     match task {
         None => Ok(()),
-        Some(task) => tasks.push(declared(alloc, words, locks, claims, task)?),
+        Some(task) => tasks.push(declared(alloc, words, locks, rows, task)?),
     }
 }
 
@@ -220,12 +168,13 @@ fn phase_of(
     alloc: Global,
     words: u32,
     locks: u32,
-    claims: &[Claim],
+    rows: &[Sequence<Interval>],
     tasks: &[Start],
     number: u32,
 ) -> Result<Phase, Memory>
-    requires { words ≤ 65536 }
-    ensures { IfOk result (λ phase. phase ≡ phase_within words locks claims.now tasks.now number) }
+    requires words { words ≤ 65536 }
+    requires rows { AreRowsWithin words rows.now }
+    ensures { IfOk result (λ phase. phase ≡ phase_by_rows locks rows.now tasks.now number) }
 {
     let mut found = Sequence::new(alloc);
     for core in 0..16 {
@@ -234,11 +183,32 @@ fn phase_of(
             &mut found,
             words,
             locks,
-            claims,
+            rows,
             task_on(tasks, number, core),
         )?;
     }
     Ok(Phase { tasks: found })
+}
+
+/// The phases, which are numbered from 1, from the rows of their claims.
+fn phases_by(
+    alloc: Global,
+    words: u32,
+    locks: u32,
+    rows: &[Sequence<Interval>],
+    tasks: &[Start],
+    count: u32,
+) -> Result<Sequence<Phase>, Memory>
+    requires words { words ≤ 65536 }
+    requires rows { AreRowsWithin words rows.now }
+    requires count { count ≤ 64 }
+    ensures { IfOk result (λ phases. phases ≡ map (phase_by_rows locks rows.now tasks.now) (range_with_len 1 count)) }
+{
+    let mut phases = Sequence::new(alloc);
+    for number in 0..count {
+        phases.push(phase_of(alloc, words, locks, rows, tasks, number + 1)?)?;
+    }
+    Ok(phases)
 }
 
 /// The phases, which are numbered from 1.
@@ -251,14 +221,12 @@ fn phases_of(
     count: u32,
 ) -> Result<Sequence<Phase>, Memory>
     requires words { words ≤ 65536 }
+    requires locks { locks ≤ 32 }
     requires count { count ≤ 64 }
     ensures { IfOk result (λ phases. phases ≡ map (phase_within words locks claims.now tasks.now) (range_with_len 1 count)) }
 {
-    let mut phases = Sequence::new(alloc);
-    for number in 0..count {
-        phases.push(phase_of(alloc, words, locks, claims, tasks, number + 1)?)?;
-    }
-    Ok(phases)
+    let rows = claim_rows(alloc, words, count, claims)?;
+    phases_by(alloc, words, locks, rows.as_slice(), tasks, count)
 }
 
 /// The program that the lines of a text add up to.

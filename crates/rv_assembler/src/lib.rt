@@ -2,6 +2,7 @@
 #![tactic(auto)]
 
 mod assembling;
+mod claim_rows;
 mod coding;
 mod draft;
 mod emission;

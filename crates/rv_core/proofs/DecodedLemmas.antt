@@ -50,3 +50,8 @@ known-next P d fuel t i left is = by_test (t.retired == fuel) refl
         let with_instr : Option Instr → Next = λ o. record { need = instr_need P d t i; instr = o } in
         let with_need : Need → Next = λ n. record { need = n; instr = instr_at P t } in
         sym (ap with_need (known-need P d t i (code_at P.code t.pc) is) ∙ ap with_instr is)
+
+-- what the instruction that the task comes to needs, where there is fuel left
+pub known-need-of : (P : ProgramParts) (d : TaskDecl) (fuel : ℕ) (t : TaskState) (i : Instr) → (t.retired ≡ fuel → ⊥) → instr_at P t ≡ Some i
+    → instr_need P d t i ≡ need_of P d fuel t
+known-need-of P d fuel t i left is = ap (λ (n : Next). n.need) (known-next P d fuel t i left is)

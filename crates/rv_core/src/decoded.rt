@@ -1,9 +1,9 @@
-ghost use Rattle.std.specs.Prelude.{◌≡◌, ◌↔◌, None, option_copied, IfOk};
+ghost use Rattle.std.specs.Prelude.{◌≡◌, ◌↔◌, ◌≤◌, None, length, option_copied, IfOk};
 ghost use Rattle.rv_core.specs.Decoded.{found_at, IsDecoded};
-ghost use Rattle.rv_core.specs.Kinds.{Allowed, EndsByFuel};
+ghost use Rattle.rv_core.specs.Kinds.{Allowed, EndsByFuel, IsAdvance, IsLoad, IsStore};
 ghost use Rattle.rv_core.specs.Need.{need_of};
 ghost use Rattle.rv_core.specs.Next.{IsNextOf};
-ghost use Rattle.rv_core.specs.Step.{instr_at};
+ghost use Rattle.rv_core.specs.Step.{instr_at, advanced, loaded_of, merged_of};
 
 use crate::address::CODE;
 use crate::need::{Need, Next, instruction};
@@ -45,6 +45,7 @@ impl DecodedCode {
     }
 
     /// The instruction at an address, or None where no code word stands there or the word is no instruction.
+    #[inline(always)]
     pub(crate) fn at(&self, pc: u32) -> Option<&Instr>
         ensures { option_copied result ≡ found_at self.now pc }
     {
@@ -61,6 +62,7 @@ impl DecodedCode {
 
 impl TaskState {
     /// The look, where the instruction at the program counter is known.
+    #[inline(always)]
     fn look_known(
         &self,
         program: &Program,
@@ -81,6 +83,7 @@ impl TaskState {
     }
 
     /// What the task's next instruction needs, as `next` says, by the program's code that was decoded before.
+    #[inline(always)]
     pub fn next_in(&self, program: &Program, task: &TaskDecl, fuel: u32, code: &DecodedCode) -> Next
         requires open { self.now.end ≡ None }
         requires code { IsDecoded program.now code.now }
@@ -159,15 +162,75 @@ impl DecodedProgram {
         state.next_in(&self.program, task, fuel, &self.code)
     }
 
+    /// The instruction at a task's program counter, if there is one.
+    #[inline(always)]
+    fn instr(&self, state: &TaskState) -> Option<&Instr>
+        ensures { option_copied result ≡ instr_at self.now state.now }
+    {
+        self.code.at(state.pc)
+    }
+
     /// What the next instruction of a task needs, as `TaskState::need` says, with no word decoded again. The task goes on, and
     /// may retire `fuel` instructions. Takes no memory.
+    // Out of line: in its callers the need would be taken apart, at several times its cost.
+    #[inline(never)]
     pub fn need(&self, state: &TaskState, task: &TaskDecl, fuel: u32) -> Need
         requires { state.now.end ≡ None }
         ensures value { result ≡ need_of self.now task.now fuel state.now }
         ensures fuel { EndsByFuel result ↔ (state.now.retired ≡ fuel) }
         ensures allowed { Allowed self.now task.now state.now result }
     {
-        self.next(state, task, fuel).need
+        match self.instr(state) {
+            Some(instr) if state.retired != fuel => instruction(&self.program, task, state, instr),
+            _ => state.need(&self.program, task, fuel),
+        }
+    }
+
+    /// Completes the next instruction of a task, as `TaskState::advance` does, with no word decoded again. The task goes on,
+    /// and its need is one of those that `advance` completes. Takes no memory.
+    #[tactic(auto, unfolding(crate::specs::Step::advanced))]
+    pub fn advance(&self, state: &mut TaskState, task: &TaskDecl, fuel: u32)
+        requires open { state.old.end ≡ None }
+        requires retired { state.old.retired ≤ fuel }
+        requires kind { IsAdvance (need_of self.now task.now fuel state.old) }
+        ensures { state.new ≡ advanced self.now state.old }
+    {
+        // for the proof alone: the read brings the program's invariant, by which it has at most 32 locks
+        let _locks = &self.program.locks;
+        match self.instr(state) {
+            Some(instr) => state.advance_by(*instr),
+            None => {}
+        }
+    }
+
+    /// Completes a task's load, whose word has this value, as `TaskState::loaded` does, with no word decoded again. The task
+    /// goes on, and its need is a load. Takes no memory.
+    #[tactic(auto, unfolding(crate::specs::Step::loaded_of))]
+    pub fn loaded(&self, state: &mut TaskState, task: &TaskDecl, fuel: u32, value: u32)
+        requires open { state.old.end ≡ None }
+        requires retired { state.old.retired ≤ fuel }
+        requires kind { IsLoad (need_of self.now task.now fuel state.old) }
+        ensures { state.new ≡ loaded_of self.now value state.old }
+    {
+        match self.instr(state) {
+            Some(instr) => state.load_by(*instr, value),
+            None => {}
+        }
+    }
+
+    /// The word after a task's store, where the word's value was `old`, as `TaskState::merged` says, with no word decoded
+    /// again. The task goes on, and its need is a store. Takes no memory.
+    #[tactic(auto, unfolding(crate::specs::Step::merged_of))]
+    pub fn merged(&self, state: &TaskState, task: &TaskDecl, fuel: u32, old: u32) -> u32
+        requires open { state.now.end ≡ None }
+        requires retired { state.now.retired ≤ fuel }
+        requires kind { IsStore (need_of self.now task.now fuel state.now) }
+        ensures { result ≡ merged_of self.now old state.now }
+    {
+        match self.instr(state) {
+            Some(instr) => state.store_by(*instr, old),
+            None => old,
+        }
     }
 }
 

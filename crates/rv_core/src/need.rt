@@ -139,6 +139,7 @@ fn call(program: &Program, state: &TaskState, number: u32, lock: u32) -> Need
 }
 
 /// What an instruction needs.
+#[inline(always)]
 pub(crate) fn instruction(
     program: &Program,
     task: &TaskDecl,
@@ -203,7 +204,9 @@ fn ends(need: Need) -> Next
 }
 
 impl TaskState {
-    /// The look, case by case.
+    /// The look, case by case. Out of line, so that a look at a known instruction stays short.
+    #[cold]
+    #[inline(never)]
     #[tactic(auto, unfolding(crate::specs::Need::need_of))]
     pub(crate) fn look(&self, program: &Program, task: &TaskDecl, fuel: u32) -> Next
         ensures { IsNextOf program.now task.now fuel self.now result }

@@ -80,7 +80,7 @@ impl TaskState {
     }
 
     /// Completes an instruction that loads nothing.
-    fn advance_by(&mut self, instr: Instr)
+    pub(crate) fn advance_by(&mut self, instr: Instr)
         requires retired { self.old.retired < 4294967295 }
         requires lock { instr ≡ Ecall → slice_index self.old.regs 10 < 32 }
         ensures { self.new ≡ after_instr self.old instr }
@@ -120,7 +120,7 @@ impl TaskState {
     }
 
     /// Completes a load, whose word has this value; any other instruction does nothing.
-    fn load_by(&mut self, instr: Instr, value: u32)
+    pub(crate) fn load_by(&mut self, instr: Instr, value: u32)
         requires retired { self.old.retired < 4294967295 }
         requires aligned { IsAligned self.old instr }
         ensures { self.new ≡ after_load self.old value (Some instr) }
@@ -139,7 +139,7 @@ impl TaskState {
     }
 
     /// The word after a store, where the word's value was `old`; any other instruction leaves it.
-    fn store_by(&self, instr: Instr, old: u32) -> u32
+    pub(crate) fn store_by(&self, instr: Instr, old: u32) -> u32
         requires { IsAligned self.now instr }
         ensures { result ≡ after_store self.now old (Some instr) }
     {

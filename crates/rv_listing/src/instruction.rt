@@ -4,9 +4,10 @@ ghost use Rattle.src_text.specs.Laws.{ended};
 ghost use Rattle.rv_listing.specs.Statement.{register, address, statement};
 ghost use Rattle.rv_listing.specs.Instruction.{branch_word, load_word, store_word, immediate_word, operation_word, instruction_line, raw_line, code_line};
 
-use crate::statement::{Operand, push_line};
+use crate::statement::{Operand, push_statement};
 use dn_base::Memory;
 use rv_isa::{AluOp, Cond, Instr, Reg, Width, decode, encode};
+use text_pieces::push;
 
 fn branch_word(cond: Cond) -> &'static [u8]
     ensures { result.now ≡ branch_word cond }
@@ -81,7 +82,7 @@ fn operation_word(op: AluOp) -> &'static [u8]
     }
 }
 
-/// Adds the line of an instruction that has a register and an address.
+/// Adds an instruction that has a register and an address.
 fn push_access(
     out: &mut Vec<u8>,
     word: &[u8],
@@ -89,24 +90,24 @@ fn push_access(
     offset: i32,
     base: Reg,
 ) -> Result<(), Memory>
-    ensures { OnOk result (out.new.items ≡ out.old.items ++ ended (statement word.now (register reg ∷ address offset base ∷ []))) }
+    ensures { OnOk result (out.new.items ≡ out.old.items ++ statement word.now (register reg ∷ address offset base ∷ [])) }
 {
     let operands = [Operand::Register(reg), Operand::Address(offset, base)];
-    push_line(out, word, &operands)
+    push_statement(out, word, &operands)
 }
 
-/// Adds the line of an instruction.
+/// Adds an instruction.
 #[tactic(auto, unfolding(crate::specs::Instruction::instruction_line))]
 fn push_instruction(out: &mut Vec<u8>, instr: Instr) -> Result<(), Memory>
-    ensures { OnOk result (out.new.items ≡ out.old.items ++ ended (instruction_line instr)) }
+    ensures { OnOk result (out.new.items ≡ out.old.items ++ instruction_line instr) }
 {
     use Operand::{Number, Offset, Register};
     match instr {
-        Instr::Lui { rd, imm } => push_line(out, b"lui", &[Register(rd), Number(imm)]),
-        Instr::Auipc { rd, imm } => push_line(out, b"auipc", &[Register(rd), Number(imm)]),
-        Instr::Jal { rd, offset } => push_line(out, b"jal", &[Register(rd), Offset(offset)]),
+        Instr::Lui { rd, imm } => push_statement(out, b"lui", &[Register(rd), Number(imm)]),
+        Instr::Auipc { rd, imm } => push_statement(out, b"auipc", &[Register(rd), Number(imm)]),
+        Instr::Jal { rd, offset } => push_statement(out, b"jal", &[Register(rd), Offset(offset)]),
         Instr::Jalr { rd, base, offset } => push_access(out, b"jalr", rd, offset, base),
-        Instr::Branch { cond, a, b, offset } => push_line(
+        Instr::Branch { cond, a, b, offset } => push_statement(
             out,
             branch_word(cond),
             &[Register(a), Register(b), Offset(offset)],
@@ -123,33 +124,36 @@ fn push_instruction(out: &mut Vec<u8>, instr: Instr) -> Result<(), Memory>
             base,
             offset,
         } => push_access(out, store_word(width), src, offset, base),
-        Instr::OpImm { op, rd, a, imm } => push_line(
+        Instr::OpImm { op, rd, a, imm } => push_statement(
             out,
             immediate_word(op),
             &[Register(rd), Register(a), Offset(imm)],
         ),
-        Instr::Op { op, rd, a, b } => push_line(
+        Instr::Op { op, rd, a, b } => push_statement(
             out,
             operation_word(op),
             &[Register(rd), Register(a), Register(b)],
         ),
-        Instr::Fence => push_line(out, b"fence", &[]),
-        Instr::Ecall => push_line(out, b"ecall", &[]),
-        Instr::Ebreak => push_line(out, b"ebreak", &[]),
+        Instr::Fence => push_statement(out, b"fence", &[]),
+        Instr::Ecall => push_statement(out, b"ecall", &[]),
+        Instr::Ebreak => push_statement(out, b"ebreak", &[]),
     }
 }
 
-/// Adds the line of a word as a number.
+/// Adds a word as a number.
 fn push_raw(out: &mut Vec<u8>, word: u32) -> Result<(), Memory>
-    ensures { OnOk result (out.new.items ≡ out.old.items ++ ended (raw_line word)) }
+    ensures { OnOk result (out.new.items ≡ out.old.items ++ raw_line word) }
 {
-    push_line(out, b".raw", &[Operand::Word(word)])
+    push_statement(out, b".raw", &[Operand::Word(word)])
 }
 
-/// Adds the line of a code word.
+/// Adds a code word as the listing writes it: the instruction that is encoded to it, as `lw x6, 0(x5)`, or else the word as a number.
+///
+/// # Errors
+/// `Memory` where there is no room.
 #[tactic(auto, unfolding(crate::specs::Instruction::code_line))]
-pub(crate) fn push_code(out: &mut Vec<u8>, word: u32) -> Result<(), Memory>
-    ensures { OnOk result (out.new.items ≡ out.old.items ++ ended (code_line word)) }
+pub fn push_code_word(out: &mut Vec<u8>, word: u32) -> Result<(), Memory>
+    ensures { OnOk result (out.new.items ≡ out.old.items ++ code_line word) }
 {
     match decode(word) {
         None => push_raw(out, word),
@@ -161,4 +165,12 @@ pub(crate) fn push_code(out: &mut Vec<u8>, word: u32) -> Result<(), Memory>
             }
         }
     }
+}
+
+/// Adds the line of a code word.
+pub(crate) fn push_code(out: &mut Vec<u8>, word: u32) -> Result<(), Memory>
+    ensures { OnOk result (out.new.items ≡ out.old.items ++ ended (code_line word)) }
+{
+    push_code_word(out, word)?;
+    push(out, b"\n")
 }

@@ -6,4 +6,5 @@ mod instruction;
 mod statement;
 mod writing;
 
+pub use instruction::push_code_word;
 pub use writing::listing;

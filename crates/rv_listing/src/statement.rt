@@ -74,6 +74,18 @@ fn push_operands(out: &mut Vec<u8>, given: &[Operand<'_>]) -> Result<(), Memory>
     }
 }
 
+/// Adds a statement.
+pub(crate) fn push_statement(
+    out: &mut Vec<u8>,
+    word: &[u8],
+    operands: &[Operand<'_>],
+) -> Result<(), Memory>
+    ensures { OnOk result (out.new.items ≡ out.old.items ++ statement word.now (map operand_text operands.now)) }
+{
+    push(out, word)?;
+    push_operands(out, operands)
+}
+
 /// Adds a line of one statement.
 pub(crate) fn push_line(
     out: &mut Vec<u8>,
@@ -82,7 +94,6 @@ pub(crate) fn push_line(
 ) -> Result<(), Memory>
     ensures { OnOk result (out.new.items ≡ out.old.items ++ ended (statement word.now (map operand_text operands.now))) }
 {
-    push(out, word)?;
-    push_operands(out, operands)?;
+    push_statement(out, word, operands)?;
     push(out, b"\n")
 }

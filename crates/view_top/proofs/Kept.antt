@@ -18,10 +18,10 @@ use Rattle.front_end.specs.declared.programs.Stop.{Stop}
 use Rattle.front_end.specs.declared.programs.Stop.TheVariants.{Refused, Memory}
 use Rattle.front_end.specs.Texts.{IsStop}
 use Rattle.dn_top.specs.Answers.{IsRefusedDocument}
-use Rattle.dn_top.specs.Documents.{shape_told, IsNoRun}
+use Rattle.dn_top.specs.Documents.{shape_told, IsNoRun, IsRunTold}
 use Rattle.dn_top.specs.Runs.{IsPrintable}
 use Rattle.view_top.specs.declared.documents.KeptRun.{KeptRun}
-use Rattle.view_top.specs.Answers.{IsRunTold, HasKeptRun}
+use Rattle.view_top.specs.Answers.{HasKeptRun}
 use Rattle.view_top.specs.Kept.{kept_run_of, IsViewable}
 
 -- the events of a document's run are a run of its machine

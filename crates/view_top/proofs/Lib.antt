@@ -1,5 +1,4 @@
 pub mod Commands
-pub mod Printed
 pub mod Kept
 pub mod Pictures
 pub mod Counted

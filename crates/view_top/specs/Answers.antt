@@ -9,7 +9,6 @@ use Rattle.dn_machine.specs.declared.record.RunRecord.{RunRecord}
 use Rattle.dn_machine.specs.Settings.{IsSettingOf}
 use Rattle.run_replay.specs.declared.trace.Trace.{Trace}
 use Rattle.run_replay.specs.declared.trace.TraceShape.{TraceShape}
-use Rattle.run_replay.specs.declared.replaying.Replayed.TheVariants.{Complete}
 use Rattle.run_timing.specs.declared.ticks.Ticks.{Ticks}
 use Rattle.run_timing.specs.declared.timing.Timing.{Timing}
 use Rattle.run_timing.specs.Ticks.{ticks_by}
@@ -26,7 +25,7 @@ use Rattle.run_chart.specs.declared.drawing.Range.{Range}
 use Rattle.run_chart.specs.Charts.{IsChartOf}
 use Rattle.front_end.specs.Texts.{HasChecked, usage_line}
 use Rattle.dn_top.specs.Answers.{IsRefusedDocument}
-use Rattle.dn_top.specs.Documents.{HasTrace, IsReplayIn, shape_told}
+use Rattle.dn_top.specs.Documents.{HasTrace, IsRunTold, shape_told}
 use Rattle.dn_top.specs.Runs.{reported}
 use Rattle.view_top.specs.declared.answering.Output.{Output}
 use Rattle.view_top.specs.declared.options.View.{View}
@@ -37,12 +36,7 @@ use Rattle.view_top.specs.declared.status.ViewStatus.TheVariants as status
 
 -- ---- the run of a document
 
--- the events that a document tells are a complete run of its machine, and r is the record of that run
-pub record IsRunTold (P : ProgramParts) (t : Trace) (r : RunRecord) : Type 0 where
-  pub events : r.events ≡ t.events
-  pub replay : IsReplayIn P t (Complete r.ending r.grants r.counts)
-
--- a trace tells a complete run, and this holds of it
+-- what a document tells is a complete run, and this holds of the run
 pub record HasToldRun (P : ProgramParts) (t : Trace) (Holds : RunRecord → Type 0) : Type 0 where
   pub run : RunRecord
   pub told : IsRunTold P t run

@@ -1,19 +1,16 @@
 //! From a document to its run: what every mode does first that takes the document of a complete run.
 ghost use Rattle.std.specs.Prelude.{◌≡◌, IfOk, IfErr};
-ghost use Rattle.run_replay.specs.Document.{IsTrace};
 ghost use Rattle.front_end.specs.Texts.{IsStop};
 ghost use Rattle.dn_top.specs.Answers.{IsRefusedDocument};
-ghost use Rattle.dn_top.specs.Documents.{IsNoRun, shape_told};
-ghost use Rattle.dn_top.specs.Runs.{IsPrintable};
-ghost use Rattle.view_top.specs.Answers.{HasKeptRun, IsRunTold};
+ghost use Rattle.dn_top.specs.Documents.{shape_told};
+ghost use Rattle.view_top.specs.Answers.{HasKeptRun};
 ghost use Rattle.view_top.specs.Kept.{kept_run_of, IsViewable};
 
 use dn_base::Shape;
-use dn_top::{RunRecord, refused_trace, shape_told, trace_in};
+use dn_top::{RunRecord, run_told, shape_told, trace_in};
 use effect_checker::Checked;
 use front_end::{Stop, checked_of};
-use region_table::a_program_is_well_formed;
-use run_replay::{Replayed, Trace, TraceRefusal, TraceShape, replay};
+use run_replay::TraceShape;
 use std::alloc::Global;
 
 /// The run of a document, with the size of its machine and its program. The program is there twice, since a machine uses up one.
@@ -32,39 +29,6 @@ pub(crate) fn shape_of(sizes: TraceShape, checked: &Checked) -> Shape
     shape_told(sizes, checked.program())
 }
 
-/// Makes the events of a document once more.
-///
-/// # Errors
-/// `Refused` with the line that refuses them, where they are no complete run, and `Memory` where there is no room.
-fn run_again(alloc: Global, trace: Trace, checked: Checked) -> Result<RunRecord, Stop>
-    requires { IsTrace trace }
-    ensures told { IfOk result (IsRunTold checked trace) }
-    ensures printable { IfOk result IsPrintable }
-    ensures stop { IfErr result (IsStop (IsNoRun checked trace)) }
-{
-    let program = checked.program();
-    // for the proof alone: a well-formed program has few words and tasks, so the run can be printed
-    a_program_is_well_formed(program);
-    let shape = shape_told(trace.shape, program);
-    let events = trace.events.as_slice();
-    match replay(alloc, checked, shape, trace.shape.fuel, events)? {
-        Replayed::Complete {
-            ending,
-            grants,
-            counts,
-        } => Ok(RunRecord {
-            events: trace.events,
-            grants,
-            counts,
-            ending,
-        }),
-        Replayed::NotEnabled { number } => {
-            Err(refused_trace(alloc, &TraceRefusal::NotEnabled { number }))
-        }
-        Replayed::Incomplete => Err(refused_trace(alloc, &TraceRefusal::Incomplete)),
-    }
-}
-
 /// The run of a document.
 ///
 /// # Errors
@@ -80,7 +44,7 @@ pub(crate) fn kept_run(alloc: Global, document: &[u8]) -> Result<KeptRun, Stop>
     let program = checked_of(alloc, text)?;
     let again = checked_of(alloc, text)?;
     let sizes = trace.shape;
-    let run = run_again(alloc, trace, checked)?;
+    let run = run_told(alloc, trace, checked)?;
     Ok(KeptRun {
         sizes,
         run,

@@ -9,9 +9,10 @@ ghost use Rattle.word_cache.specs.Row.{IsCacheRow, HaveDistinctTimes, pairs_by_u
 use crate::edits::{change_entry, take_out, use_again, write_last, write_new};
 use crate::grant::drop_stale;
 use crate::looks::{entry_of, has_free, probe_of, set_of, victim_in};
+use crate::order::pairs_by_use;
 use crate::row::{Entry, Place, Probe, Row};
 use crate::sweep::sweep_phase;
-use dn_base::{Memory, PhaseId, WordId};
+use dn_base::{Memory, PhaseId, Sequence, WordId};
 use region_table::WordSet;
 use std::alloc::Global;
 use std::marker::Model;
@@ -133,6 +134,17 @@ impl WordCache {
         ensures times { HaveDistinctTimes result.now }
     {
         set_of(self.places.as_slice(), self.sets, self.ways, set)
+    }
+
+    /// The pairs of a set, which is below the sets, the least recently used first.
+    ///
+    /// # Errors
+    /// `Memory` where there is no room for them.
+    pub fn pairs(&self, alloc: Global, set: u32) -> Result<Sequence<(WordId, Entry)>, Memory>
+        requires { set < self.now.sets }
+        ensures { IfOk result (λ pairs. pairs ≡ filter (in_set self.now.sets set) self.now.pairs) }
+    {
+        pairs_by_use(alloc, self.places(set))
     }
 
     /// What holds of every cache: a word has one pair at most, and a set has no more pairs than ways. Does nothing.

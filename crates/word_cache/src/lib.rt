@@ -10,6 +10,7 @@ mod edits;
 mod grant;
 mod laws;
 mod looks;
+mod order;
 mod places;
 mod row;
 mod sweep;

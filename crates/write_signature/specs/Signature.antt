@@ -18,6 +18,10 @@ tag s = s.phase.0
 abbrev pub has_bit : Signature → ℕ → Bool
 has_bit s i = if nat_lt i 128 then bit_at s.low i == 1 else bit_at s.high (i - 128) == 1
 
+-- whether two signatures have the same bits and are of the same phase
+abbrev pub same_signature : Signature → Signature → Bool
+same_signature a b = (a.low == b.low) && ((a.high == b.high) && (tag a == tag b))
+
 -- bit i is set, and the others stay
 abbrev pub with_bit : ℕ → Signature → Signature
 with_bit i s =

@@ -1,5 +1,5 @@
 ghost use Rattle.std.specs.Prelude.{◌≡◌, ◌<◌};
-ghost use Rattle.write_signature.specs.Signature.{h1, h2, has_bit, with_bit, in_phase, empty, may_hold, inserted, joined};
+ghost use Rattle.write_signature.specs.Signature.{h1, h2, has_bit, same_signature, with_bit, in_phase, empty, may_hold, inserted, joined};
 
 use dn_base::{PhaseId, WordId};
 
@@ -49,8 +49,15 @@ impl Signature {
         self.phase
     }
 
-    /// Whether this bit is set.
-    fn has(&self, bit: u32) -> bool
+    /// Whether both signatures have the same bits and are of the same phase.
+    pub fn is_same(&self, other: &Signature) -> bool
+        ensures { result ≡ same_signature self.now other.now }
+    {
+        self.low == other.low && self.high == other.high && self.phase.0 == other.phase.0
+    }
+
+    /// Whether this bit is set, one of 0 to 255.
+    pub fn has(&self, bit: u32) -> bool
         requires { bit < 256 }
         ensures { result ≡ has_bit self.now bit }
     {

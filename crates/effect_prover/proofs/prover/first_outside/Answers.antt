@@ -1,8 +1,10 @@
-use Rattle.std.proofs.Common.{Option, sym, subst, arith}
+use Rattle.std.proofs.Common.{◌≡◌, Option, refl, sym, ap, ◌∙◌, subst, arith, ⊎_elim, add-one}
+use Rattle.std.proofs.lemmas.Bool.{cases_eq}
 use Rattle.std.specs.Option.{IfSome}
 use Rattle.effect_prover.specs.declared.row.Row.{Row}
 use Rattle.effect_prover.specs.Row.{IsRow}
-use Rattle.effect_prover.specs.Blocks.{filled}
+use Rattle.effect_prover.specs.Blocks.{filled_before, filled}
+use Rattle.effect_prover.specs.Inside.{IsInsideAt}
 use Rattle.effect_prover.proofs.AnswerLemmas.{all-inside}
 use Rattle.effect_prover.proofs.TableLemmas.{filled-known, before-known}
 use Rattle.effect_prover.proofs.BlockLemmas.{filled-length}
@@ -21,6 +23,30 @@ place_is_inside-requires-clause-row c =
     let within = c.loop-place-test.true in
     subst (λ (o : Option Row). IfSome o IsRow) (sym c.row_here-row.ensures)
     (filled-known c.args.program.now c.args.leaders.now c.args.rows.now c.loop-place.place (omega arith) c.requires.rows)
+
+pub loop-place-init : goal.loop-place-init
+loop-place-init c =
+    record {
+      row = refl;
+      kept = c.none-usable.ensures c.args.task.now;
+      inside = λ i l. absurd (omega arith);
+    }
+
+pub loop-place-preserved : goal.loop-place-preserved
+loop-place-preserved c =
+    let P = c.args.program.now in
+    let L = c.args.leaders.now in
+    let t = c.args.rows.now in
+    let place = c.loop-place.place in
+    record {
+      row = c.row_here-row.ensures ∙ ap (filled_before P L t) (sym (add-one place));
+      kept = c.place_is_inside.ensures.kept;
+      inside = λ i l.
+          ⊎_elim
+          (λ (here : i ≡ place). subst (IsInsideAt P c.args.task.now (filled P L t)) (sym here) (c.in_ok-place_is_inside.ensures.answer.0 c.if-not-branch.false))
+          (λ (apart : i ≡ place → ⊥). c.loop-place.invariant.inside i (omega arith))
+          (cases_eq i place);
+    }
 
 pub returns : goal.returns
 returns c =

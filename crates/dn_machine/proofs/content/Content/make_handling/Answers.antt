@@ -1,6 +1,5 @@
 use Rattle.std.proofs.Common.{◌≡◌, Option, None, refl, sym, ap, ◌∙◌}
 use Rattle.std.proofs.lemmas.Option.{same_Some}
-use Rattle.std.proofs.lemmas.Result.{on_ok_weaker}
 use Rattle.dn_base.specs.declared.ids.CoreId.{CoreId}
 use Rattle.message_net.specs.declared.event.Event.TheVariants.{Handle}
 use Rattle.message_net.specs.declared.message.Mail.{Mail}
@@ -8,7 +7,7 @@ use Rattle.registration_protocol.specs.Setting.{setting}
 use Rattle.dn_machine.specs.declared.log.Happened.{Happened}
 use Rattle.dn_machine.specs.Content.{state_of}
 use Rattle.dn_machine.specs.Log.{end_there, HasCome}
-use Rattle.dn_machine.proofs.Making.{taken-there, handled-core}
+use Rattle.dn_machine.proofs.Making.{taken-there, handled-core, noted-behind}
 use Rattle.dn_machine.proofs.MailEvents.{handle-next, handle-told, whole-taken}
 use Rattle.dn_machine.proofs.content.Content.make_handling.Goals as goal
 
@@ -19,18 +18,19 @@ deliver-granted-requires-clause-whole c =
 
 pub returns-clause-came : goal.returns-clause-came
 returns-clause-came c n there =
-    let S = state_of (setting c.args.context.now) c.args.self.now in
-    let T = state_of (setting c.args.context.now) c.deliver-granted.new.self in
+    let C = setting c.args.context.now in
+    let S = state_of C c.args.self.now in
+    let T = state_of C c.deliver-granted.new.self in
     let m = c.take_at-mail.result in
     let rest = c.take_at-mail.new.self.mails in
     let took = taken-there c.args.self.now.pool.mails c.args.place m rest c.requires.distinct c.take_at-mail.ensures.value c.take_at-mail.ensures.rest in
-    let told : Happened = record { event = Handle m.id; observed = record { kind = c.kind.result; seen = None; granted = c.deliver-granted.result }; end = c.end_there-end.result } in
+    let told : Happened = record { event = Handle m.id; observed = record { kind = c.kind.result; seen = None; granted = c.deliver-granted.result }; end = end_there T c.core_of.result } in
     let came : HasCome S T told =
     record {
       next = c.deliver-granted.ensures.state ∙ handle-next S m.id m rest took.0 took.1;
       observed = rw (handle-told S m.id m rest took.0, c.deliver-granted.ensures.granted, c.kind.ensures) refl;
-      end = c.end_there-end.ensures (setting c.args.context.now) ∙ ap (λ (o : Option CoreId). end_there T o) (c.core_of.ensures ∙ sym (handled-core S m took.0));
+      end = ap (λ (o : Option CoreId). end_there T o) (c.core_of.ensures ∙ sym (handled-core S m took.0));
     }
     in
     let event : Handle m.id ≡ Handle n.id = ap (λ (x : Mail). Handle x.id) (same_Some m n (sym c.take_at-mail.ensures.value ∙ there)) in
-    on_ok_weaker c.note_event.result (λ noted. record { told = told; event = event; came = came; noted = noted }) c.note_event.ensures
+    record { told = told; event = event; came = came; noted = noted-behind c.args.log.now _ _ told c.kind.result c.deliver-granted.result c.in_ok-note_event.ensures refl refl (c.note_end.ensures C) }

@@ -1,6 +1,0 @@
-use Rattle.registration_protocol.proofs.node.Node.wanted.Goals as goal
-
-pub returns-in-Some-Store : goal.returns-in-Some-Store
-returns-in-Some-Store c =
-    let known = rw c.in-Some-Store.is at c.in-Some-Store.field-0-is in
-    rw (c.in-Some-Store.is, known) c.crowded-in-Some-Store.ensures

@@ -1,9 +1,0 @@
-use Rattle.std.proofs.Common.{◌≡◌, ◌+◌, ◌-◌, ◌++◌, map}
-use Rattle.std.specs.List.{range_with_len}
-use Rattle.rv_assembler.specs.Finishing.{phase_within}
-use Rattle.rv_assembler.proofs.finishing.phases_of.Given as goal
-
-abbrev pub invariant-loop-number : goal.invariant-loop-number
-invariant-loop-number l =
-    l.phases ++ map (phase_within l.words l.locks l.claims l.tasks) (range_with_len (l.number + 1) (l.count - l.number))
-    ≡ map (phase_within l.words l.locks l.claims l.tasks) (range_with_len 1 l.count)

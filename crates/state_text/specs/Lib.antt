@@ -1,0 +1,6 @@
+pub mod Called
+pub mod Because
+pub mod Cores
+pub mod Parts
+pub mod Shown
+pub mod Reached

@@ -1,0 +1,148 @@
+//! Whether an event may come, or why it may not.
+ghost use Rattle.std.specs.Prelude.{◌≡◌, ◌++◌, OnOk};
+ghost use Rattle.state_text.specs.Because.{reason_before, another_set, two_words_text, reason_names, reason_behind, reason_text, subject_text, may_line, may_not_line, whether_line};
+
+use crate::called::{push_core, push_data_word, push_mail};
+use dn_base::{Memory, WordId};
+use event_reasons::Reason;
+use message_net::Event;
+use place_texts::push_lock;
+use region_table::Program;
+use text_pieces::push;
+
+/// Adds what stands before the words or the lock that a reason names.
+#[tactic(auto, unfolding(crate::specs::Because::reason_before))]
+fn push_before(out: &mut Vec<u8>, reason: Reason) -> Result<(), Memory>
+    ensures { OnOk result (out.new.items ≡ out.old.items ++ reason_before reason) }
+{
+    match reason {
+        Reason::NoCore => push(out, b"isn't there"),
+        Reason::Halted => push(out, b"is halted"),
+        Reason::Arrived => push(out, b"has arrived"),
+        Reason::NoTask => push(out, b"has no task"),
+        Reason::TaskEnded => push(out, b"has a task that has ended"),
+        Reason::TaskRuns => push(out, b"has a task that goes on"),
+        Reason::WaitsForWord(_) => push(out, b"waits for "),
+        Reason::WaitsForLock(_) => push(out, b"waits for "),
+        Reason::HasValue(_) => push(out, b"has the value of "),
+        Reason::IsLeaving(_) => push(out, b"has "),
+        Reason::IsPending(_) => push(out, b"has "),
+        Reason::NoEntry(_) => push(out, b"has no entry of "),
+        Reason::NoRoom(_) => push(out, b"has no room for "),
+        Reason::HasPending => push(out, b"has pending entries"),
+        Reason::NeedsNoRoom => push(out, b"needs no room"),
+        Reason::OtherSet { .. } => push(out, b"needs room for "),
+        Reason::NoMail => push(out, b"isn't in flight"),
+    }
+}
+
+#[tactic(auto, unfolding(crate::specs::Because::another_set))]
+fn push_another_set(out: &mut Vec<u8>) -> Result<(), Memory>
+    ensures { OnOk result (out.new.items ≡ out.old.items ++ another_set) }
+{
+    push(out, b", which is of another set than ")
+}
+
+#[tactic(auto, unfolding(crate::specs::Because::two_words_text))]
+fn push_two_words(
+    out: &mut Vec<u8>,
+    program: &Program,
+    wanted: WordId,
+    word: WordId,
+) -> Result<(), Memory>
+    ensures { OnOk result (out.new.items ≡ out.old.items ++ two_words_text program.now wanted.0 word.0) }
+{
+    push_data_word(out, program, wanted)?;
+    push_another_set(out)?;
+    push_data_word(out, program, word)
+}
+
+/// Adds the words or the lock that a reason names.
+fn push_names(out: &mut Vec<u8>, program: &Program, reason: Reason) -> Result<(), Memory>
+    ensures { OnOk result (out.new.items ≡ out.old.items ++ reason_names program.now reason) }
+{
+    match reason {
+        Reason::WaitsForWord(word) => push_data_word(out, program, word),
+        Reason::WaitsForLock(lock) => push_lock(out, program.locks.as_slice(), lock.0 as usize),
+        Reason::HasValue(word) => push_data_word(out, program, word),
+        Reason::IsLeaving(word) => push_data_word(out, program, word),
+        Reason::IsPending(word) => push_data_word(out, program, word),
+        Reason::NoEntry(word) => push_data_word(out, program, word),
+        Reason::NoRoom(word) => push_data_word(out, program, word),
+        Reason::OtherSet { word, wanted } => push_two_words(out, program, wanted, word),
+        _ => Ok(()),
+    }
+}
+
+/// Adds what stands behind them.
+#[tactic(auto, unfolding(crate::specs::Because::reason_behind))]
+fn push_behind(out: &mut Vec<u8>, reason: Reason) -> Result<(), Memory>
+    ensures { OnOk result (out.new.items ≡ out.old.items ++ reason_behind reason) }
+{
+    match reason {
+        Reason::HasValue(_) => push(out, b", and its instruction comes first"),
+        Reason::IsLeaving(_) => push(out, b" leaving"),
+        Reason::IsPending(_) => push(out, b" pending"),
+        _ => Ok(()),
+    }
+}
+
+/// Adds what a reason says of the core or mail of an event.
+#[tactic(auto, unfolding(crate::specs::Because::reason_text))]
+fn push_reason(out: &mut Vec<u8>, program: &Program, reason: Reason) -> Result<(), Memory>
+    ensures { OnOk result (out.new.items ≡ out.old.items ++ reason_text program.now reason) }
+{
+    push_before(out, reason)?;
+    push_names(out, program, reason)?;
+    push_behind(out, reason)
+}
+
+/// Adds whose event it is.
+#[tactic(auto, unfolding(crate::specs::Because::subject_text))]
+fn push_subject(out: &mut Vec<u8>, event: Event) -> Result<(), Memory>
+    ensures { OnOk result (out.new.items ≡ out.old.items ++ subject_text event) }
+{
+    match event {
+        Event::Instr(core) | Event::Evict(core, _) | Event::Arrive(core) => push_core(out, core),
+        Event::Handle(id) => push_mail(out, id),
+    }
+}
+
+#[tactic(auto, unfolding(crate::specs::Because::may_line))]
+fn push_may(out: &mut Vec<u8>) -> Result<(), Memory>
+    ensures { OnOk result (out.new.items ≡ out.old.items ++ may_line) }
+{
+    push(out, b"may come")?;
+    push(out, b"\n")
+}
+
+#[tactic(auto, unfolding(crate::specs::Because::may_not_line))]
+fn push_may_not(
+    out: &mut Vec<u8>,
+    program: &Program,
+    event: Event,
+    reason: Reason,
+) -> Result<(), Memory>
+    ensures { OnOk result (out.new.items ≡ out.old.items ++ may_not_line program.now event reason) }
+{
+    push(out, b"may not come: ")?;
+    push_subject(out, event)?;
+    push(out, b" ")?;
+    push_reason(out, program, reason)?;
+    push(out, b"\n")
+}
+
+/// Adds whether an event may come, or the reason against it.
+pub(crate) fn push_whether(
+    out: &mut Vec<u8>,
+    program: &Program,
+    event: Event,
+    reason: Option<Reason>,
+) -> Result<(), Memory>
+    ensures { OnOk result (out.new.items ≡ out.old.items ++ whether_line program.now event reason) }
+{
+    match reason {
+        None => push_may(out),
+        Some(reason) => push_may_not(out, program, event, reason),
+    }
+}

@@ -1,0 +1,22 @@
+//! A state of the machine as text: what each part has, one fact a line, and which events may come.
+//!
+//! Words, code words and locks are called as the text of the program calls them. Every line ends with a newline.
+#![tactic(auto)]
+
+mod answer;
+mod because;
+mod called;
+mod cores;
+mod entries;
+mod homes;
+mod keeper;
+mod locks;
+mod mails;
+mod reaching;
+mod showing;
+mod signed;
+mod signing;
+mod tasks;
+
+pub use answer::StateAnswer;
+pub use reaching::state_at;
