@@ -30,7 +30,7 @@ use Rattle.dn_machine.specs.declared.log.Happened.{Happened}
 use Rattle.dn_machine.specs.declared.log.Log.{Log}
 use Rattle.dn_machine.specs.declared.record.RunRecord.{RunRecord}
 use Rattle.dn_machine.specs.Ends.{EndTable, AreLastEnds, noted_ending}
-use Rattle.dn_machine.specs.Run.{IsRecord, OfEachFront, IsTrueAfter, AgreesAfter, IsMachinesRun, IsSeedsRunOf}
+use Rattle.dn_machine.specs.Run.{IsRecord, OfEachFront, IsTrueAfter, AgreesAfter, IsCoherentRun, IsSeedsRunOf}
 use Rattle.dn_machine.specs.Kept.{IsKept}
 use Rattle.dn_machine.specs.Log.{HasCome, no_log, with_event, IsLogOf, HasRun}
 use Rattle.dn_machine.specs.Pick.{pick}
@@ -175,7 +175,7 @@ way-few C seed g T log ready way =
     (picked-run (initial_state C) 0 (generator_of seed) log.events (opened-sound C ready.context ready.program ready.checked) way.picked)
 
 -- all that is promised of a complete run and its record
-pub complete-run-of : (C : Setting) (r : RunRecord) → IsReady C → IsCompleteRun (initial_state C) r.events → IsRecord (initial_state C) r → IsMachinesRun (initial_state C) r
+pub complete-run-of : (C : Setting) (r : RunRecord) → IsReady C → IsCompleteRun (initial_state C) r.events → IsRecord (initial_state C) r → IsCoherentRun (initial_state C) r
 complete-run-of C r ready complete is =
     let same = opened-setting C in
     record {

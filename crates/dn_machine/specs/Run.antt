@@ -50,7 +50,7 @@ pub record HasFewEvents (S : State) (events : List Event) : Type 0 where
   pub most : length events ≤ 25169664
 
 -- the record of a run from a state on, that of the initial machine of a setting, whoever picked its events
-pub record IsMachinesRun (S : State) (r : RunRecord) : Type 0 where
+pub record IsCoherentRun (S : State) (r : RunRecord) : Type 0 where
   -- each event may come in its turn, and after them none
   pub complete : IsCompleteRun S r.events
   -- then every node is halted, or each task that hasn't ended waits for a lock that another core's task holds
@@ -68,4 +68,4 @@ pub record IsMachinesRun (S : State) (r : RunRecord) : Type 0 where
 -- the record of the run of a seed: the seed's words picked its events
 pub record IsSeedsRunOf (S : State) (seed : ℕ) (r : RunRecord) : Type 0 where
   pub scheduled : IsScheduled S seed r.events
-  pub run : IsMachinesRun S r
+  pub run : IsCoherentRun S r

@@ -8,7 +8,7 @@ ghost use Rattle.machine_rules.specs.Next.{enabled};
 ghost use Rattle.machine_rules.specs.Runs.{IsOver, IsCompleteRun};
 ghost use Rattle.machine_rules.specs.Sound.{IsMachine, IsReady, IsSound};
 ghost use Rattle.dn_machine.specs.Pick.{pick};
-ghost use Rattle.dn_machine.specs.Run.{IsRecord, IsMachinesRun};
+ghost use Rattle.dn_machine.specs.Run.{IsRecord, IsCoherentRun};
 ghost use Rattle.dn_machine.specs.Schedule.{IsScheduled};
 ghost use Rattle.dn_machine.specs.declared.record.RunRecord.{RunRecord};
 
@@ -27,5 +27,5 @@ pub fn a_seed_gives_one_complete_run()
 /// Whoever picks the events, a complete run of the initial machine comes to all that is promised of runs, if the record tells what is
 /// read off its events.
 pub fn a_complete_run_keeps_the_promises_of_runs()
-    ensures { (C : Setting) (r : RunRecord) → IsReady C → IsCompleteRun (initial_state C) r.events → IsRecord (initial_state C) r → IsMachinesRun (initial_state C) r }
+    ensures { (C : Setting) (r : RunRecord) → IsReady C → IsCompleteRun (initial_state C) r.events → IsRecord (initial_state C) r → IsCoherentRun (initial_state C) r }
 {}

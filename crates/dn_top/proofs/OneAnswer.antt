@@ -16,7 +16,7 @@ use Rattle.command_words.specs.declared.options.Mode as mode
 use Rattle.command_words.specs.declared.options.Options.{Options}
 use Rattle.dn_top.specs.declared.output.Output.{Output}
 use Rattle.dn_top.specs.Answers.{IsFlatRun, IsListing, IsProof, answered, done_in, refused_in, picks_events, IsRefusal, IsAnswer}
-use Rattle.dn_top.specs.Runs.{IsMachineRun, IsTimedRun, reported, summed_up}
+use Rattle.dn_top.specs.Runs.{IsPrintedRun, IsTimedRun, reported, summed_up}
 use Rattle.dn_top.specs.Documents.{IsTracedRun}
 use Rattle.dn_top.specs.Laws.{IsDecided}
 use Rattle.dn_top.proofs.OneProgram.{program-or_fault, no_program-one, unfit-one, program-one, checked-one, checked-fit}
@@ -52,9 +52,9 @@ by-one m o (inr none) picks = let bad : true ≡ false = sym picks ∙ none in a
 
 done-one : (m : Mode) (o : Options) (text : List ℕ) (out other : Output) → IsDecidedIn m o → done_in m o text out → done_in m o text other → out ≡ other
 done-one mode.TheVariants.Run o text out other decided is also =
-    checked-one text (λ P x. IsMachineRun P o reported x) out other (λ P. one-output P o reported out other (by-one mode.TheVariants.Run o decided refl)) is also
+    checked-one text (λ P x. IsPrintedRun P o reported x) out other (λ P. one-output P o reported out other (by-one mode.TheVariants.Run o decided refl)) is also
 done-one mode.TheVariants.Work o text out other decided is also =
-    checked-one text (λ P x. IsMachineRun P o summed_up x) out other (λ P. one-output P o summed_up out other (by-one mode.TheVariants.Work o decided refl)) is also
+    checked-one text (λ P x. IsPrintedRun P o summed_up x) out other (λ P. one-output P o summed_up out other (by-one mode.TheVariants.Work o decided refl)) is also
 done-one mode.TheVariants.Check o text out other decided is also =
     checked-one text (λ P x. x ≡ answered status.TheVariants.Done (checked_of P)) out other (λ P a b. a ∙ sym b) is also
 done-one mode.TheVariants.List o text out other decided is also = program-one text IsListing out other (λ P a b. a.answer ∙ sym b.answer) is also

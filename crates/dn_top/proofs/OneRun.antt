@@ -18,7 +18,7 @@ use Rattle.run_timing.specs.Text.{time_line, chain_line, link_line, timing_of}
 use Rattle.run_timing.proofs.OneTiming.{one-timing}
 use Rattle.command_words.specs.declared.options.Options.{Options}
 use Rattle.dn_top.specs.declared.output.Output.{Output}
-use Rattle.dn_top.specs.Runs.{shape_for, ticks_for, IsRunFor, IsMachineRun, IsTimedFor, IsTimedRun, output_of_run, summed_up}
+use Rattle.dn_top.specs.Runs.{shape_for, ticks_for, IsRunFor, IsPrintedRun, IsTimedFor, IsTimedRun, output_of_run, summed_up}
 
 -- ---- the run
 
@@ -51,7 +51,7 @@ one-run P o r s one is also =
     (by-seed P o s also one)
 
 -- so what is printed of it is the same
-pub one-output : (P : ProgramParts) (o : Options) (print : RunRecord → List ℕ) (out other : Output) → o.workers ≡ 1 → IsMachineRun P o print out → IsMachineRun P o print other → out ≡ other
+pub one-output : (P : ProgramParts) (o : Options) (print : RunRecord → List ℕ) (out other : Output) → o.workers ≡ 1 → IsPrintedRun P o print out → IsPrintedRun P o print other → out ≡ other
 one-output P o print out other one is also =
     is.answer ∙ ap (λ (r : RunRecord). output_of_run (print r) r) (one-run P o is.run also.run one is.is also.is) ∙ sym also.answer
 

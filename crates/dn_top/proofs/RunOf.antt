@@ -30,7 +30,7 @@ use Rattle.machine_rules.proofs.OpenedFacts.{opened-setting}
 use Rattle.run_agreement.specs.Ends.{HasFlatEnd}
 use Rattle.dn_machine.specs.Kept.{Made, IsKept, IsInitialMachine}
 use Rattle.dn_machine.specs.Settings.{IsSettingOf}
-use Rattle.dn_machine.specs.Run.{IsRecord, IsMachinesRun, IsSeedsRunOf}
+use Rattle.dn_machine.specs.Run.{IsRecord, IsCoherentRun, IsSeedsRunOf}
 use Rattle.dn_machine.specs.declared.record.RunRecord.{RunRecord}
 use Rattle.dn_machine.proofs.RunLemmas.{ready-of}
 use Rattle.run_replay.specs.Document.{FitsDocument}
@@ -116,7 +116,7 @@ module _ (P : ProgramParts) (s : Shape) (fuel : ℕ) (C : Setting) (r : RunRecor
             ∙ ap Some flat.ending;
       }
 
-  pub run-of : IsSettingOf P s fuel C → IsMachinesRun (initial_state C) r → HasFlatEnd C r.events → length r.counts.kinds ≡ 17 → IsRunOf P s fuel r
+  pub run-of : IsSettingOf P s fuel C → IsCoherentRun (initial_state C) r → HasFlatEnd C r.events → length r.counts.kinds ≡ 17 → IsRunOf P s fuel r
   run-of asked machine flat each =
       let by_grants = has-flat_run machine.is_true flat in
       record { setting = C; setting_is = asked; machine = machine; each_kind = each; flat = by_grants; caused = has-cause asked by_grants; lock_free = has-no_grants asked by_grants }
@@ -157,10 +157,10 @@ module _ (P : ProgramParts) (o : Options) (m : Made) (r : RunRecord) where
       record { run = run-of P (shape_for P o) o.fuel m.state.setting r (asked-for at kept) there.run run.run.flat each; scheduled = λ _. there.scheduled }
 
   -- one of several workers
-  pub is-run_by_workers : IsInitialMachine P (shape_for P o) o.fuel m → IsKept m.state m.made → IsMachinesRun m.state r → length r.counts.kinds ≡ 17 → o.workers ≢ 1 → IsRunFor P o r
+  pub is-run_by_workers : IsInitialMachine P (shape_for P o) o.fuel m → IsKept m.state m.made → IsCoherentRun m.state r → length r.counts.kinds ≡ 17 → o.workers ≢ 1 → IsRunFor P o r
   is-run_by_workers at kept run each several =
       record {
-        run = run-of P (shape_for P o) o.fuel m.state.setting r (asked-for at kept) (at-opened (λ S. IsMachinesRun S r) at run) run.flat each;
+        run = run-of P (shape_for P o) o.fuel m.state.setting r (asked-for at kept) (at-opened (λ S. IsCoherentRun S r) at run) run.flat each;
         scheduled = λ one. absurd (several one);
       }
 

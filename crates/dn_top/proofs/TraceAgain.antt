@@ -7,7 +7,7 @@ use Rattle.command_words.specs.declared.options.Options.{Options}
 use Rattle.dn_top.specs.declared.output.Output.{Output}
 use Rattle.dn_top.specs.Answers.{IsReplayed}
 use Rattle.front_end.specs.Texts.{HasChecked}
-use Rattle.dn_top.specs.Runs.{IsMachineRun, IsRunFor, output_of_run, reported}
+use Rattle.dn_top.specs.Runs.{IsPrintedRun, IsRunFor, output_of_run, reported}
 use Rattle.dn_top.specs.Documents.{IsTracedRun, IsReplayIn, IsReplayedRun, trace_of}
 use Rattle.dn_top.proofs.OneRun.{one-run}
 use Rattle.dn_top.proofs.OneProgram.{one-program}
@@ -36,14 +36,14 @@ replays-as o text document answer is e =
 
 -- what is written of a run and the report of that run, as the mode run and the replay give it
 record AreOfOneRun (o : Options) (text : List ℕ) (document : Output) (r : RunRecord) : Type 0 where
-  reported' : HasChecked text (λ P. IsMachineRun P o reported (output_of_run (reported r) r))
+  reported' : HasChecked text (λ P. IsPrintedRun P o reported (output_of_run (reported r) r))
   replayed : IsReplayed document.bytes (output_of_run (reported r) r)
 
 one-some : (r s : RunRecord) → Some r ≡ Some s → r ≡ s
 one-some r s e = cc
 
 pub replays-as_report : (o : Options) (text : List ℕ) (document : Output) (r : RunRecord) → HasChecked text (λ P. IsTracedRun P o text document) → document.run ≡ Some r
-    → HasChecked text (λ P. IsMachineRun P o reported (output_of_run (reported r) r)) × IsReplayed document.bytes (output_of_run (reported r) r)
+    → HasChecked text (λ P. IsPrintedRun P o reported (output_of_run (reported r) r)) × IsReplayed document.bytes (output_of_run (reported r) r)
 replays-as_report o text document r is e =
     let same : is.holds.run ≡ r = one-some is.holds.run r (sym (ap (λ (x : Output). x.run) is.holds.answer) ∙ e) in
     let both : AreOfOneRun o text document r =
@@ -55,9 +55,9 @@ replays-as_report o text document r is e =
     in (both.reported', both.replayed)
 
 pub replays-as_run : (o : Options) (text : List ℕ) (document answer : Output) → o.workers ≡ 1 → HasChecked text (λ P. IsTracedRun P o text document)
-    → HasChecked text (λ P. IsMachineRun P o reported answer) → IsReplayed document.bytes answer
+    → HasChecked text (λ P. IsPrintedRun P o reported answer) → IsReplayed document.bytes answer
 replays-as_run o text document answer one is also =
     let same : also.program ≡ is.program = one-program text also.program is.program also.is is.is in
-    let made : IsMachineRun is.program o reported answer = subst (λ (P : ProgramParts). IsMachineRun P o reported answer) same also.holds in
+    let made : IsPrintedRun is.program o reported answer = subst (λ (P : ProgramParts). IsPrintedRun P o reported answer) same also.holds in
     replays-as o text document answer is
     (made.answer ∙ ap (λ (r : RunRecord). output_of_run (reported r) r) (one-run is.program o made.run is.holds.run one made.is is.holds.is))

@@ -27,7 +27,7 @@ use Rattle.command_words.specs.declared.options.Options.{Options}
 use Rattle.dn_top.specs.declared.output.Output.{Output}
 use Rattle.dn_machine.specs.declared.record.RunRecord.{RunRecord}
 use Rattle.dn_top.specs.Causes.{IsCaused}
-use Rattle.dn_top.specs.Runs.{IsAnyRunFor, IsRunFor, IsMachineRun, IsTimedRun, reported, summed_up}
+use Rattle.dn_top.specs.Runs.{IsAnyRunFor, IsRunFor, IsPrintedRun, IsTimedRun, reported, summed_up}
 use Rattle.dn_top.specs.Documents.{IsTracedRun, HasTrace, IsNoDocument, IsReplayedRun, IsNoRun}
 
 -- ---- what is done with a program
@@ -83,8 +83,8 @@ HasAnyRun o text r = HasChecked text (λ P. IsAnyRunFor P o r)
 
 -- what each mode does with a text
 abbrev pub done_in : Mode → Options → List ℕ → Output → Type 0
-done_in mode.TheVariants.Run o text out = HasChecked text (λ P. IsMachineRun P o reported out)
-done_in mode.TheVariants.Work o text out = HasChecked text (λ P. IsMachineRun P o summed_up out)
+done_in mode.TheVariants.Run o text out = HasChecked text (λ P. IsPrintedRun P o reported out)
+done_in mode.TheVariants.Work o text out = HasChecked text (λ P. IsPrintedRun P o summed_up out)
 done_in mode.TheVariants.Check o text out = HasChecked text (λ P. out ≡ answered status.TheVariants.Done (checked_of P))
 done_in mode.TheVariants.List o text out = HasProgram text (λ P. IsListing P out)
 done_in mode.TheVariants.Flat o text out = HasChecked text (λ P. IsFlatRun P o.fuel out)

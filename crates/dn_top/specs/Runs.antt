@@ -11,7 +11,7 @@ use Rattle.flat_machine.specs.Ending.{flat_end}
 use Rattle.machine_rules.specs.State.{initial_state}
 use Rattle.machine_rules.specs.Runs.{all_loads}
 use Rattle.dn_machine.specs.Settings.{IsSettingOf}
-use Rattle.dn_machine.specs.Run.{IsMachinesRun}
+use Rattle.dn_machine.specs.Run.{IsCoherentRun}
 use Rattle.dn_machine.specs.Schedule.{IsScheduled}
 use Rattle.dn_machine.specs.declared.record.RunRecord.{RunRecord}
 use Rattle.run_report.specs.Run.{report_of}
@@ -63,7 +63,7 @@ pub record IsRunOf (P : ProgramParts) (shape : Shape) (fuel : ℕ) (r : RunRecor
   pub setting_is : IsSettingOf P shape fuel setting
   -- its events are a complete run of the initial machine, at rest behind it, coherent after each of them, whose loads are fronts
   -- of one thread's; and its grants, counts and ending are read off them
-  pub machine : IsMachinesRun (initial_state setting) r
+  pub machine : IsCoherentRun (initial_state setting) r
   -- there is a count of each of the seventeen kinds of event
   pub each_kind : length r.counts.kinds ≡ 17
   -- one thread on one memory that takes the critical sections in the order of its grants loads the same and ends the same
@@ -97,7 +97,7 @@ abbrev pub summed_up : RunRecord → List ℕ
 summed_up r = summary_of r.ending
 
 -- the program was run: the output hands the run back, says it in these words, and has the status of its outcome
-pub record IsMachineRun (P : ProgramParts) (o : Options) (print : RunRecord → List ℕ) (out : Output) : Type 0 where
+pub record IsPrintedRun (P : ProgramParts) (o : Options) (print : RunRecord → List ℕ) (out : Output) : Type 0 where
   pub run : RunRecord
   pub is : IsRunFor P o run
   pub answer : out ≡ output_of_run (print run) run

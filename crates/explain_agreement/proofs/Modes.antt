@@ -26,7 +26,7 @@ use Rattle.command_words.specs.declared.options.Options.{Options}
 use Rattle.command_words.specs.Command.{OptionsInRange}
 use Rattle.front_end.specs.Texts.{HasProgram, HasChecked, IsUnfit}
 use Rattle.dn_top.specs.declared.output.Output.{Output}
-use Rattle.dn_top.specs.Runs.{IsMachineRun, IsTimedRun, shape_for, ticks_for, reported, summed_up}
+use Rattle.dn_top.specs.Runs.{IsPrintedRun, IsTimedRun, shape_for, ticks_for, reported, summed_up}
 use Rattle.dn_top.specs.Documents.{IsTracedRun, IsReplayIn, IsNoRun, shape_told, trace_of, refused_by}
 use Rattle.dn_top.specs.Answers.{IsAnswer, IsFlatRun, IsListing, IsProof, IsReplayed, IsRefusedDocument, answered, done_in, refused_in}
 use Rattle.answer_lines.specs.declared.line.AnswerLine as line
@@ -69,13 +69,13 @@ module _ (once : IsRefusedOnce) where
       lines-of-checked once text (located text P) (is-located text P is) checked answer (subst (AreLines (located text P)) (sym same) printed) e h
 
   module _ (o : Options) (most : o.fuel ≤ 32768) (text : List ℕ) (out : Output) (e : Explained) (h : IsExplained text out.bytes e) where
-    report-taken : HasChecked text (λ P. IsMachineRun P o reported out) → IsTaken e
+    report-taken : HasChecked text (λ P. IsPrintedRun P o reported out) → IsTaken e
     report-taken has =
         let did = has.holds in
         printed-taken text has.program has.is has.checked (reported did.run) out.bytes (out-bytes out _ did.answer)
         (report-printed text (located text has.program) (is-located text has.program has.is) o.fuel most (shape_for has.program o) did.run did.is.run) e h
 
-    summary-taken : HasChecked text (λ P. IsMachineRun P o summed_up out) → IsTaken e
+    summary-taken : HasChecked text (λ P. IsPrintedRun P o summed_up out) → IsTaken e
     summary-taken has =
         let did = has.holds in
         printed-taken text has.program has.is has.checked (summed_up did.run) out.bytes (out-bytes out _ did.answer)

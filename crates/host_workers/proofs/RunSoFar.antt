@@ -26,7 +26,7 @@ use Rattle.dn_machine.specs.Ends.{EndTable, no_ends, noted_ending, AreLastEnds}
 use Rattle.dn_machine.specs.Kept.{Made, IsKept}
 use Rattle.dn_machine.specs.Log.{no_log}
 use Rattle.dn_machine.specs.Parts.{IsReordered}
-use Rattle.dn_machine.specs.Run.{IsRecord, IsMachinesRun}
+use Rattle.dn_machine.specs.Run.{IsRecord, IsCoherentRun}
 use Rattle.dn_machine.proofs.LogLemmas.{log-opened}
 use Rattle.dn_machine.proofs.RunLemmas.{ready-of, ending-true, complete-run-of, recorded}
 use Rattle.round_rules.specs.Rounds.{IsReached, events_of, noted_kind, noted_event, end_observed}
@@ -198,7 +198,7 @@ some-more m r e log noted by may notes = by_items r.merged.items refl where
 -- ---- at the end
 
 pub whole : (C : Setting) (m : Made) (log new : Log) (ending : Ending) → C.shape.cores ≤ 16 → IsRunSoFar C m log → IsOver m.state → new ≡ record log { ends = with_ends (last_ends m.state) log.ends }
-    → ending ≡ noted_ending new.ends m.state → IsMachinesRun (initial_state C) (recorded new ending)
+    → ending ≡ noted_ending new.ends m.state → IsCoherentRun (initial_state C) (recorded new ending)
 whole C m log new ending most far over is ends = complete-run-of C (recorded new ending) far.ready complete told where
   S : State
   S = after (initial_state C) log.events

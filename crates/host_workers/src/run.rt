@@ -4,7 +4,7 @@ ghost use Rattle.message_net.specs.declared.event.Event.{Event as EventOf};
 ghost use Rattle.machine_rules.specs.State.{initial_state};
 ghost use Rattle.machine_rules.specs.Next.{enabled};
 ghost use Rattle.machine_rules.specs.Runs.{IsOver};
-ghost use Rattle.dn_machine.specs.Run.{IsMachinesRun};
+ghost use Rattle.dn_machine.specs.Run.{IsCoherentRun};
 ghost use Rattle.host_workers.specs.RoundOf.{IsRunSoFar};
 
 use crate::noting::{note_ends, note_events, note_last};
@@ -72,7 +72,7 @@ fn go_on<R: Threads + Wait + Sync, G: Gate + Sync>(
 fn recorded(alloc: Global, machine: Machine, mut log: Log) -> Result<RunRecord, Memory>
     requires far { IsRunSoFar machine.state.setting machine log }
     requires over { IsOver machine.state }
-    ensures { IfOk result (IsMachinesRun (initial_state machine.state.setting)) }
+    ensures { IfOk result (IsCoherentRun (initial_state machine.state.setting)) }
 {
     // for the proof alone: the machine has at most 16 cores and is sound, which the ending of the run needs
     a_machine_is_kept(&machine);
@@ -105,7 +105,7 @@ pub fn run_workers<R: Threads + Wait + Sync, G: Gate + Sync>(
     requires some { 1 ≤ workers }
     requires few { workers ≤ 16 }
     requires made { machine.made ≡ 0 }
-    ensures { IfOk result (IsMachinesRun machine.state) }
+    ensures { IfOk result (IsCoherentRun machine.state) }
 {
     keep_freed_memory(alloc);
     // for the proof alone: no event has come, so the machine is the initial one, with which a run begins

@@ -12,7 +12,7 @@ use Rattle.machine_rules.specs.Next.{enabled}
 use Rattle.machine_rules.specs.Runs.{after, IsRun, IsOver}
 use Rattle.dn_machine.specs.declared.log.Log.{Log}
 use Rattle.dn_machine.specs.Ends.{noted_ending}
-use Rattle.dn_machine.specs.Run.{IsMachinesRun}
+use Rattle.dn_machine.specs.Run.{IsCoherentRun}
 use Rattle.dn_machine.specs.Settings.{IsSettingOf}
 use Rattle.run_replay.specs.declared.replaying.Replayed.{Replayed}
 use Rattle.run_replay.specs.declared.replaying.Replayed.TheVariants.{Complete, NotEnabled, Incomplete}
@@ -20,7 +20,7 @@ use Rattle.run_replay.specs.declared.replaying.Replayed.TheVariants.{Complete, N
 -- the events are a complete run of the initial machine, whose record has this ending, these grants and these counts, one of each of
 -- the seventeen kinds of event; so it keeps what is promised of runs
 pub record IsRunWith (C : Setting) (events : List Event) (ending : Ending) (grants : List Grant) (counts : Counts) : Type 0 where
-  pub run : IsMachinesRun (initial_state C) (record { events = events; grants = grants; counts = counts; ending = ending })
+  pub run : IsCoherentRun (initial_state C) (record { events = events; grants = grants; counts = counts; ending = ending })
   pub each_kind : length counts.kinds ≡ 17
 
 -- the event of this number, from 0, is the first that may not come after those before it

@@ -1,7 +1,7 @@
 use Rattle.std.proofs.Common.{refl, sym, ap, subst, ◌∙◌, arith, IfOk}
 use Rattle.registration_protocol.specs.Node.{Setting}
 use Rattle.machine_rules.specs.State.{State, initial_state}
-use Rattle.dn_machine.specs.Run.{IsMachinesRun}
+use Rattle.dn_machine.specs.Run.{IsCoherentRun}
 use Rattle.host_workers.specs.RoundOf.{IsRunSoFar}
 use Rattle.host_workers.proofs.RunSoFar.{begins, few-events}
 use Rattle.host_workers.proofs.run.run_workers.Goals as goal
@@ -40,4 +40,4 @@ recorded-requires-clause-over g c = c.pick.ensures.none.0 c.in_default.is
 pub returns : goal.returns
 returns g c =
     let first = c.a_machine_is_kept.ensures.first c.requires.made in
-    subst (λ (S : State). IfOk c.recorded.result (IsMachinesRun S)) (ap initial_state c.rounds.invariant.setting ∙ sym first) c.recorded.ensures
+    subst (λ (S : State). IfOk c.recorded.result (IsCoherentRun S)) (ap initial_state c.rounds.invariant.setting ∙ sym first) c.recorded.ensures
