@@ -18,7 +18,7 @@ use Rattle.account_text.specs.Names.{measure_word, all_measures, grouping_word, 
 unfoldable pub left_cell : List ℕ → List ℕ
 left_cell text = text ++ replicate (22 - length text) 32
 
--- a text at the right end of 11 columns, behind a space
+-- a text at the right end of 11 columns, after a space
 unfoldable pub right_cell : List ℕ → List ℕ
 right_cell text = space ++ replicate (11 - length text) 32 ++ text
 

@@ -141,7 +141,7 @@ answer_line (line.TheVariants.Fixed f) = fixed_line f
 abbrev pub trap_front : TrapKind → List ℕ
 trap_front k = codes "trap " ++ kind_word k ++ codes " pc "
 
--- the end of a task's line behind such a front
+-- the end of a task's line after such a front
 unfoldable pub trap_rest : List ℕ → Trapped → List ℕ
 trap_rest front t =
     front ++ hexadecimal t.pc ++ codes " value " ++ hexadecimal t.value ++ field (codes " retired ") newline t.retired
@@ -186,7 +186,7 @@ count_front count.TheVariants.Links = codes "chain "
 count_front count.TheVariants.WholeEvents = codes "refused trace event "
 count_front count.TheVariants.EnabledEvents = codes "refused trace not-enabled "
 
--- no line of a count stands in front of some bytes
+-- no line of a count stands at the start of some bytes
 abbrev pub NoCount : List ℕ → Type 0
 NoCount bytes = (c : Count) → NoneStands IsNumber (field (count_front c) newline) bytes
 
@@ -214,7 +214,7 @@ pub record StandUnbounded (bytes : List ℕ) (phase core pc : ℕ) (rest : List 
   pub numbers : HasUnboundedNumbers phase core pc
   pub parts : bytes ≡ unbounded_line phase core pc ++ rest
 
--- the lines that are looked for behind those of a run's answer
+-- the lines that are looked for after those of a run's answer
 abbrev pub IsOtherLine : AnswerLine → Type 0
 IsOtherLine (line.TheVariants.Sum value) = IsWord value
 IsOtherLine (line.TheVariants.Time ticks) = IsTicks ticks

@@ -8,11 +8,11 @@ use Rattle.document_parts.specs.Field.{field, IsFrom}
 abbrev pub IsNumber : ℕ → Type 0
 IsNumber n = IsFrom 0 4294967295 n
 
--- two numbers behind names: a blank ends the first, and the byte `stop` the second
+-- two numbers after names: a blank ends the first, and the byte `stop` the second
 unfoldable pub pair_fields : List ℕ → List ℕ → ℕ → ℕ → ℕ → List ℕ
 pair_fields first second stop a b = field first space a ++ field second (stop ∷ []) b
 
--- in front of some bytes stand two such numbers, and behind them the rest
+-- at the start of some bytes stand two such numbers, and after them the rest
 pub record StandPair (first second : List ℕ) (stop : ℕ) (bytes : List ℕ) (a b : ℕ) (rest : List ℕ) : Type 0 where
   pub first_from : IsNumber a
   pub second_from : IsNumber b
@@ -22,7 +22,7 @@ pub record StandPair (first second : List ℕ) (stop : ℕ) (bytes : List ℕ) (
 abbrev pub IsTicks : ℕ → Type 0
 IsTicks n = IsFrom 0 25169664000000 n
 
--- a line of three numbers behind a name
+-- a line of three numbers after a name
 unfoldable pub three_line : List ℕ → ℕ → ℕ → ℕ → List ℕ
 three_line name a b c = name ++ decimal a ++ space ++ decimal b ++ space ++ decimal c ++ newline
 

@@ -11,7 +11,7 @@ ghost use Rattle.answer_lines.specs.declared.line.AnswerLine.{AnswerLine as Line
 ghost use Rattle.answer_lines.specs.Answers.{ending_lines, run_lines, summary_lines, size_line};
 ghost use Rattle.answer_lines.specs.Lines.{IsAnswerLine, answer_line};
 
-/// In front of some bytes stands one line at most, and what stands behind it is the same.
+/// At the start of some bytes stands one line at most, and what follows it is the same.
 pub fn a_line_is_read_in_one_way()
     ensures { (x y : LineOf) (r s : List ℕ) → IsAnswerLine x → IsAnswerLine y → answer_line x ++ r ≡ answer_line y ++ s → (x ≡ y) × (r ≡ s) }
 {}

@@ -34,7 +34,7 @@ pub enum FixedLine {
     TooLarge,
     /// or doesn't begin as a document,
     Head,
-    /// or goes on behind its last event,
+    /// or goes on after its last event,
     Rest,
     /// or its run isn't at its end.
     Incomplete,

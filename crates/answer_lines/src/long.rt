@@ -12,7 +12,7 @@ use document_parts::behind;
 /// The most ticks that a run takes: 25,169,664 events of 1,000,000 ticks.
 const MOST_TICKS: u64 = 25_169_664_000_000;
 
-/// The value of the digits in front of some bytes, if it is at most `MOST_TICKS`, and how many digits there are.
+/// The value of the digits at the start of some bytes, if it is at most `MOST_TICKS`, and how many digits there are.
 fn digits(bytes: &[u8]) -> Option<(u64, usize)>
     ensures value { IfSome result (λ d. (d.0 ≡ digits_value 10 (take_while is_ascii_digit bytes.now)) × (d.0 ≤ 25169664000000)) }
     ensures length { IfSome result (λ d. d.1 ≡ length (take_while is_ascii_digit bytes.now)) }
@@ -33,7 +33,7 @@ fn digits(bytes: &[u8]) -> Option<(u64, usize)>
     Some((value, length))
 }
 
-/// Whether so many digits in front of some bytes are at least one, and don't begin with 0 unless they are 0 alone.
+/// Whether so many digits at the start of some bytes are at least one, and don't begin with 0 unless they are 0 alone.
 fn is_plain(bytes: &[u8], count: usize) -> bool
     requires { count ≤ length bytes.now }
     ensures { IsTrue result ↔ ((0 < count) × (slice_index bytes.now 0 ≡ 48 → count ≡ 1)) }
@@ -41,7 +41,7 @@ fn is_plain(bytes: &[u8], count: usize) -> bool
     count == 1 || (count > 1 && bytes[0] != b'0')
 }
 
-/// The number of ticks that stands in front of some bytes in decimal digits without leading zeros, with no digit behind it; and
+/// The number of ticks that stands at the start of some bytes in decimal digits without leading zeros, with no digit after it; and
 /// what stands there.
 fn numeral(bytes: &[u8]) -> Option<(u64, &[u8])>
     ensures within { IfSome result (λ f. IsTicks f.0) }
@@ -56,7 +56,7 @@ fn numeral(bytes: &[u8]) -> Option<(u64, &[u8])>
     Some((value, &bytes[count..]))
 }
 
-/// The number of ticks that stands in front of some bytes between a name and a newline, and what stands behind it.
+/// The number of ticks that stands at the start of some bytes between a name and a newline, and what follows it.
 pub(crate) fn ticks<'a>(bytes: &'a [u8], name: &[u8]) -> Option<(u64, &'a [u8])>
     ensures some { IfSome result (λ f. Stands IsTicks (field name.now newline) bytes.now f.0 f.1.now) }
     ensures none { IfNone result (NoneStands IsTicks (field name.now newline) bytes.now) }

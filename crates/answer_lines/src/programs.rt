@@ -10,7 +10,7 @@ use crate::line::FixedLine;
 use crate::numbers::two_numbers;
 use document_parts::{behind, hexadecimal};
 
-/// The number of 32 bits in base 16 that stands in front of some bytes before a newline, and what stands behind it.
+/// The number of 32 bits in base 16 that stands at the start of some bytes before a newline, and what follows it.
 fn hexadecimal_line(bytes: &[u8]) -> Option<(u32, &[u8])>
     ensures some { IfSome result (λ f. Stands IsWord hexadecimal_line bytes.now f.0 f.1.now) }
     ensures none { IfNone result (NoneStands IsWord hexadecimal_line bytes.now) }
@@ -20,7 +20,7 @@ fn hexadecimal_line(bytes: &[u8]) -> Option<(u32, &[u8])>
     Some((value, rest))
 }
 
-/// The sum whose line stands in front of some bytes, and what stands behind it.
+/// The sum whose line stands at the start of some bytes, and what follows it.
 pub(crate) fn sum(bytes: &[u8]) -> Option<(u32, &[u8])>
     ensures some { IfSome result (λ f. Stands IsWord sum_line bytes.now f.0 f.1.now) }
     ensures none { IfNone result (NoneStands IsWord sum_line bytes.now) }
@@ -29,7 +29,7 @@ pub(crate) fn sum(bytes: &[u8]) -> Option<(u32, &[u8])>
     hexadecimal_line(at_value)
 }
 
-/// The phase, core and pc that the prover names in front of some bytes, and what stands behind them.
+/// The phase, core and pc that the prover names at the start of some bytes, and what follows them.
 pub(crate) fn unbounded(bytes: &[u8]) -> Option<(u32, u32, u32, &[u8])>
     ensures some { IfSome result (λ f. StandUnbounded bytes.now f.0 f.1 f.2 f.3.now) }
     ensures none { IfNone result ((p c a : ℕ) (rest : List ℕ) → StandUnbounded bytes.now p c a rest → ⊥) }
@@ -39,7 +39,7 @@ pub(crate) fn unbounded(bytes: &[u8]) -> Option<(u32, u32, u32, &[u8])>
     Some((phase, core, pc, rest))
 }
 
-/// The line without a number that stands in front of some bytes, and what stands behind it.
+/// The line without a number that stands at the start of some bytes, and what follows it.
 #[tactic(auto, unfolding(run_report::specs::Refusal::refusal_of))]
 pub(crate) fn fixed(bytes: &[u8]) -> Option<(FixedLine, &[u8])>
     ensures some { IfSome result (λ f. bytes.now ≡ fixed_line f.0 ++ f.1.now) }

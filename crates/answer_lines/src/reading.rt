@@ -1,4 +1,4 @@
-//! A line of an answer in front of some bytes.
+//! A line of an answer at the start of some bytes.
 ghost use Rattle.std.specs.Prelude.{IfSome, IfNone};
 ghost use Rattle.run_report.specs.Grants.{grant_line};
 ghost use Rattle.document_parts.specs.Field.{Stands, NoneStands};
@@ -13,7 +13,7 @@ use crate::timing::link;
 use crate::words::{count, outcome, word};
 use dn_base::{CoreId, Grant, LockId, PhaseId};
 
-/// The grant whose line stands in front of some bytes, and what stands behind it.
+/// The grant whose line stands at the start of some bytes, and what follows it.
 fn grant(bytes: &[u8]) -> Option<(Grant, &[u8])>
     ensures some { IfSome result (λ f. Stands HasGrantNumbers grant_line bytes.now f.0 f.1.now) }
     ensures none { IfNone result (NoneStands HasGrantNumbers grant_line bytes.now) }
@@ -27,7 +27,7 @@ fn grant(bytes: &[u8]) -> Option<(Grant, &[u8])>
     Some((grant, rest))
 }
 
-/// The line on a program, a sum, a time or a refusal that stands in front of some bytes, and what stands behind it.
+/// The line on a program, a sum, a time or a refusal that stands at the start of some bytes, and what follows it.
 fn read_other(bytes: &[u8]) -> Option<(AnswerLine, &[u8])>
     ensures some { IfSome result (λ f. Stands IsAnswerLine answer_line bytes.now f.0 f.1.now) }
     ensures none { IfNone result (NoneStands IsOtherLine answer_line bytes.now) }
@@ -58,7 +58,7 @@ fn read_other(bytes: &[u8]) -> Option<(AnswerLine, &[u8])>
     Some((AnswerLine::Fixed(line), rest))
 }
 
-/// The line of an answer that stands in front of some bytes, and what stands behind it; None where no such line stands there.
+/// The line of an answer that stands at the start of some bytes, and what follows it; None where no such line stands there.
 pub fn read_line(bytes: &[u8]) -> Option<(AnswerLine, &[u8])>
     ensures some { IfSome result (λ f. Stands IsAnswerLine answer_line bytes.now f.0 f.1.now) }
     ensures none { IfNone result (NoneStands IsAnswerLine answer_line bytes.now) }

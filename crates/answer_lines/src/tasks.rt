@@ -10,7 +10,7 @@ use dn_base::{CoreId, LockId, PhaseId};
 use document_parts::{behind, field, hexadecimal};
 use rv_core::{EndShown, TaskEnd, TrapKind};
 
-/// What a line says of a trap, behind its kind.
+/// What a line says of a trap, after its kind.
 #[derive(Clone, Copy)]
 pub(crate) struct Trapped {
     pub(crate) pc: u32,
@@ -44,7 +44,7 @@ fn trap_front(kind: TrapKind) -> &'static [u8]
     }
 }
 
-/// The trap that stands in front of some bytes behind this front, and what stands behind it.
+/// The trap that stands at the start of some bytes after this front, and what follows it.
 fn trap_behind<'a>(bytes: &'a [u8], front: &[u8]) -> Option<(Trapped, &'a [u8])>
     ensures some { IfSome result (λ f. Stands HasTrapNumbers (trap_rest front.now) bytes.now f.0 f.1.now) }
     ensures none { IfNone result (NoneStands HasTrapNumbers (trap_rest front.now) bytes.now) }
@@ -77,7 +77,7 @@ fn trap_kinds() -> [TrapKind; 11]
     ]
 }
 
-/// The trap of some kind that stands in front of some bytes, and what stands behind it.
+/// The trap of some kind that stands at the start of some bytes, and what follows it.
 fn trap(bytes: &[u8]) -> Option<(TrapKind, Trapped, &[u8])>
     ensures some { IfSome result (λ f. Stands HasTrapNumbers (trap_rest (trap_front f.0)) bytes.now f.1 f.2.now) }
     ensures none { IfNone result ((k : TrapKindOf) → NoneStands HasTrapNumbers (trap_rest (trap_front k)) bytes.now) }
@@ -91,7 +91,7 @@ fn trap(bytes: &[u8]) -> Option<(TrapKind, Trapped, &[u8])>
     None
 }
 
-/// The end of a task's line that stands in front of some bytes, and what stands behind it.
+/// The end of a task's line that stands at the start of some bytes, and what follows it.
 fn stop(bytes: &[u8]) -> Option<(Stopped, &[u8])>
     ensures some { IfSome result (λ f. Stands HasStopNumbers stop_text bytes.now f.0 f.1.now) }
     ensures none { IfNone result (NoneStands HasStopNumbers stop_text bytes.now) }
@@ -114,7 +114,7 @@ fn stop(bytes: &[u8]) -> Option<(Stopped, &[u8])>
     Some((Stopped { end, retired }, rest))
 }
 
-/// The task whose line stands in front of some bytes, and what stands behind it.
+/// The task whose line stands at the start of some bytes, and what follows it.
 pub(crate) fn task(bytes: &[u8]) -> Option<(TaskEnd, &[u8])>
     ensures some { IfSome result (λ f. Stands HasTaskNumbers task_line bytes.now f.0 f.1.now) }
     ensures none { IfNone result (NoneStands HasTaskNumbers task_line bytes.now) }

@@ -62,7 +62,7 @@ fn kind_front(kind: EventKind) -> &'static [u8]
     }
 }
 
-/// The kind of event that stands in front of some bytes, the ticks behind it, and what stands behind them.
+/// The kind of event that stands at the start of some bytes, the ticks after it, and what follows them.
 fn finish(bytes: &[u8]) -> Option<(EventKind, u64, &[u8])>
     ensures some { IfSome result (λ f. Stands IsTicks (field (kind_front f.0) newline) bytes.now f.1 f.2.now) }
     ensures none { IfNone result ((k : EventKindOf) → NoneStands IsTicks (field (kind_front k) newline) bytes.now) }
@@ -76,7 +76,7 @@ fn finish(bytes: &[u8]) -> Option<(EventKind, u64, &[u8])>
     None
 }
 
-/// The event of the longest chain whose line stands in front of some bytes, and what stands behind it.
+/// The event of the longest chain whose line stands at the start of some bytes, and what follows it.
 pub(crate) fn link(bytes: &[u8]) -> Option<(Link, &[u8])>
     ensures some { IfSome result (λ f. Stands HasLinkNumbers link_line bytes.now f.0 f.1.now) }
     ensures none { IfNone result (NoneStands HasLinkNumbers link_line bytes.now) }

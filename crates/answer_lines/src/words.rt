@@ -17,7 +17,7 @@ const FIRST_DATA_ADDRESS: u32 = 0x1000_0000;
 /// How many data words a program has at most.
 const MOST_WORDS: u32 = 65536;
 
-/// The outcome whose line stands in front of some bytes, and what stands behind it.
+/// The outcome whose line stands at the start of some bytes, and what follows it.
 #[tactic(auto, unfolding(run_report::specs::Answer::outcome_line))]
 pub(crate) fn outcome(bytes: &[u8]) -> Option<(Outcome, &[u8])>
     ensures some { IfSome result (λ f. bytes.now ≡ outcome_line f.0 ++ f.1.now) }
@@ -36,7 +36,7 @@ pub(crate) fn outcome(bytes: &[u8]) -> Option<(Outcome, &[u8])>
     Some((Outcome::Stuck, rest))
 }
 
-/// The address and the value whose line stands in front of some bytes, and what stands behind it.
+/// The address and the value whose line stands at the start of some bytes, and what follows it.
 fn address(bytes: &[u8]) -> Option<(u32, u32, &[u8])>
     ensures some { IfSome result (λ f. StandWord bytes.now f.0 f.1 f.2.now) }
     ensures none { IfNone result ((a v : ℕ) (rest : List ℕ) → StandWord bytes.now a v rest → ⊥) }
@@ -61,7 +61,7 @@ fn shown_word(address: u32, value: u32) -> Option<u32>
     if word < MOST_WORDS { Some(word) } else { None }
 }
 
-/// The data word and its value whose line stands in front of some bytes, and what stands behind it.
+/// The data word and its value whose line stands at the start of some bytes, and what follows it.
 pub(crate) fn word(bytes: &[u8]) -> Option<(u32, u32, &[u8])>
     ensures some { IfSome result (λ f. IsShownWord f.0 f.1 × (bytes.now ≡ word_line f.0 f.1 ++ f.2.now)) }
     ensures none { IfNone result ((w v : ℕ) (rest : List ℕ) → IsShownWord w v → bytes.now ≢ word_line w v ++ rest) }
@@ -135,7 +135,7 @@ fn all_counts() -> [Count; 24]
     ]
 }
 
-/// The count whose line stands in front of some bytes, its number, and what stands behind it.
+/// The count whose line stands at the start of some bytes, its number, and what follows it.
 pub(crate) fn count(bytes: &[u8]) -> Option<(Count, u32, &[u8])>
     ensures some { IfSome result (λ f. Stands IsNumber (field (count_front f.0) newline) bytes.now f.1 f.2.now) }
     ensures none { IfNone result (NoCount bytes.now) }

@@ -76,7 +76,7 @@ module _ {O I U : Type 0} where
   handed (c ∷ cs) [] = c ∷ cs
   handed (c ∷ cs) (p ∷ ps) = record c { passes = p ∷ c.passes } ∷ handed cs ps
 
-  -- each caller has one pass more, behind its others
+  -- each caller has one pass more, after its others
   abbrev pub with_passes : List (Tokens O I U) → List (Token O I U) → List (Tokens O I U)
   with_passes [] ps = []
   with_passes (c ∷ cs) [] = c ∷ cs

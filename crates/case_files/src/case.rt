@@ -201,7 +201,7 @@ impl Draft {
         Ok(())
     }
 
-    /// Ends a part of the output, behind which any lines may stand.
+    /// Ends a part of the output, after which any lines may stand.
     fn leave_out(&mut self) -> Result<(), Trouble> {
         if self.open != Open::Output {
             return Err(Trouble::Form(BadForm::NoGap));
@@ -292,7 +292,7 @@ fn push_bytes(alloc: Global, out: &mut Vec<u8>, text: &str) -> Result<(), Troubl
     Ok(())
 }
 
-/// Adds copies of a line, which stands behind their number.
+/// Adds copies of a line, which stands after their number.
 fn push_repeated(alloc: Global, out: &mut Vec<u8>, text: &str) -> Result<(), Trouble> {
     let (count, line) = text.split_once(' ').unwrap_or((text, ""));
     push_copies(alloc, out, number(count)?, line)?;

@@ -81,7 +81,7 @@ pub fn filled(alloc: Global, line: &str, columns: &[String]) -> Result<String, T
     Ok(out)
 }
 
-/// Adds what stands behind a `$`, whose first byte is the number of a column.
+/// Adds what follows a `$`, whose first byte is the number of a column.
 fn push_filled(out: &mut String, piece: &str, columns: &[String]) -> Result<(), Trouble> {
     let mut rest = piece.chars();
     let column = match rest.next() {

@@ -7,7 +7,7 @@ pub struct Section<'a> {
     pub lines: Vec<&'a str>,
 }
 
-/// What stands behind a keyword on a line that begins with it.
+/// What follows a keyword on a line that begins with it.
 pub fn behind<'a>(line: &'a str, keyword: &str) -> Option<&'a str> {
     match line.strip_prefix(keyword) {
         Some("") => Some(""),

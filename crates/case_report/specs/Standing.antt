@@ -1,11 +1,11 @@
 -- What it means that parts stand in bytes, with any lines between them.
 use Rattle.std.specs.Prelude.{◌≡◌, ◌⊎◌, ℕ, ◌-◌, ◌≤◌, List, [], ◌∷◌, length, take, drop, slice_index}
 
--- a line begins behind the first k bytes
+-- a line begins after the first k bytes
 abbrev pub BeginsLine : List ℕ → ℕ → Type 0
 BeginsLine bytes k = (k ≡ 0) ⊎ (slice_index bytes (k - 1) ≡ 10)
 
--- what is left behind some whole lines is of this kind
+-- what is left after some whole lines is of this kind
 abbrev pub BehindLines : (List ℕ → Type 0) → List ℕ → Type 0
 BehindLines P bytes = (k : ℕ) × (k ≤ length bytes) × BeginsLine bytes k × P (drop k bytes)
 

@@ -3,7 +3,7 @@ ghost use Rattle.case_report.specs.Standing.{BeginsLine, StandIn};
 
 use dn_base::Sequence;
 
-/// Whether a line begins behind the first bytes.
+/// Whether a line begins after the first bytes.
 fn begins_a_line(bytes: &[u8], place: usize) -> bool
     requires { place ≤ length bytes.now }
     ensures { IsTrue result ↔ BeginsLine bytes.now place }

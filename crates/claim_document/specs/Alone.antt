@@ -18,7 +18,7 @@ pub record IsQuestionDocument (bytes : List ℕ) (q : Question) : Type 0 where
   pub within : length bytes ≤ most_bytes
   pub is : bytes ≡ question_text q
 
--- the bytes, which are not too many, begin with a question, and behind it stands the rest
+-- the bytes, which are not too many, begin with a question, and after it stands the rest
 pub record BeginsWithQuestion (bytes : List ℕ) (q : Question) (rest : List ℕ) : Type 0 where
   pub within : length bytes ≤ most_bytes
   pub question : Stands IsQuestion question_text bytes q rest

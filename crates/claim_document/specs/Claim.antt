@@ -89,7 +89,7 @@ question_text q = title ++ field (codes "fuel ") newline q.fuel ++ source_part q
 unfoldable pub head_text : Head → List ℕ
 head_text h = question_text h.question ++ field (codes "grants ") newline h.count
 
--- three numbers, the first behind a name, end a line
+-- three numbers, the first after a name, end a line
 unfoldable pub three_fields : List ℕ → ℕ → ℕ → ℕ → List ℕ
 three_fields name first second third = field name space first ++ field [] space second ++ field [] newline third
 
@@ -104,7 +104,7 @@ load_row s = field [] space s.word.0 ++ hexadecimal s.value ++ newline
 abbrev pub task_head_row : TaskHead → List ℕ
 task_head_row h = three_fields (codes "task ") h.phase.0 h.core.0 h.count
 
--- the loads of a task, behind the line with its phase, its core and their number
+-- the loads of a task, after the line with its phase, its core and their number
 unfoldable pub task_rows : TaskLoads → List ℕ
 task_rows t = task_head_row (head_of_task t) ++ flat_map load_row t.loads
 

@@ -8,7 +8,7 @@ use Rattle.claim_document.specs.declared.claim.ClaimFault.TheVariants.{TooLarge,
 use Rattle.claim_document.specs.declared.rows.TaskHead.{TaskHead}
 use Rattle.claim_document.specs.Claim.{most_bytes, Head, IsHead, head_text, IsGrant, grant_row, IsLoadsHead, loads_head_row, IsTask, task_rows, IsTaskHead, task_head_row, IsLoad, load_row}
 
--- the bytes, which are not too many, begin with a head, and behind it stands the rest
+-- the bytes, which are not too many, begin with a head, and after it stands the rest
 pub record BeginsWithHead (bytes : List ℕ) (h : Head) (rest : List ℕ) : Type 0 where
   pub within : length bytes ≤ most_bytes
   pub head : Stands IsHead head_text bytes h rest
@@ -43,7 +43,7 @@ pub record IsBrokenLoad (bytes : List ℕ) (number : ℕ) : Type 0 where
   pub head : Stands IsTaskHead task_head_row bytes task behind
   pub broken : IsBrokenAt IsLoad load_row behind task.count number rest
 
--- no head stands there; the line of a grant isn't there; no line on loads stands behind the grants; a task's line isn't there, or one
+-- no head stands there; the line of a grant isn't there; no line on loads stands after the grants; a task's line isn't there, or one
 -- of its loads'. Want of memory says nothing of the bytes
 abbrev pub HasFault : List ℕ → ClaimFault → Type 0
 HasFault bytes TooLarge = most_bytes < length bytes

@@ -17,7 +17,7 @@ asked_by o = record { fuel = o.fuel; text = o.text.now }
 abbrev pub told_by : Heading → Head
 told_by h = record { question = record { fuel = h.fuel; text = h.text.now }; count = h.count }
 
--- in front of some bytes stand three numbers, which end a line, and behind them the rest
+-- at the start of some bytes stand three numbers, which end a line, and after them the rest
 pub record StandThree (name bytes : List ℕ) (first second third : ℕ) (rest : List ℕ) : Type 0 where
   pub first_from : IsNumber first
   pub second_from : IsNumber second
@@ -57,7 +57,7 @@ FailsLoads bytes count place NoLoads = ⊥
 FailsLoads bytes count place (NoGrant number) = ⊥
 FailsLoads bytes count place (NoTask number) = ⊥
 
--- why no task stands in front of some bytes, which should be this one
+-- why no task stands at the start of some bytes, which should be this one
 abbrev pub FailsTask : List ℕ → ℕ → ClaimFault → Type 0
 FailsTask bytes place (NoTask number) = (number ≡ place) × NoneStands IsTaskHead task_head_row bytes
 FailsTask bytes place (NoLoad task number) = (task ≡ place) × IsBrokenLoad bytes number
@@ -92,12 +92,12 @@ pub record HasBrokenTasks (bytes : List ℕ) (f : ClaimFault) : Type 0 where
   pub head : Stands IsLoadsHead loads_head_row bytes (Some count) behind
   pub fails : FailsTasks behind count f
 
--- what a claim says of loads, and behind it its answer
+-- what a claim says of loads, and after it its answer
 abbrev pub IsLoadsPart : List ℕ → Option (List TaskLoads) → List ℕ → Type 0
 IsLoadsPart bytes None rest = Stands IsLoadsHead loads_head_row bytes None rest
 IsLoadsPart bytes (Some tasks) rest = HasTasks bytes tasks rest
 
--- why nothing that a claim may say of loads stands in front of some bytes
+-- why nothing that a claim may say of loads stands at the start of some bytes
 abbrev pub FailsPart : List ℕ → ClaimFault → Type 0
 FailsPart bytes NoLoads = NoneStands IsLoadsHead loads_head_row bytes
 FailsPart bytes (NoTask number) = HasBrokenTasks bytes (NoTask number)

@@ -64,7 +64,7 @@ fn order(alloc: Global, bytes: &[u8]) -> Result<GrantOrder, ClaimFault>
 /// The question that a document tells: the first three parts of a claim, alone.
 ///
 /// # Errors
-/// `TooLarge`, `Head` or `Behind` exactly where that is the fault of the bytes, and `Memory` where there is no room.
+/// `TooLarge`, `Head` or `After` exactly where that is the fault of the bytes, and `Memory` where there is no room.
 /// Nothing is taken of memory before `TooLarge` and `Head` are told.
 pub fn read_question(alloc: Global, bytes: &[u8]) -> Result<Question, ClaimFault>
     ensures ok { IfOk result (IsQuestionDocument bytes.now) }
@@ -82,7 +82,7 @@ pub fn read_question(alloc: Global, bytes: &[u8]) -> Result<Question, ClaimFault
 /// It takes memory in proportion to the bytes, whatever numbers these tell.
 ///
 /// # Errors
-/// `TooLarge`, `Head`, `Grant` or `Behind` exactly where that is the fault of the bytes, and `Memory` where there is no room.
+/// `TooLarge`, `Head`, `Grant` or `After` exactly where that is the fault of the bytes, and `Memory` where there is no room.
 /// Nothing is taken of memory before `TooLarge` and `Head` are told.
 pub fn read_order(alloc: Global, bytes: &[u8]) -> Result<GrantOrder, ClaimFault>
     ensures ok { IfOk result (IsOrderDocument bytes.now) }

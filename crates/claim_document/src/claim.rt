@@ -39,13 +39,13 @@ pub enum ClaimFault {
     Head,
     /// The grant line of this number, from 0, isn't there whole in its form; all before it are.
     Grant { number: u32 },
-    /// Behind the grants there is no line that says of how many tasks the loads are claimed.
+    /// After the grants there is no line that says of how many tasks the loads are claimed.
     Loads,
     /// The line of this task, from 0, isn't there whole in its form.
     Task { number: u32 },
     /// Of the loads of this task, from 0, the one of this number, from 0, isn't there whole in its form.
     Load { task: u32, number: u32 },
-    /// Something stands behind the question, or the grants, that should stand alone. It is no fault of a claim.
+    /// Something stands after the question, or the grants, that should stand alone. It is no fault of a claim.
     Behind,
     /// There was no memory.
     Memory,

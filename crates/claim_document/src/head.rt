@@ -5,7 +5,7 @@ ghost use Rattle.claim_document.specs.Rows.{asked_by, told_by};
 
 use document_parts::{behind, field, source};
 
-/// What is claimed of, and the bytes behind it.
+/// What is claimed of, and the bytes after it.
 #[derive(Clone, Copy)]
 pub(crate) struct Opening<'a> {
     pub(crate) fuel: u32,
@@ -13,7 +13,7 @@ pub(crate) struct Opening<'a> {
     pub(crate) rest: &'a [u8],
 }
 
-/// What is claimed of, how many grants follow, and the bytes behind that.
+/// What is claimed of, how many grants follow, and the bytes after that.
 #[derive(Clone, Copy)]
 pub(crate) struct Heading<'a> {
     pub(crate) fuel: u32,
@@ -22,7 +22,7 @@ pub(crate) struct Heading<'a> {
     pub(crate) rest: &'a [u8],
 }
 
-/// What stands behind the first line of a claim, if that is there.
+/// What follows the first line of a claim, if that is there.
 #[tactic(auto, unfolding(crate::specs::Claim::title))]
 fn behind_title(bytes: &[u8]) -> Option<&[u8]>
     ensures some { IfSome result (λ rest. bytes.now ≡ title ++ rest.now) }
@@ -31,7 +31,7 @@ fn behind_title(bytes: &[u8]) -> Option<&[u8]>
     behind(bytes, b"denovo-claim 1\n")
 }
 
-/// What stands before the grants' number, and the bytes behind it.
+/// What stands before the grants' number, and the bytes after it.
 pub(crate) fn read_opening(bytes: &[u8]) -> Option<Opening<'_>>
     ensures some { IfSome result (λ o. Stands IsQuestion question_text bytes.now (asked_by o) o.rest.now) }
     ensures none { IfNone result (NoneStands IsQuestion question_text bytes.now) }
@@ -42,7 +42,7 @@ pub(crate) fn read_opening(bytes: &[u8]) -> Option<Opening<'_>>
     Some(Opening { fuel, text, rest })
 }
 
-/// What stands before the grants, and the bytes behind it.
+/// What stands before the grants, and the bytes after it.
 pub(crate) fn read_heading(bytes: &[u8]) -> Option<Heading<'_>>
     ensures some { IfSome result (λ h. Stands IsHead head_text bytes.now (told_by h) h.rest.now) }
     ensures none { IfNone result (NoneStands IsHead head_text bytes.now) }

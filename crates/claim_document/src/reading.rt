@@ -13,7 +13,7 @@ use dn_base::{MOST_OF_DOCUMENT, Sequence};
 use flat_machine::TaskLoads;
 use std::alloc::Global;
 
-/// Puts what some bytes say of loads into `loads`, which is None. The answer is what stands behind that.
+/// Puts what some bytes say of loads into `loads`, which is None. The answer is what follows that.
 ///
 /// # Errors
 /// `Loads`, `Task` or `Load` where a line isn't there whole in its form, and `Memory`.

@@ -17,7 +17,7 @@ pub(crate) struct TaskHead {
     pub(crate) count: u32,
 }
 
-/// The three numbers that stand in front of some bytes behind a name, and end a line; and what stands behind them.
+/// The three numbers that stand at the start of some bytes after a name, and end a line; and what follows them.
 fn three_numbers<'a>(bytes: &'a [u8], name: &[u8]) -> Option<(u32, u32, u32, &'a [u8])>
     ensures some { IfSome result (λ f. StandThree name.now bytes.now f.0 f.1 f.2 f.3.now) }
     ensures none { IfNone result ((first second third : ℕ) (rest : List ℕ) → StandThree name.now bytes.now first second third rest → ⊥) }
@@ -28,7 +28,7 @@ fn three_numbers<'a>(bytes: &'a [u8], name: &[u8]) -> Option<(u32, u32, u32, &'a
     Some((first, second, third, rest))
 }
 
-/// The grant whose line stands in front of some bytes, and what stands behind that.
+/// The grant whose line stands at the start of some bytes, and what follows that.
 fn grant(bytes: &[u8]) -> Option<(Grant, &[u8])>
     ensures some { IfSome result (λ f. Stands IsGrant grant_row bytes.now f.0 f.1.now) }
     ensures none { IfNone result (NoneStands IsGrant grant_row bytes.now) }
@@ -42,7 +42,7 @@ fn grant(bytes: &[u8]) -> Option<(Grant, &[u8])>
     Some((grant, rest))
 }
 
-/// The task whose line stands in front of some bytes, and what stands behind that.
+/// The task whose line stands at the start of some bytes, and what follows that.
 fn task_head(bytes: &[u8]) -> Option<(TaskHead, &[u8])>
     ensures some { IfSome result (λ f. Stands IsTaskHead task_head_row bytes.now f.0 f.1.now) }
     ensures none { IfNone result (NoneStands IsTaskHead task_head_row bytes.now) }
@@ -56,7 +56,7 @@ fn task_head(bytes: &[u8]) -> Option<(TaskHead, &[u8])>
     Some((head, rest))
 }
 
-/// The load whose line stands in front of some bytes, and what stands behind that.
+/// The load whose line stands at the start of some bytes, and what follows that.
 fn load(bytes: &[u8]) -> Option<(LoadSeen, &[u8])>
     ensures some { IfSome result (λ f. Stands IsLoad load_row bytes.now f.0 f.1.now) }
     ensures none { IfNone result (NoneStands IsLoad load_row bytes.now) }
@@ -68,7 +68,7 @@ fn load(bytes: &[u8]) -> Option<(LoadSeen, &[u8])>
     Some((LoadSeen { word, value }, rest))
 }
 
-/// The line in front of some bytes that says of how many tasks the loads are claimed, and what stands behind it.
+/// The line at the start of some bytes that says of how many tasks the loads are claimed, and what follows it.
 pub(crate) fn loads_head(bytes: &[u8]) -> Option<(Option<u32>, &[u8])>
     ensures some { IfSome result (λ f. Stands IsLoadsHead loads_head_row bytes.now f.0 f.1.now) }
     ensures none { IfNone result (NoneStands IsLoadsHead loads_head_row bytes.now) }
@@ -80,7 +80,7 @@ pub(crate) fn loads_head(bytes: &[u8]) -> Option<(Option<u32>, &[u8])>
     Some((Some(count), rest))
 }
 
-/// Adds the grants whose lines stand in front of some bytes, so many of them. The answer is what stands behind these.
+/// Adds the grants whose lines stand at the start of some bytes, so many of them. The answer is what follows these.
 ///
 /// # Errors
 /// `Grant` where a line isn't there whole in its form, and `Memory`.
@@ -104,7 +104,7 @@ pub(crate) fn push_grants<'a>(
     Ok(rest)
 }
 
-/// Adds the loads of this task whose lines stand in front of some bytes, so many of them. The answer is what stands behind these.
+/// Adds the loads of this task whose lines stand at the start of some bytes, so many of them. The answer is what follows these.
 ///
 /// # Errors
 /// `Load` where a line isn't there whole in its form, and `Memory`.
@@ -129,7 +129,7 @@ fn push_loads<'a>(
     Ok(rest)
 }
 
-/// Adds the task of this number whose line and loads stand in front of some bytes. The answer is what stands behind these.
+/// Adds the task of this number whose line and loads stand at the start of some bytes. The answer is what follows these.
 ///
 /// # Errors
 /// `Task` or `Load` where a line isn't there whole in its form, and `Memory`.
@@ -155,7 +155,7 @@ fn push_task<'a>(
     Ok(rest)
 }
 
-/// Adds the tasks that stand in front of some bytes, so many of them. The answer is what stands behind these.
+/// Adds the tasks that stand at the start of some bytes, so many of them. The answer is what follows these.
 ///
 /// # Errors
 /// `Task` or `Load` where a line isn't there whole in its form, and `Memory`.

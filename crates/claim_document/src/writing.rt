@@ -29,7 +29,7 @@ fn push_question(out: &mut Vec<u8>, question: &Question) -> Result<(), Memory>
     push_source(out, question.text.as_slice())
 }
 
-/// Adds three numbers, the first behind a name, and the end of their line.
+/// Adds three numbers, the first after a name, and the end of their line.
 #[tactic(auto, unfolding(crate::specs::Claim::three_fields))]
 fn push_three(
     out: &mut Vec<u8>,

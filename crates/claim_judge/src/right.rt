@@ -13,7 +13,7 @@ use std::alloc::Global;
 pub enum RightClaim {
     /// The list is legal and whole, and this is the claim of the run by it, with all its loads.
     Whole(Claim),
-    /// The first grant of the list that may not come is the one at this place, from 0; the place behind the last grant says that the
+    /// The first grant of the list that may not come is the one at this place, from 0; the place after the last grant says that the
     /// list ends while the lock that some task waits for is free.
     Refused { place: usize },
 }

@@ -14,7 +14,7 @@ pub struct LoadPlace {
 pub enum Verdict {
     /// The run by these grants has these loads, where loads are claimed, and this answer.
     Agrees,
-    /// The grant of this number, from 0, may not come. The number behind the last grant says that each grant is legal, but that the
+    /// The grant of this number, from 0, may not come. The number after the last grant says that each grant is legal, but that the
     /// list ends while the lock that some task waits for is free.
     Grants {
         grant: u32,

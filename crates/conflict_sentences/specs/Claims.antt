@@ -1,5 +1,5 @@
 -- Which lines of a text have effects that give a data word to one of the two tasks that contend for it. The effects of a family of tasks
--- stand behind the family's line, and before the next one or the next phase.
+-- stand after the family's line, and before the next one or the next phase.
 use Rattle.std.specs.Prelude.{ℕ, ℤ, pos, neg_ℤ, ◌+ℤ◌, ◌*ℤ◌, Bool, true, false, ◌&&◌, ◌||◌, ◌==◌, nat_le, nat_lt, List, [], ◌∷◌, ◌++◌, length, Option, Some, None, option_map, slice_get, bytes_eq, if◌then◌else◌}
 use Rattle.region_table.specs.declared.declared.Region.{Region}
 use Rattle.src_text.specs.declared.token.Token.{Token}
@@ -61,7 +61,7 @@ abbrev pub claim_on : List ℕ → List Region → Contention → ℕ → Readin
 claim_on text regions c family (Bad f) = []
 claim_on text regions c family (Good s) = line_if (statement_claims text regions c family s.statement) s.line
 
--- the line of the current family behind a statement; 0 where there is none
+-- the line of the current family after a statement; 0 where there is none
 abbrev pub family_by : ℕ → ℕ → Statement → ℕ
 family_by family line statement.TheVariants.Phase = 0
 family_by family line (statement.TheVariants.Tasks f) = line

@@ -127,7 +127,7 @@ claiming_line text line = codes "  " ++ quoted_line text line
 unfoldable pub more_claims : ℕ → List ℕ
 more_claims n = if n == 0 then [] else codes "  and " ++ decimal n ++ codes " more" ++ newline
 
--- the first four of the lines, and how many there are behind them
+-- the first four of the lines, and how many there are after them
 unfoldable pub some_claims : List ℕ → List ℕ → List ℕ
 some_claims text lines = claimed_by ++ flat_map (claiming_line text) (take 4 lines) ++ more_claims (length lines - 4)
 

@@ -118,7 +118,7 @@ fn push_more_claims(out: &mut Vec<u8>, number: usize) -> Result<(), Memory>
     push(out, b" more\n")
 }
 
-/// Adds the first four of the lines, and how many there are behind them.
+/// Adds the first four of the lines, and how many there are after them.
 #[tactic(auto, unfolding(crate::specs::Sentences::some_claims))]
 fn push_some_claims(out: &mut Vec<u8>, text: &[u8], lines: &[u32]) -> Result<(), Memory>
     ensures { OnOk result (out.new.items ≡ out.old.items ++ some_claims text.now lines.now) }

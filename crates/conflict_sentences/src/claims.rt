@@ -200,7 +200,7 @@ fn family_by(family: u32, line: u32, statement: &Statement) -> u32
     }
 }
 
-/// The line of the current family behind one more line; 0 where there is none.
+/// The line of the current family after one more line; 0 where there is none.
 fn family_behind(family: u32, reading: &Reading) -> u32
     ensures { result ≡ family_behind family reading.now }
 {

@@ -8,7 +8,7 @@ use Rattle.machine_rules.specs.State.{State}
 use Rattle.machine_rules.specs.Next.{next}
 use Rattle.dn_machine.specs.Pick.{pick}
 
--- the generator of a seed, the next word of a generator, and the generator behind that word
+-- the generator of a seed, the next word of a generator, and the generator after that word
 unfoldable pub generator_of : ℕ → Lcg
 generator_of seed = pcg32_of_seed (pcg32_seed 16 seed)
 
@@ -18,7 +18,7 @@ word_of g = (pcg32 g).0
 unfoldable pub after_word : Lcg → Lcg
 after_word g = (pcg32 g).1
 
--- the generator behind so many words
+-- the generator after so many words
 abbrev pub after_words : List Event → Lcg → Lcg
 after_words [] g = g
 after_words (e ∷ es) g = after_words es (after_word g)

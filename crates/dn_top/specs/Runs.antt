@@ -61,7 +61,7 @@ pub record IsRunOf (P : ProgramParts) (shape : Shape) (fuel : ℕ) (r : RunRecor
   -- what the machine is told; a program, a shape and fuel have one such setting
   pub setting : Setting
   pub setting_is : IsSettingOf P shape fuel setting
-  -- its events are a complete run of the initial machine, at rest behind it, coherent after each of them, whose loads are fronts
+  -- its events are a complete run of the initial machine, at rest after it, coherent after each of them, whose loads are fronts
   -- of one thread's; and its grants, counts and ending are read off them
   pub machine : IsCoherentRun (initial_state setting) r
   -- there is a count of each of the seventeen kinds of event

@@ -134,7 +134,7 @@ pub record Serves (wanted : Option Options) (before after : Devices) (answer : A
   pub source_faultless : answer.status ≢ status.TheVariants.ReadFault → after.source.faults ≡ before.source.faults
   -- a sink whose count of faults rose gives WriteFault: with every other status the count is as it was
   pub sink_faultless : answer.status ≢ status.TheVariants.WriteFault → after.sink.faults ≡ before.sink.faults
-  -- behind every outcome and every refusal all that the sink took has been flushed, where it tells that
+  -- after every outcome and every refusal all that the sink took has been flushed, where it tells that
   pub flushed : IsOutcomeOrRefusal answer.status → IsFlushed after.sink
   -- the source is left alone where the words are refused, and in a mode that generates its text
   pub unread : most_asked wanted ≡ None → IsUntouched before.source after.source

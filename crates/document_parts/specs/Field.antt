@@ -1,4 +1,4 @@
--- Numbers with a name, and what stands in front of some bytes.
+-- Numbers with a name, and what stands at the start of some bytes.
 use Rattle.std.specs.Prelude.{◌≡◌, ℕ, ◌≤◌, List, ◌++◌}
 use Rattle.std.specs.Fmt.{decimal}
 
@@ -11,7 +11,7 @@ pub record IsFrom (least most n : ℕ) : Type 0 where
   pub low : least ≤ n
   pub high : n ≤ most
 
--- in front of some bytes stands what is written for a value, and behind it the rest
+-- at the start of some bytes stands what is written for a value, and after it the rest
 pub record Stands {X : Type 0} (Fits : X → Type 0) (write : X → List ℕ) (bytes : List ℕ) (x : X) (rest : List ℕ) : Type 0 where
   pub fits : Fits x
   pub parts : bytes ≡ write x ++ rest

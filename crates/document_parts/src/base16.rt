@@ -34,8 +34,8 @@ fn number_of(bytes: &[u8]) -> u32
         + value_of(bytes[9])
 }
 
-/// The number that stands in front of some bytes in `0x` and eight hexadecimal digits, with `a` to `f` in lower case; and what
-/// stands behind it.
+/// The number that stands at the start of some bytes in `0x` and eight hexadecimal digits, with `a` to `f` in lower case; and what
+/// stands after it.
 pub fn hexadecimal(bytes: &[u8]) -> Option<(u32, &[u8])>
     ensures some { IfSome result (λ f. Stands IsWord hexadecimal_of bytes.now f.0 f.1.now) }
     ensures none { IfNone result (NoneStands IsWord hexadecimal_of bytes.now) }

@@ -1,5 +1,5 @@
-//! The parts of which documents are made: numbers between a name and an end, a source text behind the number of its bytes, and
-//! numbers in base 16. Each is found in front of some bytes, with what stands behind it, or isn't there; and it is written.
+//! The parts of which documents are made: numbers between a name and an end, a source text after the number of its bytes, and
+//! numbers in base 16. Each is found at the start of some bytes, with what follows it, or isn't there; and it is written.
 #![tactic(auto)]
 
 mod base16;

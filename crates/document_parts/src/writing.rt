@@ -18,7 +18,7 @@ pub fn push_field(out: &mut Vec<u8>, name: &[u8], number: u32, end: &[u8]) -> Re
     push(out, end)
 }
 
-/// Adds a source text of at most 1,048,576 bytes behind the number of its bytes.
+/// Adds a source text of at most 1,048,576 bytes after the number of its bytes.
 ///
 /// # Errors
 /// `Memory` where there is no room for it.

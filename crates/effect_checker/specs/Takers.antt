@@ -17,6 +17,6 @@ pub record KeepTakers (before after : List ℕ) : Type 0 where
   pub words : length after ≡ length before
   pub taken : (w : ℕ) → taker_of before w ≢ 0 → taker_of after w ≡ taker_of before w
 
--- the tasks use no word of this number or behind it
+-- the tasks use no word of this number or after it
 abbrev pub UseWordsBelow : ℕ → List TaskDecl → Type 0
 UseWordsBelow words tasks = All (λ (t : TaskDecl). (locks : ℕ) × AreEffects words locks t.effects) tasks

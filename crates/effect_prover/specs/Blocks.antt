@@ -35,7 +35,7 @@ pub record IsStraightAt (code : List ℕ) (i : ℕ) : Type 0 where
 abbrev pub is_leader : List Bool → ℕ → Bool
 is_leader leaders i = slice_index_or leaders i false
 
--- the first n code words ask for no more leaders: the first word is one, each word behind one that isn't plain, and each at
+-- the first n code words ask for no more leaders: the first word is one, each word after one that isn't plain, and each at
 -- which a branch or JAL aims
 pub record AreLed (code : List ℕ) (n : ℕ) (leaders : List Bool) : Type 0 where
   pub words : length leaders ≡ length code
@@ -59,7 +59,7 @@ abbrev pub leader_of : List Bool → ℕ → ℕ
 leader_of leaders zero = zero
 leader_of leaders (suc i) = if is_leader leaders (suc i) then suc i else leader_of leaders i
 
--- no word of the block stands behind this one
+-- no word of the block stands after this one
 pub record IsLast (leaders : List Bool) (words i : ℕ) : Type 0 where
   pub within : i < words
   pub behind : i + 1 < words → is_leader leaders (i + 1) ≡ true

@@ -60,7 +60,7 @@ pub record IsTable (P : ProgramParts) (d : TaskDecl) (table : Table) : Type 0 wh
 abbrev pub Covers : Table → ℕ → Option Row → Type 0
 Covers table address given = (i : ℕ) → i < length table → address ≡ address_at i → IsUnder given (row_at table i)
 
--- the rows behind an instruction at pc, and at its target, contain those of its successors
+-- the rows after an instruction at pc, and at its target, contain those of its successors
 pub record IsPassedOn (table : Table) (pc : ℕ) (instr : Instr) (s : Successors) : Type 0 where
   pub next : Covers table (pc + 4) s.next
   pub target : (address : ℕ) → target_of pc instr ≡ Some address → Covers table address s.target

@@ -57,7 +57,7 @@ fn mark_first(leaders: &mut [bool])
     }
 }
 
-/// Marks the word behind one that isn't plain.
+/// Marks the word after one that isn't plain.
 fn mark_behind(program: &Program, leaders: &mut [bool], place: usize)
     requires words { length leaders.old ≡ length program.now.code }
     requires within { place < length program.now.code }
@@ -140,7 +140,7 @@ pub(crate) fn leaders(
     Ok(leaders)
 }
 
-/// Whether the word behind a word belongs to the same block.
+/// Whether the word after a word belongs to the same block.
 fn goes_on(leaders: &[bool], place: usize) -> bool
     requires { place < length leaders.now }
     ensures { Decides result ((place + 1 < length leaders.now) × (is_leader leaders.now (place + 1) ≡ false)) }

@@ -280,7 +280,7 @@ impl Row {
         }
     }
 
-    /// The row behind such an instruction.
+    /// The row after such an instruction.
     fn stepped(&self, pc: u32, instr: &Instr) -> Successors
         requires row { IsRow self.now }
         requires plain { is_straight instr.now ≡ true }

@@ -1,4 +1,4 @@
-//! The least table of a task, which is kept for the tasks behind it that have the same entry and argument.
+//! The least table of a task, which is kept for the tasks after it that have the same entry and argument.
 ghost use Rattle.std.specs.Prelude.{◌≡◌, true, length, IfOk};
 ghost use Rattle.region_table.specs.Program.{ProgramParts, IsProgram};
 ghost use Rattle.effect_prover.specs.Sweep.{HasHeads};

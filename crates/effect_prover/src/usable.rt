@@ -320,7 +320,7 @@ fn are_in_kept(
 }
 
 /// Whether the task may use each word from `first` to `last` so. Where a few stretches don't tell, the set of all words that it may
-/// use so is made, and kept for the loads or stores behind.
+/// use so is made, and kept for the loads or stores after.
 ///
 /// # Errors
 /// `Memory` where there is no room for the set.

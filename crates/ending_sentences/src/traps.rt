@@ -28,7 +28,7 @@ fn said_before(kind: TrapKind) -> &'static [u8]
     }
 }
 
-/// What is said behind the value of a trap.
+/// What is said after the value of a trap.
 fn said_behind(kind: TrapKind) -> &'static [u8]
     ensures { result.now ≡ said_behind kind }
 {

@@ -33,7 +33,7 @@ pub record HasHolder (P : ProgramParts) (fuel : ℕ) (grants : List Grant) (phas
   pub told : holder_of grants phase lock ≡ Some core
   pub holds : HoldsLock P fuel grants phase core lock
 
--- a reported run was explained: behind each of its lines stands what is said there by the grants of the run
+-- a reported run was explained: after each of its lines stands what is said there by the grants of the run
 pub record IsReportExplained (text : List ℕ) (l : Located) (r : RunRecord) (e : Explained) : Type 0 where
   pub lines : List AnswerLine
   pub are : reported r ≡ flat_map answer_line lines

@@ -53,7 +53,7 @@ pub fn every_answer_of_denovo_is_taken()
 /// phase, and this task holds the lock. So explain names the holder, as it names that core.
 ///
 /// The clause `flat` says it of each run of the flat machine by grants, and the clause `run` of each run of the multicore machine that
-/// dn_top's `IsRunOf` is true of. The clause `named` says that what explain says behind the lines of such a run's report is said by the
+/// dn_top's `IsRunOf` is true of. The clause `named` says that what explain says after the lines of such a run's report is said by the
 /// grants of the run.
 pub fn the_core_that_was_granted_a_lock_last_holds_it()
     ensures flat { (P : ProgramParts) (fuel : ℕ) (grants : List Grant) (e : FlatEnd) (t : TaskEnd) (lock : LockId) → IsProgram P → flat_end P fuel grants ≡ Some e

@@ -27,7 +27,7 @@ fn text_of<'a>(matches: &ArgMatches<'a>, id: &str) -> Option<&'a str>
 
 /// The name of a text that the command's words give; the program's own name isn't among them.
 ///
-/// The command has one word, the name, and no options. Behind a word `--` the name may begin with a dash.
+/// The command has one word, the name, and no options. After a word `--` the name may begin with a dash.
 ///
 /// # Errors
 /// `Usage` where the words aren't the command's, `Memory` where there is no room to read them.

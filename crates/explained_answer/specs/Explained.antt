@@ -80,7 +80,7 @@ pub record IsBeforeText (answer : List ℕ) : Type 0 where
   pub before : is_before_text line ≡ true
   pub stands : Stands IsAnswerLine answer_line answer line []
 
--- in front of the answer stands another line, or something stands behind it
+-- in front of the answer stands another line, or something stands after it
 pub record StartsElse (answer : List ℕ) : Type 0 where
   pub line : AnswerLine
   pub rest : List ℕ

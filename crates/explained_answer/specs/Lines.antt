@@ -1,4 +1,4 @@
--- What is said behind the lines of an answer, and which lines an answer of a program may have.
+-- What is said after the lines of an answer, and which lines an answer of a program may have.
 use Rattle.std.specs.Prelude.{◌≡◌, ◌⊎◌, ℕ, ◌+◌, ◌<◌, Bool, true, false, ◌&&◌, ◌==◌, nat_lt, List, [], ◌++◌, codes, length, find, map, flat_map, Option, Some, None}
 use Rattle.std.specs.Fmt.{decimal}
 use Rattle.region_table.specs.Program.{ProgramParts, tasks_of}
@@ -61,7 +61,7 @@ unproven_at text task None = []
 abbrev pub unproven_text : List ℕ → Places → ℕ → ℕ → ℕ → List ℕ
 unproven_text text places phase core pc = unproven_at text (find (is_task_of phase core) places.tasks) (code_place_at places pc)
 
--- what is said behind a line: of a task that didn't finish why that is, of an instruction where it stands, and else the names of words
+-- what is said after a line: of a task that didn't finish why that is, of an instruction where it stands, and else the names of words
 -- and locks. `holder` is the core that holds the lock for which the line's task waits, where the answer tells that
 abbrev pub sentences_behind : List ℕ → Located → Option ℕ → AnswerLine → List ℕ
 sentences_behind text l holder (line.TheVariants.Outcome o) = []
@@ -76,7 +76,7 @@ sentences_behind text l holder (line.TheVariants.Link k) = []
 sentences_behind text l holder (line.TheVariants.Checked phases tasks words) = []
 sentences_behind text l holder (line.TheVariants.Fixed f) = []
 
--- a line of an answer with these grants, and what is said behind it
+-- a line of an answer with these grants, and what is said after it
 abbrev pub explained_line : List ℕ → Located → List Grant → AnswerLine → List ℕ
 explained_line text l grants x = answer_line x ++ sentences_behind text l (holder_on grants x) x
 
@@ -115,18 +115,18 @@ pub record IsLineOf (l : Located) (x : AnswerLine) : Type 0 where
   pub fits : IsAnswerLine x
   pub of : fits_program l x ≡ true
 
--- in front of some bytes stands a line, but none of this program's answers
+-- at the start of some bytes stands a line, but none of this program's answers
 pub record StandsOther (l : Located) (bytes : List ℕ) : Type 0 where
   pub line : AnswerLine
   pub rest : List ℕ
   pub stands : Stands IsAnswerLine answer_line bytes line rest
   pub other : fits_program l line ≡ false
 
--- no line of an answer of this program stands in front of some bytes
+-- no line of an answer of this program stands at the start of some bytes
 abbrev pub NoLineOf : Located → List ℕ → Type 0
 NoLineOf l bytes = NoneStands IsAnswerLine answer_line bytes ⊎ StandsOther l bytes
 
--- some bytes are these lines of an answer of this program, and these bytes behind them
+-- some bytes are these lines of an answer of this program, and these bytes after them
 pub record AreLinesBefore (l : Located) (bytes : List ℕ) (lines : List AnswerLine) (behind : List ℕ) : Type 0 where
   pub are : All (IsLineOf l) lines
   pub parts : bytes ≡ flat_map answer_line lines ++ behind

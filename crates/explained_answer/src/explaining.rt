@@ -118,7 +118,7 @@ fn explained_text(alloc: Global, text: &[u8], answer: &[u8]) -> Result<Explained
     }
 }
 
-/// Repeats an answer to a text line by line, and says behind each line that speaks of a place of the text what that is.
+/// Repeats an answer to a text line by line, and says after each line that speaks of a place of the text what that is.
 ///
 /// The answer is what `denovo` printed for the text in any mode, or the line with which it refused the text. The document that the mode
 /// trace prints is only repeated. Of an answer that isn't the text's, the first line that can't be one of it is told. Lines that answers of a

@@ -124,7 +124,7 @@ fn push_unproven(
     }
 }
 
-/// Adds what is said behind a line of an answer. `holder` is the core that holds the lock for which the line's task waits.
+/// Adds what is said after a line of an answer. `holder` is the core that holds the lock for which the line's task waits.
 fn push_sentences(
     out: &mut Vec<u8>,
     text: &[u8],

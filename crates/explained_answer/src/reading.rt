@@ -106,7 +106,7 @@ fn fits_program(located: &Located, line: AnswerLine) -> bool
     }
 }
 
-/// The line of an answer of this program that stands in front of some bytes, and what stands behind it.
+/// The line of an answer of this program that stands at the start of some bytes, and what follows it.
 #[tactic(auto, using(crate::proofs::Steps::front_of, crate::proofs::Steps::no_longer))]
 fn line_of<'a>(located: &Located, bytes: &'a [u8]) -> Option<(ReadLine<'a>, &'a [u8])>
     ensures some { IfSome result (λ f. Stands (IsLineOf located.now) answer_line bytes.now f.0.line f.1.now) }

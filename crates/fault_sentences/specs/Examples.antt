@@ -42,7 +42,7 @@ operands_as form.TheVariants.Family = codes "0, 4, name, 7, 1"
 unfoldable pub takes : ℕ → List ℕ → Form → Bool
 takes version word f = is_taken version (word ++ codes " " ++ operands_as f)
 
--- All words but the effects have one form; a form whose example is one of other forms too stands behind those.
+-- All words but the effects have one form; a form whose example is one of other forms too stands after those.
 abbrev pub forms : List Form
 forms =
     form.TheVariants.Nothing

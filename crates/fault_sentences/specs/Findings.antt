@@ -52,7 +52,7 @@ said_alone text bytes l = reading_of (version_for_line text) bytes l
 abbrev pub finding_at : Cause → Token → Finding
 finding_at c t = record { part = part_by t; cause = c }
 
--- the tokens behind the label
+-- the tokens after the label
 abbrev pub behind_label : List Token → List Token
 behind_label [] = []
 behind_label (t ∷ []) = t ∷ []

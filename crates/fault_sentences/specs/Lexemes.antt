@@ -19,17 +19,17 @@ has_number_fault (Some l) = is_number_fault l.fault
 unfoldable pub is_no_number : List ℕ → Bool
 is_no_number bytes = has_number_fault (line_alone bytes)
 
--- whether a token begins at the first byte, which stands behind `before`, and is a bad number
+-- whether a token begins at the first byte, which stands after `before`, and is a bad number
 abbrev pub begins_no_number : ℕ → List ℕ → Bool
 begins_no_number before bytes = begins_token before (slice_index bytes 0) && is_no_number (front bytes)
 
--- the first token that is a bad number, in bytes behind `before` of which the first has the place `place`
+-- the first token that is a bad number, in bytes after `before` of which the first has the place `place`
 abbrev pub no_number_from : ℕ → ℕ → List ℕ → Option Part
 no_number_from before place [] = None
 no_number_from before place (b ∷ bs) =
     if begins_no_number before (b ∷ bs) then Some (record { start = place; end = place + length (front (b ∷ bs)) })
     else no_number_from b (place + 1) bs
 
--- the first of a line; the line begins as if behind a blank
+-- the first of a line; the line begins as if after a blank
 unfoldable pub no_number_in : List ℕ → Option Part
 no_number_in bytes = no_number_from 32 0 (before_comment bytes)

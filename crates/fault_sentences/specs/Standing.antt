@@ -1,4 +1,4 @@
--- Where a family of tasks stands among the lines before it: before any phase, behind a task of its phase on one of its cores, or neither.
+-- Where a family of tasks stands among the lines before it: before any phase, after a task of its phase on one of its cores, or neither.
 use Rattle.std.specs.Prelude.{ℕ, ◌+◌, Bool, ◌&&◌, nat_lt, List, [], ◌∷◌, if◌then◌else◌}
 use Rattle.rv_assembler.specs.declared.statement.Statement.{Statement}
 use Rattle.rv_assembler.specs.declared.statement.Statement as statement
@@ -25,13 +25,13 @@ share_core f g = begins_below (cores_of_family f) (cores_of_family g) && begins_
 abbrev pub taken_if : Bool → ℕ → Standing
 taken_if b line = if b then Taken line else Free
 
--- behind the statement of a line
+-- after the statement of a line
 abbrev pub standing_behind : Family → ℕ → Standing → Statement → Standing
 standing_behind f line st statement.TheVariants.Phase = Free
 standing_behind f line Free (statement.TheVariants.Tasks g) = taken_if (share_core f g) line
 standing_behind f line st _ = st
 
--- behind one more line, if it stands before the family's line
+-- after one more line, if it stands before the family's line
 abbrev pub standing_with : Family → ℕ → Standing → Reading → Standing
 standing_with f line st (Bad r) = st
 standing_with f line st (Good s) = if nat_lt s.line line then standing_behind f s.line st s.statement else st

@@ -24,7 +24,7 @@ fn is_mark(byte: u8) -> bool
     matches!(byte, b',' | b':' | b'(' | b')')
 }
 
-/// Whether a token begins at a byte that stands behind `before`.
+/// Whether a token begins at a byte that stands after `before`.
 fn begins_token(before: u8, byte: u8) -> bool
     ensures { result ≡ begins_token before byte }
 {
@@ -87,7 +87,7 @@ fn is_no_number(alloc: Global, bytes: &[u8]) -> Result<bool, Memory>
     }
 }
 
-/// Whether a token begins at the first byte, which stands behind `before`, and is a bad number.
+/// Whether a token begins at the first byte, which stands after `before`, and is a bad number.
 fn begins_no_number(alloc: Global, before: u8, bytes: &[u8]) -> Result<bool, Memory>
     requires some { 0 < length bytes.now }
     requires few { length bytes.now ≤ 1048576 }

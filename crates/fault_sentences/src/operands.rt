@@ -39,7 +39,7 @@ fn is_plain(bytes: &[u8], token: Token) -> bool
     is_name(token) && token_bytes(bytes, token).first().copied().unwrap_or(0) != b'.'
 }
 
-/// The tokens behind the label.
+/// The tokens after the label.
 fn behind_label(tokens: &[Token]) -> &[Token]
     ensures { result.now ≡ behind_label tokens.now }
 {

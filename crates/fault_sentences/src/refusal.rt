@@ -117,7 +117,7 @@ fn push_sentences_at(
     }
 }
 
-/// Adds what is said of a text that the assembler refuses with this fault: the line that has the fault behind its number, a mark under
+/// Adds what is said of a text that the assembler refuses with this fault: the line that has the fault after its number, a mark under
 /// the part that is wrong, why it is, and how that is mended.
 ///
 /// # Errors

@@ -15,7 +15,7 @@ pub(crate) enum Standing {
     NoPhase,
     /// In a phase that has no task on its cores so far.
     Free,
-    /// Behind a line of its phase that declares a task on one of its cores.
+    /// After a line of its phase that declares a task on one of its cores.
     Taken { line: u32 },
 }
 
@@ -46,7 +46,7 @@ fn taken_if(taken: bool, line: u32) -> Standing
     }
 }
 
-/// Where the family stands behind the statement of a line.
+/// Where the family stands after the statement of a line.
 fn standing_behind(family: Family, line: u32, standing: Standing, statement: &Statement) -> Standing
     ensures { result ≡ standing_behind family line standing statement.now }
 {
@@ -57,7 +57,7 @@ fn standing_behind(family: Family, line: u32, standing: Standing, statement: &St
     }
 }
 
-/// Where the family stands behind one more line, if that stands before the family's line.
+/// Where the family stands after one more line, if that stands before the family's line.
 fn standing_with(family: Family, line: u32, standing: Standing, reading: &Reading) -> Standing
     ensures { result ≡ standing_with family line standing reading.now }
 {

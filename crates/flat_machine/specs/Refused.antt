@@ -13,7 +13,7 @@ abbrev pub MayNotCome : ProgramParts → ℕ → Flat → Option Grant → Type 
 MayNotCome P fuel F (Some g) = granted P fuel g F ≡ None
 MayNotCome P fuel F None = grants_are_whole P fuel F ≡ false
 
--- the grants of the list before this place, from 0, are legal, and what comes there may not come; the place is that behind the last
+-- the grants of the list before this place, from 0, are legal, and what comes there may not come; the place is that after the last
 -- grant where the list is legal, but isn't whole
 pub record IsFirstRefused (P : ProgramParts) (fuel : ℕ) (gs : List Grant) (place : ℕ) : Type 0 where
   pub within : place ≤ length gs

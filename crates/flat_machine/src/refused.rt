@@ -20,7 +20,7 @@ pub enum FlatRun {
     Whole(FlatEnd),
     /// The first grant of the list that may not come is the one at this place, from 0: it names a phase that isn't the current
     /// one, a core whose task doesn't wait for its lock, or a lock that a task holds, or comes when the run is over. The place
-    /// behind the last grant says that each grant is legal, but the list ends while the lock that some task waits for is free.
+    /// after the last grant says that each grant is legal, but the list ends while the lock that some task waits for is free.
     Refused { place: usize },
 }
 

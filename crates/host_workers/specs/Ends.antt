@@ -35,7 +35,7 @@ pub record AreEndsOf (merged : List Stamped) (ends : List (List EndSeen)) (told 
 abbrev pub left_of : List (List EndSeen) → List ℕ → ℕ → List EndSeen
 left_of ends done core = drop (slice_index done core) (slice_index_or ends core [])
 
--- the first of them, where it was seen at an event with this stamp, and what is left behind that event
+-- the first of them, where it was seen at an event with this stamp, and what is left after that event
 abbrev pub first_at : ℕ → List EndSeen → Option TaskEnd
 first_at stamp [] = None
 first_at stamp (x ∷ xs) = if x.stamp == stamp then Some x.end else None

@@ -50,7 +50,7 @@ unfoldable pub change_text : Located → WordChange → List ℕ
 change_text L c =
     word_text L.program.regions c.word.0 ++ codes " (word " ++ decimal c.word.0 ++ codes "): " ++ state_words c.before ++ codes " &#8594; " ++ state_words c.after
 
--- an instruction behind its line
+-- an instruction after its line
 unfoldable pub instruction_text : CodePlace → ℕ → List ℕ
 instruction_text place word = code_text place ++ codes ": " ++ code_line word
 

@@ -23,7 +23,7 @@ use Rattle.message_chart.specs.Labels.{actor_name, change_text, label_text, task
 
 -- ---- its size
 
--- behind the last column there is room for words
+-- after the last column there is room for words
 abbrev pub width : Chart → ℕ
 width chart = column chart Keeper + 300
 
@@ -97,7 +97,7 @@ is_of_phase (Some before) phase = before.0 == phase.0
 abbrev pub phase_if_new : Chart → Option PhaseId → ChartRow → List ℕ
 phase_if_new chart before row = if is_of_phase before row.phase then [] else phase_begin chart row
 
--- the bands of rows, behind one of this phase
+-- the bands of rows, after one of this phase
 abbrev pub bands : Chart → Option PhaseId → List ChartRow → List ℕ
 bands chart before [] = []
 bands chart before (row ∷ rows) = (band chart row ++ phase_if_new chart before row) ++ bands chart (Some row.phase) rows
@@ -139,7 +139,7 @@ abbrev pub height_of : Option ℕ → ℕ
 height_of None = top
 height_of (Some line) = y_of line
 
--- a mail from before the range, and one to behind it, have a broken line
+-- a mail from before the range, and one to after it, have a broken line
 abbrev pub mail_class : Option ℕ → List ℕ
 mail_class None = codes "cut"
 mail_class (Some line) = codes "mail"
@@ -214,7 +214,7 @@ row_words chart L row =
     number_words row ++ ring chart row ++ dot chart row ++ label chart L row ++ ending_words (column chart row.actor) (y_of row.line) row.end
     ++ changes_below L (column chart row.actor + 14) (y_of row.line + 18 * end_lines row.end) row.changes
 
--- ---- behind the rows
+-- ---- after the rows
 
 abbrev pub leaving_words : Chart → Located → LeavingMail → List ℕ
 leaving_words chart L mail =

@@ -56,7 +56,7 @@ pub struct LeavingMail {
     pub to: Actor,
     pub kind: EventKind,
     pub about: About,
-    /// Its own line, behind all rows.
+    /// Its own line, after all rows.
     pub line: u32,
 }
 
@@ -65,7 +65,7 @@ pub struct LeavingMail {
 pub struct WaitingTask {
     pub core: CoreId,
     pub lock: LockId,
-    /// Its own line, behind all rows and leaving mails.
+    /// Its own line, after all rows and leaving mails.
     pub line: u32,
 }
 

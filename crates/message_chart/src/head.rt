@@ -203,7 +203,7 @@ fn push_phase_if_new(
     }
 }
 
-/// Adds what stands behind a row.
+/// Adds what follows a row.
 fn push_band_row(
     out: &mut Vec<u8>,
     chart: &Chart,

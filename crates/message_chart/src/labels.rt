@@ -80,7 +80,7 @@ pub(crate) fn push_change_text(
     push_state(out, change.after)
 }
 
-/// Adds an instruction behind its line.
+/// Adds an instruction after its line.
 #[tactic(auto, unfolding(crate::specs::Labels::instruction_text))]
 fn push_instruction(out: &mut Vec<u8>, place: CodePlace, word: u32) -> Result<(), Memory>
     ensures { OnOk result (out.new.items ≡ out.old.items ++ instruction_text place word) }

@@ -31,7 +31,7 @@ fn push_chain_line(out: &mut Vec<u8>, chart: &Chart) -> Result<(), Memory>
 
 /// The chart as a picture, the text of an SVG document: a title with the machine's size, a legend, bands for the phases, the actors'
 /// columns, a line through the chain's events and a ring about each, an arrow for each mail, and for each event its number, actor and
-/// what it is, how its task ends, and what becomes of the words that it changes. Behind the rows stand the mails that no event of the
+/// what it is, how its task ends, and what becomes of the words that it changes. After the rows stand the mails that no event of the
 /// chart handles, and the tasks that wait for a lock.
 ///
 /// The names of words and locks, the instructions and their lines are those of the text that the chart's run is of.

@@ -1,4 +1,4 @@
-//! The rows with their arrows, and what stands behind them.
+//! The rows with their arrows, and what follows them.
 ghost use Rattle.std.specs.Prelude.{◌≡◌, ◌≤◌, ◌++◌, ◌*◌, ◌+◌, flat_map, OnOk};
 ghost use Rattle.message_chart.specs.Marks.{y_of};
 ghost use Rattle.message_chart.specs.Picture.{arrow, arrow_between, beside, change_words, changes_below, comes_from_right, dot, end_lines, ending_words, height_of, label, leaving_arrow, leaving_words, mail_class, number_words, point, ring, row_words, waiting_words};

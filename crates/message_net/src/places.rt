@@ -18,7 +18,7 @@ const BUCKETS: usize = 65536;
 pub(crate) struct Places {
     /// The place with which each bucket's chain begins.
     first: Vec<Option<u32>>,
-    /// The place that comes behind each place in its chain.
+    /// The place that comes after each place in its chain.
     behind: Vec<Option<u32>>,
 }
 

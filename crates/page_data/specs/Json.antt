@@ -31,7 +31,7 @@ item_texts write first (x ∷ xs) = gap first ++ (write x ++ item_texts write fa
 unfoldable pub list_text : {X : Type 0} → (X → List ℕ) → List X → List ℕ
 list_text write xs = codes "[" ++ (item_texts write true xs ++ codes "]")
 
--- numbers that stand behind something in a list
+-- numbers that stand after something in a list
 abbrev pub further : ℕ → List ℕ
 further n = codes "," ++ decimal n
 

@@ -69,7 +69,7 @@ cause_fields (shown.Waits lock) = codes ",\"waits\"" ++ further_all (lock.0 ∷ 
 
 -- ---- changes
 
--- a change begins with its tag, and has what belongs to it behind
+-- a change begins with its tag, and has what belongs to it after
 unfoldable pub tagged : List ℕ → List ℕ → List ℕ
 tagged name rest = codes "[\"" ++ (name ++ (codes "\"" ++ (rest ++ codes "]")))
 
@@ -132,7 +132,7 @@ actor_changes_text c = codes "[" ++ (decimal (actor_number c.actor) ++ (codes ",
 
 -- ---- mails
 
--- what a message says, behind its kind
+-- what a message says, after its kind
 abbrev pub message_fields : Message → List ℕ
 message_fields (message.ReadReq word reader) = further_all (word.0 ∷ reader.0 ∷ [])
 message_fields (message.ReadFwd word reader) = further_all (word.0 ∷ reader.0 ∷ [])

@@ -56,7 +56,7 @@ fn push_tagged(out: &mut Vec<u8>, tag: &[u8], numbers: &[u32]) -> Result<(), Mem
     push(out, b"]")
 }
 
-/// Adds a change that has nothing behind its tag.
+/// Adds a change that has nothing after its tag.
 #[tactic(auto, unfolding(crate::specs::Rows::tagged))]
 fn push_bare(out: &mut Vec<u8>, tag: &[u8]) -> Result<(), Memory>
     ensures { OnOk result (out.new.items ≡ out.old.items ++ tagged tag.now []) }
@@ -139,7 +139,7 @@ fn push_holder(out: &mut Vec<u8>, holder: Option<CoreId>) -> Result<(), Memory>
     }
 }
 
-/// Adds cores, each behind a comma.
+/// Adds cores, each after a comma.
 #[tactic(auto, unfolding(crate::specs::Json::further_all))]
 fn push_cores(out: &mut Vec<u8>, cores: &[CoreId]) -> Result<(), Memory>
     ensures { OnOk result (out.new.items ≡ out.old.items ++ further_all (core_numbers cores.now)) }

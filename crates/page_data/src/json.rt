@@ -65,7 +65,7 @@ pub(crate) fn push_gap(out: &mut Vec<u8>, first: bool) -> Result<(), Memory>
     if first { Ok(()) } else { push(out, b",") }
 }
 
-/// Adds a number behind a comma.
+/// Adds a number after a comma.
 fn push_further(out: &mut Vec<u8>, number: u32) -> Result<(), Memory>
     ensures { OnOk result (out.new.items ≡ out.old.items ++ further number) }
 {
@@ -73,7 +73,7 @@ fn push_further(out: &mut Vec<u8>, number: u32) -> Result<(), Memory>
     push_decimal(out, number)
 }
 
-/// Adds numbers, each behind a comma.
+/// Adds numbers, each after a comma.
 #[tactic(auto, unfolding(crate::specs::Json::further_all))]
 pub(crate) fn push_all(out: &mut Vec<u8>, numbers: &[u32]) -> Result<(), Memory>
     ensures { OnOk result (out.new.items ≡ out.old.items ++ further_all numbers.now) }

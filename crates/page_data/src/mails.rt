@@ -134,7 +134,7 @@ fn push_mail(out: &mut Vec<u8>, mail: &Mail) -> Result<(), Memory>
     push(out, b"]")
 }
 
-/// Adds the mails in flight, each behind a comma but the first.
+/// Adds the mails in flight, each after a comma but the first.
 fn push_mail_items(out: &mut Vec<u8>, pool: &Pool) -> Result<(), Memory>
     ensures { OnOk result (out.new.items ≡ out.old.items ++ item_texts mail_item true pool.now.mails) }
 {

@@ -37,7 +37,7 @@ pub struct Page<'a> {
     pub most: u32,
 }
 
-/// The first so many events, and those behind them.
+/// The first so many events, and those after them.
 #[tactic(auto, using(std::proofs::lemmas::List::take_all, std::proofs::lemmas::List::drop_all))]
 fn parted(events: &[Event], wanted: u32) -> (&[Event], &[Event])
     ensures front { result.0.now ≡ take wanted events.now }
@@ -112,7 +112,7 @@ fn text_of(
 /// program needs, 1 to 16 banks, 1 to 256 sets and 1 to 16 ways, a task may retire `fuel` instructions, 1 to 32,768, there are at most
 /// 25,169,664 events, and the page has at most 20,000 of them.
 ///
-/// An event before the page is only made, and one behind it isn't looked at. A Go and a Grant on the page look at each place of one
+/// An event before the page is only made, and one after it isn't looked at. A Go and a Grant on the page look at each place of one
 /// cache, and any other event at a few words, at each lock and at what it sends.
 ///
 /// # Errors

@@ -14,7 +14,7 @@ use rv_listing::push_code_word;
 use std::alloc::Global;
 use text_pieces::{push, push_decimal, push_long};
 
-/// Adds a number behind its name.
+/// Adds a number after its name.
 fn push_size(out: &mut Vec<u8>, name: &[u8], number: u32) -> Result<(), Memory>
     ensures { OnOk result (out.new.items ≡ out.old.items ++ (name.now ++ decimal number)) }
 {

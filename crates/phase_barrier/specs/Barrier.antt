@@ -1,4 +1,4 @@
--- The barrier between phases: who has arrived, and what its keeper answers. What stands behind `keeper_gets` is for laws.
+-- The barrier between phases: who has arrived, and what its keeper answers. What follows `keeper_gets` is for laws.
 use Rattle.std.specs.Prelude.{◌≡◌, ℕ, ◌+◌, ◌<◌, ◌≤◌, Bool, true, false, ◌||◌, ◌&&◌, not, nat_le, List, length, replicate, slice_get, slice_set, Option, Some, None, if◌then◌else◌, count_by}
 use Rattle.std.specs.List.{list_all}
 use Rattle.message_net.specs.declared.message.Message.{Message}

@@ -58,7 +58,7 @@ lock_text_by None l = codes "lock " ++ decimal l
 unfoldable pub lock_text : List (List ℕ) → ℕ → List ℕ
 lock_text locks l = lock_text_by (slice_get locks l) l
 
--- a line behind its number
+-- a line after its number
 unfoldable pub quoted : ℕ → List ℕ → List ℕ
 quoted line bytes = decimal line ++ codes " | " ++ bytes ++ newline
 
@@ -66,6 +66,6 @@ abbrev pub quoted_by : ℕ → Option (List ℕ) → List ℕ
 quoted_by line (Some bytes) = quoted line bytes
 quoted_by line None = []
 
--- a line of a text behind its number; nothing where the text has no such line
+-- a line of a text after its number; nothing where the text has no such line
 abbrev pub quoted_line : List ℕ → ℕ → List ℕ
 quoted_line text line = quoted_by line (numbered_line text line)

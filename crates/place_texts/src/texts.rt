@@ -66,7 +66,7 @@ fn push_byte(out: &mut Vec<u8>, byte: u32) -> Result<(), Memory>
     push_decimal(out, byte)
 }
 
-/// Adds what an address of data points to in a program: a word as `m[3]`, a byte behind a word's first as `m[3] + 2`, or `outside of all regions`.
+/// Adds what an address of data points to in a program: a word as `m[3]`, a byte after a word's first as `m[3] + 2`, or `outside of all regions`.
 ///
 /// # Errors
 /// `Memory` where there is no room.
@@ -141,7 +141,7 @@ fn push_quoted(out: &mut Vec<u8>, line: u32, bytes: &[u8]) -> Result<(), Memory>
     push(out, b"\n")
 }
 
-/// Adds a line of a text behind its number, as `12 | la t0, m`, with a newline; nothing where the text has no such line.
+/// Adds a line of a text after its number, as `12 | la t0, m`, with a newline; nothing where the text has no such line.
 ///
 /// # Errors
 /// `Memory` where there is no room.

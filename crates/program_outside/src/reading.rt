@@ -33,7 +33,7 @@ impl From<Memory> for ReadError {
 /// How many bytes a text may have while its room grows by doubling.
 const MOST_DOUBLED: usize = 1 << 24;
 
-/// Makes room behind a text that is read. Once it is large, it gets the room for all that may come at once: so it is never copied when
+/// Makes room after a text that is read. Once it is large, it gets the room for all that may come at once: so it is never copied when
 /// it is larger than 32 MiB, and the most that a text and its copy take together is little more than the most that may come.
 fn make_room(text: &mut Vec<u8>, most: usize) -> Result<(), AllocError>
     requires { length text.old.items ≤ most }

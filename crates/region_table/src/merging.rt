@@ -10,7 +10,7 @@ use dn_base::{Memory, WordId};
 use std::alloc::Global;
 
 /// Adds the words of an interval that begins no earlier than those in `out`: it joins the last one where the two
-/// touch or overlap, and is added behind it otherwise.
+/// touch or overlap, and is added after it otherwise.
 pub(crate) fn join(out: &mut Vec<Interval>, next: Interval) -> Result<(), Memory>
     requires some { next.lo < next.hi }
     requires canonical { IsCanonical out.old.items }

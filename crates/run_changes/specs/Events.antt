@@ -35,7 +35,7 @@ left_in_flight S _ = S.mails
 abbrev pub outgoing_of : Mail → Outgoing
 outgoing_of m = record { to = m.to; message = m.message }
 
--- what an event sends: the mails that stand behind those that are left
+-- what an event sends: the mails that stand after those that are left
 unfoldable pub sent_in : State → Event → List Outgoing
 sent_in S e = map outgoing_of (drop (count_left_by S.mails e) (next S e).mails)
 

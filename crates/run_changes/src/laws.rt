@@ -30,7 +30,7 @@ pub fn an_event_changes_its_actor_alone()
     ensures keeper { (S : State) (e : Event) → actor_in S e ≢ Some Keeper → (next S e).keeper ≡ S.keeper }
 {}
 
-/// What an event sends joins the mails in flight, behind those that are left: they are the mails of the actor that makes the event, numbered
+/// What an event sends joins the mails in flight, after those that are left: they are the mails of the actor that makes the event, numbered
 /// on from its next number. A mail that is handled leaves.
 pub fn what_is_sent_joins_the_mails()
     ensures { (S : State) (e : Event) (actor : Actor) → actor_in S e ≡ Some actor

@@ -119,7 +119,7 @@ fn sent_from(alloc: Global, pool: &Pool, left: u32) -> Result<Sequence<Outgoing>
     Ok(sent)
 }
 
-/// Tells what an event did that came: what it changed, by what was looked at before it, and which mails stand behind those that were left.
+/// Tells what an event did that came: what it changed, by what was looked at before it, and which mails stand after those that were left.
 fn told(
     alloc: Global,
     machine: &Machine,

@@ -26,11 +26,11 @@ before range events = take range.first events
 abbrev pub inside : Range → List Event → List Event
 inside range events = take range.most (drop range.first events)
 
--- whether no event comes behind the range
+-- whether no event comes after the range
 abbrev pub reaches_end : Range → ℕ → Bool
 reaches_end range events = nat_le events (range.first + range.most)
 
--- what is drawn of these events behind the machine to which so many others led; nothing where they lead to none
+-- what is drawn of these events after the machine to which so many others led; nothing where they lead to none
 abbrev pub drawn_behind : List ℕ → ℕ → List Event → Option Made → Option Drawing
 drawn_behind chain event wanted None = None
 drawn_behind chain event wanted (Some m) = Some (with_rows chain (begun m event) wanted)
@@ -59,7 +59,7 @@ chart_by frame rows leaving tasks line =
       lines = line + length leaving + length tasks;
     }
 
--- the chart that a drawing is: behind its rows stand the mails that leave it, and then the tasks that wait
+-- the chart that a drawing is: after its rows stand the mails that leave it, and then the tasks that wait
 abbrev pub leaving_in : Drawing → List LeavingMail
 leaving_in d = leaving_from d.line d.sent d.machine.state.mails
 
@@ -82,7 +82,7 @@ pub record IsChartOf (P : ProgramParts) (shape : Shape) (fuel : ℕ) (events : L
   pub setting_is : IsSettingOf P shape fuel setting
   pub is : chart ≡ chart_of setting events range chain columns
 
--- a drawing whose mails are noted, and whose lines are so few that those of mails and tasks can stand behind them
+-- a drawing whose mails are noted, and whose lines are so few that those of mails and tasks can stand after them
 pub record IsFinishable (d : Drawing) : Type 0 where
   pub sent : AreNotedFor d.sent d.machine.state.mails
   pub made : d.machine.made ≤ 25173760

@@ -1,4 +1,4 @@
--- What a chart has behind its rows, and which banks have a column.
+-- What a chart has after its rows, and which banks have a column.
 use Rattle.std.specs.Prelude.{ℕ, ◌+◌, ◌==◌, ◌||◌, Bool, true, false, List, [], ◌∷◌, map, Option, Some, None}
 use Rattle.std.specs.List.{list_any, range_with_len}
 use Rattle.dn_base.specs.declared.ids.LockId.{LockId}

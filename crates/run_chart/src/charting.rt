@@ -15,7 +15,7 @@ use message_chart::{Chart, ChartRow, LeavingMail, WaitingTask};
 use message_net::Event;
 use std::alloc::Global;
 
-/// A drawing without rows, behind so many events.
+/// A drawing without rows, after so many events.
 fn begun(alloc: Global, machine: Machine, event: u32) -> Result<Drawing, Memory>
     ensures { IfOk result (λ drawing. drawing ≡ begun machine event) }
 {
@@ -43,7 +43,7 @@ fn first_of(events: &[Event], wanted: u32) -> (&[Event], &[Event])
     }
 }
 
-/// What is drawn of a range of events. Those before it are only made, and those behind it aren't looked at. None where one before it may
+/// What is drawn of a range of events. Those before it are only made, and those after it aren't looked at. None where one before it may
 /// not come in its turn.
 fn drawn(
     alloc: Global,
@@ -69,7 +69,7 @@ fn drawn(
     Ok(Some(drawing))
 }
 
-/// Whether no event comes behind the range, of so many.
+/// Whether no event comes after the range, of so many.
 fn reaches_end(range: Range, events: u32) -> bool
     ensures { result ≡ reaches_end range events }
 {
@@ -182,15 +182,15 @@ fn finished(alloc: Global, frame: Frame, drawing: Drawing) -> Result<Chart, Memo
 /// The message chart of a range of a run's events, with marks for the events whose numbers the chain has.
 ///
 /// A row tells which actor makes the event, what it is and what it is about, where the mail that it handles comes from, how a task ends
-/// with it, and each data word for which the actor has something else after the event. Behind the rows stand the mails that an
-/// event of the range sent and none of them handles, and, where no event comes behind the range, the tasks that wait for a lock. The
+/// with it, and each data word for which the actor has something else after the event. After the rows stand the mails that an
+/// event of the range sent and none of them handles, and, where no event comes after the range, the tasks that wait for a lock. The
 /// chart goes as far as the events may come one after the other from the initial machine of the checked program, this shape and
 /// this fuel on; those of a run all may.
 ///
 /// The shape has the cores that the program needs, 1 to 16 banks, 1 to 256 sets and 1 to 16 ways, a task may retire `fuel`
 /// instructions, 1 to 32,768, there are at most 25,169,664 events, and the range has at most 4,096.
 ///
-/// An event before the range is only made, and one behind it isn't looked at. One of the range costs what it sends and takes,
+/// An event before the range is only made, and one after it isn't looked at. One of the range costs what it sends and takes,
 /// however many mails are in flight, and looks at the words that it may change: at one, or at a Grant or a Go at each of the core's
 /// entries. The chain is gone through once, and needn't be in order.
 ///

@@ -1,4 +1,4 @@
-//! What a chart has behind its rows, and which banks have a column.
+//! What a chart has after its rows, and which banks have a column.
 ghost use Rattle.std.specs.Prelude.{◌≡◌, ◌+◌, ◌≤◌, [], length, map, IfOk};
 ghost use Rattle.std.specs.List.{list_any, range_with_len};
 ghost use Rattle.machine_rules.specs.Sound.{IsMachine};
@@ -23,7 +23,7 @@ pub enum Columns {
     Used,
 }
 
-/// A mail that is in flight behind the range, where an event of the range sent it on this line.
+/// A mail that is in flight after the range, where an event of the range sent it on this line.
 fn leaving(mail: Mail, sent: u32, line: u32) -> LeavingMail
     ensures { result ≡ leaving_mail mail sent line }
 {

@@ -18,7 +18,7 @@ pub fn each_event_of_the_range_has_one_row()
         → map (λ (row : ChartRow). row.event) (chart_of C events range chain columns).rows ≡ range_with_len range.first (length (inside range events)) }
 {}
 
-/// A row begins behind the last line of each row before it.
+/// A row begins after the last line of each row before it.
 pub fn rows_do_not_overlap()
     ensures { (C : Setting) (events : List Event) (range : Range) (chain : List ℕ) (columns : Columns) (i j : ℕ) (a b : ChartRow) → i < j
         → slice_get (chart_of C events range chain columns).rows i ≡ Some a → slice_get (chart_of C events range chain columns).rows j ≡ Some b → a.line + a.lines ≤ b.line }

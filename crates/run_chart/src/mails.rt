@@ -61,7 +61,7 @@ pub(crate) fn place_handled(pool: &Pool, event: Event) -> Option<u32>
     }
 }
 
-/// Notes the mails that stand in the pool behind those that are noted: they were sent on this line.
+/// Notes the mails that stand in the pool after those that are noted: they were sent on this line.
 ///
 /// # Errors
 /// `Memory` where there is no room.

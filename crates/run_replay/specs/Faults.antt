@@ -10,7 +10,7 @@ use Rattle.run_replay.specs.Document.{FitsDocument, Head, IsHead, head_text, eve
 abbrev pub most_bytes : ℕ
 most_bytes = 536870912
 
--- the bytes, which are not too many, begin with a head and the lines of some events, and behind these stands the rest
+-- the bytes, which are not too many, begin with a head and the lines of some events, and after these stands the rest
 pub record BeginsWithEvents (bytes : List ℕ) (h : Head) (events : List Event) (rest : List ℕ) : Type 0 where
   pub within : length bytes ≤ most_bytes
   pub head : IsHead h
@@ -27,7 +27,7 @@ pub record IsBrokenAt (bytes : List ℕ) (number : ℕ) : Type 0 where
   pub announced : number < head.count
   pub none : NoneStands FitsDocument event_line rest
 
--- bytes stand behind the last of the announced event lines
+-- bytes stand after the last of the announced event lines
 pub record GoesOn (bytes : List ℕ) : Type 0 where
   pub head : Head
   pub events : List Event

@@ -12,11 +12,11 @@ use Rattle.text_pieces.specs.Pieces.{newline, space}
 abbrev pub told_by : Heading → Head
 told_by h = record { shape = h.shape; text = h.text.now; count = h.count }
 
--- two numbers, the first behind a name, end a line
+-- two numbers, the first after a name, end a line
 unfoldable pub two_fields : List ℕ → ℕ → ℕ → List ℕ
 two_fields name first second = field name space first ++ field [] newline second
 
--- in front of some bytes stand a number below 16 and another of at most `most`, which end a line, and behind them the rest
+-- at the start of some bytes stand a number below 16 and another of at most `most`, which end a line, and after them the rest
 pub record StandTwo (name : List ℕ) (most : ℕ) (bytes : List ℕ) (first second : ℕ) (rest : List ℕ) : Type 0 where
   pub first_from : IsFrom 0 15 first
   pub second_from : IsFrom 0 most second
@@ -26,7 +26,7 @@ pub record StandTwo (name : List ℕ) (most : ℕ) (bytes : List ℕ) (first sec
 abbrev pub mail_text : MailId → List ℕ
 mail_text id = mail_line id.sender id.number
 
--- in front of some bytes stand the lines of events, and behind them the rest
+-- at the start of some bytes stand the lines of events, and after them the rest
 pub record AreLines (bytes : List ℕ) (events : List Event) (rest : List ℕ) : Type 0 where
   pub told : All FitsDocument events
   pub parts : bytes ≡ event_lines events ++ rest
@@ -40,7 +40,7 @@ pub record IsBroken (bytes : List ℕ) (count number : ℕ) : Type 0 where
   pub announced : number < count
   pub none : NoneStands FitsDocument event_line rest
 
--- bytes stand behind the last of so many lines
+-- bytes stand after the last of so many lines
 pub record IsLonger (bytes : List ℕ) (count : ℕ) : Type 0 where
   pub events : List Event
   pub rest : List ℕ

@@ -32,7 +32,7 @@ pub enum TraceFault {
     Head,
     /// The event line of this number, from 0, isn't there whole in its form; all before it are.
     Line { number: u32 },
-    /// There are bytes behind the last event line.
+    /// There are bytes after the last event line.
     Rest,
     /// There was no memory.
     Memory,

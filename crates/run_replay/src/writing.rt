@@ -79,7 +79,7 @@ fn push_events(out: &mut Vec<u8>, events: &[Event]) -> Result<(), Memory>
     Ok(())
 }
 
-/// The document of a run: its first lines tell the machine's size and its tasks' fuel, then comes the source text behind the number
+/// The document of a run: its first lines tell the machine's size and its tasks' fuel, then comes the source text after the number
 /// of its bytes, then the number of events and a line for each event in its turn. Numbers are decimal, without leading zeros.
 ///
 /// What it tells is within the limits of `Trace`: cores and banks have numbers below 16, and words below 65,536.

@@ -1,4 +1,4 @@
--- What is noted of each event: when it finishes, the event behind which it does, and its kind.
+-- What is noted of each event: when it finishes, the event after which it does, and its kind.
 use Rattle.std.specs.Prelude.{◌≡◌, ◌⊎◌, ℕ, ◌+◌, ◌*◌, ◌<◌, ◌≤◌, nat_lt, List, [], ◌∷◌, ◌++◌, length, slice_get, slice_index, slice_index_or, Option, Some, None, if◌then◌else◌}
 use Rattle.message_net.specs.declared.event.EventKind.{EventKind}
 use Rattle.run_timing.specs.declared.rows.Rows.{Rows}
@@ -7,7 +7,7 @@ use Rattle.run_timing.specs.declared.timing.Link.{Link}
 use Rattle.run_timing.specs.Befores.{IsEarlier}
 use Rattle.run_timing.specs.Ticks.{ticks_of}
 
--- when an event finishes, and behind which event it does
+-- when an event finishes, and after which event it does
 abbrev pub finish_in : Rows → ℕ → ℕ
 finish_in rows i = slice_index rows.finishes i
 
@@ -25,7 +25,7 @@ later f None sender = sender
 later f (Some o) None = Some o
 later f (Some o) (Some s) = if nat_lt (f o) (f s) then Some s else Some o
 
--- one more event, of this kind and so many ticks, behind another
+-- one more event, of this kind and so many ticks, after another
 abbrev pub with_timing_row : EventKind → ℕ → Option ℕ → Rows → Rows
 with_timing_row kind ticks before rows =
     record {
@@ -40,18 +40,18 @@ pub record AreInStep (rows : Rows) : Type 0 where
   pub kinds : length rows.kinds ≡ length rows.finishes
   pub earlier : IsEarlier rows.befores
 
--- each event takes the ticks of its kind, behind the event before it
+-- each event takes the ticks of its kind, after the event before it
 abbrev pub AreSummed : Ticks → Rows → Type 0
 AreSummed ticks rows = (i : ℕ) (kind : EventKind) → i < length rows.finishes → slice_get rows.kinds i ≡ Some kind → finish_in rows i ≡ ticks_of ticks kind + behind (finish_in rows) (before_in rows i)
 
--- a link tells what is noted of its event, which finishes behind this one
+-- a link tells what is noted of its event, which finishes after this one
 pub record IsLinkIn (rows : Rows) (before : Option ℕ) (link : Link) : Type 0 where
   pub within : link.event < length rows.finishes
   pub before_is : before_in rows link.event ≡ before
   pub finish : link.finish ≡ finish_in rows link.event
   pub kind : slice_get rows.kinds link.event ≡ Some link.kind
 
--- the links lead from an event to the last one, each behind the one before it
+-- the links lead from an event to the last one, each after the one before it
 abbrev pub IsWay : Rows → Option ℕ → Option ℕ → List Link → Type 0
 IsWay rows before last [] = before ≡ last
 IsWay rows before last (link ∷ links) = IsLinkIn rows before link × IsWay rows (Some link.event) last links
@@ -63,15 +63,15 @@ pub record IsLatest (n : ℕ) (f : ℕ → ℕ) (latest : Option ℕ) : Type 0 w
   pub most : (e i : ℕ) → latest ≡ Some e → i < n → f i ≤ f e
   pub first : (e i : ℕ) → latest ≡ Some e → i < e → f i < f e
 
--- event number i finishes behind the one of those that it depends on which finishes last; where the one of its own actor and the
--- sender of its mail finish alike, behind the own
+-- event number i finishes after the one of those that it depends on which finishes last; where the one of its own actor and the
+-- sender of its mail finish alike, after the own
 pub record IsTimingRow (Own Sender : ℕ → ℕ → Type 0) (ticks f : ℕ → ℕ) (before : Option ℕ) (i : ℕ) : Type 0 where
   pub finish : f i ≡ ticks i + behind f before
   pub depends : (p : ℕ) → before ≡ Some p → Own p i ⊎ Sender p i
   pub latest : (p : ℕ) → Own p i ⊎ Sender p i → f p ≤ behind f before
   pub own : (o s : ℕ) → Own o i → Sender s i → f o ≡ f s → before ≡ Some o
 
--- what is noted of the first n events is right: their kinds, when they finish, and behind which events they do
+-- what is noted of the first n events is right: their kinds, when they finish, and after which events they do
 pub record AreNoted (Own Sender : ℕ → ℕ → Type 0) (ticks : ℕ → ℕ) (kinds_are : ℕ → Option EventKind) (n : ℕ) (rows : Rows) : Type 0 where
   pub finishes : length rows.finishes ≡ n
   pub befores : length rows.befores ≡ n

@@ -5,7 +5,7 @@ use dn_base::{Memory, Sequence};
 use std::alloc::Global;
 use std::marker::Model;
 
-/// Behind which event each event of a run finishes, if behind any.
+/// After which event each event of a run finishes, if after any.
 ///
 /// It takes 4 bytes an event, where an `Option<u32>` takes 8: there is one for each event of a run, so the room counts. It keeps
 /// the number of the event and 1 more, or 0 where there is none.
@@ -65,7 +65,7 @@ impl Befores {
         self.numbers.push(kept(before))
     }
 
-    /// The event behind which this one finishes.
+    /// The event after which this one finishes.
     pub(crate) fn get(&self, event: u32) -> Option<u32>
         requires { event < length self.now }
         ensures { result ≡ slice_index_or self.now event None }
@@ -73,8 +73,8 @@ impl Befores {
         event_of(self.numbers.as_slice()[event as usize])
     }
 
-    /// How many events lead to this one, with it: itself, the one behind which it finishes, the one behind which that does, and
-    /// so on to one that finishes behind none.
+    /// How many events lead to this one, with it: itself, the one after which it finishes, the one after which that does, and
+    /// so on to one that finishes after none.
     pub(crate) fn count_to(&self, last: Option<u32>) -> usize
         requires earlier { IsEarlier self.now }
         requires within { (i : ℕ) → last ≡ Some i → i < length self.now }

@@ -38,7 +38,7 @@ impl Tracks {
     }
 }
 
-/// Notes when an event finishes that came, behind which event, and its kind.
+/// Notes when an event finishes that came, after which event, and its kind.
 ///
 /// # Errors
 /// `Memory` where there is no room.

@@ -8,7 +8,7 @@ use std::alloc::Global;
 
 const _: () = prove!(size_of::<EventKind>() == 1);
 
-/// What is noted of each event of a run: when it finishes, the event behind which it does, and its kind.
+/// What is noted of each event of a run: when it finishes, the event after which it does, and its kind.
 #[derive(Debug, Drop)]
 pub(crate) struct Rows {
     pub(crate) finishes: Sequence<u64>,
@@ -61,7 +61,7 @@ impl Rows {
         }
     }
 
-    /// Notes one more event, of this kind and so many ticks, behind another.
+    /// Notes one more event, of this kind and so many ticks, after another.
     ///
     /// # Errors
     /// `Memory` where there is no room.

@@ -22,7 +22,7 @@ use std::alloc::Global;
 /// instructions, 1 to 32,768. An event of each kind takes 1 to 1,000,000 ticks.
 ///
 /// Of the chains that take longest the links are one that ends with the least event, and where two events before a link finish alike
-/// it comes behind the one of its own actor.
+/// it comes after the one of its own actor.
 ///
 /// Beside the events it takes 13 bytes for each, and 4 more for each mail that they handle, while they are timed; then 5 for each,
 /// and 16 for each link. So it is at most 21 bytes an event, the links that are handed back among them, and some that don't grow

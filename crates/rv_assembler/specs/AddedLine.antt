@@ -29,7 +29,7 @@ abbrev pub words_if_any : Option Emission → List ℕ
 words_if_any None = []
 words_if_any (Some e) = words_in e
 
--- what there is behind a line, or its first fault
+-- what there is after a line, or its first fault
 abbrev pub draft_behind : Bool → List ℕ → (List ℕ → Option Meaning) → Draft → Reading → Result Draft SourceFault
 draft_behind version_2 text names d (Bad f) = Err f
 draft_behind version_2 text names d (Good s) = unless_fault (fault_on_line version_2 text names d s) (Ok (draft_after text names d s.statement))

@@ -51,7 +51,7 @@ draft_with text names d (statement.TheVariants.Tasks f) = with_tasks d (wrapped_
 draft_with text names d (statement.TheVariants.Uses e) =
     record d { claims = d.claims ++ claims_for d.phases d.family (region_span (names (bytes_of text e.region))) (usage_of text names e) e.extent }
 
--- what there is behind a statement
+-- what there is after a statement
 abbrev pub draft_after : List ℕ → (List ℕ → Option Meaning) → Draft → Statement → Draft
 draft_after text names d s = record (draft_with text names d s) { count = count_behind d.count s }
 

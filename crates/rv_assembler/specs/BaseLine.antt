@@ -35,11 +35,11 @@ two a b = a ∷ Mark Comma ∷ b ∷ []
 abbrev pub three : BasePart → BasePart → BasePart → List BasePart
 three a b c = a ∷ Mark Comma ∷ b ∷ Mark Comma ∷ c ∷ []
 
--- a register, and a number with another register behind it in parentheses
+-- a register, and a number with another register after it in parentheses
 abbrev pub based : BasePart → BasePart → BasePart → List BasePart
 based a n b = a ∷ Mark Comma ∷ n ∷ Mark Left ∷ b ∷ Mark Right ∷ []
 
--- the first operand of a pseudo-instruction, and the second, behind a comma
+-- the first operand of a pseudo-instruction, and the second, after a comma
 abbrev pub first_operand : BasePart
 first_operand = FromLine 0
 

@@ -62,7 +62,7 @@ current_family statement.TheVariants.Phase = Some no_cores
 current_family (statement.TheVariants.Tasks f) = Some (record { first = natural_of f.core; count = natural_of f.count })
 current_family _ = None
 
--- the cores of the current tasks behind some lines: those of the last `.task` or `.forall` of the last phase
+-- the cores of the current tasks after some lines: those of the last `.task` or `.forall` of the last phase
 abbrev pub family_in : List Saying → Cores
 family_in ss = unwrap_or (last_or None (filter_map (λ (s : Saying). current_family s.statement) ss)) no_cores
 

@@ -21,7 +21,7 @@ abbrev pub label_by : List ℕ → List Saying → ℕ → Option Token → List
 label_by text before line None = []
 label_by text before line (Some t) = record { name = bytes_of text t; meaning = meaning.TheVariants.Label line (code_words before) } ∷ []
 
--- a region begins behind all the data words of the lines before; regions and locks are numbered from 0
+-- a region begins after all the data words of the lines before; regions and locks are numbered from 0
 abbrev pub named_by : List ℕ → List Saying → Statement → List Declaration
 named_by text before (statement.TheVariants.Region name len) =
     record { name = bytes_of text name; meaning = meaning.TheVariants.Region (regions_in before) (data_words before) len } ∷ []

@@ -1,4 +1,4 @@
--- The lines of `.task` and of effects that a line of `.forall`, and an effect behind it, stand for, for the law
+-- The lines of `.task` and of effects that a line of `.forall`, and an effect after it, stand for, for the law
 -- `a_family_has_the_rows_of_its_lines`.
 use Rattle.std.specs.Prelude.{◌≡◌, ℕ, ◌+◌, ◌<◌, pos, ◌+ℤ◌, ◌*ℤ◌, List, Option, Some, flat_map}
 use Rattle.std.specs.List.{range_with_len}

@@ -22,7 +22,7 @@ more count by = min (count + by) (2 ^ 32 - 1)
 abbrev pub no_count : Count
 no_count = record { code = 0; words = 0; regions = 0; locks = 0 }
 
--- how much is declared behind a statement
+-- how much is declared after a statement
 abbrev pub count_behind : Count → Statement → Count
 count_behind c (statement.TheVariants.Instruction k) = record { code = more c.code (code_word_count k); words = c.words; regions = c.regions; locks = c.locks }
 count_behind c (statement.TheVariants.Region name len) = record { code = c.code; words = more c.words (region_words len); regions = more c.regions 1; locks = c.locks }

@@ -27,7 +27,7 @@ code_by text names here _ = []
 abbrev pub placed_code : List ℕ → (List ℕ → Option Meaning) → Placed Saying → List ℕ
 placed_code text names p = code_by text names (code_words p.before) p.here.statement
 
--- the regions: each begins behind all the data words before it
+-- the regions: each begins after all the data words before it
 abbrev pub region_by : List ℕ → ℕ → Statement → List Region
 region_by text start (statement.TheVariants.Region name len) = record { name = bytes_of text name; start = start; len = natural_of len } ∷ []
 region_by text start _ = []

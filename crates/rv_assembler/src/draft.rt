@@ -64,7 +64,7 @@ pub struct Cores {
 
 const NO_CORES: Cores = Cores { first: 0, count: 0 };
 
-/// What some lines declare, table by table, with the cores of the current tasks behind them, and how much they are together.
+/// What some lines declare, table by table, with the cores of the current tasks after them, and how much they are together.
 #[derive(Drop)]
 pub struct Draft {
     pub code: Sequence<u32>,
@@ -163,7 +163,7 @@ fn first_word(span: Span, extent: Extent) -> u32
     }
 }
 
-/// The word behind the last of an effect, modulo 2^32.
+/// The word after the last of an effect, modulo 2^32.
 fn past_word(span: Span, extent: Extent) -> u32
     ensures { result ≡ past_word span extent }
 {

@@ -22,7 +22,7 @@ pub fn names_may_be_declared()
 {}
 
 /// A text has at most 65,536 lines of good form. So their code words are at most 131,072, and their data words at most 2^32, which
-/// is how many there are behind the last line, and no number that a line has.
+/// is how many there are after the last line, and no number that a line has.
 pub fn lines_of_good_form_are_few()
     ensures lines { (text : List ℕ) → length (sayings (readings text)) ≤ 65536 }
     ensures code { (text : List ℕ) → code_words (sayings (readings text)) ≤ 131072 }

@@ -61,7 +61,7 @@ fn length(len: i64) -> u32
     if is_length(len) { wrapped(len) } else { 0 }
 }
 
-/// The count behind a statement.
+/// The count after a statement.
 pub(crate) fn counted(count: &Count, statement: &Statement) -> Count
     ensures { result ≡ count_behind count.now statement.now }
 {
@@ -88,7 +88,7 @@ pub(crate) fn counted(count: &Count, statement: &Statement) -> Count
     }
 }
 
-/// The count behind a line.
+/// The count after a line.
 fn count_after(count: &Count, reading: &Reading) -> Count
     ensures { result ≡ count_after count.now reading.now }
 {

@@ -49,7 +49,7 @@ fn extent_for(operands: &[Token], form: Form, first: usize) -> Extent
     }
 }
 
-/// An effect whose region stands at the place `first` of the operands, behind its lock if it has one.
+/// An effect whose region stands at the place `first` of the operands, after its lock if it has one.
 fn effect_for(
     operands: &[Token],
     writes: bool,

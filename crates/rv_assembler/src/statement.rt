@@ -99,7 +99,7 @@ pub struct Effect {
     pub extent: Extent,
 }
 
-/// What a line says behind its label.
+/// What a line says after its label.
 #[derive(Clone, Copy)]
 pub enum Statement {
     Nothing,

@@ -8,7 +8,7 @@ use Rattle.rv_isa.specs.declared.instr.Instr.{Instr}
 abbrev pub IsDecoded : ProgramParts → List (Option Instr) → Type 0
 IsDecoded P instrs = instrs ≡ map decoded P.code
 
--- an entry of a list of instructions; None behind its end
+-- an entry of a list of instructions; None after its end
 abbrev pub decoded_entry : Option (Option Instr) → Option Instr
 decoded_entry None = None
 decoded_entry (Some instr) = instr

@@ -19,7 +19,7 @@ read_instr (Some word) = decoded word
 abbrev pub instr_at : ProgramParts → TaskState → Option Instr
 instr_at P t = read_instr (code_at P.code t.pc)
 
--- the address of the instruction behind this one
+-- the address of the instruction after this one
 abbrev pub next_pc : TaskState → ℕ
 next_pc t = (t.pc + 4) % 2 ^ 32
 

@@ -26,7 +26,7 @@ fn instruction(program: &Program, state: &TaskState) -> Option<Instr>
 }
 
 impl TaskState {
-    /// The address of the instruction behind this one.
+    /// The address of the instruction after this one.
     fn behind(&self) -> u32
         ensures { result ≡ next_pc self.now }
     {
@@ -67,7 +67,7 @@ impl TaskState {
         self.go(next);
     }
 
-    /// Where the task goes on behind a branch.
+    /// Where the task goes on after a branch.
     fn branch(&self, cond: Cond, a: Reg, b: Reg, offset: i32) -> u32
         ensures { result ≡ (if taken_of cond (value_in self.now.regs a) (value_in self.now.regs b)
             then jump_target self.now offset else next_pc self.now) }

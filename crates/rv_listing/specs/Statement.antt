@@ -14,12 +14,12 @@ register n = codes "x" ++ decimal n
 abbrev pub address : ℤ → ℕ → List ℕ
 address offset base = signed_decimal offset ++ (codes "(" ++ (register base ++ codes ")"))
 
--- the operands behind the first, each behind a comma and a blank
+-- the operands after the first, each after a comma and a blank
 abbrev pub more_operands : List (List ℕ) → List ℕ
 more_operands [] = []
 more_operands (o ∷ os) = codes ", " ++ (o ++ more_operands os)
 
--- the operands of a statement behind its word
+-- the operands of a statement after its word
 abbrev pub operands : List (List ℕ) → List ℕ
 operands [] = []
 operands (o ∷ os) = codes " " ++ (o ++ more_operands os)

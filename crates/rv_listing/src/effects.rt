@@ -68,7 +68,7 @@ fn push_part<'a>(
 }
 
 /// Adds the lines of an interval's parts in the regions from number `from` on, and gives the number of the first
-/// region that ends behind the interval.
+/// region that ends after the interval.
 fn push_interval<'a>(
     out: &mut Vec<u8>,
     usage: Usage<'a>,

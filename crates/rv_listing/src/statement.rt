@@ -14,7 +14,7 @@ pub(crate) enum Operand<'a> {
     Register(Reg),
     /// A number in decimal digits.
     Number(u32),
-    /// A number in decimal digits, behind `-` where it is below 0.
+    /// A number in decimal digits, after `-` where it is below 0.
     Offset(i32),
     /// A number in `0x` and eight hexadecimal digits.
     Word(u32),
@@ -49,7 +49,7 @@ fn push_operand(out: &mut Vec<u8>, operand: &Operand<'_>) -> Result<(), Memory>
     }
 }
 
-/// Adds operands, each behind a comma and a blank.
+/// Adds operands, each after a comma and a blank.
 fn push_more(out: &mut Vec<u8>, operands: &[Operand<'_>]) -> Result<(), Memory>
     ensures { OnOk result (out.new.items ≡ out.old.items ++ more_operands (map operand_text operands.now)) }
 {

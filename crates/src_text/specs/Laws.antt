@@ -22,7 +22,7 @@ pub record AreLinesOf (text : List ℕ) (lines : List (List ℕ)) : Type 0 where
   pub joined : flat_map ended lines ≡ text ++ (if is_open text then 10 ∷ [] else [])
   pub single : All (λ line. list_any is_newline line ≡ false) lines
 
--- where a line begins: behind the lines before it and their newlines
+-- where a line begins: after the lines before it and their newlines
 abbrev pub line_start : ℕ → List (List ℕ) → ℕ
 line_start k lines = sum_by (λ line. length line + 1) (take k lines)
 
@@ -32,7 +32,7 @@ pub record AreNumbered (text : List ℕ) : Type 0 where
   pub each : (k : ℕ) → k < length (cut text) → slice_get (lines_of text) k ≡ Some (line_of (k + 1) (line_start k (cut text)) (get_or (cut text) k []))
   pub bytes : (k : ℕ) → k < length (cut text) → slice_range text (line_start k (cut text)) (line_start k (cut text) + length (get_or (cut text) k [])) ≡ get_or (cut text) k []
 
--- the prefix of some bytes is as long as it can be: a mark alone, or a byte and all bytes of a word behind it
+-- the prefix of some bytes is as long as it can be: a mark alone, or a byte and all bytes of a word after it
 pub record IsLongestToken (bytes front : List ℕ) : Type 0 where
   pub first : take (length front) bytes ≡ front
   pub some : 0 < length front
@@ -46,7 +46,7 @@ pub record StandsAt (place p : ℕ) (code : List ℕ) (l : Lexeme) : Type 0 wher
   pub bytes : l.bytes ≡ front (drop p code)
   pub begun : IsTrue (begins_token (slice_index (32 ∷ code) p) (slice_index code p))
 
--- each lexeme begins at or behind the end of the one before it, and none before a place
+-- each lexeme begins at or after the end of the one before it, and none before a place
 abbrev pub AreBehindEachOther : ℕ → List Lexeme → Type 0
 AreBehindEachOther from [] = Unit {0}
 AreBehindEachOther from (l ∷ ls) = (from ≤ l.start) × AreBehindEachOther (l.start + length l.bytes) ls
@@ -79,7 +79,7 @@ IsSliceOf text t = token_kind_of (slice_range text t.start t.end) ≡ Some t.kin
 abbrev pub takes_byte : ℕ → Token → Bool
 takes_byte place t = nat_le t.start place && nat_lt place t.end
 
--- each token begins at or behind the end of the one before it, and none before a place
+-- each token begins at or after the end of the one before it, and none before a place
 abbrev pub AreInOrder : ℕ → List Token → Type 0
 AreInOrder from [] = Unit {0}
 AreInOrder from (t ∷ ts) = (from ≤ t.start) × AreInOrder t.end ts

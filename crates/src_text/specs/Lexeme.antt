@@ -11,7 +11,7 @@ pub record Lexeme : Type 0 where
   pub start : ℕ
   pub bytes : List ℕ
 
--- behind such a byte a word or a number goes on
+-- after such a byte a word or a number goes on
 abbrev pub continues_token : ℕ → Bool
 continues_token before = is_word before || is_minus before
 
@@ -25,7 +25,7 @@ abbrev pub front : List ℕ → List ℕ
 front [] = []
 front (b ∷ bs) = if is_mark b then b ∷ [] else b ∷ take_while is_word bs
 
--- the lexemes of the bytes from a place on, behind the byte before them
+-- the lexemes of the bytes from a place on, after the byte before them
 abbrev pub lexemes_after : ℕ → ℕ → List ℕ → List Lexeme
 lexemes_after before place [] = []
 lexemes_after before place (b ∷ bs) =
@@ -35,7 +35,7 @@ lexemes_after before place (b ∷ bs) =
 abbrev pub before_comment : List ℕ → List ℕ
 before_comment line = before_first is_hash line
 
--- the lexemes of a line that begins at this place; a line begins as if behind a blank
+-- the lexemes of a line that begins at this place; a line begins as if after a blank
 abbrev pub lexemes_of : ℕ → List ℕ → List Lexeme
 lexemes_of place line = lexemes_after 32 place (before_comment line)
 
@@ -53,6 +53,6 @@ token_kind_of bs =
 abbrev pub is_bad_number : Lexeme → Bool
 is_bad_number l = is_none (token_kind_of l.bytes)
 
--- the token of a lexeme, from its first byte's place to the place behind its last
+-- the token of a lexeme, from its first byte's place to the place after its last
 abbrev pub token_of : Lexeme → Option Token
 token_of l = option_map (λ k. record { kind = k; start = l.start; end = l.start + length l.bytes }) (token_kind_of l.bytes)

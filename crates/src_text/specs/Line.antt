@@ -13,7 +13,7 @@ abbrev pub onto_first : ℕ → List (List ℕ) → List (List ℕ)
 onto_first b [] = (b ∷ []) ∷ []
 onto_first b (l ∷ ls) = (b ∷ l) ∷ ls
 
--- a text cut at each newline; what stands behind the last newline is a line only if it has a byte
+-- a text cut at each newline; what follows the last newline is a line only if it has a byte
 abbrev pub cut : List ℕ → List (List ℕ)
 cut [] = []
 cut (b ∷ bs) = if is_newline b then [] ∷ cut bs else onto_first b (cut bs)

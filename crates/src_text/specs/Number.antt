@@ -10,7 +10,7 @@ digit_of b =
     else (if nat_le 65 b && nat_le b 70 then b - 55
     else 16))
 
--- the value of digits in a base, behind digits of the value v; none where a byte isn't a digit of that base
+-- the value of digits in a base, after digits of the value v; none where a byte isn't a digit of that base
 abbrev pub value_after : ℕ → ℕ → List ℕ → Option ℕ
 value_after base v [] = Some v
 value_after base v (b ∷ bs) = if nat_lt (digit_of b) base then value_after base (v * base + digit_of b) bs else None

@@ -110,7 +110,7 @@ fn read_line(alloc: Global, number: u32, start: usize, line: &[u8]) -> Result<Li
 ///
 /// Each newline (byte 10) ends a line, and what follows the last one is a line only if it has a byte. Space, tab and
 /// carriage return are blanks, and `#` makes the rest of its line a comment, whatever bytes that has. Names begin with
-/// a letter, `_` or `.`, numbers with a digit or `-`, and both take in every letter, digit, `_` and `.` behind that;
+/// a letter, `_` or `.`, numbers with a digit or `-`, and both take in every letter, digit, `_` and `.` after that;
 /// `,`, `:`, `(` and `)` are tokens by themselves. A line with a fault has no tokens.
 ///
 /// # Errors

@@ -4,7 +4,7 @@ ghost use Rattle.src_text.specs.Number.{if_at_most, digit_of, magnitude_of, numb
 /// The greatest number that a text may hold: a word of 32 bits without sign.
 const GREATEST: u64 = 4294967295;
 
-/// The greatest number behind a minus: the least signed word is -2147483648.
+/// The greatest number after a minus: the least signed word is -2147483648.
 const GREATEST_NEGATED: u64 = 2147483648;
 
 /// The value of a digit of base 16, of either case, and 16 for every other byte.

@@ -19,7 +19,7 @@ pub enum TokenKind {
     Right,
 }
 
-/// A token, with the places in the text of its first byte (`start`) and behind its last (`end`), in bytes from 0.
+/// A token, with the places in the text of its first byte (`start`) and after its last (`end`), in bytes from 0.
 #[derive(Clone, Copy, Debug, PartialEq, Eq)]
 pub struct Token {
     pub kind: TokenKind,
@@ -27,7 +27,7 @@ pub struct Token {
     pub end: u32,
 }
 
-/// Whether a token begins at a byte that stands behind `before`.
+/// Whether a token begins at a byte that stands after `before`.
 fn begins(before: u8, byte: u8) -> bool
     ensures { result ≡ begins_token before byte }
 {

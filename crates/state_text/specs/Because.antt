@@ -10,7 +10,7 @@ use Rattle.event_reasons.specs.declared.reason.Reason as reason
 use Rattle.state_text.specs.Called.{data_word_text, numbered_core, numbered_mail}
 
 -- what a reason says of the core or mail of an event: what stands before the words or the lock that it names, these, and what stands
--- behind them
+-- after them
 unfoldable pub reason_before : Reason → List ℕ
 reason_before reason.TheVariants.NoCore = codes "isn't there"
 reason_before reason.TheVariants.Halted = codes "is halted"

@@ -148,7 +148,7 @@ of_lock P lock = space ++ lock_text P.locks lock
 unfoldable pub of_phase : ℕ → List ℕ
 of_phase phase = codes " phase " ++ decimal phase
 
--- what stands behind the word for a message's kind
+-- what follows the word for a message's kind
 abbrev pub message_parts : ProgramParts → Message → List ℕ
 message_parts P (ReadReq word core) = of_word P word.0 ++ of_core core.0
 message_parts P (ReadFwd word core) = of_word P word.0 ++ of_core core.0

@@ -34,7 +34,7 @@ event_head place count = numbered_event place ++ codes " of " ++ decimal count +
 unfoldable pub event_line_text : ProgramParts → ℕ → ℕ → Event → List ℕ
 event_line_text P place count e = event_head place count ++ event_text P e ++ newline
 
--- behind the last event stands none
+-- after the last event stands none
 unfoldable pub end_line : ℕ → ℕ → List ℕ
 end_line place count = event_head place count ++ codes "the document ends" ++ newline
 

@@ -53,7 +53,7 @@ fn push_of_phase(out: &mut Vec<u8>, phase: PhaseId) -> Result<(), Memory>
     push_decimal(out, phase.0)
 }
 
-/// Adds what stands behind the word for a message's kind.
+/// Adds what follows the word for a message's kind.
 fn push_parts(out: &mut Vec<u8>, program: &Program, message: Message) -> Result<(), Memory>
     ensures { OnOk result (out.new.items ≡ out.old.items ++ message_parts program.now message) }
 {

@@ -34,7 +34,7 @@ fn follow(machine: &mut Machine, events: &[Event]) -> Result<u32, Memory>
 }
 
 /// The state before the event of a number, from 0, as text; or before an earlier event, if that is the first that may not come. The
-/// number of all events asks for the state behind the last one. The reason against the event holds, and the events that are listed
+/// number of all events asks for the state after the last one. The reason against the event holds, and the events that are listed
 /// are exactly those that may come.
 ///
 /// The places are those of the program's text: lines and names are taken from them and from the program. The shape has the cores that

@@ -11,7 +11,7 @@ use std::str;
 const MOST_TIMED_EVENTS: usize = 16;
 
 /// An event that came: who made it, its ticks, and which of the run's events handle a mail that was in flight before it and
-/// behind it.
+/// after it.
 #[derive(Drop)]
 struct Came {
     actor: Actor,

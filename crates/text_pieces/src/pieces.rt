@@ -38,7 +38,7 @@ pub fn push_long(out: &mut Vec<u8>, number: u64) -> Result<(), Memory>
     push(out, digits.format(number).as_bytes())
 }
 
-/// Adds a number in decimal digits, behind `-` where it is below 0.
+/// Adds a number in decimal digits, after `-` where it is below 0.
 ///
 /// # Errors
 /// `Memory` where there is no room for them.

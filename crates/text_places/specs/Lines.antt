@@ -13,7 +13,7 @@ abbrev pub numbered_line : List ℕ → ℕ → Option (List ℕ)
 numbered_line text zero = None
 numbered_line text (suc n) = slice_get (cut text) n
 
--- these lines fall into those before a line, the line, and those behind it, and the code word of this number is a word of the line:
+-- these lines fall into those before a line, the line, and those after it, and the code word of this number is a word of the line:
 -- the lines before give `number - part` code words, and the line more than `part`
 pub record IsLineAmong (text : List ℕ) (names : List ℕ → Option Meaning) (lines : List Saying) (number : ℕ) (place : CodePlace) : Type 0 where
   pub before : List Saying

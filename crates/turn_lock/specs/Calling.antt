@@ -21,7 +21,7 @@ module _ {S X E : Type 0} where
   abbrev pub WaitsForTurn : X → ℕ → Me S (View X E) → Type 0
   WaitsForTurn x ticket me = me ≡ (standing x me.0.own me.0.next (Waiting ticket), [])
 
--- The seat has the turn and nothing in its slot, and the desk in the caller's hand has these calls of its pass behind those that the seat knows
+-- The seat has the turn and nothing in its slot, and the desk in the caller's hand has these calls of its pass after those that the seat knows
 pub record InHand {O I U C : Type 0} (content : O → C) (answer : C → I → U) (next : C → I → C) (x : O) (me : Me (Option (Desk O I U)) (View O (Entry O I U))) (more : List (Entry O I U)) (desk : Desk O I U) : Type 0 where
   pub ticket : ℕ
   pub log : List (Entry O I U)

@@ -152,7 +152,7 @@ impl<O: Object> Turn<O> {
     }
 
     // Lets time pass between two looks of a caller that stands in the line with so many before it. Only the next in line looks
-    // again at once, since its turn comes as soon as one call ends; who stands behind it lets others run, and who has three or
+    // again at once, since its turn comes as soon as one call ends; who stands after it lets others run, and who has three or
     // more before it sleeps where the line hasn't moved for long.
     fn pause<R: Wait>(&self, rt: &R, before: u64, served: u64, looks: u32) {
         if before == 1 && looks < SPINS {

@@ -91,7 +91,7 @@ pub record IsPicture (L : Located) (s : TraceShape) (o : ChartOptions) (events :
   pub is : IsChartOf L.program (shape_told L.program s) s.fuel events (range_for o) (numbers_in timing.links.items) o.columns chart
   pub answer : out ≡ made (svg_of chart L)
 
--- the picture would begin behind the run's last event, and the words are refused
+-- the picture would begin after the run's last event, and the words are refused
 pub record IsPastEnd (o : ChartOptions) (events : List Event) (out : Output) : Type 0 where
   pub behind : last_number events < o.first
   pub answer : out ≡ usage

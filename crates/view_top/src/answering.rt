@@ -61,7 +61,7 @@ fn view_made(alloc: Global, view: &View, document: &[u8]) -> Result<Output, Stop
 ///
 /// A document is refused as the mode replay of denovo refuses it, with the same line. In the mode chart the answer is the message chart
 /// of the run, as an SVG text. The events that have rows and the banks that have columns are those that the options ask for, and the
-/// events of the run's longest chain of dependent events, by the options' ticks, are marked. Where the first row would be behind the run's
+/// events of the run's longest chain of dependent events, by the options' ticks, are marked. Where the first row would be after the run's
 /// last event, the words are refused. In the mode account it is the account of the run in the groups and the form that the options ask
 /// for, as a text below the report of the run, which is what the mode run of denovo prints.
 ///

@@ -107,7 +107,7 @@ fn picture(
     Ok(done_with(chart_text(alloc, &chart, text)?))
 }
 
-/// The picture of a run's chart, or the refusal of a picture that would begin behind the run's last event.
+/// The picture of a run's chart, or the refusal of a picture that would begin after the run's last event.
 fn draw(alloc: Global, options: &ChartOptions, kept: KeptRun) -> Result<Output, Memory>
     requires limits { IsChartInRange options.now }
     requires kept { IsViewable kept }

@@ -43,6 +43,6 @@ pub struct AccountOptions {
 /// What the words ask of a state.
 #[derive(Clone, Copy, Debug, PartialEq, Eq)]
 pub struct StateOptions {
-    /// The number of the event, from 0, before which the state is. The number of all events asks for the state behind the last one.
+    /// The number of the event, from 0, before which the state is. The number of all events asks for the state after the last one.
     pub event: u32,
 }

@@ -31,7 +31,7 @@ fn status_at(asked: u32, place: u32) -> ViewStatus
 }
 
 /// The state before the event that the options ask for, or before the first that may not come; or the refusal of a number that is
-/// behind the document's last event.
+/// after the document's last event.
 fn state_in(
     alloc: Global,
     options: &StateOptions,

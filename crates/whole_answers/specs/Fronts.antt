@@ -8,6 +8,6 @@ alike [] ys = []
 alike (x ∷ xs) [] = []
 alike (x ∷ xs) (y ∷ ys) = if x == y then x ∷ alike xs ys else []
 
--- the number of the line in which stands what is behind these bytes, which are the front of an answer; lines are counted from 1
+-- the number of the line in which stands what is after these bytes, which are the front of an answer; lines are counted from 1
 unfoldable pub line_behind : List ℕ → ℕ
 line_behind front = count_by is_newline front + 1

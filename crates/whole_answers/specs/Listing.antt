@@ -1,4 +1,4 @@
--- A listing, explained: its lines are repeated, and behind the line of each code word stands the line of the text that gives the word.
+-- A listing, explained: its lines are repeated, and after the line of each code word stands the line of the text that gives the word.
 use Rattle.std.specs.Prelude.{◌≡◌, ◌≢◌, ℕ, ◌+◌, ◌-◌, ◌<◌, ◌==◌, nat_lt, List, [], ◌∷◌, ◌++◌, codes, length, slice_get, Option, Some, None, if◌then◌else◌}
 use Rattle.src_text.specs.Laws.{ended}
 use Rattle.src_text.specs.Line.{cut}
@@ -27,11 +27,11 @@ abbrev pub code_said : List ℕ → Option CodePlace → List ℕ
 code_said text (Some place) = word_said text place
 code_said text None = []
 
--- what is said behind the line of this number of a listing, from 0, in which the code's lines begin with the line `first`
+-- what is said after the line of this number of a listing, from 0, in which the code's lines begin with the line `first`
 abbrev pub said_of_row : List ℕ → Located → ℕ → ℕ → List ℕ
 said_of_row text l first number = if nat_lt number first then [] else code_said text (slice_get l.places.code (number - first))
 
--- lines from a number on, and what is said behind each
+-- lines from a number on, and what is said after each
 abbrev pub explained_from : List ℕ → Located → ℕ → ℕ → List (List ℕ) → List ℕ
 explained_from text l first number [] = []
 explained_from text l first number (line ∷ lines) = ended line ++ (said_of_row text l first number ++ explained_from text l first (number + 1) lines)

@@ -27,7 +27,7 @@ pub record HasNoShape (answer : List ℕ) (line : ℕ) : Type 0 where
   pub none : NoneStands IsTraceShape shape_line rest
   pub line_is : line ≡ 2
 
--- behind it another text stands, or none
+-- after it another text stands, or none
 pub record HasOtherText (text answer : List ℕ) (line : ℕ) : Type 0 where
   pub shape : TraceShape
   pub fits : IsTraceShape shape
@@ -36,7 +36,7 @@ pub record HasOtherText (text answer : List ℕ) (line : ℕ) : Type 0 where
   pub other : (behind : List ℕ) → rest ≢ source_part text ++ behind
   pub line_is : line ≡ 2 + line_behind (alike rest (source_part text))
 
--- behind the text the line isn't there that says how many events follow
+-- after the text the line isn't there that says how many events follow
 pub record HasNoCount (text answer : List ℕ) (line : ℕ) : Type 0 where
   pub shape : TraceShape
   pub fits : IsTraceShape shape
@@ -52,7 +52,7 @@ pub record HasNoEvent (text answer : List ℕ) (line : ℕ) : Type 0 where
   pub of : broken.head.text ≡ text
   pub line_is : line ≡ 3 + line_behind (source_part text) + number
 
--- bytes stand behind the line of the last event
+-- bytes stand after the line of the last event
 pub record HasBytesBehind (text answer : List ℕ) (line : ℕ) : Type 0 where
   pub more : GoesOn answer
   pub of : more.head.text ≡ text

@@ -16,7 +16,7 @@ pub(crate) fn alike(left: &[u8], right: &[u8]) -> usize
     both
 }
 
-/// The number of the line behind some bytes in front of an answer, from 1.
+/// The number of the line after some bytes in front of an answer, from 1.
 #[tactic(auto, unfolding(crate::specs::Fronts::line_behind))]
 pub(crate) fn line_behind(front: &[u8]) -> usize
     ensures line { result ≡ line_behind front.now }

@@ -69,7 +69,7 @@ fn push_code_said(
     }
 }
 
-/// Adds what is said behind the line of this number, where the code's lines begin with the line `first`.
+/// Adds what is said after the line of this number, where the code's lines begin with the line `first`.
 fn push_said_behind(
     out: &mut Vec<u8>,
     text: &[u8],
@@ -87,7 +87,7 @@ fn push_said_behind(
     push_code_said(out, text, spans, located.places.code_word(number - first))
 }
 
-/// Adds the lines of a listing, which stand there in the answer, and what is said behind each.
+/// Adds the lines of a listing, which stand there in the answer, and what is said after each.
 fn push_lines(
     out: &mut Vec<u8>,
     text: &[u8],
@@ -109,7 +109,7 @@ fn push_lines(
     Ok(())
 }
 
-/// Adds the lines of an answer, which is a listing, and what is said behind each.
+/// Adds the lines of an answer, which is a listing, and what is said after each.
 fn push_explained(
     alloc: Global,
     out: &mut Vec<u8>,
@@ -131,7 +131,7 @@ fn push_explained(
     )
 }
 
-/// Takes an answer that is the listing of a text's program, as the mode list prints it: adds each of its lines, and behind the line of
+/// Takes an answer that is the listing of a text's program, as the mode list prints it: adds each of its lines, and after the line of
 /// a code word the line of the text that gives it.
 ///
 /// Of an answer that isn't the listing, but begins with the listing's first line, the first other line is told. Nothing is said of any

@@ -42,7 +42,7 @@ pub(crate) fn line_spans(alloc: Global, text: &[u8]) -> Result<Sequence<Span>, M
     Ok(spans)
 }
 
-/// Adds a line behind its number.
+/// Adds a line after its number.
 #[tactic(auto, unfolding(place_texts::specs::Texts::quoted))]
 fn push_quoted(out: &mut Vec<u8>, line: u32, bytes: &[u8]) -> Result<(), Memory>
     ensures { OnOk result (out.new.items ≡ out.old.items ++ quoted line bytes.now) }
@@ -59,7 +59,7 @@ fn span_at(spans: &[Span], number: usize) -> Option<Span>
     spans.get(number).copied()
 }
 
-/// Adds the line of this number, from 1, behind its number; nothing where the text has no such line.
+/// Adds the line of this number, from 1, after its number; nothing where the text has no such line.
 pub(crate) fn push_quoted_line(
     out: &mut Vec<u8>,
     text: &[u8],

@@ -6,7 +6,7 @@ ghost use Rattle.run_replay.specs.Document.{IsTraceShape, shape_line};
 use document_parts::field;
 use run_replay::TraceShape;
 
-/// The machine's size and the tasks' fuel whose line stands in front of some bytes, and what stands behind it.
+/// The machine's size and the tasks' fuel whose line stands at the start of some bytes, and what follows it.
 pub(crate) fn read_shape(bytes: &[u8]) -> Option<(TraceShape, &[u8])>
     ensures some { IfSome result (λ f. Stands IsTraceShape shape_line bytes.now f.0 f.1.now) }
     ensures none { IfNone result (NoneStands IsTraceShape shape_line bytes.now) }

@@ -15,7 +15,7 @@ use document_parts::{behind, field, push_source};
 use run_replay::{TraceFault, read_trace};
 use std::alloc::Global;
 
-/// What stands behind the first line of a document, if that is there.
+/// What follows the first line of a document, if that is there.
 #[tactic(auto, unfolding(run_replay::specs::Document::title))]
 fn behind_title(bytes: &[u8]) -> Option<&[u8]>
     ensures some { IfSome result (λ rest. bytes.now ≡ title ++ rest.now) }
@@ -24,7 +24,7 @@ fn behind_title(bytes: &[u8]) -> Option<&[u8]>
     behind(bytes, b"denovo-trace 1\n")
 }
 
-/// A source text behind the number of its bytes.
+/// A source text after the number of its bytes.
 fn source_part(alloc: Global, text: &[u8]) -> Result<Vec<u8>, Memory>
     requires { length text.now ≤ 1048576 }
     ensures { IfOk result (λ part. part.items ≡ source_part text.now) }

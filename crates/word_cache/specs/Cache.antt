@@ -43,7 +43,7 @@ abbrev pub lookup : ℕ → List Pair → Option Entry
 lookup w [] = None
 lookup w (p ∷ ps) = if is_of w p then Some p.1 else lookup w ps
 
--- no two pairs are of one word: behind a pair none is of its word
+-- no two pairs are of one word: after a pair none is of its word
 abbrev pub AreDifferent : List Pair → Type 0
 AreDifferent [] = Unit {0}
 AreDifferent (p ∷ ps) = (lookup p.0.0 ps ≡ None) × AreDifferent ps

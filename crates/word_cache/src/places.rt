@@ -36,7 +36,7 @@ pub(crate) fn find_word(row: &Row, sets: u32, ways: u32, word: WordId) -> Found
     let mut own: Option<usize> = None;
     let mut free: Option<usize> = None;
 
-    // goes on where the pair is found: an exit that depends on the word costs more than the places behind it
+    // goes on where the pair is found: an exit that depends on the word costs more than the places after it
     for index in start..start + ways as usize {
         if row.has_word(index, word) {
             own = Some(index);

@@ -87,7 +87,7 @@ starting_code =
     ++ line (codes "la s0, b")
     ++ line (codes "la s1, a")
 
--- word t1 of the one region becomes the sum of the same word of the other and the next; behind the last stands the first
+-- word t1 of the one region becomes the sum of the same word of the other and the next; after the last stands the first
 unfoldable pub adding_loop : List ℕ
 adding_loop =
     line (codes "mv t1, a0")

@@ -1,7 +1,7 @@
 //! The text of a work of a chosen size, for the machine to run: three phases of four tasks on two regions, a and b.
 //!
 //! The tasks of the first phase fill a, so that its word i is 3i + 1. Those of the second make each word of b the sum of
-//! the same word of a and the one behind it, and those of the third make each word of a such a sum of words of b. Behind
+//! the same word of a and the one after it, and those of the third make each word of a such a sum of words of b. After
 //! the last word of a region stands its first.
 #![tactic(auto)]
 
