@@ -1,4 +1,4 @@
--- The command: its options, which lists of words it takes, and what they ask for.
+-- The command `denovo`: its options, which command words it takes, and what they ask for.
 use Rattle.std.specs.Prelude.{ℕ, List, codes, bytes_eq, Option, Some, None, option_and_then, if◌then◌else◌}
 use Rattle.std.specs.Int.{IsInRange}
 use Rattle.clap.specs.Walk.{Row, Text, first_of}
@@ -24,7 +24,7 @@ command =
     (number_rule (codes "tick-bank") (codes "10")))
     (number_rule (codes "tick-mail") (codes "5"))
 
--- the mode that a text names
+-- the mode with this name
 abbrev pub mode_named : Text → Option Mode
 mode_named text =
     if bytes_eq text (codes "run") then Some mode.TheVariants.Run
@@ -38,11 +38,11 @@ mode_named text =
     else if bytes_eq text (codes "prove") then Some mode.TheVariants.Prove
     else None
 
--- the mode among the command's values
+-- the mode that the command's values name
 abbrev pub mode_in : List Row → Option Mode
 mode_in rows = option_and_then mode_named (first_of (codes "mode") rows)
 
--- the options that the command's values give, where the mode is one of the nine and each number is in its range
+-- the options that the command's values give, if the mode is one of the nine and each number is in its range
 unfoldable pub options_from : List Row → Option Options
 options_from rows =
     option_and_then (λ (mode : Mode).
@@ -69,7 +69,7 @@ options_from rows =
     (number_in rows (codes "seed") 0 4294967295))
     (mode_in rows)
 
--- the options that these words ask for, where the command takes the words
+-- the options that these words ask for, if the command takes the words
 unfoldable pub options_of : List Text → Option Options
 options_of words = where_taken (faults_in command words) (options_from (values_in command words))
 

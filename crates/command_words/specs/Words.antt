@@ -1,4 +1,4 @@
--- A command whose options have one value each: its options, what is wrong with words, and the values that they give.
+-- A command whose options have one value each: its options, what is wrong with command words, and the values that they give.
 use Rattle.std.specs.Prelude.{ℕ, pos, true, List, [], ◌∷◌, Option, Some, None, option_and_then}
 use Rattle.clap.specs.Walk.{Row, Rule, Text, one_of}
 use Rattle.clap.specs.Simple.{App, new_rule, matches_of, on_top}
@@ -8,7 +8,7 @@ use Rattle.clap.specs.declared.builder.action.ArgAction.TheVariants.{Set}
 use Rattle.clap.specs.declared.builder.value_parser.ValueParser.TheVariants as parser
 use Rattle.command_words.specs.Numbers.{if_within, number_in_text}
 
--- an option with one value, and its value where it isn't given
+-- an option with one value, and its default
 abbrev pub text_rule : Text → Text → Rule
 text_rule name default =
     record (new_rule name) { long = Some name; action = Some Set; defaults = default ∷ [] }
@@ -17,22 +17,22 @@ text_rule name default =
 abbrev pub number_rule : Text → Text → Rule
 number_rule name default = record (text_rule name default) { parser = Some (parser.Signed (pos 0) (pos 4294967295)) }
 
--- the command's name isn't among its words, and it has no flag for help or its version
+-- the command without options; its own name isn't among its words, and it has no flags for help and version
 abbrev pub bare : App → App
 bare = on_top (λ s. record s { no_binary_name = true; disable_help_flag = true; disable_version_flag = true })
 
--- what is wrong with these words as words of a command, and the values that they give its options
+-- what is wrong with these words as words of a command, and the values that they give to its options
 unfoldable pub faults_in : App → List Text → Kinds
 faults_in command words = fault_of command words
 
 unfoldable pub values_in : App → List Text → List Row
 values_in command words = matches_of command words
 
--- the value of an option among a command's values, where it is a number from low to high
+-- the value of an option, if it is a number from low to high
 abbrev pub number_in : List Row → Text → ℕ → ℕ → Option ℕ
 number_in rows name low high = option_and_then (if_within low high) (option_and_then number_in_text (one_of name rows))
 
--- what is asked for, where the words have no fault
+-- what is asked for, if the words have no fault
 abbrev pub where_taken : {O : Type 0} → Kinds → Option O → Option O
 where_taken [] asked = asked
 where_taken (k ∷ ks) asked = None

@@ -1,5 +1,5 @@
-//! The words of the command `denovo`: which lists of words it takes, and what they ask for. What another command needs to take its
-//! own options in the same way is public.
+//! The command words of `denovo`: which it takes, and what they ask for. The calls with which another command takes its own
+//! options in the same way are public.
 #![tactic(auto)]
 
 mod command;

@@ -1,31 +1,31 @@
 /// What the program does with a text (this project's profile).
 #[derive(Clone, Copy, Debug, PartialEq, Eq)]
 pub enum Mode {
-    /// Runs the program of the text on the cores, and prints its answer and the run's record.
+    /// Runs the program of the text on the cores. Prints its answer, the grants of locks and the counts of events.
     Run,
-    /// Runs the generated text of a size instead of reading one, and prints a summary.
+    /// Generates a text of the given size instead of reading one, and runs it. Prints a summary.
     Work,
-    /// Assembles and checks the text, and prints how much of what it has.
+    /// Assembles and checks the text. Prints how many code words, regions, locks, phases and so on it has.
     Check,
-    /// Assembles the text, and prints the program as a text again.
+    /// Assembles the text. Prints the program as a source text.
     List,
-    /// Runs the program of the text on one flat memory, and prints its answer and the grants of locks.
+    /// Runs the program of the text on one flat memory with one thread. Prints its answer and the grants of locks.
     Flat,
-    /// Runs the program of the text on the cores, and prints the document of the run: the text, the machine's size and the events.
+    /// Runs the program of the text on the cores. Prints the document of the run: the machine's size, the text and the events.
     Trace,
-    /// Takes the text as the document of a run, makes its events once more, and prints the answer and the run's record.
+    /// Takes the input as the document of a run, and makes its events again. Prints what the mode run prints of that run.
     Replay,
-    /// Runs the program of the text on the cores, and prints a summary and the longest chain of dependent events.
+    /// Runs the program of the text on the cores. Prints a summary and the longest chain of dependent events.
     Time,
-    /// Says whether any run of the program of the text may reach outside its declared effects.
+    /// Says whether some run of the program may access a word outside the declared effects.
     Prove,
 }
 
-/// What the command's words ask for. A mode leaves options unused that it has no use for.
+/// What the command words ask for. A mode ignores the options that it has no use for.
 #[derive(Clone, Copy, Debug, PartialEq, Eq)]
 pub struct Options {
     pub mode: Mode,
-    /// The seed of the schedule.
+    /// The seed of the generator that picks the events. It has no effect with more than one worker.
     pub seed: u32,
     /// Host threads, from 1 to 16.
     pub workers: u32,
@@ -39,10 +39,10 @@ pub struct Options {
     pub fuel: u32,
     /// The size of the generated text, from 1 to 128.
     pub size: u32,
-    /// Ticks of a core's own event, from 1 to 1,000,000.
+    /// Ticks of each event that a core makes by itself, from 1 to 1,000,000.
     pub tick_core: u32,
-    /// Ticks of a bank's event, from 1 to 1,000,000.
+    /// Ticks of each event in which a bank handles a mail, from 1 to 1,000,000.
     pub tick_bank: u32,
-    /// Ticks of each other event, from 1 to 1,000,000.
+    /// Ticks of every other event, from 1 to 1,000,000.
     pub tick_mail: u32,
 }

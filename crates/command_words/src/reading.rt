@@ -9,7 +9,7 @@ use crate::words::{WordsFault, matches_by, number};
 use clap::ArgMatches;
 use std::alloc::Global;
 
-/// The mode of this name.
+/// The mode with this name.
 fn named(text: &str) -> Option<Mode>
     ensures { result ≡ mode_named text.now }
 {
@@ -44,7 +44,7 @@ fn mode(matches: &ArgMatches<'_>) -> Option<Mode>
     }
 }
 
-/// The options that the values give, where the mode is one of the nine and each number is in its range.
+/// The options that the values give, if the mode is one of the nine and each number is in its range.
 #[tactic(auto, unfolding(crate::specs::Command::options_from))]
 fn options(matches: &ArgMatches<'_>) -> Option<Options>
     ensures value { result ≡ options_from (rows_of (found_of matches.now)) }
@@ -65,14 +65,14 @@ fn options(matches: &ArgMatches<'_>) -> Option<Options>
     })
 }
 
-/// What the command's words ask for; the program's own name isn't among them.
+/// What the command words ask for. The program's own name isn't among them.
 ///
-/// The command has the options `--mode`, `--seed`, `--workers`, `--banks`, `--sets`, `--ways`, `--fuel`, `--size`, `--tick-core`,
-/// `--tick-bank` and `--tick-mail`, each with one value, and no other words; `Options` has their ranges. An option may be
-/// written as `--seed 7` or `--seed=7`, and stands once at most; what isn't given is run, 1, 1, 4, 64, 4, 32768, 4, 1, 10 and 5.
+/// The options are `--mode`, `--seed`, `--workers`, `--banks`, `--sets`, `--ways`, `--fuel`, `--size`, `--tick-core`,
+/// `--tick-bank` and `--tick-mail`. Each has one value, whose range stands in `Options`, and may be given once at most, as
+/// `--seed 7` or `--seed=7`. The defaults are run, 1, 1, 4, 64, 4, 32768, 4, 1, 10 and 5. No other words are taken.
 ///
 /// # Errors
-/// `Usage` where the words aren't the command's, `Memory` where there is no room to read them.
+/// `Usage` if the command doesn't take the words, `Memory` if there is no room to read them.
 #[tactic(auto, unfolding(crate::specs::Command::options_of), using(crate::proofs::Commands::is_free, crate::proofs::Commands::not_taken))]
 pub fn read_words(alloc: Global, words: &[String]) -> Result<Options, WordsFault>
     ensures taken { IfOk result (λ options. options_of (map string_bytes words.now) ≡ Some options) }

@@ -10,10 +10,10 @@ use clap::{Arg, ArgAction, ArgMatches, Command};
 use std::alloc::{AllocError, Global};
 use thiserror::Error;
 
-/// Why words are refused.
+/// Why command words are refused.
 #[derive(Clone, Copy, Debug, PartialEq, Eq, Error)]
 pub enum WordsFault {
-    /// They aren't words of the command.
+    /// The command doesn't take them.
     #[error("not words of the command")]
     Usage,
     /// There is no room to read them.
@@ -31,7 +31,7 @@ impl From<AllocError> for WordsFault {
     }
 }
 
-/// The option `--name` with one value, and the value that it has where it isn't given.
+/// The option `--name` with one value, and its default.
 pub fn text_option<'a>(alloc: Global, name: &'a str, default: &'a str) -> Arg<'a>
     ensures rule { rule_of result ≡ text_rule name.now default.now }
     ensures local { result.global ≡ false }
@@ -42,7 +42,7 @@ pub fn text_option<'a>(alloc: Global, name: &'a str, default: &'a str) -> Arg<'a
         .default_value(default)
 }
 
-/// The option `--name` whose value is a number of 32 bits, and the value that it has where it isn't given.
+/// The option `--name` whose value is a number of 32 bits, and its default.
 pub fn number_option<'a>(alloc: Global, name: &'a str, default: &'a str) -> Arg<'a>
     ensures rule { rule_of result ≡ number_rule name.now default.now }
     ensures local { result.global ≡ false }
@@ -50,7 +50,7 @@ pub fn number_option<'a>(alloc: Global, name: &'a str, default: &'a str) -> Arg<
     text_option(alloc, name, default).value_parser(clap::value_parser!(u32))
 }
 
-/// The command of this name without options; it has no flag for help or its version, and its name isn't among its words.
+/// The command of this name without options. It has no flags for help and version, and its own name isn't among its words.
 pub fn bare_command<'a>(alloc: Global, name: &'a str) -> Command<'a>
     ensures { app_of result ≡ bare (new_app name.now) }
 {
@@ -60,10 +60,10 @@ pub fn bare_command<'a>(alloc: Global, name: &'a str) -> Command<'a>
         .disable_version_flag(true)
 }
 
-/// The command with one option more.
+/// The command with one more option.
 ///
 /// # Errors
-/// An `AllocError` where there is no room for the option.
+/// An `AllocError` if there is no room for the option.
 pub fn with_option<'a>(command: Command<'a>, option: Arg<'a>) -> Result<Command<'a>, AllocError>
     requires { option.global ≡ false }
     ensures { IfOk result (λ made. app_of made ≡ with_rule (app_of command.entry) (rule_of option.entry)) }
@@ -71,10 +71,10 @@ pub fn with_option<'a>(command: Command<'a>, option: Arg<'a>) -> Result<Command<
     command.arg(option)
 }
 
-/// The values that the words give the command's options.
+/// The values that the words give to the command's options.
 ///
 /// # Errors
-/// `Usage` where the command doesn't take the words, `Memory` where there is no room to read them.
+/// `Usage` if the command doesn't take the words, `Memory` if there is no room to read them.
 pub fn matches_by<'a>(
     command: Command<'a>,
     words: &'a [String],
@@ -93,14 +93,14 @@ pub fn matches_by<'a>(
     }
 }
 
-/// The number that an option's text writes.
+/// The number that the value of an option writes.
 fn number_of(matches: &ArgMatches<'_>, name: &str) -> Option<u32>
     ensures { result ≡ option_and_then number_in_text (one_of name.now (rows_of (found_of matches.now))) }
 {
     matches.get_one::<u32>(name)
 }
 
-/// The number of an option, where it is from `low` to `high`, both ends included.
+/// The number that is an option's value, if it is from `low` to `high`, both included.
 pub fn number(matches: &ArgMatches<'_>, name: &str, low: u32, high: u32) -> Option<u32>
     ensures value { result ≡ number_in (rows_of (found_of matches.now)) name.now low high }
     ensures within { (n : _) → result ≡ Some n → IsInRange low high n }

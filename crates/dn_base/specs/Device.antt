@@ -1,7 +1,7 @@
--- A device of the outside, as contracts see it.
+-- A source or sink over a device of the host, as contracts see it.
 use Rattle.std.specs.Prelude.{ℕ}
 
--- the reader or writer within, and how many faults there were
+-- the reader or writer inside, and how many of its calls have failed
 pub record HostDevice (D : Type 0) : Type 0 where
   pub inner : D
   pub faults : ℕ

@@ -1,8 +1,8 @@
--- What a text and a sink in memory are, as contracts see them.
+-- The source and the sink in memory, as contracts see them.
 use Rattle.std.specs.Prelude.{ℕ, ◌+◌, Bool, List, min}
 
--- a text that is given a few bytes at a time: the bytes that are left, how many bytes a call gives at most,
--- the numbers of the calls that fail, how many calls were made, and how many of them failed
+-- a source in memory: the bytes that are left, how many bytes a read gives at most, the numbers of the calls that fail, how
+-- many calls were made, and how many of them failed
 pub record GivenText : Type 0 where
   pub left : List ℕ
   pub per_read : ℕ
@@ -10,9 +10,8 @@ pub record GivenText : Type 0 where
   pub calls : ℕ
   pub faults : ℕ
 
--- bytes that were taken a few at a time: those that are held, whether all of them were flushed, the room for all, how many a
--- call takes at most,
--- the numbers of the calls that fail, how many calls were made, and how many faults there were
+-- a sink in memory: the bytes that it took, whether all of them were flushed, how many it has room for, how many a write takes
+-- at most, the numbers of the calls that fail, how many calls were made, and how many of them failed
 pub record TakenBytes : Type 0 where
   pub held : List ℕ
   pub flushed : Bool
@@ -22,6 +21,6 @@ pub record TakenBytes : Type 0 where
   pub calls : ℕ
   pub faults : ℕ
 
--- one call more; the count stands still at its greatest value
+-- one call more; the count stays at its greatest value
 abbrev pub one_more : ℕ → ℕ
 one_more calls = min (calls + 1) 18446744073709551615

@@ -1,6 +1,6 @@
 ghost use Rattle.std.specs.Prelude.{◌↔◌, IsTrue, Contains};
 
-/// Whether the numbers list this call.
+/// Whether the number of this call is in the list.
 pub(crate) fn lists(numbers: &[u32], call: u64) -> bool
     ensures { IsTrue result ↔ Contains numbers.now call }
 {

@@ -1,8 +1,9 @@
 ghost use Rattle.std.specs.Prelude.{◌≡◌, ◌<◌, ◌/◌, ◌%◌};
 
-/// The remainder of a number in a division by another, which isn't 0.
+/// The remainder of a division. The divisor isn't 0.
 ///
-/// Banks and sets are mostly powers of two: a mask then does, at far less cost than a division.
+/// Numbers of banks and of sets are mostly powers of two. For these a mask gives the remainder, which is much cheaper than a
+/// division.
 #[inline(always)]
 pub fn remainder(number: u32, divisor: u32) -> u32
     requires { 0 < divisor }
@@ -15,7 +16,7 @@ pub fn remainder(number: u32, divisor: u32) -> u32
     }
 }
 
-/// The quotient of a number by another, which isn't 0, rounded down. Where the divisor is a power of two, a shift does.
+/// The quotient of a division, rounded down. The divisor isn't 0. For a power of two a shift gives it.
 #[inline(always)]
 pub fn quotient(number: u32, divisor: u32) -> u32
     requires { 0 < divisor }

@@ -1,10 +1,10 @@
 use std::alloc::{AllocError, AllocFailed};
 
-/// A device failed: nothing was taken or given by the call that says so.
+/// A call of a device failed. It moved no bytes.
 #[derive(Clone, Copy, Debug, PartialEq, Eq)]
 pub struct Failed;
 
-/// There was no memory. What was lent is as before the call, unless the call says otherwise.
+/// There wasn't enough memory. Borrowed values are as before the call, unless the call says otherwise.
 #[derive(Clone, Copy, Debug, PartialEq, Eq)]
 pub struct Memory;
 

@@ -18,7 +18,7 @@ pub struct LockId(pub u32);
 #[derive(Clone, Copy, Debug, PartialEq, Eq, PartialOrd, Ord)]
 pub struct PhaseId(pub u32);
 
-/// A core was granted a lock in a phase.
+/// A grant of a lock: the phase, the core that got it, and the lock.
 #[derive(Clone, Copy, Debug, PartialEq, Eq)]
 pub struct Grant {
     pub phase: PhaseId,
@@ -35,7 +35,7 @@ pub struct LoadSeen {
 
 /// The size of a simulated machine: how many cores and banks it has, and how many sets and ways each core's cache has.
 ///
-/// A plain value. The calls that take a shape ask for 1 to 16 cores, 1 to 16 banks, 1 to 256 sets and 1 to 16 ways.
+/// A plain value. The calls that take a shape require 1 to 16 cores, 1 to 16 banks, 1 to 256 sets and 1 to 16 ways.
 #[derive(Clone, Copy, Debug, PartialEq, Eq)]
 pub struct Shape {
     pub cores: u32,

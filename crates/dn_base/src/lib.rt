@@ -1,5 +1,5 @@
-//! What every crate of denovo stands on: the ids of a machine's parts, the answers of the program, lists that
-//! contracts can compare, and the program's outside (where text comes from, where it goes, and the gate of a bank's turn).
+//! What all crates of denovo use: the ids of a machine's parts, the statuses of the program, lists that contracts can compare,
+//! and the traits of its input and output: where text comes from, where it goes, and what is called inside a bank's turn.
 #![tactic(auto)]
 
 mod calls;

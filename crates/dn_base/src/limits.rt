@@ -1,13 +1,14 @@
-//! Limits that more than one crate names, each once.
+//! Limits that several crates share (this project's profile).
 
-/// The most bytes of a program's text.
+/// The greatest length of a program's text, in bytes.
 pub const MOST_OF_TEXT: usize = 1_048_576;
 
-/// The most bytes of a document, which the mode trace writes and the mode replay reads.
+/// The greatest length of a document, in bytes. The mode trace writes documents, and the mode replay reads them.
 pub const MOST_OF_DOCUMENT: usize = 536_870_912;
 
-/// The most cores of a machine.
+/// The greatest number of cores of a machine.
 pub const MOST_CORES: usize = 16;
 
-/// The most events of a run: so many the laws of the machine allow the greatest program.
+/// The greatest number of events of a run. It follows from the limits of programs and fuel: 12 for each instruction and each
+/// task, and 3 for each core in each phase.
 pub const MOST_EVENTS: usize = 25_169_664;

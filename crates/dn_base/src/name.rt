@@ -4,7 +4,7 @@ use crate::failure::Memory;
 use std::alloc::Global;
 use std::marker::Model;
 
-/// A declared name of a program: its bytes, which a contract sees as a list of numbers.
+/// A name that a program declares: its bytes, which contracts see as a list of numbers.
 #[derive(Clone, Debug, Drop)]
 pub struct Name {
     bytes: Vec<u8>,

@@ -8,18 +8,19 @@ use crate::ids::BankId;
 
 /// Where the program's text comes from.
 ///
-/// `content` is what is left to read, where the source tells it; `faults` is a count of failures that never falls.
+/// `content` is the bytes that are left to read, or None for a source that doesn't tell them. `faults` counts the calls that
+/// failed. It never falls.
 pub trait Source {
     ghost content: { Self → Option (List ℕ) };
 
     ghost faults: { Self → ℕ };
 
-    /// Hands over the next bytes, at most as many as `buf` has room for, and says how many. The count of faults then stays.
+    /// Copies the next bytes into `buf`, at most as many as it has room for, and returns their number.
     ///
-    /// No byte into a `buf` with room is the end of the text.
+    /// 0 for a `buf` that has room says that the text is at its end.
     ///
     /// # Errors
-    /// `Failed` only where the count of faults rose; no byte is then taken.
+    /// Each `Failed` raises the count of faults, up to its greatest value. No byte is taken then.
     fn read(&mut self, buf: &mut [u8]) -> Result<usize, Failed>
         ensures within { IfOk result (λ count. count ≤ length buf.old) }
         ensures bytes { ReadConsumes (content self.old) (content self.new) result buf.new }
@@ -30,8 +31,8 @@ pub trait Source {
 
 /// Where the program's output goes.
 ///
-/// `content` is what was written, where the sink tells it; `flushed` is whether all of that has been handed on, where the sink
-/// tells it; `faults` is a count of failures that never falls.
+/// `content` is the bytes that were written, and `flushed` whether all of them have been flushed. Each is None for a sink that
+/// doesn't tell it. `faults` counts the calls that failed. It never falls.
 pub trait Sink {
     ghost content: { Self → Option (List ℕ) };
 
@@ -39,11 +40,11 @@ pub trait Sink {
 
     ghost faults: { Self → ℕ };
 
-    /// Takes the first bytes of `buf`, and says how many: at least one where there is one. They are then to be flushed; the
-    /// count of faults stays.
+    /// Takes bytes from the start of `buf`, and returns their number. It takes at least one, unless `buf` is empty. They are
+    /// flushed by the next call of `flush`.
     ///
     /// # Errors
-    /// `Failed` only where the count of faults rose; no byte is then taken.
+    /// Each `Failed` raises the count of faults, up to its greatest value. No byte is taken then.
     fn write(&mut self, buf: &[u8]) -> Result<usize, Failed>
         ensures within { IfOk result (λ count. count ≤ length buf.now) }
         ensures some { IfOk result (λ count. 0 < length buf.now → 0 < count) }
@@ -53,10 +54,10 @@ pub trait Sink {
         ensures faultless { OnOk result (faults self.new ≡ faults self.old) }
         ensures failed { IsErr result → Rose (faults self.old) (faults self.new) };
 
-    /// Hands on what was taken; changes no bytes. The count of faults stays.
+    /// Flushes the bytes that were taken. It takes none itself.
     ///
     /// # Errors
-    /// `Failed` only where the count of faults rose.
+    /// Each `Failed` raises the count of faults, up to its greatest value.
     fn flush(&mut self) -> Result<(), Failed>
         ensures bytes { Keeps (content self.old) (content self.new) }
         ensures handed_on { Flushes (flushed self.old) (flushed self.new) result }
@@ -65,15 +66,15 @@ pub trait Sink {
         ensures failed { IsErr result → Rose (faults self.old) (faults self.new) };
 }
 
-/// What is called inside the turn of a bank. It has no meaning of its own: tests watch host workers through it.
+/// What a worker calls inside the turn of a bank. It has no effect on a run: tests use it to watch host workers.
 ///
-/// A gate whose type holds a handle with the bound `Wait` may wait; any other one returns.
+/// Only a gate whose type holds a handle with the bound `Wait` may wait. Any other gate returns.
 pub trait Gate {
-    /// Worker `worker` is inside the turn of this bank.
+    /// Called when the worker of this number is inside the turn of this bank.
     fn at(&self, worker: u32, bank: BankId);
 }
 
-/// The gate that is always open.
+/// A gate that does nothing.
 #[derive(Clone, Copy, Debug, PartialEq, Eq)]
 pub struct OpenGate;
 

@@ -5,8 +5,8 @@ use crate::failure::Memory;
 use std::alloc::Global;
 use std::marker::Model;
 
-/// A growing row of values that contracts see as a plain list, so that two structs that hold one are equal where
-/// their lists are, whatever room or allocator the rows have.
+/// A growing list. Contracts see it as a plain list. So two structs that hold sequences are equal if the lists are equal,
+/// whatever the capacity or allocator.
 #[derive(Clone, Debug, Drop)]
 pub struct Sequence<T> {
     items: Vec<T>,
@@ -57,7 +57,7 @@ impl<T> Sequence<T> {
         self.items.as_slice()
     }
 
-    /// The value at this place, or None past the end.
+    /// The value at this index, or None from the length on.
     pub fn get(&self, index: usize) -> Option<&T>
         ensures { option_copied result ≡ slice_get self.now index }
     {
@@ -67,7 +67,7 @@ impl<T> Sequence<T> {
     /// Adds a value at the end.
     ///
     /// # Errors
-    /// `Memory` where there is no room; the sequence is then as before.
+    /// `Memory` if there is no room. The sequence is then as before.
     pub fn push(&mut self, value: T) -> Result<(), Memory>
     where
         T: Drop,
@@ -78,7 +78,7 @@ impl<T> Sequence<T> {
         Ok(())
     }
 
-    /// Puts a value in the place of the one at `index`.
+    /// Replaces the value at `index`, which is below the length.
     pub fn set(&mut self, index: usize, value: T)
     where
         T: Drop,

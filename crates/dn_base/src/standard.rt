@@ -8,7 +8,7 @@ use crate::outside::{Sink, Source};
 use std::io::{Read, Write};
 use std::marker::Model;
 
-/// A `Read` as the program's source. It counts each error of the reader as a fault.
+/// A `Read` as a source. It counts each error of the reader as a fault.
 #[derive(Drop)]
 pub struct StdSource<R> {
     inner: R,
@@ -55,8 +55,8 @@ impl<R: Read> Source for StdSource<R> {
     }
 }
 
-/// A `Write` as the program's sink. It counts each error of the writer as a fault, and a write that takes nothing of a
-/// piece that isn't empty.
+/// A `Write` as a sink. It counts each error of the writer as a fault, and also a write that takes nothing of a buffer that
+/// isn't empty.
 #[derive(Drop)]
 pub struct StdSink<W> {
     inner: W,

@@ -1,30 +1,30 @@
 ghost use Rattle.std.specs.Prelude.{◌≡◌};
 ghost use Rattle.dn_base.specs.Status.{exit_code_of, status_of};
 
-/// How the program ended, as its exit code tells it.
+/// How the program ended. The exit code is the status's number (this project's profile).
 #[derive(Clone, Copy, Debug, PartialEq, Eq)]
 pub enum Status {
-    /// Every task finished, or the mode asked for no run.
+    /// Every task finished, or the mode runs no program.
     Done = 0,
-    /// The command words aren't of the command.
+    /// The command doesn't take the command words.
     Usage = 1,
-    /// The text was refused.
+    /// The text, or the document of a run, was refused.
     SourceRefused = 2,
-    /// A task trapped, and none waits for a lock.
+    /// A task trapped, and no task waits for a lock.
     Trapped = 3,
-    /// A task ran out of fuel, and none trapped or waits for a lock.
+    /// A task ran out of fuel. No task trapped or waits for a lock.
     Fuel = 4,
-    /// A task waits for a lock forever.
+    /// A task waits for a lock that never becomes free.
     Stuck = 5,
-    /// The source failed.
+    /// A read of the source failed.
     ReadFault = 6,
-    /// The sink failed.
+    /// A write to the sink, or its flush, failed.
     WriteFault = 7,
-    /// There was no memory.
+    /// There wasn't enough memory.
     Memory = 8,
 }
 
-/// How a run ended: Stuck if a started task waits for a lock, else Trapped if one trapped, else Fuel if one ran out
+/// How a run ended. It is Stuck if a started task waits for a lock, else Trapped if a task trapped, else Fuel if a task ran out
 /// of fuel, else Done.
 #[derive(Clone, Copy, Debug, PartialEq, Eq)]
 pub enum Outcome {

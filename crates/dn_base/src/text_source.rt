@@ -9,7 +9,7 @@ use crate::outside::Source;
 use std::alloc::Global;
 use std::marker::Model;
 
-/// A text in memory that is given a few bytes at a time, and whose reads fail where a test wants them to.
+/// A text in memory as a source, for tests. It gives a few bytes at a time, and fails at the calls that the test chooses.
 #[derive(Debug, Drop)]
 pub struct TextSource {
     bytes: Vec<u8>,
@@ -38,11 +38,11 @@ impl Model for TextSource {
 }
 
 impl TextSource {
-    /// A source of these bytes that gives at most `per_read` bytes at a time, and fails at the calls of `read` whose
-    /// numbers, from 0, are listed.
+    /// A source of these bytes. A read gives at most `per_read` bytes. The calls whose numbers are in `fail_at`, counted from
+    /// 0, fail.
     ///
     /// # Errors
-    /// `Memory` where there is no room for the bytes and the list.
+    /// `Memory` if there is no room for the bytes and the list.
     pub fn new(
         alloc: Global,
         bytes: &[u8],
@@ -68,7 +68,7 @@ impl TextSource {
         })
     }
 
-    /// Copies the next bytes to the front of `buf`, and says how many.
+    /// Copies the next bytes to the start of `buf`, and returns their number.
     fn give(&mut self, buf: &mut [u8]) -> usize
         ensures count { result ≡ min self.old.per_read (min (length buf.old) (length self.old.left)) }
         ensures state { self.new ≡ record self.old { left = drop result self.old.left } }

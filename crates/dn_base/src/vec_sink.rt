@@ -10,8 +10,7 @@ use crate::outside::Sink;
 use std::alloc::Global;
 use std::marker::Model;
 
-/// Bytes in memory that take what is written a few bytes at a time, with a fixed room, and whose calls fail where a
-/// test wants them to.
+/// A sink in memory, for tests. It has a fixed room, takes a few bytes at a time, and fails at the calls that the test chooses.
 #[derive(Debug, Drop)]
 pub struct VecSink {
     bytes: Vec<u8>,
@@ -43,11 +42,11 @@ impl Model for VecSink {
 }
 
 impl VecSink {
-    /// A sink with room for `room` bytes, taken now, that takes at most `per_write` bytes at a time, and fails at the
-    /// calls whose numbers, from 0, are listed; writes and flushes count alike.
+    /// A sink with room for `room` bytes, which are allocated now. A write takes at most `per_write` bytes. The calls whose
+    /// numbers are in `fail_at` fail; writes and flushes are counted together, from 0.
     ///
     /// # Errors
-    /// `Memory` where there is no room for so many bytes or the list.
+    /// `Memory` if there is no room for the bytes and the list.
     pub fn new(alloc: Global, room: u32, per_write: u32, fail_at: &[u32]) -> Result<VecSink, Memory>
         requires { 0 < per_write }
         ensures { IfOk result (λ sink. sink ≡ record {
@@ -78,7 +77,7 @@ impl VecSink {
         self.bytes.as_slice()
     }
 
-    /// Counts a call, and says whether it is one of those that fail; one that fails is counted as a fault.
+    /// Counts a call. It is an error if the call is one of those that fail, which counts as a fault.
     fn counted(&mut self) -> Result<(), Failed>
         ensures counted { self.old.faults ≤ self.new.faults }
         ensures failed { IsErr result → Rose self.old.faults self.new.faults }
@@ -96,7 +95,7 @@ impl VecSink {
         Ok(())
     }
 
-    /// Takes these bytes, for which there is room. Where there are some, they are to be flushed.
+    /// Appends these bytes, for which there is room. If there are any, the sink isn't flushed then.
     fn append(&mut self, bytes: &[u8])
         requires { length self.old.held + length bytes.now ≤ self.old.room }
         ensures { self.new ≡ record self.old {

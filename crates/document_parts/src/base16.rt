@@ -6,7 +6,7 @@ ghost use Rattle.document_parts.specs.Base16.{IsWord, digit_of, seems_word};
 use crate::numbers::behind;
 use text_pieces::to_hexadecimal;
 
-/// The value below 16 of a byte that is a digit of base 16, in lower case; of another byte some value below 16.
+/// The value of a digit of base 16 in lower case, which is below 16. For any other byte some value below 16.
 fn value_of(byte: u8) -> u32
     ensures value { result ≡ digit_of byte }
     ensures below { result < 16 }
@@ -18,7 +18,7 @@ fn value_of(byte: u8) -> u32
     }
 }
 
-/// The number that the third to the tenth byte say, if they are hexadecimal digits.
+/// The number whose digits are the third to the tenth byte, if these are hexadecimal digits.
 #[tactic(auto, unfolding(crate::specs::Base16::seems_word))]
 fn number_of(bytes: &[u8]) -> u32
     requires { 10 ≤ length bytes.now }
@@ -34,8 +34,8 @@ fn number_of(bytes: &[u8]) -> u32
         + value_of(bytes[9])
 }
 
-/// The number that stands at the start of some bytes in `0x` and eight hexadecimal digits, with `a` to `f` in lower case; and what
-/// stands after it.
+/// Reads a number at the start of some bytes, written as `0x` and eight hexadecimal digits with `a` to `f` in lower case. Gives
+/// the number and the bytes after it. None if no such number stands there.
 pub fn hexadecimal(bytes: &[u8]) -> Option<(u32, &[u8])>
     ensures some { IfSome result (λ f. Stands IsWord hexadecimal_of bytes.now f.0 f.1.now) }
     ensures none { IfNone result (NoneStands IsWord hexadecimal_of bytes.now) }

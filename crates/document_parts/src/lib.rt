@@ -1,5 +1,5 @@
-//! The parts of which documents are made: numbers between a name and an end, a source text after the number of its bytes, and
-//! numbers in base 16. Each is found at the start of some bytes, with what follows it, or isn't there; and it is written.
+//! The parts of which documents are made: numbers between a name and an end, source texts after their number of bytes, and
+//! numbers in base 16. One call reads a part at the start of some bytes, and gives the bytes after it. Another one writes it.
 #![tactic(auto)]
 
 mod base16;

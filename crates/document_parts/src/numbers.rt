@@ -4,7 +4,7 @@ ghost use Rattle.std.specs.Char.{is_ascii_digit};
 ghost use Rattle.std.specs.Str.Parse.{digits_value};
 ghost use Rattle.document_parts.specs.Field.{field, IsFrom, Stands, NoneStands};
 
-/// The value of the digits at the start of some bytes, if it is at most `most`, and how many digits there are.
+/// The value of the digits at the start of some bytes, if it is at most `most`, and the number of digits.
 fn digits(bytes: &[u8], most: u32) -> Option<(u32, usize)>
     ensures value { IfSome result (λ d. (d.0 ≡ digits_value 10 (take_while is_ascii_digit bytes.now)) × (d.0 ≤ most)) }
     ensures length { IfSome result (λ d. d.1 ≡ length (take_while is_ascii_digit bytes.now)) }
@@ -25,7 +25,7 @@ fn digits(bytes: &[u8], most: u32) -> Option<(u32, usize)>
     Some((value as u32, length))
 }
 
-/// Whether so many digits at the start of some bytes are at least one, and don't begin with 0 unless they are 0 alone.
+/// Whether the number of digits is at least one, and the first isn't 0 unless it is the only one.
 fn is_plain(bytes: &[u8], count: usize) -> bool
     requires { count ≤ length bytes.now }
     ensures { IsTrue result ↔ ((0 < count) × (slice_index bytes.now 0 ≡ 48 → count ≡ 1)) }
@@ -33,7 +33,7 @@ fn is_plain(bytes: &[u8], count: usize) -> bool
     count == 1 || (count > 1 && bytes[0] != b'0')
 }
 
-/// What follows a text, if that stands at the start of some bytes.
+/// The bytes after `text`, if some bytes begin with it; else None.
 pub fn behind<'a>(bytes: &'a [u8], text: &[u8]) -> Option<&'a [u8]>
     ensures some { IfSome result (λ rest. bytes.now ≡ text.now ++ rest.now) }
     ensures none { IfNone result ((rest : List ℕ) → bytes.now ≢ text.now ++ rest) }
@@ -41,8 +41,8 @@ pub fn behind<'a>(bytes: &'a [u8], text: &[u8]) -> Option<&'a [u8]>
     bytes.strip_prefix(text)
 }
 
-/// The number from `least` to `most` that stands at the start of some bytes in decimal digits without leading zeros, with no digit
-/// after it; and what stands there.
+/// Reads a number from `least` to `most` at the start of some bytes, in decimal digits without leading zeros. Gives it and the
+/// bytes after it, which don't begin with a digit.
 fn numeral(bytes: &[u8], least: u32, most: u32) -> Option<(u32, &[u8])>
     ensures within { IfSome result (λ f. IsFrom least most f.0) }
     ensures parts { IfSome result (λ f. bytes.now ≡ decimal f.0 ++ f.1.now) }
@@ -56,8 +56,8 @@ fn numeral(bytes: &[u8], least: u32, most: u32) -> Option<(u32, &[u8])>
     Some((value, &bytes[count..]))
 }
 
-/// The number from `least` to `most` that stands at the start of some bytes between a name and the byte `end`, which is no digit, in
-/// decimal digits without leading zeros; and what follows it.
+/// Reads a field at the start of some bytes: a name, a number from `least` to `most` in decimal digits without leading zeros,
+/// and the byte `end`, which is no digit. Gives the number and the bytes after the field. None if no such field stands there.
 pub fn field<'a>(
     bytes: &'a [u8],
     name: &[u8],

@@ -5,8 +5,8 @@ ghost use Rattle.document_parts.specs.Parts.{IsSource, source_part};
 use crate::numbers::{behind, field};
 use dn_base::MOST_OF_TEXT;
 
-/// The source text of at most 1,048,576 bytes that stands at the start of some bytes after the number of its bytes, and what stands
-/// after it.
+/// Reads a source text at the start of some bytes: a line with its number of bytes, at most 1,048,576, then the text and a
+/// newline. Gives the text and the bytes after it. None if no such text stands there.
 pub fn source(bytes: &[u8]) -> Option<(&[u8], &[u8])>
     ensures some { IfSome result (λ f. Stands IsSource source_part bytes.now f.0.now f.1.now) }
     ensures none { IfNone result (NoneStands IsSource source_part bytes.now) }

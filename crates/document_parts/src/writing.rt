@@ -5,7 +5,7 @@ ghost use Rattle.document_parts.specs.Parts.{source_part};
 use dn_base::Memory;
 use text_pieces::{push, push_decimal};
 
-/// Adds a number in decimal digits between a name and an end.
+/// Appends a number in decimal digits between a name and an end.
 ///
 /// # Errors
 /// `Memory` where there is no room for them.
@@ -18,7 +18,7 @@ pub fn push_field(out: &mut Vec<u8>, name: &[u8], number: u32, end: &[u8]) -> Re
     push(out, end)
 }
 
-/// Adds a source text of at most 1,048,576 bytes after the number of its bytes.
+/// Appends a source text of at most 1,048,576 bytes after the line with its number of bytes.
 ///
 /// # Errors
 /// `Memory` where there is no room for it.

@@ -9,6 +9,6 @@ use Rattle.dn_base.specs.Status.{exit_code_of}
 abbrev pub IsCodeOf : Status → ExitCode → Type 0
 IsCodeOf status code = exit_status code ≡ exit_code_of status
 
--- the exit code of some status, or 9: the runtime couldn't give the command words
+-- the exit code of some status, or 9 if the runtime couldn't give the command words
 abbrev pub IsExitCode : ExitCode → Type 0
 IsExitCode code = ((status : Status) × IsCodeOf status code) ⊎ (exit_status code ≡ 9)

@@ -1,4 +1,5 @@
-//! What every program does with its outside: it reads a text whole, writes an answer whole, and ends with an exit code.
+//! The input and output of every program here: it reads a text as a whole, writes an answer as a whole, and ends with an exit
+//! code.
 #![tactic(auto)]
 
 mod reading;

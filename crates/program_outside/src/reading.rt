@@ -5,12 +5,12 @@ ghost use Rattle.program_outside.specs.declared.reading.ReadError.TheVariants.{N
 use dn_base::{Failed, Memory, Source};
 use std::alloc::{AllocError, Global};
 
-/// Why there is no text.
+/// Why no text was read.
 #[derive(Clone, Copy, Debug, PartialEq, Eq)]
 pub enum ReadError {
-    /// The source failed.
+    /// A read of the source failed.
     Failed,
-    /// There was no memory.
+    /// There wasn't enough memory.
     NoMemory,
 }
 
@@ -30,11 +30,11 @@ impl From<Memory> for ReadError {
     }
 }
 
-/// How many bytes a text may have while its room grows by doubling.
+/// Up to this length in bytes the room for a text grows by doubling.
 const MOST_DOUBLED: usize = 1 << 24;
 
-/// Makes room after a text that is read. Once it is large, it gets the room for all that may come at once: so it is never copied when
-/// it is larger than 32 MiB, and the most that a text and its copy take together is little more than the most that may come.
+/// Makes room for more of a text. A large text gets all the room that it may need at once. So no text larger than 32 MiB is
+/// copied, and a text and its copy never need much more memory than the longest text does.
 fn make_room(text: &mut Vec<u8>, most: usize) -> Result<(), AllocError>
     requires { length text.old.items ≤ most }
     ensures items { text.new.items ≡ text.old.items }
@@ -46,12 +46,12 @@ fn make_room(text: &mut Vec<u8>, most: usize) -> Result<(), AllocError>
     text.reserve_exact(most - text.len())
 }
 
-/// Reads the source to its end, or until so many bytes have come. No more are taken, also where there is no text.
+/// Reads the source to its end, or until `most` bytes have come. It takes no more than these, also if it fails.
 ///
-/// It takes room for the text by doubling up to 32 MiB, and for a larger one the room for `most` bytes at once.
+/// The room for the text grows by doubling up to 32 MiB. A larger text gets the room for `most` bytes at once.
 ///
 /// # Errors
-/// `Failed` where the source fails, and `NoMemory` where there is no room for the text; no read has then failed.
+/// `Failed` if a read fails. `NoMemory` if there is no room for the text; no read has failed then.
 pub fn read_text<S: Source>(
     alloc: Global,
     most: usize,

@@ -6,7 +6,7 @@ use dn_base::{Failed, Sink};
 /// Writes all of these bytes and flushes the sink.
 ///
 /// # Errors
-/// `Failed` where the sink fails: it has taken a prefix of the bytes.
+/// `Failed` if a call of the sink fails. The sink has then taken a prefix of the bytes.
 pub fn write_text<K: Sink>(sink: &mut K, bytes: &[u8]) -> Result<(), Failed>
     ensures ok { OnOk result (Delivered (sink_at (K.content sink.old) (K.flushed sink.old) (K.faults sink.old)) (sink_at (K.content sink.new) (K.flushed sink.new) (K.faults sink.new)) bytes.now) }
     ensures front { TookFront (sink_at (K.content sink.old) (K.flushed sink.old) (K.faults sink.old)) (sink_at (K.content sink.new) (K.flushed sink.new) (K.faults sink.new)) bytes.now }

@@ -1,6 +1,6 @@
 //! The pieces that printed texts are made of: bytes, and numbers in decimal digits or in eight hexadecimal digits.
 //!
-//! Each call adds its piece at the end of a text. What an `Err` leaves there is no part of a text: the caller drops it.
+//! Each call appends its piece to a text. After an `Err` the text may have part of the piece, and the caller drops it.
 #![tactic(auto)]
 
 mod pieces;

@@ -5,7 +5,7 @@ ghost use Rattle.text_pieces.specs.Pieces.{hexadecimal, hex_digit};
 use dn_base::Memory;
 use itoa::Buffer;
 
-/// Adds bytes at the end.
+/// Appends bytes.
 ///
 /// # Errors
 /// `Memory` where there is no room for them.
@@ -16,7 +16,7 @@ pub fn push(out: &mut Vec<u8>, bytes: &[u8]) -> Result<(), Memory>
     Ok(())
 }
 
-/// Adds a number in decimal digits.
+/// Appends a number in decimal digits.
 ///
 /// # Errors
 /// `Memory` where there is no room for them.
@@ -27,7 +27,7 @@ pub fn push_decimal(out: &mut Vec<u8>, number: u32) -> Result<(), Memory>
     push(out, digits.format(number).as_bytes())
 }
 
-/// Adds a number of 64 bits in decimal digits.
+/// Appends a number of 64 bits in decimal digits.
 ///
 /// # Errors
 /// `Memory` where there is no room for them.
@@ -38,7 +38,7 @@ pub fn push_long(out: &mut Vec<u8>, number: u64) -> Result<(), Memory>
     push(out, digits.format(number).as_bytes())
 }
 
-/// Adds a number in decimal digits, after `-` where it is below 0.
+/// Appends a number in decimal digits, after `-` if it is below 0.
 ///
 /// # Errors
 /// `Memory` where there is no room for them.
@@ -61,7 +61,7 @@ fn digit(value: u32) -> u8
     }
 }
 
-/// A number in `0x` and eight hexadecimal digits, with `a` to `f` in lower case.
+/// A number as `0x` and eight hexadecimal digits, with `a` to `f` in lower case.
 #[tactic(auto, unfolding(crate::specs::Pieces::hexadecimal))]
 pub fn to_hexadecimal(number: u32) -> [u8; 10]
     ensures { result ≡ hexadecimal number }
@@ -80,7 +80,7 @@ pub fn to_hexadecimal(number: u32) -> [u8; 10]
     ]
 }
 
-/// Adds a number in `0x` and eight hexadecimal digits, with `a` to `f` in lower case.
+/// Appends a number as `0x` and eight hexadecimal digits, with `a` to `f` in lower case.
 ///
 /// # Errors
 /// `Memory` where there is no room for them.
