@@ -1,4 +1,4 @@
-//! What the numbers of an account come to, for whoever reasons about them.
+//! What the numbers of an account come to, for proofs about them.
 //! These are laws: functions that do nothing, whose contracts say it.
 ghost use Rattle.std.specs.Prelude.{◌≡◌, ℕ, ◌<◌, ◌++◌, true, List, length, slice_get, Some};
 ghost use Rattle.std.specs.List.{All};

@@ -1,4 +1,4 @@
-//! What the histories of a bank, of the keeper and of a port come to, for whoever reasons about a hall.
+//! What the histories of a bank, of the keeper and of a port come to, for proofs about a hall.
 //! These are laws: functions that do nothing, whose contracts say it.
 ghost use Rattle.std.specs.Prelude.{◌≡◌, ◌≤◌, ◌<◌, ◌^◌, ◌+◌, ◌*◌, ℕ, List, length, filter_map, map, sum_by, All};
 ghost use Rattle.message_net.specs.declared.actor.Actor.TheVariants.{Keeper};

@@ -12,7 +12,7 @@ use Rattle.claim_document.specs.declared.claim.Claim.{Claim}
 use Rattle.claim_document.specs.Claim.{IsClaimDocument}
 use Rattle.referee_top.specs.Answers.{HasTold}
 
--- what is claimed is true of a complete run of the machine of this setting, whoever picked its events: of its grants, of the loads of
+-- what is claimed is true of a complete run of the machine of this setting, however its events were picked: of its grants, of the loads of
 -- each task, where loads are claimed, and of the answer that is printed
 pub record IsClaimOf (C : Setting) (events : List Event) (c : Claim) : Type 0 where
   -- the setting is that of a checked program, and plans, a shape and fuel of it

@@ -49,7 +49,7 @@ pub record HasFewEvents (S : State) (events : List Event) : Type 0 where
   pub few : length events ≤ 12 * (retired_in S events + started_in S events) + 3 * (S.setting.shape.cores * length S.setting.program.phases)
   pub most : length events ≤ 25169664
 
--- the record of a run from a state on, that of the initial machine of a setting, whoever picked its events
+-- the record of a run from a state on, that of the initial machine of a setting, however its events were picked
 pub record IsCoherentRun (S : State) (r : RunRecord) : Type 0 where
   -- each event may come in its turn, and after them none
   pub complete : IsCompleteRun S r.events

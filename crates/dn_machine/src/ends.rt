@@ -6,7 +6,7 @@ use dn_base::CoreId;
 use rv_core::TaskEnd;
 
 impl Content {
-    /// How the task of a core stands; None where it has none, and where it goes on and waits for no lock.
+    /// How the task of a core stands; None where it has none, and where it hasn't ended and waits for no lock.
     #[inline(always)]
     pub(crate) fn task_end(&self, core: CoreId) -> Option<TaskEnd>
         ensures { result ≡ end_at (slice_get self.now.nodes.items core.0) }

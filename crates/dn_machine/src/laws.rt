@@ -1,4 +1,4 @@
-//! What a pick tells of a state, and what a complete run comes to, for whoever reasons about runs.
+//! What a pick tells of a state, and what a complete run comes to, for proofs about runs.
 //! These are laws: functions that do nothing, whose contracts say it.
 ghost use Rattle.std.specs.Prelude.{◌≡◌, ◌↔◌, ℕ, List, Some, None, true};
 ghost use Rattle.message_net.specs.declared.event.Event.{Event};

@@ -159,7 +159,7 @@ impl Machine {
         self.content.word(&context, word)
     }
 
-    /// How the task of a core stands; None where it has none, and where it goes on and waits for no lock.
+    /// How the task of a core stands; None where it has none, and where it hasn't ended and waits for no lock.
     pub fn task_end(&self, core: CoreId) -> Option<TaskEnd>
         ensures { result ≡ end_at (slice_get self.now.state.nodes core.0) }
     {

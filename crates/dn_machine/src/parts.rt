@@ -20,7 +20,7 @@ use registration_protocol::Node;
 use registry_bank::Bank;
 use rv_core::{DecodedCode, DecodedProgram};
 
-/// The parts of a machine, for whoever lets its actors work side by side: nodes and banks stand in the order of their numbers,
+/// The parts of a machine, for callers that let its actors work side by side: nodes and banks stand in the order of their numbers,
 /// and `next` has the number of each actor's next mail, of cores, then banks, then the keeper. `code` is the program's code words,
 /// decoded.
 #[derive(Drop)]

@@ -1,4 +1,4 @@
-//! What a machine's state is, part by part, for whoever shows it. No call takes memory, and none takes the machine apart.
+//! What a machine's state is, part by part, for programs that show it. No call takes memory, and none takes the machine apart.
 ghost use Rattle.std.specs.Prelude.{◌≡◌, ◌<◌, Some, slice_get};
 ghost use Rattle.registration_protocol.specs.Fit.{Fits};
 

@@ -75,7 +75,7 @@ IsRefusedDocument document line =
 abbrev pub IsRunOfText : Options → List ℕ → RunRecord → Type 0
 IsRunOfText o text r = HasChecked text (λ P. IsRunFor P o r)
 
--- the same, whoever picked its events
+-- the same, however its events were picked
 abbrev pub HasAnyRun : Options → List ℕ → RunRecord → Type 0
 HasAnyRun o text r = HasChecked text (λ P. IsAnyRunFor P o r)
 

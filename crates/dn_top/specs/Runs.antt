@@ -73,7 +73,7 @@ pub record IsRunOf (P : ProgramParts) (shape : Shape) (fuel : ℕ) (r : RunRecor
   -- without locks the program and the fuel alone decide how it ends
   pub lock_free : P.locks ≡ [] → IsWithoutGrants P fuel r
 
--- r is a run on the machine that the options ask for, whoever picked its events
+-- r is a run on the machine that the options ask for, however its events were picked
 abbrev pub IsAnyRunFor : ProgramParts → Options → RunRecord → Type 0
 IsAnyRunFor P o r = IsRunOf P (shape_for P o) o.fuel r
 

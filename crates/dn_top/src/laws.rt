@@ -21,13 +21,13 @@ pub fn an_outcome_has_its_cause()
         → flat_end P fuel grants ≡ Some end → IsCaused P fuel grants end.ending }
 {}
 
-/// Without locks every run of a program ends alike, whatever the shape of the machine and whoever picked the events.
+/// Without locks every run of a program ends alike, whatever the shape of the machine and however the events were picked.
 pub fn without_locks_every_run_ends_alike()
     ensures { (P : ProgramParts) (machine other : Shape) (fuel : ℕ) (r s : RunRecord) → IsRunOf P machine fuel r → IsRunOf P other fuel s → P.locks ≡ [] → r.ending ≡ s.ending }
 {}
 
 /// Once the mode prove has answered a text with `proved inside`, no run of its program has a task that ended by a trap outside:
-/// whatever the shape of the machine and the fuel, and whoever picked the events, a seed, workers or a document.
+/// whatever the shape of the machine and the fuel, and however the events were picked, a seed, workers or a document.
 pub fn a_proven_text_runs_inside()
     ensures { (text : List ℕ) (P : ProgramParts) (machine : Shape) (fuel : ℕ) (r : RunRecord) → IsProvedInside text → source text ≡ Ok P → IsRunOf P machine fuel r → IsTameRun r }
 {}

@@ -29,7 +29,7 @@ reason_if test r = if test then Some r else None
 abbrev pub inactive_reason : NodeParts → Option Reason
 inactive_reason n = option_or (reason_if n.halted reason.TheVariants.Halted) (reason_if n.arrived reason.TheVariants.Arrived)
 
--- an instruction and an eviction are those of a task that goes on
+-- an instruction and an eviction are those of a task that hasn't ended
 abbrev pub task_reason : Option TaskState → Option Reason
 task_reason None = Some reason.TheVariants.NoTask
 task_reason (Some t) = reason_if (is_some t.end) reason.TheVariants.TaskEnded

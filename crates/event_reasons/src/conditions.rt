@@ -24,7 +24,7 @@ pub(crate) fn inactive(node: &Node) -> Option<Reason>
     }
 }
 
-/// Why a core has no task that goes on.
+/// Why a core has no running task.
 pub(crate) fn without_task(node: &Node) -> Option<Reason>
     ensures { result ≡ task_reason node.now.task }
 {

@@ -31,7 +31,7 @@ pub(crate) fn node_of(machine: &Machine, core: CoreId) -> Option<&Node>
     }
 }
 
-/// What a node's next instruction needs; None where the node has no task that goes on.
+/// What a node's next instruction needs; None where the node has no running task.
 fn need(machine: &Machine, node: &Node) -> Option<Need>
     ensures { result ≡ need_now machine.now.state.setting node.now }
 {

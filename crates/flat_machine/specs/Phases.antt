@@ -47,7 +47,7 @@ abbrev pub finished_by : Option End → Bool
 finished_by (Some cause.TheVariants.Finished) = true
 finished_by _ = false
 
--- whether a task has ended, and neither by a trap nor for want of fuel
+-- whether a task has ended, and not by a trap or because it ran out of fuel
 abbrev pub has_finished : Started → Bool
 has_finished r = finished_by r.state.end
 

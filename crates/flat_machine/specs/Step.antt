@@ -77,7 +77,7 @@ room_by fuel retired (Some by) = 0
 abbrev pub room : ℕ → Started → ℕ
 room fuel r = room_by fuel r.state.retired r.state.end
 
--- a task that goes on has retired no more instructions than it may
+-- a task that hasn't ended has retired no more instructions than it may
 abbrev pub IsWithin : ℕ → Started → Type 0
 IsWithin fuel r = r.state.end ≡ None → r.state.retired ≤ fuel
 

@@ -1,4 +1,4 @@
-//! What segments and lists of grants come to, for whoever compares other machines with the flat one.
+//! What segments and lists of grants come to, for proofs that compare other machines with the flat one.
 //! These are laws: functions that do nothing, whose contracts say it.
 ghost use Rattle.std.specs.Prelude.{◌≡◌, ◌≢◌, ◌<◌, ◌↔◌, ℕ, List, [], ◌∷◌, ◌++◌, length, slice_get, slice_index, Some, None, true, false};
 ghost use Rattle.std.specs.List.{All, AllPairs, Any, IsAmong};

@@ -55,7 +55,7 @@ impl Running<'_> {
         }
     }
 
-    /// Whether the task has ended, and neither by a trap nor for want of fuel.
+    /// Whether the task has ended, and not by a trap or because it ran out of fuel.
     pub(crate) fn has_finished(&self) -> bool
         ensures { result ≡ has_finished self.now }
     {

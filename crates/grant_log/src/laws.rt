@@ -1,4 +1,4 @@
-//! What the definitions come to, for whoever reasons about logs.
+//! What the definitions come to, for proofs about logs.
 //! These are laws: functions that do nothing, whose contracts say it.
 ghost use Rattle.std.specs.Prelude.{◌≡◌, ◌+◌, ◌<◌, if◌then◌else◌, List, length, filter, flat_map, sum};
 ghost use Rattle.message_net.specs.declared.actor.Actor.{Actor};

@@ -102,7 +102,7 @@ abbrev pub IsInPhase : State → ℕ → NodeParts → Type 0
 IsInPhase S c n =
     (n.phase ≡ S.keeper.phase) ⊎ (n.phase + 1 ≡ S.keeper.phase) × (n.arrived ≡ true) × (1 ≤ flight S (is_go_to c))
 
--- a node that has arrived awaits nothing: no entry is pending, it waits for nothing, and it has no task that goes on
+-- a node that has arrived awaits nothing: no entry is pending, it waits for nothing, and it has no running task
 pub record HasArrived (n : NodeParts) : Type 0 where
   pub settled : is_settled n ≡ true
   pub waiting : n.waiting ≡ wait.TheVariants.None

@@ -76,7 +76,7 @@ memory_after memory S [] = memory
 memory_after memory S (e ∷ es) = memory_after (with_store (store_in S e) memory) (next S e) es
 
 -- how the task of a core in a phase stands: None where the core's node isn't in that phase, where it has no task, and
--- where its task goes on and waits for no lock
+-- where its task hasn't ended and waits for no lock
 abbrev pub end_in_phase : ℕ → Option NodeParts → Option TaskEnd
 end_in_phase phase None = None
 end_in_phase phase (Some n) = if n.phase == phase then end_of n n.task else None

@@ -1,4 +1,4 @@
-//! What holds of the machine's states and runs, for whoever reasons about them.
+//! What holds of the machine's states and runs, for proofs about them.
 //! These are laws: functions that do nothing, whose contracts say it.
 ghost use Rattle.std.specs.Prelude.{◌≡◌, ℕ, ◌+◌, ◌*◌, ◌≤◌, true, List, length, Some, slice_index};
 ghost use Rattle.dn_base.specs.declared.ids.LoadSeen.{LoadSeen};

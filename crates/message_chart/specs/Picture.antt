@@ -43,7 +43,7 @@ style = codes "<style>.denovo-ground{fill:#fff}.denovo-odd{fill:#edf2f7}.denovo-
 unfoldable pub legend : List ℕ
 legend = codes "<circle class='denovo-event' cx='14' cy='60' r='4'/><text class='denovo-text' x='26' y='64'>event</text>\n<circle class='denovo-ring' cx='84' cy='60' r='8'/><text class='denovo-text' x='98' y='64'>on the longest chain</text>\n<path class='denovo-mail' d='M254 60H282'/><path class='denovo-head' d='M290 60l-8 -4v8z'/><text class='denovo-text' x='296' y='64'>mail</text>\n<path class='denovo-cut' d='M342 60H370'/><path class='denovo-head' d='M378 60l-8 -4v8z'/><text class='denovo-text' x='384' y='64'>mail from before or to behind the range</text>\n<text class='denovo-text denovo-change' x='682' y='64'>word: before &#8594; after</text>\n"
 
--- what columns, rows and arrows are, for whoever can't see the picture
+-- what columns, rows and arrows are, for readers who can't see the picture
 unfoldable pub meaning : List ℕ
 meaning = codes ". Each column is a core, a bank, or the keeper of the phases. Each row is an event of the run, in their order. An arrow leads from the event that sent a mail to the event that handles it."
 

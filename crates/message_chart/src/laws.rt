@@ -1,4 +1,4 @@
-//! What holds of every picture, for whoever reasons about charts.
+//! What holds of every picture, for proofs about charts.
 //! These are laws: functions that do nothing, whose contracts say it.
 ghost use Rattle.std.specs.Prelude.{◌≡◌, ◌+◌, ◌*◌, ◌≤◌};
 ghost use Rattle.message_net.specs.declared.actor.Actor.{Actor};

@@ -1,4 +1,4 @@
-//! What posts and takes come to, for whoever reasons about mails in flight.
+//! What posts and takes come to, for proofs about mails in flight.
 //! These are laws: functions that do nothing, whose contracts say it.
 ghost use Rattle.std.specs.Prelude.{◌≡◌, ℕ, ◌+◌, ◌<◌, ◌≤◌, ◌↔◌, Bool, List, length, slice_get, Some, None, true, sum_by, count_by, IsPermutation};
 ghost use Rattle.std.specs.Ordering.{nat_cmp};

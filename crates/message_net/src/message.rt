@@ -65,7 +65,7 @@ pub enum Message {
         lock: LockId,
         signature: Signature,
     },
-    /// A core has arrived at the barrier; `bad` where its task ended by a trap or by want of fuel.
+    /// A core has arrived at the barrier; `bad` where its task ended by a trap or because it ran out of fuel.
     Arrived {
         core: CoreId,
         bad: bool,

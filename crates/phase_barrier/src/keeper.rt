@@ -148,7 +148,7 @@ impl Keeper {
         }
     }
 
-    /// A core has arrived in the current phase; `bad` where its task ended by a trap or by want of fuel.
+    /// A core has arrived in the current phase; `bad` where its task ended by a trap or because it ran out of fuel.
     ///
     /// The verdict is Wait while a core is missing. Once all have arrived it is Halt where one was bad or no phase follows,
     /// and else Go: the next phase is current then, and nobody has arrived. A core that has arrived already, one that isn't

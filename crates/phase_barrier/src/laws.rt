@@ -1,4 +1,4 @@
-//! What the definitions of an arrival and of the letters come to, for whoever reasons about the barrier.
+//! What the definitions of an arrival and of the letters come to, for proofs about the barrier.
 //! These are laws: functions that do nothing, whose contracts say it.
 ghost use Rattle.std.specs.Prelude.{◌≡◌, ◌≢◌, ℕ, ◌+◌, ◌<◌, ◌≤◌, ◌==◌, ◌&&◌, ◌||◌, Bool, true, false, nat_lt, if◌then◌else◌, length, slice_get, Some, count_by};
 ghost use Rattle.message_net.specs.declared.message.Message.{Message};

@@ -1,4 +1,4 @@
-//! What acquires and releases come to, for whoever reasons about a lock's holder and queue.
+//! What acquires and releases come to, for proofs about a lock's holder and queue.
 //! These are laws: functions that do nothing, whose contracts say it.
 ghost use Rattle.std.specs.Prelude.{◌≡◌, ◌↔◌, ℕ, ◌+◌, ◌<◌, ◌≤◌, ◌==◌, true, if◌then◌else◌, List, length, Some, None};
 ghost use Rattle.std.specs.List.{All};

@@ -1,4 +1,4 @@
-//! What a lock's home holds, for whoever shows it. No call takes memory.
+//! What a lock's home holds, for programs that show it. No call takes memory.
 ghost use Rattle.std.specs.Prelude.{◌≡◌, length, slice_get};
 
 use crate::lock::LockHome;

@@ -1,4 +1,4 @@
--- What the types of a program say beside its being well formed.
+-- What the types of a program guarantee, besides that it is well formed.
 use Rattle.std.specs.Prelude.{ℕ, ◌^◌, ◌<◌, List, [], ◌∷◌}
 use Rattle.std.specs.List.{All}
 use Rattle.region_table.specs.declared.declared.Effects.{Effects}
@@ -11,7 +11,7 @@ abbrev pub AreCodeWords : List ℕ → Type 0
 AreCodeWords [] = Unit {0}
 AreCodeWords (w ∷ ws) = (w < 2 ^ 32) × AreCodeWords ws
 
--- each set of words is the one list of intervals that has them, as every value of the type `WordSet` is
+-- each set of words is canonical, as every value of the type `WordSet` is
 pub record AreCanonical (e : Effects) : Type 0 where
   pub reads : IsCanonical e.reads
   pub writes : IsCanonical e.writes
@@ -24,7 +24,7 @@ pub record IsOfWords (t : TaskDecl) : Type 0 where
   pub arg : t.arg < 2 ^ 32
   pub effects : AreCanonical t.effects
 
--- what the types of a `Program` say beside `IsProgram`: numbers of 32 bits, and canonical sets of words
+-- what the types of a `Program` guarantee besides `IsProgram`: numbers of 32 bits, and canonical sets of words
 pub record HasWords (p : ProgramParts) : Type 0 where
   pub code : AreCodeWords p.code
   pub memory : AreCodeWords p.memory

@@ -4,7 +4,7 @@ use Rattle.region_table.specs.declared.interval.Interval.{Interval}
 use Rattle.region_table.specs.declared.declared.Region.{Region}
 use Rattle.region_table.specs.Plan.{in_region}
 
--- whether some interval begins before the region ends, and ends after the region's start
+-- whether some interval begins before the region ends, and ends after the region begins
 abbrev pub overlaps : List Interval → Region → Bool
 overlaps set r = list_any (λ (i : Interval). nat_lt i.lo (r.start + r.len) && nat_lt r.start i.hi) set
 

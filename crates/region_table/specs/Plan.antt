@@ -12,7 +12,7 @@ use Rattle.region_table.specs.Program.{ProgramParts}
 abbrev pub in_region : Region → ℕ → Bool
 in_region r w = nat_le r.start w && nat_lt w (r.start + r.len)
 
--- whether a task may use a word whatever locks it holds
+-- whether a task may use a word without a lock
 abbrev pub uses_plainly : TaskDecl → ℕ → Bool
 uses_plainly t w = has t.effects.reads w || has t.effects.writes w
 
@@ -21,7 +21,7 @@ abbrev pub task_guards : TaskDecl → ℕ → ℕ → Bool
 task_guards t lock w =
     has (slice_index_or t.effects.guarded_reads lock []) w || has (slice_index_or t.effects.guarded_writes lock []) w
 
--- whether a word is one of the task's writes, or of its guarded writes of some lock
+-- whether a word is one of the task's plain writes, or of its guarded writes under some lock
 abbrev pub task_writes : TaskDecl → ℕ → Bool
 task_writes t w =
     has t.effects.writes w || list_any (λ (set : List Interval). has set w) t.effects.guarded_writes
@@ -38,7 +38,7 @@ phase_writes p w = list_any (λ (t : TaskDecl). task_writes t w) p.tasks
 abbrev pub IsTouched : Phase → Region → Type 0
 IsTouched p r = (v : ℕ) × IsTrue (in_region r v) × IsTrue (phase_writes p v)
 
--- the word lies in a region of which some task of the phase writes some word
+-- the word lies in a region in which some task of the phase writes a word
 abbrev pub IsInTouchedRegion : List Region → Phase → ℕ → Type 0
 IsInTouchedRegion regions p w = Any (λ (r : Region). IsTrue (in_region r w) × IsTouched p r) regions
 

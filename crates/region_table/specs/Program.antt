@@ -6,7 +6,7 @@ use Rattle.region_table.specs.declared.declared.Effects.{Effects}
 use Rattle.region_table.specs.declared.declared.TaskDecl.{TaskDecl}
 use Rattle.region_table.specs.declared.declared.Phase.{Phase}
 
--- what a program is made of: a name is a list of bytes, and a set of words a list of intervals
+-- the parts of a program: a name is a list of bytes, and a set of words a list of intervals
 pub record ProgramParts : Type 0 where
   pub code : List ℕ
   pub memory : List ℕ
@@ -22,7 +22,7 @@ tasks_of phases = flat_map (λ (p : Phase). p.tasks) phases
 abbrev pub names_of : ProgramParts → List (List ℕ)
 names_of p = map (λ (r : Region). r.name) p.regions ++ p.locks
 
--- enough cores for the numbers of these tasks' cores, and at least one
+-- how many cores these tasks need: one more than the highest core number, and at least one
 abbrev pub cores_in : List TaskDecl → ℕ
 cores_in [] = 1
 cores_in (t ∷ ts) = max (t.core.0 + 1) (cores_in ts)
@@ -31,7 +31,7 @@ cores_in (t ∷ ts) = max (t.core.0 + 1) (cores_in ts)
 abbrev pub cores_of : ProgramParts → ℕ
 cores_of p = cores_in (tasks_of p.phases)
 
--- the regions lie one after the other from word `from` on, each has a word, and the last ends before word `end`
+-- the regions are adjacent from word `from` on, none is empty, and the last ends before word `end`
 abbrev pub AreTiled : ℕ → List Region → ℕ → Type 0
 AreTiled from [] end = from ≡ end
 AreTiled from (r ∷ rs) end = (r.start ≡ from) × (0 < r.len) × AreTiled (r.start + r.len) rs end

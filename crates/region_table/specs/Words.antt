@@ -15,7 +15,7 @@ abbrev pub AreApart : ℕ → List Interval → Type 0
 AreApart from [] = Unit {0}
 AreApart from (i ∷ is) = (from ≤ i.lo) × (i.lo < i.hi) × AreApart (i.hi + 1) is
 
--- the intervals rise, none is empty, and none touches another: the one list of intervals that has their words
+-- the intervals rise, none is empty, and no two touch: the only list of intervals of that form with their words
 abbrev pub IsCanonical : List Interval → Type 0
 IsCanonical is = AreApart 0 is
 
@@ -31,7 +31,7 @@ IsCommon a b w = IsTrue (has a w) × IsTrue (has b w)
 abbrev pub Meet : List Interval → List Interval → Type 0
 Meet a b = (w : ℕ) × IsCommon a b w
 
--- the word is the least one that is in both
+-- the word is the least one in both
 pub record IsLeastCommon (a b : List Interval) (w : ℕ) : Type 0 where
   pub common : IsCommon a b w
   pub least : (v : ℕ) → IsCommon a b v → w ≤ v

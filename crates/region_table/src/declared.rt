@@ -9,12 +9,12 @@ pub struct Region {
     pub len: u32,
 }
 
-/// The words that a task declares that it uses.
+/// The words that a task declares to use.
 #[derive(Debug, Drop)]
 pub struct Effects {
-    /// The words that it may load whatever locks it holds.
+    /// The words that it may load, with or without locks.
     pub reads: WordSet,
-    /// The words that it may load and store whatever locks it holds.
+    /// The words that it may load and store, with or without locks.
     pub writes: WordSet,
     /// By the number of a lock, the words that it may load while it holds that lock.
     pub guarded_reads: Sequence<WordSet>,

@@ -1,4 +1,4 @@
-/// The data words from `lo` to before `hi`.
+/// The data words from `lo` up to, but not including, `hi`.
 #[derive(Clone, Copy, Debug, PartialEq, Eq)]
 pub struct Interval {
     pub lo: u32,

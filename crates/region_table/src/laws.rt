@@ -1,5 +1,5 @@
-//! What every program says of its tasks and of the plans of its phases.
-//! These are laws: functions without effect, whose contracts say it.
+//! Laws of programs: what holds of the tasks of every program, and of the plans of its phases. A law is a function without
+//! effect; its contract states the theorem.
 ghost use Rattle.std.specs.Prelude.{◌≡◌, ◌<◌, ℕ, List, [], IsTrue, length, slice_get, slice_index_or, Some};
 ghost use Rattle.std.specs.List.{IsAmong};
 ghost use Rattle.region_table.specs.declared.declared.TaskDecl.{TaskDecl};
@@ -22,8 +22,8 @@ pub fn a_program_is_well_formed(program: &Program)
     let _code = &program.code;
 }
 
-/// The words of a program and the numbers of its tasks have 32 bits, and its sets of words are canonical. It looks at each
-/// set of each task, and takes no memory.
+/// The words of a program and the numbers of its tasks have 32 bits, and its sets of words are canonical. The call goes through
+/// all sets of all tasks, and takes no memory.
 pub fn a_program_has_words(program: &Program)
     ensures { HasWords program.now }
 {
@@ -33,16 +33,16 @@ pub fn a_program_has_words(program: &Program)
     phases_fit(program.phases.as_slice());
 }
 
-/// The task that a program declares for a core in a phase is one of that phase's, and of that core; and each task of a phase
-/// is what the program declares for its core.
+/// The task that a program declares for a core in a phase is a task of that phase and that core. Conversely, each task of a
+/// phase is the one that the program declares for its core.
 pub fn a_core_has_one_task_in_a_phase()
     ensures found { (P : ProgramParts) (phase core : ℕ) (d : TaskDecl) → declared P phase core ≡ Some d → IsDeclaration P phase core d }
     ensures only { (P : ProgramParts) (phase : ℕ) (p : Phase) (d : TaskDecl) → IsProgram P → slice_get P.phases phase ≡ Some p → IsAmong p.tasks d
         → declared P phase d.core.0 ≡ Some d }
 {}
 
-/// The plan of a phase has the words that a task of the phase writes, plainly or under a lock, and by lock those that the lock
-/// guards for a task.
+/// The plan of a phase has the words that a task of the phase writes, plainly or under a lock. For each lock it has the words
+/// that the lock guards for some task.
 pub fn a_plan_has_the_words_of_its_tasks()
     ensures written { (P : ProgramParts) (p : Phase) (plan : PhasePlan) (d : TaskDecl) (w : ℕ) → IsProgram P → IsAmong P.phases p → IsPlan P p plan → IsAmong p.tasks d
         → IsTrue (task_writes d w) → IsTrue (has plan.written w) }

@@ -9,8 +9,8 @@ use crate::interval::Interval;
 use dn_base::{Memory, WordId};
 use std::alloc::Global;
 
-/// Adds the words of an interval that begins no earlier than those in `out`: it joins the last one where the two
-/// touch or overlap, and is added after it otherwise.
+/// Adds the words of an interval that begins no earlier than those in `out`: if it touches or overlaps the last one, the two
+/// become one, else it is appended.
 pub(crate) fn join(out: &mut Vec<Interval>, next: Interval) -> Result<(), Memory>
     requires some { next.lo < next.hi }
     requires canonical { IsCanonical out.old.items }

@@ -34,7 +34,7 @@ fn task_fits(task: &TaskDecl)
     sets_fit(task.effects.guarded_writes.as_slice());
 }
 
-/// The same of each of these tasks.
+/// The same for several tasks.
 fn tasks_fit(tasks: &[TaskDecl])
     ensures { All IsOfWords tasks.now }
 {
@@ -43,7 +43,7 @@ fn tasks_fit(tasks: &[TaskDecl])
     }
 }
 
-/// The same of each task of these phases.
+/// The same for all tasks of these phases.
 pub(crate) fn phases_fit(phases: &[Phase])
     ensures { All IsOfWords (tasks_of phases.now) }
 {

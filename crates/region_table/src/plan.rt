@@ -27,7 +27,7 @@ pub(crate) fn plan_crosses(plan: &PhasePlan) {
     crate::program::crosses(plan);
 }
 
-/// The words of both sets. It gives `words` back where `other` is empty, as most sets by lock are: a union would copy it.
+/// The union of two sets. If `other` is empty, as most sets by lock are, it gives `words` back: a union would copy it.
 fn joined(words: WordSet, other: &WordSet) -> Result<WordSet, Memory>
     ensures { IfOk result (IsUnion words other.now) }
 {
@@ -104,11 +104,11 @@ fn plan_of(alloc: Global, program: &Program, phase: &Phase) -> Result<PhasePlan,
     Ok(PhasePlan { written, guarded })
 }
 
-/// The plans of the program's phases, in their order: for each phase the words of the whole regions in which some task
-/// writes, plainly or under a lock, and for each lock the words that it guards for some task.
+/// The plans of the program's phases, in their order. A plan has the words of all regions in which some task writes, plainly or
+/// under a lock, and for each lock the words that it guards for some task.
 ///
-/// It unites those sets of the tasks that have words, each in the time of the intervals joined so far, and then halves
-/// these intervals once for each region.
+/// The sets of the tasks that aren't empty are united one after the other, each in time proportional to the intervals so far.
+/// Then one binary search for each region finds whether it is written.
 ///
 /// # Errors
 /// `Memory` where there is no room.

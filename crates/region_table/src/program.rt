@@ -7,9 +7,9 @@ use crate::declared::{Phase, Region, TaskDecl};
 use dn_base::{Name, Sequence};
 use std::marker::Model;
 
-/// An assembled program: its code words, its first memory, its regions, locks and phases.
+/// An assembled program: its code words, its initial memory, its regions, locks and phases.
 ///
-/// Every `Program` is well formed: `IsProgram` says what that means, part by part.
+/// Every `Program` is well formed: `IsProgram` lists what that means.
 #[derive(Debug, Drop)]
 pub struct Program {
     /// The code words. Code word `i` has the byte address `0x00001000 + 4i`.
@@ -35,8 +35,8 @@ impl Model for Program {
 }
 
 impl Program {
-    /// How many cores the program needs, from 1 to 16: one above the highest core number of its tasks, and one for a
-    /// program without tasks.
+    /// How many cores the program needs, from 1 to 16: one more than the highest core number of its tasks, or 1 if it has no
+    /// tasks.
     pub fn cores(&self) -> u32
         ensures value { result ≡ cores_of self.now }
         ensures some { 1 ≤ result }
@@ -50,7 +50,7 @@ impl Program {
     }
 }
 
-/// The greater of `most` and what these tasks need: one above the highest core number.
+/// The greater of `most` and the number of cores that these tasks need.
 fn cores_with(tasks: &[TaskDecl], most: u32) -> u32
     requires cores { All (λ (t : TaskDecl). t.core.0 < 16) tasks.now }
     requires some { 1 ≤ most }
@@ -65,7 +65,7 @@ fn cores_with(tasks: &[TaskDecl], most: u32) -> u32
     cores
 }
 
-/// Shows that a value goes from thread to thread, and may be shared.
+/// Compiles only if the type may be sent to another thread and shared with it.
 pub(crate) fn crosses<T: Send + Sync>(_value: &T) {}
 
 /// A program may be sent to another thread, and shared with it. Nobody calls this; the check of its body proves it.

@@ -11,7 +11,7 @@ use crate::words::WordSet;
 use dn_base::Memory;
 use std::alloc::Global;
 
-/// Whether the intervals have a word of the region. The search halves the intervals.
+/// Whether the intervals have a word of the region, by a binary search.
 fn has_word_of(words: &[Interval], region: &Region) -> bool
     requires canonical { IsCanonical words.now }
     requires within { region.now.start + region.now.len ≤ 65536 }

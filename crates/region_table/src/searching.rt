@@ -5,7 +5,7 @@ ghost use Rattle.region_table.specs.Words.{has, IsCanonical};
 
 use crate::interval::Interval;
 
-/// The first interval that ends after the word. The search halves the intervals.
+/// The first interval that ends after the word, by a binary search.
 pub(crate) fn first_past(intervals: &[Interval], word: u32) -> Option<Interval>
     requires { IsCanonical intervals.now }
     ensures { result ≡ find (λ (i : Interval). nat_lt word i.hi) intervals.now }

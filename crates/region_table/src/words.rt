@@ -10,10 +10,10 @@ use dn_base::{Memory, WordId};
 use std::alloc::Global;
 use std::marker::Model;
 
-/// A set of data words, kept as sorted intervals of which none is empty and none touches another.
+/// A set of data words, kept as sorted intervals, none of which is empty and no two of which touch.
 ///
-/// Contracts see the list of its intervals, and `has` tells whether a word is in it. Two sets with the same words have
-/// the same intervals.
+/// Contracts see the list of intervals; `has` tells whether a word is in the set. Two sets with the same words have the same
+/// intervals.
 #[derive(Debug, Drop)]
 pub struct WordSet {
     intervals: Vec<Interval>,
@@ -41,7 +41,7 @@ impl WordSet {
         }
     }
 
-    /// The words from `lo` to before `hi`.
+    /// The words from `lo` up to, but not including, `hi`.
     ///
     /// # Errors
     /// `Memory` where there is no room.
@@ -55,7 +55,7 @@ impl WordSet {
         Ok(WordSet { intervals })
     }
 
-    /// The set of the words of these intervals; takes no memory.
+    /// The set of the words of these intervals, which are canonical. Takes no memory.
     pub(crate) fn of_intervals(intervals: Vec<Interval>) -> WordSet
         requires { IsCanonical intervals.items }
         ensures { result ≡ intervals.items }
@@ -63,7 +63,7 @@ impl WordSet {
         WordSet { intervals }
     }
 
-    /// The words of all these intervals, of which each has a word. Its time grows with their number times its logarithm.
+    /// The union of these intervals, none of which is empty. The time is O(n log n) for n intervals.
     ///
     /// # Errors
     /// `Memory` where there is no room.
@@ -76,7 +76,7 @@ impl WordSet {
         Ok(WordSet { intervals })
     }
 
-    /// The words of either set. Its time grows with the intervals of the two.
+    /// The union of two sets. The time is proportional to the intervals of both.
     ///
     /// # Errors
     /// `Memory` where there is no room.
@@ -88,15 +88,15 @@ impl WordSet {
         Ok(WordSet { intervals })
     }
 
-    /// Whether some word is in both sets. Its time grows with the intervals of the two.
+    /// Whether some word is in both sets. The time is proportional to the intervals of both.
     pub fn meets(&self, other: &WordSet) -> bool
         ensures { IsTrue result ↔ Meet self.now other.now }
     {
         self.least_common(other).is_some()
     }
 
-    /// The least word that is in both sets, or None exactly where they have no word in common. Its time grows with the
-    /// intervals of the two.
+    /// The least word that is in both sets, or None if they have no word in common. The time is proportional to the intervals
+    /// of both.
     pub fn least_common(&self, other: &WordSet) -> Option<WordId>
         ensures some { IfSome result (λ word. IsLeastCommon self.now other.now word.0) }
         ensures none { IfNone result ((w : ℕ) → IsCommon self.now other.now w → ⊥) }
@@ -104,7 +104,7 @@ impl WordSet {
         least_common_word(self.intervals(), other.intervals())
     }
 
-    /// Whether the word is in the set. The search halves the intervals.
+    /// Whether the word is in the set, by a binary search.
     pub fn contains(&self, word: WordId) -> bool
         ensures { result ≡ has self.now word.0 }
     {
@@ -122,7 +122,7 @@ impl WordSet {
         self.intervals.as_slice()
     }
 
-    /// Two sets with the same words are equal: a set of words has one list of intervals alone.
+    /// Two sets with the same words are equal: a set of words has only one list of intervals.
     pub fn one_form()
         ensures { (a b : List Interval) → IsCanonical a → IsCanonical b → ((w : ℕ) → has a w ≡ has b w) → a ≡ b }
     {}

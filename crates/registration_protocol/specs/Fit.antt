@@ -36,7 +36,7 @@ pub record IsContext (C : Setting) : Type 0 where
 abbrev pub HoldsOwn : ℕ → TaskState → Type 0
 HoldsOwn locks t = (lock : ℕ) → is_held t.held lock ≡ true → lock < locks
 
--- a node that waits for a lock has a task that goes on and whose next instruction acquires that lock
+-- a node that waits for a lock has a task that hasn't ended and whose next instruction acquires that lock
 abbrev pub NeedsLock : Option Need → NodeWait → Type 0
 NeedsLock needs (wait.TheVariants.Locking lock) = needs ≡ Some (need.TheVariants.Acquire lock)
 NeedsLock needs _ = Unit {0}
@@ -62,7 +62,7 @@ pub record Fits (C : Setting) (n : NodeParts) : Type 0 where
   pub ways : n.cache.ways ≡ C.shape.ways
   pub waiting : NeedsLock (need_now C n) n.waiting
 
--- a need is that of the next instruction of a task that goes on
+-- a need is that of the next instruction of a task that hasn't ended
 pub record IsNeed (C : Setting) (d : TaskDecl) (asked : Need) (t : TaskState) : Type 0 where
   pub going : t.end ≡ None
   pub fuel : t.retired ≤ C.fuel

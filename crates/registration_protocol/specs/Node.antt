@@ -42,7 +42,7 @@ abbrev pub is_running : Option TaskState → Bool
 is_running None = false
 is_running (Some t) = not (is_some t.end)
 
--- what the next instruction of a task that goes on needs
+-- what the next instruction of a task that hasn't ended needs
 abbrev pub need_by : Setting → Option TaskDecl → TaskState → Option Need
 need_by C None t = None
 need_by C (Some d) t = Some (need_of C.program d C.fuel t)

@@ -147,7 +147,7 @@ instr_row C n d t (need.TheVariants.Acquire lock) =
 instr_row C n d t (need.TheVariants.Release lock) =
     sends_only (record n { task = Some (advanced C.program t) }) (to_home C.shape.banks lock.0 (Release lock (me n) (signature_of n lock.0)))
 
--- an instruction of a task that goes on
+-- an instruction of a task that hasn't ended
 abbrev pub instr_by : Setting → NodeParts → Option TaskDecl → Option TaskState → Option Need → NodeParts × Step
 instr_by C n (Some d) (Some t) (Some need) = instr_row C n d t need
 instr_by C n _ _ _ = silent n
@@ -180,7 +180,7 @@ evicts C n word _ = (n, None)
 abbrev pub evicted : Setting → NodeParts → WordId → NodeParts × Option Outgoing
 evicted C n word = evicts C n word (entry_of n word.0)
 
--- whether a task ended by a trap or for want of fuel
+-- whether a task ended by a trap or because it ran out of fuel
 abbrev pub ended_badly : Option End → Bool
 ended_badly None = false
 ended_badly (Some cause.TheVariants.Finished) = false
@@ -220,7 +220,7 @@ pub record IsStill (C : Setting) (n : NodeParts) : Type 0 where
   pub evict : (w : ℕ) → may_evict C n w ≡ false
   pub arrive : may_arrive n ≡ false
 
--- how a task stands: how it ended, or which lock it waits for; None where it goes on and waits for none
+-- how a task stands: how it ended, or which lock it waits for; None where it hasn't ended and waits for none
 abbrev pub shown_by : Option End → NodeWait → Option EndShown
 shown_by (Some by) waiting = Some (shown_end by)
 shown_by None (wait.TheVariants.Locking lock) = Some (shown.TheVariants.Waits lock)

@@ -1,4 +1,4 @@
-//! What a node's events come to, for whoever reasons about the machine.
+//! What a node's events come to, for proofs about the machine.
 //! These are laws: functions that do nothing, whose contracts say it.
 ghost use Rattle.std.specs.Prelude.{◌≡◌, ℕ, ◌+◌, ◌<◌, ◌==◌, Bool, Option, Some, None, IfSome, true, false, length, slice_get, if◌then◌else◌};
 ghost use Rattle.dn_base.specs.declared.ids.CoreId.{CoreId};

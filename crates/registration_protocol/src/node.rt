@@ -149,7 +149,7 @@ impl Node {
         !(self.halted || self.arrived) && !self.is_running() && self.is_settled()
     }
 
-    /// What the next instruction of the node's task needs; None where the node has no task that goes on.
+    /// What the next instruction of the node's task needs; None where the node has no running task.
     #[inline(always)]
     pub(crate) fn need(&self, context: &Context<'_>) -> Option<Need>
         ensures { result ≡ need_now (setting context.now) self.now }

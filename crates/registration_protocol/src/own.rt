@@ -12,7 +12,7 @@ use message_net::{Event, Outgoing};
 use rv_core::{End, EndShown, TaskEnd};
 use word_cache::Entry;
 
-/// How a task stands that ended so, or that goes on at a node with this wait; None where it goes on and waits for no lock.
+/// How a task stands that ended so, or that goes on at a node with this wait; None where it hasn't ended and waits for no lock.
 fn shown(end: Option<End>, wait: NodeWait) -> Option<EndShown>
     ensures { result ≡ shown_by end wait }
 {

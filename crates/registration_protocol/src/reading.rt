@@ -1,4 +1,4 @@
-//! What a node is, for whoever shows it. No call takes memory.
+//! What a node is, for programs that show it. No call takes memory.
 ghost use Rattle.std.specs.Prelude.{◌≡◌, option_copied};
 ghost use Rattle.registration_protocol.specs.Node.{Setting, need_now};
 

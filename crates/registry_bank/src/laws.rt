@@ -1,4 +1,4 @@
-//! What a bank's messages come to, for whoever reasons about the machine.
+//! What a bank's messages come to, for proofs about the machine.
 //! These are laws: functions that do nothing, whose contracts say it.
 ghost use Rattle.std.specs.Prelude.{◌≡◌, ℕ, false, None, ◌<◌, ◌≤◌, ◌==◌, Some, List, if◌then◌else◌, length};
 ghost use Rattle.dn_base.specs.declared.ids.CoreId.{CoreId};

@@ -1,4 +1,4 @@
-//! What holds of rounds, for whoever lets workers make them.
+//! What holds of rounds, for callers that let workers make them.
 //! These are laws: functions that do nothing, whose contracts say it.
 ghost use Rattle.std.specs.Prelude.{◌≡◌, ℕ, ◌≤◌, List, ◌++◌};
 ghost use Rattle.dn_base.specs.declared.ids.CoreId.{CoreId};

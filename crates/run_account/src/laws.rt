@@ -1,4 +1,4 @@
-//! Which numbers of an account add up, for whoever reads them.
+//! Which numbers of an account add up, for readers of an account.
 //! These are laws: functions that do nothing, whose contracts say it.
 ghost use Rattle.std.specs.Prelude.{◌≡◌, ℕ, ◌+◌, ◌<◌, ◌≤◌, true, List};
 ghost use Rattle.message_net.specs.declared.event.Event.{Event};

@@ -45,7 +45,7 @@ fn declaration(program: &Program, phase: PhaseId, core: CoreId) -> Option<&TaskD
     }
 }
 
-/// What the next instruction of a node's task needs, if the task goes on.
+/// What the next instruction of a node's task needs, if the task hasn't ended.
 pub(crate) fn need(machine: &Machine, node: &Node) -> Option<Need>
     ensures { result ≡ need_now machine.now.state.setting node.now }
 {

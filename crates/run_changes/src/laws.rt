@@ -1,4 +1,4 @@
-//! What an event changes and leaves alone, for whoever goes on from one state to the next by what it is told.
+//! What an event changes and leaves alone, for callers that compute the next state from the changes that they are told.
 //! These are laws: functions that do nothing, whose contracts say it.
 ghost use Rattle.std.specs.Prelude.{◌≡◌, ◌≢◌, ◌++◌, ℕ, true, List, Option, Some, slice_get};
 ghost use Rattle.std.specs.List.{fold};

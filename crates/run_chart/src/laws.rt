@@ -1,4 +1,4 @@
-//! What holds of every chart, said of its rows, for whoever reads charts.
+//! What holds of every chart, said of its rows, for readers of charts.
 //! These are laws: functions that do nothing, whose contracts say it.
 ghost use Rattle.std.specs.Prelude.{◌≡◌, ℕ, ◌+◌, ◌<◌, ◌≤◌, List, Some, length, map, slice_get};
 ghost use Rattle.std.specs.List.{range_with_len};

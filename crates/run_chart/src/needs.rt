@@ -31,7 +31,7 @@ fn task_declared<'a>(program: &'a Program, node: &Node) -> Option<&'a TaskDecl>
     }
 }
 
-/// What the next instruction of a node's task needs, if the task goes on.
+/// What the next instruction of a node's task needs, if the task hasn't ended.
 pub(crate) fn need(machine: &Machine, node: &Node) -> Option<Need>
     ensures { result ≡ need_now machine.now.state.setting node.now }
 {

@@ -1,4 +1,4 @@
-//! What the definitions come to, for whoever reasons about documents and replays.
+//! What the definitions come to, for proofs about documents and replays.
 //! These are laws: functions that do nothing, whose contracts say it.
 ghost use Rattle.std.specs.Prelude.{◌≡◌, ◌≤◌, List, length};
 ghost use Rattle.std.specs.List.{All};

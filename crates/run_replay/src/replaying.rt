@@ -32,7 +32,7 @@ pub enum Replayed {
     Incomplete,
 }
 
-/// How the task of an actor stands, where that is a core: None where it has none, and where it goes on and waits for no lock.
+/// How the task of an actor stands, where that is a core: None where it has none, and where it hasn't ended and waits for no lock.
 fn task_end(machine: &Machine, actor: Actor) -> Option<TaskEnd>
     ensures { result ≡ end_there machine.now.state (core_of (Some actor)) }
 {

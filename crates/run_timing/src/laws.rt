@@ -1,4 +1,4 @@
-//! What holds of every timing, for whoever reasons about them.
+//! What holds of every timing, for proofs about them.
 //! These are laws: functions that do nothing, whose contracts say it.
 ghost use Rattle.std.specs.Prelude.{◌≡◌, ℕ, List};
 ghost use Rattle.dn_base.specs.declared.ids.Shape.{Shape};

@@ -4,11 +4,11 @@ use Rattle.region_table.specs.Program.{ProgramParts}
 use Rattle.rv_isa.specs.Encoding.{decoded}
 use Rattle.rv_isa.specs.declared.instr.Instr.{Instr}
 
--- these are the instructions of the program's code words, with None for a word that is none
+-- these are the instructions of the program's code words, with None for a word that is no instruction
 abbrev pub IsDecoded : ProgramParts → List (Option Instr) → Type 0
 IsDecoded P instrs = instrs ≡ map decoded P.code
 
--- an entry of a list of instructions; None after its end
+-- an entry of a list of instructions; None past its end
 abbrev pub decoded_entry : Option (Option Instr) → Option Instr
 decoded_entry None = None
 decoded_entry (Some instr) = instr

@@ -27,8 +27,8 @@ abbrev pub is_spent : EndShown → Bool
 is_spent shown.TheVariants.Fuel = true
 is_spent _ = false
 
--- a run is stuck where some task still waits; if none does it is trapped where some task trapped; if none did it is out of
--- fuel where some task ran out; and it is done where all have finished
+-- the outcome of tasks that stand so: stuck if some task waits; else trapped if some task trapped; else fuel if some task ran
+-- out of fuel; else done, when all have finished
 unfoldable pub outcome_of : List TaskEnd → Outcome
 outcome_of ends =
     if list_any (λ (e : TaskEnd). is_waiting e.end) ends then outcome.TheVariants.Stuck

@@ -1,4 +1,4 @@
--- The kinds of need, and what each tells of the task.
+-- The kinds of need, and what each says of the task.
 use Rattle.std.specs.Prelude.{◌≡◌, ◌≢◌, ℕ, ◌%◌, ◌^◌, ◌<◌, true, false, length, slice_index, Option, Some, None, option_and_then, bit_or, bit_xor}
 use Rattle.region_table.specs.Program.{ProgramParts}
 use Rattle.region_table.specs.declared.declared.TaskDecl.{TaskDecl}
@@ -21,20 +21,20 @@ abbrev pub IsStore : Need → Type 0
 IsStore (Store word whole) = Unit {0}
 IsStore _ = ⊥
 
--- what `advance` completes: Local, Store, Acquire and Release
+-- the needs that `advance` completes: Local, Store, Acquire and Release
 abbrev pub IsAdvance : Need → Type 0
 IsAdvance (Load word) = ⊥
 IsAdvance (End cause) = ⊥
 IsAdvance _ = Unit {0}
 
--- the task ends as it has used up its fuel
+-- the task ends because it has used up its fuel
 abbrev pub EndsByFuel : Need → Type 0
 EndsByFuel (End cause.TheVariants.Fuel) = Unit {0}
 EndsByFuel _ = ⊥
 
--- what a need says of the task, whose state is `next` once the instruction has retired: the word of a load or store is
--- a data word that the task may load or store with the locks that it holds, a lock that it acquires is the program's and
--- not held, one that it releases is held, and nothing else changes what is held
+-- what a need says of the task, where `next` is its state once the instruction has retired. The word of a load or store is a
+-- data word that the task may load or store with the locks that it holds. A lock that it acquires is one of the program's and
+-- not held. A lock that it releases is held. Only these two change which locks are held
 abbrev pub Tells : ProgramParts → TaskDecl → TaskState → TaskState → Need → Type 0
 Tells P d t next Local = next.held ≡ t.held
 Tells P d t next (Load word) = (word.0 < length P.memory) × (may_load d t.held word.0 ≡ true)

@@ -22,19 +22,19 @@ use Rattle.rv_core.specs.Registers.{value_in}
 abbrev pub traps : TaskState → TrapKind → ℕ → Need
 traps t k value = End (cause.TheVariants.Trap k t.pc value)
 
--- the address that is a register's value and an offset, modulo 2^32
+-- the sum of a register's value and an offset, modulo 2^32
 abbrev pub address_of : TaskState → ℕ → ℤ → ℕ
 address_of t base offset = (value_in t.regs base + pattern offset) % 2 ^ 32
 
--- where a jump to an offset from the instruction goes
+-- the target of a jump by an offset from the instruction
 abbrev pub jump_target : TaskState → ℤ → ℕ
 jump_target t offset = (t.pc + pattern offset) % 2 ^ 32
 
--- where a jump to a register and an offset goes: bit 0 is cleared
+-- the target of a jump by a register and an offset: bit 0 is cleared
 abbrev pub register_target : TaskState → ℕ → ℤ → ℕ
 register_target t base offset = address_of t base offset / 2 * 2
 
--- a jump goes to a multiple of 4
+-- what a jump needs: its target has to be a multiple of 4
 abbrev pub jump_need : TaskState → ℕ → Need
 jump_need t target = if target % 4 == 0 then Local else traps t kind.TheVariants.Target target
 
@@ -50,7 +50,7 @@ store_need d t whole address None = traps t kind.TheVariants.Outside address
 store_need d t whole address (Some w) =
     if may_store d t.held w then Store (record { 0 = w }) whole else traps t kind.TheVariants.Outside address
 
--- what an access needs whose address is to be a multiple of its width
+-- what an access needs whose address has to be a multiple of its width
 abbrev pub when_aligned : TaskState → Width → ℕ → Need → Need
 when_aligned t width address need = if address % size_of width == 0 then need else traps t kind.TheVariants.Misaligned address
 
@@ -89,6 +89,6 @@ abbrev pub fetch_need : ProgramParts → TaskDecl → TaskState → Option ℕ �
 fetch_need P d t None = traps t kind.TheVariants.Fetch t.pc
 fetch_need P d t (Some word) = word_need P d t word (decoded word)
 
--- what a task's next instruction needs: a task that has retired as many instructions as it may ends by Fuel
+-- what a task's next instruction needs; a task that has retired `fuel` instructions ends by Fuel
 unfoldable pub need_of : ProgramParts → TaskDecl → ℕ → TaskState → Need
 need_of P d fuel t = if t.retired == fuel then End cause.TheVariants.Fuel else fetch_need P d t (code_at P.code t.pc)

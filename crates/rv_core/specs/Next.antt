@@ -1,4 +1,4 @@
--- What one look at a task's next instruction finds.
+-- The result of one look at a task's next instruction.
 use Rattle.std.specs.Prelude.{◌≡◌, ℕ, ◌==◌, Option, None, if◌then◌else◌}
 use Rattle.region_table.specs.Program.{ProgramParts}
 use Rattle.region_table.specs.declared.declared.TaskDecl.{TaskDecl}
@@ -8,7 +8,7 @@ use Rattle.rv_core.specs.declared.need.Next.{Next}
 use Rattle.rv_core.specs.Need.{need_of}
 use Rattle.rv_core.specs.Step.{instr_at}
 
--- the instruction that the task comes to; a task that has used up its fuel comes to none
+-- the task's next instruction; None if the task has used up its fuel
 abbrev pub instr_within : ProgramParts → ℕ → TaskState → Option Instr
 instr_within P fuel t = if t.retired == fuel then None else instr_at P t
 
@@ -16,6 +16,6 @@ instr_within P fuel t = if t.retired == fuel then None else instr_at P t
 abbrev pub next_found : ProgramParts → TaskDecl → ℕ → TaskState → Next
 next_found P d fuel t = record { need = need_of P d fuel t; instr = instr_within P fuel t }
 
--- a look is the one at this state's next instruction
+-- a look is the one at the next instruction of this state
 abbrev pub IsNextOf : ProgramParts → TaskDecl → ℕ → TaskState → Next → Type 0
 IsNextOf P d fuel t next = next ≡ next_found P d fuel t

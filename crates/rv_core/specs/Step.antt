@@ -23,7 +23,7 @@ instr_at P t = read_instr (code_at P.code t.pc)
 abbrev pub next_pc : TaskState → ℕ
 next_pc t = (t.pc + 4) % 2 ^ 32
 
--- the instruction retires: a value goes to a register, and the task goes on at an address
+-- the instruction retires: a value goes to a register, and the task continues at an address
 abbrev pub with_result : TaskState → ℕ → ℕ → ℕ → TaskState
 with_result t rd value pc = record t { regs = with_value t.regs rd value; pc = pc; retired = t.retired + 1 }
 

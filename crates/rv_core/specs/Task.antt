@@ -10,7 +10,7 @@ abbrev pub started : TaskDecl → TaskState
 started task =
     record { regs = slice_set (replicate 32 0) 10 task.arg; pc = task.entry; held = 0; retired = 0; end = None }
 
--- how many instructions retire as a task ends: the ECALL that finishes it does
+-- how many instructions retire when the task ends: one for the ECALL that finishes it, else none
 abbrev pub retires_at : End → ℕ
 retires_at Finished = 1
 retires_at _ = 0

@@ -12,14 +12,14 @@ pub(crate) fn is_held(held: u32, lock: u32) -> bool
     held & (1 << lock) != 0
 }
 
-/// The least lock that is held; 32 where none is.
+/// The least lock that is held; 32 if none is held.
 pub(crate) fn least_lock(held: u32) -> u32
     ensures { result ≡ least_held held }
 {
     held.trailing_zeros()
 }
 
-/// Whether the word is in the set of a lock that is held. No lock from 32 on is held.
+/// Whether the word is in the set of some lock that is held. No lock from 32 on is held.
 #[tactic(auto, using(crate::proofs::HighLocks::high_locks))]
 fn is_under(sets: &[WordSet], held: u32, word: WordId) -> bool
     ensures { result ≡ under sets.now 0 held word.0 }

@@ -9,7 +9,7 @@ pub(crate) const CODE: u32 = 0x1000;
 /// The address of data word 0, in bytes.
 const DATA: u32 = 0x1000_0000;
 
-/// The code word at an address, or None where none stands there.
+/// The code word at an address, or None if there is none.
 pub(crate) fn code_word(code: &[u32], pc: u32) -> Option<u32>
     ensures { result ≡ code_at code.now pc }
 {
@@ -20,7 +20,7 @@ pub(crate) fn code_word(code: &[u32], pc: u32) -> Option<u32>
     }
 }
 
-/// The data word at an address, in a memory of `words` words, or None where none stands there.
+/// The data word at an address, in a memory of `words` words, or None if there is none.
 pub(crate) fn data_word(words: usize, address: u32) -> Option<u32>
     ensures { result ≡ data_at words address }
 {
@@ -43,7 +43,7 @@ pub(crate) fn size(width: Width) -> u32
     }
 }
 
-/// The byte at `lane` of a word.
+/// The byte at this byte offset of a word.
 fn byte(word: u32, lane: u32) -> u8
     requires { lane < 4 }
     ensures { result ≡ byte_at word lane }
@@ -51,7 +51,7 @@ fn byte(word: u32, lane: u32) -> u8
     word.to_le_bytes()[lane as usize]
 }
 
-/// The two bytes from `lane` on of a word.
+/// The two bytes from this byte offset of a word on.
 fn half(word: u32, lane: u32) -> u16
     requires { lane + 1 < 4 }
     ensures { result ≡ half_at word lane }
@@ -59,7 +59,7 @@ fn half(word: u32, lane: u32) -> u16
     u16::from_le_bytes([byte(word, lane), byte(word, lane + 1)])
 }
 
-/// The register after a load from the bytes of a word that begin at `lane`.
+/// The register value after a load from the bytes of a word that begin at this byte offset.
 pub(crate) fn part(width: Width, word: u32, lane: u32) -> u32
     requires { lane + size_of width ≤ 4 }
     ensures { result ≡ extended width word lane }
@@ -73,7 +73,7 @@ pub(crate) fn part(width: Width, word: u32, lane: u32) -> u32
     }
 }
 
-/// The word after a store of the low bytes of a value to the bytes that begin at `lane`.
+/// The word after a store of the low bytes of a value at this byte offset.
 pub(crate) fn replace(width: Width, word: u32, lane: u32, value: u32) -> u32
     requires { lane + size_of width ≤ 4 }
     ensures { result ≡ replaced width word lane value }

@@ -33,7 +33,7 @@ impl DecodedCode {
     /// Decodes the program's code words.
     ///
     /// # Errors
-    /// `Memory` where there is no room for the instructions.
+    /// `Memory` if there is no room for the instructions.
     pub fn new(alloc: Global, program: &Program) -> Result<DecodedCode, Memory>
         ensures { IfOk result (IsDecoded program.now) }
     {
@@ -44,7 +44,7 @@ impl DecodedCode {
         Ok(DecodedCode { instrs })
     }
 
-    /// The instruction at an address, or None where no code word stands there or the word is no instruction.
+    /// The instruction at an address, or None if no code word is there or the word is no instruction.
     #[inline(always)]
     pub(crate) fn at(&self, pc: u32) -> Option<&Instr>
         ensures { option_copied result ≡ found_at self.now pc }
@@ -82,7 +82,7 @@ impl TaskState {
         }
     }
 
-    /// What the task's next instruction needs, as `next` says, by the program's code that was decoded before.
+    /// What the task's next instruction needs, as `next` says, from the decoded code of the program.
     #[inline(always)]
     pub fn next_in(&self, program: &Program, task: &TaskDecl, fuel: u32, code: &DecodedCode) -> Next
         requires open { self.now.end ≡ None }
@@ -95,9 +95,9 @@ impl TaskState {
     }
 }
 
-/// A program with its code words decoded, for whoever owns it and runs it instruction by instruction.
+/// A program with its code words decoded, for a caller that owns it and runs it instruction by instruction.
 ///
-/// Contracts see the program, and the code of every `DecodedProgram` is the program's.
+/// Contracts see only the program. The decoded code of every `DecodedProgram` is the program's.
 #[derive(Debug, Drop)]
 pub struct DecodedProgram {
     program: Program,
@@ -119,7 +119,7 @@ impl DecodedProgram {
     /// Decodes the code words of the program.
     ///
     /// # Errors
-    /// `Memory` where there is no room for the instructions; the program is then dropped.
+    /// `Memory` if there is no room for the instructions; the program is dropped then.
     pub fn new(alloc: Global, program: Program) -> Result<DecodedProgram, Memory>
         ensures { IfOk result (λ decoded. decoded ≡ program) }
     {
@@ -151,8 +151,8 @@ impl DecodedProgram {
         (program, code)
     }
 
-    /// What the next instruction of a task needs, and the instruction, as `TaskState::next` says, with no word decoded again.
-    /// The task goes on, and may retire `fuel` instructions. Takes no memory.
+    /// The same as `TaskState::next`, without decoding the word again: what the next instruction of a task needs, and the
+    /// instruction. The task must not have ended, and may retire `fuel` instructions. Takes no memory.
     pub fn next(&self, state: &TaskState, task: &TaskDecl, fuel: u32) -> Next
         requires { state.now.end ≡ None }
         ensures value { IsNextOf self.now task.now fuel state.now result }
@@ -170,9 +170,9 @@ impl DecodedProgram {
         self.code.at(state.pc)
     }
 
-    /// What the next instruction of a task needs, as `TaskState::need` says, with no word decoded again. The task goes on, and
-    /// may retire `fuel` instructions. Takes no memory.
-    // Out of line: in its callers the need would be taken apart, at several times its cost.
+    /// The same as `TaskState::need`, without decoding the word again: what the next instruction of a task needs. The task must
+    /// not have ended, and may retire `fuel` instructions. Takes no memory.
+    // Out of line: inlined, the compiler takes the need apart in the callers, which costs several times more.
     #[inline(never)]
     pub fn need(&self, state: &TaskState, task: &TaskDecl, fuel: u32) -> Need
         requires { state.now.end ≡ None }
@@ -186,8 +186,8 @@ impl DecodedProgram {
         }
     }
 
-    /// Completes the next instruction of a task, as `TaskState::advance` does, with no word decoded again. The task goes on,
-    /// and its need is one of those that `advance` completes. Takes no memory.
+    /// The same as `TaskState::advance`, without decoding the word again: completes the next instruction of a task. The task
+    /// must not have ended, and its need must be one that `advance` completes. Takes no memory.
     #[tactic(auto, unfolding(crate::specs::Step::advanced))]
     pub fn advance(&self, state: &mut TaskState, task: &TaskDecl, fuel: u32)
         requires open { state.old.end ≡ None }
@@ -203,8 +203,8 @@ impl DecodedProgram {
         }
     }
 
-    /// Completes a task's load, whose word has this value, as `TaskState::loaded` does, with no word decoded again. The task
-    /// goes on, and its need is a load. Takes no memory.
+    /// The same as `TaskState::loaded`, without decoding the word again: completes a task's load of a word with this value. The
+    /// task must not have ended, and its need must be a load. Takes no memory.
     #[tactic(auto, unfolding(crate::specs::Step::loaded_of))]
     pub fn loaded(&self, state: &mut TaskState, task: &TaskDecl, fuel: u32, value: u32)
         requires open { state.old.end ≡ None }
@@ -218,8 +218,8 @@ impl DecodedProgram {
         }
     }
 
-    /// The word after a task's store, where the word's value was `old`, as `TaskState::merged` says, with no word decoded
-    /// again. The task goes on, and its need is a store. Takes no memory.
+    /// The same as `TaskState::merged`, without decoding the word again: the word after a task's store, where `old` is the
+    /// value before. The task must not have ended, and its need must be a store. Takes no memory.
     #[tactic(auto, unfolding(crate::specs::Step::merged_of))]
     pub fn merged(&self, state: &TaskState, task: &TaskDecl, fuel: u32, old: u32) -> u32
         requires open { state.now.end ≡ None }
@@ -234,7 +234,7 @@ impl DecodedProgram {
     }
 }
 
-/// Shows that a value goes from thread to thread, and may be shared.
+/// Compiles only if the type may be sent to another thread and shared with it.
 fn crosses<T: Send + Sync>(_value: &T) {}
 
 /// A decoded program may be sent to another thread, and shared with it. Nobody calls this; the check of its body proves it.

@@ -39,8 +39,7 @@ pub struct TaskEnd {
     pub retired: u32,
 }
 
-/// The answer of a run: its outcome, the tasks that started in the order of their phases and cores, and the data words
-/// at the end.
+/// How a run ended: its outcome, the tasks that started in the order of their phases and cores, and the data words at the end.
 #[derive(Debug, Drop)]
 pub struct Ending {
     pub outcome: Outcome,
@@ -48,8 +47,8 @@ pub struct Ending {
     pub memory: Sequence<u32>,
 }
 
-/// The outcome of a run in which the tasks that started stand so: stuck where one waits for a lock, else trapped where one
-/// trapped, else out of fuel where one ran out of it, else done.
+/// The outcome of a run in which the started tasks stand so: stuck if one waits for a lock, else trapped if one trapped, else
+/// fuel if one ran out of fuel, else done.
 #[tactic(auto, unfolding(crate::specs::Ending::outcome_of))]
 pub fn outcome(ends: &[TaskEnd]) -> Outcome
     ensures { result ≡ outcome_of ends.now }

@@ -1,5 +1,5 @@
-//! What completing an instruction comes to, for whoever proves something of machines that run tasks.
-//! These are laws: functions that do nothing, whose contracts say it.
+//! What completing an instruction comes to, for proofs about machines that run tasks.
+//! A law is a function without effect; its contract states the theorem.
 ghost use Rattle.std.specs.Prelude.{◌≡◌, ℕ, ◌^◌, ◌==◌, ◌&&◌, ◌||◌, not, true, bit_or, bit_xor};
 ghost use Rattle.dn_base.specs.declared.ids.WordId.{WordId};
 ghost use Rattle.region_table.specs.Program.{ProgramParts};
@@ -11,14 +11,14 @@ ghost use Rattle.rv_core.specs.Access.{is_held};
 ghost use Rattle.rv_core.specs.Need.{need_of};
 ghost use Rattle.rv_core.specs.Step.{merged_of};
 
-/// A store that gives all four bytes leaves the same word whatever the word was.
+/// A store of all four bytes leaves the same word, whatever the word was before.
 pub fn a_whole_store_leaves_the_same_over_any_word()
     ensures { (P : ProgramParts) (d : TaskDecl) (fuel : ℕ) (t : TaskState) (word : WordId) (a b : ℕ) → need_of P d fuel t ≡ Store word true
         → merged_of P a t ≡ merged_of P b t }
 {}
 
-/// An acquired lock is held beside those that were; a released one, which was held, is held no longer, and each other one as
-/// it was.
+/// After an acquire its lock is held too; after a release its lock, which was held, isn't held. All other locks stay as they
+/// were.
 pub fn a_call_changes_one_lock()
     ensures acquired { (held lock other : ℕ) → is_held (bit_or held (2 ^ lock)) other ≡ ((other == lock) || is_held held other) }
     ensures released { (held lock other : ℕ) → is_held held lock ≡ true → is_held (bit_xor held (2 ^ lock)) other ≡ (not (other == lock) && is_held held other) }

@@ -1,8 +1,8 @@
 //! One task: its registers, its program counter and the locks that it holds, what its next instruction needs, and what
 //! that instruction does.
 //!
-//! The instructions are those of RV32I; what a task may load and store is what it declares, and what the locks that it
-//! holds guard. A task is plain data: whoever runs it looks at what it needs, gets that, and completes the instruction.
+//! The instructions are those of RV32I. A task may load and store the words that it declares, and those that the locks which it
+//! holds guard for it. A task is plain data: a caller looks at what it needs, provides that, and completes the instruction.
 #![tactic(auto)]
 
 mod access;

@@ -16,11 +16,11 @@ use rv_isa::{Instr, Reg, Width, decode, taken};
 /// What a task's next instruction needs before it can retire.
 #[derive(Clone, Copy, Debug, PartialEq, Eq)]
 pub enum Need {
-    /// Nothing but the task's own registers.
+    /// Nothing besides the task's own registers.
     Local,
     /// The value of a data word.
     Load { word: WordId },
-    /// The right to write a data word; `whole` where the store gives all four bytes.
+    /// The right to write a data word. `whole` says that the store gives all four bytes.
     Store { word: WordId, whole: bool },
     /// A lock that the task doesn't hold.
     Acquire { lock: LockId },
@@ -30,12 +30,12 @@ pub enum Need {
     End { cause: End },
 }
 
-/// What a task's next instruction needs, and the instruction, which `TaskState::complete`, `complete_load` and `merged_by`
-/// need not look for again.
+/// What a task's next instruction needs, and the instruction itself. So `TaskState::complete`, `complete_load` and `merged_by`
+/// needn't look for it again.
 #[derive(Clone, Copy, Debug, PartialEq, Eq)]
 pub struct Next {
     pub need: Need,
-    /// None where the task ends before it comes to an instruction: for want of fuel, or as there is none.
+    /// None if the task ends before it reaches an instruction: it is out of fuel, or there is no instruction at its pc.
     pub instr: Option<Instr>,
 }
 
@@ -222,19 +222,19 @@ impl TaskState {
         Next { need, instr }
     }
 
-    /// What the task's next instruction needs. The first of these cases that fits decides: the fuel is used up, the
-    /// program counter is no code word's address, the word is no instruction, and then what the instruction asks.
+    /// What the task's next instruction needs. The first of these cases that fits decides: the fuel is used up, the program
+    /// counter is no code word's address, the word is no instruction, and then what the instruction asks for.
     ///
-    /// It depends on the task's own state, its declaration and the program alone. `fuel` is how many instructions the
-    /// task may retire. The task goes on.
+    /// The answer depends only on the task's own state, its declaration and the program. `fuel` is how many instructions the
+    /// task may retire. The task must not have ended.
     pub fn need(&self, program: &Program, task: &TaskDecl, fuel: u32) -> Need
         requires { self.now.end ≡ None }
         ensures value { result ≡ need_of program.now task.now fuel self.now }
 
-        // a task ends by Fuel once it has retired as many instructions as it may, and never before
+        // a task ends by Fuel exactly if it has retired as many instructions as it may
         ensures fuel { EndsByFuel result ↔ (self.now.retired ≡ fuel) }
 
-        // the word or lock of the need is one that the task may use so
+        // the task may use the word or lock of the need in that way
         ensures allowed { Allowed program.now task.now self.now result }
     {
         self.look(program, task, fuel).need
@@ -242,8 +242,8 @@ impl TaskState {
 
     /// What the task's next instruction needs, as `need` says, and the instruction.
     ///
-    /// Whoever got what it needs completes it by `complete`, or a load by `complete_load`, with no second look. The task
-    /// goes on.
+    /// A caller that has what it needs completes the instruction by `complete`, or a load by `complete_load`, without a second
+    /// look. The task must not have ended.
     pub fn next(&self, program: &Program, task: &TaskDecl, fuel: u32) -> Next
         requires { self.now.end ≡ None }
         ensures value { IsNextOf program.now task.now fuel self.now result }

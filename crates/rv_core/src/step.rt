@@ -33,7 +33,7 @@ impl TaskState {
         self.pc.wrapping_add(4)
     }
 
-    /// The instruction retires, and the task goes on at `pc`.
+    /// The instruction retires, and the task continues at `pc`.
     fn go(&mut self, pc: u32)
         requires { self.old.retired < 4294967295 }
         ensures { self.new ≡ jumped_to self.old pc }
@@ -42,7 +42,7 @@ impl TaskState {
         self.retired += 1;
     }
 
-    /// The instruction retires: the value goes to the register, and the task goes on at `pc`.
+    /// The instruction retires: the value goes to the register, and the task continues at `pc`.
     fn retire(&mut self, rd: Reg, value: u32, pc: u32)
         requires { self.old.retired < 4294967295 }
         ensures { self.new ≡ with_result self.old rd value pc }
@@ -51,7 +51,7 @@ impl TaskState {
         self.go(pc);
     }
 
-    /// An ECALL retires: with 1 in a7 it acquires the lock in a0, and else it releases it.
+    /// An ECALL retires: with 1 in a7 it acquires the lock in a0, otherwise it releases it.
     fn call(&mut self)
         requires retired { self.old.retired < 4294967295 }
         requires lock { slice_index self.old.regs 10 < 32 }
@@ -67,7 +67,7 @@ impl TaskState {
         self.go(next);
     }
 
-    /// Where the task goes on after a branch.
+    /// Where the task continues after a branch.
     fn branch(&self, cond: Cond, a: Reg, b: Reg, offset: i32) -> u32
         ensures { result ≡ (if taken_of cond (value_in self.now.regs a) (value_in self.now.regs b)
             then jump_target self.now offset else next_pc self.now) }
@@ -158,10 +158,10 @@ impl TaskState {
         }
     }
 
-    /// Completes an instruction that needs nothing, a store, an acquire or a release: its registers, the program
-    /// counter and the locks that are held. One more instruction has retired then.
+    /// Completes an instruction that needs nothing, a store, an acquire or a release: its registers, the program counter and
+    /// the locks that are held. One more instruction has retired then.
     ///
-    /// The task goes on, and its need is one of these.
+    /// The task must not have ended, and its need must be one of these.
     #[tactic(auto, unfolding(crate::specs::Step::advanced))]
     pub fn advance(&mut self, program: &Program, task: &TaskDecl, fuel: u32)
         requires open { self.old.end ≡ None }
@@ -180,10 +180,9 @@ impl TaskState {
         }
     }
 
-    /// Completes a load, whose word has this value: its register and the program counter. One more instruction has
-    /// retired then.
+    /// Completes a load of a word with this value: its register and the program counter. One more instruction has retired then.
     ///
-    /// The task goes on, and its need is a load.
+    /// The task must not have ended, and its need must be a load.
     #[tactic(auto, unfolding(crate::specs::Step::loaded_of))]
     pub fn loaded(&mut self, program: &Program, task: &TaskDecl, fuel: u32, value: u32)
         requires open { self.old.end ≡ None }
@@ -203,9 +202,9 @@ impl TaskState {
         }
     }
 
-    /// The word after the task's store, where the word's value was `old`.
+    /// The word after the task's store, where `old` is its value before.
     ///
-    /// The task goes on, and its need is a store.
+    /// The task must not have ended, and its need must be a store.
     #[tactic(auto, unfolding(crate::specs::Step::merged_of))]
     pub fn merged(&self, program: &Program, task: &TaskDecl, fuel: u32, old: u32) -> u32
         requires open { self.now.end ≡ None }
@@ -219,9 +218,9 @@ impl TaskState {
         }
     }
 
-    /// Completes the instruction that this look found, as `advance` does, without looking again.
+    /// Completes the instruction that this look found, as `advance` does, without a second look.
     ///
-    /// The task goes on, the look is the one that `next` gives now, and its need is one of those that `advance` completes.
+    /// The task must not have ended, the look must be the one that `next` gives now, and its need one that `advance` completes.
     #[tactic(auto, unfolding(crate::specs::Step::advanced))]
     pub fn complete(&mut self, program: &Program, task: &TaskDecl, fuel: u32, next: &Next)
         requires open { self.old.end ≡ None }
@@ -243,9 +242,9 @@ impl TaskState {
         }
     }
 
-    /// Completes the load that this look found, whose word has this value, as `loaded` does, without looking again.
+    /// Completes the load that this look found of a word with this value, as `loaded` does, without a second look.
     ///
-    /// The task goes on, the look is the one that `next` gives now, and its need is a load.
+    /// The task must not have ended, the look must be the one that `next` gives now, and its need a load.
     #[tactic(auto, unfolding(crate::specs::Step::loaded_of))]
     pub fn complete_load(
         &mut self,
@@ -273,10 +272,9 @@ impl TaskState {
         }
     }
 
-    /// The word after the store that this look found, where the word's value was `old`, as `merged` says, without looking
-    /// again.
+    /// The word after the store that this look found, where `old` is its value before, as `merged` says, without a second look.
     ///
-    /// The task goes on, the look is the one that `next` gives now, and its need is a store.
+    /// The task must not have ended, the look must be the one that `next` gives now, and its need a store.
     #[tactic(auto, unfolding(crate::specs::Step::merged_of))]
     pub fn merged_by(
         &self,

@@ -2,7 +2,7 @@ ghost use Rattle.std.specs.Prelude.{◌≡◌, ◌+◌, ◌<◌, None};
 
 use region_table::TaskDecl;
 
-/// Why an instruction can't retire. A trap ends its task.
+/// Why an instruction can't retire. A trap ends its task (this project's profile).
 #[derive(Clone, Copy, Debug, PartialEq, Eq)]
 pub enum TrapKind {
     /// The program counter isn't the address of a code word. The value is the program counter.
@@ -13,7 +13,8 @@ pub enum TrapKind {
     Target,
     /// A load or store at an address that isn't a multiple of its width. The value is the address.
     Misaligned,
-    /// A load or store of a word that isn't a data word, or that the task may not use so. The value is the address.
+    /// A load or store at an address outside the data words, or of a word that the task may not use in that way. The value is
+    /// the address.
     Outside,
     /// An EBREAK. The value is 0.
     Break,
@@ -36,7 +37,8 @@ pub enum End {
     Finished,
     /// It has retired as many instructions as it may.
     Fuel,
-    /// By an instruction that trapped, and that isn't retired: its kind, its address in bytes, and the kind's value.
+    /// By an instruction that trapped and didn't retire: the kind of trap, the address of the instruction in bytes, and the
+    /// kind's value.
     Trap { kind: TrapKind, pc: u32, value: u32 },
 }
 
@@ -51,7 +53,7 @@ pub struct TaskState {
     pub held: u32,
     /// How many instructions have retired.
     pub retired: u32,
-    /// How the task ended, or None while it goes on.
+    /// How the task ended, or None if it hasn't ended.
     pub end: Option<End>,
 }
 

@@ -1,4 +1,4 @@
--- Which numbers an instruction can hold.
+-- Which numbers an instruction can encode.
 use Rattle.std.specs.Prelude.{◌≡◌, ℕ, ◌-◌, ◌^◌, ◌<◌, ℤ, pos, neg_ℤ, ◌≤ℤ◌, ◌<ℤ◌, Bool, true, false, IsTrue}
 use Rattle.rv_isa.specs.Word.{bits, pattern}
 use Rattle.rv_isa.specs.Table.{is_shift, has_immediate, is_stored}
@@ -10,7 +10,7 @@ pub record IsSigned (n : ℕ) (z : ℤ) : Type 0 where
   pub low : neg_ℤ (pos (2 ^ (n - 1))) ≤ℤ z
   pub high : z <ℤ pos (2 ^ (n - 1))
 
--- z is such a number and even, as the distance to another instruction
+-- z is such a number and even, as the distance to another instruction is
 pub record IsOffset (n : ℕ) (z : ℤ) : Type 0 where
   pub within : IsSigned n z
   pub even : bits (pattern z) 0 1 ≡ 0
@@ -40,7 +40,7 @@ IsEncodable Fence = Unit {0}
 IsEncodable Ecall = Unit {0}
 IsEncodable Ebreak = Unit {0}
 
--- every register of the instruction is one of x0 to x31, as in each value of the type `Instr`
+-- every register of the instruction is one of x0 to x31, as in all values of the type `Instr`
 abbrev pub HasRegisters : Instr → Type 0
 HasRegisters (Lui d imm) = d < 32
 HasRegisters (Auipc d imm) = d < 32

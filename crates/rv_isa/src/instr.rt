@@ -57,8 +57,8 @@ pub enum Width {
     Hu,
 }
 
-/// An instruction of RV32I. Offsets and immediates are the numbers that the instruction means, in bytes for
-/// offsets; `fits` says which numbers have an encoding.
+/// An instruction of RV32I. Its numbers are the values that the instruction means, offsets in bytes; `fits` tells whether they
+/// can be encoded.
 #[derive(Clone, Copy, Debug, PartialEq, Eq)]
 pub enum Instr {
     /// `rd` becomes `imm` times 4096; `imm` is the 20-bit number of bits 31 to 12.
@@ -82,14 +82,14 @@ pub enum Instr {
         base: Reg,
         offset: i32,
     },
-    /// A jump to pc plus `offset` where `cond` holds of `a` and `b`.
+    /// A jump to pc plus `offset` if `cond` holds of `a` and `b`.
     Branch {
         cond: Cond,
         a: Reg,
         b: Reg,
         offset: i32,
     },
-    /// `rd` becomes what is read at `base` plus `offset`.
+    /// `rd` becomes the value that is read at `base` plus `offset`.
     Load {
         width: Width,
         rd: Reg,
@@ -119,8 +119,8 @@ pub enum Instr {
     },
     /// Orders memory accesses.
     Fence,
-    /// A call of the environment.
+    /// A call of the environment (ECALL).
     Ecall,
-    /// A stop for a debugger.
+    /// A stop for a debugger (EBREAK).
     Ebreak,
 }

@@ -1,8 +1,8 @@
-//! The instructions of RV32I: their names, their words, and what they compute.
+//! The instructions of RV32I: their names, their encodings, and what they compute.
 //!
-//! The source is the RISC-V unprivileged manual, chapters "RV32I Base Integer Instruction Set" and "RV32/64G
-//! Instruction Set Listings". An instruction is a value of `Instr`; `encode` gives its word of 32 bits, and `decode`
-//! reads a word. `alu` is the arithmetic of two register values, and `taken` the test of a branch.
+//! The source is the RISC-V unprivileged manual, chapters "RV32I Base Integer Instruction Set" and "RV32/64G Instruction Set
+//! Listings". An instruction is a value of `Instr`. `encode` gives its word of 32 bits, and `decode` reads a word. `alu` is the
+//! arithmetic on two register values, and `taken` the test of a branch.
 #![tactic(auto)]
 
 mod fields;

@@ -13,16 +13,16 @@ use crate::fields::{
 };
 use crate::instr::{AluOp, Cond, Instr, Width};
 
-/// The instruction of a word, or `None` where no row of RV32I has the word.
+/// The instruction that a word encodes, or `None` if no row of RV32I has the word.
 ///
 /// Every word with the opcode and funct3 of FENCE is a FENCE.
 pub fn decode(word: u32) -> Option<Instr>
     ensures value { result ≡ decoded word }
 
-    // an instruction is read exactly where the word is in its row
+    // an instruction is decoded exactly if the word is in its row
     ensures row { (i : Instr) → (result ≡ Some i) ↔ IsWordOf i word }
 
-    // what is read fits, and it has this word, unless it is a FENCE
+    // a decoded instruction fits, and is encoded as this word, unless it is a FENCE
     ensures fitting { IfSome result (λ i. HasRegisters i × IsEncodable i) }
     ensures same { IfSome result (λ i. (i ≡ Fence) ⊎ (encoded i ≡ word)) }
 {

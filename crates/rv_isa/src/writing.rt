@@ -19,13 +19,13 @@ pub fn encode(instr: &Instr) -> u32
     ensures value { result ≡ encoded instr.now }
     ensures row { IsWordOf instr.now result }
 
-    // to read the word gives the instruction again
+    // decoding the word gives the instruction again
     ensures again { decoded result ≡ Some instr.now }
 {
     word_of(instr)
 }
 
-/// Two instructions that fit have one word only if they are equal.
+/// Two instructions that fit have the same word only if they are equal.
 pub fn encoding_is_unique()
     ensures { (i j : Instr) → HasRegisters i → IsEncodable i → HasRegisters j → IsEncodable j
         → encoded i ≡ encoded j → i ≡ j }

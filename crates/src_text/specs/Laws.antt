@@ -32,7 +32,7 @@ pub record AreNumbered (text : List ℕ) : Type 0 where
   pub each : (k : ℕ) → k < length (cut text) → slice_get (lines_of text) k ≡ Some (line_of (k + 1) (line_start k (cut text)) (get_or (cut text) k []))
   pub bytes : (k : ℕ) → k < length (cut text) → slice_range text (line_start k (cut text)) (line_start k (cut text) + length (get_or (cut text) k [])) ≡ get_or (cut text) k []
 
--- the prefix of some bytes is as long as it can be: a mark alone, or a byte and all bytes of a word after it
+-- the prefix is as long as a token can be: a mark alone, or a byte and all bytes of the word that follow it
 pub record IsLongestToken (bytes front : List ℕ) : Type 0 where
   pub first : take (length front) bytes ≡ front
   pub some : 0 < length front
@@ -46,7 +46,7 @@ pub record StandsAt (place p : ℕ) (code : List ℕ) (l : Lexeme) : Type 0 wher
   pub bytes : l.bytes ≡ front (drop p code)
   pub begun : IsTrue (begins_token (slice_index (32 ∷ code) p) (slice_index code p))
 
--- each lexeme begins at or after the end of the one before it, and none before a place
+-- each lexeme begins at or after the end of the one before it, and none begins before `place`
 abbrev pub AreBehindEachOther : ℕ → List Lexeme → Type 0
 AreBehindEachOther from [] = Unit {0}
 AreBehindEachOther from (l ∷ ls) = (from ≤ l.start) × AreBehindEachOther (l.start + length l.bytes) ls
@@ -79,12 +79,12 @@ IsSliceOf text t = token_kind_of (slice_range text t.start t.end) ≡ Some t.kin
 abbrev pub takes_byte : ℕ → Token → Bool
 takes_byte place t = nat_le t.start place && nat_lt place t.end
 
--- each token begins at or after the end of the one before it, and none before a place
+-- each token begins at or after the end of the one before it, and none begins before `place`
 abbrev pub AreInOrder : ℕ → List Token → Type 0
 AreInOrder from [] = Unit {0}
 AreInOrder from (t ∷ ts) = (from ≤ t.start) × AreInOrder t.end ts
 
--- no byte of the code is left out but blanks
+-- only blanks of the code are in no token
 abbrev pub LeavesBlanks : ℕ → List ℕ → List Token → Type 0
 LeavesBlanks place line ts = (p : ℕ) → p < length (before_comment line) → IsFalse (is_blank (slice_index (before_comment line) p)) → IsTrue (list_any (takes_byte (place + p)) ts)
 

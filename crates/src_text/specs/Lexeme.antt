@@ -11,21 +11,21 @@ pub record Lexeme : Type 0 where
   pub start : ℕ
   pub bytes : List ℕ
 
--- after such a byte a word or a number goes on
+-- whether a word or a number may go on after such a byte
 abbrev pub continues_token : ℕ → Bool
 continues_token before = is_word before || is_minus before
 
--- whether a token begins at a byte: a mark and a minus always begin one, and a byte of a word does where it doesn't
--- go on with the word or the number before it
+-- whether a token begins at a byte. A mark or a minus always begins one. A byte of a word begins one if it doesn't continue the
+-- word or number before it
 abbrev pub begins_token : ℕ → ℕ → Bool
 begins_token before b = is_mark b || is_minus b || (is_word b && not (continues_token before))
 
--- the bytes of the token at the front: a mark alone, and else as many bytes as a word goes on
+-- the bytes of the first token: a mark alone, else the longest run of bytes of a word
 abbrev pub front : List ℕ → List ℕ
 front [] = []
 front (b ∷ bs) = if is_mark b then b ∷ [] else b ∷ take_while is_word bs
 
--- the lexemes of the bytes from a place on, after the byte before them
+-- the lexemes of the bytes from a position on, where `before` is the byte before them
 abbrev pub lexemes_after : ℕ → ℕ → List ℕ → List Lexeme
 lexemes_after before place [] = []
 lexemes_after before place (b ∷ bs) =
@@ -35,11 +35,11 @@ lexemes_after before place (b ∷ bs) =
 abbrev pub before_comment : List ℕ → List ℕ
 before_comment line = before_first is_hash line
 
--- the lexemes of a line that begins at this place; a line begins as if after a blank
+-- the lexemes of a line that begins at this position; the first byte counts as standing after a blank
 abbrev pub lexemes_of : ℕ → List ℕ → List Lexeme
 lexemes_of place line = lexemes_after 32 place (before_comment line)
 
--- what kind of token the bytes are; none where they begin as a number and aren't one
+-- the kind of token that the bytes are; none if they begin as a number and aren't one
 abbrev pub token_kind_of : List ℕ → Option TokenKind
 token_kind_of bs =
     let b = slice_index bs 0 in
@@ -53,6 +53,6 @@ token_kind_of bs =
 abbrev pub is_bad_number : Lexeme → Bool
 is_bad_number l = is_none (token_kind_of l.bytes)
 
--- the token of a lexeme, from its first byte's place to the place after its last
+-- the token of a lexeme: from the position of its first byte to the position after its last
 abbrev pub token_of : Lexeme → Option Token
 token_of l = option_map (λ k. record { kind = k; start = l.start; end = l.start + length l.bytes }) (token_kind_of l.bytes)

@@ -22,7 +22,7 @@ cut (b ∷ bs) = if is_newline b then [] ∷ cut bs else onto_first b (cut bs)
 abbrev pub is_over_limit : ℕ → List ℕ → Bool
 is_over_limit number line = nat_lt 1024 (length line) || nat_lt 65536 number
 
--- what is wrong with a line: the first of these three that is
+-- what is wrong with a line: the first of these three faults that it has
 abbrev pub fault_of : ℕ → List ℕ → Option LineFault
 fault_of number line =
     if list_any is_bad (before_comment line) then Some BadByte
@@ -30,7 +30,7 @@ fault_of number line =
     else (if is_over_limit number line then Some LineLimit
     else None))
 
--- a line with a fault has no tokens
+-- a line of this number; with a fault it has no tokens
 abbrev pub line_with : ℕ → List Token → Option LineFault → Line
 line_with number tokens None = record { number = number; tokens = tokens; fault = None }
 line_with number tokens (Some fault) = record { number = number; tokens = []; fault = Some fault }
@@ -39,7 +39,7 @@ line_with number tokens (Some fault) = record { number = number; tokens = []; fa
 abbrev pub line_of : ℕ → ℕ → List ℕ → Line
 line_of number place line = line_with number (filter_map token_of (lexemes_of place line)) (fault_of number line)
 
--- lines one after the other, from a number and a place on
+-- lines one after the other, from a number and a position on
 abbrev pub numbered : ℕ → ℕ → List (List ℕ) → List Line
 numbered number place [] = []
 numbered number place (l ∷ ls) = line_of number place l ∷ numbered (number + 1) (place + (length l + 1)) ls

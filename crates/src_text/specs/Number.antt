@@ -10,12 +10,12 @@ digit_of b =
     else (if nat_le 65 b && nat_le b 70 then b - 55
     else 16))
 
--- the value of digits in a base, after digits of the value v; none where a byte isn't a digit of that base
+-- the value of digits in a base, after digits with the value v; none if a byte isn't a digit of that base
 abbrev pub value_after : ℕ → ℕ → List ℕ → Option ℕ
 value_after base v [] = Some v
 value_after base v (b ∷ bs) = if nat_lt (digit_of b) base then value_after base (v * base + digit_of b) bs else None
 
--- the value of at least one digit
+-- the value of one or more digits
 abbrev pub value_of : ℕ → List ℕ → Option ℕ
 value_of base [] = None
 value_of base (b ∷ bs) = value_after base 0 (b ∷ bs)
@@ -28,7 +28,7 @@ has_prefix bs = slice_index bs 0 == 48 && slice_index bs 1 == 120
 abbrev pub magnitude_of : List ℕ → Option ℕ
 magnitude_of bs = if has_prefix bs then value_of 16 (drop 2 bs) else value_of 10 bs
 
--- the value, if it isn't above the greatest one
+-- the value, if it is at most the given one
 abbrev pub if_at_most : ℕ → Option ℕ → Option ℕ
 if_at_most most None = None
 if_at_most most (Some v) = if nat_le v most then Some v else None
@@ -36,7 +36,7 @@ if_at_most most (Some v) = if nat_le v most then Some v else None
 abbrev pub negated : ℕ → ℤ
 negated v = pos 0 -ℤ pos v
 
--- the value of a number token, from -2147483648 to 4294967295; none where the bytes aren't such a number
+-- the value of a number token, from -2147483648 to 4294967295; none if the bytes aren't such a number
 abbrev pub number_of : List ℕ → Option ℤ
 number_of bs =
     if is_minus (slice_index bs 0) then option_map negated (if_at_most 2147483648 (magnitude_of (drop 1 bs)))

@@ -1,11 +1,11 @@
-//! What holds of the lines and the tokens of every text, as laws: functions that do nothing, whose contracts say it.
+//! Laws: what holds of the lines and tokens of every text. A law is a function without effect; its contract states the theorem.
 
 ghost use Rattle.std.specs.Prelude.{◌≡◌, ◌≢◌, ℕ, List, [], ◌∷◌, None, All};
 ghost use Rattle.src_text.specs.Laws.{AreInOrder, AreLexemesOf, AreLinesOf, AreNumbered, AreTokensOf, IsLongestToken, HasNameBytes, IsPlaced, IsSliceOf, LeavesBlanks};
 ghost use Rattle.src_text.specs.Lexeme.{front, lexemes_of};
 ghost use Rattle.src_text.specs.Line.{cut, fault_of, line_of, lines_of};
 
-/// The lines of a text, each with its newline, are the text, except for a last newline that may be missing.
+/// The lines of a text, each followed by its newline, make up the text, except that a last newline may be missing.
 pub fn lines_make_up_the_text()
     ensures { (text : List ℕ) → AreLinesOf text (cut text) }
 {}
@@ -15,18 +15,18 @@ pub fn lines_are_numbered()
     ensures { (text : List ℕ) → AreNumbered text }
 {}
 
-/// No token could be longer.
+/// Each token is as long as it can be.
 pub fn tokens_are_longest()
     ensures { (b : ℕ) (bs : List ℕ) → IsLongestToken (b ∷ bs) (front (b ∷ bs)) }
 {}
 
-/// The lexemes of a line stand one after the other, each where one begins, and leave out no byte of a token.
+/// The lexemes of a line stand one after the other, each where a token begins. Every byte of a token is in one of them.
 pub fn tokens_make_up_the_code()
     ensures { (place : ℕ) (line : List ℕ) → AreLexemesOf place line (lexemes_of place line) }
 {}
 
-/// A line without a fault has one token for each of its lexemes, in order, and they leave out only blanks and the
-/// comment. A line with a fault has no tokens.
+/// A line without a fault has one token for each of its lexemes, in order. Only blanks and the comment are in none of them. A
+/// line with a fault has no tokens.
 pub fn lines_have_their_tokens()
     ensures tokens { (number place : ℕ) (line : List ℕ) → fault_of number line ≡ None
         → AreTokensOf (lexemes_of place line) (line_of number place line).tokens }
@@ -37,7 +37,7 @@ pub fn lines_have_their_tokens()
         → (line_of number place line).tokens ≡ [] }
 {}
 
-/// The tokens of a text are parts of it: the bytes from a token's start to its end are a token of its kind, and those of a
+/// The tokens of a text are slices of it: the bytes from a token's start to its end are a token of its kind, and those of a
 /// name token are a name.
 pub fn tokens_are_slices_of_the_text()
     ensures places { (text : List ℕ) → All (λ line. All (IsPlaced text) line.tokens) (lines_of text) }

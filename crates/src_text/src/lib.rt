@@ -1,4 +1,5 @@
-//! The lines of a source text and their tokens, and the names of registers.
+//! The lines of a source text, their tokens, and the names of registers. The language is this project's profile; the names of
+//! registers are those of the RISC-V manuals.
 #![tactic(auto)]
 
 mod byte;

@@ -9,19 +9,19 @@ use crate::token::{Token, scan};
 use dn_base::{Memory, Sequence};
 use std::alloc::Global;
 
-/// What is wrong with a line, in the order in which it is told.
+/// What is wrong with a line. The first of these that it has is reported.
 #[derive(Clone, Copy, Debug, PartialEq, Eq)]
 pub enum LineFault {
     /// Outside a comment stands a byte that is no blank, letter, digit or one of `_ . , : ( ) -`.
     BadByte,
-    /// A number token isn't an optional `-` and decimal digits or `0x` and hexadecimal digits, or its value isn't
+    /// A number token isn't an optional `-` followed by decimal digits or by `0x` and hexadecimal digits, or its value isn't
     /// from -2147483648 to 4294967295.
     BadNumber,
-    /// The line is longer than 1,024 bytes, or 65,536 lines stand before it.
+    /// The line is longer than 1,024 bytes, or has a number above 65,536.
     LineLimit,
 }
 
-/// A line of a text: its number, from 1, and its tokens in order, or else its fault.
+/// A line of a text: its number, from 1, and either its tokens in order or its fault.
 #[derive(Clone, Debug, Drop)]
 pub struct Line {
     pub number: u32,
@@ -29,7 +29,7 @@ pub struct Line {
     pub fault: Option<LineFault>,
 }
 
-/// The greatest number of bytes of a line, without its newline.
+/// The greatest length of a line in bytes, without its newline.
 const MOST_BYTES: usize = 1024;
 
 /// The greatest number of a line.
@@ -106,15 +106,15 @@ fn read_line(alloc: Global, number: u32, start: usize, line: &[u8]) -> Result<Li
     })
 }
 
-/// Every line of a text of at most 1,048,576 bytes, in order.
+/// All lines of a text of at most 1,048,576 bytes, in order.
 ///
-/// Each newline (byte 10) ends a line, and what follows the last one is a line only if it has a byte. Space, tab and
-/// carriage return are blanks, and `#` makes the rest of its line a comment, whatever bytes that has. Names begin with
-/// a letter, `_` or `.`, numbers with a digit or `-`, and both take in every letter, digit, `_` and `.` after that;
-/// `,`, `:`, `(` and `)` are tokens by themselves. A line with a fault has no tokens.
+/// Each newline (byte 10) ends a line. What follows the last newline is a line only if it has a byte. Space, tab and carriage
+/// return are blanks. `#` begins a comment up to the end of the line, which may have any bytes. A name begins with a letter,
+/// `_` or `.`, and a number with a digit or `-`; both include all letters, digits, `_` and `.` that follow. `,`, `:`, `(` and
+/// `)` are tokens by themselves. A line with a fault has no tokens.
 ///
 /// # Errors
-/// `Memory` where there is no room for the lines.
+/// `Memory` if there is no room for the lines.
 pub fn tokens(alloc: Global, text: &[u8]) -> Result<Vec<Line>, Memory>
     requires { length text.now ≤ 1048576 }
     ensures { IfOk result (λ lines. lines.items ≡ lines_of text.now) }

@@ -1,7 +1,7 @@
 ghost use Rattle.std.specs.Prelude.{◌≡◌, ◌≤◌, IfSome};
 ghost use Rattle.src_text.specs.Number.{if_at_most, digit_of, magnitude_of, number_of, value_after, value_of};
 
-/// The greatest number that a text may hold: a word of 32 bits without sign.
+/// The greatest number of a text: the greatest word of 32 bits without sign.
 const GREATEST: u64 = 4294967295;
 
 /// The greatest number after a minus: the least signed word is -2147483648.

@@ -5,7 +5,7 @@ ghost use Rattle.src_text.specs.RegisterName.{register_row_of, rows_ending_in};
 /// A name of a register, and the register's number.
 type RegisterName = (&'static [u8], u8);
 
-// The names by their last byte, which at most eight of them share: so a look-up compares few.
+// The names by their last byte. At most eight share one, so a look-up compares few.
 
 const IN_0: &[RegisterName] = &[
     (b"x0", 0),
@@ -121,8 +121,8 @@ fn last_byte(name: &[u8]) -> u8
     name.last().copied().unwrap_or(0)
 }
 
-/// The number of the register of this name, from 0 to 31: `x0` to `x31` without leading zeros, or the name of the
-/// calling convention (ABI) as `zero`, `a0` or `fp`. None exactly for other names. Takes no memory.
+/// The number of the register with this name, from 0 to 31; None for any other name. The names are `x0` to `x31` without
+/// leading zeros, and those of the RISC-V calling convention (ABI), such as `zero`, `a0` and `fp`. Takes no memory.
 pub fn register(name: &[u8]) -> Option<u8>
     ensures { result ≡ register_of name.now }
 {

@@ -19,7 +19,7 @@ pub enum TokenKind {
     Right,
 }
 
-/// A token, with the places in the text of its first byte (`start`) and after its last (`end`), in bytes from 0.
+/// A token: `start` and `end` are the positions in the text of its first byte and after its last byte, counted from 0.
 #[derive(Clone, Copy, Debug, PartialEq, Eq)]
 pub struct Token {
     pub kind: TokenKind,
@@ -27,7 +27,7 @@ pub struct Token {
     pub end: u32,
 }
 
-/// Whether a token begins at a byte that stands after `before`.
+/// Whether a token begins at `byte`, which follows `before`.
 fn begins(before: u8, byte: u8) -> bool
     ensures { result ≡ begins_token before byte }
 {
@@ -60,7 +60,7 @@ fn front(bytes: &[u8]) -> &[u8]
     }
 }
 
-/// What kind of token the bytes are. None where they begin as a number and aren't one.
+/// The kind of token that the bytes are. None if they begin as a number and aren't one.
 fn kind(bytes: &[u8]) -> Option<TokenKind>
     requires { 0 < length bytes.now }
     ensures { result ≡ token_kind_of bytes.now }
@@ -75,7 +75,7 @@ fn kind(bytes: &[u8]) -> Option<TokenKind>
     }
 }
 
-/// The tokens of a line's code, which begins at the place `start` of the text. None where a number is bad.
+/// The tokens of a line's code, which begins at the position `start` of the text. None if a number is bad.
 pub(crate) fn scan(
     alloc: Global,
     start: usize,

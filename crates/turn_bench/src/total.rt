@@ -38,7 +38,7 @@ impl Object for Total {
     }
 }
 
-/// The same with the history of its calls, for whoever keeps both under one lock.
+/// The same with the history of its calls, for callers that keep both under one lock.
 #[derive(Drop)]
 pub struct Noted {
     pub total: Total,

@@ -1,4 +1,4 @@
--- What holds of a seat and of the object in the caller's hand, between the steps of one call.
+-- What holds of a seat and of the object that a caller has in its hands, between the steps of one call.
 use Rattle.std.specs.Prelude.{◌≡◌, ℕ, List, [], ◌∷◌, ◌++◌, All, Option, None}
 use Rattle.atomic_table.specs.Table.{Me}
 use Rattle.atomic_table.specs.declared.shared.Seat.{Seat}
@@ -21,7 +21,7 @@ module _ {S X E : Type 0} where
   abbrev pub WaitsForTurn : X → ℕ → Me S (View X E) → Type 0
   WaitsForTurn x ticket me = me ≡ (standing x me.0.own me.0.next (Waiting ticket), [])
 
--- The seat has the turn and nothing in its slot, and the desk in the caller's hand has these calls of its pass after those that the seat knows
+-- The seat has the turn and nothing in its slot. The caller's desk has these calls of its pass after those that the seat knows
 pub record InHand {O I U C : Type 0} (content : O → C) (answer : C → I → U) (next : C → I → C) (x : O) (me : Me (Option (Desk O I U)) (View O (Entry O I U))) (more : List (Entry O I U)) (desk : Desk O I U) : Type 0 where
   pub ticket : ℕ
   pub log : List (Entry O I U)

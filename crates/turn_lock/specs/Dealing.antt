@@ -21,7 +21,8 @@ module _ {O I U : Type 0} where
   abbrev pub IsTrueClaim : List (Entry O I U) → Claim (Entry O I U) → Type 0
   IsTrueClaim history c = BeginsWith history c.seen × (calls_by c.number history ≡ c.mine)
 
--- The seat has taken in all but `left` of `passes`: what its claims and the passes that are left have seen, some pass has seen, and where its claims are true of a history, that history is told by all passes once it is by those that are left
+-- The seat has taken in all of `passes` but those in `left`. Some pass has seen what its claims and the passes left have seen.
+-- If its claims are true of a history and all of `left` tell that history, then all of `passes` tell it
 pub record Gathers {S O I U : Type 0} (passes left : List (Token O I U)) (me : Me S (View O (Entry O I U))) : Type 0 where
   pub slot : me.1 ≡ []
   pub stage : me.0.stage ≡ Idle

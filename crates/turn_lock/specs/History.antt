@@ -22,7 +22,8 @@ module _ {O I U : Type 0} where
   abbrev pub calls_by : ℕ → List (Entry O I U) → List (Entry O I U)
   calls_by number history = filter (λ e. maker e == number) history
 
-  -- applying the inputs of the history one after the other from x gives each call's output, and y at the end
+  -- the history gives the object's answers: applied one after the other from the content x, its inputs give its outputs, and
+  -- the content y at the end
   abbrev pub Legal : {C : Type 0} → (C → I → U) → (C → I → C) → C → List (Entry O I U) → C → Type 0
   Legal answer next x [] y = x ≡ y
   Legal answer next x (e ∷ es) y = (e.output ≡ answer x e.input) × Legal answer next (next x e.input) es y

@@ -23,19 +23,19 @@ const DRAWN: usize = 0;
 
 const SERVED: usize = 1;
 
-// So many times a caller looks whether the line is empty, before it may join others in it.
+// How often a caller looks whether the line is empty, before it joins a line in which others stand.
 const LOOKS: u32 = 8;
 
-// So many times it sleeps after that, where two or more stand in the line.
+// How often it sleeps after that, as long as two or more stand in the line.
 const NAPS: u32 = 5;
 
-// So many looks the next in line takes at once, before it lets others run between two.
+// How many looks the next in line takes without a pause, before it lets other threads run between two looks.
 const SPINS: u32 = 64;
 
-// After so many looks since the line last moved a caller that has three or more before it sleeps between two looks.
+// After so many looks without the line having moved, a caller with three or more before it sleeps between two looks.
 const YIELDS: u32 = 320;
 
-// So many microseconds a first sleep lasts, where the turn isn't passed on before the caller falls asleep.
+// The length of a first sleep in microseconds, unless the turn is passed on before the caller sleeps.
 const NAP: u64 = 20;
 
 // Lets time pass on this thread's processor.

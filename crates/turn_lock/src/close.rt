@@ -15,11 +15,11 @@ use crate::turn::Turn;
 use dn_base::Memory;
 
 impl<O: Object> Turn<O> {
-    /// Ends the sharing: the object, and all calls that were made of it, in their one order. The passes may come in any
-    /// order. Today it takes no memory, and so refuses nothing.
+    /// Ends the sharing. Gives the object, and all calls that were made of it in one order. The passes may come in any order.
+    /// This implementation takes no memory, so it never returns an error.
     ///
     /// # Errors
-    /// `Memory` where there is none; all is handed back untouched.
+    /// `Memory` if there isn't enough; everything is handed back unchanged.
     pub fn close(
         self,
         passes: Vec<TurnPass<O>>,

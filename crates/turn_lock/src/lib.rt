@@ -1,6 +1,6 @@
-//! A turn lock: a sequential object that several callers share, one call at a time, in the order in which they drew
-//! their tickets. All calls stand in one history that a single thread could have made, in which each caller's own
-//! calls stand in its order, each once. `Turn::close` hands that history back beside the object.
+//! A turn lock: a sequential object that several callers share. They make one call at a time, in the order in which they drew
+//! their tickets. All calls stand in one history, which a single thread could have made. Each caller's own calls stand in it in
+//! the caller's order, each exactly once. `Turn::close` gives the object and that history back.
 #![tactic(auto)]
 
 mod call;

@@ -2,14 +2,14 @@ ghost use Rattle.std.specs.Prelude.{◌≡◌, ℕ, ◌≤◌, OnOk};
 
 use dn_base::Memory;
 
-/// A sequential object: what one call answers and leaves follows from the object's content and the call's input.
+/// A sequential object: the answer of a call, and the content that it leaves, are functions of the content and the input.
 pub trait Object {
-    /// What a call is given.
+    /// The input of a call.
     type In: Copy;
-    /// What a call answers.
+    /// The output of a call.
     type Out: Copy;
 
-    /// What the object is, as far as its answers go.
+    /// What of the object its answers depend on.
     ghost Content: { Type 0 };
 
     ghost content: { Self → Content };
@@ -17,21 +17,21 @@ pub trait Object {
     /// For how many more calls the object has memory.
     ghost spare: { Self → ℕ };
 
-    /// What a call answers.
+    /// The output of a call.
     ghost answer: { Content → Self.In → Self.Out };
 
-    /// What a call leaves.
+    /// The content after a call.
     ghost next: { Content → Self.In → Content };
 
-    /// Takes the memory for one more call, and changes nothing else.
+    /// Takes the memory for one more call. The content stays.
     ///
     /// # Errors
-    /// `Memory` where there is none; the content is then as before too.
+    /// `Memory` if there isn't enough; the content stays then too.
     fn reserve(&mut self) -> Result<(), Memory>
         ensures same { content self.new ≡ content self.old }
         ensures room { OnOk result (1 ≤ spare self.new) };
 
-    /// One call, which takes no memory.
+    /// Makes one call. Takes no memory.
     fn step(&mut self, input: Self::In) -> Self::Out
         requires { 1 ≤ spare self.old }
         ensures answer { result ≡ answer (content self.old) input }

@@ -7,8 +7,8 @@ use crate::rule::Chair;
 use crate::turn::Turn;
 use std::marker::Model;
 
-/// A caller's token of one turn: its number, the calls that it made, and the history that it has seen. It goes to any
-/// thread, and each call needs it alone.
+/// A caller's token of one turn: its number, the calls that it made, and the history that it has seen. It may be sent to any
+/// thread. A call needs it exclusively.
 pub struct TurnPass<O: Object> {
     pub(crate) seat: Chair<O>,
     pub(crate) number: u32,
@@ -29,7 +29,7 @@ impl<O: Object> Model for TurnPass<O> {
 }
 
 impl<O: Object> TurnPass<O> {
-    /// How many calls the history has that this pass has seen. Its own last call is the last of them.
+    /// The length of the history that this pass has seen. The last call of that history is the pass's own last call.
     pub fn seen(&self) -> u64
         ensures { result ≡ length self.now.seen }
     {
@@ -58,10 +58,10 @@ impl<O: Object> Drop for TurnPass<O> {
     }
 }
 
-/// Shows that a value may be sent to another thread.
+/// Compiles only if the type may be sent to another thread.
 fn may_be_sent<T: Send>(_value: &T) {}
 
-/// Shows that a value may be shared by threads.
+/// Compiles only if the type may be shared by threads.
 fn may_be_shared<T: Sync>(_value: &T) {}
 
 /// A turn and its passes may be sent to another thread, and a turn may be shared by threads, where the object and what

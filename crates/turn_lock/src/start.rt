@@ -13,15 +13,15 @@ use dn_base::Memory;
 use std::alloc::Global;
 use std::snapshot::Snapshot;
 
-// For so many calls a history has room from the start. What isn't used of it is never touched, and so costs nothing; a history
-// that grows from nothing is copied as often as its length has bits.
+// For how many calls a history has room from the start. Unused room is never touched, and so costs nothing. A history that
+// grows from nothing would be copied log n times.
 const FIRST_CALLS: usize = 4_096;
 
 impl<O: Object> Turn<O> {
-    /// Shares an object among 1 to 17 callers: the turn, and their passes with the numbers from 0 on.
+    /// Shares an object among 1 to 17 callers. Gives the turn, and the callers' passes with the numbers from 0 on.
     ///
     /// # Errors
-    /// `Memory` where there is none; the object is dropped.
+    /// `Memory` if there isn't enough; the object is dropped.
     pub fn start(
         alloc: Global,
         object: O,

@@ -2,8 +2,8 @@ use crate::object::Object;
 use crate::rule::Board;
 use std::marker::Model;
 
-/// A shared object with the line of those who wait for it. Any number of threads may call through a `&Turn`, each with
-/// a pass of its own.
+/// A shared object, with the line of the callers that wait for it. Any number of threads may make calls through a `&Turn`, each
+/// with a pass of its own.
 #[derive(Drop)]
 pub struct Turn<O: Object> {
     pub(crate) table: Board<O>,

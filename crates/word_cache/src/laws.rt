@@ -1,4 +1,4 @@
-//! What the changes of a cache's list come to, for whoever reasons about a core's entries.
+//! What the changes of a cache's list come to, for proofs about a core's entries.
 //! These are laws: functions that do nothing, whose contracts say it.
 ghost use Rattle.std.specs.Prelude.{◌≡◌, ◌≢◌, ℕ, ◌+◌, ◌%◌, ◌<◌, ◌≤◌, ◌==◌, ◌||◌, Bool, true, false, Some, None, List, [], if◌then◌else◌, count_by};
 ghost use Rattle.std.specs.Option.{option_map, is_some};

@@ -1,4 +1,4 @@
-//! What the definitions of insertion and join come to, for whoever reasons about signatures.
+//! What the definitions of insertion and join come to, for proofs about signatures.
 //! These are laws: functions that do nothing, whose contracts say it.
 ghost use Rattle.std.specs.Prelude.{◌≡◌, ◌≢◌, ℕ, ◌<◌, ◌≤◌, ◌||◌, max, false, IsTrue};
 ghost use Rattle.write_signature.specs.declared.signature.Signature.{Signature};
