@@ -1,4 +1,4 @@
--- How the parts of a program are called in sentences about it.
+-- How sentences name the parts of a program.
 use Rattle.std.specs.Prelude.{ℕ, ◌+◌, ◌-◌, ◌/◌, ◌%◌, ◌==◌, nat_lt, List, [], ◌∷◌, ◌++◌, length, replicate, Option, Some, None, codes, slice_get, slice_range, take, map, if◌then◌else◌}
 use Rattle.std.specs.Fmt.{decimal}
 use Rattle.text_pieces.specs.Pieces.{newline}
@@ -12,7 +12,7 @@ use Rattle.text_places.specs.Lines.{numbered_line}
 unfoldable pub indexed : List ℕ → ℕ → List ℕ
 indexed name index = name ++ codes "[" ++ decimal index ++ codes "]"
 
--- a data word by its number, where no region is known to have it
+-- a data word by its number, if no region is known to have it
 unfoldable pub plain_word : ℕ → List ℕ
 plain_word w = codes "word " ++ decimal w
 
@@ -28,7 +28,7 @@ word_text_by regions w None = plain_word w
 abbrev pub word_text : List Region → ℕ → List ℕ
 word_text regions w = word_text_by regions w (word_place regions w)
 
--- a byte of a word, where it isn't the first: `m[3] + 2`
+-- a byte of a word, if it isn't the first: `m[3] + 2`
 unfoldable pub byte_text : ℕ → List ℕ
 byte_text n = if n == 0 then [] else codes " + " ++ decimal n
 
@@ -46,7 +46,7 @@ address_text regions a = if nat_lt a 0x10000000 then outside else address_text_b
 unfoldable pub part_text : ℕ → List ℕ
 part_text part = if part == 0 then [] else codes " (second word)"
 
--- a code word: the line that it comes from, and which of its words it is where the line gives two
+-- a code word: the line that it comes from, and which of its words it is if the line gives two
 unfoldable pub code_text : CodePlace → List ℕ
 code_text p = codes "line " ++ decimal p.line ++ part_text p.part
 
@@ -66,6 +66,6 @@ abbrev pub quoted_by : ℕ → Option (List ℕ) → List ℕ
 quoted_by line (Some bytes) = quoted line bytes
 quoted_by line None = []
 
--- a line of a text after its number; nothing where the text has no such line
+-- a line of a text after its number; nothing if the text has no such line
 abbrev pub quoted_line : List ℕ → ℕ → List ℕ
 quoted_line text line = quoted_by line (numbered_line text line)

@@ -1,7 +1,7 @@
-//! How the parts of a program are called in sentences about it: a data word as `m[3]`, a code word by its line, a lock by its name
-//! and number, and a line of the text after its number.
+//! How sentences name the parts of a program: a data word as `m[3]`, a code word by its line, a lock by its name and number,
+//! and a line of the text after its number.
 //!
-//! Each call adds its piece at the end of a text. What an `Err` leaves there is no part of a text: the caller drops it.
+//! Each call appends its piece to a text. After an `Err` the text may have part of the piece, and the caller drops it.
 #![tactic(auto)]
 
 mod texts;

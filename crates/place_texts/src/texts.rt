@@ -42,7 +42,7 @@ fn push_region_word(
     }
 }
 
-/// Adds a data word of a program: as `m[3]`, or as `word 70` where none of the regions has it.
+/// Appends a data word of a program: as `m[3]`, or as `word 70` if no region has it.
 ///
 /// # Errors
 /// `Memory` where there is no room.
@@ -66,7 +66,7 @@ fn push_byte(out: &mut Vec<u8>, byte: u32) -> Result<(), Memory>
     push_decimal(out, byte)
 }
 
-/// Adds what an address of data points to in a program: a word as `m[3]`, a byte after a word's first as `m[3] + 2`, or `outside of all regions`.
+/// Appends what a data address points to: a word as `m[3]`, a later byte of a word as `m[3] + 2`, or `outside of all regions`.
 ///
 /// # Errors
 /// `Memory` where there is no room.
@@ -96,7 +96,7 @@ fn push_part(out: &mut Vec<u8>, part: u32) -> Result<(), Memory>
     push(out, b" (second word)")
 }
 
-/// Adds the place of a code word: `line 12`, or `line 12 (second word)` for the second word of `li` and `la`.
+/// Appends the origin of a code word: `line 12`, or `line 12 (second word)` for the second word of `li` and `la`.
 ///
 /// # Errors
 /// `Memory` where there is no room.
@@ -109,7 +109,7 @@ pub fn push_code_place(out: &mut Vec<u8>, place: CodePlace) -> Result<(), Memory
     push_part(out, place.part)
 }
 
-/// Adds a lock by its name and number, as `k (lock 0)`; by its number alone where there is no such lock.
+/// Appends a lock by its name and number, as `k (lock 0)`, or by its number alone if there is no such lock.
 ///
 /// # Errors
 /// `Memory` where there is no room.
@@ -141,7 +141,7 @@ fn push_quoted(out: &mut Vec<u8>, line: u32, bytes: &[u8]) -> Result<(), Memory>
     push(out, b"\n")
 }
 
-/// Adds a line of a text after its number, as `12 | la t0, m`, with a newline; nothing where the text has no such line.
+/// Appends a line of a text after its number, as `12 | la t0, m`, and a newline. Nothing if the text has no such line.
 ///
 /// # Errors
 /// `Memory` where there is no room.

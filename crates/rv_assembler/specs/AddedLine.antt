@@ -1,4 +1,4 @@
--- The assembler's way over one line: its code words are made once, for the tests and for the code.
+-- How the assembler adds one line: it makes the code words once, and uses them for the tests and for the code.
 use Rattle.std.specs.Prelude.{ℕ, Bool, false, List, [], Option, Some, None, Result, Ok, Err}
 use Rattle.rv_assembler.specs.declared.fault.SourceFault.{SourceFault}
 use Rattle.rv_assembler.specs.declared.statement.Statement.{Statement}
@@ -29,7 +29,7 @@ abbrev pub words_if_any : Option Emission → List ℕ
 words_if_any None = []
 words_if_any (Some e) = words_in e
 
--- what there is after a line, or its first fault
+-- the draft after a line, or the line's first fault
 abbrev pub draft_behind : Bool → List ℕ → (List ℕ → Option Meaning) → Draft → Reading → Result Draft SourceFault
 draft_behind version_2 text names d (Bad f) = Err f
 draft_behind version_2 text names d (Good s) = unless_fault (fault_on_line version_2 text names d s) (Ok (draft_after text names d s.statement))

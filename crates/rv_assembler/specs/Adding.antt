@@ -1,5 +1,5 @@
--- The assembler's way to a program or a fault: the lines are added up one by one, with counts that stand still at the greatest
--- number of 32 bits. The meaning of a text is defined in Source; this gives the same.
+-- How the assembler finds a program or a fault: it adds up the lines one by one, with counts that stay at the greatest number
+-- of 32 bits. The meaning of a text is defined in Source; this gives the same.
 use Rattle.std.specs.Prelude.{ℕ, ◌%◌, ◌^◌, Bool, nat_lt, List, [], ◌∷◌, ◌++◌, length, map, Option, Some, None, Result, Ok, Err, if◌then◌else◌}
 use Rattle.std.specs.Option.{option_or}
 use Rattle.region_table.specs.Program.{ProgramParts}
@@ -51,7 +51,7 @@ draft_with text names d (statement.TheVariants.Tasks f) = with_tasks d (wrapped_
 draft_with text names d (statement.TheVariants.Uses e) =
     record d { claims = d.claims ++ claims_for d.phases d.family (region_span (names (bytes_of text e.region))) (usage_of text names e) e.extent }
 
--- what there is after a statement
+-- the draft after a statement
 abbrev pub draft_after : List ℕ → (List ℕ → Option Meaning) → Draft → Statement → Draft
 draft_after text names d s = record (draft_with text names d s) { count = count_behind d.count s }
 
@@ -63,7 +63,7 @@ abbrev pub unless_fault : Option SourceFault → Result Draft SourceFault → Re
 unless_fault (Some f) r = Err f
 unless_fault None r = r
 
--- line by line: the first line with a fault decides, and else all lines add up
+-- line by line: the first line with a fault decides, otherwise all lines are added up
 abbrev pub total : Bool → List ℕ → (List ℕ → Option Meaning) → Draft → List Reading → Result Draft SourceFault
 total version_2 text names d [] = Ok d
 total version_2 text names d (Bad f ∷ rs) = Err f

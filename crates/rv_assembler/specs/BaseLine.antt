@@ -1,4 +1,4 @@
--- The pseudo-instructions that stand for one instruction, each with the line of that instruction, for the law
+-- The pseudo-instructions that stand for one instruction, each with its base line: the line of that instruction. For the law
 -- `a_pseudo_instruction_has_its_base_line`.
 use Rattle.std.specs.Prelude.{◌≡◌, ℕ, ℤ, pos, neg_ℤ, Bool, List, [], ◌∷◌, Option, Some, Ok, codes}
 use Rattle.std.specs.List.{AllZip}
@@ -13,7 +13,7 @@ use Rattle.rv_assembler.specs.Operand.{bytes_of, token_at}
 use Rattle.rv_assembler.specs.Emission.{emission}
 use Rattle.rv_assembler.specs.Reading.{statement_in}
 
--- what stands at a place of the base line: the token at a place of the pseudo-instruction's operands, a register, a number, or a mark
+-- a part of the base line: a token of the pseudo-instruction's operands, a register, a number, or a mark
 pub data BasePart : Type 0 where
   FromLine : ℕ → BasePart
   XRegister : ℕ → BasePart
@@ -84,8 +84,8 @@ pub record ArePseudoLines (p : Pseudo) (text : List ℕ) (w b : Token) (ts us : 
   pub base : bytes_of text b ≡ p.base
   pub operands : AllZip (IsBaseToken text ts) p.operands us
 
--- the tokens of a line say an instruction that has the same words as this one, or the same fault, wherever they stand and whatever
--- names mean
+-- the tokens of a line say an instruction that has the same words as this one, or the same fault, wherever they stand and
+-- whatever names mean
 pub record SaysTheSame (version_2 : Bool) (text : List ℕ) (line : ℕ) (tokens : List Token) (c : Code) : Type 0 where
   pub code : Code
   pub said : statement_in version_2 text line tokens ≡ Ok (Instruction code)

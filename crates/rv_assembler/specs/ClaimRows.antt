@@ -1,5 +1,5 @@
--- The claims of a text in rows: one for each phase, core and usage, which has the intervals that are claimed so. Each claim goes to
--- its row, and the words of a task are read from its rows.
+-- The claims of a text in rows. There is one row for each phase, core and usage, with the intervals that are claimed so. Each
+-- claim goes into its row, and the words of a task are read from its rows.
 use Rattle.std.specs.Prelude.{◌≡◌, ℕ, ◌+◌, ◌*◌, ◌<◌, ◌≤◌, Bool, true, ◌&&◌, nat_lt, List, [], ◌++◌, length, map, slice_set, slice_index_or, Option, option_map, find, filter, filter_map, if◌then◌else◌}
 use Rattle.std.specs.List.{All, range_with_len}
 use Rattle.std.specs.Option.{option_to_list}
@@ -15,14 +15,14 @@ use Rattle.rv_assembler.specs.Union.{united}
 use Rattle.rv_assembler.specs.Program.{is_claim_of, is_task}
 use Rattle.rv_assembler.specs.Finishing.{interval_within}
 
--- the number of a usage among those of a task, of which there are 66 with the most locks
+-- the number of a usage among those of a task; with the most locks there are 66
 abbrev pub usage_number : Usage → ℕ
 usage_number Reads = 0
 usage_number Writes = 1
 usage_number (GuardedReads lock) = 2 + 2 * lock
 usage_number (GuardedWrites lock) = 3 + 2 * lock
 
--- the place of the row of a phase, a core and a usage
+-- the index of the row of a phase, a core and a usage
 abbrev pub claim_row : ℕ → ℕ → Usage → ℕ
 claim_row phase core usage = 1056 * phase + 66 * core + usage_number usage
 
@@ -44,7 +44,7 @@ noted_claim words c rows =
 abbrev pub claimed_so : ℕ → Start → Usage → List Claim → List Interval
 claimed_so words t usage claims = filter_map (interval_within words usage) (filter (is_claim_of t) claims)
 
--- the rows have all claims but those of `rest`, which are the last ones
+-- the rows have all claims except those of `rest`, which are the last ones
 abbrev pub HasClaimsBut : ℕ → List Claim → List Claim → List (List Interval) → Type 0
 HasClaimsBut words claims rest rows =
     (t : Start) (usage : Usage) → has_claim_row t.core usage ≡ true → claim_row t.phase t.core usage < length rows
@@ -56,7 +56,7 @@ HasClaims words claims rows =
     (t : Start) (usage : Usage) → has_claim_row t.core usage ≡ true → claim_row t.phase t.core usage < length rows
     → intervals_at rows (claim_row t.phase t.core usage) ≡ claimed_so words t usage claims
 
--- the interval has a word, and words of the memory alone
+-- the interval isn't empty, and has only words of the memory
 abbrev pub IsSomeWithin : ℕ → Interval → Type 0
 IsSomeWithin words i = (i.lo < i.hi) × (i.hi ≤ words)
 

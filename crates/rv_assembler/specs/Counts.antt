@@ -1,4 +1,4 @@
--- How much the statements of some lines are together.
+-- How many code words, data words, regions, locks and phases some lines have together.
 use Rattle.std.specs.Prelude.{ℕ, ℤ, ◌≤◌, if◌then◌else◌, Bool, true, false, List, Option, Some, None, filter_map, sum_by, count_by, unwrap_or}
 use Rattle.std.specs.List.{last_or}
 use Rattle.rv_assembler.specs.declared.statement.Statement.{Statement}
@@ -11,7 +11,7 @@ use Rattle.rv_assembler.specs.Size.{code_word_count}
 use Rattle.rv_assembler.specs.Named.{no_cores}
 use Rattle.rv_assembler.specs.Placed.{Placed}
 
--- how many words a region has; none where its number is out of its range
+-- how many words a region has; none if its number is out of range
 abbrev pub region_words : ℤ → ℕ
 region_words len = if is_length len then natural_of len else 0
 
@@ -36,7 +36,7 @@ abbrev pub is_phase : Statement → Bool
 is_phase statement.TheVariants.Phase = true
 is_phase _ = false
 
--- the code words of some lines, and their data words, which are the lengths of their regions together
+-- the number of code words of some lines, and of data words, which is the sum of the lengths of their regions
 abbrev pub code_words : List Saying → ℕ
 code_words ss = sum_by (λ (s : Saying). code_size s.statement) ss
 
@@ -66,8 +66,8 @@ current_family _ = None
 abbrev pub family_in : List Saying → Cores
 family_in ss = unwrap_or (last_or None (filter_map (λ (s : Saying). current_family s.statement) ss)) no_cores
 
--- What stands before a line of good form has 32 bits: where its label points, where its region begins, and the numbers of its
--- region, its lock and its phase.
+-- What stands before a line of good form fits 32 bits: the number of the code word to which its label points, the first word of
+-- its region, and the numbers of its region, its lock and its phase.
 pub record HasFewBefore (p : Placed Saying) : Type 0 where
   pub code : code_words p.before ≤ 131070
   pub words : data_words p.before ≤ 4294901760

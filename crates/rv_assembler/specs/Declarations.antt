@@ -16,12 +16,12 @@ pub record Declaration : Type 0 where
   pub name : List ℕ
   pub meaning : Meaning
 
--- a label stands for the next code word, which has as many before it as the lines before
+-- a label names the next code word, whose number is how many the lines before have
 abbrev pub label_by : List ℕ → List Saying → ℕ → Option Token → List Declaration
 label_by text before line None = []
 label_by text before line (Some t) = record { name = bytes_of text t; meaning = meaning.TheVariants.Label line (code_words before) } ∷ []
 
--- a region begins after all the data words of the lines before; regions and locks are numbered from 0
+-- a region begins after all data words of the lines before; regions and locks are numbered from 0
 abbrev pub named_by : List ℕ → List Saying → Statement → List Declaration
 named_by text before (statement.TheVariants.Region name len) =
     record { name = bytes_of text name; meaning = meaning.TheVariants.Region (regions_in before) (data_words before) len } ∷ []

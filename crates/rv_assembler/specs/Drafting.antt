@@ -1,5 +1,5 @@
--- The assembler's way to the rows that a statement gives: numbers are taken modulo 2^32, and the number of a core stands still at
--- the greatest number of 32 bits. Rows defines the rows; in a text without a fault this gives the same.
+-- How the assembler makes the rows of a statement: numbers are taken modulo 2^32, and the number of a core stays at the
+-- greatest number of 32 bits. Rows defines the rows; in a text without a fault this gives the same.
 use Rattle.std.specs.Prelude.{ℕ, zero, suc, ◌+◌, ◌%◌, ◌^◌, ℤ, List, [], ◌∷◌, Option, Some, None}
 use Rattle.src_text.specs.declared.token.Token.{Token}
 use Rattle.src_text.specs.declared.token.TokenKind as token
@@ -30,7 +30,7 @@ wrapped_entry_by names name _ = wrapped_entry_at (label_index (names name))
 abbrev pub wrapped_entry : List ℕ → (List ℕ → Option Meaning) → Token → ℕ
 wrapped_entry text names t = wrapped_entry_by names (bytes_of text t) t.kind
 
--- tasks from the first on, each on the next core and with an argument that is a step more
+-- tasks from the first on: each next one is on the next core, and its argument is a step greater
 abbrev pub next_task : Start → ℕ → Start
 next_task t step = record { phase = t.phase; core = more t.core 1; entry = t.entry; arg = (t.arg + step) % 2 ^ 32 }
 
@@ -38,7 +38,7 @@ abbrev pub members : Start → ℕ → ℕ → List Start
 members t step zero = []
 members t step (suc n) = t ∷ members (next_task t step) step n
 
--- the words of an effect on the first of the current tasks, and how much further the next one has them
+-- the words of an effect for the first of the current tasks, and by how much they move for each next task
 abbrev pub extent_start : Span → Extent → ℕ
 extent_start p extent.TheVariants.Whole = p.start
 extent_start p (extent.TheVariants.Part lo hi) = (p.start + wrapped lo) % 2 ^ 32
@@ -53,7 +53,7 @@ abbrev pub step_of : Extent → ℕ
 step_of (extent.TheVariants.Stepped lo hi step) = wrapped step
 step_of _ = 0
 
--- claims of the tasks from the first on, each on the next core and a step further
+-- claims of the tasks from the first on: each next one is on the next core and a step further
 abbrev pub next_claim : Claim → ℕ → Claim
 next_claim c step = record { phase = c.phase; core = more c.core 1; usage = c.usage; lo = (c.lo + step) % 2 ^ 32; hi = (c.hi + step) % 2 ^ 32 }
 

@@ -42,8 +42,9 @@ branch c a b (Some z) = one_if (is_branch z) (instr.TheVariants.Branch c a b z)
 abbrev pub store : Width → ℕ → ℕ → ℤ → Emission
 store width src base z = one_if (is_stored width && is_immediate z) (instr.TheVariants.Store width src base z)
 
--- A value modulo 2^32 is loaded by LUI and ADDI. ADDI adds the low twelve bits with their sign, so 2048 is carried. The sum is
--- taken modulo 2^32, as the RISC-V unprivileged manual has it for both instructions.
+-- LUI and ADDI load a value modulo 2^32. ADDI adds the low twelve bits as a signed number. So LUI's number is rounded: 2048 is
+-- added before the low bits are cut off. The sum is taken modulo 2^32, as the RISC-V unprivileged manual says for both
+-- instructions.
 abbrev pub high : ℕ → ℕ
 high v = (v + 2048) % 2 ^ 32 / 4096
 
@@ -70,11 +71,11 @@ abbrev pub label_index : Option Meaning → Option ℕ
 label_index (Some (meaning.TheVariants.Label line place)) = Some place
 label_index _ = None
 
--- how far a code word is from another, in bytes
+-- the distance from one code word to another, in bytes
 abbrev pub distance : ℕ → ℕ → ℤ
 distance here place = (pos place -ℤ pos here) *ℤ pos 4
 
--- the offset of a target: a number, or how far a label is
+-- the offset of a target: the number itself, or the distance to the label
 abbrev pub offset_by : (List ℕ → Option Meaning) → ℕ → List ℕ → TokenKind → Option ℤ
 offset_by names here name (token.TheVariants.Number n) = Some n
 offset_by names here name _ = option_map (distance here) (label_index (names name))

@@ -1,4 +1,4 @@
--- The lines of `.task` and of effects that a line of `.forall`, and an effect after it, stand for, for the law
+-- The lines of `.task` and of effects for which a line of `.forall`, and an effect after it, stand. For the law
 -- `a_family_has_the_rows_of_its_lines`.
 use Rattle.std.specs.Prelude.{◌≡◌, ℕ, ◌+◌, ◌<◌, pos, ◌+ℤ◌, ◌*ℤ◌, List, Option, Some, flat_map}
 use Rattle.std.specs.List.{range_with_len}
@@ -28,8 +28,8 @@ pub record IsTaskLine (text : List ℕ) (ts : List Token) (i : ℕ) (us : List T
 abbrev pub one_of : Cores → ℕ → Cores
 one_of family i = record { first = family.first + i; count = 1 }
 
--- the tasks of a `.forall` line are those of its `.task` lines, one for each of its cores, and each of these lines has its task alone as
--- the current one
+-- the tasks of a `.forall` line are those of its `.task` lines, one for each of its cores; after each of these lines its task
+-- is the only current one
 pub record HasTaskLines (text : List ℕ) (ts : List Token) (lines : ℕ → List Token) : Type 0 where
   pub tasks : (names : List ℕ → Option Meaning) (phase : ℕ)
       → tasks_by text names phase (directive_for ts Forall) ≡ flat_map (λ i. tasks_by text names phase (directive_for (lines i) Task)) (range_with_len 0 (natural_of (number_at ts 2)))

@@ -1,6 +1,6 @@
--- The faults of a line of good form, each as a test: of the line, of the lines of good form before it and their tables, and of what
--- names mean.
--- What is far is a number out of its range, or a label too far away; what is lost is a name that isn't declared as what is wanted.
+-- The faults of a line of good form, each as a test of the line, of the lines of good form before it and their tables, and of
+-- what names mean. Tests with `far` in their name find a number out of its range, or a label that is too far away. Tests with
+-- `lost` find a name that isn't declared as what is wanted.
 use Rattle.std.specs.Prelude.{ℕ, ◌%◌, ℤ, pos, ◌+ℤ◌, ◌*ℤ◌, int_le, int_lt, Bool, true, false, not, ◌&&◌, ◌||◌, nat_lt, ◌==◌, List, length, Option, Some, None, is_none, if◌then◌else◌}
 use Rattle.std.specs.List.{list_all, list_any, range_with_len}
 use Rattle.src_text.specs.declared.token.Token.{Token}
@@ -36,7 +36,7 @@ abbrev pub is_lost : Emission → Bool
 is_lost Unknown = true
 is_lost _ = false
 
--- whether the interval of task i is one of the region: that of the effect, moved on i times by the step
+-- whether the effect's interval, moved on i times by the step, lies in the region; it is the interval of task i
 abbrev pub fits_at : ℤ → ℤ → ℤ → ℤ → ℕ → Bool
 fits_at len step lo hi i = is_interval (lo +ℤ pos i *ℤ step) (hi +ℤ pos i *ℤ step) len
 
@@ -44,7 +44,7 @@ fits_at len step lo hi i = is_interval (lo +ℤ pos i *ℤ step) (hi +ℤ pos i 
 abbrev pub stepped_fits : ℤ → ℤ → ℤ → ℤ → ℕ → Bool
 stepped_fits len step lo hi n = list_all (fits_at len step lo hi) (range_with_len 0 n)
 
--- where the region isn't declared its words aren't tested
+-- whether the words of an effect are too far; if the region isn't declared, they aren't tested
 abbrev pub extent_far : Option Span → Extent → ℕ → Bool
 extent_far None e n = false
 extent_far (Some p) extent.TheVariants.Whole n = false
@@ -127,7 +127,7 @@ over_limit version_2 d =
     nat_lt 16384 (length d.code) || (nat_lt 65536 d.count.words || (nat_lt (most_regions version_2) (length d.regions)
     || (nat_lt 32 (length d.locks) || (nat_lt 64 d.phases || nat_lt 64 (length d.tasks)))))
 
--- the first fault of a line, except for the limits, where `again` is whether it declares a name that is declared
+-- the first fault of a line, except for the limits; `again` says whether the line declares a name that is already declared
 abbrev pub first_fault : Bool → List ℕ → (List ℕ → Option Meaning) → Draft → Saying → Option SourceFault
 first_fault again text names d s =
     if out_of_range text names d s.statement then Some (fault.TheVariants.OutOfRange s.line)

@@ -1,5 +1,5 @@
--- The assembler's way from the tables to the program: the first values are stored one by one, and claims count where they are of
--- words of the memory. Program defines the program; for the tables of a text without a fault this gives the same.
+-- How the assembler makes the program from the tables: it stores the first values one by one, and a claim counts if its words
+-- are words of the memory. Program defines the program; for the tables of a text without a fault this gives the same.
 use Rattle.std.specs.Prelude.{ℕ, ◌&&◌, nat_lt, nat_le, List, [], ◌∷◌, length, map, replicate, slice_set, Option, Some, None, option_map, find, filter, filter_map, if◌then◌else◌}
 use Rattle.std.specs.List.{range_with_len}
 use Rattle.region_table.specs.declared.interval.Interval.{Interval}
@@ -16,7 +16,7 @@ use Rattle.rv_assembler.specs.declared.draft.Draft.{Draft}
 use Rattle.rv_assembler.specs.Union.{united}
 use Rattle.rv_assembler.specs.Program.{same_usage, is_claim_of, is_task}
 
--- the memory with its first values; a later one wins
+-- the memory with its first values; of two for one word the later one wins
 abbrev pub with_first_values : List ℕ → List FirstValue → List ℕ
 with_first_values memory [] = memory
 with_first_values memory (v ∷ vs) = with_first_values (slice_set memory v.word v.value) vs
@@ -30,7 +30,7 @@ interval_within words usage c =
 abbrev pub words_within : ℕ → List Claim → Usage → List Interval
 words_within words claims usage = united (filter_map (interval_within words usage) claims)
 
--- the words that claims have while their tasks hold a lock
+-- the words that claims name under a lock
 abbrev pub guarded_reads_within : ℕ → List Claim → ℕ → List Interval
 guarded_reads_within words claims lock = words_within words claims (GuardedReads lock)
 

@@ -1,5 +1,5 @@
--- The assembler's way to the names of a text: line by line, with counts of what is declared so far. The counts stand still
--- at the greatest number of 32 bits. What names mean is defined in Declarations; this gives the same.
+-- How the assembler finds the names of a text: line by line, with counts of what is declared so far, which stay at the greatest
+-- number of 32 bits. Declarations defines what names mean; this gives the same.
 use Rattle.std.specs.Prelude.{ℕ, ◌+◌, ◌-◌, ◌^◌, min, List, [], ◌∷◌, Option, Some, None, if◌then◌else◌, bytes_eq}
 use Rattle.std.specs.Option.{option_or}
 use Rattle.src_text.specs.declared.token.Token.{Token}
@@ -15,21 +15,21 @@ use Rattle.rv_assembler.specs.Operand.{bytes_of}
 use Rattle.rv_assembler.specs.Size.{code_word_count}
 use Rattle.rv_assembler.specs.Counts.{region_words}
 
--- a count after some more; counts stand still at the greatest number of 32 bits, far above every limit
+-- a count increased by another; it stays at the greatest number of 32 bits, which is far above every limit
 abbrev pub more : ℕ → ℕ → ℕ
 more count by = min (count + by) (2 ^ 32 - 1)
 
 abbrev pub no_count : Count
 no_count = record { code = 0; words = 0; regions = 0; locks = 0 }
 
--- how much is declared after a statement
+-- the counts after a statement
 abbrev pub count_behind : Count → Statement → Count
 count_behind c (statement.TheVariants.Instruction k) = record { code = more c.code (code_word_count k); words = c.words; regions = c.regions; locks = c.locks }
 count_behind c (statement.TheVariants.Region name len) = record { code = c.code; words = more c.words (region_words len); regions = more c.regions 1; locks = c.locks }
 count_behind c (statement.TheVariants.Lock name) = record { code = c.code; words = c.words; regions = c.regions; locks = more c.locks 1 }
 count_behind c _ = c
 
--- lines of bad form declare nothing
+-- the counts after a line; a line of bad form declares nothing
 abbrev pub count_after : Count → Reading → Count
 count_after c (Bad f) = c
 count_after c (Good s) = count_behind c s.statement

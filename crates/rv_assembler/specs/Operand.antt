@@ -1,16 +1,16 @@
--- The operands of a statement, by the places of their tokens. Where the operands have the form of a statement, each token that is
--- asked for is there and of its kind; what is said for one that isn't is asked for in no line of good form.
+-- The operands of a statement, by the indices of their tokens. If the operands have the form of a statement, each token that is
+-- asked for is there and of the right kind. The values for missing tokens are never used for a line of good form.
 use Rattle.std.specs.Prelude.{ℕ, ℤ, pos, ◌&&◌, nat_le, List, [], length, slice_range, slice_index_or, Option, Some, None, if◌then◌else◌}
 use Rattle.src_text.specs.Register.{register_of}
 use Rattle.src_text.specs.declared.token.Token.{Token}
 use Rattle.src_text.specs.declared.token.TokenKind as token
 use Rattle.src_text.specs.declared.token.TokenKind.{TokenKind}
 
--- the bytes of a token; none where its place isn't one of the text
+-- the bytes of a token; none if its positions aren't in the text
 abbrev pub bytes_of : List ℕ → Token → List ℕ
 bytes_of text t = if nat_le t.start t.end && nat_le t.end (length text) then slice_range text t.start t.end else []
 
--- what stands where no token is
+-- the value for a missing token
 abbrev pub no_token : Token
 no_token = record { kind = token.TheVariants.Comma; start = 0; end = 0 }
 

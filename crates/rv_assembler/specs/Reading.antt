@@ -27,7 +27,7 @@ use Rattle.rv_assembler.specs.Number.{wrapped}
 use Rattle.rv_assembler.specs.Operand.{bytes_of, token_at, number_at, register_at}
 use Rattle.rv_assembler.specs.Shape.{knows_word, kind_for, is_name, is_colon, is_plain}
 
--- the code of a mnemonic; operands stand at the places of their tokens, with a comma or a parenthesis between
+-- the code of a mnemonic; operands are at the indices of their tokens, with a comma or a parenthesis between them
 abbrev pub code_for : List ℕ → List Token → Mnemonic → Code
 code_for text ts mnemonic.TheVariants.Lui = Upper false (register_at text ts 0) (number_at ts 2)
 code_for text ts mnemonic.TheVariants.Auipc = Upper true (register_at text ts 0) (number_at ts 2)
@@ -55,7 +55,7 @@ code_for text ts mnemonic.TheVariants.Li = LoadNumber (register_at text ts 0) (n
 code_for text ts mnemonic.TheVariants.La = LoadAddress (register_at text ts 0) (token_at ts 2)
 code_for text ts mnemonic.TheVariants.Raw = Raw (number_at ts 0)
 
--- the words of an effect whose region stands at a place of the operands
+-- the words of an effect whose region is at an index of the operands
 abbrev pub extent_for : List Token → Form → ℕ → Extent
 extent_for ts form.TheVariants.Whole i = extent.TheVariants.Whole
 extent_for ts form.TheVariants.Part i = extent.TheVariants.Part (number_at ts (i + 2)) (number_at ts (i + 4))
@@ -76,7 +76,7 @@ abbrev pub statement_for : List ℕ → List Token → Kind → Statement
 statement_for text ts (kind.TheVariants.Code m) = statement.TheVariants.Instruction (code_for text ts m)
 statement_for text ts (kind.TheVariants.Table d) = directive_for ts d
 
--- the statement of a row, if some row fits
+-- the statement of a row, if some row fits; otherwise the fault
 abbrev pub statement_of : List ℕ → ℕ → List Token → Option Kind → Result Statement SourceFault
 statement_of text line ts None = Err (fault.TheVariants.BadOperand line)
 statement_of text line ts (Some k) = Ok (statement_for text ts k)
@@ -118,7 +118,7 @@ abbrev pub read_line : Bool → List ℕ → ℕ → List Token → Option LineF
 read_line version_2 text line ts (Some f) = Bad (fault_of_line line f)
 read_line version_2 text line ts None = read_tokens version_2 text line ts
 
--- the version line says nothing; its number is 0 where the text is of version 1
+-- what a line says; the version line says nothing, and its number is 0 for a text of version 1
 abbrev pub reading_of : ℕ → List ℕ → Line → Reading
 reading_of version text l =
     if l.number == version then Good (record { line = l.number; label = None; statement = statement.TheVariants.Nothing })
@@ -138,7 +138,8 @@ is_version text l = is_version_of text l.tokens
 abbrev pub is_blank_line : Line → Bool
 is_blank_line l = is_none l.fault && length l.tokens == 0
 
--- the first line that isn't blank decides the version: the number of the version line, or 0, which is no line's number, for version 1
+-- the number of the version line, which is the first line that isn't blank if it says version 2; otherwise 0, which is no
+-- line's number
 abbrev pub version_line : List ℕ → List Line → ℕ
 version_line text [] = 0
 version_line text (l ∷ ls) = if is_blank_line l then version_line text ls else (if is_version text l then l.number else 0)

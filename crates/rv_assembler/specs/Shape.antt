@@ -18,8 +18,8 @@ use Rattle.rv_assembler.specs.declared.kind.Kind.{Kind}
 use Rattle.rv_assembler.specs.declared.kind.Kind.TheVariants.{Code, Table}
 use Rattle.rv_assembler.specs.Operand.{bytes_of}
 
--- a row of the table: the word that begins the statement, what its operands may be, one token for each piece, and
--- whether only version 2 has it
+-- a row of the table: the word that begins the statement, its operands as pieces, one token for each piece, and whether only
+-- version 2 has it
 pub record Shape : Type 0 where
   pub word : List ℕ
   pub operands : List Piece

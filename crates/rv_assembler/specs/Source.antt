@@ -1,8 +1,8 @@
--- The meaning of a source text: a program, or its first fault. Begin here, and read on in Reading (what a line says by itself, with
--- Shape, Operand and Number), Declarations (names), Tables (what lines declare, with Counts, Named, Emission and Rows), Fault, and
--- Program. The types stand beside the code: what a line says (`Saying`, `Reading`) in src/reading.rt, statements in src/statement.rt,
--- what names mean in src/names.rt, the tables and their rows (`Draft`; `Start`, a task; `Claim`, words that a task uses; `FirstValue`;
--- `Cores`, those of the current tasks) in src/draft.rt, and faults in src/fault.rt.
+-- The meaning of a source text: a program, or the text's first fault. Begin here. Then read Reading (what a line says by
+-- itself, with Shape, Operand and Number), Declarations (names), Tables (what lines declare, with Counts, Named, Emission and
+-- Rows), Fault, and Program. The types stand in the code: what a line says (`Saying`, `Reading`) in src/reading.rt, statements
+-- in src/statement.rt, what names mean in src/names.rt, the tables and their rows (`Draft`; `Start`, a task; `Claim`, words
+-- that a task uses; `FirstValue`; `Cores`, those of the current tasks) in src/draft.rt, and faults in src/fault.rt.
 use Rattle.std.specs.Prelude.{ℕ, Bool, nat_lt, List, [], ◌∷◌, ◌++◌, length, map, filter_map, Option, Some, None, Result, Ok, Err, if◌then◌else◌}
 use Rattle.std.specs.Option.{option_or}
 use Rattle.region_table.specs.Program.{ProgramParts}
@@ -41,12 +41,12 @@ fault_at version_2 text names p = line_fault version_2 text names (sayings p.bef
 abbrev pub faults : Bool → List ℕ → (List ℕ → Option Meaning) → List Reading → List SourceFault
 faults version_2 text names rs = filter_map (fault_at version_2 text names) (placed rs)
 
--- the first fault, or else the program
+-- the first fault, or the program if there is none
 abbrev pub without_faults : List SourceFault → ProgramParts → Result ProgramParts SourceFault
 without_faults [] p = Ok p
 without_faults (f ∷ fs) p = Err f
 
--- what the lines of a text say, where names mean what the first line that declares them says
+-- what the lines of a text say; a name means what the first line that declares it says
 abbrev pub said_by : Bool → List ℕ → List Reading → Result ProgramParts SourceFault
 said_by version_2 text rs =
     let names = meaning_of text (sayings rs) in without_faults (faults version_2 text names rs) (program_of (tables text names (sayings rs)))
@@ -55,7 +55,7 @@ said_by version_2 text rs =
 abbrev pub readings : List ℕ → List Reading
 readings text = let ls = lines_of text in map (reading_of (version_line text ls) text) ls
 
--- the program of a text, or its first fault; the version line has the number 0 where the text is of version 1
+-- the program of a text, or its first fault; for a text of version 1 the version line has the number 0
 abbrev pub source : List ℕ → Result ProgramParts SourceFault
 source text =
     if nat_lt 1048576 (length text) then Err fault.TheVariants.TooLarge

@@ -1,5 +1,5 @@
--- The assembler's test of a line of good form: by the tables so far, and by what names mean. The faults are defined in Fault; this finds
--- the same.
+-- How the assembler tests a line of good form: by the tables so far, and by what names mean. Fault defines the faults; this
+-- finds the same.
 use Rattle.std.specs.Prelude.{ℕ, Bool, true, false, not, ◌||◌, ◌==◌, List, Option, Some, None}
 use Rattle.src_text.specs.declared.token.Token.{Token}
 use Rattle.rv_assembler.specs.declared.fault.SourceFault.{SourceFault}
@@ -13,8 +13,8 @@ use Rattle.rv_assembler.specs.declared.draft.Draft.{Draft}
 use Rattle.rv_assembler.specs.Operand.{bytes_of}
 use Rattle.rv_assembler.specs.Fault.{first_fault}
 
--- A name means what the first line that declares it says. So a line declares a name that is declared before where the name means
--- something other than what this line says: the label of another line, or the region or lock of another number.
+-- A name means what the first line that declares it says. So a line declares a name again if the name means something else than
+-- this line says: the label of another line, or a region or lock with another number.
 abbrev pub label_doubled : Option Meaning → ℕ → Bool
 label_doubled (Some (meaning.TheVariants.Label first place)) line = not (first == line)
 label_doubled _ line = true

@@ -8,8 +8,8 @@ use Rattle.rv_isa.specs.declared.instr.Instr.TheVariants.{Lui, OpImm}
 use Rattle.rv_assembler.specs.declared.emission.Emission.{Emission}
 use Rattle.rv_assembler.specs.declared.emission.Emission.TheVariants.{Two}
 
--- The first word is LUI, which puts its number into bits 31 to 12 of a register and 0 into the others; the second is ADDI, which adds
--- to that register. The sum is the value, which the register has then, unless it is x0.
+-- The first word is LUI. It puts its number into bits 31 to 12 of a register, and 0 into the others. The second is ADDI, which
+-- adds to that register. The register then has the value, unless it is x0.
 pub record MakesValue (rd value : ℕ) (e : Emission) : Type 0 where
   pub first : ℕ
   pub second : ℕ

@@ -1,4 +1,4 @@
--- What holds once no line has a fault.
+-- What holds if no line has a fault.
 use Rattle.std.specs.Prelude.{◌≤◌, length}
 use Rattle.region_table.specs.Program.{IsProgram}
 use Rattle.rv_assembler.specs.declared.draft.Draft.{Draft}

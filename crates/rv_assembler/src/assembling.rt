@@ -21,7 +21,7 @@ use region_table::Program;
 use src_text::tokens;
 use std::alloc::Global;
 
-/// Adds a line, or tells its first fault.
+/// Adds a line, or gives its first fault.
 fn add_line<'a>(
     alloc: Global,
     version_2: bool,
@@ -112,16 +112,17 @@ fn program_by_lines(alloc: Global, text: &[u8]) -> Result<Program, SourceFault>
     Ok(finish(alloc, draft)?)
 }
 
-/// The program of a source text, or else the text's first fault.
+/// The program of a source text, or the text's first fault (the language is this project's profile; the instructions are those
+/// of RV32I in the RISC-V unprivileged manual).
 ///
-/// The text is read line by line. Each line may declare a label and give one statement: an instruction of RV32I or a
-/// pseudo-instruction, or a directive that declares a region of data words, a first value, a lock, a phase, tasks of
-/// the phase, or which words the current tasks use. A name may be used before the line that declares it. A text whose
-/// first line that isn't blank is `.version 2` may declare families of tasks, and 4,096 regions in place of 256.
+/// The text is read line by line. A line may declare a label, and have one statement: an instruction of RV32I, a
+/// pseudo-instruction, or a directive. Directives declare regions of data words, first values, locks, phases, tasks of a phase,
+/// and the words that the current tasks use. A name may be used before the line that declares it. If the first line that isn't
+/// blank is `.version 2`, the text may declare families of tasks, and 4,096 regions instead of 256.
 ///
 /// # Errors
-/// `TooLarge` where the text has more bytes than 1,048,576, and nowhere else. Of all other texts the first line with a
-/// fault decides, by the first of its faults in the order of `SourceFault`. `Memory` where there is no room.
+/// `TooLarge` exactly if the text has more than 1,048,576 bytes. In any other text the first line with a fault decides; of its
+/// faults the first in the order of `SourceFault` is given. `Memory` if there is no room.
 pub fn assemble(alloc: Global, text: &[u8]) -> Result<Program, SourceFault>
     ensures ok { IfOk result (λ program. source text.now ≡ Ok program) }
     ensures err { IfErr result (λ f. f ≢ NoMemory → source text.now ≡ Err f) }

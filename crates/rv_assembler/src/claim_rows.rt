@@ -1,5 +1,5 @@
-//! The claims of a text in rows, so that each is looked at once, however many tasks and locks there are: a row for each phase, core
-//! and usage has the intervals that are claimed so.
+//! The claims of a text in rows. There is a row for each phase, core and usage, with the intervals that are claimed so. So each
+//! claim is looked at once, however many tasks and locks there are.
 ghost use Rattle.std.specs.Prelude.{◌≡◌, ℕ, ◌+◌, ◌*◌, ◌≤◌, ◌&&◌, nat_lt, [], length, replicate, slice_index_or, IfOk, OnOk};
 ghost use Rattle.std.specs.List.{All};
 ghost use Rattle.rv_assembler.specs.Program.{same_usage};
@@ -24,7 +24,7 @@ fn usage_number(usage: Usage) -> usize
     }
 }
 
-/// The place of the row of a phase, a core and a usage.
+/// The index of the row of a phase, a core and a usage.
 fn claim_row(phase: u32, core: u32, usage: Usage) -> usize
     ensures { result ≡ claim_row phase core usage }
 {
@@ -75,7 +75,7 @@ fn note(rows: &mut Vec<Sequence<Interval>>, words: u32, claim: Claim) -> Result<
     Ok(())
 }
 
-/// So many rows with no interval.
+/// `count` rows without intervals.
 fn empty_rows(alloc: Global, count: usize) -> Result<Vec<Sequence<Interval>>, Memory>
     ensures { IfOk result (λ rows. rows.items ≡ replicate count []) }
 {
@@ -86,7 +86,7 @@ fn empty_rows(alloc: Global, count: usize) -> Result<Vec<Sequence<Interval>>, Me
     Ok(rows)
 }
 
-/// The rows of so many phases, which are numbered from 1, with all claims.
+/// The rows of `phases` phases, which are numbered from 1, with all claims.
 ///
 /// # Errors
 /// `Memory` where there is no room.

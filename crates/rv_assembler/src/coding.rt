@@ -1,4 +1,4 @@
-//! The code of a mnemonic and its operands. An operand is named by the place of its token: between two operands stands a
+//! The code of a mnemonic and its operands. An operand is named by the index of its token: between two operands there is a
 //! comma or a parenthesis.
 ghost use Rattle.std.specs.Prelude.{◌≡◌, pos};
 ghost use Rattle.rv_isa.specs.declared.instr.AluOp.TheVariants.{Add};

@@ -1,4 +1,4 @@
-//! What the lines of a text add up to, before it is a program.
+//! What the lines of a text add up to, before it becomes a program.
 ghost use Rattle.std.specs.Prelude.{◌≡◌, ℕ, ◌-◌, ◌++◌, ◌∷◌, [], Some, None, OnOk};
 ghost use Rattle.rv_assembler.specs.Lookup.{name_lookup};
 ghost use Rattle.rv_assembler.specs.AddedLine.{emission_at, words_if_any};
@@ -26,7 +26,7 @@ pub struct FirstValue {
     pub value: u32,
 }
 
-/// A task of a phase, which are numbered from 1.
+/// A task of a phase. Phases are numbered from 1.
 #[derive(Clone, Copy)]
 pub struct Start {
     pub phase: u32,
@@ -45,7 +45,7 @@ pub enum Usage {
     GuardedWrites(u32),
 }
 
-/// Words that the task of a phase and a core uses, from `lo` to before `hi`.
+/// Words that a task uses, from `lo` up to, but not including, `hi`. The task is given by its phase and core.
 #[derive(Clone, Copy)]
 pub struct Claim {
     pub phase: u32,
@@ -64,7 +64,7 @@ pub struct Cores {
 
 const NO_CORES: Cores = Cores { first: 0, count: 0 };
 
-/// What some lines declare, table by table, with the cores of the current tasks after them, and how much they are together.
+/// The tables of what some lines declare, the cores of the current tasks after them, and their counts.
 #[derive(Drop)]
 pub struct Draft {
     pub code: Sequence<u32>,
@@ -118,7 +118,7 @@ pub(crate) fn lock_named<'a>(text: &'a [u8], names: &Names<'a>, name: Token) -> 
     lock_number(meaning_of(text, names, name))
 }
 
-/// The address of a task's entry, modulo 2^32; 0 where the label isn't declared.
+/// The address of a task's entry, modulo 2^32; 0 if the label isn't declared.
 fn entry<'a>(text: &'a [u8], names: &Names<'a>, target: Token) -> u32
     ensures { result ≡ wrapped_entry text.now (name_lookup names.now) target }
 {
@@ -131,7 +131,7 @@ fn entry<'a>(text: &'a [u8], names: &Names<'a>, target: Token) -> u32
     }
 }
 
-/// How a task uses the words of an effect; None where the lock isn't declared.
+/// How a task uses the words of an effect; None if the lock isn't declared.
 fn usage_in<'a>(text: &'a [u8], names: &Names<'a>, effect: Effect) -> Option<Usage>
     ensures { result ≡ usage_of text.now (name_lookup names.now) effect }
 {
@@ -174,7 +174,7 @@ fn past_word(span: Span, extent: Extent) -> u32
     }
 }
 
-/// How many words further the next task has them, modulo 2^32.
+/// By how many words the effect moves for each next task, modulo 2^32.
 fn step(extent: Extent) -> u32
     ensures { result ≡ step_of extent }
 {
@@ -184,7 +184,7 @@ fn step(extent: Extent) -> u32
     }
 }
 
-/// Adds the claims of `count` tasks from the core of the first one on, each `step` words further than the one before.
+/// Adds the claims of `count` tasks, from the core of the first one on. Each is `step` words further than the one before.
 fn push_claims(
     claims: &mut Sequence<Claim>,
     first: Claim,
@@ -207,7 +207,7 @@ fn push_claims(
     Ok(())
 }
 
-/// Adds `count` tasks from the first one on, each on the next core and with an argument that is `step` more.
+/// Adds `count` tasks from the first one on. Each next one is on the next core, and its argument is greater by `step`.
 fn push_members(
     tasks: &mut Sequence<Start>,
     first: Start,

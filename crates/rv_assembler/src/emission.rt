@@ -137,7 +137,7 @@ fn branch(cond: Cond, a: Reg, b: Reg, offset: i64) -> Emission
     }
 }
 
-/// What LUI has to hold for a value: its upper twenty bits, and one more where the low twelve are negative.
+/// The number for LUI: the upper twenty bits of the value, plus one if the low twelve bits are negative as a signed number.
 fn high(value: u32) -> u32
     ensures value { result ≡ high value }
     ensures fits { result < 2 ^ 20 }
@@ -145,7 +145,7 @@ fn high(value: u32) -> u32
     value.wrapping_add(2048) / 4096
 }
 
-/// The low twelve bits of a value, read with their sign.
+/// The low twelve bits of a value, as a signed number.
 fn low(value: u32) -> i32
     ensures value { result ≡ low value }
     ensures fits { IsSigned 12 result }
@@ -154,7 +154,7 @@ fn low(value: u32) -> i32
     if bits < 2048 { bits } else { bits - 4096 }
 }
 
-/// Two words that load a value: the second adds its low bits with their sign.
+/// Two words that load a value: LUI, and ADDI, which adds the low bits as a signed number.
 fn loaded(rd: Reg, value: u32) -> Emission
     ensures { result ≡ loaded rd value }
 {
@@ -185,7 +185,7 @@ fn region_address(word: u32) -> u32
     word.wrapping_mul(4).wrapping_add(0x1000_0000)
 }
 
-/// How far a target is from the code word of the number `here`, in bytes; None where it is no label.
+/// The distance of a target from the code word number `here`, in bytes; None if it is no label.
 fn offset<'a>(text: &'a [u8], names: &Names<'a>, here: u32, target: Token) -> Option<i64>
     ensures { result ≡ offset_of text.now (name_lookup names.now) here target }
 {
@@ -209,7 +209,7 @@ fn loaded_address<'a>(text: &'a [u8], names: &Names<'a>, rd: Reg, name: Token) -
     }
 }
 
-/// The code words of a statement that stands at the code word of the number `here`.
+/// The code words of a statement whose first code word has the number `here`.
 fn emit<'a>(text: &'a [u8], names: &Names<'a>, here: u32, code: Code) -> Emission
     ensures { result ≡ emission text.now (name_lookup names.now) here code }
 {
@@ -251,7 +251,7 @@ fn emit<'a>(text: &'a [u8], names: &Names<'a>, here: u32, code: Code) -> Emissio
     }
 }
 
-/// The code words of a statement that stands at the code word of the number `here`; None where it is no instruction.
+/// The code words of a statement whose first code word has the number `here`; None if it is no instruction.
 pub(crate) fn emission_at<'a>(
     text: &'a [u8],
     names: &Names<'a>,

@@ -4,8 +4,8 @@ use dn_base::Memory as NoRoom;
 use std::alloc::{AllocError, AllocFailed};
 use thiserror::Error;
 
-/// Why a source text is no program. Where several faults stand in one text the first faulty line decides, and on that
-/// line the first fault in this order. Lines are numbered from 1.
+/// Why a source text is no program. The first faulty line of a text decides, and on that line the first fault in this order.
+/// Lines are numbered from 1.
 #[derive(Clone, Copy, Debug, PartialEq, Eq, Error)]
 pub enum SourceFault {
     /// The text has more than 1,048,576 bytes.
@@ -26,22 +26,22 @@ pub enum SourceFault {
     /// The operands aren't those of the statement.
     #[error("line {line}: not the operands of this statement")]
     BadOperand { line: u32 },
-    /// A number is outside its range, or a branch too far from its label.
+    /// A number is outside its range, or a branch or jump is too far from its label.
     #[error("line {line}: a number is out of range")]
     OutOfRange { line: u32 },
-    /// The line declares a name that is declared before.
+    /// The line declares a name that is already declared.
     #[error("line {line}: the name is declared already")]
     DoubleName { line: u32 },
     /// A name isn't declared, or is of another kind.
     #[error("line {line}: no such name of this kind")]
     UnknownName { line: u32 },
-    /// A task before any phase or on a core that has one, or an effect without a task.
+    /// A task stands before any phase or on a core that has one, or an effect has no task.
     #[error("line {line}: the statement may not stand here")]
     Misplaced { line: u32 },
-    /// With this line the program is larger than a program may be.
+    /// With this line the program exceeds a limit of programs.
     #[error("line {line}: the program is too large")]
     Limit { line: u32 },
-    /// There was no memory.
+    /// There wasn't enough memory.
     #[error("no memory")]
     Memory,
 }

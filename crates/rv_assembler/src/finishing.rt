@@ -1,4 +1,4 @@
-//! From what the lines of a text add up to, to the program.
+//! How the program is made from what the lines of a text add up to.
 ghost use Rattle.std.specs.Prelude.{◌≡◌, ◌≤◌, length, IfOk, map, replicate, slice_set, ◌++◌, OnOk, option_map, find};
 ghost use Rattle.std.specs.Option.{option_to_list};
 ghost use Rattle.std.specs.List.{range_with_len};

@@ -1,4 +1,4 @@
-//! How much a line of good form gives, for those who ask where in a text something stands.
+//! How many code words and tasks a line of good form gives, for crates that look for the line of a code word or task.
 ghost use Rattle.std.specs.Prelude.{◌≡◌};
 ghost use Rattle.rv_assembler.specs.Number.{wrapped};
 ghost use Rattle.rv_assembler.specs.Counts.{code_size};
@@ -18,7 +18,7 @@ pub fn code_size(statement: &Statement) -> u32
     }
 }
 
-/// The cores of a family of tasks; its numbers are taken modulo 2^32, which changes none of a text without a fault.
+/// The cores of a family of tasks. Numbers are taken modulo 2^32, which changes nothing in a text without a fault.
 pub fn family_cores(family: Family) -> Cores
     ensures { result ≡ record { first = wrapped family.core; count = wrapped family.count } }
 {

@@ -1,4 +1,5 @@
-//! Laws of the source language, by which statements are compared with one another: functions that do nothing, whose contracts say it.
+//! Laws that compare statements of the source language with one another. A law is a function without effect; its contract
+//! states the theorem.
 ghost use Rattle.std.specs.Prelude.{◌≡◌, ◌%◌, ◌^◌, ◌<◌, ℕ, ℤ, pos, List, Option, Some};
 ghost use Rattle.std.specs.List.{All};
 ghost use Rattle.src_text.specs.declared.token.Token.{Token};
@@ -15,7 +16,7 @@ ghost use Rattle.rv_assembler.specs.TwoWords.{MakesValue};
 ghost use Rattle.rv_assembler.specs.BaseLine.{pseudo_rows, HasBaseLine};
 ghost use Rattle.rv_assembler.specs.FamilyLines.{IsTaskLine, HasTaskLines, HasUseLines};
 
-/// The two words of `li` make its number modulo 2^32 in its register, by the meaning of LUI and ADDI; those of `la` make the
+/// The two words of `li` load its number modulo 2^32 into its register, by the meaning of LUI and ADDI. Those of `la` load the
 /// address of its label, or of the first word of its region.
 pub fn two_words_make_their_value()
     ensures number { (text : List ℕ) (names : List ℕ → Option Meaning) (here : ℕ) (ts : List Token) → MakesValue (register_at text ts 0) (wrapped (number_at ts 2)) (emission text names here (code_for text ts Li)) }
@@ -25,13 +26,13 @@ pub fn two_words_make_their_value()
         → MakesValue (register_at text ts 0) (region_address start % 2 ^ 32) (emission text names here (code_for text ts La)) }
 {}
 
-/// A line of a pseudo-instruction has the word of its base line, and the same fault where it has one, for all operands.
+/// A line of a pseudo-instruction has the same word as its base line, or the same fault, for all operands.
 pub fn a_pseudo_instruction_has_its_base_line()
     ensures { All HasBaseLine pseudo_rows }
 {}
 
-/// The tasks of a line of `.forall` are those of its lines of `.task`, in their order, whose cores go on from its first one. An
-/// effect gives a family of tasks the words that it gives each of them by its own interval.
+/// The tasks of a line of `.forall` are those of its lines of `.task`, in their order, on consecutive cores from the first one
+/// on. An effect gives a family of tasks the words that it gives to each task by the task's own interval.
 pub fn a_family_has_the_rows_of_its_lines()
     ensures tasks { (text : List ℕ) (ts : List Token) (core : ℕ) (lines : ℕ → List Token) → number_at ts 0 ≡ pos core → ((i : ℕ) → i < natural_of (number_at ts 2) → IsTaskLine text ts i (lines i)) → HasTaskLines text ts lines }
     ensures uses { (text : List ℕ) (phase : ℕ) (family : Cores) (e : Effect) → HasUseLines text phase family e }

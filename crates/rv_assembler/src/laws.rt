@@ -1,4 +1,4 @@
-//! What holds of the meaning of every text, as laws: functions that do nothing, whose contracts say it.
+//! Laws: what holds of the meaning of every text. A law is a function without effect; its contract states the theorem.
 ghost use Rattle.std.specs.Prelude.{◌≡◌, ◌<◌, ◌≤◌, ℕ, List, length, Ok, Err};
 ghost use Rattle.std.specs.List.{All};
 ghost use Rattle.rv_assembler.specs.declared.fault.SourceFault.TheVariants.{TooLarge};
@@ -11,7 +11,7 @@ ghost use Rattle.rv_assembler.specs.Counts.{code_words, data_words, HasFewBefore
 ghost use Rattle.rv_assembler.specs.Placed.{placed};
 ghost use Rattle.rv_assembler.specs.Union.{united};
 
-/// `TooLarge` is the fault of texts of more than 1,048,576 bytes alone: no line has it.
+/// `TooLarge` is only a fault of texts of more than 1,048,576 bytes: no line has it.
 pub fn only_long_texts_are_too_large()
     ensures { (text : List ℕ) → source text ≡ Err TooLarge → 1048576 < length text }
 {}
@@ -21,28 +21,28 @@ pub fn names_may_be_declared()
     ensures { (text : List ℕ) (program : ProgramParts) → source text ≡ Ok program → AreDeclaredNames (names_of program) }
 {}
 
-/// A text has at most 65,536 lines of good form. So their code words are at most 131,072, and their data words at most 2^32, which
-/// is how many there are after the last line, and no number that a line has.
+/// A text has at most 65,536 lines of good form. So it has at most 131,072 code words and at most 2^32 data words. 2^32 can
+/// only be the count after the last line, and no line's number.
 pub fn lines_of_good_form_are_few()
     ensures lines { (text : List ℕ) → length (sayings (readings text)) ≤ 65536 }
     ensures code { (text : List ℕ) → code_words (sayings (readings text)) ≤ 131072 }
     ensures data { (text : List ℕ) → data_words (sayings (readings text)) ≤ 4294967296 }
 {}
 
-/// What stands before a line of good form has 32 bits, for every text, with faults or without: where its label points, where its
-/// region begins, and the numbers of its region, its lock and its phase.
+/// What stands before a line of good form fits 32 bits, in every text, with faults or without: the code word to which its label
+/// points, the first word of its region, and the numbers of its region, its lock and its phase.
 pub fn what_stands_before_a_line_has_32_bits()
     ensures { (text : List ℕ) → All HasFewBefore (placed (sayings (readings text))) }
 {}
 
-/// The program of a text is well formed: it is within the limits, and its regions, cores, entries and effects are those of a
-/// program.
+/// The program of a text is well formed: it is within the limits, and its regions, cores, entries and effects are as a program
+/// requires.
 pub fn programs_are_well_formed()
     ensures { (text : List ℕ) (program : ProgramParts) → source text ≡ Ok program → IsProgram program }
 {}
 
-/// A union of intervals has the words of all of them and no others, and its own intervals rise and don't touch, if each of them
-/// has a word.
+/// A union of intervals has exactly the words of all of them. If none of them is empty, the intervals of the union rise and
+/// don't touch.
 pub fn a_union_has_all_words()
     ensures words { (intervals : List Interval) (word : ℕ) → has (united intervals) word ≡ has intervals word }
     ensures canonical { (intervals : List Interval) → All (λ (i : Interval). i.lo < i.hi) intervals → IsCanonical (united intervals) }

@@ -19,7 +19,7 @@ use std::collections::BTreeMap;
 /// What a name means, by the line that declares it.
 #[derive(Clone, Copy)]
 pub enum Meaning {
-    /// The label of a line, which stands before the code word of this number.
+    /// The label of a line. It names the code word with this number.
     Label { line: u32, place: u32 },
     /// The region of this number, with its first word and how many words it is declared to have.
     Region { number: u32, start: u32, len: i64 },
@@ -61,7 +61,7 @@ fn length(len: i64) -> u32
     if is_length(len) { wrapped(len) } else { 0 }
 }
 
-/// The count after a statement.
+/// The counts after a statement.
 pub(crate) fn counted(count: &Count, statement: &Statement) -> Count
     ensures { result ≡ count_behind count.now statement.now }
 {
@@ -88,7 +88,7 @@ pub(crate) fn counted(count: &Count, statement: &Statement) -> Count
     }
 }
 
-/// The count after a line.
+/// The counts after a line.
 fn count_after(count: &Count, reading: &Reading) -> Count
     ensures { result ≡ count_after count.now reading.now }
 {
@@ -98,8 +98,8 @@ fn count_after(count: &Count, reading: &Reading) -> Count
     }
 }
 
-/// The names of a text. A look-up takes time by the logarithm of their number, whatever the names are: they are kept
-/// in a tree, so that no choice of names makes it slow. The keys are parts of the text.
+/// The names of a text. They are kept in a tree, so a look-up takes logarithmic time whatever the names are. The keys are
+/// slices of the text.
 #[derive(Drop)]
 pub(crate) struct Names<'a> {
     index: BTreeMap<&'a [u8], Meaning>,
@@ -125,7 +125,7 @@ impl<'a> Names<'a> {
     fn declare(&mut self, name: &'a [u8], meaning: Meaning) -> Result<(), Memory>
         ensures { OnOk result ((q : List ℕ) → name_lookup self.new q ≡ option_or (name_lookup self.old q) (if bytes_eq name.now q then Some meaning else None)) }
     {
-        // Most names are new, so that one search does. A name that had a meaning gets it back.
+        // Most names are new, so one search is enough for them. A name that already had a meaning gets it back.
         if let Some(first) = self.index.insert(name, meaning)? {
             self.index.insert(name, first)?;
         }

@@ -14,7 +14,7 @@ pub(crate) fn wrapped(number: i64) -> u32
     (number.cast_unsigned() % 4294967296) as u32
 }
 
-/// A count after `by` more. Counts stand still at the greatest number of 32 bits, far above every limit.
+/// A count increased by `by`. It stays at the greatest number of 32 bits, which is far above every limit.
 pub(crate) fn more(count: u32, by: u32) -> u32
     ensures { result ≡ more count by }
 {
@@ -28,7 +28,7 @@ pub(crate) fn is_upper(number: i64) -> bool
     0 <= number && number < 0x10_0000
 }
 
-/// Whether twelve bits can hold the number, with its sign.
+/// Whether the number fits twelve bits as a signed number.
 pub(crate) fn is_immediate(number: i64) -> bool
     ensures value { result ≡ is_immediate number }
     ensures fits { IsTrue result → IsSigned 12 number }
@@ -81,7 +81,7 @@ pub(crate) fn is_length(number: i64) -> bool
     1 <= number && number <= 65536
 }
 
-/// Whether the words from `lo` to before `hi` are some words of a region of `len` words.
+/// Whether the words from `lo` up to, but not including, `hi` are words of a region of `len` words, and there is at least one.
 pub(crate) fn is_interval(lo: i128, hi: i128, len: i64) -> bool
     ensures { result ≡ is_interval lo hi len }
 {

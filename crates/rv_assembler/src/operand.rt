@@ -1,18 +1,18 @@
-//! The operands of a statement, by the places of their tokens.
+//! The operands of a statement, by the indices of their tokens.
 ghost use Rattle.std.specs.Prelude.{◌≡◌, ◌<◌, ℕ, Some};
 ghost use Rattle.rv_assembler.specs.Operand.{bytes_of, token_at, number_at, register_at, register_number};
 
 use rv_isa::Reg;
 use src_text::{Token, TokenKind, register};
 
-/// What stands where no token is.
+/// The value for a missing token.
 const NO_TOKEN: Token = Token {
     kind: TokenKind::Comma,
     start: 0,
     end: 0,
 };
 
-/// The bytes of a token; none where its place isn't one of the text.
+/// The bytes of a token; none if its positions aren't in the text.
 pub(crate) fn bytes(text: &[u8], token: Token) -> &[u8]
     ensures { result.now ≡ bytes_of text.now token }
 {
@@ -31,7 +31,7 @@ pub(crate) fn token_at(tokens: &[Token], index: usize) -> Token
     tokens.get(index).copied().unwrap_or(NO_TOKEN)
 }
 
-/// The number at this place, and 0 where none is.
+/// The number at this index, or 0 if there is none.
 pub(crate) fn number_at(tokens: &[Token], index: usize) -> i64
     ensures { result ≡ number_at tokens.now index }
 {
@@ -49,7 +49,7 @@ pub(crate) fn register_numbered(number: u8) -> Reg
     Reg::new(number).unwrap()
 }
 
-/// The register of this number, and x0 where there is none.
+/// The register of this number, or x0 if there is none.
 fn register_or_zero(number: Option<u8>) -> Reg
     requires { (n : ℕ) → number ≡ Some n → n < 32 }
     ensures { result ≡ register_number number }
@@ -60,7 +60,7 @@ fn register_or_zero(number: Option<u8>) -> Reg
     }
 }
 
-/// The register at this place, and x0 where none is.
+/// The register at this index, or x0 if there is none.
 pub(crate) fn register_at(text: &[u8], tokens: &[Token], index: usize) -> Reg
     ensures { result ≡ register_at text.now tokens.now index }
 {

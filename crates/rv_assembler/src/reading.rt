@@ -31,7 +31,7 @@ pub enum Reading {
     Good(Saying),
 }
 
-/// The words of an effect whose region stands at the place `first` of the operands.
+/// The words of an effect whose region is operand number `first`.
 fn extent_for(operands: &[Token], form: Form, first: usize) -> Extent
     requires { first ≤ 2 }
     ensures { result ≡ extent_for operands.now form first }
@@ -49,7 +49,7 @@ fn extent_for(operands: &[Token], form: Form, first: usize) -> Extent
     }
 }
 
-/// An effect whose region stands at the place `first` of the operands, after its lock if it has one.
+/// An effect whose region is operand number `first`; its lock, if it has one, stands before the region.
 fn effect_for(
     operands: &[Token],
     writes: bool,
@@ -120,7 +120,7 @@ fn statement_for(text: &[u8], operands: &[Token], kind: Kind) -> Statement
     }
 }
 
-/// The statement of a word and its operands. Whether some statement has the word is looked for only where none fits.
+/// The statement of a word and its operands. Only if no row fits, it looks whether any row has the word.
 fn statement_of(
     version_2: bool,
     text: &[u8],
@@ -157,7 +157,7 @@ fn statement(
     }
 }
 
-/// A line without a label says its statement.
+/// What a line without a label says.
 fn said(line: u32, statement: Result<Statement, SourceFault>) -> Reading
     ensures { result ≡ said line statement }
 {
@@ -171,7 +171,7 @@ fn said(line: u32, statement: Result<Statement, SourceFault>) -> Reading
     }
 }
 
-/// A line says its label and its statement; the label is a name that may be declared.
+/// What a line with a label says; the label has to be a name that may be declared.
 fn labelled(
     text: &[u8],
     line: u32,
@@ -219,7 +219,7 @@ fn fault_of_line(line: u32, fault: LineFault) -> SourceFault
     }
 }
 
-/// What a line says, where the version line has the number `version`, or the number is 0 and the version 1.
+/// What a line says. `version` is the number of the version line, or 0 in a text of version 1.
 pub fn read_line(version: u32, text: &[u8], line: &Line) -> Reading
     ensures { result ≡ reading_of version text.now line.now }
 {
@@ -236,7 +236,7 @@ pub fn read_line(version: u32, text: &[u8], line: &Line) -> Reading
     }
 }
 
-/// What each line says, where the version line has the number `version`, or the number is 0 and the version 1.
+/// What each line says. `version` is the number of the version line, or 0 in a text of version 1.
 pub(crate) fn read_lines(
     alloc: Global,
     version: u32,
@@ -260,14 +260,14 @@ fn is_version(text: &[u8], line: &Line) -> bool
     }
 }
 
-/// Whether nothing stands on the line but blanks and a comment.
+/// Whether the line has only blanks and a comment.
 fn is_blank_line(line: &Line) -> bool
     ensures { result ≡ is_blank_line line.now }
 {
     line.fault.is_none() && line.tokens.len() == 0
 }
 
-/// The number of the version line, or 0 where the text is of version 1.
+/// The number of the version line, or 0 in a text of version 1.
 pub fn version_line(text: &[u8], lines: &[Line]) -> u32
     ensures { result ≡ version_line text.now lines.now }
 {

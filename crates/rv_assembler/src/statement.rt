@@ -68,8 +68,8 @@ pub enum Code {
     },
 }
 
-/// Tasks of the current phase, on `count` cores from `core` on: their entry, an address or the name of a label, the
-/// argument of the first, and by how much each next one has more.
+/// Tasks of the current phase on `count` cores from `core` on: their entry, which is an address or the name of a label, the
+/// argument of the first task, and by how much the argument grows from task to task.
 #[derive(Clone, Copy)]
 pub struct Family {
     pub core: i64,
@@ -82,15 +82,15 @@ pub struct Family {
 /// Which words of a region a task uses.
 #[derive(Clone, Copy)]
 pub enum Extent {
-    /// All.
+    /// All words.
     Whole,
-    /// Those from `lo` to before `hi`.
+    /// Those from `lo` up to, but not including, `hi`.
     Part { lo: i64, hi: i64 },
-    /// The same for the family's first task; each next one has them `step` words further.
+    /// Those from `lo` up to `hi` for the family's first task; for each next task they are `step` words further.
     Stepped { lo: i64, hi: i64, step: i64 },
 }
 
-/// Words of a region that the current tasks use, by reading or by writing too, under a lock or without one.
+/// Words of a region that the current tasks use: they only read them, or write them too, under a lock or without one.
 #[derive(Clone, Copy)]
 pub struct Effect {
     pub writes: bool,

@@ -1,4 +1,4 @@
-//! The faults of a line that has none by its form.
+//! The faults of lines of good form.
 ghost use Rattle.std.specs.Prelude.{◌≡◌, ℕ, ◌-◌, ◌+◌, ◌<◌, ◌≤◌, List, Option, is_none, IsTrue, ℤ, pos, neg_ℤ, ◌+ℤ◌, ◌≤ℤ◌};
 ghost use Rattle.rv_assembler.specs.Lookup.{name_lookup};
 ghost use Rattle.rv_assembler.specs.Number.{is_within};
@@ -30,7 +30,7 @@ fn is_lost(emission: Option<Emission>) -> bool
     matches!(emission, Some(Emission::Unknown))
 }
 
-/// Whether the interval is one of the region, and so are `count - 1` more, each a step further than the one before.
+/// Whether the interval lies in the region, and so do `count - 1` more, each a step further than the one before.
 #[tactic(auto, using(crate::proofs::LoopLemmas::stepped_more))]
 fn stepped_fits(lo: i128, hi: i128, step: i64, len: i64, count: u32) -> bool
     ensures { result ≡ stepped_fits len step lo hi count }
@@ -50,7 +50,7 @@ fn stepped_fits(lo: i128, hi: i128, step: i64, len: i64, count: u32) -> bool
     )
 }
 
-/// Whether words of a region aren't all its own, for some of `count` tasks.
+/// Whether the words of an effect lie outside the region for some of `count` tasks.
 fn extent_far(span: Option<Span>, extent: Extent, count: u32) -> bool
     ensures { result ≡ extent_far span extent count }
 {
@@ -70,7 +70,7 @@ fn extent_far(span: Option<Span>, extent: Extent, count: u32) -> bool
     }
 }
 
-/// Whether a word's index isn't one of the region's.
+/// Whether a word's index is outside the region.
 fn word_far(span: Option<Span>, index: i64) -> bool
     ensures { result ≡ word_far span index }
 {
@@ -113,7 +113,7 @@ fn family_far(family: Family) -> bool
     !are_cores(family) || entry_far(family.entry)
 }
 
-/// Whether a number is outside its range, or a label too far.
+/// Whether a number is outside its range, or a label too far away.
 fn out_of_range<'a>(
     text: &'a [u8],
     names: &Names<'a>,
@@ -303,7 +303,7 @@ pub(crate) fn over_limit(version_2: bool, draft: &Draft) -> bool
         || 64 < draft.tasks.len()
 }
 
-/// The first fault of a line whose code words are these, except for the limits.
+/// The first fault, except for the limits, of a line with these code words.
 pub(crate) fn early_fault<'a>(
     text: &'a [u8],
     names: &Names<'a>,

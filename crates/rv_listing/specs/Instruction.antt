@@ -27,7 +27,7 @@ load_word width.TheVariants.W = codes "lw"
 load_word width.TheVariants.Bu = codes "lbu"
 load_word width.TheVariants.Hu = codes "lhu"
 
--- no word is a store of the last two widths
+-- no code word is a store of the last two widths
 abbrev pub store_word : Width → List ℕ
 store_word width.TheVariants.B = codes "sb"
 store_word width.TheVariants.H = codes "sh"
@@ -35,7 +35,7 @@ store_word width.TheVariants.W = codes "sw"
 store_word width.TheVariants.Bu = codes "sbu"
 store_word width.TheVariants.Hu = codes "shu"
 
--- no word subtracts an immediate
+-- no code word subtracts an immediate
 abbrev pub immediate_word : AluOp → List ℕ
 immediate_word op.TheVariants.Add = codes "addi"
 immediate_word op.TheVariants.Sub = codes "subi"
@@ -78,7 +78,7 @@ instruction_line Ebreak = statement (codes "ebreak") []
 abbrev pub raw_line : ℕ → List ℕ
 raw_line w = statement (codes ".raw") (hexadecimal w ∷ [])
 
--- a word that its instruction is encoded to is written as that instruction, and any other as a number
+-- a code word is written as its instruction if that instruction is encoded as this word, otherwise as a number
 abbrev pub line_by : ℕ → Option Instr → List ℕ
 line_by w None = raw_line w
 line_by w (Some i) = if encoded i == w then instruction_line i else raw_line w

@@ -1,4 +1,4 @@
--- When the listing of a program is a source text.
+-- When the listing of a program is a valid source text.
 use Rattle.std.specs.Prelude.{ℕ, ◌≤◌, List, length}
 use Rattle.std.specs.List.{All}
 pub use Rattle.region_table.specs.Numbers.{AreCodeWords, AreCanonical, IsOfWords, HasWords}

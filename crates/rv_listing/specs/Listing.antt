@@ -1,4 +1,4 @@
--- The listing of a program: the text in which it is written, line by line.
+-- The listing of a program: the source text that is printed for it, line by line.
 use Rattle.std.specs.Prelude.{ℕ, ◌+◌, ◌-◌, ◌==◌, min, max, nat_lt, List, [], ◌∷◌, ◌++◌, length, map, filter_map, flat_map, slice_range, slice_index_or, Option, Some, None, codes, if◌then◌else◌}
 use Rattle.std.specs.Fmt.{decimal}
 use Rattle.src_text.specs.Laws.{ended}
@@ -15,7 +15,7 @@ use Rattle.rv_listing.specs.Instruction.{code_line}
 abbrev pub text_of : List (List ℕ) → List ℕ
 text_of lines = flat_map ended lines
 
--- only version 2 of the language has more than 256 regions
+-- the version line, which only a program with more than 256 regions has
 abbrev pub version_lines : List Region → List (List ℕ)
 version_lines regions = if nat_lt 256 (length regions) then statement (codes ".version") (codes "2" ∷ []) ∷ [] else []
 
@@ -26,7 +26,7 @@ region_line r = statement (codes ".region") (r.name ∷ decimal r.len ∷ [])
 unfoldable pub value_line : List ℕ → ℕ → ℕ → List ℕ
 value_line name index value = statement (codes ".word") (name ∷ decimal index ∷ hexadecimal value ∷ [])
 
--- the first values of a region's words from an index on; a word that is 0 has no line
+-- the first values of a region's words from an index on; a word with the value 0 has no line
 abbrev pub value_lines : List ℕ → ℕ → List ℕ → List (List ℕ)
 value_lines name index [] = []
 value_lines name index (v ∷ vs) = (if v == 0 then [] else value_line name index v ∷ []) ++ value_lines name (index + 1) vs
@@ -42,7 +42,7 @@ unfoldable pub use_line : List ℕ → Option (List ℕ) → List ℕ → ℕ �
 use_line word None region lo hi = statement word (region ∷ decimal lo ∷ decimal hi ∷ [])
 use_line word (Some lock) region lo hi = statement word (lock ∷ region ∷ decimal lo ∷ decimal hi ∷ [])
 
--- the part of an interval that lies in a region, if it has a word; its words are counted from the region's first
+-- the part of an interval that lies in a region, if there is one; words are counted from the region's first
 abbrev pub part_line : List ℕ → Option (List ℕ) → Interval → Region → Option (List ℕ)
 part_line word lock i r =
     let lo = max i.lo r.start in

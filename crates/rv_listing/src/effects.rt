@@ -67,8 +67,8 @@ fn push_part<'a>(
     }
 }
 
-/// Adds the lines of an interval's parts in the regions from number `from` on, and gives the number of the first
-/// region that ends after the interval.
+/// Adds the lines of an interval's parts in the regions from number `from` on. Gives the number of the first region that ends
+/// after the interval.
 fn push_interval<'a>(
     out: &mut Vec<u8>,
     usage: Usage<'a>,
@@ -96,7 +96,7 @@ fn push_interval<'a>(
     Ok(index)
 }
 
-/// Adds the lines of a set of words. Its time grows with the regions and the intervals.
+/// Adds the lines of a set of words. The time is proportional to the regions and the intervals.
 pub(crate) fn push_set<'a>(
     out: &mut Vec<u8>,
     usage: Usage<'a>,

@@ -34,7 +34,7 @@ fn load_word(width: Width) -> &'static [u8]
     }
 }
 
-/// No word is a store of the last two widths.
+/// No code word is a store of the last two widths.
 fn store_word(width: Width) -> &'static [u8]
     ensures { result.now ≡ store_word width }
 {
@@ -47,7 +47,7 @@ fn store_word(width: Width) -> &'static [u8]
     }
 }
 
-/// No word subtracts an immediate.
+/// No code word subtracts an immediate.
 fn immediate_word(op: AluOp) -> &'static [u8]
     ensures { result.now ≡ immediate_word op }
 {
@@ -147,7 +147,8 @@ fn push_raw(out: &mut Vec<u8>, word: u32) -> Result<(), Memory>
     push_statement(out, b".raw", &[Operand::Word(word)])
 }
 
-/// Adds a code word as the listing writes it: the instruction that is encoded to it, as `lw x6, 0(x5)`, or else the word as a number.
+/// Appends a code word as the listing writes it: its instruction, as `lw x6, 0(x5)`, if that is encoded as this word, otherwise
+/// the word as a number.
 ///
 /// # Errors
 /// `Memory` where there is no room.

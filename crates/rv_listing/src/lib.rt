@@ -1,4 +1,4 @@
-//! The listing of a program: a source text of one statement a line, from which the assembler makes the program again.
+//! The listing of a program: a source text with one statement a line, from which the assembler makes the same program.
 #![tactic(auto)]
 
 mod effects;

@@ -20,7 +20,7 @@ use std::alloc::Global;
 /// The greatest number of regions of a text of version 1.
 const MOST_REGIONS: usize = 256;
 
-/// Adds the version line, where there are more regions than version 1 has.
+/// Adds the version line if there are more regions than version 1 allows.
 fn push_version(out: &mut Vec<u8>, regions: &[Region]) -> Result<(), Memory>
     ensures { OnOk result (out.new.items ≡ out.old.items ++ text_of (version_lines regions.now)) }
 {
@@ -204,7 +204,7 @@ fn push_words(out: &mut Vec<u8>, code: &[u32]) -> Result<(), Memory>
     Ok(())
 }
 
-/// The text of a program, which is well formed, whose numbers have 32 bits and whose sets of words are canonical.
+/// The text of a program that is well formed, with numbers of 32 bits and canonical sets of words.
 #[tactic(auto, unfolding(crate::specs::Listing::listed_lines))]
 fn written(alloc: Global, program: &Program) -> Result<Vec<u8>, Memory>
     ensures text { IfOk result (λ text. text.items ≡ listing_of program.now) }
@@ -223,15 +223,15 @@ fn written(alloc: Global, program: &Program) -> Result<Vec<u8>, Memory>
     Ok(out)
 }
 
-/// The listing of a program, as a source text of one statement a line: the version line where the program has more
-/// than 256 regions, the regions, the words that aren't 0 at first, the locks, each phase with its tasks and the words
-/// that they use, and the code.
+/// The listing of a program, as a source text with one statement a line: the version line if the program has more than 256
+/// regions, the regions, the initial words that aren't 0, the locks, each phase with its tasks and the words that they use, and
+/// the code.
 ///
-/// Intervals of words are cut at the borders of the regions. A code word is written as the instruction that is encoded
-/// to it, with offsets in bytes for the targets of branches and jumps, and else as a number.
+/// Intervals of words are cut at the borders of the regions. A code word is written as its instruction, with offsets in bytes
+/// as targets of branches and jumps, or as a number if no instruction is encoded as this word.
 ///
-/// Where a source text may declare the program's names and the listing is within the limits of a source text, the
-/// assembler makes the same program of it again.
+/// If a source text may declare the program's names and the listing is within the limits of a source text, the assembler makes
+/// the same program from it.
 ///
 /// # Errors
 /// `Memory` where there is no room for the text.

@@ -1,4 +1,4 @@
--- The bytes of a line; and the line that a code word comes from, said once more by the code of the lines before it.
+-- The bytes of a line. And the origin of a code word once more, by the code of the lines before it.
 use Rattle.std.specs.Prelude.{◌≡◌, ℕ, zero, suc, ◌+◌, ◌<◌, List, ◌∷◌, ◌++◌, length, Option, None, slice_get}
 use Rattle.src_text.specs.Line.{cut}
 use Rattle.rv_assembler.specs.declared.reading.Saying.{Saying}
@@ -13,8 +13,8 @@ abbrev pub numbered_line : List ℕ → ℕ → Option (List ℕ)
 numbered_line text zero = None
 numbered_line text (suc n) = slice_get (cut text) n
 
--- these lines fall into those before a line, the line, and those after it, and the code word of this number is a word of the line:
--- the lines before give `number - part` code words, and the line more than `part`
+-- `lines` consists of some lines, the line of the code word, and more lines. The lines before give `number - part` code words,
+-- and the line itself more than `part`, so the code word with this number is one of its words
 pub record IsLineAmong (text : List ℕ) (names : List ℕ → Option Meaning) (lines : List Saying) (number : ℕ) (place : CodePlace) : Type 0 where
   pub before : List Saying
   pub here : Saying

@@ -1,5 +1,6 @@
--- Where in a text each code word, region, lock, phase and task comes from. Tables (in rv_assembler) says which rows each line of good
--- form gives to the tables of a program; here each row has the line that gives it, and its number among that line's rows.
+-- The origins of a program's parts (`Places`): from which line each code word, region, lock, phase and task comes. Tables (in
+-- rv_assembler) says which rows a line of good form gives to the tables of a program. Here each row has the line that gives it,
+-- and its number among that line's rows.
 use Rattle.std.specs.Prelude.{ℕ, ◌+◌, ◌-◌, List, [], ◌∷◌, Option, flat_map}
 use Rattle.rv_assembler.specs.declared.statement.Statement.{Statement}
 use Rattle.rv_assembler.specs.declared.statement.Statement as statement
@@ -15,16 +16,16 @@ use Rattle.text_places.specs.declared.places.CodePlace.{CodePlace}
 use Rattle.text_places.specs.declared.places.TaskPlace.{TaskPlace}
 use Rattle.text_places.specs.declared.places.Places.{Places}
 
--- the places of some rows, the first of which has the number `part`
+-- the origins of some rows, the first of which has the number `part`
 abbrev pub each_part : {Row Place : Type 0} → (ℕ → Row → Place) → ℕ → List Row → List Place
 each_part place part [] = []
 each_part place part (r ∷ rs) = place part r ∷ each_part place (part + 1) rs
 
--- the places of the rows that a line gives to a table, which are numbered from 0
+-- the origins of the rows that a line gives to a table, numbered from 0
 abbrev pub places_at : {Row Place : Type 0} → (Placed Saying → List Row) → (ℕ → ℕ → Row → Place) → Placed Saying → List Place
 places_at rows_at place p = each_part (place p.here.line) 0 (rows_at p)
 
--- the places of all rows of a table
+-- the origins of all rows of a table
 abbrev pub places_of : {Row Place : Type 0} → (Placed Saying → List Row) → (ℕ → ℕ → Row → Place) → List Saying → List Place
 places_of rows_at place ss = flat_map (places_at rows_at place) (placed ss)
 
@@ -48,7 +49,7 @@ phase_row_by number _ = []
 abbrev pub phase_row : Placed Saying → List ℕ
 phase_row p = phase_row_by (phases_in p.before) p.here.statement
 
--- the places in some lines, where names mean this
+-- the origins in some lines, where names mean this
 abbrev pub places_among : List ℕ → (List ℕ → Option Meaning) → List Saying → Places
 places_among text names ss =
     record {
@@ -59,6 +60,6 @@ places_among text names ss =
       tasks = places_of (tasks_at text names) task_place ss;
     }
 
--- the places in a text
+-- the origins in a text
 abbrev pub text_places : List ℕ → Places
 text_places text = let ss = sayings (readings text) in places_among text (meaning_of text ss) ss

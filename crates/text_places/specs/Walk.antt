@@ -1,5 +1,5 @@
--- The code's way to the places: line by line, by what each line of good form says alone. In a text without a fault this gives the
--- places of Places.
+-- How the code finds the origins: line by line, from what each line of good form says by itself. In a text without a fault this
+-- gives the origins of Places.
 use Rattle.std.specs.Prelude.{ℕ, zero, suc, ◌+◌, ◌-◌, List, [], ◌∷◌, ◌++◌, length}
 use Rattle.rv_assembler.specs.declared.statement.Statement.{Statement}
 use Rattle.rv_assembler.specs.declared.statement.Statement as statement
@@ -15,12 +15,12 @@ use Rattle.text_places.specs.declared.places.Places.{Places}
 abbrev pub no_places : Places
 no_places = record { code = []; regions = []; locks = []; phases = []; tasks = [] }
 
--- so many code words of a line, from its word `part` on
+-- the origins of `count` code words of a line, from its word `part` on
 abbrev pub code_parts : ℕ → ℕ → ℕ → List CodePlace
 code_parts line part zero = []
 code_parts line part (suc n) = record { line = line; part = part } ∷ code_parts line (part + 1) n
 
--- so many tasks of a line, from its task `part` on
+-- the origins of `count` tasks of a line, from its task `part` on
 abbrev pub task_parts : ℕ → ℕ → ℕ → ℕ → ℕ → List TaskPlace
 task_parts phase line first part zero = []
 task_parts phase line first part (suc n) =

@@ -7,7 +7,7 @@ use Rattle.text_places.specs.declared.words.WordPlace.{WordPlace}
 abbrev pub region_has : Region → ℕ → Bool
 region_has r w = nat_le r.start w && nat_lt (w - r.start) r.len
 
--- the word in the first of the regions that has it, the first of which has the number `number`
+-- the word in the first region of the list that has it; the list's first region has the number `number`
 abbrev pub word_place_from : ℕ → List Region → ℕ → Option WordPlace
 word_place_from number [] w = None
 word_place_from number (r ∷ rs) w =
@@ -16,12 +16,12 @@ word_place_from number (r ∷ rs) w =
 abbrev pub word_place : List Region → ℕ → Option WordPlace
 word_place regions w = word_place_from 0 regions w
 
--- the word in the region of this number, if there is this region and it has the word
+-- the word in the region of this number, if there is such a region and it has the word
 abbrev pub place_at : ℕ → Option Region → ℕ → Option WordPlace
 place_at number None w = None
 place_at number (Some r) w = if region_has r w then Some (record { region = number; index = w - r.start }) else None
 
--- the word in the last of the first `many` regions, the first of which has the number `number`, if that one has it
+-- the word in the last of the first `many` regions, if that one has it; the list's first region has the number `number`
 abbrev pub place_before : ℕ → List Region → ℕ → ℕ → Option WordPlace
 place_before number rs zero w = None
 place_before number rs (suc k) w = place_at (number + k) (slice_get rs k) w

@@ -1,5 +1,5 @@
-//! Where in a source text things come from: for each code word, region, data word, lock, phase and task of a text's program the line
-//! that it comes from, by the definition of the source language.
+//! From which line of a source text the parts of its program come: code words, regions, data words, locks, phases and tasks, by
+//! the definition of the source language.
 #![tactic(auto)]
 
 mod laws;

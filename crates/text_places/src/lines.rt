@@ -17,7 +17,7 @@ fn first_line(text: &[u8]) -> &[u8]
     &text[..length]
 }
 
-/// The bytes of the line of this number, without its newline; None where the text has no such line. Lines are numbered from 1.
+/// The bytes of the line of this number, from 1, without its newline; None if the text has no such line.
 pub fn line_text(text: &[u8], line: usize) -> Option<&[u8]>
     ensures { option_copied result ≡ numbered_line text.now line }
 {

@@ -38,11 +38,11 @@ pub struct TaskPlace {
     pub part: u32,
 }
 
-/// Where the parts of a program come from, in the program's order; the tasks stand in the order of their lines. Lines are numbered
-/// from 1, and all else from 0.
+/// From which lines the parts of a program come, in the program's order; tasks stand in the order of their lines. Lines are
+/// numbered from 1, everything else from 0.
 #[derive(Drop)]
 pub struct Places {
-    /// The place of each code word.
+    /// The line and part of each code word.
     pub code: Sequence<CodePlace>,
     /// The line of each region.
     pub regions: Sequence<u32>,
@@ -50,11 +50,11 @@ pub struct Places {
     pub locks: Sequence<u32>,
     /// The line of each phase.
     pub phases: Sequence<u32>,
-    /// The place of each task.
+    /// The line and part of each task.
     pub tasks: Sequence<TaskPlace>,
 }
 
-/// The program of a text, and where its parts come from.
+/// The program of a text, and the lines that its parts come from.
 #[derive(Drop)]
 pub struct Located {
     pub program: Program,
@@ -74,35 +74,35 @@ impl Places {
         }
     }
 
-    /// Where the code word of this number comes from; None where the program has no such word.
+    /// The line and part from which the code word of this number comes; None if the program has no such word.
     pub fn code_word(&self, number: usize) -> Option<CodePlace>
         ensures { result ≡ slice_get self.now.code number }
     {
         self.code.get(number).copied()
     }
 
-    /// The line of the region of this number; None where there is no such region.
+    /// The line of the region of this number; None if there is no such region.
     pub fn region(&self, number: usize) -> Option<u32>
         ensures { result ≡ slice_get self.now.regions number }
     {
         self.regions.get(number).copied()
     }
 
-    /// The line of the lock of this number; None where there is no such lock.
+    /// The line of the lock of this number; None if there is no such lock.
     pub fn lock(&self, number: usize) -> Option<u32>
         ensures { result ≡ slice_get self.now.locks number }
     {
         self.locks.get(number).copied()
     }
 
-    /// The line of the phase of this number; None where there is no such phase.
+    /// The line of the phase of this number; None if there is no such phase.
     pub fn phase(&self, number: usize) -> Option<u32>
         ensures { result ≡ slice_get self.now.phases number }
     {
         self.phases.get(number).copied()
     }
 
-    /// Where the task of this phase and core comes from; None where the core has no task in it.
+    /// The line and part from which the task of this phase and core comes; None if there is no such task.
     pub fn task(&self, phase: usize, core: u32) -> Option<TaskPlace>
         ensures { result ≡ find (is_task_of phase core) self.now.tasks }
     {
@@ -157,7 +157,7 @@ fn push_code(code: &mut Sequence<CodePlace>, line: u32, count: u32) -> Result<()
     Ok(())
 }
 
-/// The core of a task of a line; cores stand still at the greatest number of 32 bits, far above every core.
+/// The core of a task of a line. It stays at the greatest number of 32 bits, which is far above every core.
 fn core_at(first: u32, part: u32) -> u32
     ensures { result ≡ more first part }
 {
@@ -206,11 +206,11 @@ fn text_places(alloc: Global, text: &[u8]) -> Result<Places, Memory>
     places_in(alloc, version_line(text, lines), text, lines)
 }
 
-/// The program of a source text with the places of its parts in the text, or else the text's first fault.
+/// The program of a source text with the lines of its parts, or the text's first fault.
 ///
 /// # Errors
-/// The faults of `assemble`: `TooLarge` where the text has more bytes than 1,048,576, and nowhere else. Of all other texts the first
-/// line with a fault decides. `Memory` where there is no room.
+/// The faults of `assemble`. `TooLarge` exactly if the text has more than 1,048,576 bytes. In any other text the first line
+/// with a fault decides. `Memory` if there is no room.
 pub fn located_program(alloc: Global, text: &[u8]) -> Result<Located, SourceFault>
     ensures program { IfOk result (λ located. source text.now ≡ Ok located.program) }
     ensures places { IfOk result (λ located. located.places ≡ definition.text_places text.now) }

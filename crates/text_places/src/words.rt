@@ -41,8 +41,8 @@ fn place_before(regions: &[Region], many: usize, word: u32) -> Option<WordPlace>
     }
 }
 
-/// The data word of this number as a word of the first of a program's regions that has it; None where none of the regions has it.
-/// The regions lie one after the other, and the search halves them.
+/// The data word of this number as a word of its region; None if no region of the program has it. The regions are adjacent, so
+/// a binary search finds it.
 pub fn region_of_word(program: &Program, word: u32) -> Option<WordPlace>
     ensures { result ≡ word_place program.now.regions word }
 {
