@@ -25,13 +25,13 @@ fault_phase (PlainConflict phase a b w) = phase.0
 fault_phase (GuardedPlain phase lock core w) = phase.0
 fault_phase (TwoLocks phase a b w) = phase.0
 
--- tasks of one phase contend for a word as the fault says
+-- tasks of one phase conflict on a word as the fault says
 abbrev pub IsFaultAmong : List TaskDecl → CheckFault → Type 0
 IsFaultAmong tasks (PlainConflict phase a b w) = IsPlainConflict tasks a.0 b.0 w.0
 IsFaultAmong tasks (GuardedPlain phase lock core w) = IsGuardedPlain tasks lock.0 core.0 w.0
 IsFaultAmong tasks (TwoLocks phase a b w) = AreTwoLocks tasks a.0 b.0 w.0
 
--- the phase with this number; past the last one, a phase without tasks
+-- the phase with this number; from the last phase on, a phase without tasks
 abbrev pub phase_at : ProgramParts → ℕ → Phase
 phase_at program number = slice_index_or program.phases number (record { tasks = [] })
 
@@ -45,7 +45,7 @@ numbers_of (PlainConflict phase a b w) = phase.0 ∷ 0 ∷ a.0 ∷ b.0 ∷ w.0 �
 numbers_of (GuardedPlain phase lock core w) = phase.0 ∷ 1 ∷ lock.0 ∷ core.0 ∷ w.0 ∷ []
 numbers_of (TwoLocks phase a b w) = phase.0 ∷ 2 ∷ a.0 ∷ b.0 ∷ w.0 ∷ []
 
--- two lists of numbers are equal, or the first is less where they differ first
+-- the first list of numbers is at most the second in lexicographic order
 abbrev pub IsUpTo : List ℕ → List ℕ → Type 0
 IsUpTo [] ys = Unit {0}
 IsUpTo (x ∷ xs) [] = ⊥

@@ -1,4 +1,4 @@
--- What the searches for a first conflict find.
+-- What the searches for a least conflict find.
 use Rattle.std.specs.Prelude.{◌≡◌, ℕ, ◌<◌, ◌≤◌, Bool, ◌&&◌, not, ◌==◌, IsTrue, Option, MatchOption, List}
 use Rattle.std.specs.List.{AllPairs}
 use Rattle.dn_base.specs.declared.ids.WordId.{WordId}
@@ -13,17 +13,17 @@ pub record IsLeastWord (test : ℕ → Bool) (word : ℕ) : Type 0 where
   pub passes : IsTrue (test word)
   pub least : (w : ℕ) → IsTrue (test w) → word ≤ w
 
--- the least word that passes the test was found, or none where no word passes
+-- the least word that passes the test was found, or None since no word passes
 abbrev pub IsLeastFound : (ℕ → Bool) → Option WordId → Type 0
 IsLeastFound test found = MatchOption found ((w : ℕ) → IsTrue (test w) → ⊥) (λ word. IsLeastWord test word.0)
 
--- the number and the word are related, and no lesser number is to any word, and the number to no lesser word
+-- the number and the word are related; no smaller number is related to any word, and the number to no smaller word
 pub record IsFirstPair (R : ℕ → ℕ → Type 0) (number word : ℕ) : Type 0 where
   pub holds : R number word
   pub lesser : (m w : ℕ) → m < number → R m w → ⊥
   pub least : (w : ℕ) → R number w → word ≤ w
 
--- the same of two numbers and a word, of which the first number counts before the second
+-- the same for two numbers and a word; the first number is compared first
 pub record IsFirst (R : ℕ → ℕ → ℕ → Type 0) (first second word : ℕ) : Type 0 where
   pub pair : IsFirstPair (R first) second word
   pub lesser : (a b w : ℕ) → a < first → R a b w → ⊥
@@ -32,7 +32,7 @@ pub record IsFirst (R : ℕ → ℕ → ℕ → Type 0) (first second word : ℕ
 abbrev pub AreRising : List TaskDecl → Type 0
 AreRising tasks = AllPairs (λ (t u : TaskDecl). t.core.0 < u.core.0) tasks
 
--- no lock guards a word but those with lesser numbers
+-- only locks with numbers below this one guard words
 abbrev pub HaveLocks : ℕ → List TaskDecl → Type 0
 HaveLocks locks tasks = (lock w : ℕ) → IsTrue (lock_guards tasks lock w) → lock < locks
 

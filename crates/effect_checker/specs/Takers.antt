@@ -1,4 +1,4 @@
--- Who takes each word: a number for each word, which is 0 where nobody has taken it.
+-- Who takes each word: one number for each word, 0 if nobody has taken it.
 use Rattle.std.specs.Prelude.{◌≡◌, ◌≢◌, ℕ, Bool, IsTrue, List, length, slice_index_or}
 use Rattle.std.specs.List.{All}
 use Rattle.region_table.specs.declared.declared.TaskDecl.{TaskDecl}
@@ -17,6 +17,6 @@ pub record KeepTakers (before after : List ℕ) : Type 0 where
   pub words : length after ≡ length before
   pub taken : (w : ℕ) → taker_of before w ≢ 0 → taker_of after w ≡ taker_of before w
 
--- the tasks use no word of this number or after it
+-- the tasks only use words below this number
 abbrev pub UseWordsBelow : ℕ → List TaskDecl → Type 0
 UseWordsBelow words tasks = All (λ (t : TaskDecl). (locks : ℕ) × AreEffects words locks t.effects) tasks

@@ -8,13 +8,13 @@ ghost use Rattle.region_table.specs.Plan.{uses_plainly, task_guards};
 use region_table::Program;
 use std::marker::Model;
 
-/// A program whose declared effects are checked: in each phase
+/// A program whose declared effects are checked. In each phase:
 ///
-/// - a word that a task writes plainly, that is whatever locks it holds, is read or written plainly by no other task,
-/// - a word that a lock guards for some task is read or written plainly by no task, and
-/// - a word is guarded by one lock at most.
+/// - A word that a task writes plainly, that is without a lock, is neither read nor written plainly by any other task.
+/// - A word that a lock guards for some task is neither read nor written plainly by any task.
+/// - A word is guarded by at most one lock.
 ///
-/// Contracts see the program, and every `Checked` is checked.
+/// Contracts see the program. Every `Checked` is checked.
 #[derive(Debug, Drop)]
 pub struct Checked {
     program: Program,
@@ -34,7 +34,7 @@ impl Model for Checked {
 impl Checked {
     ghost use Rattle.effect_checker.specs.Checked.{IsChecked, writes_plainly};
 
-    /// A program that is checked, as such; for a caller that took a `Checked` apart. Takes no memory.
+    /// Makes a `Checked` of a program that is known to be checked, for a caller that took a `Checked` apart. Takes no memory.
     pub fn of_program(program: Program) -> Checked
         requires { IsChecked program }
         ensures { result ≡ program }
@@ -59,28 +59,28 @@ impl Checked {
         program
     }
 
-    /// A word that a task writes plainly is read or written plainly by no task on another core, in any phase of a checked
-    /// program.
+    /// In any phase of a checked program, a word that a task writes plainly is neither read nor written plainly by a task on
+    /// another core.
     pub fn plain_words_are_apart()
         ensures { (program : ProgramParts) (p : Phase) (t u : TaskDecl) (w : ℕ) → IsChecked program → IsAmong program.phases p → IsAmong p.tasks t → IsAmong p.tasks u
             → t.core.0 ≢ u.core.0 → IsTrue (writes_plainly t w) → IsTrue (uses_plainly u w) → ⊥ }
     {}
 
-    /// A word that a lock guards for a task is read or written plainly by no task, the same one among them, in any phase
-    /// of a checked program.
+    /// In any phase of a checked program, a word that a lock guards for a task is neither read nor written plainly by any task,
+    /// that one included.
     pub fn guarded_words_are_not_plain()
         ensures { (program : ProgramParts) (p : Phase) (t u : TaskDecl) (lock w : ℕ) → IsChecked program → IsAmong program.phases p → IsAmong p.tasks t → IsAmong p.tasks u
             → IsTrue (task_guards t lock w) → IsTrue (uses_plainly u w) → ⊥ }
     {}
 
-    /// A word is guarded by one lock at most, whichever tasks it is guarded for, in any phase of a checked program.
+    /// In any phase of a checked program, a word is guarded by at most one lock, for whichever tasks.
     pub fn guarded_words_have_one_lock()
         ensures { (program : ProgramParts) (p : Phase) (t u : TaskDecl) (a b w : ℕ) → IsChecked program → IsAmong program.phases p → IsAmong p.tasks t → IsAmong p.tasks u
             → IsTrue (task_guards t a w) → IsTrue (task_guards u b w) → a ≡ b }
     {}
 }
 
-/// Shows that a value goes from thread to thread, and may be shared.
+/// Compiles only if the type may be sent to another thread and shared with it.
 fn crosses<T: Send + Sync>(_value: &T) {}
 
 /// A checked program may be sent to another thread, and shared with it. Nobody calls this; the check of its body proves it.

@@ -49,8 +49,8 @@ fn phase_fault(phase: PhaseId, tasks: &[TaskDecl], locks: u32) -> Option<CheckFa
     })
 }
 
-/// The least fault of the program in the order of `CheckFault`, or None where the program is checked. `check` answers the same,
-/// and takes the program. Takes no memory.
+/// The least fault of the program in the order of `CheckFault`, or None if the program is checked. `check` gives the same
+/// answer, and takes the program. Takes no memory.
 pub fn first_fault(program: &Program) -> Option<CheckFault>
     ensures some { IfSome result (IsLeastFault program.now) }
     ensures none { IfNone result (IsChecked program.now) }
@@ -64,15 +64,15 @@ pub fn first_fault(program: &Program) -> Option<CheckFault>
     None
 }
 
-/// Checks the declared effects of a program: see `Checked` for the three rules. Takes no memory.
+/// Checks the declared effects of a program by the three rules of `Checked`. Takes no memory.
 ///
-/// In each phase it goes along two lists of intervals a few times for each pair of tasks, and then along the words of the tasks'
-/// sets, where a word counts once for each set that has it. Each such pass begins with 64 KiB of notes to clear. Where two tasks
-/// contend for a word, it makes one more pass for each lock, and goes along two lists of intervals for each pair of tasks and
-/// other lock, of the first lock with a fault alone.
+/// For each phase it passes over two lists of intervals a few times for each pair of tasks, and then over the words of the
+/// tasks' sets, where a word counts once for each set that has it. Each pass over words first clears 64 KiB of notes. If two
+/// tasks conflict, it makes one more pass for each lock. For the first lock with a fault it then compares the lists of
+/// intervals for each pair of tasks and each other lock.
 ///
 /// # Errors
-/// The least fault in the order of `CheckFault`; it comes exactly where the program is not checked.
+/// The least fault in the order of `CheckFault`, exactly if the program is not checked.
 pub fn check(program: Program) -> Result<Checked, CheckFault>
     ensures checked { IsOk result ↔ IsChecked program }
     ensures same { IfOk result (λ checked. checked ≡ program) }

@@ -1,5 +1,5 @@
-//! The checker of declared effects: whether the tasks of each phase keep out of each other's words, and the first conflict
-//! where they don't.
+//! The checker of declared effects: whether the tasks of each phase have no conflicting words, and the least conflict if they
+//! have.
 #![tactic(auto)]
 
 mod checked;

@@ -1,6 +1,6 @@
-//! A pass over the words that tells whether any of them is guarded and used otherwise: it notes who takes each word. It takes
-//! no memory. Its time grows with the words of the tasks' sets, where a word counts once for each set that has it, and it clears
-//! 64 KiB of notes first.
+//! Passes over words that tell whether any word is guarded and also used otherwise. A pass notes who takes each word. It takes
+//! no memory. Its time is proportional to the words of the tasks' sets, where a word counts once for each set that has it, and
+//! it clears 64 KiB of notes first.
 ghost use Rattle.std.specs.Prelude.{◌≡◌, ℕ, ◌+◌, ◌<◌, ◌≤◌, ◌==◌, ◌||◌, IsTrue, [], length, slice_index_or};
 ghost use Rattle.std.specs.List.{All, list_any};
 ghost use Rattle.region_table.specs.declared.declared.TaskDecl.{TaskDecl};
@@ -17,16 +17,16 @@ use region_table::{Interval, TaskDecl, WordSet};
 /// The greatest number of words of a memory.
 const MOST_WORDS: usize = 65536;
 
-/// The taker of what tasks use plainly.
+/// The taker of the words that tasks use plainly.
 const PLAIN: u8 = 1;
 
-/// The taker of what a lock guards, where it is compared with others.
+/// The taker of the words that a lock guards, when it is compared with other locks.
 const OWN: u8 = 1;
 
-/// The taker of what the others guard.
+/// The taker of the words that the other locks guard.
 const OTHERS: u8 = 2;
 
-/// Whether a word that has one taker, or none, may be taken by another.
+/// Whether a taker may take a word that `before` has taken, or nobody.
 fn may_take(before: u8, taker: u8) -> bool
     ensures { result ≡ (before == 0 || before == taker) }
 {
@@ -140,7 +140,7 @@ fn take_locks(takers: &mut [u8], tasks: &[TaskDecl], locks: u32) -> bool
     true
 }
 
-/// True only where no word that a lock guards is used plainly or guarded by another lock.
+/// True only if no word that a lock guards is used plainly or guarded by another lock.
 pub(crate) fn are_apart(tasks: &[TaskDecl], locks: u32) -> bool
     requires within { UseWordsBelow 65536 tasks.now }
     requires few { locks ≤ 32 }
@@ -152,7 +152,7 @@ pub(crate) fn are_apart(tasks: &[TaskDecl], locks: u32) -> bool
     take_all_plain(&mut takers, tasks) && take_locks(&mut takers, tasks, locks)
 }
 
-/// True only where no word that the lock guards is used plainly.
+/// True only if no word that the lock guards is used plainly.
 pub(crate) fn is_never_plain(tasks: &[TaskDecl], lock: u32) -> bool
     requires { UseWordsBelow 65536 tasks.now }
     ensures { IsTrue result → (core w : ℕ) → IsGuardedPlain tasks.now lock core w → ⊥ }
@@ -176,7 +176,7 @@ fn take_later_locks(takers: &mut [u8], tasks: &[TaskDecl], lock: u32, locks: u32
     true
 }
 
-/// True only where no lock with a greater number guards a word that this lock guards.
+/// True only if no lock with a greater number guards a word that this lock guards.
 pub(crate) fn is_apart_from_later(tasks: &[TaskDecl], lock: u32, locks: u32) -> bool
     requires within { UseWordsBelow 65536 tasks.now }
     requires among { lock < locks }

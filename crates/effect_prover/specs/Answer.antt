@@ -23,13 +23,13 @@ use Rattle.effect_prover.specs.declared.proved.Proved.TheVariants.{Inside, Unbou
 use Rattle.effect_prover.specs.Table.{Table, row_at, address_at, instr_of, IsLeastTable}
 use Rattle.effect_prover.specs.Inside.{IsInside, IsInsideAt, AreInside, IsOutsideAt}
 
--- in the least table of the task every instruction that is reached is inside
+-- each instruction that the task's least table reaches is inside
 pub record IsProvenTask (P : ProgramParts) (d : TaskDecl) : Type 0 where
   pub table : Table
   pub least : IsLeastTable P d table
   pub inside : AreInside P d table
 
--- what is found of a task: it is proven, or this is the first word of its least table that isn't inside
+-- the result for a task: it is proven, or this is the index of the first word of its least table that isn't inside
 pub record IsUnprovenTask (P : ProgramParts) (d : TaskDecl) (place : ℕ) : Type 0 where
   pub table : Table
   pub least : IsLeastTable P d table
@@ -40,7 +40,7 @@ abbrev pub IsTaskAnswer : ProgramParts → TaskDecl → Option ℕ → Type 0
 IsTaskAnswer P d None = IsProvenTask P d
 IsTaskAnswer P d (Some place) = IsUnprovenTask P d place
 
--- the same of the tasks of a phase: the first that isn't proven, by its core
+-- the same for the tasks of a phase: the first that isn't proven, by its core
 pub record IsUnprovenPhase (P : ProgramParts) (tasks : List TaskDecl) (core place : ℕ) : Type 0 where
   pub number : ℕ
   pub decl : TaskDecl
@@ -71,17 +71,17 @@ pub record IsUnbounded (P : ProgramParts) (phase core pc : ℕ) : Type 0 where
   pub there : instr_of P.code place ≡ Some instr
   pub outside : IsInside P decl row instr → ⊥
 
--- the answer is right: all tasks are proven, or this is the least phase, core and pc that isn't inside
+-- the answer is right: all tasks are proven, or this is the least phase, core and pc whose instruction isn't inside
 abbrev pub IsProversAnswer : ProgramParts → Proved → Type 0
 IsProversAnswer P Inside = IsProven P
 IsProversAnswer P (Unbounded phase core pc) = IsFirst (IsUnbounded P) phase.0 core.0 pc
 
--- the task hasn't ended by a trap outside
+-- the task hasn't ended by the trap `outside`
 abbrev pub IsTame : Option End → Type 0
 IsTame (Some (Trap kind.TheVariants.Outside pc value)) = ⊥
 IsTame _ = Unit {0}
 
--- whatever the fuel and the grants, no task has ended by a trap outside
+-- for all fuel and grants, no task has ended by the trap `outside`
 abbrev pub RunsInside : ProgramParts → Type 0
 RunsInside P =
     (fuel : ℕ) (gs : List Grant) (F : Flat) → so_far P fuel gs ≡ Some F → All (λ (r : Started). IsTame r.state.end) (all_tasks F)

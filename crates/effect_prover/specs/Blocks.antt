@@ -1,5 +1,5 @@
--- Blocks: code words that lie one after the other, of which only the first, its leader, can be come to from elsewhere. The row
--- at the leader tells the rows of the other words.
+-- Blocks. A block is a run of adjacent code words, and only the first, its leader, can be reached from elsewhere. The row at
+-- the leader gives the rows of the other words.
 use Rattle.std.specs.Prelude.{◌≡◌, ◌⊎◌, ℕ, zero, suc, ◌+◌, ◌<◌, Bool, true, false, List, length, map, slice_index_or, Option, Some, None, if◌then◌else◌}
 use Rattle.std.specs.List.{range_with_len}
 use Rattle.rv_isa.specs.declared.instr.Instr.{Instr}
@@ -10,7 +10,7 @@ use Rattle.effect_prover.specs.declared.row.Row.{Row}
 use Rattle.effect_prover.specs.Successors.{successors}
 use Rattle.effect_prover.specs.Table.{Table, row_at, address_at, instr_of, target_of}
 
--- the instruction is of straight-line code: it goes on to the next word, and nowhere else
+-- the instruction is straight: it continues at the next word, and nowhere else
 abbrev pub is_straight : Instr → Bool
 is_straight (Lui rd imm) = true
 is_straight (Auipc rd imm) = true
@@ -35,8 +35,8 @@ pub record IsStraightAt (code : List ℕ) (i : ℕ) : Type 0 where
 abbrev pub is_leader : List Bool → ℕ → Bool
 is_leader leaders i = slice_index_or leaders i false
 
--- the first n code words ask for no more leaders: the first word is one, each word after one that isn't plain, and each at
--- which a branch or JAL aims
+-- the leaders that the first n code words require: the first word, each word after one that isn't straight, and each target of
+-- a branch or JAL
 pub record AreLed (code : List ℕ) (n : ℕ) (leaders : List Bool) : Type 0 where
   pub words : length leaders ≡ length code
   pub first : 0 < length code → is_leader leaders 0 ≡ true
@@ -44,12 +44,12 @@ pub record AreLed (code : List ℕ) (n : ℕ) (leaders : List Bool) : Type 0 whe
   pub aimed : (i j : ℕ) (instr : Instr) → i < n → j < length code → instr_of code i ≡ Some instr
       → target_of (address_at i) instr ≡ Some (address_at j) → is_leader leaders j ≡ true
 
--- the second marks have all leaders of the first
+-- all leaders of the first marks are leaders of the second
 pub record HasMoreLeaders (old new : List Bool) : Type 0 where
   pub words : length new ≡ length old
   pub all : (i : ℕ) → is_leader old i ≡ true → is_leader new i ≡ true
 
--- these leaders are enough for a task: the code words ask for no more, and the task's entry is one
+-- these leaders suffice for a task: they are those that the code words require, and the task's entry
 pub record HasLeaders (P : ProgramParts) (d : TaskDecl) (leaders : List Bool) : Type 0 where
   pub led : AreLed P.code (length P.code) leaders
   pub entry : (i : ℕ) → i < length P.code → d.entry ≡ address_at i → is_leader leaders i ≡ true
@@ -59,12 +59,12 @@ abbrev pub leader_of : List Bool → ℕ → ℕ
 leader_of leaders zero = zero
 leader_of leaders (suc i) = if is_leader leaders (suc i) then suc i else leader_of leaders i
 
--- no word of the block stands after this one
+-- this is the last word of its block
 pub record IsLast (leaders : List Bool) (words i : ℕ) : Type 0 where
   pub within : i < words
   pub behind : i + 1 < words → is_leader leaders (i + 1) ≡ true
 
--- the row that a code word gives to the next
+-- the row that a code word gives to the next one
 abbrev pub row_behind : ProgramParts → ℕ → Option Row → Option Instr → Option Row
 row_behind P i None instr = None
 row_behind P i (Some row) None = None
@@ -80,7 +80,7 @@ filled_row P leaders rows (suc i) =
 unfoldable pub filled : ProgramParts → List Bool → Table → Table
 filled P leaders rows = map (filled_row P leaders rows) (range_with_len 0 (length P.code))
 
--- the row at the word before, where there is one
+-- the row at the word before, if there is one
 abbrev pub filled_before : ProgramParts → List Bool → Table → ℕ → Option Row
 filled_before P leaders rows zero = None
 filled_before P leaders rows (suc i) = filled_row P leaders rows i

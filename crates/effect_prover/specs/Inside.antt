@@ -1,4 +1,4 @@
--- Whether a load or store that is reached with a row stays within what its task may use.
+-- Whether a load or store that is reached with a row only accesses words that its task may use.
 use Rattle.std.specs.Prelude.{◌≡◌, ℕ, ℤ, ◌%◌, ◌<◌, Bool, IsTrue, length, Option, Some, None}
 use Rattle.rv_isa.specs.Word.{pattern}
 use Rattle.rv_isa.specs.declared.instr.AluOp.TheVariants.{Add}
@@ -20,7 +20,7 @@ abbrev pub IsAllowed : (ℕ → Bool) → Option ℕ → Type 0
 IsAllowed allowed None = ⊥
 IsAllowed allowed (Some word) = IsTrue (allowed word)
 
--- each address of the range that is a multiple of the width lies in one of `words` data words that passes the test
+-- each address of the range that is a multiple of the width lies in one of `words` data words, and that word passes the test
 abbrev pub AreAllowed : (ℕ → Bool) → ℕ → Width → Range → Type 0
 AreAllowed allowed words width range =
     (address : ℕ) → Has range address → address % size_of width ≡ 0 → IsAllowed allowed (data_at words address)
@@ -29,8 +29,8 @@ AreAllowed allowed words width range =
 abbrev pub addresses : Row → ℕ → ℤ → Range
 addresses row base offset = computed_imm Add (range_of row base) (pattern offset)
 
--- a load or store uses only words that the task may use so while it holds the locks of the row; of a jump to a register
--- nothing is known
+-- a load or store only accesses words that the task may use in that way with the locks of the row. A jump to a register is
+-- never inside, since its target isn't known
 abbrev pub IsInside : ProgramParts → TaskDecl → Row → Instr → Type 0
 IsInside P d row (Load width rd base offset) = AreAllowed (may_load d row.held) (length P.memory) width (addresses row base offset)
 IsInside P d row (Store width src base offset) = AreAllowed (may_store d row.held) (length P.memory) width (addresses row base offset)
@@ -45,7 +45,7 @@ IsInsideAt P d table i = (row : Row) (instr : Instr) → row_at table i ≡ Some
 abbrev pub AreInside : ProgramParts → TaskDecl → Table → Type 0
 AreInside P d table = (i : ℕ) → IsInsideAt P d table i
 
--- the table reaches an instruction that isn't inside
+-- the table reaches an instruction at this word that isn't inside
 pub record IsOutsideAt (P : ProgramParts) (d : TaskDecl) (table : Table) (i : ℕ) : Type 0 where
   pub row : Row
   pub reached : row_at table i ≡ Some row
@@ -53,7 +53,7 @@ pub record IsOutsideAt (P : ProgramParts) (d : TaskDecl) (table : Table) (i : �
   pub there : instr_of P.code i ≡ Some instr
   pub outside : IsInside P d row instr → ⊥
 
--- the first such word, or none
+-- the first word with such an instruction, or None if there is none
 abbrev pub IsFirstOutside : ProgramParts → TaskDecl → Table → Option ℕ → Type 0
 IsFirstOutside P d table None = AreInside P d table
 IsFirstOutside P d table (Some place) = IsOutsideAt P d table place × ((i : ℕ) → i < place → IsInsideAt P d table i)

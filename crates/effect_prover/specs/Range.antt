@@ -1,4 +1,4 @@
--- Ranges of numbers of 32 bits, without sign, and what operations make of them.
+-- Ranges of numbers of 32 bits without sign, and the arithmetic on them.
 use Rattle.std.specs.Prelude.{ℕ, ◌+◌, ◌-◌, ◌*◌, ◌/◌, ◌%◌, ◌^◌, ◌<◌, ◌≤◌, min, max, Bool, ◌&&◌, ◌==◌, nat_lt, if◌then◌else◌}
 use Rattle.rv_isa.specs.Meaning.{amount, alu_of}
 use Rattle.rv_isa.specs.declared.instr.AluOp.{AluOp}
@@ -34,13 +34,13 @@ is_one range = range.lo == range.hi
 abbrev pub is_empty : Range → Bool
 is_empty range = nat_lt range.hi range.lo
 
--- whole-number results from `least` to `greatest`, modulo 2^32: where both lie in one stretch of 2^32 numbers from a
--- multiple of 2^32 on, the results keep their order, and else they can be any number
+-- the range of results from `least` to `greatest`, taken modulo 2^32. If both lie between the same two multiples of 2^32, the
+-- results keep their order. Otherwise they can be any number
 abbrev pub wrapped_range : ℕ → ℕ → Range
 wrapped_range least greatest =
     if least / 2 ^ 32 == greatest / 2 ^ 32 then record { lo = least % 2 ^ 32; hi = greatest % 2 ^ 32 } else every
 
--- a shift to the left by n that may lose no bit
+-- a left shift by n; if a bit may be lost, every number
 abbrev pub shifted_left : Range → ℕ → Range
 shifted_left a n = if nat_lt (a.hi * 2 ^ n) (2 ^ 32) then record { lo = a.lo * 2 ^ n; hi = a.hi * 2 ^ n } else every
 
@@ -73,7 +73,7 @@ form_imm Sra a n = form Sra a (one n)
 form_imm Or a n = form Or a (one n)
 form_imm And a n = form And a (one n)
 
--- two operands of one number each have one result
+-- the range of the results; if both operands are single numbers, so is the result
 abbrev pub computed : AluOp → Range → Range → Range
 computed op a b = if is_one a && is_one b then one (alu_of op a.lo b.lo) else form op a b
 

@@ -1,4 +1,4 @@
--- What a table says of a task at a code word: the range of each register, and locks that are held.
+-- What a table says of a task at a code word: the range of each register, and the locks that are held for certain.
 use Rattle.std.specs.Prelude.{◌≡◌, ℕ, ◌^◌, ◌<◌, ◌==◌, length, replicate, slice_index_or, slice_set, Option, Some, None, if◌then◌else◌}
 use Rattle.region_table.specs.declared.declared.TaskDecl.{TaskDecl}
 use Rattle.flat_machine.specs.Laws.{HoldsLess}
@@ -6,7 +6,7 @@ use Rattle.effect_prover.specs.declared.range.Range.{Range}
 use Rattle.effect_prover.specs.declared.row.Row.{Row}
 use Rattle.effect_prover.specs.Range.{one, LiesWithin, IsRange}
 
--- the registers that a row, a task's start and a call name: the constant 0, the first argument, and the number of the call
+-- registers with a role: the constant 0, the first argument, and the number of a call
 abbrev pub x0 : ℕ
 x0 = 0
 
@@ -24,7 +24,7 @@ range_of row r = slice_index_or row.ranges r (one 0)
 abbrev pub with_range : Row → ℕ → Range → Row
 with_range row rd range = if rd == 0 then row else record row { ranges = slice_set row.ranges rd range }
 
--- at a task's start a0 has the task's argument and every other register 0, and no lock is held
+-- when a task starts, a0 has the task's argument, every other register is 0, and no lock is held
 abbrev pub start_row : TaskDecl → Row
 start_row d = record { ranges = slice_set (replicate 32 (one 0)) 10 (one d.arg); held = 0 }
 
@@ -35,12 +35,12 @@ pub record IsRow (row : Row) : Type 0 where
   pub zero_register : range_of row x0 ≡ one 0
   pub held : row.held < 2 ^ 32
 
--- the second row contains the first: each of its ranges contains the first's, and its locks are among the first's
+-- the second row contains the first: its ranges contain the first's ranges, and its locks are among the first's
 pub record IsBelow (row all : Row) : Type 0 where
   pub ranges : (r : ℕ) → r < 32 → LiesWithin (range_of row r) (range_of all r)
   pub locks : HoldsLess all.held row.held
 
--- the same of rows that may be missing, as at a word that isn't reached
+-- the same for rows that may be missing, as at a word that isn't reached
 abbrev pub IsUnder : Option Row → Option Row → Type 0
 IsUnder None all = Unit {0}
 IsUnder (Some row) None = ⊥

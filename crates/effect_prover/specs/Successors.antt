@@ -1,4 +1,4 @@
--- The table of instruction forms: where a task can go on from an instruction, and with which rows.
+-- The table of instruction forms: where a task can continue after an instruction, and with which rows.
 use Rattle.std.specs.Prelude.{ℕ, ◌+◌, ◌*◌, ◌%◌, ◌^◌, Bool, ◌&&◌, ◌||◌, ◌==◌, nat_lt, Option, Some, None, if◌then◌else◌, bit_or, bit_xor}
 use Rattle.rv_isa.specs.Meaning.{taken_of}
 use Rattle.rv_isa.specs.Word.{pattern}
@@ -15,7 +15,7 @@ use Rattle.effect_prover.specs.declared.successors.Successors.{Successors}
 use Rattle.effect_prover.specs.Range.{one, every, is_one, is_empty, computed, computed_imm, common, below, above, at_least, at_most}
 use Rattle.effect_prover.specs.Row.{a0, a7, range_of, with_range}
 
--- the task can't go on, only to the next word, or only to the instruction's target
+-- the task can continue nowhere, only at the next word, or only at the instruction's target
 abbrev pub no_successors : Successors
 no_successors = record { next = None; target = None }
 
@@ -29,7 +29,7 @@ jumps row = record { next = None; target = Some row }
 abbrev pub narrowed : Row → ℕ → Range → ℕ → Range → Option Row
 narrowed row a x b y = if is_empty x || is_empty y then None else Some (with_range (with_range row a x) b y)
 
--- the row where register a is equal to register b, less than it without sign, or not less
+-- the row if register a equals register b, is less than it without sign, or isn't less
 abbrev pub where_equal : Row → ℕ → ℕ → Option Row
 where_equal row a b =
     narrowed row a (common (range_of row a) (range_of row b)) b (common (range_of row a) (range_of row b))
@@ -41,16 +41,16 @@ abbrev pub where_not_less : Row → ℕ → ℕ → Option Row
 where_not_less row a b =
     narrowed row a (at_least (range_of row a) (range_of row b)) b (at_most (range_of row b) (range_of row a))
 
--- the row where the two differ: they can't where both are the same one number
+-- the row if the two differ; they can't if both have the same single number
 abbrev pub where_different : Row → ℕ → ℕ → Option Row
 where_different row a b =
     if is_one (range_of row a) && is_one (range_of row b) && (range_of row a).lo == (range_of row b).lo then None else Some row
 
--- below 2^31 the order with sign is that without
+-- both are below 2^31, where the signed and the unsigned order agree
 abbrev pub are_low : Row → ℕ → ℕ → Bool
 are_low row a b = nat_lt (range_of row a).hi (2 ^ 31) && nat_lt (range_of row b).hi (2 ^ 31)
 
--- a branch that is taken where a is less than b without sign, and one that is taken where it isn't
+-- a branch that is taken if a is less than b without sign, and one that is taken if it isn't
 abbrev pub less_branches : Row → ℕ → ℕ → Successors
 less_branches row a b = record { next = where_not_less row a b; target = where_less row a b }
 
@@ -61,7 +61,7 @@ not_less_branches row a b = record { next = where_less row a b; target = where_n
 abbrev pub any_branches : Row → Successors
 any_branches row = record { next = Some row; target = Some row }
 
--- a branch on two registers: the row where it isn't taken, and the row where it is
+-- a branch on two registers: the row if it isn't taken, and the row if it is
 abbrev pub branches : Cond → Row → ℕ → ℕ → Successors
 branches Eq row a b = record { next = where_different row a b; target = where_equal row a b }
 branches Ne row a b = record { next = where_equal row a b; target = where_different row a b }
@@ -75,7 +75,7 @@ abbrev pub branch_on : Cond → Row → ℕ → ℕ → Successors
 branch_on test row a b =
     if a == b then (if taken_of test 0 0 then jumps row else falls_through row) else branches test row a b
 
--- what a load can put into its register
+-- the range of the values that a load can put into its register
 abbrev pub loadable : Width → Range
 loadable width.TheVariants.B = every
 loadable width.TheVariants.H = every
@@ -90,15 +90,15 @@ held_with held lock = bit_or held (2 ^ lock)
 abbrev pub held_without : ℕ → ℕ → ℕ
 held_without held lock = if is_held held lock then bit_xor held (2 ^ lock) else held
 
--- the locks that are held for sure once a lock of this range was acquired, or released, in a program with `locks` locks
+-- the locks that are held for certain after a lock of this range was acquired, or released, in a program with `locks` locks
 abbrev pub held_after_acquire : ℕ → ℕ → Range → ℕ
 held_after_acquire locks held lock = if is_one lock && nat_lt lock.lo locks then held_with held lock.lo else held
 
 abbrev pub held_after_release : ℕ → Range → ℕ
 held_after_release held lock = if is_one lock then held_without held lock.lo else 0
 
--- an ECALL with a number of the first range in a7 and a lock of the second in a0: 1 acquires the lock, 2 releases it, and
--- the task doesn't go on from any other number; where the number isn't known, neither are the locks
+-- an ECALL with a number of the first range in a7 and a lock of the second in a0. 1 acquires the lock, 2 releases it, and after
+-- any other number the task doesn't continue. If the number isn't known, the locks aren't either
 abbrev pub calls : ℕ → Row → Range → Range → Successors
 calls locks row number lock =
     if is_one number then

@@ -1,4 +1,4 @@
--- How the least table is reached: rows grow as little as they must, until each has been passed on.
+-- How the least table is found: rows grow as little as they must, until each has been passed on to its successors.
 use Rattle.std.specs.Prelude.{◌≡◌, ◌≢◌, ◌↔◌, ℕ, ◌+◌, ◌-◌, ◌<◌, ◌≤◌, Bool, true, false, List, length, slice_index_or, slice_set, Option, Some, None, sum_by, bit_and}
 use Rattle.region_table.specs.Program.{ProgramParts}
 use Rattle.region_table.specs.declared.declared.TaskDecl.{TaskDecl}
@@ -13,7 +13,7 @@ use Rattle.effect_prover.specs.Blocks.{is_leader, leader_of, IsLast, filled_row}
 
 -- ---- joined ranges and rows
 
--- the greatest end up to n that a range at a head may have, and the least from n on
+-- the greatest end of a head's range that is at most n, and the least that is at least n
 pub record IsEndUpTo (argument n e : ℕ) : Type 0 where
   pub end : IsEnd argument e
   pub within : e ≤ n
@@ -24,7 +24,7 @@ pub record IsEndFrom (argument n e : ℕ) : Type 0 where
   pub within : n ≤ e
   pub least : (f : ℕ) → IsEnd argument f → n ≤ f → e ≤ f
 
--- the least range with all numbers of two ranges; at a head, the least that is a head's
+-- the least range with all numbers of two ranges; at a head, the least that a head may have
 pub record IsJoinedRange (head : Bool) (argument : ℕ) (old given new : Range) : Type 0 where
   pub first : LiesWithin old new
   pub second : LiesWithin given new
@@ -38,12 +38,12 @@ pub record IsRowJoined (head : Bool) (argument : ℕ) (old given new : Row) : Ty
   pub ranges : (r : ℕ) → r < 32 → IsJoinedRange head argument (range_of old r) (range_of given r) (range_of new r)
   pub held : new.held ≡ bit_and old.held given.held
 
--- the same where there may be no row yet
+-- the same if there may be no row yet
 abbrev pub IsJoinedTo : Bool → ℕ → Option Row → Row → Row → Type 0
 IsJoinedTo head argument None given new = IsRowJoined head argument given given new
 IsJoinedTo head argument (Some old) given new = IsRowJoined head argument old given new
 
--- the row of a word contains a row so that joining that to it changes nothing
+-- the row of a word contains a row, so that joining that row to it changes nothing
 abbrev pub IsTakenIn : Bool → ℕ → Option Row → Row → Type 0
 IsTakenIn head argument None given = ⊥
 IsTakenIn head argument (Some old) given = IsRowJoined head argument old given old
@@ -54,7 +54,7 @@ IsTakenIn head argument (Some old) given = IsRowJoined head argument old given o
 abbrev pub range_room : Range → ℕ
 range_room range = range.lo + (4294967295 - range.hi)
 
--- how far a row can grow at most, and how far a word can that isn't reached yet
+-- by how much a row can grow at most, and a word that isn't reached yet
 abbrev pub row_room : Row → ℕ
 row_room row = sum_by range_room row.ranges + row.held
 
@@ -101,8 +101,8 @@ HasPassedOn P leaders table i =
     (row : Row) (instr : Instr) → filled_row P leaders table i ≡ Some row → instr_of P.code i ≡ Some instr
     → IsPassedOn table (address_at i) instr (successors (length P.locks) (address_at i) row instr)
 
--- the state of the sweep, whose table has the rows at the leaders: the last word of each block whose leader isn't pending has
--- passed on, and no leader before the cursor is pending
+-- the state of the sweep; its table has the rows at the leaders. For each block whose leader isn't pending, the last word has
+-- passed on its rows. No leader before the cursor is pending
 pub record IsSwept (P : ProgramParts) (d : TaskDecl) (leaders : List Bool) (table : Table) (pending : List Bool) (cursor : ℕ) : Type 0 where
   pub shape : IsTable P d table
   pub least : IsBelowAll P d table
@@ -114,7 +114,7 @@ pub record IsSwept (P : ProgramParts) (d : TaskDecl) (leaders : List Bool) (tabl
 abbrev pub CoversAt : Table → Option ℕ → Option Row → Type 0
 CoversAt table address given = (a : ℕ) → address ≡ Some a → Covers table a given
 
--- a row was given to an address: the table grew as little as it had to, and each row that grew is pending; the sweep goes on
+-- a row was given to an address. The table grew as little as it had to, and each row that grew is pending. The sweep continues
 -- at the least such word, or at the cursor
 pub record IsRowGiven (P : ProgramParts) (d : TaskDecl) (old : Table) (was : List Bool) (address : Option ℕ) (given : Option Row) (cursor : ℕ) (new : Table) (pending : List Bool) (next : ℕ) : Type 0 where
   pub words : length new ≡ length old
@@ -130,7 +130,7 @@ pub record IsRowGiven (P : ProgramParts) (d : TaskDecl) (old : Table) (was : Lis
   pub room_falls : table_room new ≤ table_room old
   pub room_less : next < cursor → table_room new < table_room old
 
--- a row was joined to the row at a place, which grew where `grew` says so
+-- a row was joined to the row at an index; `grew` says whether that row grew
 pub record IsPut (head : Bool) (argument : ℕ) (old : Table) (place : ℕ) (given : Row) (new : Table) (grew : Bool) : Type 0 where
   pub row : Row
   pub table : new ≡ slice_set old place (Some row)

@@ -1,4 +1,4 @@
--- Tables of rows, one for each code word that a task can reach, and the least of those that are closed.
+-- Tables: a row for each code word that a task can reach. And the least closed table.
 use Rattle.std.specs.Prelude.{◌≡◌, ◌⊎◌, ℕ, ◌+◌, ◌*◌, ◌%◌, ◌^◌, ◌<◌, ◌≤◌, List, length, slice_get, slice_index_or, Option, Some, None}
 use Rattle.rv_isa.specs.Word.{pattern}
 use Rattle.rv_isa.specs.declared.instr.Instr.{Instr}
@@ -27,13 +27,13 @@ address_at i = 4096 + 4 * i
 abbrev pub instr_of : List ℕ → ℕ → Option Instr
 instr_of code i = read_instr (slice_get code i)
 
--- the address at which a branch or JAL at the address pc aims
+-- the target of a branch or JAL at the address pc
 abbrev pub target_of : ℕ → Instr → Option ℕ
 target_of pc (Jal rd offset) = Some ((pc + pattern offset) % 2 ^ 32)
 target_of pc (Branch test a b offset) = Some ((pc + pattern offset) % 2 ^ 32)
 target_of pc _ = None
 
--- a head is a code word at which a branch or JAL at the same or a later address aims: each loop without a JALR has one
+-- a head is a code word that is the target of a branch or JAL at the same or a later address; each loop without a JALR has one
 pub record IsLoopHead (code : List ℕ) (i : ℕ) : Type 0 where
   pub place : ℕ
   pub later : i ≤ place
@@ -41,12 +41,12 @@ pub record IsLoopHead (code : List ℕ) (i : ℕ) : Type 0 where
   pub there : instr_of code place ≡ Some instr
   pub aims : target_of (address_at place) instr ≡ Some (address_at i)
 
--- the ends that a range at a head may have: 0, the task's argument, the greatest number with sign, the least one, and the
--- greatest number without sign
+-- the ends that a range at a head may have: 0, the task's argument, the greatest and the least signed number, and the greatest
+-- unsigned number
 abbrev pub IsEnd : ℕ → ℕ → Type 0
 IsEnd argument e = (e ≡ 0) ⊎ ((e ≡ argument) ⊎ ((e ≡ 2147483647) ⊎ ((e ≡ 2147483648) ⊎ (e ≡ 4294967295))))
 
--- a range at a head is of one number, or has two such ends: so it can grow only a few times
+-- a range at a head is a single number, or has two such ends; so it can grow only a few times
 abbrev pub IsHeadRange : ℕ → Range → Type 0
 IsHeadRange argument range = (range.lo ≡ range.hi) ⊎ (IsEnd argument range.lo × IsEnd argument range.hi)
 
@@ -60,20 +60,20 @@ pub record IsTable (P : ProgramParts) (d : TaskDecl) (table : Table) : Type 0 wh
 abbrev pub Covers : Table → ℕ → Option Row → Type 0
 Covers table address given = (i : ℕ) → i < length table → address ≡ address_at i → IsUnder given (row_at table i)
 
--- the rows after an instruction at pc, and at its target, contain those of its successors
+-- the rows at the next word and at the target of an instruction at pc contain those of its successors
 pub record IsPassedOn (table : Table) (pc : ℕ) (instr : Instr) (s : Successors) : Type 0 where
   pub next : Covers table (pc + 4) s.next
   pub target : (address : ℕ) → target_of pc instr ≡ Some address → Covers table address s.target
 
--- a table is closed: its row at the task's entry contains the start row, and the rows of its successors contain what each
--- instruction that is reached gives them
+-- a table is closed: its row at the task's entry contains the start row, and for each instruction that is reached, the rows of
+-- its successors contain what the instruction gives them
 pub record IsClosed (P : ProgramParts) (d : TaskDecl) (table : Table) : Type 0 where
   pub shape : IsTable P d table
   pub entry : Covers table d.entry (Some (start_row d))
   pub passes : (i : ℕ) (row : Row) (instr : Instr) → row_at table i ≡ Some row → instr_of P.code i ≡ Some instr
       → IsPassedOn table (address_at i) instr (successors (length P.locks) (address_at i) row instr)
 
--- the least of all closed tables of the task: each closed table contains it row by row
+-- the least of all closed tables of the task: every closed table contains it row by row
 pub record IsLeastTable (P : ProgramParts) (d : TaskDecl) (table : Table) : Type 0 where
   pub closed : IsClosed P d table
   pub least : (all : Table) → IsClosed P d all → (i : ℕ) → IsUnder (row_at table i) (row_at all i)

@@ -1,4 +1,4 @@
-//! Blocks of code words: their leaders, and the way from a leader's row to the rows of the other words.
+//! Blocks of code words: their leaders, and how the rows of the other words follow from a leader's row.
 ghost use Rattle.std.specs.Prelude.{◌≡◌, ◌⊎◌, ℕ, ◌+◌, ◌<◌, ◌≤◌, true, false, Decides, Some, length, IfOk, IfSome};
 ghost use Rattle.region_table.specs.Program.{IsProgram};
 ghost use Rattle.rv_isa.specs.declared.instr.Instr.{Instr};
@@ -13,7 +13,7 @@ use region_table::{Program, TaskDecl};
 use rv_isa::Instr;
 use std::alloc::Global;
 
-/// Whether an instruction is of straight-line code: it goes on to the next word, and nowhere else.
+/// Whether an instruction is straight: it continues at the next word, and nowhere else.
 fn is_straight(instr: &Instr) -> bool
     ensures { result ≡ is_straight instr.now }
 {
@@ -57,7 +57,7 @@ fn mark_first(leaders: &mut [bool])
     }
 }
 
-/// Marks the word after one that isn't plain.
+/// Marks the word after one that isn't straight.
 fn mark_behind(program: &Program, leaders: &mut [bool], place: usize)
     requires words { length leaders.old ≡ length program.now.code }
     requires within { place < length program.now.code }
@@ -82,7 +82,7 @@ fn mark_address(leaders: &mut [bool], address: u32)
     }
 }
 
-/// Marks the word at which a branch or JAL aims.
+/// Marks the target of a branch or JAL.
 fn mark_aim(program: &Program, leaders: &mut [bool], place: usize)
     requires program { IsProgram program.now }
     requires words { length leaders.old ≡ length program.now.code }
@@ -98,7 +98,7 @@ fn mark_aim(program: &Program, leaders: &mut [bool], place: usize)
     }
 }
 
-/// Marks the leaders that a code word asks for.
+/// Marks the leaders that a code word requires.
 fn mark_word(program: &Program, leaders: &mut [bool], place: usize)
     requires program { IsProgram program.now }
     requires within { place < length program.now.code }
@@ -109,7 +109,7 @@ fn mark_word(program: &Program, leaders: &mut [bool], place: usize)
     mark_aim(program, leaders, place);
 }
 
-/// Marks all leaders that the code words ask for.
+/// Marks all leaders that the code words require.
 fn mark_words(program: &Program, leaders: &mut [bool])
     requires program { IsProgram program.now }
     requires words { length leaders.old ≡ length program.now.code }
@@ -140,7 +140,7 @@ pub(crate) fn leaders(
     Ok(leaders)
 }
 
-/// Whether the word after a word belongs to the same block.
+/// Whether the next word belongs to the same block.
 fn goes_on(leaders: &[bool], place: usize) -> bool
     requires { place < length leaders.now }
     ensures { Decides result ((place + 1 < length leaders.now) × (is_leader leaders.now (place + 1) ≡ false)) }

@@ -1,5 +1,5 @@
-//! The least ranges and rows that contain two: at a head with ends of a few kinds alone, so that a row there grows only a
-//! few times.
+//! The least ranges and rows that contain two others. At a head, ranges may only have certain ends, so that a row there grows
+//! only a few times.
 ghost use Rattle.std.specs.Prelude.{◌≡◌, ◌≤◌, ◌<◌, min, max, Decides};
 ghost use Rattle.effect_prover.specs.Range.{IsRange};
 ghost use Rattle.effect_prover.specs.Row.{IsRow};
@@ -22,10 +22,10 @@ pub(crate) fn greater(a: u32, b: u32) -> u32
     if a < b { b } else { a }
 }
 
-/// The greatest number with sign.
+/// The greatest signed number.
 const GREATEST: u32 = 0x7fff_ffff;
 
-/// The greatest end of a head's range that isn't above `n`.
+/// The greatest end of a head's range that is at most `n`.
 fn end_up_to(argument: u32, n: u32) -> u32
     ensures { IsEndUpTo argument n result }
 {
@@ -42,7 +42,7 @@ fn end_up_to(argument: u32, n: u32) -> u32
     }
 }
 
-/// The least end of a head's range that isn't below `n`.
+/// The least end of a head's range that is at least `n`.
 fn end_from(argument: u32, n: u32) -> u32
     ensures { IsEndFrom argument n result }
 {
@@ -96,7 +96,7 @@ impl Row {
         }
     }
 
-    /// Whether that row is this one.
+    /// Whether the joined row is this one.
     pub(crate) fn takes_in(&self, given: &Row, head: bool, argument: u32) -> bool
         requires old { IsRow self.now }
         requires given { IsRow given.now }

@@ -1,10 +1,10 @@
-//! The static prover of effects: whether any run of a program can use a data word that its task didn't declare, from the
-//! text alone.
+//! The static prover of effects: from the text alone, whether some run of a program can access a data word that its task didn't
+//! declare.
 //!
-//! For each task the prover finds the least table of what its registers can hold at each code word, by ranges of numbers,
-//! and of the locks that are held for sure. Where every load and store of the table stays within the words that the task
-//! declares, no run of the program ends a task by a trap outside. The tables are this project's profile; the instructions
-//! are those of the RISC-V unprivileged manual, RV32I.
+//! For each task the prover finds the least table. It has, for each code word, a range for each register, and the locks that
+//! are held for certain. If every load and store of the table only accesses words that the task declares, no run of the program
+//! ends a task by the trap `outside`. The tables are this project's profile. The instructions are RV32I, of the RISC-V
+//! unprivileged manual.
 #![tactic(auto)]
 
 mod blocks;

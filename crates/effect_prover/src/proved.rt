@@ -8,11 +8,11 @@ use text_pieces::{push, push_decimal, push_hexadecimal};
 /// What the prover says of a program.
 #[derive(Clone, Copy, Debug, PartialEq, Eq)]
 pub enum Proved {
-    /// Every load and store that a task can reach stays within what the task declares, so no run ends a task by a trap
-    /// outside.
+    /// Every load and store that a task can reach only accesses words that the task declares. So no run ends a task by the trap
+    /// `outside`.
     Inside,
-    /// A load, store or jump to a register of which the prover can't say so: the least by its phase, its core, and its
-    /// address in bytes.
+    /// A load, a store or a jump to a register for which this isn't proven: the least by its phase, its core, and its address
+    /// in bytes.
     Unbounded {
         phase: PhaseId,
         core: CoreId,

@@ -1,4 +1,4 @@
-//! The prover: each task's least table, and the first place of it that isn't inside.
+//! The prover: each task's least table, and its first word whose instruction isn't inside.
 ghost use Rattle.std.specs.Prelude.{◌≡◌, ℕ, ◌<◌, Some, Decides, length, IfOk, IfSome};
 ghost use Rattle.region_table.specs.Program.{IsProgram};
 ghost use Rattle.region_table.specs.Numbers.{HasWords};
@@ -26,7 +26,7 @@ use effect_checker::Checked;
 use region_table::{Phase, Program, TaskDecl, a_program_has_words, a_program_is_well_formed};
 use std::alloc::Global;
 
-/// Whether what a word's row says of its instruction is inside.
+/// Whether the instruction of a word is inside, by the word's row.
 fn place_is_inside(
     alloc: Global,
     program: &Program,
@@ -54,7 +54,7 @@ fn place_is_inside(
     is_inside(alloc, program, task, row, &instr, usable)
 }
 
-/// The first word of a table that isn't inside, where these are the table's rows at the leaders.
+/// The first word of a table whose instruction isn't inside. The rows are those at the leaders.
 #[tactic(auto, using(crate::proofs::AnswerLemmas::answers))]
 fn first_outside(
     alloc: Global,
@@ -89,7 +89,7 @@ fn first_outside(
     Ok(None)
 }
 
-/// The first word of a task's least table that isn't inside, where that table is kept.
+/// The first word of a task's least table whose instruction isn't inside; that table is kept.
 fn check_kept(
     alloc: Global,
     program: &Program,
@@ -112,7 +112,7 @@ fn check_kept(
     )
 }
 
-/// The first word of a task's least table that isn't inside. The table is kept.
+/// The first word of a task's least table whose instruction isn't inside. The table is kept then.
 fn check_task(
     alloc: Global,
     program: &Program,
@@ -130,14 +130,14 @@ fn check_task(
     check_kept(alloc, program, task, kept)
 }
 
-/// A word that isn't inside: the core whose task reaches it, and its place.
+/// A word whose instruction isn't inside: its index, and the core whose task reaches it.
 #[derive(Clone, Copy, Debug, PartialEq, Eq)]
 struct Found {
     core: CoreId,
     place: usize,
 }
 
-/// The first of these tasks whose least table isn't inside, by its core, and the first such word of it.
+/// The first of these tasks with such a word, by its core, and the first such word of it.
 fn check_tasks(
     alloc: Global,
     program: &Program,
@@ -162,7 +162,7 @@ fn check_tasks(
     Ok(None)
 }
 
-/// The answer for a program, by its phases in turn.
+/// The answer for a program, phase by phase.
 fn check_in_turn(
     alloc: Global,
     program: &Program,
@@ -188,7 +188,7 @@ fn check_in_turn(
     Ok(Proved::Inside)
 }
 
-/// The answer for a program. It starts with no table.
+/// The answer for a program, starting with no kept table.
 fn check_phases(
     alloc: Global,
     program: &Program,
@@ -204,7 +204,7 @@ fn check_phases(
     check_in_turn(alloc, program, phases, heads, &mut kept)
 }
 
-/// The answer for a program, and what it says of every run.
+/// The answer for a program, and what the answer says of every run.
 fn prove_program(alloc: Global, program: &Program) -> Result<Proved, Memory>
     requires program { IsProgram program.now }
     requires words { HasWords program.now }
@@ -217,14 +217,14 @@ fn prove_program(alloc: Global, program: &Program) -> Result<Proved, Memory>
     check_phases(alloc, program, program.phases.as_slice(), heads.as_slice())
 }
 
-/// Whether every load and store that a task of the program can reach stays within what its task declares.
+/// Whether every load and store that a task of the program can reach only accesses words that its task declares.
 ///
-/// For each task it finds the least closed table (see `IsLeastTable`), and answers `Inside` exactly where no table reaches
-/// an instruction that isn't inside. Tasks that follow each other with one entry and one argument share a table; another is
-/// given back before the next is made.
+/// For each task it finds the least closed table (`IsLeastTable`). It answers `Inside` exactly if every instruction that a
+/// table reaches is inside. Adjacent tasks with the same entry and argument share a table. A table is given back before the
+/// next one is made.
 ///
 /// # Errors
-/// `Memory` where there is no room for a table.
+/// `Memory` if there is no room for a table.
 pub fn prove(alloc: Global, checked: &Checked) -> Result<Proved, Memory>
     // in the least table of every task every instruction is inside, or this is the least place that isn't
     ensures value { IfOk result (IsProversAnswer checked.now) }

@@ -5,7 +5,7 @@ ghost use Rattle.effect_prover.specs.Range.{Has, IsRange, one, every, is_one, wr
 
 use rv_isa::{AluOp, alu};
 
-/// The numbers from `lo` to `hi`, both of 32 bits without sign, and both among them.
+/// The numbers from `lo` to `hi`, both included. They have 32 bits without sign.
 #[derive(Clone, Copy, Debug, PartialEq, Eq)]
 pub struct Range {
     pub lo: u32,
@@ -43,7 +43,7 @@ impl Range {
         Range { lo: 0, hi }
     }
 
-    /// Whether it is of one number.
+    /// Whether the range is a single number.
     pub(crate) fn is_one(self) -> bool
         ensures { result ≡ is_one self }
     {
@@ -57,7 +57,7 @@ impl Range {
         self == other
     }
 
-    /// Whole-number results from `least` to `greatest`, modulo 2^32.
+    /// The range of the results from `least` to `greatest`, taken modulo 2^32.
     fn wrapped(least: u64, greatest: u64) -> Range
         ensures { result ≡ wrapped_range least greatest }
     {
@@ -81,7 +81,7 @@ impl Range {
         )
     }
 
-    /// Its numbers less the other's.
+    /// Its numbers minus the other's.
     fn minus(self, other: Range) -> Range
         ensures { result ≡ wrapped_range (self.lo + 2 ^ 32 - other.hi) (self.hi + 2 ^ 32 - other.lo) }
     {
@@ -91,7 +91,7 @@ impl Range {
         )
     }
 
-    /// Its numbers shifted to the left, where no bit can be lost; else every number.
+    /// Its numbers shifted to the left; if a bit can be lost, every number.
     fn shifted_left(self, amount: u32) -> Range
         requires range { IsRange self }
         requires amount { amount < 32 }
@@ -131,7 +131,7 @@ impl Range {
         }
     }
 
-    /// The results, of which there is one for operands of one number.
+    /// The range of the results; if both operands are single numbers, so is the result.
     fn results(op: AluOp, a: Range, b: Range) -> Range
         ensures { result ≡ computed op a b }
     {
@@ -171,7 +171,7 @@ impl Range {
         Range::results(op, a, b)
     }
 
-    /// The results of an operation on the numbers of a register and an immediate, of which these are the 32 bits.
+    /// The results of an operation on the numbers of a register and an immediate with these 32 bits.
     #[tactic(auto, using(crate::proofs::RangeLemmas::results_lie))]
     pub(crate) fn computed_with(op: AluOp, a: Range, immediate: u32) -> Range
         requires { IsRange a }

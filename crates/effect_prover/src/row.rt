@@ -6,12 +6,12 @@ use crate::range::Range;
 use region_table::TaskDecl;
 use rv_isa::Reg;
 
-/// What is known of a task each time that it comes to a code word.
+/// What holds of a task whenever it reaches a code word.
 #[derive(Clone, Copy, Debug, PartialEq, Eq)]
 pub struct Row {
     /// The numbers that x0 to x31 can have. The first is 0.
     pub ranges: [Range; 32],
-    /// Bit `l` is set where the task holds lock `l` for sure.
+    /// Bit `l` is set if the task holds lock `l` for certain.
     pub held: u32,
 }
 

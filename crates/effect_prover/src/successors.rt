@@ -1,4 +1,4 @@
-//! Where a task can go on from an instruction, by the form of the instruction.
+//! Where a task can continue after an instruction, by the form of the instruction.
 ghost use Rattle.std.specs.Prelude.{◌≡◌, ℕ, true, ◌^◌, ◌≤◌, ◌<◌, ◌+◌};
 ghost use Rattle.rv_isa.specs.Range.{IsEncodable, HasRegisters};
 ghost use Rattle.effect_prover.specs.Row.{IsRow};
@@ -10,7 +10,7 @@ use crate::range::Range;
 use crate::row::{A0, A7, Row};
 use rv_isa::{Cond, Instr, Reg, Width, taken};
 
-/// Where a task can go on from an instruction, each with its row, or None where it can't.
+/// Where a task can continue after an instruction, each with its row, or None if it can't.
 #[derive(Clone, Copy, Debug, PartialEq, Eq)]
 pub struct Successors {
     /// At the next code word.
@@ -30,7 +30,7 @@ impl Successors {
         }
     }
 
-    /// At the next word alone.
+    /// Only at the next word.
     fn falls_through(row: &Row) -> Successors
         ensures { result ≡ falls_through row.now }
     {
@@ -40,7 +40,7 @@ impl Successors {
         }
     }
 
-    /// At the target alone.
+    /// Only at the target.
     fn jumps(row: &Row) -> Successors
         ensures { result ≡ jumps row.now }
     {
@@ -66,7 +66,7 @@ fn without_lock(held: u32, lock: u32) -> u32
 }
 
 impl Row {
-    /// The row where the two registers are equal, if they can be.
+    /// The row if the two registers are equal; None if they can't be.
     fn where_equal(&self, a: Reg, b: Reg) -> Option<Row>
         requires { IsRow self.now }
         ensures { result ≡ where_equal self.now a b }
@@ -85,7 +85,7 @@ impl Row {
         Some(row)
     }
 
-    /// The row where the first register is less than the second without sign, if it can be.
+    /// The row if the first register is less than the second without sign; None if it can't be.
     fn where_less(&self, a: Reg, b: Reg) -> Option<Row>
         requires { IsRow self.now }
         ensures { result ≡ where_less self.now a b }
@@ -108,7 +108,7 @@ impl Row {
         Some(row)
     }
 
-    /// The row where the first register isn't less than the second without sign, if it can be.
+    /// The row if the first register isn't less than the second without sign; None if it is in any case.
     fn where_not_less(&self, a: Reg, b: Reg) -> Option<Row>
         requires { IsRow self.now }
         ensures { result ≡ where_not_less self.now a b }
@@ -131,7 +131,7 @@ impl Row {
         Some(row)
     }
 
-    /// The row where the two registers differ, if they can.
+    /// The row if the two registers differ; None if they can't.
     fn where_different(&self, a: Reg, b: Reg) -> Option<Row>
         requires { IsRow self.now }
         ensures { result ≡ where_different self.now a b }
@@ -144,7 +144,7 @@ impl Row {
         }
     }
 
-    /// Whether both registers are below 2^31, where the order with sign is that without.
+    /// Whether both registers are below 2^31, where the signed and the unsigned order agree.
     fn are_low(&self, a: Reg, b: Reg) -> bool
         requires { IsRow self.now }
         ensures { result ≡ are_low self.now a b }
@@ -152,7 +152,7 @@ impl Row {
         self.range(a).hi < 0x8000_0000 && self.range(b).hi < 0x8000_0000
     }
 
-    /// A branch that is taken where the first register is less.
+    /// A branch that is taken if the first register is less.
     fn less_branches(&self, a: Reg, b: Reg) -> Successors
         requires { IsRow self.now }
         ensures { result ≡ less_branches self.now a b }
@@ -163,7 +163,7 @@ impl Row {
         }
     }
 
-    /// A branch that is taken where the first register isn't less.
+    /// A branch that is taken if the first register isn't less.
     fn not_less_branches(&self, a: Reg, b: Reg) -> Successors
         requires { IsRow self.now }
         ensures { result ≡ not_less_branches self.now a b }
@@ -206,7 +206,7 @@ impl Row {
         }
     }
 
-    /// A branch; one of a register with itself goes one way.
+    /// A branch; one that compares a register with itself goes one way only.
     fn branch_on(&self, cond: Cond, a: Reg, b: Reg) -> Successors
         requires { IsRow self.now }
         ensures { result ≡ branch_on cond self.now a b }
@@ -220,7 +220,7 @@ impl Row {
         }
     }
 
-    /// The locks that are held for sure once a lock of this range was acquired.
+    /// The locks that are held for certain after a lock of this range was acquired.
     fn after_acquire(&self, locks: u32, lock: Range) -> u32
         requires { locks ≤ 32 }
         ensures { result ≡ held_after_acquire locks self.now.held lock }
@@ -232,7 +232,7 @@ impl Row {
         }
     }
 
-    /// The locks that are held for sure once a lock of this range was released.
+    /// The locks that are held for certain after a lock of this range was released.
     fn after_release(&self, lock: Range) -> u32
         ensures { result ≡ held_after_release self.now.held lock }
     {
@@ -243,8 +243,8 @@ impl Row {
         }
     }
 
-    /// An ECALL: 1 in a7 acquires the lock in a0, 2 releases it, and the task doesn't go on from any other number. Where
-    /// the number isn't known, neither are the locks.
+    /// An ECALL: 1 in a7 acquires the lock in a0, 2 releases it, and after any other number the task doesn't continue. If the
+    /// number isn't known, the locks aren't either.
     fn calls(&self, locks: u32, number: Range, lock: Range) -> Successors
         requires { locks ≤ 32 }
         ensures { result ≡ calls locks self.now number lock }
@@ -259,7 +259,7 @@ impl Row {
         }
     }
 
-    /// Takes the row past an instruction at the address `pc` that goes on to the next word, and nowhere else.
+    /// Changes the row by a straight instruction at the address `pc`.
     pub(crate) fn step(&mut self, pc: u32, instr: &Instr)
         requires row { IsRow self.old }
         requires plain { is_straight instr.now ≡ true }
@@ -291,7 +291,7 @@ impl Row {
         Successors::falls_through(&row)
     }
 
-    /// The successors of an instruction at the address `pc`, in a program with so many locks.
+    /// The successors of an instruction at the address `pc`, in a program with `locks` locks.
     pub(crate) fn successors(&self, locks: u32, pc: u32, instr: &Instr) -> Successors
         requires row { IsRow self.now }
         requires locks { locks ≤ 32 }

@@ -1,4 +1,4 @@
-//! The sweep over the words of a table that reaches the least closed one.
+//! The sweep over the words of a table that finds the least closed one.
 ghost use Rattle.std.specs.Prelude.{◌≡◌, ◌↔◌, ℕ, ◌+◌, ◌-◌, ◌*◌, ◌<◌, ◌≤◌, ◌^◌, true, false, Decides, Some, None, length, replicate, IfOk, IfSome, IfNone, option_copied};
 ghost use Rattle.region_table.specs.Program.{ProgramParts, IsProgram};
 ghost use Rattle.rv_isa.specs.Range.{IsEncodable, HasRegisters};
@@ -28,7 +28,7 @@ pub(crate) fn address(place: usize) -> u32
     CODE + 4 * place as u32
 }
 
-/// The place of the code word at an address, among so many.
+/// The index of the code word at an address, among `words` code words.
 pub(crate) fn place_of(address: u32, words: usize) -> Option<usize>
     ensures some { IfSome result (λ place. (place < words) × (address ≡ address_at place)) }
     ensures none { IfNone result ((i : ℕ) → i < words → address ≡ address_at i → ⊥) }
@@ -40,7 +40,7 @@ pub(crate) fn place_of(address: u32, words: usize) -> Option<usize>
     if place < words { Some(place) } else { None }
 }
 
-/// The address at which a branch or JAL aims.
+/// The target of a branch or JAL.
 pub(crate) fn target(pc: u32, instr: &Instr) -> Option<u32>
     ensures { result ≡ target_of pc instr.now }
 {
@@ -52,7 +52,7 @@ pub(crate) fn target(pc: u32, instr: &Instr) -> Option<u32>
     }
 }
 
-/// The least row that contains a row and what a word has, if that is reached.
+/// The least row that contains a row and the row of a word, if that is reached.
 fn joined_to(old: &Option<Row>, given: &Row, head: bool, argument: u32) -> Row
     requires old { IfSome old.now IsRow }
     requires given { IsRow given.now }
@@ -64,7 +64,7 @@ fn joined_to(old: &Option<Row>, given: &Row, head: bool, argument: u32) -> Row
     }
 }
 
-/// Whether the row of a word is reached and stays the same where a row is joined to it.
+/// Whether the word is reached, and its row stays the same when a row is joined to it.
 fn takes_in(old: &Option<Row>, given: &Row, head: bool, argument: u32) -> bool
     requires old { IfSome old.now IsRow }
     requires given { IsRow given.now }
@@ -76,7 +76,7 @@ fn takes_in(old: &Option<Row>, given: &Row, head: bool, argument: u32) -> bool
     }
 }
 
-/// Joins a row to the row of a word, and says whether that grew.
+/// Joins a row to the row of a word. Returns whether that grew.
 fn put(rows: &mut [Option<Row>], place: usize, given: &Row, head: bool, argument: u32) -> bool
     requires within { place < length rows.old }
     requires rows { (row : Row) → row_at rows.old place ≡ Some row → IsRow row }
@@ -91,8 +91,8 @@ fn put(rows: &mut [Option<Row>], place: usize, given: &Row, head: bool, argument
     true
 }
 
-/// Gives a row to the word at an address, if there is one, and says where the sweep goes on: at that word, where its row
-/// grew and it comes before the cursor.
+/// Gives a row to the word at an address, if there is one. Returns where the sweep continues: at that word if its row grew and
+/// it is before the cursor, else at the cursor.
 #[tactic(auto, using(crate::proofs::TableLemmas::sweeping))]
 fn give(
     program: &Program,
@@ -147,8 +147,8 @@ fn successors_at(program: &Program, place: usize, row: &Row, instr: &Instr) -> S
     row.successors(program.locks.len() as u32, address(place), instr)
 }
 
-/// Passes the row of a leader through its block, and on to the successors of the block's last word, and says where the sweep
-/// goes on.
+/// Takes the row of a leader through its block, and gives it to the successors of the block's last word. Returns where the
+/// sweep continues.
 fn pass_block(
     program: &Program,
     task: &TaskDecl,
@@ -202,8 +202,8 @@ fn pass_block(
     )
 }
 
-/// Passes the block of a leader that is pending, and says where the sweep goes on. The rows of `pass_block` stand in a function
-/// of their own: room for them is made ready at each call of it, and most words lead no block.
+/// Passes on the block of a leader that is pending. Returns where the sweep continues. `pass_block` is a function of its own
+/// because its rows need much stack: room for them is prepared at each call of it, and most words lead no block.
 fn pass(
     program: &Program,
     task: &TaskDecl,
@@ -233,7 +233,8 @@ fn pass(
     pass_block(program, task, heads, leaders, rows, pending, at)
 }
 
-/// Sweeps the blocks from the task's entry on, upwards, and back where a leader's row before grew, until none is pending.
+/// Sweeps over the blocks from the task's entry on, upwards, and back to an earlier leader whose row grew, until none is
+/// pending.
 fn sweep(
     program: &Program,
     task: &TaskDecl,
@@ -267,9 +268,9 @@ fn sweep(
     }
 }
 
-/// The rows of the least closed table of a task at the leaders of its blocks, which fill it up.
+/// The rows of a task's least closed table at the leaders of its blocks; the other rows follow from these.
 ///
-/// A block is passed again only where its leader's row grew. README.md says how often that can be.
+/// A block is passed again only if its leader's row grew. README.md says how often that can be.
 ///
 /// # Errors
 /// `Memory` where there is no room for the table.
@@ -302,7 +303,7 @@ pub(crate) fn least_table(
     Ok(rows)
 }
 
-/// Marks the word at which a branch or JAL aims, where that is the same word or one before it.
+/// Marks the target of a branch or JAL if that is the same word or an earlier one.
 fn mark(program: &Program, heads: &mut [bool], place: usize)
     requires program { IsProgram program.now }
     requires words { length heads.old ≡ length program.now.code }

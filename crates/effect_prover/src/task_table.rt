@@ -1,4 +1,4 @@
-//! The least table of a task, which is kept for the tasks after it that have the same entry and argument.
+//! The least table of a task. It is kept for the next tasks with the same entry and argument.
 ghost use Rattle.std.specs.Prelude.{◌≡◌, true, length, IfOk};
 ghost use Rattle.region_table.specs.Program.{ProgramParts, IsProgram};
 ghost use Rattle.effect_prover.specs.Sweep.{HasHeads};
@@ -11,7 +11,7 @@ use dn_base::Memory;
 use region_table::{Program, TaskDecl};
 use std::alloc::Global;
 
-/// The least table of all tasks with an entry and an argument, by its rows at the leaders.
+/// The least table of all tasks with this entry and argument, by its rows at the leaders.
 #[derive(Debug, Drop)]
 pub(crate) struct TaskTable {
     pub(crate) entry: u32,
@@ -43,7 +43,7 @@ fn table_of(
     })
 }
 
-/// Whether the table that is kept is the task's.
+/// Whether the kept table is the task's.
 fn is_ready(kept: &Option<TaskTable>, task: &TaskDecl) -> bool
     ensures { result ≡ true → (P : ProgramParts) → IsTableKept P kept.now → IsTableReady P task.now kept.now }
 {
@@ -53,7 +53,7 @@ fn is_ready(kept: &Option<TaskTable>, task: &TaskDecl) -> bool
     }
 }
 
-/// Keeps the table of a task. One of another entry or argument is given back before it is made.
+/// Keeps the table of a task. A table for another entry or argument is given back before this one is made.
 ///
 /// # Errors
 /// `Memory` where there is no room for the table.

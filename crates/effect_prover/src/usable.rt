@@ -1,4 +1,4 @@
-//! Whether a task may use all words of a stretch: by its own sets, or by one set that is made of them.
+//! Whether a task may use all words of a range: by the task's own sets, or by their union.
 ghost use Rattle.std.specs.Prelude.{◌≡◌, ℕ, ◌<◌, ◌≤◌, ◌&&◌, ◌||◌, true, Decides, slice_get, IfOk, IfSome, OnOk};
 ghost use Rattle.std.specs.List.{All};
 ghost use Rattle.region_table.specs.declared.declared.TaskDecl.{TaskDecl};
@@ -13,21 +13,22 @@ use dn_base::{Memory, WordId};
 use region_table::{Interval, TaskDecl, WordSet};
 use std::alloc::Global;
 
-/// How an instruction uses a word.
+/// How an instruction accesses a word.
 #[derive(Clone, Copy, Debug, PartialEq, Eq)]
 pub(crate) enum Access {
     Load,
     Store,
 }
 
-/// The interval at a place, if there is one.
+/// The interval at an index, if there is one.
 fn interval_at(intervals: &[Interval], place: usize) -> Option<Interval>
     ensures { result ≡ slice_get intervals.now place }
 {
     intervals.get(place).copied()
 }
 
-/// The end of the words from `word` on that are in the set; `word` itself where that isn't. The search halves the intervals.
+/// The end of the words from `word` on that are in the set; `word` itself if it isn't in the set. It is found by a binary
+/// search.
 #[tactic(auto, using(crate::proofs::StretchLemmas::stretches))]
 fn end_in(set: &WordSet, word: u32) -> u32
     requires { word < 65536 }
@@ -44,7 +45,7 @@ fn end_in(set: &WordSet, word: u32) -> u32
     }
 }
 
-/// The same of the words in the set of a lock, where that is held.
+/// The same for the set of a lock, if that is held.
 #[tactic(auto, using(crate::proofs::StretchLemmas::stretches))]
 fn end_held(held: u32, lock: usize, set: &WordSet, word: u32) -> u32
     requires { word < 65536 }
@@ -60,7 +61,7 @@ fn end_held(held: u32, lock: usize, set: &WordSet, word: u32) -> u32
     }
 }
 
-/// The same of the words in the sets of the locks that are held.
+/// The same for the sets of all locks that are held.
 fn end_under(sets: &[WordSet], held: u32, word: u32) -> u32
     requires word { word < 65536 }
     ensures { IsStretch (under sets.now 0 held) word result }
@@ -72,7 +73,7 @@ fn end_under(sets: &[WordSet], held: u32, word: u32) -> u32
     end
 }
 
-/// The end of the words from `word` on that the task may use so while it holds these locks.
+/// The end of the words from `word` on that the task may use in this way while it holds these locks.
 fn end_of(access: Access, task: &TaskDecl, held: u32, word: u32) -> u32
     requires word { word < 65536 }
     ensures { IsStretch (may_use access task.now held) word result }
@@ -109,10 +110,11 @@ fn end_of_loads(task: &TaskDecl, held: u32, word: u32) -> u32
     greater(readable, written_under)
 }
 
-/// How many stretches are looked at before the sets are made one.
+/// How many stretches of words are tried before the union of the sets is made.
 const FEW: u32 = 16;
 
-/// Whether the task may use each word from `first` to `last` so, where a few stretches tell; it leaps from one end to the next.
+/// Whether the task may use each word from `first` to `last` in this way, if a few stretches decide it. It goes from one end to
+/// the next.
 #[tactic(auto, using(crate::proofs::StretchLemmas::usable))]
 fn few_usable(access: Access, task: &TaskDecl, held: u32, first: u32, last: u32) -> Option<bool>
     requires last { last < 65536 }
@@ -195,7 +197,7 @@ fn push_loads(intervals: &mut Vec<Interval>, task: &TaskDecl, held: u32) -> Resu
     push_stores(intervals, task, held)
 }
 
-/// Adds those of the words that the task may use so.
+/// Adds the intervals of the words that the task may use in this way.
 fn push_usable(
     intervals: &mut Vec<Interval>,
     access: Access,
@@ -212,7 +214,7 @@ fn push_usable(
     }
 }
 
-/// The words that the task may use so while it holds these locks, as one set.
+/// The words that the task may use in this way while it holds these locks, as one set.
 fn usable_set(alloc: Global, access: Access, task: &TaskDecl, held: u32) -> Result<WordSet, Memory>
     ensures { IfOk result (λ set. (w : ℕ) → has set w ≡ may_use access task.now held w) }
 {
@@ -247,7 +249,7 @@ impl UsableSets {
     }
 }
 
-/// Whether the set that is kept is of these locks.
+/// Whether the kept set is for these locks.
 fn is_ready(kept: &Option<UsableSet>, held: u32) -> bool
     ensures { result ≡ true → (access : Access) (d : TaskDecl) → IsUsableKept access d kept.now → IsUsableReady access d held kept.now }
 {
@@ -257,7 +259,7 @@ fn is_ready(kept: &Option<UsableSet>, held: u32) -> bool
     }
 }
 
-/// Keeps the set of the words that the task may use so. Another one is given back before it is made.
+/// Keeps the set of the words that the task may use in this way. Another set is given back before this one is made.
 ///
 /// # Errors
 /// `Memory` where there is no room for the set.
@@ -300,7 +302,7 @@ fn are_in(set: &WordSet, first: u32, last: u32) -> bool
     true
 }
 
-/// The same of the set that is kept.
+/// The same for the kept set.
 fn are_in_kept(
     access: Access,
     task: &TaskDecl,
@@ -319,8 +321,8 @@ fn are_in_kept(
     are_in(&kept.words, first, last)
 }
 
-/// Whether the task may use each word from `first` to `last` so. Where a few stretches don't tell, the set of all words that it may
-/// use so is made, and kept for the loads or stores after.
+/// Whether the task may use each word from `first` to `last` in this way. If a few stretches don't decide it, the set of all
+/// words that it may use is made, and kept for the next loads or stores.
 ///
 /// # Errors
 /// `Memory` where there is no room for the set.
@@ -345,7 +347,7 @@ fn are_usable_by(
     Ok(are_in_kept(access, task, held, first, last, kept))
 }
 
-/// The same by the sets that are kept.
+/// The same with the kept sets.
 ///
 /// # Errors
 /// `Memory` where there is no room for a set.

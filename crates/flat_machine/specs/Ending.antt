@@ -16,7 +16,7 @@ use Rattle.flat_machine.specs.Step.{Started}
 use Rattle.flat_machine.specs.Phases.{Flat, all_tasks}
 use Rattle.flat_machine.specs.Grants.{so_far, grants_are_whole}
 
--- a task that stands still and hasn't ended waits for the lock that it wants; other needs don't occur there
+-- a task that is at rest and hasn't ended waits for the lock that it wants; other needs don't occur there
 abbrev pub wait_shown : Need → EndShown
 wait_shown (need.TheVariants.Acquire lock) = shown.TheVariants.Waits lock
 wait_shown _ = shown.TheVariants.Fuel
@@ -48,6 +48,6 @@ abbrev pub whole_only : ProgramParts → ℕ → Option Flat → Option FlatEnd
 whole_only P fuel None = None
 whole_only P fuel (Some F) = if grants_are_whole P fuel F then Some (flat_end_of P fuel F) else None
 
--- the run of a program by a list of grants; None where the list isn't legal or isn't whole
+-- the run of a program by a list of grants; None if the list isn't legal or isn't whole
 unfoldable pub flat_end : ProgramParts → ℕ → List Grant → Option FlatEnd
 flat_end P fuel gs = whole_only P fuel (so_far P fuel gs)

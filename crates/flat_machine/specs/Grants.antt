@@ -20,7 +20,7 @@ is_free tasks lock = not (list_any (λ (r : Started). is_held r.state.held lock)
 abbrev pub grant_of : Started → LockId → Grant
 grant_of r lock = record { phase = r.phase; core = r.decl.core; lock = lock }
 
--- the grant that a task can take: of the lock that it wants, where no task holds that
+-- the grant that a task can take: it is for the lock that the task wants, if no task holds that
 abbrev pub grant_by : List Started → Started → Option Need → Option Grant
 grant_by tasks r (Some (Acquire lock)) =
     if is_free tasks lock.0 then Some (grant_of r lock) else None
@@ -37,7 +37,7 @@ is_grant g (Some h) = (h.phase.0 == g.phase.0) && ((h.core.0 == g.core.0) && (h.
 abbrev pub can_take : ProgramParts → ℕ → List Started → Grant → Started → Bool
 can_take P fuel tasks g r = is_grant g (grant_for P fuel tasks r)
 
--- a task acquires the lock that it wants, and goes on
+-- a task acquires the lock that it wants, and runs its next segment
 abbrev pub go_on : ProgramParts → ℕ → Started → List ℕ → At
 go_on P fuel r memory =
     segment P fuel (record { task = in_state r (advanced P r.state); memory = memory })
@@ -53,9 +53,9 @@ abbrev pub granted_at : ProgramParts → ℕ → Flat → Option ℕ → Option 
 granted_at P fuel F None = None
 granted_at P fuel F (Some i) = Some (settled P fuel (resumed P fuel F i (slice_get F.tasks i)))
 
--- the machine after a grant: the task that can take it acquires the lock and goes on, and phases begin as they may;
--- None where no task can take it, as the phase isn't the current one, the core's task doesn't wait for the lock, or a task
--- holds the lock
+-- the machine after a grant: the task that can take it acquires the lock and runs its next segment, and phases begin as they
+-- may. None if no task can take it: the phase isn't the current one, the core's task doesn't wait for the lock, or a task holds
+-- the lock
 unfoldable pub granted : ProgramParts → ℕ → Grant → Flat → Option Flat
 granted P fuel g F = granted_at P fuel F (position (can_take P fuel F.tasks g) F.tasks)
 
@@ -72,7 +72,7 @@ grants_from P fuel o (g ∷ gs) = grants_from P fuel (granted_if P fuel o g) gs
 abbrev pub so_far : ProgramParts → ℕ → List Grant → Option Flat
 so_far P fuel gs = grants_from P fuel (Some (initial_flat P fuel)) gs
 
--- from F on the grants of the list were given up to the first that isn't legal, at this place, and G is the machine before that one
+-- starting at F, the grants of the list before this index are legal and lead to G, and the grant there isn't legal
 pub record IsStoppedAt (P : ProgramParts) (fuel : ℕ) (F : Flat) (gs : List Grant) (G : Flat) (place : ℕ) : Type 0 where
   pub given : Grant
   pub there : slice_get gs place ≡ Some given
@@ -88,11 +88,11 @@ first_grant P fuel tasks (r ∷ rs) = option_or (grant_for P fuel tasks r) (firs
 unfoldable pub next_grant : ProgramParts → ℕ → Flat → Option Grant
 next_grant P fuel F = first_grant P fuel F.tasks F.tasks
 
--- whether the grants so far are a whole list
+-- whether the grants so far are a whole list: no task can take a grant
 abbrev pub grants_are_whole : ProgramParts → ℕ → Flat → Bool
 grants_are_whole P fuel F = is_none (next_grant P fuel F)
 
--- from here on each grant of the list is the next one, and after the last the list is whole
+-- each grant of the list is the least one at its point, starting here, and after the last one the list is whole
 abbrev pub IsLeastFrom : ProgramParts → ℕ → Option Flat → List Grant → Type 0
 IsLeastFrom P fuel None gs = ⊥
 IsLeastFrom P fuel (Some F) [] = next_grant P fuel F ≡ None

@@ -33,7 +33,7 @@ EndsSegment _ = ⊥
 abbrev pub AgreeOn : (ℕ → Bool) → List ℕ → List ℕ → Type 0
 AgreeOn test m n = (w : ℕ) → test w ≡ true → slice_index m w ≡ slice_index n w
 
--- from the memories m and n the same task comes out, with the same loads, and words that were the same are the same
+-- from the memories m and n a segment leaves the same task with the same loads, and words that were the same stay the same
 pub record IsAlike (m n : List ℕ) (a b : At) : Type 0 where
   pub task : a.task ≡ b.task
   pub left : length a.memory ≡ length m
@@ -44,40 +44,40 @@ pub record IsAlike (m n : List ℕ) (a b : At) : Type 0 where
 pub record HoldsLess (held all : ℕ) : Type 0 where
   pub among : (lock : ℕ) → is_held held lock ≡ true → is_held all lock ≡ true
 
--- the second is the first task later: it has done the same loads, and maybe more
+-- the second is the first task at a later time: it has done the same loads, and maybe more
 pub record IsLater (r later : Started) : Type 0 where
   pub phase : later.phase ≡ r.phase
   pub decl : later.decl ≡ r.decl
   pub more : List LoadSeen
   pub loads : later.loads ≡ r.loads ++ more
 
--- at this place there stands the task r, later
+-- at this index there stands the task r, at a later time
 pub record StandsLater (tasks : List Started) (i : ℕ) (r : Started) : Type 0 where
   pub task : Started
   pub there : slice_get tasks i ≡ Some task
   pub later : IsLater r task
 
--- each task that has started in F stands at its place in G, later
+-- each task that has started in F stands at its index in G, at a later time
 abbrev pub AreLater : Flat → Flat → Type 0
 AreLater F G = (i : ℕ) (r : Started) → slice_get (all_tasks F) i ≡ Some r → StandsLater (all_tasks G) i r
 
--- no lock is held by both
+-- no lock is held in both
 abbrev pub HoldApart : ℕ → ℕ → Type 0
 HoldApart a b = (lock : ℕ) → is_held a lock ≡ true → is_held b lock ≡ true → ⊥
 
--- the segments of two tasks come to the same in either order: the same tasks, with the same states and loads, and the same
--- memory; and each task to what it comes to alone
+-- the segments of two tasks give the same in either order: the same states and loads, and the same memory; and each task gets
+-- the state that its segment gives alone
 pub record SameInEitherOrder (P : ProgramParts) (fuel : ℕ) (a b : Started) (m : List ℕ) : Type 0 where
   pub first : (segment P fuel (at_memory a (segment P fuel (at_memory b m)).memory)).task ≡ (segment P fuel (at_memory a m)).task
   pub second : (segment P fuel (at_memory b (segment P fuel (at_memory a m)).memory)).task ≡ (segment P fuel (at_memory b m)).task
   pub memory : (segment P fuel (at_memory b (segment P fuel (at_memory a m)).memory)).memory
       ≡ (segment P fuel (at_memory a (segment P fuel (at_memory b m)).memory)).memory
 
--- a task that is shown as out of fuel has retired just as many instructions as it may
+-- a task that is shown as out of fuel has retired exactly as many instructions as it may
 abbrev pub HasUsedUp : ℕ → TaskEnd → Type 0
 HasUsedUp fuel t = t.end ≡ shown.TheVariants.Fuel → t.retired ≡ fuel
 
--- a task is out of fuel, after just as many instructions as it may retire, and none has trapped or waits
+-- a task is out of fuel after exactly as many instructions as it may retire, and none has trapped or waits
 pub record IsOutOfFuel (fuel : ℕ) (ends : List TaskEnd) : Type 0 where
   pub spent : Any (λ (t : TaskEnd). (t.end ≡ shown.TheVariants.Fuel) × (t.retired ≡ fuel)) ends
   pub untrapped : All (λ (t : TaskEnd). is_trapped t.end ≡ false) ends
@@ -115,7 +115,7 @@ pub record HasTasks (P : ProgramParts) (F : Flat) : Type 0 where
   pub here : All (λ (r : Started). r.phase.0 + 1 ≡ F.begun) F.tasks
   pub before : All (λ (r : Started). r.phase.0 + 1 < F.begun) F.past
 
--- the first front of a list of grants has a value, from which the rest leads to F
+-- the run by a prefix of a list of grants has a value, from which the rest leads to F
 pub record HasFront (P : ProgramParts) (fuel : ℕ) (gs hs : List Grant) (F : Flat) : Type 0 where
   pub flat : Flat
   pub front : so_far P fuel gs ≡ Some flat
@@ -126,8 +126,8 @@ pub record HasFront (P : ProgramParts) (fuel : ℕ) (gs hs : List Grant) (F : Fl
 abbrev pub first_segment : ProgramParts → ℕ → ℕ → List ℕ → TaskDecl → At
 first_segment P fuel phase m d = segment P fuel (at_memory (fresh phase d) m)
 
--- the tasks of a phase come to what each comes to from the memory m alone; the words that a task may store without a lock are
--- those that it leaves, and a word that none may store is as it was
+-- each task of the phase gets the state that it gets alone from the memory m. The words that a task may store without a lock
+-- have the values that it leaves, and a word that no task may store is as before
 pub record StartAlone (P : ProgramParts) (fuel phase : ℕ) (tasks : List TaskDecl) (m : List ℕ) : Type 0 where
   pub each : (run_all P fuel phase tasks m).tasks ≡ map (λ (d : TaskDecl). (first_segment P fuel phase m d).task) tasks
   pub words : length (run_all P fuel phase tasks m).memory ≡ length m

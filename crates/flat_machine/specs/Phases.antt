@@ -8,8 +8,8 @@ use Rattle.rv_core.specs.declared.task.End.{End}
 use Rattle.rv_core.specs.declared.task.End as cause
 use Rattle.flat_machine.specs.Step.{Started, fresh, segment, room, IsWithin}
 
--- the flat machine: how many phases have begun, the tasks of the phases before the last of them, the tasks of that one in
--- the order of their cores, and the data words
+-- the flat machine: how many phases have begun, the tasks of the earlier phases, the tasks of the current phase in the order of
+-- their cores, and the data words
 pub record Flat : Type 0 where
   pub begun : ℕ
   pub past : List Started
@@ -20,7 +20,7 @@ pub record Flat : Type 0 where
 abbrev pub all_tasks : Flat → List Started
 all_tasks F = F.past ++ F.tasks
 
--- some tasks of a phase, and the memory that they leave
+-- some tasks of a phase after their first segments, and the memory that they leave
 pub record Ran : Type 0 where
   pub tasks : List Started
   pub memory : List ℕ
@@ -28,7 +28,7 @@ pub record Ran : Type 0 where
 abbrev pub ran_first : Started → Ran → Ran
 ran_first r rest = record { tasks = r ∷ rest.tasks; memory = rest.memory }
 
--- each task in turn goes on from its start, on the memory that the one before it leaves
+-- the first segments of some tasks, one after the other, each on the memory that the one before it leaves
 abbrev pub run_all : ProgramParts → ℕ → ℕ → List TaskDecl → List ℕ → Ran
 run_all P fuel phase [] memory = record { tasks = []; memory = memory }
 run_all P fuel phase (d ∷ ds) memory =
@@ -51,13 +51,13 @@ finished_by _ = false
 abbrev pub has_finished : Started → Bool
 has_finished r = finished_by r.state.end
 
--- as long as all tasks have finished, the next of the phases that are left begins
+-- as long as all tasks have finished, the next phase begins
 abbrev pub settle : ProgramParts → ℕ → List Phase → Flat → Flat
 settle P fuel [] F = F
 settle P fuel (phase ∷ left) F =
     if list_all has_finished F.tasks then settle P fuel left (begin P fuel phase F) else F
 
--- the next phase, where it may begin
+-- the next phase, if it may begin
 abbrev pub next_phase : ProgramParts → Flat → Option Phase
 next_phase P F = if list_all has_finished F.tasks then slice_get P.phases F.begun else None
 
@@ -72,8 +72,7 @@ initial P = record { begun = 0; past = []; tasks = []; memory = P.memory }
 unfoldable pub initial_flat : ProgramParts → ℕ → Flat
 initial_flat P fuel = settled P fuel (initial P)
 
--- how many instructions and ends are left at most: of the tasks that have started, and of those of the phases that
--- haven't begun
+-- an upper bound for the instructions and ends to come: of the tasks that have started, and of the phases that haven't begun
 abbrev pub work : ProgramParts → ℕ → Flat → ℕ
 work P fuel F = sum_by (room fuel) F.tasks + length (tasks_of (drop F.begun P.phases)) * (fuel + 1)
 

@@ -24,7 +24,7 @@ pub record At : Type 0 where
   pub task : Started
   pub memory : List ℕ
 
--- a task at its start
+-- a task before its first instruction
 abbrev pub fresh : ℕ → TaskDecl → Started
 fresh phase d = record { phase = record { 0 = phase }; decl = d; state = started d; loads = [] }
 
@@ -42,7 +42,7 @@ in_state r t = record r { state = t }
 abbrev pub in_load : Started → TaskState → LoadSeen → Started
 in_load r t seen = record r { state = t; loads = r.loads ++ seen ∷ [] }
 
--- one instruction of the task, by what it needs; a task that has ended or wants a lock stands still
+-- one instruction of the task, by what it needs; a task that has ended or wants a lock isn't changed
 abbrev pub step_by : ProgramParts → At → Option Need → At
 step_by P s None = s
 step_by P s (Some need.TheVariants.Local) =
@@ -64,12 +64,12 @@ abbrev pub flat_steps : ProgramParts → ℕ → ℕ → At → At
 flat_steps P fuel zero s = s
 flat_steps P fuel (suc n) s = flat_steps P fuel n (flat_step P fuel s)
 
--- the task goes on until it waits or ends, which it has done after `fuel + 1` steps: each but the last retires an
--- instruction, and a task that stands still stays as it is
+-- the task runs until it waits or ends. That takes at most `fuel + 1` steps: each but the last retires an instruction, and a
+-- task at rest isn't changed
 unfoldable pub segment : ProgramParts → ℕ → At → At
 segment P fuel s = flat_steps P fuel (suc fuel) s
 
--- how many steps a task can still go at most
+-- an upper bound for the steps that a task can still make
 abbrev pub room_by : ℕ → ℕ → Option End → ℕ
 room_by fuel retired None = fuel + 1 - retired
 room_by fuel retired (Some by) = 0
@@ -81,7 +81,7 @@ room fuel r = room_by fuel r.state.retired r.state.end
 abbrev pub IsWithin : ℕ → Started → Type 0
 IsWithin fuel r = r.state.end ≡ None → r.state.retired ≤ fuel
 
--- the lock that a need wants or gives up is one of the 32 locks that a program may have
+-- the lock that a need acquires or releases is one of the 32 locks that a program may have
 abbrev pub HasLock : Need → Type 0
 HasLock (need.TheVariants.Acquire lock) = lock.0 < 32
 HasLock (need.TheVariants.Release lock) = lock.0 < 32
@@ -91,11 +91,11 @@ abbrev pub IsAcquire : Need → Type 0
 IsAcquire (need.TheVariants.Acquire lock) = Unit {0}
 IsAcquire _ = ⊥
 
--- the task goes on, and wants a lock
+-- the task hasn't ended, and wants a lock
 pub record WantsLock (P : ProgramParts) (fuel : ℕ) (r : Started) : Type 0 where
   pub open' : r.state.end ≡ None
   pub wants : IsAcquire (need_of P r.decl fuel r.state)
 
--- nothing that the task can do changes it or the memory
+-- no step changes the task or the memory
 abbrev pub IsUnmoved : ProgramParts → ℕ → At → Type 0
 IsUnmoved P fuel s = flat_step P fuel s ≡ s

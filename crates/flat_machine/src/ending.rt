@@ -8,7 +8,7 @@ use region_table::Program;
 use rv_core::{EndShown, Ending, Need, TaskEnd};
 use std::alloc::Global;
 
-/// The loads of a task: each with the data word and the value of the whole word, in the order in which they retired.
+/// The loads of a task in the order in which they retired: each with the data word and the value of that whole word.
 #[derive(Debug, Drop)]
 pub struct TaskLoads {
     pub phase: PhaseId,
@@ -23,7 +23,7 @@ pub struct FlatEnd {
     pub loads: Sequence<TaskLoads>,
 }
 
-/// How a task that stands still is shown.
+/// How a task at rest is shown.
 fn shown(program: &Program, fuel: u32, running: &Running<'_>) -> EndShown
     ensures { result ≡ shown_of program.now fuel running.now running.now.state.end }
 {

@@ -1,7 +1,7 @@
-//! The flat machine: a program on one memory, run by a single thread that takes the phases in order, and in each phase the
+//! The flat machine: a program on one memory, run by a single thread. It takes the phases in order, and in each phase the
 //! critical sections in the order of a list of grants.
 //!
-//! It has no caches and no messages, and is what the runs of the multicore machine are compared with.
+//! It has no caches and no messages. It is the reference with which runs of the multicore machine are compared.
 #![tactic(auto)]
 
 mod ending;

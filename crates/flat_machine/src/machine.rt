@@ -36,7 +36,7 @@ impl<'a> Model for Machine<'a> {
     ghost view = { λ m. record { begun = m.begun; past = m.past.items; tasks = m.tasks.items; memory = m.memory.items } };
 }
 
-/// Lets each of these tasks go on from its start, one after the other.
+/// Runs the first segment of each of these tasks, one after the other.
 fn run_all<'a>(
     alloc: Global,
     program: &Program,
@@ -110,7 +110,7 @@ fn grant_for(
     }
 }
 
-/// Whether two grants are one.
+/// Whether the grant that was found is the given one.
 fn is_grant(given: Grant, found: Option<Grant>) -> bool
     ensures { result ≡ is_grant given found }
 {
@@ -124,7 +124,7 @@ fn is_grant(given: Grant, found: Option<Grant>) -> bool
     }
 }
 
-/// The place of the task that can take this grant.
+/// The index of the task that can take this grant.
 fn place_of(program: &Program, fuel: u32, tasks: &[Running<'_>], given: Grant) -> Option<usize>
     requires { length program.now.locks ≤ 32 }
     ensures { result ≡ position (can_take program.now fuel tasks.now given) tasks.now }
@@ -167,7 +167,7 @@ impl<'a> Machine<'a> {
         })
     }
 
-    /// The next phase, where it may begin: all tasks have finished.
+    /// The next phase, if it may begin: all tasks have finished.
     fn next_phase(&self, program: &'a Program) -> Option<&'a Phase>
         ensures value { option_copied result ≡ next_phase program.now self.now }
         ensures within { IfSome result (λ phase. self.now.begun < 64) }
@@ -256,7 +256,7 @@ impl<'a> Machine<'a> {
         Ok(machine)
     }
 
-    /// The task at this place, which wants a lock, acquires it and goes on.
+    /// The task at this index, which wants a lock, acquires it and runs its next segment.
     fn resume(
         &mut self,
         program: &Program,
@@ -279,8 +279,8 @@ impl<'a> Machine<'a> {
         Ok(())
     }
 
-    /// Gives a lock to the task that can take this grant; the task goes on, and phases begin as they may. Says whether the
-    /// grant was legal: where it wasn't, nothing has changed.
+    /// Gives a lock to the task that can take this grant. The task runs its next segment, and phases begin as they may. Returns
+    /// whether the grant was legal; if it wasn't, nothing has changed.
     #[tactic(auto, unfolding(crate::specs::Grants::granted))]
     pub(crate) fn grant(
         &mut self,
@@ -308,8 +308,8 @@ impl<'a> Machine<'a> {
         Ok(true)
     }
 
-    /// Gives these grants, one after the other, and stops at the first that isn't legal. The answer is the place of that one, or
-    /// None where all are legal.
+    /// Gives these grants one after the other, up to the first that isn't legal. Returns the index of that one, or None if all
+    /// are legal.
     pub(crate) fn grant_all(
         &mut self,
         alloc: Global,
@@ -352,12 +352,12 @@ impl<'a> Machine<'a> {
         ensures sound { IfOk result (λ done. IsSoundFlat program.now fuel self.new) }
         ensures work { IfOk result (λ done. work program.now fuel self.new < work program.now fuel self.old) }
     {
-        // the next grant is always legal, so the answer says nothing
+        // the next grant is always legal, so the result says nothing
         let _legal = self.grant(alloc, program, code, fuel, next)?;
         Ok(())
     }
 
-    /// Gives the next grant for as long as there is one. The answer is the list of these grants.
+    /// Gives the next grant as long as there is one. Returns the list of these grants.
     pub(crate) fn grant_least(
         &mut self,
         alloc: Global,
@@ -382,7 +382,7 @@ impl<'a> Machine<'a> {
         Ok(grants)
     }
 
-    /// The grant to the least core whose wanted lock is free; None where there is none.
+    /// The grant to the lowest core whose wanted lock is free; None if there is none.
     #[tactic(auto, unfolding(crate::specs::Grants::next_grant))]
     pub(crate) fn next_grant(&self, program: &Program, fuel: u32) -> Option<Grant>
         requires { length program.now.locks ≤ 32 }

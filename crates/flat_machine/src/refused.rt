@@ -13,24 +13,24 @@ use effect_checker::Checked;
 use rv_core::DecodedCode;
 use std::alloc::Global;
 
-/// What a list of grants comes to.
+/// The result of a list of grants.
 #[derive(Debug, Drop)]
 pub enum FlatRun {
-    /// The list is legal and whole, and the run by it ends so.
+    /// The list is legal and whole. The run by it has this end.
     Whole(FlatEnd),
-    /// The first grant of the list that may not come is the one at this place, from 0: it names a phase that isn't the current
-    /// one, a core whose task doesn't wait for its lock, or a lock that a task holds, or comes when the run is over. The place
-    /// after the last grant says that each grant is legal, but the list ends while the lock that some task waits for is free.
+    /// The first grant that isn't legal is the one at this index, from 0: it names a phase that isn't the current one, a core
+    /// whose task doesn't wait for its lock, or a lock that a task holds, or it comes when the run is over. The index after the
+    /// last grant says that all grants are legal, but at the end of the list some task waits for a free lock.
     Refused { place: usize },
 }
 
-/// Runs a checked program on one memory, by a list of grants, and gives its end as `flat` does, or else the place of the first
-/// grant that may not come. The program runs once, up to that place.
+/// Runs a checked program on one memory by a list of grants. Gives its end as `flat` does, or the index of the first grant that
+/// isn't legal. The program runs once, up to that index.
 ///
 /// Each task may retire `fuel` instructions, from 1 to 32,768.
 ///
 /// # Errors
-/// `Memory` where there is no room for the code, the memory, the tasks, their loads or the end.
+/// `Memory` if there is no room for the code, the memory, the tasks, their loads or the end.
 #[tactic(auto, using(crate::proofs::RefusedLemmas::refused_at), unfolding(crate::specs::Ending::flat_end))]
 pub fn flat_run(
     alloc: Global,
@@ -56,7 +56,7 @@ pub fn flat_run(
     Ok(FlatRun::Whole(machine.finish(alloc, program, fuel)?))
 }
 
-/// A list of grants comes to one thing: the run by it has an end, or one place is that of its first grant that may not come.
+/// A list of grants has exactly one result: an end, or the index of its first grant that isn't legal.
 pub fn a_list_of_grants_comes_to_one_thing()
     ensures some { (P : ProgramParts) (fuel : ℕ) (gs : List GrantOf) → (r : RunOf) × IsRunBy P fuel gs r }
     ensures one { (P : ProgramParts) (fuel : ℕ) (gs : List GrantOf) (r s : RunOf) → IsRunBy P fuel gs r → IsRunBy P fuel gs s → r ≡ s }

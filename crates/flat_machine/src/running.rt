@@ -18,7 +18,7 @@ pub(crate) struct Running<'a> {
     pub(crate) phase: PhaseId,
     pub(crate) decl: &'a TaskDecl,
     pub(crate) state: TaskState,
-    /// The loads that it has done, in their order.
+    /// Its loads so far, in their order.
     pub(crate) loads: Sequence<LoadSeen>,
 }
 
@@ -43,7 +43,7 @@ pub(crate) fn start(alloc: Global, phase: PhaseId, decl: &TaskDecl) -> Running<'
 }
 
 impl Running<'_> {
-    /// What the task needs next; None where it has ended.
+    /// What the task needs next; None if it has ended.
     pub(crate) fn wish(&self, program: &Program, fuel: u32) -> Option<Need>
         requires { length program.now.locks ≤ 32 }
         ensures value { result ≡ wish program.now fuel self.now }
@@ -62,7 +62,8 @@ impl Running<'_> {
         matches!(self.state.end, Some(End::Finished))
     }
 
-    /// One instruction of the task; one that has ended or wants a lock stands still. Says whether the task went on.
+    /// Makes one instruction of the task; a task that has ended or wants a lock isn't changed. Returns whether an instruction
+    /// was made.
     pub(crate) fn step(
         &mut self,
         program: &Program,
@@ -121,7 +122,7 @@ impl Running<'_> {
         self.state.advance(program, self.decl, fuel);
     }
 
-    /// Lets the task go on until it waits or ends.
+    /// Runs the task until it waits or ends.
     #[tactic(auto, unfolding(crate::specs::Step::segment))]
     pub(crate) fn segment(
         &mut self,

@@ -10,21 +10,21 @@ use effect_checker::Checked;
 use rv_core::DecodedCode;
 use std::alloc::Global;
 
-/// Runs a checked program on one memory, by a list of grants, and gives its end.
+/// Runs a checked program on one memory by a list of grants, and gives its end.
 ///
-/// Each task of a phase goes on from its start until it waits for a lock or ends, in the order of the cores. Then each
-/// grant in turn lets the task that waits for its lock go on. Once all tasks of a phase have finished the next one begins.
+/// The tasks of a phase run one after the other, in the order of their cores, each until it waits for a lock or ends. Then each
+/// grant in turn lets a task that waits for its lock run on. When all tasks of a phase have finished, the next phase begins.
 /// Each task may retire `fuel` instructions, from 1 to 32,768.
 ///
-/// The answer is None exactly where the grants aren't a whole legal list: one of them names a phase that isn't the current
-/// one, a core whose task doesn't wait for its lock, or a lock that a task holds, or comes when the run is over; or the list
-/// ends while the lock that some task waits for is free.
+/// The answer is None exactly if the grants aren't a legal and whole list. A grant isn't legal if it names a phase that isn't
+/// the current one, a core whose task doesn't wait for its lock, or a lock that a task holds, or if it comes when the run is
+/// over. The list isn't whole if at its end some task waits for a free lock.
 ///
-/// The time is in proportion to the code words, the instructions that retire and the number of grants, and the memory with the code
+/// The time is proportional to the code words, the retired instructions and the grants. The memory is proportional to the code
 /// words, the data words and the loads.
 ///
 /// # Errors
-/// `Memory` where there is no room for the code, the memory, the tasks, their loads or the end.
+/// `Memory` if there is no room for the code, the memory, the tasks, their loads or the end.
 pub fn flat(
     alloc: Global,
     checked: &Checked,
@@ -42,13 +42,13 @@ pub fn flat(
     }
 }
 
-/// The list of grants that at each point gives the least core whose wanted lock is free that lock, until no task waits for
-/// a free lock.
+/// The least list of grants: at each point it grants to the lowest core whose wanted lock is free, until no task waits for a
+/// free lock.
 ///
 /// Each task may retire `fuel` instructions, from 1 to 32,768.
 ///
 /// # Errors
-/// `Memory` where there is no room for the code, the memory, the tasks, their loads or the list.
+/// `Memory` if there is no room for the code, the memory, the tasks, their loads or the list.
 pub fn least_grants(alloc: Global, checked: &Checked, fuel: u32) -> Result<Vec<Grant>, Memory>
     requires some { 1 ≤ fuel }
     requires most { fuel ≤ 32768 }
@@ -60,19 +60,19 @@ pub fn least_grants(alloc: Global, checked: &Checked, fuel: u32) -> Result<Vec<G
     machine.grant_least(alloc, program, &code, fuel)
 }
 
-/// A run by the least list: the list, and the end.
+/// The run by the least list: the list, and the end.
 #[derive(Debug, Drop)]
 pub struct LeastRun {
     pub grants: Vec<Grant>,
     pub end: FlatEnd,
 }
 
-/// The list that `least_grants` gives, and the end that `flat` gives by it; the program runs once.
+/// The list that `least_grants` gives, and the end that `flat` gives for it. The program runs once.
 ///
 /// Each task may retire `fuel` instructions, from 1 to 32,768.
 ///
 /// # Errors
-/// `Memory` where there is no room for the code, the memory, the tasks, their loads, the list or the end.
+/// `Memory` if there is no room for the code, the memory, the tasks, their loads, the list or the end.
 #[tactic(auto, unfolding(crate::specs::Ending::flat_end))]
 pub fn least_run(alloc: Global, checked: &Checked, fuel: u32) -> Result<LeastRun, Memory>
     requires some { 1 ≤ fuel }

@@ -1,4 +1,4 @@
--- The text of a work, line by line.
+-- The text of a generated work, line by line.
 use Rattle.std.specs.Prelude.{ℕ, ◌+◌, ◌*◌, List, [], ◌∷◌, ◌++◌, codes, flat_map}
 use Rattle.std.specs.Fmt.{decimal}
 use Rattle.std.specs.List.{range_with_len}
@@ -10,7 +10,7 @@ line text = text ++ 10 ∷ []
 unfoldable pub region_line : List ℕ → ℕ → List ℕ
 region_line name words = line (codes ".region " ++ name ++ codes ", " ++ decimal words)
 
--- a task begins at a label, and is handed the first word of its part
+-- a task begins at a label, and its argument is the index of the first word of its part
 unfoldable pub task_line : List ℕ → ℕ → ℕ → List ℕ
 task_line label part core = line (codes ".task " ++ decimal core ++ codes ", " ++ label ++ codes ", " ++ decimal (core * part))
 
@@ -26,7 +26,7 @@ writes_line region part core =
 unfoldable pub filling_task : ℕ → ℕ → List ℕ
 filling_task part core = task_line (codes "init") part core ++ writes_line (codes "a") part core
 
--- a task that adds neighbours of one region up into its part of the other
+-- a task that writes to its part of one region the sums of neighbours of the other
 unfoldable pub adding_task : List ℕ → List ℕ → List ℕ → ℕ → ℕ → List ℕ
 adding_task label from to part core = task_line label part core ++ reads_line from ++ writes_line to part core
 
@@ -37,7 +37,7 @@ filling_phase part = line (codes ".phase") ++ flat_map (filling_task part) (rang
 unfoldable pub adding_phase : List ℕ → List ℕ → List ℕ → ℕ → List ℕ
 adding_phase label from to part = line (codes ".phase") ++ flat_map (adding_task label from to part) (range_with_len 0 4)
 
--- the three phases: a is filled, is added up into b, and b into a
+-- the three phases: a is filled, b becomes sums of a, and a becomes sums of b
 unfoldable pub declared_lines : ℕ → ℕ → List ℕ
 declared_lines part words =
     region_line (codes "a") words
@@ -87,7 +87,7 @@ starting_code =
     ++ line (codes "la s0, b")
     ++ line (codes "la s1, a")
 
--- word t1 of the one region becomes the sum of the same word of the other and the next; after the last stands the first
+-- word t1 of one region becomes the sum of the same word and the next one of the other; the first comes after the last
 unfoldable pub adding_loop : List ℕ
 adding_loop =
     line (codes "mv t1, a0")

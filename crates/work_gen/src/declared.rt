@@ -55,7 +55,7 @@ fn push_filling_task(out: &mut Vec<u8>, part: u32, core: u32) -> Result<(), Memo
     push_writes(out, "a", part, core)
 }
 
-/// A task that adds words of one region up into its part of the other.
+/// A task that writes to its part of one region the sums of neighbours of the other.
 #[tactic(auto, unfolding(crate::specs::Work::adding_task))]
 fn push_adding_task(
     out: &mut Vec<u8>,
@@ -87,7 +87,7 @@ fn push_filling_phase(out: &mut Vec<u8>, part: u32) -> Result<(), Memory>
     Ok(())
 }
 
-/// A phase that adds words of one region up into the other.
+/// A phase that sets the words of one region to sums of words of the other.
 #[tactic(auto, unfolding(crate::specs::Work::adding_phase))]
 fn push_adding_phase(
     out: &mut Vec<u8>,

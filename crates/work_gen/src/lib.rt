@@ -1,8 +1,8 @@
 //! The text of a work of a chosen size, for the machine to run: three phases of four tasks on two regions, a and b.
 //!
-//! The tasks of the first phase fill a, so that its word i is 3i + 1. Those of the second make each word of b the sum of
-//! the same word of a and the one after it, and those of the third make each word of a such a sum of words of b. After
-//! the last word of a region stands its first.
+//! The tasks of the first phase fill a, so that its word i is 3i + 1. Those of the second phase set each word of b to the sum
+//! of the same word of a and the next one. Those of the third set each word of a to such a sum of words of b. The first word of
+//! a region comes after its last.
 #![tactic(auto)]
 
 mod code;
@@ -17,8 +17,7 @@ use crate::declared::push_declared;
 use dn_base::Memory;
 use std::alloc::Global;
 
-/// The text of the work of a size from 1 to 128: each region has 64 words for each 1 of the size, and each task a fourth
-/// of them.
+/// The text of the work of a size n from 1 to 128: each region has 64n words, and each task a quarter of them.
 ///
 /// # Errors
 /// `Memory` where there is no room for the text.

@@ -1,4 +1,4 @@
--- A write signature: a Bloom filter of 256 bits for the words that were written in one phase.
+-- A write signature: a Bloom filter of 256 bits for the words that were written under a lock in one phase.
 use Rattle.std.specs.Prelude.{ℕ, ◌-◌, ◌*◌, ◌/◌, ◌%◌, ◌^◌, Bool, ◌&&◌, ◌==◌, nat_lt, if◌then◌else◌, bit_or}
 use Rattle.std.specs.Int.{bit_at}
 use Rattle.write_signature.specs.declared.signature.Signature.{Signature}
@@ -32,7 +32,7 @@ with_bit i s =
 unfoldable pub empty : ℕ → Signature
 empty p = record { low = 0; high = 0; phase = record { 0 = p } }
 
--- the signature as phase p begins to write to it: the empty one, where it has another phase's writes
+-- the signature before a write in phase p: itself if it is of phase p, else the empty one
 abbrev pub in_phase : ℕ → Signature → Signature
 in_phase p s = if tag s == p then s else empty p
 
@@ -44,7 +44,7 @@ may_hold s w p = (tag s == p) && has_bit s (h1 w) && has_bit s (h2 w)
 unfoldable pub inserted : Signature → ℕ → ℕ → Signature
 inserted s w p = with_bit (h2 w) (with_bit (h1 w) (in_phase p s))
 
--- the bits of either, where both have the writes of one phase; else the one of the later phase
+-- the bits of both, if they are of the same phase; otherwise the one of the later phase
 unfoldable pub joined : Signature → Signature → Signature
 joined a b =
     if tag a == tag b then record { low = bit_or a.low b.low; high = bit_or a.high b.high; phase = a.phase }

@@ -1,9 +1,9 @@
 //! Write signatures: which words may have been written under a lock in a phase.
 //!
-//! A signature is a Bloom filter. It may say of a word that was not written that it may have been; it never says the
-//! other way round of one that was. A lock carries one from critical section to critical section, so that a core that
-//! acquires the lock drops the copies that may be stale (DeNovoND, ASPLOS 2013; the size and the two hash functions are
-//! this project's profile).
+//! A signature is a Bloom filter. It may have false positives, but no false negatives: it holds every word that was written,
+//! and maybe others. A lock carries one from critical section to critical section. A core that acquires the lock drops the
+//! copies of the words in it, which may be stale. The idea is DeNovoND's (ASPLOS 2013); the size and the two hash functions are
+//! this project's profile.
 #![tactic(auto)]
 
 mod laws;

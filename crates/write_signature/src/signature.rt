@@ -3,9 +3,9 @@ ghost use Rattle.write_signature.specs.Signature.{h1, h2, has_bit, same_signatur
 
 use dn_base::{PhaseId, WordId};
 
-/// The words that were written in one phase, as 256 bits: each word has two bits, and both are set where it was written.
+/// The words that were written in one phase, as 256 bits. Each word has two bits; both are set when it is written.
 ///
-/// The signature is tagged with the number of that phase. Two signatures are equal where their bits and tags are.
+/// The signature has the number of its phase as a tag. Two signatures are equal if their bits and tags are.
 #[derive(Clone, Copy, Debug, PartialEq, Eq)]
 pub struct Signature {
     low: u128,
@@ -89,7 +89,7 @@ impl Signature {
         }
     }
 
-    /// The signature as this phase begins to write to it: the empty one, where it has another phase's writes.
+    /// The signature before a write in this phase: itself if it is of this phase, else the empty one.
     pub fn in_phase(self, phase: PhaseId) -> Signature
         ensures { result ≡ in_phase phase.0 self }
     {
@@ -100,7 +100,7 @@ impl Signature {
         }
     }
 
-    /// Notes that the word was written in this phase. A signature of another phase first becomes the empty one of this.
+    /// Notes a write of the word in this phase. A signature of another phase is first replaced by the empty one of this phase.
     #[tactic(auto, unfolding(crate::specs::Signature::inserted))]
     pub fn insert(&mut self, word: WordId, phase: PhaseId)
         ensures { self.new ≡ inserted self.old word.0 phase.0 }
@@ -111,7 +111,7 @@ impl Signature {
             .with(second_bit(word));
     }
 
-    /// Whether the word may have been written in this phase: never false of a word that was.
+    /// Whether the word may have been written in this phase. It is true of each word that was written.
     #[tactic(auto, unfolding(crate::specs::Signature::may_hold))]
     pub fn may_hold(&self, word: WordId, phase: PhaseId) -> bool
         ensures { result ≡ may_hold self.now word.0 phase.0 }
@@ -119,7 +119,7 @@ impl Signature {
         self.phase == phase && self.has(first_bit(word)) && self.has(second_bit(word))
     }
 
-    /// The writes of both where they are of one phase, else the one of the later phase.
+    /// The union of both if they are of the same phase, otherwise the one of the later phase.
     #[tactic(auto, unfolding(crate::specs::Signature::joined))]
     pub fn join(&self, other: &Signature) -> Signature
         ensures { result ≡ joined self.now other.now }
