@@ -4,7 +4,7 @@ use Rattle.message_net.specs.declared.event.EventKind.{EventKind}
 use Rattle.message_net.specs.Kind.{kind_index}
 use Rattle.grant_log.specs.declared.counts.Counts.{Counts}
 
--- whether two kinds are one
+-- whether two kinds are the same
 abbrev pub same_kind : EventKind → EventKind → Bool
 same_kind a b = kind_index a == kind_index b
 
@@ -20,6 +20,6 @@ no_counts = record { kinds = replicate 17 0 }
 abbrev pub added : EventKind → Counts → Counts
 added k counts = record { kinds = slice_set counts.kinds (kind_index k) (kind_count k counts + 1) }
 
--- the counts of a list of events: each kind's is how many events are of that kind
+-- the counts of a list of events: for each kind, how many of the events are of it
 abbrev pub AreCounts : List EventKind → Counts → Type 0
 AreCounts kinds counts = (k : EventKind) → kind_count k counts ≡ count_by (same_kind k) kinds

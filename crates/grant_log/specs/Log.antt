@@ -1,4 +1,4 @@
--- The logs of a run's actors, and the one list that they make.
+-- The logs of a run's actors, and the one list into which they are merged.
 use Rattle.std.specs.Prelude.{Bool, ◌≡◌, ◌≢◌, ◌<◌, List, flat_map, IsPermutation, All, AllPairs, filter_map}
 use Rattle.dn_base.specs.declared.ids.Grant.{Grant}
 use Rattle.message_net.specs.declared.actor.Actor.{Actor}
@@ -14,12 +14,12 @@ IsLog log = AllPairs (λ (a b : Stamped). (a.actor ≡ b.actor) × (a.stamp < b.
 abbrev pub AreOfOtherActors : List Stamped → List Stamped → Type 0
 AreOfOtherActors log other = All (λ (a : Stamped). All (λ (b : Stamped). a.actor ≢ b.actor) other) log
 
--- logs of which no two are of one actor
+-- logs, no two of which are of one actor
 pub record AreLogs (logs : List (List Stamped)) : Type 0 where
   pub each : All IsLog logs
   pub apart : AllPairs AreOfOtherActors logs
 
--- the entries of all logs, each before all that follow it in their order
+-- the entries of all logs, sorted by their order
 pub record IsMerge (logs : List (List Stamped)) (merged : List Stamped) : Type 0 where
   pub same : IsPermutation (flat_map (λ log. log) logs) merged
   pub rising : AllPairs IsBefore merged

@@ -25,7 +25,7 @@ impl Counts {
         self.kinds[kind.index()]
     }
 
-    /// One more event of this kind. Its count is below the greatest of its type.
+    /// Counts one more event of this kind. Its count is below 2^64 - 1.
     pub fn add(&mut self, kind: EventKind)
         requires { kind_count kind self.old < 18446744073709551615 }
         ensures { self.new ≡ added kind self.old }

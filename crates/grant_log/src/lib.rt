@@ -1,8 +1,8 @@
-//! What the actors of a run noted of its events: each actor's log with rising stamps, the one list that all logs make, the
-//! grants in it, and how many events of each kind there were.
+//! What the actors of a run noted of its events: a log for each actor, with rising stamps; the one list into which all logs are
+//! merged; the grants in it; and how many events of each kind there were.
 //!
-//! An entry's stamp is greater than that of the entry that sent the mail that it handles, so that in the merged list each
-//! mail is handled after it was sent.
+//! If an entry handles a mail, its stamp is greater than that of the entry that sent the mail. So in the merged list each mail
+//! is handled after it was sent.
 #![tactic(auto)]
 
 mod counts;

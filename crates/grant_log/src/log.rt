@@ -11,7 +11,7 @@ use std::cmp::Ordering;
 /// An event as the actor that made it notes it.
 #[derive(Clone, Copy, Debug, PartialEq, Eq)]
 pub struct Stamped {
-    /// Each actor's stamps rise.
+    /// The stamp of the event. The stamps of one actor rise.
     pub stamp: u64,
     pub actor: Actor,
     pub event: Event,
@@ -20,7 +20,7 @@ pub struct Stamped {
     pub granted: Option<Grant>,
 }
 
-/// How two entries stand to each other: by their stamps, and where these are equal by their actors.
+/// The order of two entries: by their stamps, and if these are equal by their actors.
 fn order(a: &Stamped, b: &Stamped) -> Ordering
     ensures { result ≡ entry_order a.now b.now }
 {
@@ -43,9 +43,9 @@ fn in_order(mut entries: Vec<Stamped>) -> Result<Vec<Stamped>, Memory>
     Ok(entries)
 }
 
-/// The entries of all logs, in the order of their stamps, and those with one stamp in the order of their actors.
+/// The entries of all logs, sorted by their stamps, and those with the same stamp by their actors.
 ///
-/// A log is what a single actor noted, in the order of its stamps, each of which is later than the one before; every actor has one
+/// A log has the notes of one actor, with rising stamps. Every actor has at most one log.
 /// log at most.
 ///
 /// # Errors

@@ -1,4 +1,4 @@
--- The kinds of event: the one in which a message is handled, and their order.
+-- The kinds of event and their order. For each message there is the kind of event in which it is handled.
 use Rattle.std.specs.Prelude.{ℕ}
 use Rattle.message_net.specs.declared.message.Message as message
 use Rattle.message_net.specs.declared.message.Message.{Message}
@@ -7,7 +7,7 @@ use Rattle.message_net.specs.declared.event.Event.TheVariants.{Instr, Evict, Arr
 use Rattle.message_net.specs.declared.event.EventKind as kind
 use Rattle.message_net.specs.declared.event.EventKind.{EventKind}
 
--- it is the kind with the message's name
+-- the kind with the message's name
 abbrev pub kind_of : Message → EventKind
 kind_of (message.TheVariants.ReadReq word reader) = kind.TheVariants.ReadReq
 kind_of (message.TheVariants.ReadFwd word reader) = kind.TheVariants.ReadFwd
@@ -24,7 +24,7 @@ kind_of (message.TheVariants.Arrived core bad) = kind.TheVariants.Arrived
 kind_of (message.TheVariants.Go phase) = kind.TheVariants.Go
 kind_of message.TheVariants.Halt = kind.TheVariants.Halt
 
--- the kind of a core's own event; for the handling of a mail it says nothing
+-- the kind of a core's own event; for the handling of a mail it has no meaning
 abbrev pub own_kind : Event → EventKind
 own_kind (Instr core) = kind.TheVariants.Instr
 own_kind (Evict core word) = kind.TheVariants.Evict

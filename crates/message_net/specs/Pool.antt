@@ -1,4 +1,4 @@
--- The mails in flight, as a list whose order is part of what the calls promise.
+-- The mails in flight, as a list. Its order is part of what the calls promise.
 use Rattle.std.specs.Prelude.{◌≡◌, ℕ, ◌≤◌, Bool, nat_lt, List, [], ◌∷◌, ◌++◌, length, slice_get, Option, Some, None, count_by, position}
 use Rattle.std.specs.List.{swap_remove}
 use Rattle.message_net.specs.declared.actor.MailId.{MailId}
@@ -26,7 +26,7 @@ has_id id mails = nat_lt 0 (count_of id mails)
 abbrev pub AreDistinct : List Mail → Type 0
 AreDistinct mails = (id : MailId) → count_of id mails ≤ 1
 
--- what is true of the mails of a pool
+-- what holds of the mails of every pool
 pub record IsPool (mails : List Mail) : Type 0 where
   pub within : length mails ≤ 4294967295
   pub distinct : AreDistinct mails
@@ -35,7 +35,7 @@ pub record IsPool (mails : List Mail) : Type 0 where
 abbrev pub posted : Mail → List Mail → List Mail
 posted m mails = mails ++ m ∷ []
 
--- the mail at a place, if there is one, leaves, and the last mail moves into the free place
+-- the mail at an index, if there is one, is removed, and the last mail moves to its index
 abbrev pub freed : ℕ → List Mail → Option Mail → List Mail
 freed place mails None = mails
 freed place mails (Some m) = swap_remove mails place m
@@ -51,7 +51,7 @@ removed_at mails (Some place) = (slice_get mails place, without_mail_at place ma
 abbrev pub removed : MailId → List Mail → Option Mail × List Mail
 removed id mails = removed_at mails (position (of_id id) mails)
 
--- where the mail with an id stands, and that a take by the id gives it and leaves the others
+-- where the mail with an id stands; taking by the id gives it and leaves the others
 pub record IsFound (id : MailId) (mails : List Mail) (place : ℕ) (m : Mail) : Type 0 where
   pub here : slice_get mails place ≡ Some m
   pub named : m.id ≡ id

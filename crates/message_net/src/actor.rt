@@ -4,7 +4,8 @@ ghost use Rattle.message_net.specs.Mail.{actor_index};
 
 use dn_base::{BankId, CoreId};
 
-/// Who sends and gets mails. Cores come first in the order, then banks, each by number, then the keeper of the barrier.
+/// A sender or receiver of mails. In the order of actors the cores come first, then the banks, each by number, then the keeper
+/// of the barrier.
 #[derive(Clone, Copy, Debug, PartialEq, Eq, PartialOrd, Ord)]
 pub enum Actor {
     Core(CoreId),
@@ -12,7 +13,7 @@ pub enum Actor {
     Keeper,
 }
 
-/// The name of a mail: its sender, and how many mails that sender had sent before.
+/// The id of a mail: its sender, and how many mails that sender had sent before it.
 #[derive(Clone, Copy, Debug, PartialEq, Eq)]
 pub struct MailId {
     pub sender: Actor,

@@ -7,9 +7,9 @@ use dn_base::{CoreId, WordId};
 /// One event of the machine.
 #[derive(Clone, Copy, Debug, PartialEq, Eq)]
 pub enum Event {
-    /// An instruction of the core's task, or its miss.
+    /// An instruction of the core's task, or its request for what it lacks.
     Instr(CoreId),
-    /// The core gives up its entry of the word, to make room for another.
+    /// The core evicts its entry of the word, to make room for another word.
     Evict(CoreId, WordId),
     /// The core arrives at the barrier.
     Arrive(CoreId),
@@ -18,7 +18,8 @@ pub enum Event {
 }
 
 impl Event {
-    /// The kind of a core's own event. Of the handling of a mail it says nothing: that has the kind of the mail's message.
+    /// The kind of a core's own event. For the handling of a mail it has no meaning: that event has the kind of the mail's
+    /// message.
     #[inline(always)]
     pub fn own_kind(&self) -> EventKind
         ensures { result ≡ own_kind self.now }

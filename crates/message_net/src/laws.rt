@@ -1,5 +1,5 @@
 //! What posts and takes come to, for proofs about mails in flight.
-//! These are laws: functions that do nothing, whose contracts say it.
+//! A law is a function without effect; its contract states the theorem.
 ghost use Rattle.std.specs.Prelude.{◌≡◌, ℕ, ◌+◌, ◌<◌, ◌≤◌, ◌↔◌, Bool, List, length, slice_get, Some, None, true, sum_by, count_by, IsPermutation};
 ghost use Rattle.std.specs.Ordering.{nat_cmp};
 ghost use Rattle.message_net.specs.declared.actor.Actor.{Actor};
@@ -15,18 +15,19 @@ ghost use Rattle.message_net.specs.Mail.{has_actor, actor_index, mails_of, all_m
 
 use crate::actor::Actor;
 
-/// Two ids pass the test exactly where they are equal.
+/// The test on two ids is true exactly if they are equal.
 pub fn equal_ids_are_the_same()
     ensures { (a b : MailId) → (same_id a b ≡ true) ↔ (a ≡ b) }
 {}
 
-/// A post adds the weight of its mail to that of all mails, whatever the weights are. A test weighs 1 what passes it.
+/// A post adds the weight of its mail to the total weight, for any weights. With a test as weight, 1 or 0, the total is a
+/// count.
 pub fn a_post_adds_its_mail()
     ensures weight { (f : Mail → ℕ) (mails : List Mail) (m : Mail) → sum_by f (posted m mails) ≡ sum_by f mails + f m }
     ensures length { (mails : List Mail) (m : Mail) → length (posted m mails) ≡ length mails + 1 }
 {}
 
-/// A take of the mail at a place takes its weight away, whatever the weights are.
+/// A take of the mail at an index subtracts its weight from the total weight, for any weights.
 pub fn a_take_frees_one_mail()
     ensures weight { (f : Mail → ℕ) (mails : List Mail) (place : ℕ) (m : Mail) → slice_get mails place ≡ Some m
         → sum_by f (without_mail_at place mails) + f m ≡ sum_by f mails }
@@ -36,41 +37,41 @@ pub fn a_take_frees_one_mail()
         → sum_by f (removed id mails).1 + f m ≡ sum_by f mails }
 {}
 
-/// At least one mail passes a test exactly where a mail that passes it stands at some place.
+/// At least one mail passes a test exactly if a mail that passes it stands at some index.
 pub fn a_counted_mail_stands_somewhere()
     ensures { (p : Mail → Bool) (mails : List Mail)
         → (1 ≤ count_by p mails) ↔ ((place : ℕ) × (m : Mail) × (slice_get mails place ≡ Some m) × (p m ≡ true)) }
 {}
 
-/// Where an id is counted its mail is found, and where it isn't nothing is taken.
+/// If a mail has the id, it is found by it; if none has, nothing is taken.
 pub fn a_counted_id_is_found()
     ensures some { (id : MailId) (mails : List Mail) → 1 ≤ count_of id mails → (place : ℕ) × (m : Mail) × IsFound id mails place m }
     ensures none { (id : MailId) (mails : List Mail) → count_of id mails ≡ 0 → removed id mails ≡ (None, mails) }
 {}
 
-/// Each actor of a machine has an index of its own among the indices of all.
+/// The actors of a machine have different indices, below the number of all actors.
 pub fn actors_have_indices_of_their_own()
     ensures within { (cores banks : ℕ) (a : Actor) → has_actor cores banks a ≡ true → actor_index cores banks a < cores + banks + 1 }
     ensures own { (cores banks : ℕ) (a b : Actor) → has_actor cores banks a ≡ true → has_actor cores banks b ≡ true
         → actor_index cores banks a ≡ actor_index cores banks b → a ≡ b }
 {}
 
-/// Actors compare as cores first, then banks, each by number, then the keeper. The actors of a machine stand in the order of their
-/// places.
+/// In the order of actors the cores come first, then the banks, each by number, then the keeper. The actors of a machine stand
+/// in the order of their indices.
 pub fn actors_are_in_order()
     ensures order { (a b : Actor) → ⟦<Actor as Ord>⟧.cmp a b ≡ actor_order a b }
     ensures place { (cores banks : ℕ) (a b : Actor) → has_actor cores banks a ≡ true → has_actor cores banks b ≡ true
         → actor_order a b ≡ nat_cmp (actor_index cores banks a) (actor_index cores banks b) }
 {}
 
-/// Each kind has an index of its own among the seventeen.
+/// The seventeen kinds have different indices, below seventeen.
 pub fn kinds_have_indices_of_their_own()
     ensures within { (k : EventKind) → kind_index k < 17 }
     ensures own { (j k : EventKind) → kind_index j ≡ kind_index k → j ≡ k }
 {}
 
-/// The same mails in another order weigh the same, whatever the weights are, and the same is taken from them and left of
-/// them.
+/// For the same mails in another order, the total weight is the same for any weights, and a take gives the same mail and leaves
+/// the same mails, again in some order.
 pub fn the_order_of_mails_does_not_matter()
     ensures weight { (f : Mail → ℕ) (xs ys : List Mail) → IsPermutation xs ys → sum_by f ys ≡ sum_by f xs }
     ensures posted { (xs ys : List Mail) (m : Mail) → IsPermutation xs ys → IsPermutation (posted m xs) (posted m ys) }
@@ -87,7 +88,7 @@ pub fn all_mails_are_added()
         → length (all_mails from number outs mails) ≡ length mails + length outs }
 {}
 
-/// Ids stay distinct: what is taken is gone, and a sender's next numbers are new where none of them is in flight.
+/// Ids stay distinct: a mail that is taken is gone, and a sender's next numbers are new if no mail in flight has them.
 pub fn ids_stay_distinct()
     ensures post { (mails : List Mail) (m : Mail) → AreDistinct mails → count_of m.id mails ≡ 0 → AreDistinct (posted m mails) }
     ensures take { (mails : List Mail) (place : ℕ) → AreDistinct mails → AreDistinct (without_mail_at place mails) }
@@ -97,7 +98,7 @@ pub fn ids_stay_distinct()
         → AreDistinct (all_mails from number outs mails) }
 {}
 
-/// To take by id what stands at a place is to take it by its place.
+/// If a mail stands at an index, taking by its id is taking at that index.
 pub fn a_mail_is_found_by_its_id()
     ensures { (mails : List Mail) (place : ℕ) (m : Mail) → AreDistinct mails → slice_get mails place ≡ Some m
         → removed m.id mails ≡ (Some m, without_mail_at place mails) }

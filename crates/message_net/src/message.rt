@@ -7,15 +7,15 @@ use crate::event::EventKind;
 use dn_base::{BankId, CoreId, LockId, PhaseId, WordId, remainder};
 use write_signature::Signature;
 
-/// What one actor tells another.
+/// A message from one actor to another.
 #[derive(Clone, Copy, Debug, PartialEq, Eq)]
 pub enum Message {
-    /// A reader asks a word's home for its value.
+    /// A reader asks the word's home for its value.
     ReadReq {
         word: WordId,
         reader: CoreId,
     },
-    /// The home passes a reader on to the word's registrant.
+    /// The home forwards the read to the word's registrant, which is to answer the reader.
     ReadFwd {
         word: WordId,
         reader: CoreId,
@@ -25,7 +25,7 @@ pub enum Message {
         word: WordId,
         value: u32,
     },
-    /// A core that stores to a word asks its home to be its registrant.
+    /// A core that stores to a word asks the word's home to make it the registrant.
     RegReq {
         word: WordId,
         core: CoreId,
@@ -35,17 +35,17 @@ pub enum Message {
         word: WordId,
         core: CoreId,
     },
-    /// The core is the word's registrant.
+    /// The core is told that it is the word's registrant.
     RegAck {
         word: WordId,
     },
-    /// A core gives a word that it evicts back to its home.
+    /// A core that evicts a registered word gives its value back to the word's home.
     WriteBack {
         word: WordId,
         value: u32,
         core: CoreId,
     },
-    /// The home has had the write-back.
+    /// The home acknowledges a write-back.
     WbAck {
         word: WordId,
     },
@@ -54,13 +54,13 @@ pub enum Message {
         lock: LockId,
         core: CoreId,
     },
-    /// A core gives up a lock, with the words that were written under it.
+    /// A core gives a lock up, with the signature of the words that were written under it.
     Release {
         lock: LockId,
         core: CoreId,
         signature: Signature,
     },
-    /// The core holds the lock; the signature has the words that were written under it.
+    /// The lock is granted to the core; the signature has the words that were written under it.
     Grant {
         lock: LockId,
         signature: Signature,
@@ -78,7 +78,7 @@ pub enum Message {
     Halt,
 }
 
-/// A message on its way.
+/// A message in flight, with its id and where it goes.
 #[derive(Clone, Copy, Debug, PartialEq, Eq)]
 pub struct Mail {
     pub id: MailId,
@@ -94,7 +94,7 @@ pub struct Outgoing {
 }
 
 impl Message {
-    /// The kind of event in which the message is handled: the one with its name.
+    /// The kind of event in which the message is handled: the one with the message's name.
     pub fn kind(&self) -> EventKind
         ensures { result ≡ kind_of self.now }
     {
@@ -128,7 +128,7 @@ impl Outgoing {
         }
     }
 
-    /// A message to the home of the word or lock with this number, in a machine with so many banks.
+    /// A message to the home of the word or lock with this number, in a machine with `banks` banks.
     pub fn to_home(banks: u32, number: u32, message: Message) -> Outgoing
         requires { 0 < banks }
         ensures { Some result ≡ to_home banks number message }
@@ -149,7 +149,7 @@ impl Outgoing {
         }
     }
 
-    /// The mail that the message becomes, with its sender and that sender's number for it.
+    /// The mail that the message becomes: `from` is its sender, and `number` that sender's number for it.
     pub fn mail(&self, from: Actor, number: u32) -> Mail
         ensures { result ≡ mail_of from number self.now }
     {

@@ -9,11 +9,12 @@ use std::alloc::Global;
 /// How many buckets the ids are put into.
 const BUCKETS: usize = 65536;
 
-/// Where the mails of a pool stand, by their ids. No contract speaks of it: what it tells is tried before it is believed.
+/// The index at which each mail of a pool stands, by the mail's id: a hash table. No contract speaks of it: what it gives is
+/// checked before it is used.
 ///
-/// The places of a bucket's mails make a chain, in which the last one that was noted comes first. Chains are short whatever the
-/// order is in which mails are handled: an actor numbers its mails one by one, so each 65,536th of them has the same bucket,
-/// and among n events there are at most n / 65,536 mails of an actor in one bucket, and one more.
+/// The mails of a bucket make a chain, the last one noted first. Chains are short in whatever order mails are handled: an actor
+/// numbers its mails one by one, so every 65,536th of them has the same bucket. After n events one actor has at most n / 65,536
+/// + 1 mails in one bucket.
 #[derive(Debug, Drop)]
 pub(crate) struct Places {
     /// The place with which each bucket's chain begins.
@@ -22,7 +23,7 @@ pub(crate) struct Places {
     behind: Vec<Option<u32>>,
 }
 
-/// The bucket of an id. The mails that actors send first are far from one another: 40,503 is the golden part of 65,536.
+/// The bucket of an id. Different actors begin at distant buckets: 40,503 is 65,536 divided by the golden ratio.
 fn bucket(id: MailId) -> usize {
     let sender = id.sender.index(16, 16);
     sender.wrapping_mul(40503).wrapping_add(id.number as usize) % BUCKETS
@@ -36,7 +37,7 @@ fn told(row: &[Option<u32>], index: usize) -> Option<u32> {
     }
 }
 
-/// Puts a place into a row at an index, if the row is so long.
+/// Puts an index into a row at `index`, if the row is long enough.
 fn tell(row: &mut [Option<u32>], index: usize, place: Option<u32>) {
     if let Some(slot) = row.get_mut(index) {
         *slot = place;

@@ -10,11 +10,12 @@ use dn_base::Memory;
 use std::alloc::Global;
 use std::marker::Model;
 
-/// The mails in flight, in an order that its calls say. No two have one id, and there are at most 4,294,967,295.
+/// The mails in flight. Their order is part of the contracts. No two have the same id, and there are at most 4,294,967,295.
 ///
-/// A mail is found by its id in constant time where the pool keeps the places of ids (`keep_places`). Else all mails are searched.
+/// A mail is found by its id in constant time if the pool keeps the places of ids (`keep_places`). Otherwise all mails are
+/// searched.
 ///
-/// A contract sees the list of the mails, and the spare: for how many more mails there is room.
+/// Contracts see the list of mails and `spare`: for how many more mails there is room.
 #[derive(Debug, Drop)]
 pub struct Pool {
     row: Vec<Mail>,
@@ -50,7 +51,7 @@ fn told_by(places: &Option<Places>, mails: &[Mail], id: MailId) -> Option<u32>
     }
 }
 
-/// The place of the mail with this id, or None where there is none; no two mails have one id.
+/// The index of the mail with this id, or None if there is none. No two mails have the same id.
 fn found_place(places: &Option<Places>, mails: &[Mail], id: MailId) -> Option<u32>
     requires distinct { AreDistinct mails.now }
     requires few { length mails.now ≤ 4294967295 }
@@ -81,7 +82,7 @@ fn free_place(places: &mut Option<Places>, mails: &[Mail], place: u32)
     }
 }
 
-/// Takes the mail at this place out of the row; the last mail moves into the free place.
+/// Removes the mail at this index. The last mail moves to its index.
 fn take_out(row: &mut Vec<Mail>, place: usize) -> Mail
     requires { place < length row.old.items }
     ensures value { slice_get row.old.items place ≡ Some result }
@@ -119,10 +120,10 @@ impl Pool {
         Ok(())
     }
 
-    /// Makes room for `more` mails; changes nothing but the spare.
+    /// Makes room for `more` mails. The mails stay as they are.
     ///
     /// # Errors
-    /// `Memory` where the room is not to be had; the pool is then as before.
+    /// `Memory` if there is no room; the pool is then as before.
     pub fn reserve(&mut self, more: u32) -> Result<(), Memory>
         ensures mails { self.new.mails ≡ self.old.mails }
         ensures ok { OnOk result (more ≤ self.new.spare) }
@@ -133,9 +134,9 @@ impl Pool {
         Ok(())
     }
 
-    /// From now on the pool keeps where the mail with each id stands, so that `place_of`, `has` and `take` find it in constant time.
-    /// This holds for as many mails as there is room for now: call it again after each `reserve`. Where nothing is to be done it
-    /// costs nothing.
+    /// From now on the pool keeps the index of the mail with each id, so that `place_of`, `has` and `take` find it in constant
+    /// time. This holds for as many mails as there is room for now: call it again after each `reserve`. If there is nothing to
+    /// do it costs nothing.
     ///
     /// # Errors
     /// `Memory` where there is no room for the places.
@@ -153,7 +154,7 @@ impl Pool {
         }
     }
 
-    /// Adds a mail at the end, in the room that was made for it; takes no memory.
+    /// Appends a mail, in room that was reserved; takes no memory.
     pub fn post_reserved(&mut self, mail: Mail)
         requires new { count_of mail.id self.old.mails ≡ 0 }
         requires room { length self.old.mails < 4294967295 }
@@ -166,8 +167,8 @@ impl Pool {
         self.row.push_reserved(mail);
     }
 
-    /// Takes the mail with this id out; the last mail moves into the free place, and the room of the mail is spare. None
-    /// where no mail has the id, and the pool is then as before. Takes no memory.
+    /// Removes the mail with this id, and gives it. The last mail moves to its index, and its room is spare. None if no mail
+    /// has the id; the pool is as before then. Takes no memory.
     pub fn take(&mut self, id: MailId) -> Option<Mail>
         ensures value { result ≡ (removed id self.old.mails).0 }
         ensures rest { self.new.mails ≡ (removed id self.old.mails).1 }
@@ -181,8 +182,8 @@ impl Pool {
         Some(self.take_at(place))
     }
 
-    /// Takes the mail at this place out; the last mail moves into the free place, and the room of the mail is spare. It looks
-    /// for nothing, and takes no memory.
+    /// Removes the mail at this index, and gives it. The last mail moves to its index, and its room is spare. It searches
+    /// nothing, and takes no memory.
     pub fn take_at(&mut self, place: u32) -> Mail
         requires { place < length self.old.mails }
         ensures value { slice_get self.old.mails place ≡ Some result }
@@ -193,7 +194,7 @@ impl Pool {
         take_out(&mut self.row, place as usize)
     }
 
-    /// The place of the mail with this id; None where there is none.
+    /// The index of the mail with this id; None if there is none.
     pub fn place_of(&self, id: MailId) -> Option<u32>
         ensures place { result ≡ position (of_id id) self.now.mails }
         ensures none { IsNone result ↔ (count_of id self.now.mails ≡ 0) }
@@ -217,7 +218,7 @@ impl Pool {
         self.row.len() as u32
     }
 
-    /// The mail at this place.
+    /// The mail at this index.
     pub fn at(&self, place: u32) -> Mail
         requires { place < length self.now.mails }
         ensures { slice_get self.now.mails place ≡ Some result }

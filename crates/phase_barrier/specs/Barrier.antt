@@ -1,4 +1,5 @@
--- The barrier between phases: who has arrived, and what its keeper answers. What follows `keeper_gets` is for laws.
+-- The barrier between phases: which cores have arrived, and what its keeper answers. The definitions after `keeper_gets` are
+-- for laws.
 use Rattle.std.specs.Prelude.{◌≡◌, ℕ, ◌+◌, ◌<◌, ◌≤◌, Bool, true, false, ◌||◌, ◌&&◌, not, nat_le, List, length, replicate, slice_get, slice_set, Option, Some, None, if◌then◌else◌, count_by}
 use Rattle.std.specs.List.{list_all}
 use Rattle.message_net.specs.declared.message.Message.{Message}
@@ -6,8 +7,8 @@ use Rattle.message_net.specs.declared.message.Message.TheVariants.{Arrived}
 use Rattle.phase_barrier.specs.declared.keeper.Verdict.{Verdict}
 use Rattle.phase_barrier.specs.declared.keeper.Verdict.TheVariants.{Wait, Go, Halt}
 
--- what the keeper knows: how many phases there are, the current one, for each core whether it has arrived in it, and
--- whether one that has arrived was bad
+-- what the keeper knows: the number of phases, the current phase, for each core whether it has arrived in it, and whether some
+-- core that has arrived was bad: its task trapped or ran out of fuel
 pub record Barrier : Type 0 where
   pub phases : ℕ
   pub phase : ℕ
@@ -22,7 +23,7 @@ initial_barrier cores phases = record { phases = phases; phase = 0; arrived = re
 abbrev pub all_arrived : Barrier → Bool
 all_arrived k = list_all (λ (a : Bool). a) k.arrived
 
--- whether the run ends once every core has arrived: one was bad, or no phase follows
+-- whether the run ends when every core has arrived: one was bad, or there is no next phase
 abbrev pub is_over : Barrier → Bool
 is_over k = k.bad || nat_le k.phases (k.phase + 1)
 
@@ -34,7 +35,7 @@ in_next_phase k = record k { phase = k.phase + 1; arrived = replicate (length k.
 abbrev pub answer_to_all : Barrier → Barrier × Verdict
 answer_to_all k = if is_over k then (k, Halt) else (in_next_phase k, Go (record { 0 = k.phase + 1 }))
 
--- the answer to a core that is counted: it waits while another is missing
+-- the answer to a core that is counted: it waits while another core is missing
 abbrev pub decided : Barrier → Barrier × Verdict
 decided k = if all_arrived k then answer_to_all k else (k, Wait)
 
@@ -42,7 +43,7 @@ decided k = if all_arrived k then answer_to_all k else (k, Wait)
 abbrev pub with_arrival : ℕ → Bool → Barrier → Barrier
 with_arrival core bad k = record k { arrived = slice_set k.arrived core true; bad = k.bad || bad }
 
--- an arrival, by what is known of its core: it isn't there, it has arrived already, or it is new
+-- an arrival, by what is known of its core: there is no such core, it has arrived already, or it is new
 abbrev pub on_arrival : Barrier → ℕ → Bool → Option Bool → Barrier × Verdict
 on_arrival k core bad None = (k, Wait)
 on_arrival k core bad (Some true) = (k, Wait)
@@ -72,8 +73,8 @@ waits_in core k = has_arrived core k && not (all_arrived k)
 abbrev pub arrived_count : Barrier → ℕ
 arrived_count k = count_by (λ (a : Bool). a) k.arrived
 
--- what is true of a machine's keeper: there is a core, the current phase is one of the program's if it has one, and all
--- have arrived only once the run is over
+-- what holds of a machine's keeper: there is a core; the current phase is one of the program's, if it has one; and all cores
+-- have arrived only if the run is over
 pub record IsBarrier (k : Barrier) : Type 0 where
   pub some : 1 ≤ length k.arrived
   pub current : 1 ≤ k.phases → k.phase < k.phases

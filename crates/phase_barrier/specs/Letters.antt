@@ -1,4 +1,4 @@
--- What the keeper tells the cores. `go_count` and `goes_to_core` are for laws.
+-- The letters by which the keeper tells the cores its verdict. `go_count` and `goes_to_core` are for laws.
 use Rattle.std.specs.Prelude.{ℕ, ◌+◌, Bool, zero, suc, List, [], ◌∷◌, Option, Some, None}
 use Rattle.message_net.specs.declared.actor.Actor.TheVariants.{Core}
 use Rattle.message_net.specs.declared.message.Message as message
@@ -8,7 +8,7 @@ use Rattle.message_net.specs.Id.{same_actor}
 use Rattle.phase_barrier.specs.declared.keeper.Verdict.{Verdict}
 use Rattle.phase_barrier.specs.declared.keeper.Verdict.TheVariants.{Wait, Go, Halt}
 
--- the message that carries a verdict, if it is one that cores are told
+-- the message that tells a verdict; none for Wait
 abbrev pub letter_of : Verdict → Option Message
 letter_of Wait = None
 letter_of (Go phase) = Some (message.TheVariants.Go phase)
@@ -19,7 +19,7 @@ abbrev pub letter_count : Verdict → ℕ
 letter_count Wait = 0
 letter_count _ = 1
 
--- how many phases a verdict goes on by
+-- by how many phases the run moves on at a verdict
 abbrev pub go_count : Verdict → ℕ
 go_count (Go phase) = 1
 go_count _ = 0
@@ -28,12 +28,12 @@ go_count _ = 0
 abbrev pub to_number : ℕ → Message → Outgoing
 to_number core m = record { to = Core (record { 0 = core }); message = m }
 
--- a message to each of `n` cores in their order, core `first` the first of them
+-- a message to each of `n` cores in their order, of which core `first` is the first
 abbrev pub to_each : ℕ → ℕ → Message → List Outgoing
 to_each first zero m = []
 to_each first (suc n) m = to_number first m ∷ to_each (first + 1) n m
 
--- what the cores of a machine are told at a verdict: its message goes to each of them, and nothing at Wait
+-- the letters to the cores of a machine: the verdict's message to each of them, and none at Wait
 abbrev pub letters_to_all : ℕ → Option Message → List Outgoing
 letters_to_all cores None = []
 letters_to_all cores (Some m) = to_each 0 cores m

@@ -9,7 +9,7 @@ use std::marker::Model;
 /// What the keeper answers to an arrival.
 #[derive(Clone, Copy, Debug, PartialEq, Eq)]
 pub enum Verdict {
-    /// The core waits: another is missing, or the arrival changed nothing.
+    /// The core waits: another core is missing, or the arrival changed nothing.
     Wait,
     /// All have arrived, and the next phase begins.
     Go { phase: PhaseId },
@@ -18,7 +18,7 @@ pub enum Verdict {
 }
 
 impl Verdict {
-    /// The message that tells each core of the verdict; None at Wait.
+    /// The message that tells each core the verdict; None for Wait.
     pub fn letter(&self) -> Option<Message>
         ensures { result ≡ letter_of self.now }
     {
@@ -30,9 +30,10 @@ impl Verdict {
     }
 }
 
-/// The keeper of the barrier: the current phase, which cores have arrived in it, and whether one was bad.
+/// The keeper of the barrier: the current phase, which cores have arrived in it, and whether one was bad: its task trapped or
+/// ran out of fuel.
 ///
-/// A contract sees these, and how many phases there are.
+/// Contracts see these, and the number of phases.
 #[derive(Debug, Drop)]
 pub struct Keeper {
     cores: u32,
@@ -93,7 +94,7 @@ impl Keeper {
         self.phases
     }
 
-    /// Whether a core has arrived in the current phase; it hasn't where the machine has no such core. Takes no memory.
+    /// Whether a core has arrived in the current phase; false if the machine has no such core. Takes no memory.
     pub fn has_arrived(&self, core: CoreId) -> bool
         ensures { result ≡ has_arrived core.0 self.now }
     {
@@ -103,14 +104,14 @@ impl Keeper {
         }
     }
 
-    /// Whether a core was bad that has arrived, in the current phase or in an earlier one. Takes no memory.
+    /// Whether a core that has arrived, in the current phase or an earlier one, was bad. Takes no memory.
     pub fn is_bad(&self) -> bool
         ensures { result ≡ self.now.bad }
     {
         self.bad
     }
 
-    /// Whether each core has arrived.
+    /// For each core whether it has arrived.
     fn flags(&self) -> &[bool]
         ensures { result.now ≡ self.now.arrived }
     {
@@ -148,11 +149,11 @@ impl Keeper {
         }
     }
 
-    /// A core has arrived in the current phase; `bad` where its task ended by a trap or because it ran out of fuel.
+    /// A core arrives in the current phase. `bad` says that its task ended by a trap or because it ran out of fuel.
     ///
-    /// The verdict is Wait while a core is missing. Once all have arrived it is Halt where one was bad or no phase follows,
-    /// and else Go: the next phase is current then, and nobody has arrived. A core that has arrived already, one that isn't
-    /// there, and every call after Halt get Wait and change nothing. Takes no memory.
+    /// The verdict is Wait while a core is missing. When all have arrived, it is Halt if one was bad or there is no next phase,
+    /// otherwise Go: then the next phase is the current one, and nobody has arrived in it. An arrival of a core that has
+    /// arrived already or doesn't exist, and every arrival after Halt, gets Wait and changes nothing. Takes no memory.
     pub fn arrived(&mut self, core: CoreId, bad: bool) -> Verdict
         ensures keeper { self.new ≡ (keeper_arrives self.old core.0 bad).0 }
         ensures verdict { result ≡ (keeper_arrives self.old core.0 bad).1 }
@@ -169,8 +170,7 @@ impl Keeper {
         }
     }
 
-    /// The keeper's answer to a message: to an arrival as above, and to any other kind Wait, which changes nothing. Takes no
-    /// memory.
+    /// The keeper's answer to a message: to an arrival as above; any other kind gets Wait and changes nothing. Takes no memory.
     #[tactic(auto, unfolding(crate::specs::Barrier::keeper_gets))]
     pub fn handle(&mut self, message: Message) -> Verdict
         ensures keeper { self.new ≡ (keeper_gets self.old message).0 }

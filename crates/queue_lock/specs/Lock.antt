@@ -1,5 +1,5 @@
--- A lock at its home: who holds it, who waits for it, and which words were written under it. The counts at the end, from
--- `holder_count` on, are for laws.
+-- A lock at its home: its holder, the cores that wait for it, and which words were written under it. The definitions from
+-- `holder_count` on are for laws.
 use Rattle.std.specs.Prelude.{◌≡◌, ℕ, ◌<◌, ◌≤◌, Bool, ◌||◌, ◌==◌, nat_le, List, [], ◌∷◌, ◌++◌, length, Option, Some, None, if◌then◌else◌, count_by}
 use Rattle.std.specs.List.{list_any, All}
 use Rattle.dn_base.specs.declared.ids.CoreId.{CoreId}
@@ -26,17 +26,17 @@ is_core core d = d.0 == core
 abbrev pub waits : ℕ → List CoreId → Bool
 waits core queue = list_any (is_core core) queue
 
--- at how many places of the queue a core stands
+-- how often a core stands in the queue
 abbrev pub times_queued : ℕ → List CoreId → ℕ
 times_queued core queue = count_by (is_core core) queue
 
--- what is true of every lock: nobody waits for a free one, and no core stands in the queue twice
+-- what holds of every lock: nobody waits for a free lock, and no core stands in the queue twice
 pub record IsLock (h : Lock) : Type 0 where
   pub free : h.holder ≡ None → h.queue ≡ []
   pub once : (core : ℕ) → times_queued core h.queue ≤ 1
   pub within : length h.queue ≤ h.capacity
 
--- what is true of every lock of a machine with so many cores: only they hold it and wait for it, and all of them may wait
+-- what holds of every lock of a machine with these cores: only they hold it and wait for it, and all of them may wait
 pub record IsLockOf (cores : ℕ) (h : Lock) : Type 0 where
   pub lock : IsLock h
   pub room : h.capacity ≡ cores
@@ -49,7 +49,7 @@ queued h core =
     if waits core.0 h.queue || nat_le h.capacity (length h.queue) then h
     else record h { queue = h.queue ++ core ∷ [] }
 
--- a core asks for a lock, by its holder: a free lock is the core's at once, with the signature
+-- a core asks for a lock, by the lock's holder: a free lock is granted to it at once, with the signature
 abbrev pub asked : Lock → CoreId → Option CoreId → Lock × Option Signature
 asked h core None = (record h { holder = Some core }, Some h.kept)
 asked h core (Some holder) = (queued h core, None)
@@ -57,12 +57,12 @@ asked h core (Some holder) = (queued h core, None)
 abbrev pub acquired : Lock → CoreId → Lock × Option Signature
 acquired h core = asked h core h.holder
 
--- the lock goes to the first in the queue, with the signature, and is free where nobody waits
+-- the lock goes to the first core of the queue, with the signature; it is free if nobody waits
 abbrev pub handed_on : Lock → List CoreId → Lock × Option (CoreId × Signature)
 handed_on h [] = (record h { holder = None }, None)
 handed_on h (next ∷ others) = (record h { holder = Some next; queue = others }, Some (next, h.kept))
 
--- a core gives up a lock with a signature, by the lock's holder: from anyone else it changes nothing
+-- a core gives a lock up with a signature, by the lock's holder; from any other core it changes nothing
 abbrev pub given_up : Lock → CoreId → Signature → Option CoreId → Lock × Option (CoreId × Signature)
 given_up h core signature None = (h, None)
 given_up h core signature (Some holder) =

@@ -1,5 +1,5 @@
 //! What acquires and releases come to, for proofs about a lock's holder and queue.
-//! These are laws: functions that do nothing, whose contracts say it.
+//! A law is a function without effect; its contract states the theorem.
 ghost use Rattle.std.specs.Prelude.{◌≡◌, ◌↔◌, ℕ, ◌+◌, ◌<◌, ◌≤◌, ◌==◌, true, if◌then◌else◌, List, length, Some, None};
 ghost use Rattle.std.specs.List.{All};
 ghost use Rattle.dn_base.specs.declared.ids.CoreId.{CoreId};
@@ -7,14 +7,14 @@ ghost use Rattle.write_signature.specs.declared.signature.Signature.{Signature};
 ghost use Rattle.write_signature.specs.Signature.{joined};
 ghost use Rattle.queue_lock.specs.Lock.{Lock, IsLock, IsLockOf, free_lock, is_core, waits, times_queued, acquired, released, holder_count, grant_count, next_count};
 
-/// A free lock has an empty queue, and no core stands in a queue twice, whatever is asked and given up.
+/// Whatever is acquired and released, a free lock has an empty queue, and no core stands in a queue twice.
 pub fn locks_stay_well_formed()
     ensures free { (cores : ℕ) → IsLock (free_lock cores) }
     ensures acquired { (h : Lock) (core : CoreId) → IsLock h → IsLock (acquired h core).0 }
     ensures released { (h : Lock) (core : CoreId) (signature : Signature) → IsLock h → IsLock (released h core signature).0 }
 {}
 
-/// The locks of a machine stay so, whatever its cores ask and anyone gives up.
+/// A lock of a machine stays one, whatever its cores acquire and anyone releases.
 pub fn locks_stay_the_machines()
     ensures free { (cores : ℕ) → IsLockOf cores (free_lock cores) }
     ensures acquired { (cores : ℕ) (h : Lock) (core : CoreId) → IsLockOf cores h → core.0 < cores → IsLockOf cores (acquired h core).0 }
@@ -22,13 +22,13 @@ pub fn locks_stay_the_machines()
         → IsLockOf cores (released h core signature).0 }
 {}
 
-/// A core waits exactly where it stands in the queue.
+/// A core waits for a lock exactly if it stands in the lock's queue.
 pub fn who_waits_stands_in_the_queue()
     ensures { (core : ℕ) (queue : List CoreId) → (waits core queue ≡ true) ↔ (1 ≤ times_queued core queue) }
 {}
 
-/// A queue in which each of the cores stands at most once, and one of them not at all, has fewer than all of them; so the
-/// queue of a machine's lock has room for a core that doesn't stand in it.
+/// A queue in which each core stands at most once, and one core doesn't stand, has fewer places in use than there are cores. So
+/// the queue of a machine's lock has room for a core that doesn't stand in it.
 pub fn a_queue_without_a_core_has_room()
     ensures queue { (queue : List CoreId) (cores core : ℕ) → All (λ (d : CoreId). d.0 < cores) queue → ((d : ℕ) → times_queued d queue ≤ 1)
         → core < cores → times_queued core queue ≡ 0 → length queue < cores }
@@ -41,7 +41,8 @@ pub fn one_core_holds_a_lock()
     ensures { (h : Lock) (c d : ℕ) → holder_count c h.holder + holder_count d h.holder ≤ 1 + (if c == d then 1 else 0) }
 {}
 
-/// An acquire grants a free lock, with the signature that is kept, or has its core wait; no other core's place changes.
+/// An acquire of a free lock grants it, with the lock's signature. Otherwise it puts its core into the queue. Other cores keep
+/// their places.
 pub fn an_acquire_counts_its_core()
     ensures holder { (h : Lock) (core : CoreId) (d : ℕ)
         → holder_count d (acquired h core).0.holder ≡ holder_count d h.holder + grant_count d core (acquired h core).1 }
@@ -53,8 +54,8 @@ pub fn an_acquire_counts_its_core()
         → (h.holder ≡ None) × (signature ≡ h.kept) }
 {}
 
-/// A release from the holder gives the lock to the first that waits, with both signatures joined; no other core's place
-/// changes.
+/// A release by the holder grants the lock to the first core that waits, with both signatures joined. Other cores keep their
+/// order.
 pub fn a_release_hands_the_lock_on()
     ensures holder { (h : Lock) (core : CoreId) (signature : Signature) (d : ℕ) → holder_count core.0 h.holder ≡ 1
         → holder_count d (released h core signature).0.holder ≡ next_count d (released h core signature).1 }
@@ -66,7 +67,7 @@ pub fn a_release_hands_the_lock_on()
         → (holder_count core.0 h.holder ≡ 1) × (told ≡ joined h.kept signature) × ((released h core signature).0.holder ≡ Some next) }
 {}
 
-/// A release from anyone else changes nothing and is answered to no one.
+/// A release by any other core changes nothing, and grants nothing.
 pub fn a_release_of_another_changes_nothing()
     ensures { (h : Lock) (core : CoreId) (signature : Signature) → holder_count core.0 h.holder ≡ 0
         → released h core signature ≡ (h, None) }

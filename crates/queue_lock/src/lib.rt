@@ -1,8 +1,8 @@
 //! A queue lock at its home bank: the holder, the cores that wait in the order in which they asked, and the signature of
 //! the words that were written under the lock.
 //!
-//! The lock and its signature are those of DeNovoND (ASPLOS 2013); that the queue stands at the home bank, and not at the
-//! cores that wait, is this project's own.
+//! The lock and its signature are those of DeNovoND (ASPLOS 2013). There the queue is kept at the waiting cores; here it is
+//! kept at the lock's home bank, which is this project's own.
 #![tactic(auto)]
 
 mod laws;

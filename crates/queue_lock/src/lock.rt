@@ -9,8 +9,8 @@ use write_signature::Signature;
 
 /// A lock at its home bank.
 ///
-/// A contract sees the holder, the queue, how many may stand in it, and the signature that is kept. A free lock has an
-/// empty queue, and no core stands in a queue twice.
+/// Contracts see the holder, the queue, the length that the queue may have, and the signature. A free lock has an empty queue,
+/// and no core stands in a queue twice.
 #[derive(Drop)]
 pub struct LockHome {
     pub(crate) holder: Option<CoreId>,
@@ -36,8 +36,8 @@ fn is_queued(queue: &HeapCircularBuffer<CoreId>, core: CoreId) -> bool
 }
 
 impl LockHome {
-    /// A free lock of a machine with `cores` cores, 1 to 16: nobody waits, as many may as there are cores, and the
-    /// signature is the empty one of phase 0.
+    /// A free lock of a machine with `cores` cores, 1 to 16. Nobody waits, all cores may, and the signature is the empty one of
+    /// phase 0.
     ///
     /// # Errors
     /// `Memory` where there is no room for the queue.
@@ -60,14 +60,14 @@ impl LockHome {
         ensures { self.new ≡ queued self.old core }
     {
         if !is_queued(&self.queue, core) {
-            // a full queue takes no core, as the definition of the lock says; for the lock of a machine it has room
+            // a full queue takes no core, as the definition of the lock says; the queue of a machine's lock always has room
             let _ = self.queue.try_push_back(core);
         }
     }
 
-    /// A core asks for the lock. A free lock is then held by it, and the answer is the signature of the words that were
-    /// written under the lock. Where the lock is held the core waits at the end of the queue, and the answer is None; a
-    /// core that waits already, and a full queue, change nothing. Takes no memory.
+    /// A core acquires the lock. If the lock is free the core holds it, and the answer is the signature of the words that were
+    /// written under it. If the lock is held the core waits at the end of the queue, and the answer is None. A core that waits
+    /// already, and a full queue, change nothing. Takes no memory.
     pub fn acquire(&mut self, core: CoreId) -> Option<Signature>
         ensures lock { self.new ≡ (acquired self.old core).0 }
         ensures answer { result ≡ (acquired self.old core).1 }
@@ -81,8 +81,8 @@ impl LockHome {
         Some(self.kept)
     }
 
-    /// The first in the queue becomes the holder, and the answer is that core with the signature; the lock is free, and
-    /// the answer None, where nobody waits.
+    /// The first core of the queue becomes the holder, and the answer is that core with the signature. If nobody waits, the
+    /// lock is free and the answer None.
     fn hand_on(&mut self) -> Option<(CoreId, Signature)>
         ensures lock { self.new ≡ (handed_on self.old self.old.queue).0 }
         ensures answer { result ≡ (handed_on self.old self.old.queue).1 }
@@ -91,10 +91,9 @@ impl LockHome {
         Some((self.holder?, self.kept))
     }
 
-    /// The holder gives up the lock, with the signature of what it has written under it: that signature is joined to the
-    /// one that is kept. The first in the queue becomes the holder, and the answer is that core with the signature; where
-    /// nobody waits the lock is free and the answer None. From any other core it changes nothing and the answer is None.
-    /// Takes no memory.
+    /// The holder releases the lock, with the signature of what it wrote under it, which is joined to the lock's signature. The
+    /// first core of the queue becomes the holder, and the answer is that core with the signature. If nobody waits, the lock is
+    /// free and the answer None. From any other core the call changes nothing, and the answer is None. Takes no memory.
     pub fn release(&mut self, core: CoreId, signature: Signature) -> Option<(CoreId, Signature)>
         ensures lock { self.new ≡ (released self.old core signature).0 }
         ensures answer { result ≡ (released self.old core signature).1 }

@@ -6,7 +6,7 @@ use dn_base::CoreId;
 use write_signature::Signature;
 
 impl LockHome {
-    /// The core that holds the lock; None where the lock is free.
+    /// The core that holds the lock; None if the lock is free.
     pub fn holder(&self) -> Option<CoreId>
         ensures { result ≡ self.now.holder }
     {
@@ -20,7 +20,7 @@ impl LockHome {
         self.queue.len()
     }
 
-    /// The core at this index of the queue; the core at index 0 is handed the lock next. None from the queue's end on.
+    /// The core at this index of the queue; the core at index 0 gets the lock next. None from the queue's length on.
     pub fn queued(&self, index: usize) -> Option<CoreId>
         ensures { result ≡ slice_get self.now.queue index }
     {

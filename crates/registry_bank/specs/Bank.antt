@@ -1,7 +1,8 @@
 -- A bank of the shared memory: what it holds, and what it does with each message.
 --
--- `is_for_bank` and the functions `after_..` at the end are columns of `bank_gets`, for laws. That each is the column of its row is
--- what the laws `other_kinds_change_nothing`, `words_change_by_their_own_messages` and `locks_change_by_their_own_messages` prove.
+-- `is_for_bank` and the functions `after_..` at the end are columns of the table `bank_gets`, for laws. The laws
+-- `other_kinds_change_nothing`, `words_change_by_their_own_messages` and `locks_change_by_their_own_messages` prove that each
+-- is the column of its row.
 use Rattle.std.specs.Prelude.{◌≡◌, ℕ, ◌+◌, ◌/◌, ◌%◌, ◌<◌, Bool, true, false, ◌&&◌, ◌==◌, nat_lt, List, [], ◌∷◌, length, map, replicate, slice_get, slice_set, Option, Some, None, if◌then◌else◌}
 use Rattle.dn_base.specs.declared.ids.CoreId.{CoreId}
 use Rattle.dn_base.specs.declared.ids.WordId.{WordId}
@@ -23,19 +24,19 @@ pub record BankParts : Type 0 where
   pub words : List BankWord
   pub locks : List Lock
 
--- words and locks go round the banks: number n stands in bank `n mod banks`, at place `n div banks`
+-- number n of the words, or of the locks, has its home at bank `n mod banks`, at index `n div banks`
 abbrev pub is_here : BankParts → ℕ → Bool
 is_here b n = n % b.banks == b.bank
 
--- what the bank holds for a word, if the word is one of its own
+-- what the bank holds for a word, if it is the word's home
 abbrev pub bank_word : BankParts → ℕ → Option BankWord
 bank_word b w = if is_here b w then slice_get b.words (w / b.banks) else None
 
--- a lock, if it is one of its own
+-- a lock, if the bank is its home
 abbrev pub bank_lock : BankParts → ℕ → Option Lock
 bank_lock b l = if is_here b l then slice_get b.locks (l / b.banks) else None
 
--- where a lock stands among the bank's own, if it is one of them
+-- the index of a lock among the bank's own, if the bank is its home
 abbrev pub lock_index : BankParts → ℕ → Option ℕ
 lock_index b l =
     if is_here b l && nat_lt (l / b.banks) (length b.locks) then Some (l / b.banks) else None
@@ -47,18 +48,18 @@ with_word b w content = record b { words = slice_set b.words (w / b.banks) conte
 abbrev pub with_lock : BankParts → ℕ → Lock → BankParts
 with_lock b l state = record b { locks = slice_set b.locks (l / b.banks) state }
 
--- the home of a word that the memory has
+-- what the home of a word of the memory holds at first
 abbrev pub first_word : Option ℕ → Option BankWord
 first_word None = None
 first_word (Some value) = Some (Home value)
 
--- what stands in a list at the places that are the bank's, in their order, where the list's first place is `place`
+-- the items of a list that are the bank's, in their order; the list's first item has the number `place`
 unfoldable pub own_of : {X : Type 0} → ℕ → ℕ → ℕ → List X → List X
 own_of bank banks place [] = []
 own_of bank banks place (x ∷ xs) =
     if place % banks == bank then x ∷ own_of bank banks (place + 1) xs else own_of bank banks (place + 1) xs
 
--- a bank as a run begins: its words at home, with their values in the first memory, and its locks, which are free
+-- a bank when a run begins: it holds the values of its words in the initial memory, and its locks are free
 abbrev pub initial_bank : ℕ → ℕ → ℕ → List ℕ → ℕ → BankParts
 initial_bank bank banks cores memory locks = record {
   bank = bank;
@@ -68,7 +69,7 @@ initial_bank bank banks cores memory locks = record {
   locks = own_of bank banks 0 (replicate locks (free_lock cores));
 }
 
--- the same by numbers: each of the bank's words holds its value in the first memory, and each of its locks is free
+-- the same by numbers: each of the bank's words has its value in the initial memory, and each of its locks is free
 pub record IsNewBank (bank banks cores : ℕ) (memory : List ℕ) (locks : ℕ) (b : BankParts) : Type 0 where
   pub number : b.bank ≡ bank
   pub bank_count : b.banks ≡ banks
@@ -76,7 +77,7 @@ pub record IsNewBank (bank banks cores : ℕ) (memory : List ℕ) (locks : ℕ) 
   pub each_word : (w : ℕ) → bank_word b w ≡ (if w % banks == bank then first_word (slice_get memory w) else None)
   pub each_lock : (l : ℕ) → bank_lock b l ≡ (if (l % banks == bank) && nat_lt l locks then Some (free_lock cores) else None)
 
--- what is true of every bank of a machine: its number is below the banks, its registrants are cores of the machine, and
+-- what holds of every bank of a machine: its number is below the number of banks, its registrants are cores of the machine, and
 -- its locks are the machine's
 pub record IsBank (b : BankParts) : Type 0 where
   pub number : b.bank < b.banks
@@ -87,20 +88,20 @@ pub record IsBank (b : BankParts) : Type 0 where
 abbrev pub is_same_core : CoreId → CoreId → Bool
 is_same_core core other = core.0 == other.0
 
--- ReadReq, by what the bank holds for the word: its value goes to the reader, or the registrant is asked to send it
+-- ReadReq, by what the bank holds for the word: its value is sent to the reader, or the read is forwarded to the registrant
 abbrev pub reads : BankParts → WordId → CoreId → Option BankWord → BankParts × Option Outgoing
 reads b word reader None = (b, None)
 reads b word reader (Some (Home value)) = (b, to_core reader (DataReply word value))
 reads b word reader (Some (Reg registrant)) = (b, to_core registrant (ReadFwd word reader))
 
--- RegReq: the core becomes the registrant; an earlier one, if it is another core, is told so
+-- RegReq: the core becomes the registrant; an earlier registrant, if it is another core, is told so
 abbrev pub registers : BankParts → WordId → CoreId → Option BankWord → BankParts × Option Outgoing
 registers b word core None = (b, None)
 registers b word core (Some (Home value)) = (with_word b word.0 (Reg core), to_core core (RegAck word))
 registers b word core (Some (Reg registrant)) =
     (with_word b word.0 (Reg core), if is_same_core registrant core then to_core core (RegAck word) else to_core registrant (RegFwd word core))
 
--- WriteBack: the value is taken from the registrant alone; the core gets its answer in any case
+-- WriteBack: the value is taken only from the registrant; the core gets its acknowledgement in any case
 abbrev pub takes_back : BankParts → WordId → ℕ → CoreId → Option BankWord → BankParts × Option Outgoing
 takes_back b word value core None = (b, None)
 takes_back b word value core (Some (Home old)) = (b, to_core core (WbAck word))
@@ -127,7 +128,7 @@ releases b lock core signature None = (b, None)
 releases b lock core signature (Some state) =
     (with_lock b lock.0 (released state core signature).0, hands_on lock (released state core signature).1)
 
--- a message that names a core is of use where the machine has that core, and else changes nothing and sends nothing
+-- a message that names a core has an effect only if the machine has that core
 abbrev pub from_core : BankParts → CoreId → BankParts × Option Outgoing → BankParts × Option Outgoing
 from_core b core row = if nat_lt core.0 b.cores then row else (b, None)
 

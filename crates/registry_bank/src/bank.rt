@@ -20,9 +20,9 @@ pub enum BankWord {
     Reg(CoreId),
 }
 
-/// A bank of the shared memory. Words and locks go round the banks: number `n` is of bank `n mod banks`.
+/// A bank of the shared memory. Number `n` of the words, or of the locks, has its home at bank `n mod banks`.
 ///
-/// A contract sees the bank's number, how many banks and cores there are, and its words and locks in their order.
+/// Contracts see the bank's number, how many banks and cores there are, and the bank's words and locks in their order.
 #[derive(Drop)]
 pub struct Bank {
     bank: BankId,
@@ -50,7 +50,7 @@ fn send(core: CoreId, message: Message) -> Option<Outgoing>
     Some(Outgoing::to_core(core, message))
 }
 
-/// The words of a bank, in their order, as a run begins.
+/// The words of a bank, in their order, when a run begins.
 fn own_words(alloc: Global, bank: u32, banks: u32, memory: &[u32]) -> Result<Vec<BankWord>, Memory>
     requires bank { bank < banks }
     requires banks { banks ≤ 16 }
@@ -66,7 +66,7 @@ fn own_words(alloc: Global, bank: u32, banks: u32, memory: &[u32]) -> Result<Vec
     Ok(words)
 }
 
-/// The locks of a bank, in their order, as a run begins.
+/// The locks of a bank, in their order, when a run begins.
 fn own_locks(
     alloc: Global,
     bank: u32,
@@ -119,9 +119,9 @@ fn release_at(
 }
 
 impl Bank {
-    /// Bank `bank` of a machine with `banks` banks and `cores` cores, 1 to 16 each. `memory` is the whole first memory, of
-    /// at most 65,536 words, and `locks`, at most 32, the number of all locks: the bank keeps its own of both. Each of its
-    /// words holds its value, and each of its locks is free.
+    /// Bank `bank` of a machine with `banks` banks and `cores` cores, 1 to 16 each. `memory` is the whole initial memory, of at
+    /// most 65,536 words, and `locks`, at most 32, the number of all locks; the bank keeps its own part of both. Each of its
+    /// words has its value, and each of its locks is free.
     ///
     /// # Errors
     /// `Memory` where there is no room.
@@ -157,7 +157,7 @@ impl Bank {
         self.bank
     }
 
-    /// What the bank holds for a word; None exactly where the word isn't one of this bank's. Takes no memory.
+    /// What the bank holds for a word; None exactly if the bank isn't the word's home. Takes no memory.
     pub fn word(&self, word: WordId) -> Option<BankWord>
         ensures { result ≡ bank_word self.now word.0 }
     {
@@ -170,7 +170,7 @@ impl Bank {
         }
     }
 
-    /// A lock at its home; None exactly where the lock isn't one of this bank's. Takes no memory.
+    /// A lock at its home; None exactly if the bank isn't the lock's home. Takes no memory.
     pub fn lock(&self, lock: LockId) -> Option<&LockHome>
         ensures { option_copied result ≡ bank_lock self.now lock.0 }
     {
@@ -181,7 +181,7 @@ impl Bank {
         }
     }
 
-    /// Gives one of the bank's words another content.
+    /// Changes what the bank holds for one of its words.
     fn put(&mut self, word: WordId, content: BankWord)
         requires { word.0 / self.old.banks < length self.old.words }
         ensures { self.new ≡ with_word self.old word.0 content }
@@ -189,7 +189,7 @@ impl Bank {
         self.words[quotient(word.0, self.banks) as usize] = content;
     }
 
-    /// A core asks for the value of a word: it gets it, or the registrant is told to send it.
+    /// A core asks for the value of a word. The value is sent to it, or the read is forwarded to the registrant.
     fn read(&self, word: WordId, reader: CoreId) -> Option<Outgoing>
         ensures { result ≡ (reads self.now word reader (bank_word self.now word.0)).1 }
     {
@@ -199,7 +199,7 @@ impl Bank {
         }
     }
 
-    /// A core asks to be the registrant of a word, and becomes it; an earlier registrant is told.
+    /// A core asks to be the registrant of a word, and becomes it. An earlier registrant is told.
     fn register(&mut self, word: WordId, core: CoreId) -> Option<Outgoing>
         ensures bank { self.new ≡ (registers self.old word core (bank_word self.old word.0)).0 }
         ensures sent { result ≡ (registers self.old word core (bank_word self.old word.0)).1 }
@@ -215,7 +215,7 @@ impl Bank {
         }
     }
 
-    /// A core gives a word back: its value is taken where the core is the registrant, and the core is answered.
+    /// A core writes a word back. Its value is taken if the core is the registrant; the core is acknowledged in any case.
     fn take_back(&mut self, word: WordId, value: u32, core: CoreId) -> Option<Outgoing>
         ensures bank { self.new ≡ (takes_back self.old word value core (bank_word self.old word.0)).0 }
         ensures sent { result ≡ (takes_back self.old word value core (bank_word self.old word.0)).1 }
@@ -226,7 +226,7 @@ impl Bank {
         send(core, Message::WbAck { word })
     }
 
-    /// The index of a lock among the bank's own; None where it isn't one of them.
+    /// The index of a lock among the bank's own; None if the bank isn't its home.
     fn lock_index(&self, lock: LockId) -> Option<usize>
         ensures { result ≡ lock_index self.now lock.0 }
     {
@@ -258,13 +258,13 @@ impl Bank {
 
     /// The bank's answer to a message, which may change what it holds.
     ///
-    /// A reader gets the value of a word that is at home; else the word's registrant is told to give it. A core that asks to
-    /// register a word becomes its registrant at once. It hears so from the bank, or from the earlier registrant, which is
-    /// told to. A value that comes back counts from the registrant alone, but whoever gave it back is answered. A lock is
-    /// acquired and released at its home, and whoever holds it through that is granted it.
+    /// A read of a word that is at home is answered with its value; otherwise it is forwarded to the word's registrant. A core
+    /// that asks to register a word becomes its registrant at once. The bank tells it so, or tells an earlier registrant, which
+    /// then tells the core. A write-back changes the word only if it comes from the registrant, but is always acknowledged.
+    /// Acquires and releases change the lock; a core that gets the lock by one is sent a grant.
     ///
-    /// Where the word, the lock or the core is none of this bank or machine, and on all other kinds of message, nothing
-    /// happens. Takes no memory.
+    /// Nothing happens if the word, the lock or the core isn't this bank's or this machine's, and for all other kinds of
+    /// message. Takes no memory.
     #[tactic(auto, unfolding(crate::specs::Bank::bank_gets))]
     pub fn handle(&mut self, message: Message) -> Option<Outgoing>
         ensures bank { self.new ≡ (bank_gets self.old message).0 }

@@ -1,5 +1,5 @@
 //! What a bank's messages come to, for proofs about the machine.
-//! These are laws: functions that do nothing, whose contracts say it.
+//! A law is a function without effect; its contract states the theorem.
 ghost use Rattle.std.specs.Prelude.{◌≡◌, ℕ, false, None, ◌<◌, ◌≤◌, ◌==◌, Some, List, if◌then◌else◌, length};
 ghost use Rattle.dn_base.specs.declared.ids.CoreId.{CoreId};
 ghost use Rattle.dn_base.specs.declared.ids.WordId.{WordId};
@@ -13,13 +13,13 @@ ghost use Rattle.message_net.specs.declared.message.Outgoing.{Outgoing};
 ghost use Rattle.registry_bank.specs.declared.bank.BankWord.{BankWord};
 ghost use Rattle.registry_bank.specs.Bank.{BankParts, IsNewBank, IsBank, initial_bank, bank_word, bank_lock, with_word, with_lock, bank_gets, is_for_bank, after_register, after_write_back, after_acquire, after_release};
 
-/// As a run begins each word of the bank holds its value in the first memory, and each of its locks is free.
+/// When a run begins, each word of the bank has its value in the initial memory, and each of its locks is free.
 pub fn an_opened_bank_holds_the_first_memory()
     ensures { (bank banks cores : ℕ) (memory : List ℕ) (locks : ℕ) → bank < banks
         → IsNewBank bank banks cores memory locks (initial_bank bank banks cores memory locks) }
 {}
 
-/// A bank of a machine stays one, whatever the message, and sends what it sends to the machine's cores.
+/// A bank of a machine stays one, whatever the message, and what it sends goes to cores of the machine.
 pub fn a_bank_stays_the_machines()
     ensures initial { (bank banks cores : ℕ) (memory : List ℕ) (locks : ℕ) → bank < banks → IsBank (initial_bank bank banks cores memory locks) }
     ensures kept { (b : BankParts) (m : Message) → IsBank b → IsBank (bank_gets b m).0 }
@@ -27,26 +27,26 @@ pub fn a_bank_stays_the_machines()
         → (core : CoreId) × (out.to ≡ Core core) × (core.0 < b.cores) }
 {}
 
-/// A message of a kind that banks don't answer changes nothing.
+/// A message of a kind that banks don't handle changes nothing.
 pub fn other_kinds_change_nothing()
     ensures { (b : BankParts) (m : Message) → is_for_bank m ≡ false → bank_gets b m ≡ (b, None) }
 {}
 
-/// A word that gets another content changes alone, and no lock does.
+/// If one word of a bank changes, no other word changes, and no lock.
 pub fn a_word_changes_alone()
     ensures words { (b : BankParts) (w v : ℕ) (old new : BankWord) → 0 < b.banks → bank_word b w ≡ Some old
         → bank_word (with_word b w new) v ≡ (if w == v then Some new else bank_word b v) }
     ensures locks { (b : BankParts) (w l : ℕ) (new : BankWord) → bank_lock (with_word b w new) l ≡ bank_lock b l }
 {}
 
-/// A lock that gets another state changes alone, and no word does.
+/// If one lock of a bank changes, no other lock changes, and no word.
 pub fn a_lock_changes_alone()
     ensures locks { (b : BankParts) (l m : ℕ) (old new : Lock) → 0 < b.banks → bank_lock b l ≡ Some old
         → bank_lock (with_lock b l new) m ≡ (if l == m then Some new else bank_lock b m) }
     ensures words { (b : BankParts) (l w : ℕ) (new : Lock) → bank_word (with_lock b l new) w ≡ bank_word b w }
 {}
 
-/// What each word has after each message: RegReq and WriteBack change their own word, and nothing else changes any.
+/// What each word has after each message: RegReq and WriteBack change their own word, and nothing else changes a word.
 pub fn words_change_by_their_own_messages()
     ensures read { (b : BankParts) (word : WordId) (reader : CoreId) → (bank_gets b (ReadReq word reader)).0 ≡ b }
     ensures register { (b : BankParts) (word : WordId) (core : CoreId) (w : ℕ) → 0 < b.banks → core.0 < b.cores
@@ -59,7 +59,7 @@ pub fn words_change_by_their_own_messages()
         → bank_word (bank_gets b (Release lock core signature)).0 w ≡ bank_word b w }
 {}
 
-/// What each lock has after each message: Acquire and Release change their own lock, and nothing else changes any.
+/// What each lock has after each message: Acquire and Release change their own lock, and nothing else changes a lock.
 pub fn locks_change_by_their_own_messages()
     ensures register { (b : BankParts) (word : WordId) (core : CoreId) (l : ℕ) → bank_lock (bank_gets b (RegReq word core)).0 l ≡ bank_lock b l }
     ensures write_back { (b : BankParts) (word : WordId) (value : ℕ) (core : CoreId) (l : ℕ)
@@ -71,7 +71,7 @@ pub fn locks_change_by_their_own_messages()
         ≡ (if lock.0 == l then after_release core signature (bank_lock b l) else bank_lock b l) }
 {}
 
-/// No message changes which bank it is, or how many banks, cores, words and locks there are.
+/// No message changes the bank's number, or the numbers of banks, cores, words and locks.
 pub fn a_bank_keeps_its_shape()
     ensures number { (b : BankParts) (m : Message) → (bank_gets b m).0.bank ≡ b.bank }
     ensures banks { (b : BankParts) (m : Message) → (bank_gets b m).0.banks ≡ b.banks }

@@ -1,8 +1,8 @@
-//! The banks of the shared memory. A bank holds for each of its words the value or the word's registrant, and for each of
-//! its locks the holder, the queue and the signature, and answers the messages of the cores.
+//! The banks of the shared memory. For each of its words a bank holds the value or the word's registrant. For each of its locks
+//! it holds the holder, the queue and the signature. It handles the messages of the cores.
 //!
-//! That a shared word names its registrant where it holds no data, and that no list of sharers is kept, is DeNovo's
-//! (PACT 2011); queue locks are DeNovoND's (ASPLOS 2013); that write-backs are acknowledged is this project's own.
+//! A home names a word's registrant if it has no data for the word, and keeps no list of sharers: that is DeNovo's (PACT 2011).
+//! Queue locks are DeNovoND's (ASPLOS 2013). That write-backs are acknowledged is this project's own.
 #![tactic(auto)]
 
 mod bank;
