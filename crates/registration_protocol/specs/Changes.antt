@@ -1,7 +1,7 @@
--- What becomes of one entry at each event, and what stays of a node where entries change.
+-- How each event changes one entry, and what of a node stays when entries change.
 --
--- These are columns of the rows in OwnEvents and Messages, for laws. That each is the column of its row is what the laws
--- `one_entry_changes`, `a_value_is_a_copy`, `a_store_writes_one_entry` and `a_phase_begins_part_by_part` prove.
+-- These are columns of the rows in OwnEvents and Messages, for laws. The laws `one_entry_changes`, `a_value_is_a_copy`,
+-- `a_store_writes_one_entry` and `a_phase_begins_part_by_part` prove that each is the column of its row.
 use Rattle.std.specs.Prelude.{◌≡◌, ℕ, Bool, true, false, ◌||◌, ◌==◌, Option, Some, None, if◌then◌else◌}
 use Rattle.region_table.specs.declared.declared.TaskDecl.{TaskDecl}
 use Rattle.region_table.specs.Plan.{uses_plainly}
@@ -15,22 +15,22 @@ use Rattle.word_cache.specs.declared.row.Entry.{Entry}
 use Rattle.word_cache.specs.declared.row.Entry.TheVariants.{Valid, Registered, Leaving}
 use Rattle.registration_protocol.specs.Node.{NodeParts, Setting}
 
--- at RegAck it is pending no more
+-- at RegAck the entry is no longer pending
 abbrev pub on_reg_ack : Option Entry → Option Entry
 on_reg_ack (Some (Registered value true)) = Some (Registered value false)
 on_reg_ack e = e
 
--- at RegFwd a registered word that isn't pending goes
+-- at RegFwd a registered entry that isn't pending is removed
 abbrev pub on_reg_fwd : Option Entry → Option Entry
 on_reg_fwd (Some (Registered value false)) = None
 on_reg_fwd e = e
 
--- at WbAck a leaving word goes
+-- at WbAck a leaving entry is removed
 abbrev pub on_wb_ack : Option Entry → Option Entry
 on_wb_ack (Some (Leaving value)) = None
 on_wb_ack e = e
 
--- an eviction takes a copy away, and makes a registered word that isn't pending a leaving one
+-- an eviction removes a copy, and makes a registered entry that isn't pending a leaving one
 abbrev pub on_evict : Option Entry → Option Entry
 on_evict (Some (Valid value marked)) = None
 on_evict (Some (Registered value false)) = Some (Leaving value)
@@ -60,7 +60,7 @@ is_from_keeper (message.TheVariants.Go phase) = true
 is_from_keeper message.TheVariants.Halt = true
 is_from_keeper _ = false
 
--- whether the table has a row for a message's kind; a node leaves one of the others alone
+-- whether the table has a row for the message's kind; a message of any other kind changes nothing in a node
 abbrev pub is_for_node : Message → Bool
 is_for_node (message.TheVariants.DataReply word value) = true
 is_for_node (message.TheVariants.RegAck word) = true
@@ -72,14 +72,14 @@ is_for_node (message.TheVariants.Go phase) = true
 is_for_node message.TheVariants.Halt = true
 is_for_node _ = false
 
--- a node that stays the same core's, in its phase, arrived and halted or not as before
+-- the node has the same core and phase, and the same flags arrived and halted
 pub record KeepsPhase (n m : NodeParts) : Type 0 where
   pub core : m.core ≡ n.core
   pub phase : m.phase ≡ n.phase
   pub arrived : m.arrived ≡ n.arrived
   pub halted : m.halted ≡ n.halted
 
--- a node of which at most entries differ
+-- only the node's entries may differ
 pub record KeepsTask (n m : NodeParts) : Type 0 where
   pub phase_kept : KeepsPhase n m
   pub task : m.task ≡ n.task

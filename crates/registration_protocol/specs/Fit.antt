@@ -18,7 +18,7 @@ use Rattle.registration_protocol.specs.declared.node.NodeWait as wait
 use Rattle.registration_protocol.specs.declared.node.NodeWait.{NodeWait}
 use Rattle.registration_protocol.specs.Node.{NodeParts, Setting, need_now}
 
--- a context: the plans are those of the program's phases, the cores are those that the program needs, and the other sizes and
+-- a context: the plans are those of the program's phases, there are as many cores as the program needs, and the other sizes and
 -- the fuel are within their limits
 pub record IsContext (C : Setting) : Type 0 where
   pub plans : ArePlans C.program C.plans
@@ -41,7 +41,7 @@ abbrev pub NeedsLock : Option Need → NodeWait → Type 0
 NeedsLock needs (wait.TheVariants.Locking lock) = needs ≡ Some (need.TheVariants.Acquire lock)
 NeedsLock needs _ = Unit {0}
 
--- a signature has the writes of this phase alone
+-- a signature has only writes of this phase
 abbrev pub IsOfPhase : ℕ → Signature → Type 0
 IsOfPhase phase s = tag s ≡ phase
 

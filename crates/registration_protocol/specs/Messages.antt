@@ -24,7 +24,7 @@ use Rattle.registration_protocol.specs.declared.node.NodeWait.{NodeWait}
 use Rattle.registration_protocol.specs.declared.node.Received.{Received}
 use Rattle.registration_protocol.specs.Node.{NodeParts, Setting, entry_of, keeping}
 
--- the node is this one then, and sends nothing
+-- the node becomes this one, and sends nothing
 abbrev pub becomes : NodeParts → NodeParts × Received
 becomes n = (n, record { sent = None; granted = None })
 
@@ -50,12 +50,12 @@ data_reply_row n word value (wait.TheVariants.Reading wanted) =
     if wanted.0 == word.0 then fills n word value (entry_of n word.0) else becomes n
 data_reply_row n word value _ = becomes n
 
--- RegAck: the entry is pending no more
+-- RegAck: the entry is no longer pending
 abbrev pub reg_ack_row : NodeParts → WordId → Option Entry → NodeParts × Received
 reg_ack_row n word (Some (Registered value true)) = becomes (with_entry n word.0 (Registered value false))
 reg_ack_row n word _ = becomes n
 
--- RegFwd: a registered entry that isn't pending goes, and the new registrant is acknowledged in any case
+-- RegFwd: a registered entry that isn't pending is removed; the new registrant is acknowledged in any case
 abbrev pub reg_fwd_row : NodeParts → WordId → CoreId → Option Entry → NodeParts × Received
 reg_fwd_row n word core (Some (Registered value false)) = answers (lacking n word.0) (to_core core (message.TheVariants.RegAck word))
 reg_fwd_row n word core _ = answers n (to_core core (message.TheVariants.RegAck word))
@@ -66,7 +66,7 @@ read_fwd_row C n word reader (Some (Registered value pending)) = answers n (to_c
 read_fwd_row C n word reader (Some (Leaving value)) = answers n (to_core reader (message.TheVariants.DataReply word value))
 read_fwd_row C n word reader _ = answers n (to_home C.shape.banks word.0 (message.TheVariants.ReadReq word reader))
 
--- WbAck: a leaving entry goes
+-- WbAck: a leaving entry is removed
 abbrev pub wb_ack_row : NodeParts → WordId → Option Entry → NodeParts × Received
 wb_ack_row n word (Some (Leaving value)) = becomes (lacking n word.0)
 wb_ack_row n word _ = becomes n
@@ -80,7 +80,7 @@ abbrev pub written_in : Option PhasePlan → List Interval
 written_in None = []
 written_in (Some plan) = plan.written
 
--- Grant, by what the node waits for: stale copies of the lock's words go, and the acquire retires
+-- Grant, by what the node waits for: stale copies of the words that the lock guards are dropped, and the acquire retires
 abbrev pub holds_now : Setting → NodeParts → TaskState → LockId → Signature → NodeParts × Received
 holds_now C n t lock signature = (
   record n {
@@ -101,7 +101,7 @@ grant_row C n lock signature (wait.TheVariants.Locking wanted) =
     if wanted.0 == lock.0 then granted_to C n lock signature n.task else becomes n
 grant_row C n lock signature _ = becomes n
 
--- Go: what the ended phase leaves stale goes, and the next phase begins
+-- Go: what may be stale after the phase is dropped, and the next phase begins
 abbrev pub begins : Setting → NodeParts → ℕ → NodeParts
 begins C n phase =
     record n {
@@ -122,7 +122,7 @@ go_row C n phase =
 abbrev pub halt_row : NodeParts → NodeParts × Received
 halt_row n = if n.arrived then becomes (record n { halted = true }) else becomes n
 
--- what a node does with a message: the table, row by row; one that no row names changes nothing and sends nothing
+-- what a node does with a message: the table, row by row; a message without a row changes nothing and sends nothing
 unfoldable pub node_gets : Setting → NodeParts → Message → NodeParts × Received
 node_gets C n (message.TheVariants.DataReply word value) = data_reply_row n word value n.waiting
 node_gets C n (message.TheVariants.RegAck word) = reg_ack_row n word (entry_of n word.0)

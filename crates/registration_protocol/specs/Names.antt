@@ -1,4 +1,4 @@
--- What a message names, and where it goes, for the law `mails_are_of_the_machine`.
+-- What a message names, and to whom it goes, for the law `mails_are_of_the_machine`.
 use Rattle.std.specs.Prelude.{◌<◌, length, ◌≡◌, true}
 use Rattle.message_net.specs.declared.message.Message as message
 use Rattle.message_net.specs.declared.message.Message.{Message}
@@ -6,7 +6,7 @@ use Rattle.message_net.specs.declared.message.Outgoing.{Outgoing}
 use Rattle.message_net.specs.Mail.{has_actor}
 use Rattle.registration_protocol.specs.Node.{Setting}
 
--- the word, the lock and the core that a message names are the machine's
+-- the word, the lock and the core that a message names exist in the machine
 abbrev pub NamesOwn : Setting → Message → Type 0
 NamesOwn C (message.TheVariants.ReadReq word reader) = (word.0 < length C.program.memory) × (reader.0 < C.shape.cores)
 NamesOwn C (message.TheVariants.ReadFwd word reader) = (word.0 < length C.program.memory) × (reader.0 < C.shape.cores)
@@ -23,7 +23,7 @@ NamesOwn C (message.TheVariants.Arrived core bad) = core.0 < C.shape.cores
 NamesOwn C (message.TheVariants.Go phase) = Unit {0}
 NamesOwn C message.TheVariants.Halt = Unit {0}
 
--- a message goes to an actor of the machine, and names what is the machine's
+-- a message goes to an actor of the machine, and names only what exists in the machine
 pub record IsFor (C : Setting) (out : Outgoing) : Type 0 where
   pub to : has_actor C.shape.cores C.shape.banks out.to ≡ true
   pub message : NamesOwn C out.message

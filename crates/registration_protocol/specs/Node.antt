@@ -1,4 +1,4 @@
--- A node, and what it and its surroundings say of its task.
+-- A node, and what the node and its context say of its task.
 use Rattle.std.specs.Prelude.{ℕ, Bool, true, false, ◌||◌, ◌==◌, not, List, [], length, replicate, slice_index_or, Option, Some, None, if◌then◌else◌}
 use Rattle.std.specs.Option.{option_map, is_some}
 use Rattle.dn_base.specs.declared.ids.Shape.{Shape}
@@ -17,8 +17,8 @@ use Rattle.word_cache.specs.Cache.{Cache, with_pairs, Pair, lookup, pending_coun
 use Rattle.registration_protocol.specs.declared.node.NodeWait as wait
 use Rattle.registration_protocol.specs.declared.node.NodeWait.{NodeWait}
 
--- a node: its core, the phase, its task in it if there is one, its cache, what it waits for, a signature for each lock, and
--- whether it has arrived at the barrier and is halted
+-- a node: its core, its phase, its task in the phase if there is one, its cache, what it waits for, a signature for each lock,
+-- and whether it has arrived at the barrier and is halted
 pub record NodeParts : Type 0 where
   pub core : ℕ
   pub phase : ℕ
@@ -29,15 +29,15 @@ pub record NodeParts : Type 0 where
   pub arrived : Bool
   pub halted : Bool
 
--- what a node's calls are told: the program, the plans of its phases, the machine's size, and how many instructions a task
--- may retire
+-- what a node's calls are given: the program, the plans of its phases, the machine's size, and how many instructions a task may
+-- retire
 pub record Setting : Type 0 where
   pub program : ProgramParts
   pub plans : List PhasePlan
   pub shape : Shape
   pub fuel : ℕ
 
--- whether a task goes on
+-- whether a task is running: it has started and hasn't ended
 abbrev pub is_running : Option TaskState → Bool
 is_running None = false
 is_running (Some t) = not (is_some t.end)
@@ -66,7 +66,7 @@ is_settled n = pending_count n.cache.pairs == 0
 abbrev pub is_active : NodeParts → Bool
 is_active n = not (n.halted || n.arrived)
 
--- whether the wait lets the next instruction go on: there is none, or the word has come
+-- whether the wait allows the next instruction: the node waits for nothing, or the word has come
 abbrev pub is_ready : NodeWait → Bool
 is_ready wait.TheVariants.None = true
 is_ready (wait.TheVariants.Filled word) = true
@@ -84,7 +84,7 @@ keeping n ps = record n { cache = with_pairs n.cache ps }
 abbrev pub signature_of : NodeParts → ℕ → Signature
 signature_of n lock = slice_index_or n.signatures lock (empty n.phase)
 
--- a node as a run begins: in phase 0 with its task, or halted where there are no phases
+-- a node when a run begins: in phase 0 with its task, or halted if there are no phases
 abbrev pub initial_node : Setting → ℕ → NodeParts
 initial_node C core =
     record {

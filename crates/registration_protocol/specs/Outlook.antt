@@ -1,4 +1,4 @@
--- What an outlook says: whether the next instruction may go on, and the word that lacks a place.
+-- The outlook: whether the next instruction may come, or which word lacks a place in the cache.
 use Rattle.std.specs.Prelude.{Bool, true, false, Option, Some, None}
 use Rattle.dn_base.specs.declared.ids.WordId.{WordId}
 use Rattle.registration_protocol.specs.declared.outlook.Outlook.{Outlook}

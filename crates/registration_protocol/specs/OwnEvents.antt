@@ -34,8 +34,8 @@ use Rattle.registration_protocol.specs.declared.node.NodeWait.{NodeWait}
 use Rattle.registration_protocol.specs.declared.node.Step.{Step}
 use Rattle.registration_protocol.specs.Node.{NodeParts, Setting, is_running, need_now, entry_of, is_settled, is_active, is_ready, waits_for_nothing, keeping, signature_of}
 
--- whether an access of a word may go on, by its entry: it stalls while the word is leaving, and where there is no entry it
--- needs room
+-- whether an access of a word may come, by the word's entry: it stalls while the word is leaving, and a word without an entry
+-- needs room in the cache
 abbrev pub may_access : NodeParts → ℕ → Option Entry → Bool
 may_access n w None = has_room n.cache w
 may_access n w (Some (Valid value marked)) = true
@@ -54,7 +54,7 @@ lets n (Some (need.TheVariants.Store word whole)) = may_access n word.0 (entry_o
 abbrev pub may_instr : Setting → NodeParts → Bool
 may_instr C n = is_active n && is_ready n.waiting && lets n (need_now C n)
 
--- the word for which the next instruction lacks a place, if there is one
+-- the word that lacks a place in the cache for the next instruction, if there is one
 abbrev pub crowded : NodeParts → WordId → Option WordId
 crowded n word = if is_some (entry_of n word.0) || has_room n.cache word.0 then None else Some word
 
@@ -63,7 +63,7 @@ wanted_by n (Some (need.TheVariants.Load word)) = crowded n word
 wanted_by n (Some (need.TheVariants.Store word whole)) = crowded n word
 wanted_by n _ = None
 
--- whether a word may be evicted to make room for the wanted one: it is of that word's set, and Valid, or Registered and not
+-- whether a word may be evicted to make room for the wanted one: it is in that word's set, and Valid, or Registered and not
 -- pending
 abbrev pub makes_room : NodeParts → ℕ → Option WordId → Bool
 makes_room n w None = false
@@ -75,7 +75,7 @@ may_evict C n w = is_active n && waits_for_nothing n.waiting && makes_room n w (
 abbrev pub may_arrive : NodeParts → Bool
 may_arrive n = is_active n && not (is_running n.task) && is_settled n
 
--- the node with this entry for a word, which is the one used last then
+-- the node with this entry for a word, whose pair is then the most recently used
 abbrev pub with_put : NodeParts → WordId → Entry → NodeParts
 with_put n word e = keeping n (put word e n.cache.pairs)
 
@@ -108,8 +108,8 @@ load_row C n d t word (Some (Registered value pending)) =
     sees (retires (keeping n (touched word n.cache.pairs)) (loaded_of C.program value t)) word value
 load_row C n d t word (Some (Leaving value)) = silent n
 
--- the signature of a lock after a store to a word: it has the word then where the task holds the lock and the lock guards the
--- word for the task's stores
+-- the signature of a lock after a store to a word: it then has the word if the task holds the lock and the lock guards the word
+-- for the task's stores
 abbrev pub noted_at : TaskDecl → ℕ → ℕ → ℕ → ℕ → Signature → Signature
 noted_at d held w phase lock s =
     if is_held held lock && has (slice_index_or d.effects.guarded_writes lock []) w then inserted s w phase else s
@@ -119,7 +119,7 @@ abbrev pub noted : TaskDecl → ℕ → ℕ → ℕ → ℕ → List Signature �
 noted d held w phase lock [] = []
 noted d held w phase lock (s ∷ ss) = noted_at d held w phase lock s ∷ noted d held w phase (lock + 1) ss
 
--- a store retires, and its word has this entry
+-- a store retires, and its word gets this entry
 abbrev pub stored : Setting → NodeParts → TaskDecl → TaskState → WordId → Entry → NodeParts
 stored C n d t word e =
     record (retires (with_put n word e) (advanced C.program t)) { signatures = noted d t.held word.0 n.phase 0 n.signatures }
@@ -155,7 +155,7 @@ instr_by C n _ _ _ = silent n
 unfoldable pub instructed : Setting → NodeParts → NodeParts × Step
 instructed C n = instr_by C n (declared C.program n.phase n.core) n.task (need_now C n)
 
--- the word that a store to a word writes where it retires, and the value that it has then, by the word's entry
+-- the word that a store writes if it retires, and the value that it gets, by the word's entry
 abbrev pub written_by : Setting → TaskState → WordId → Bool → Option Entry → Option (WordId × ℕ)
 written_by C t word whole None = if whole then Some (word, merged_of C.program 0 t) else None
 written_by C t word whole (Some (Valid value marked)) = Some (word, merged_of C.program value t)
@@ -166,7 +166,7 @@ abbrev pub written_if : Setting → NodeParts → Option TaskState → Option Ne
 written_if C n (Some t) (Some (need.TheVariants.Store word whole)) = written_by C t word whole (entry_of n word.0)
 written_if C n _ _ = None
 
--- the word that the next instruction writes, and the value that it has then; None where that isn't a store that retires
+-- the word that the next instruction writes, and its new value; None if that isn't a store that retires
 unfoldable pub written_now : Setting → NodeParts → Option (WordId × ℕ)
 written_now C n = written_if C n n.task (need_now C n)
 
@@ -209,12 +209,12 @@ eviction C n = eviction_of C n (victim_for n (wanted_by n (need_now C n)))
 abbrev pub arrival : NodeParts → Option Event
 arrival n = if may_arrive n then Some (event.TheVariants.Arrive (me n)) else None
 
--- the node's next event by itself: its instruction where it may go on, else the eviction of the cache's victim, else its
+-- the node's next own event: its instruction if that may come, otherwise the eviction of the cache's victim, otherwise its
 -- arrival
 abbrev pub own_event : Setting → NodeParts → Option Event
 own_event C n = if may_instr C n then Some (event.TheVariants.Instr (me n)) else option_or (eviction C n) (arrival n)
 
--- a node with nothing to do by itself
+-- a node without an own event
 pub record IsStill (C : Setting) (n : NodeParts) : Type 0 where
   pub instr : may_instr C n ≡ false
   pub evict : (w : ℕ) → may_evict C n w ≡ false

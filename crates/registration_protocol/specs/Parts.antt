@@ -1,7 +1,7 @@
--- An instruction, part by part: what it changes of the task, the wait and the signatures, and what it sends and reads.
+-- An instruction, part by part: how it changes the task, the wait and the signatures, and what it sends and reads.
 --
--- These are columns of the rows in OwnEvents and Messages, for laws. That each is the column of its row is what the laws
--- `an_instruction_part_by_part`, `a_grant_part_by_part` and `a_phase_begins_part_by_part` prove.
+-- These are columns of the rows in OwnEvents and Messages, for laws. The laws `an_instruction_part_by_part`,
+-- `a_grant_part_by_part` and `a_phase_begins_part_by_part` prove that each is the column of its row.
 use Rattle.std.specs.Prelude.{◌≡◌, ℕ, ◌^◌, Bool, true, false, List, Option, Some, None, if◌then◌else◌, ◌+◌, ◌<◌, length, bit_or, ◌⊎◌}
 use Rattle.dn_base.specs.declared.ids.LoadSeen.{LoadSeen}
 use Rattle.dn_base.specs.declared.ids.WordId.{WordId}
@@ -33,7 +33,7 @@ use Rattle.registration_protocol.specs.Node.{NodeParts, Setting, need_now, entry
 use Rattle.registration_protocol.specs.OwnEvents.{lets, noted, me, wanted_by, makes_room, may_instr, may_evict, may_arrive}
 use Rattle.registration_protocol.specs.Changes.{KeepsPhase, on_instr}
 
--- a node whose next instruction may go on: its task, the task's declaration, and what the instruction needs
+-- a node whose next instruction may come: its task, the task's declaration, and what the instruction needs
 pub record MayInstruct (C : Setting) (n : NodeParts) : Type 0 where
   pub task : TaskState
   pub decl : TaskDecl
@@ -63,7 +63,7 @@ pub record MayArrive (n : NodeParts) : Type 0 where
   pub arrived : n.arrived ≡ false
   pub halted : n.halted ≡ false
 
--- how many instructions a node's task has retired, and the locks that it holds; none where there is no task
+-- how many instructions a node's task has retired, and the locks that it holds; 0 if there is no task
 abbrev pub retired_so_far : Option TaskState → ℕ
 retired_so_far None = 0
 retired_so_far (Some t) = t.retired
@@ -78,14 +78,14 @@ accessed n (need.TheVariants.Load word) = entry_of n word.0
 accessed n (need.TheVariants.Store word whole) = entry_of n word.0
 accessed n _ = None
 
--- whether an access is completed, by the entry of its word; one without entry is where it needs no value
+-- whether an access is completed, by the entry of its word; without an entry it is if it needs no value
 abbrev pub completes : Bool → Option Entry → Bool
 completes whole None = whole
 completes whole (Some (Valid value marked)) = true
 completes whole (Some (Registered value pending)) = true
 completes whole (Some (Leaving value)) = false
 
--- how many instructions retire at an instruction: an acquire does at the grant
+-- how many instructions retire by an instruction event: an acquire retires only at the grant
 abbrev pub retired_by : Need → Option Entry → ℕ
 retired_by need.TheVariants.Local e = 1
 retired_by (need.TheVariants.Load word) e = if completes false e then 1 else 0
@@ -94,7 +94,7 @@ retired_by (need.TheVariants.Acquire lock) e = 0
 retired_by (need.TheVariants.Release lock) e = 1
 retired_by (need.TheVariants.End by) e = retires_at by
 
--- the locks that are held after an instruction: one that is acquired is held at the grant
+-- the locks that are held after an instruction; a lock that it acquires is held only after the grant
 abbrev pub held_by : ℕ → Need → ℕ
 held_by held (need.TheVariants.Acquire lock) = held
 held_by held x = held_after held x
@@ -131,7 +131,7 @@ wait_by old (need.TheVariants.Store word whole) e = wait_at old word whole e
 wait_by old (need.TheVariants.Acquire lock) e = wait.TheVariants.Locking lock
 wait_by old _ e = old
 
--- the signatures after an instruction: those of the held locks that guard the word have it after a store that retires
+-- the signatures after an instruction; a store that retires puts its word into those of the held locks that guard it
 abbrev pub signatures_by : NodeParts → TaskDecl → TaskState → Need → Option Entry → List Signature
 signatures_by n d t (need.TheVariants.Store word whole) e =
     if completes whole e then noted d t.held word.0 n.phase 0 n.signatures else n.signatures

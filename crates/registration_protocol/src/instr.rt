@@ -25,7 +25,7 @@ use rv_core::{End, Need, TaskState};
 use word_cache::{Entry, Probe, WordCache};
 use write_signature::Signature;
 
-/// What an instruction gives that sends nothing and reads nothing.
+/// The result of an instruction that sends nothing and reads nothing.
 fn silence() -> Step
     ensures { result ≡ record { sent = None; seen = None } }
 {
@@ -35,7 +35,7 @@ fn silence() -> Step
     }
 }
 
-/// What an instruction gives that sends this.
+/// The result of an instruction that sends this.
 fn sending(sent: Outgoing) -> Step
     ensures { result ≡ record { sent = Some sent; seen = None } }
 {
@@ -45,7 +45,7 @@ fn sending(sent: Outgoing) -> Step
     }
 }
 
-/// Whether the task may use the word whatever locks it holds.
+/// Whether the task may use the word without a lock.
 fn is_plain(task: &TaskDecl, word: WordId) -> bool
     ensures { result ≡ uses_plainly task.now word.0 }
 {
@@ -63,7 +63,7 @@ fn advance(task: &mut Option<TaskState>, context: &Context<'_>, declared: &TaskD
     }
 }
 
-/// The next instruction retires, a load of a word of this value.
+/// The next instruction, a load of a word with this value, retires.
 fn load(
     task: &mut Option<TaskState>,
     context: &Context<'_>,
@@ -106,7 +106,7 @@ fn sign(
     }
 }
 
-/// A word to which a store goes: its value so far, and what the cache's probe for it told.
+/// The target of a store: the word's value so far, and what the cache's probe told.
 #[derive(Clone, Copy, Debug)]
 struct Target {
     word: WordId,
@@ -114,7 +114,7 @@ struct Target {
     old: u32,
 }
 
-/// Gives the word this entry, at the place that the probe told.
+/// Gives the word this entry, at the place that the probe gave.
 fn enter(cache: &mut WordCache, word: WordId, probe: Probe, entry: Entry)
     requires probe { IsProbe probe (lookup word.0 cache.old.pairs) (has_room cache.old word.0) }
     requires room { (is_some (lookup word.0 cache.old.pairs) || has_room cache.old word.0) ≡ true }
@@ -139,7 +139,7 @@ impl Node {
         sending(send_home(context, word.0, Message::ReadReq { word, reader }))
     }
 
-    /// The task loads a word of this value.
+    /// The task loads a word with this value.
     fn see(
         &mut self,
         context: &Context<'_>,
@@ -195,7 +195,7 @@ impl Node {
         }
     }
 
-    /// The word after the task's store, where the word's value was `old`.
+    /// The word after the task's store, where `old` is its value before.
     fn merged(&self, context: &Context<'_>, declared: &TaskDecl, need: &Need, old: u32) -> u32
         requires look { IfSome self.now.task (IsNeed (setting context.now) declared.now need.now) }
         requires kind { IsStore need.now }
@@ -207,7 +207,7 @@ impl Node {
         }
     }
 
-    /// A store to the word retires. The core is the word's registrant then, or is to be it.
+    /// A store to the word retires. The core is the word's registrant, or asks to be it.
     fn write(
         &mut self,
         context: &Context<'_>,
@@ -343,8 +343,8 @@ impl Node {
         sending(send_home(context, lock.0, Message::Acquire { lock, core }))
     }
 
-    /// The signature that the node keeps for a lock; the empty one of its phase for a lock that the program doesn't have. Takes no
-    /// memory.
+    /// The signature that the node keeps for a lock; for a lock that the program doesn't have, the empty one of its phase.
+    /// Takes no memory.
     pub fn signature(&self, lock: LockId) -> Signature
         ensures { result ≡ signature_of self.now lock.0 }
     {
@@ -423,9 +423,9 @@ impl Node {
         self.perform(context, declared, &need)
     }
 
-    /// The node's next instruction, which may go on: it retires, or asks for what it lacks, or ends the task. A load of a word
-    /// that the task uses plainly marks the word's copy. A store enters its word in the signature of each held lock that
-    /// guards it. Takes no memory.
+    /// The node's next instruction, which must be allowed (`may_instr`). It retires, asks for what it lacks, or ends the task.
+    /// A load of a word that the task uses plainly marks the word's copy. A store puts its word into the signatures of the held
+    /// locks that guard it. Takes no memory.
     pub fn instr(&mut self, context: &Context<'_>) -> Step
         requires context { IsContext (setting context.now) }
         requires fits { Fits (setting context.now) self.old }

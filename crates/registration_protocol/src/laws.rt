@@ -1,5 +1,5 @@
 //! What a node's events come to, for proofs about the machine.
-//! These are laws: functions that do nothing, whose contracts say it.
+//! A law is a function without effect; its contract states the theorem.
 ghost use Rattle.std.specs.Prelude.{◌≡◌, ℕ, ◌+◌, ◌<◌, ◌==◌, Bool, Option, Some, None, IfSome, true, false, length, slice_get, if◌then◌else◌};
 ghost use Rattle.dn_base.specs.declared.ids.CoreId.{CoreId};
 ghost use Rattle.dn_base.specs.declared.ids.LockId.{LockId};
@@ -29,8 +29,7 @@ ghost use Rattle.registration_protocol.specs.Changes.{on_reg_ack, on_reg_fwd, on
 ghost use Rattle.registration_protocol.specs.Parts.{IsWaiting, MayInstruct, MayEvict, MayArrive, accessed, task_by, Instructs, Retires, Acquires, MayCome, retired_so_far, held_locks};
 ghost use Rattle.registration_protocol.specs.Names.{NamesOwn, IsFor};
 
-/// An acknowledgement, a forwarded registration and an eviction change the entry of their word alone, and a forwarded read
-/// changes nothing.
+/// An acknowledgement, a RegFwd and an eviction change only the entry of their word, and a ReadFwd changes nothing.
 pub fn one_entry_changes()
     ensures ack { (C : Setting) (n : NodeParts) (word : WordId) (v : ℕ) → entry_of (node_gets C n (RegAck word)).0 v ≡ (if word.0 == v then on_reg_ack (entry_of n v) else entry_of n v) }
     ensures forward { (C : Setting) (n : NodeParts) (word : WordId) (core : CoreId) (v : ℕ) → entry_of (node_gets C n (RegFwd word core)).0 v ≡ (if word.0 == v then on_reg_fwd (entry_of n v) else entry_of n v) }
@@ -47,19 +46,19 @@ pub fn the_task_stays()
     ensures evict { (C : Setting) (n : NodeParts) (word : WordId) → KeepsTask n (evicted C n word).0 }
 {}
 
-/// A value of a word that the node waits for is a copy without a mark, where the word has no entry and its set has room; no
+/// If the node waits for the value of a word, and the word has no entry but room, the value becomes a copy without a mark. No
 /// other word's entry changes.
 pub fn a_value_is_a_copy()
     ensures { (C : Setting) (n : NodeParts) (word : WordId) (value v : ℕ) → n.waiting ≡ Reading word → entry_of n word.0 ≡ None → has_room n.cache word.0 ≡ true
         → entry_of (node_gets C n (DataReply word value)).0 v ≡ (if word.0 == v then Some (Valid value false) else entry_of n v) }
 {}
 
-/// A store that retires gives its word the entry, and no other word's entry changes.
+/// A store that retires gives its word the new entry, and no other word's entry changes.
 pub fn a_store_writes_one_entry()
     ensures { (C : Setting) (n : NodeParts) (d : TaskDecl) (t : TaskState) (word : WordId) (e : Entry) (v : ℕ) → entry_of (stored C n d t word e) v ≡ (if word.0 == v then Some e else entry_of n v) }
 {}
 
-/// The word that a store writes follows from the entry of the word.
+/// The word that a store writes depends only on the entry of the word.
 pub fn a_store_writes_one_word()
     ensures { (C : Setting) (n : NodeParts) (t : TaskState) (word : WordId) (whole : Bool) → n.task ≡ Some t → need_now C n ≡ Some (NeedsStore word whole)
         → written_now C n ≡ written_by C t word whole (entry_of n word.0) }
@@ -72,19 +71,19 @@ pub fn a_node_keeps_its_phase()
     ensures receive { (C : Setting) (n : NodeParts) (m : Message) → is_from_keeper m ≡ false → KeepsPhase n (node_gets C n m).0 }
 {}
 
-/// What it says of a node that it may go on with its instruction, evict a word or arrive.
+/// The facts that `may_instr`, `may_evict` and `may_arrive` imply.
 pub fn a_permission_tells_of_its_node()
     ensures instr { (C : Setting) (n : NodeParts) → may_instr C n ≡ true → MayInstruct C n }
     ensures evict { (C : Setting) (n : NodeParts) (w : ℕ) → may_evict C n w ≡ true → MayEvict C n w }
     ensures arrive { (n : NodeParts) → may_arrive n ≡ true → MayArrive n }
 {}
 
-/// What a node does next by itself may come.
+/// A node's own event may come.
 pub fn an_own_event_may_come()
     ensures { (C : Setting) (n : NodeParts) (e : Event) → own_event C n ≡ Some e → MayCome C n e }
 {}
 
-/// An instruction is the row of its need; what it changes, sends and reads follows, part by part, from the need and from the
+/// An instruction is the row of its need. What it changes, sends and reads follows, part by part, from the need and from the
 /// entry of the word that it accesses.
 pub fn an_instruction_part_by_part()
     ensures row { (C : Setting) (n : NodeParts) (d : TaskDecl) (t : TaskState) (x : Need) → declared C.program n.phase n.core ≡ Some d → n.task ≡ Some t → need_now C n ≡ Some x
@@ -94,7 +93,8 @@ pub fn an_instruction_part_by_part()
     ensures task { (C : Setting) (d : TaskDecl) (t : TaskState) (x : Need) (e : Option Entry) → need_of C.program d C.fuel t ≡ x → Retires t x e (task_by C t x e) }
 {}
 
-/// A grant of the lock that the node waits for: its task acquires the lock, and each entry and each signature is judged alone.
+/// A grant of the lock that the node waits for: its task acquires the lock. The new entry of each word depends only on its old
+/// one, and so does each signature.
 pub fn a_grant_part_by_part()
     ensures row { (C : Setting) (n : NodeParts) (t : TaskState) (lock : LockId) (s : Signature) → n.waiting ≡ Locking lock → n.task ≡ Some t
         → node_gets C n (Grant lock s) ≡ holds_now C n t lock s }
@@ -106,7 +106,8 @@ pub fn a_grant_part_by_part()
         → Acquires C t lock (advanced C.program t) }
 {}
 
-/// The next phase begins: each entry is judged alone, every signature is empty, and the task has retired nothing and holds no lock.
+/// The next phase begins: the new entry of each word depends only on its old one, every signature is empty, and the task has
+/// retired nothing and holds no lock.
 pub fn a_phase_begins_part_by_part()
     ensures row { (C : Setting) (n : NodeParts) (phase : PhaseId) → n.arrived ≡ true → n.halted ≡ false → phase.0 ≡ n.phase + 1 → phase.0 < length C.program.phases
         → node_gets C n (Go phase) ≡ becomes (begins C n phase.0) }
@@ -116,14 +117,14 @@ pub fn a_phase_begins_part_by_part()
     ensures task { (C : Setting) (n : NodeParts) (phase : ℕ) → (retired_so_far (begins C n phase).task ≡ 0) × (held_locks (begins C n phase).task ≡ 0) }
 {}
 
-/// A node's signatures are of its phase, and a store notes its word in that of each lock.
+/// A node's signatures are of its phase, and a store puts its word into those of the locks that guard it.
 pub fn signatures_are_of_the_phase()
     ensures tag { (C : Setting) (n : NodeParts) (lock : ℕ) → Fits C n → tag (signature_of n lock) ≡ n.phase }
     ensures stored { (C : Setting) (n : NodeParts) (d : TaskDecl) (t : TaskState) (word : WordId) (e : Entry) (lock : ℕ) → lock < length n.signatures
         → signature_of (stored C n d t word e) lock ≡ noted_at d t.held word.0 n.phase lock (signature_of n lock) }
 {}
 
-/// A node fits its context as a run begins and after every event.
+/// A node fits its context when a run begins, and after every event.
 pub fn a_node_stays_fit()
     ensures initial { (C : Setting) (core : ℕ) → core < C.shape.cores → Fits C (initial_node C core) }
     ensures instr { (C : Setting) (n : NodeParts) → Fits C n → may_instr C n ≡ true → Fits C (instructed C n).0 }
@@ -132,7 +133,7 @@ pub fn a_node_stays_fit()
     ensures receive { (C : Setting) (n : NodeParts) (m : Message) → Fits C n → Fits C (node_gets C n m).0 }
 {}
 
-/// What a node sends goes to an actor of the machine, and names a word, a lock and a core of it.
+/// What a node sends goes to an actor of the machine, and names a word, a lock and a core of the machine.
 pub fn mails_are_of_the_machine()
     ensures instr { (C : Setting) (n : NodeParts) → IsContext C → n.core < C.shape.cores → may_instr C n ≡ true → IfSome (instructed C n).1.sent (IsFor C) }
     ensures evict { (C : Setting) (n : NodeParts) (word : WordId) → IsContext C → n.core < C.shape.cores → word.0 < length C.program.memory → IfSome (evicted C n word).1 (IsFor C) }
@@ -140,8 +141,8 @@ pub fn mails_are_of_the_machine()
     ensures receive { (C : Setting) (n : NodeParts) (m : Message) → IsContext C → NamesOwn C m → IfSome (node_gets C n m).1.sent (IsFor C) }
 {}
 
-/// A node that is neither halted nor has arrived and has nothing to do by itself waits for a value or for a lock, or has an
-/// entry that is pending or leaving; where a value has come for it, its instruction may go on.
+/// A node that isn't halted, hasn't arrived and has no own event waits for a value or a lock, or has an entry that is pending
+/// or leaving. If the value of a word has come, its instruction may come.
 pub fn a_still_node_waits()
     ensures { (C : Setting) (n : NodeParts) → Fits C n → 0 < C.shape.ways → n.arrived ≡ false → n.halted ≡ false → IsStill C n
         → ((word : WordId) → n.waiting ≡ Filled word → lets n (need_now C n) ≡ true) → IsWaiting n }

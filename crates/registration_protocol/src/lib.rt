@@ -1,6 +1,6 @@
-//! A node: a core with its task, its private cache, its wait, its signatures and its flags, and what it does by itself and
-//! with each message. The states of words, registration and the drop at a phase's end are DeNovo's (PACT 2011), queue locks
-//! and signatures DeNovoND's (ASPLOS 2013); what is finer is this project's own.
+//! A node: a core with its task, its private cache, its wait, its signatures and its flags. This crate says what it does by
+//! itself and with each message. The states of words, registration, and the drop of copies at a phase's end are DeNovo's (PACT
+//! 2011). Queue locks and signatures are DeNovoND's (ASPLOS 2013). Finer details are this project's own.
 #![tactic(auto)]
 
 mod instr;

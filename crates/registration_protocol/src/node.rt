@@ -23,7 +23,7 @@ pub enum NodeWait {
     None,
     /// The value of a word.
     Reading(WordId),
-    /// Nothing: the value of the word is there, and the instruction that asked for it is still to complete.
+    /// Nothing: the value of the word has come, and the instruction that asked for it still has to be completed.
     Filled(WordId),
     /// The grant of a lock.
     Locking(LockId),
@@ -36,7 +36,7 @@ pub struct Step {
     pub seen: Option<LoadSeen>,
 }
 
-/// What a message makes a node send, and the lock that it is granted by it.
+/// What a node sends on a message, and the lock that it is granted by it.
 #[derive(Clone, Copy, Debug, PartialEq, Eq)]
 pub struct Received {
     pub sent: Option<Outgoing>,
@@ -64,7 +64,7 @@ impl Model for Node {
     ghost view = { λ n. record { core = n.core.0; phase = n.phase.0; task = n.task; cache = n.cache; waiting = n.wait; signatures = n.signatures; arrived = n.arrived; halted = n.halted } };
 }
 
-/// What a message brings about that sends nothing and grants nothing.
+/// The result of a message that sends nothing and grants nothing.
 pub(crate) fn nothing() -> Received
     ensures { result ≡ record { sent = None; granted = None } }
 {
@@ -74,7 +74,7 @@ pub(crate) fn nothing() -> Received
     }
 }
 
-/// What a message brings about that makes the node send a message to a core.
+/// The result of a message on which the node sends a message to a core.
 fn send(core: CoreId, message: Message) -> Received
     ensures { result ≡ record { sent = to_core core message; granted = None } }
 {
@@ -93,8 +93,8 @@ pub(crate) fn send_home(context: &Context<'_>, number: u32, message: Message) ->
 }
 
 impl Node {
-    /// The node of a core as a run begins: in phase 0 with its task, or halted where the program has no phases. The core is
-    /// below the cores of the context's shape.
+    /// The node of a core when a run begins: in phase 0 with its task, or halted if the program has no phases. The core must be
+    /// below the number of cores of the context's shape.
     ///
     /// # Errors
     /// `Memory` where there is no room.
@@ -117,7 +117,7 @@ impl Node {
         })
     }
 
-    /// The entry of a word in the node's cache; None exactly where it has none. Takes no memory.
+    /// The entry of a word in the node's cache; None exactly if it has none. Takes no memory.
     pub fn entry(&self, word: WordId) -> Option<Entry>
         ensures { result ≡ entry_of self.now word.0 }
     {
@@ -162,7 +162,7 @@ impl Node {
         Some(context.decoded.need(task, declared, context.fuel))
     }
 
-    /// Whether the node's flags and its wait let an instruction go on.
+    /// Whether the node's flags and its wait allow an instruction.
     pub(crate) fn is_ready(&self) -> bool
         ensures { result ≡ (is_active self.now && is_ready self.now.waiting) }
     {
@@ -170,14 +170,15 @@ impl Node {
         !(self.halted || self.arrived) && ready
     }
 
-    /// Whether the node's next instruction may go on. Takes no memory.
+    /// Whether the node's next instruction may come. Takes no memory.
     pub fn may_instr(&self, context: &Context<'_>) -> bool
         ensures { result ≡ may_instr (setting context.now) self.now }
     {
         self.is_ready() && self.outlook(self.need(context)).is_clear()
     }
 
-    /// The node arrives at the barrier, and tells the keeper whether its task was bad. It may. Takes no memory.
+    /// The node, which must be allowed to (`may_arrive`), arrives at the barrier, and tells the keeper whether its task was
+    /// bad. Takes no memory.
     pub fn arrive(&mut self) -> Outgoing
         requires { may_arrive self.old ≡ true }
         ensures node { self.new ≡ (arrives self.old).0 }
@@ -193,7 +194,7 @@ impl Node {
         Outgoing::to_keeper(Message::Arrived { core, bad })
     }
 
-    /// The value of a word that the node waits for comes: it becomes a copy, where the word has no entry and its set has room.
+    /// The value of a word comes for which the node waits. It becomes a copy if the word has no entry and its set has room.
     fn fill(&mut self, word: WordId, value: u32)
         ensures { self.new ≡ (fills self.old word value (entry_of self.old word.0)).0 }
     {
@@ -222,8 +223,8 @@ impl Node {
         nothing()
     }
 
-    /// A read is forwarded to the node: the value goes to the reader where the node has it for sure, and else the read goes
-    /// back to the word's home.
+    /// A read is forwarded to the node: it sends the value to the reader if it has the word registered or leaving, otherwise
+    /// it sends the read back to the word's home.
     pub(crate) fn read(&self, context: &Context<'_>, word: WordId, reader: CoreId) -> Received
         requires { 0 < (setting context.now).shape.banks }
         ensures { result ≡ (read_fwd_row (setting context.now) self.now word reader (entry_of self.now word.0)).1 }
@@ -240,7 +241,7 @@ impl Node {
         }
     }
 
-    /// Evicts a word: a copy goes, and a registered word is given back to its home.
+    /// Evicts a word: a copy is removed, and a registered word is written back to its home.
     pub(crate) fn give_up(&mut self, context: &Context<'_>, word: WordId) -> Option<Outgoing>
         requires { 0 < (setting context.now).shape.banks }
         ensures node { self.new ≡ (evicted (setting context.now) self.old word).0 }
@@ -278,7 +279,7 @@ impl Node {
         nothing()
     }
 
-    /// The home of a word says that the core is its registrant.
+    /// The home of a word, or its earlier registrant, says that the core is its registrant.
     pub(crate) fn acknowledged(&mut self, word: WordId) -> Received
         ensures node { self.new ≡ (reg_ack_row self.old word (entry_of self.old word.0)).0 }
         ensures received { result ≡ (reg_ack_row self.old word (entry_of self.old word.0)).1 }
@@ -311,7 +312,7 @@ impl Node {
         send(core, Message::RegAck { word })
     }
 
-    /// The home of a word has had it back.
+    /// The home of a word acknowledges the write-back.
     pub(crate) fn given_back(&mut self, word: WordId) -> Received
         ensures node { self.new ≡ (wb_ack_row self.old word (entry_of self.old word.0)).0 }
         ensures received { result ≡ (wb_ack_row self.old word (entry_of self.old word.0)).1 }

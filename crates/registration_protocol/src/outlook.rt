@@ -8,26 +8,26 @@ use dn_base::WordId;
 use rv_core::Need;
 use word_cache::{Entry, Probe};
 
-/// What a node's cache and its entries say of the next instruction.
+/// What a node's cache says of the next instruction.
 #[derive(Clone, Copy, Debug)]
 pub(crate) enum Outlook {
-    /// It may go on.
+    /// It may come.
     Goes,
-    /// It may not, and no eviction helps: there is none, or its word is leaving, or an entry is pending.
+    /// It may not, and no eviction would help: there is no instruction, or its word is leaving, or an entry is pending.
     Stalls,
     /// It may not: its word has no entry, and the word's set has no room.
     Lacks(WordId),
 }
 
 impl Outlook {
-    /// Whether the instruction may go on.
+    /// Whether the instruction may come.
     pub(crate) fn is_clear(&self) -> bool
         ensures { result ≡ is_clear self.now }
     {
         matches!(self, Outlook::Goes)
     }
 
-    /// The word that lacks a place, if one does.
+    /// The word that lacks a place in the cache, if there is one.
     pub(crate) fn lacked(&self) -> Option<WordId>
         ensures { result ≡ lacked self.now }
     {

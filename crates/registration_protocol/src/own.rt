@@ -37,7 +37,7 @@ impl Node {
         }
     }
 
-    /// Whether the node's flags and its wait let it evict a word.
+    /// Whether the node's flags and its wait allow it to evict a word.
     fn is_idle(&self) -> bool
         ensures { result ≡ (is_active self.now && waits_for_nothing self.now.waiting) }
     {
@@ -69,7 +69,8 @@ impl Node {
         self.may_make_room(context, word, self.outlook(self.need(context)).lacked())
     }
 
-    /// Evicts a word, which may be evicted: a copy goes, and a registered word goes back to its home. Takes no memory.
+    /// Evicts a word, which must be allowed (`may_evict`): a copy is removed, and a registered word is written back to its
+    /// home. Takes no memory.
     pub fn evict(&mut self, context: &Context<'_>, word: WordId) -> Option<Outgoing>
         requires context { IsContext (setting context.now) }
         requires fits { Fits (setting context.now) self.old }
@@ -92,8 +93,8 @@ impl Node {
         }
     }
 
-    /// The eviction that the node makes next, whose next instruction lacks a place for the wanted word, if there is one. The
-    /// cache's victim is of that word's set, and may go, so neither is tested. The context is there for the clauses alone.
+    /// The eviction that the node makes next, if its next instruction lacks a place for the wanted word. The cache's victim is
+    /// in that word's set and may be evicted, so neither is tested. The context is there only for the clauses.
     fn eviction(&self, context: &Context<'_>, wanted: Option<WordId>) -> Option<Event>
         requires wanted { wanted ≡ wanted_by self.now (need_now (setting context.now) self.now) }
         ensures value { result ≡ eviction (setting context.now) self.now }
@@ -107,7 +108,7 @@ impl Node {
         }
     }
 
-    /// The node's arrival, where it may arrive.
+    /// The node's arrival, if it may arrive.
     fn arrival(&self) -> Option<Event>
         ensures value { result ≡ arrival self.now }
         ensures none { (result ≡ None) ↔ (may_arrive self.now ≡ false) }
@@ -119,14 +120,14 @@ impl Node {
         }
     }
 
-    /// What the node does next by itself: its instruction where that may go on, else the eviction of the cache's victim for
-    /// the word that lacks a place, else its arrival at the barrier. Takes no memory.
+    /// The node's next own event: its instruction if that may come, otherwise the eviction of the cache's victim for the word
+    /// that lacks a place, otherwise its arrival at the barrier. Takes no memory.
     pub fn own(&self, context: &Context<'_>) -> Option<Event>
         requires context { IsContext (setting context.now) }
         requires fits { Fits (setting context.now) self.now }
         ensures event { result ≡ own_event (setting context.now) self.now }
 
-        // None exactly where none of its events may come
+        // None exactly if none of its own events may come
         ensures none { (result ≡ None) ↔ IsStill (setting context.now) self.now }
     {
         let outlook = self.outlook(self.need(context));

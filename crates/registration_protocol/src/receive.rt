@@ -17,7 +17,7 @@ use message_net::Message;
 use region_table::PhasePlan;
 use write_signature::Signature;
 
-/// The signature, or the empty one of the phase where it is of another.
+/// The signature, or the empty one of the phase if it is of another phase.
 fn own_phase(signature: Signature, phase: PhaseId) -> Signature
     ensures { result ≡ in_phase phase.0 signature }
 {
@@ -49,7 +49,7 @@ impl Node {
         }
     }
 
-    /// The lock that the node waits for is granted to its task.
+    /// The node's task gets the lock that the node waits for.
     fn hold(&mut self, context: &Context<'_>, lock: LockId, signature: Signature) -> Received
         requires fits { Fits (setting context.now) self.old }
         requires lock { need_now (setting context.now) self.old ≡ Some (NeedsAcquire lock) }
@@ -89,7 +89,7 @@ impl Node {
         }
     }
 
-    /// Drops what the node's phase leaves stale, and takes the marks off.
+    /// Drops the copies that may be stale after the node's phase, and removes the marks.
     fn drop_written(&mut self, context: &Context<'_>)
         requires { self.old.phase < length (setting context.now).plans }
         ensures { self.new ≡ keeping self.old (dropped_written (written_in (slice_get (setting context.now).plans self.old.phase)) self.old.cache.pairs) }
@@ -150,10 +150,10 @@ impl Node {
         }
     }
 
-    /// What a message makes the node do: the values of words, the answers of words' homes, reads that other cores are to be
-    /// answered, grants of locks, and the keeper's Go and Halt.
+    /// What a node does on a message: the value of a word, an acknowledgement, a forwarded registration or read, the grant of a
+    /// lock, or the keeper's Go and Halt.
     ///
-    /// A message that comes where none of these says anything changes nothing and sends nothing. Takes no memory.
+    /// A message that has no row in the table `node_gets` changes nothing and sends nothing. Takes no memory.
     pub fn receive(&mut self, context: &Context<'_>, message: Message) -> Received
         requires context { IsContext (setting context.now) }
         requires fits { Fits (setting context.now) self.old }

@@ -8,11 +8,11 @@ use dn_base::{CoreId, PhaseId, Shape};
 use region_table::{PhasePlan, Program, TaskDecl};
 use rv_core::{DecodedProgram, TaskState};
 
-/// What a node's calls are told: the program with its decoded code, the plans of its phases, the machine's size, and how many
+/// What a node's calls are given: the program with its decoded code, the plans of its phases, the machine's size, and how many
 /// instructions a task may retire.
 ///
-/// The calls ask that the plans are the program's, that there are as many cores as the program needs, 1 to 16 banks, 1 to 256
-/// sets and 1 to 16 ways, and that the fuel is 1 to 32,768.
+/// The calls require that the plans are the program's, that there are as many cores as the program needs, 1 to 16 banks, 1 to
+/// 256 sets and 1 to 16 ways, and that the fuel is 1 to 32,768.
 #[derive(Clone, Copy)]
 pub struct Context<'a> {
     pub decoded: &'a DecodedProgram,
@@ -33,8 +33,8 @@ fn find_in(tasks: &[TaskDecl], core: CoreId) -> Option<&TaskDecl>
     None
 }
 
-/// The task that the program declares for the core in the phase, if it does. Where each core below it has a task, it stands
-/// at the place of the core's number.
+/// The task that the program declares for the core in the phase, if it declares one. It is looked for first at the index of the
+/// core's number, where it stands if every core below has a task.
 pub(crate) fn declaration(program: &Program, phase: PhaseId, core: CoreId) -> Option<&TaskDecl>
     ensures value { option_copied result ≡ declared program.now phase.0 core.0 }
     ensures locks { length program.now.locks ≤ 32 }

@@ -40,7 +40,7 @@ fn is_guarded(sets: &[WordSet], lock: usize, word: WordId) -> bool
     }
 }
 
-/// Whether a lock is among those that are held.
+/// Whether a lock is held.
 fn is_held(held: u32, lock: u32) -> bool
     requires { lock < 32 }
     ensures { result ≡ is_held held lock }
@@ -56,8 +56,8 @@ fn stores_under(task: &TaskDecl, held: u32, lock: usize, word: WordId) -> bool
     is_held(held, lock as u32) && is_guarded(task.effects.guarded_writes.as_slice(), lock, word)
 }
 
-/// Notes a store to the word in the signature of this lock, where the task holds the lock and the lock guards the word for
-/// its stores.
+/// Puts the word of a store into the signature of this lock, if the task holds the lock and the lock guards the word for its
+/// stores.
 fn note_at(
     signatures: &mut Sequence<Signature>,
     task: &TaskDecl,
@@ -77,7 +77,7 @@ fn note_at(
     }
 }
 
-/// Notes a store to the word in the signature of each lock that the task holds and that guards the word for its stores.
+/// Puts the word of a store into the signature of each lock that the task holds and that guards the word for its stores.
 pub(crate) fn note(
     signatures: &mut Sequence<Signature>,
     task: &TaskDecl,

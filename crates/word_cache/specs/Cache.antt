@@ -1,4 +1,4 @@
--- A cache of words as its calls are described: the pairs of a word and its entry, the least recently used first.
+-- A cache of words as its contracts describe it: a list of pairs of a word and its entry, the least recently used first.
 use Rattle.std.specs.Prelude.{◌≡◌, ℕ, ◌%◌, ◌≤◌, Bool, true, false, not, ◌&&◌, ◌||◌, ◌==◌, nat_lt, List, [], ◌∷◌, ◌++◌, map, Option, Some, None, if◌then◌else◌, count_by}
 use Rattle.std.specs.List.{filter, find}
 use Rattle.std.specs.Option.{option_map}
@@ -43,7 +43,7 @@ abbrev pub lookup : ℕ → List Pair → Option Entry
 lookup w [] = None
 lookup w (p ∷ ps) = if is_of w p then Some p.1 else lookup w ps
 
--- no two pairs are of one word: after a pair none is of its word
+-- no two pairs are of the same word
 abbrev pub AreDifferent : List Pair → Type 0
 AreDifferent [] = Unit {0}
 AreDifferent (p ∷ ps) = (lookup p.0.0 ps ≡ None) × AreDifferent ps
@@ -52,15 +52,15 @@ AreDifferent (p ∷ ps) = (lookup p.0.0 ps ≡ None) × AreDifferent ps
 abbrev pub without : ℕ → List Pair → List Pair
 without w ps = filter (λ (p : Pair). not (is_of w p)) ps
 
--- the word has this entry, and is the one used last
+-- the word has this entry, and its pair is the most recently used
 abbrev pub put : WordId → Entry → List Pair → List Pair
 put word e ps = without word.0 ps ++ (word, e) ∷ []
 
--- the word's entry becomes this one, and its pair keeps its place
+-- the word's entry becomes this one; its pair keeps its place in the order of use
 abbrev pub changed : ℕ → Entry → List Pair → List Pair
 changed w e ps = map (λ (p : Pair). if is_of w p then (p.0, e) else p) ps
 
--- the word's pair, if it has one, is the one used last
+-- the word's pair, if it has one, is the most recently used
 abbrev pub used : WordId → Option Entry → List Pair → List Pair
 used word None ps = ps
 used word (Some e) ps = put word e ps
@@ -76,18 +76,18 @@ set_count sets w ps = count_by (shares_set sets w) ps
 abbrev pub has_room : Cache → ℕ → Bool
 has_room c w = nat_lt (set_count c.sets w c.pairs) c.ways
 
--- what a probe for a word tells: its entry; or that it has none, and whether its set has room
+-- what a probe for a word tells: its entry, or that it has none and whether its set has room
 abbrev pub IsProbe : Probe → Option Entry → Bool → Type 0
 IsProbe (Hit place e) entry room = entry ≡ Some e
 IsProbe (Room place) entry room = (entry ≡ None) × (room ≡ true)
 IsProbe Full entry room = (entry ≡ None) × (room ≡ false)
 
--- what holds of every cache: no two pairs are of one word, and no set has more pairs than it may have
+-- what holds of every cache: no two pairs are of the same word, and no set has more pairs than ways
 pub record IsCache (c : Cache) : Type 0 where
   pub apart : AreDifferent c.pairs
   pub within : (w : ℕ) → set_count c.sets w c.pairs ≤ c.ways
 
--- whether an entry is pending, and whether it may be evicted: Valid, or Registered and not pending
+-- whether an entry is pending, and whether it may be evicted: it is Valid, or Registered and not pending
 abbrev pub is_pending : Entry → Bool
 is_pending (Registered value pending) = pending
 is_pending _ = false
@@ -119,13 +119,13 @@ victim_of c w = option_map (λ (p : Pair). p.0) (find (gives_way c.sets w) c.pai
 abbrev pub pending_count : List Pair → ℕ
 pending_count ps = count_by (λ (p : Pair). is_pending p.1) ps
 
--- how many of them a word's entry is
+-- 1 if a word's entry is pending, else 0
 abbrev pub pending_bit : Option Entry → ℕ
 pending_bit None = 0
 pending_bit (Some e) = if is_pending e then 1 else 0
 
--- what a core keeps at a phase's end of the words that the phase may have written: every entry but a Valid one that is
--- not marked
+-- which entries of words that the phase may have written a core keeps when the phase ends: all but Valid ones that aren't
+-- marked
 abbrev pub is_kept : Entry → Bool
 is_kept (Valid value marked) = marked
 is_kept _ = true
@@ -133,7 +133,7 @@ is_kept _ = true
 abbrev pub stays : List Interval → Pair → Bool
 stays words p = is_kept p.1 || not (has words p.0.0)
 
--- no Valid entry is marked in the next phase
+-- in the next phase no Valid entry is marked
 abbrev pub unmarked : Entry → Entry
 unmarked (Valid value marked) = Valid value false
 unmarked (Registered value pending) = Registered value pending
@@ -142,7 +142,7 @@ unmarked (Leaving value) = Leaving value
 abbrev pub dropped_written : List Interval → List Pair → List Pair
 dropped_written words ps = map (λ (p : Pair). (p.0, unmarked p.1)) (filter (stays words) ps)
 
--- what a core keeps at a grant: every entry but a Valid one of a guarded word that the signature may hold
+-- which entries a core keeps at a grant: all but Valid ones of words that the lock guards and the signature may hold
 abbrev pub is_valid : Entry → Bool
 is_valid (Valid value marked) = true
 is_valid _ = false
@@ -153,8 +153,8 @@ is_fresh signature phase words p = not (is_valid p.1 && has words p.0.0 && may_h
 abbrev pub dropped_signed : Signature → ℕ → List Interval → List Pair → List Pair
 dropped_signed signature phase words ps = filter (is_fresh signature phase words) ps
 
--- what is left of a word's entry at a phase's end, and at a grant: columns of `dropped_written` and `dropped_signed`, for
--- the law `each_entry_is_judged_alone`
+-- a word's entry after a phase's end, and after a grant: columns of `dropped_written` and `dropped_signed`, for the law
+-- `each_entry_is_judged_alone`
 abbrev pub entry_after_phase : List Interval → ℕ → Option Entry → Option Entry
 entry_after_phase words w None = None
 entry_after_phase words w (Some e) = if is_kept e || not (has words w) then Some (unmarked e) else None

@@ -18,9 +18,9 @@ use std::alloc::Global;
 use std::marker::Model;
 use write_signature::Signature;
 
-/// The private cache of a core: at most `ways` words in each of its `sets` sets. Word `w` is of set `w mod sets`.
+/// The private cache of a core: at most `ways` words in each of its `sets` sets. Word `w` is in set `w mod sets`.
 ///
-/// A contract sees the pairs of a word and its entry, the least recently used first.
+/// Contracts see a list of pairs of a word and its entry, the least recently used first.
 #[derive(Debug, Drop)]
 pub struct WordCache {
     sets: u32,
@@ -61,7 +61,7 @@ fn empty_places(alloc: Global, sets: u32, ways: u32) -> Result<Vec<Place>, Memor
 }
 
 impl WordCache {
-    /// A cache without pairs, of 1 to 256 sets and 1 to 16 ways. All its places are made here.
+    /// An empty cache of 1 to 256 sets and 1 to 16 ways. All its places are allocated here.
     ///
     /// # Errors
     /// `Memory` where there is no room for them.
@@ -94,15 +94,15 @@ impl WordCache {
         self.ways
     }
 
-    /// The word's entry; None exactly where the word has no pair. It looks at the word's set alone, and takes no memory.
+    /// The word's entry; None exactly if the word has no pair. It looks only at the word's set, and takes no memory.
     pub fn get(&self, word: WordId) -> Option<Entry>
         ensures { result ≡ lookup word.0 self.now.pairs }
     {
         entry_of(&self.places, self.sets, self.ways, word)
     }
 
-    /// The word's entry, or whether its set has room where it has none: one pass over the word's set tells what `get` and
-    /// `room` tell. Takes no memory.
+    /// The word's entry; or if it has none, whether its set has room. One pass over the word's set tells what `get` and `room`
+    /// tell. Takes no memory.
     pub fn probe(&self, word: WordId) -> Probe
         ensures { IsProbe result (lookup word.0 self.now.pairs) (has_room self.now word.0) }
     {
@@ -116,8 +116,8 @@ impl WordCache {
         has_free(&self.places, self.sets, self.ways, word)
     }
 
-    /// The word that was used least recently among those of the word's set that are Valid, or Registered and not pending;
-    /// None exactly where there is none. Takes no memory.
+    /// The least recently used word of the word's set that may be evicted: its entry is Valid, or Registered and not pending.
+    /// None exactly if there is none. Takes no memory.
     pub fn victim(&self, word: WordId) -> Option<WordId>
         ensures value { result ≡ victim_of self.now word.0 }
         ensures evictable { IfSome result (λ w. may_go (lookup w.0 self.now.pairs) ≡ true) }
@@ -125,8 +125,8 @@ impl WordCache {
         victim_in(self.places.as_slice(), self.sets, self.ways, word)
     }
 
-    /// The places of a set, which is below the sets: as many as a set may have pairs. They have the set's pairs, and their
-    /// numbers of last use differ and rise along the list of pairs. Takes no memory.
+    /// The places of a set with a number below `sets`: one for each way. Their pairs are those of the set, and their numbers of
+    /// last use differ and rise in the order of the pairs. Takes no memory.
     pub fn places(&self, set: u32) -> &[Place]
         requires { set < self.now.sets }
         ensures count { length result.now ≡ self.now.ways }
@@ -147,7 +147,7 @@ impl WordCache {
         pairs_by_use(alloc, self.places(set))
     }
 
-    /// What holds of every cache: a word has one pair at most, and a set has no more pairs than ways. Does nothing.
+    /// What holds of every cache: a word has at most one pair, and a set has no more pairs than ways. It has no effect.
     pub fn pairs_are_apart(&self)
         ensures { IsCache self.now }
     {
@@ -155,15 +155,15 @@ impl WordCache {
         let _row = self.places.as_slice();
     }
 
-    /// How many entries are pending. It looks at no place, and takes no memory.
+    /// How many entries are pending. A counter is kept, so no place is looked at. Takes no memory.
     pub fn pending(&self) -> u32
         ensures { result ≡ pending_count self.now.pairs }
     {
         self.places.pending() as u32
     }
 
-    /// Gives the word this entry; its pair is the one used last then. The word has a pair, or its set has room. Takes no
-    /// memory.
+    /// Gives the word this entry, and makes its pair the most recently used. The word must have a pair, or its set room. Takes
+    /// no memory.
     pub fn set(&mut self, word: WordId, entry: Entry)
         requires { (is_some (lookup word.0 self.old.pairs) || has_room self.old word.0) ≡ true }
         ensures { self.new ≡ record self.old { pairs = put word entry self.old.pairs } }
@@ -171,8 +171,8 @@ impl WordCache {
         self.set_at(None, word, entry);
     }
 
-    /// As `set`. Where the hint is the place that the last probe of the word gave, no other place is looked at; none and any
-    /// other number serve too.
+    /// As `set`. If the hint is the place that the last probe of the word gave, no other place is looked at. Any other hint, or
+    /// None, gives the same result.
     pub fn set_at(&mut self, hint: Option<usize>, word: WordId, entry: Entry)
         requires { (is_some (lookup word.0 self.old.pairs) || has_room self.old word.0) ≡ true }
         ensures { self.new ≡ record self.old { pairs = put word entry self.old.pairs } }
@@ -188,9 +188,9 @@ impl WordCache {
         );
     }
 
-    /// Gives the word, which has no pair, this entry; its pair is the one used last then. Its set has room. Where the hint is the
-    /// place that the last probe of the word gave, no other place is looked at; none and any other number serve too. Takes no
-    /// memory.
+    /// Gives the word, which must have no pair, this entry, and makes its pair the most recently used. Its set must have room.
+    /// If the hint is the place that the last probe of the word gave, no other place is looked at. Any other hint, or None,
+    /// gives the same result. Takes no memory.
     pub fn add_at(&mut self, hint: Option<usize>, word: WordId, entry: Entry)
         requires none { lookup word.0 self.old.pairs ≡ None }
         requires room { has_room self.old word.0 ≡ true }
@@ -207,7 +207,8 @@ impl WordCache {
         );
     }
 
-    /// Gives the word's pair this entry; the pair keeps its place in the order of use. The word has a pair. Takes no memory.
+    /// Gives the word's pair this entry; the pair keeps its place in the order of use. The word must have a pair. Takes no
+    /// memory.
     pub fn change(&mut self, word: WordId, entry: Entry)
         requires { lookup word.0 self.old.pairs ≢ None }
         ensures { self.new ≡ record self.old { pairs = changed word.0 entry self.old.pairs } }
@@ -215,8 +216,8 @@ impl WordCache {
         self.change_at(None, word, entry);
     }
 
-    /// As `change`. Where the hint is the place that the last probe of the word gave, no other place is looked at; none and any
-    /// other number serve too.
+    /// As `change`. If the hint is the place that the last probe of the word gave, no other place is looked at. Any other hint,
+    /// or None, gives the same result.
     pub fn change_at(&mut self, hint: Option<usize>, word: WordId, entry: Entry)
         requires { lookup word.0 self.old.pairs ≢ None }
         ensures { self.new ≡ record self.old { pairs = changed word.0 entry self.old.pairs } }
@@ -224,7 +225,7 @@ impl WordCache {
         change_entry(&mut self.places, self.sets, self.ways, hint, word, entry);
     }
 
-    /// Makes the word's pair the one used last. The word has a pair. Takes no memory.
+    /// Makes the word's pair the most recently used. The word must have a pair. Takes no memory.
     pub fn touch(&mut self, word: WordId)
         requires { lookup word.0 self.old.pairs ≢ None }
         ensures { self.new ≡ record self.old { pairs = touched word self.old.pairs } }
@@ -232,8 +233,8 @@ impl WordCache {
         self.touch_at(None, word);
     }
 
-    /// As `touch`. Where the hint is the place that the last probe of the word gave, no other place is looked at; none and any
-    /// other number serve too.
+    /// As `touch`. If the hint is the place that the last probe of the word gave, no other place is looked at. Any other hint,
+    /// or None, gives the same result.
     pub fn touch_at(&mut self, hint: Option<usize>, word: WordId)
         requires { lookup word.0 self.old.pairs ≢ None }
         ensures { self.new ≡ record self.old { pairs = touched word self.old.pairs } }
@@ -248,33 +249,33 @@ impl WordCache {
         );
     }
 
-    /// Takes the word's pair out, where there is one. Takes no memory.
+    /// Removes the word's pair, if it has one. Takes no memory.
     pub fn remove(&mut self, word: WordId)
         ensures { self.new ≡ record self.old { pairs = without word.0 self.old.pairs } }
     {
         self.remove_at(None, word);
     }
 
-    /// As `remove`. Where the hint is the place that the last probe of the word gave, no other place is looked at; none and any
-    /// other number serve too.
+    /// As `remove`. If the hint is the place that the last probe of the word gave, no other place is looked at. Any other hint,
+    /// or None, gives the same result.
     pub fn remove_at(&mut self, hint: Option<usize>, word: WordId)
         ensures { self.new ≡ record self.old { pairs = without word.0 self.old.pairs } }
     {
         take_out(&mut self.places, self.sets, self.ways, hint, word);
     }
 
-    /// Drops what a phase leaves stale: the Valid pairs that aren't marked and whose word is in the set. Every other Valid
-    /// pair is then not marked. The order of the pairs stays. Takes no memory.
+    /// Drops what may be stale after a phase: the Valid pairs that aren't marked and whose word is in the set. The other Valid
+    /// pairs lose their marks. The order of the pairs stays. Takes no memory.
     pub fn drop_written(&mut self, words: &WordSet)
         ensures { self.new ≡ record self.old { pairs = dropped_written words.now self.old.pairs } }
     {
         sweep_phase(&mut self.places, words);
     }
 
-    /// Drops what may be stale at a grant: the Valid pairs whose word is in the set and may have been written in this phase
-    /// under the lock, as the signature says. All other pairs keep their order. It looks at no place where the cache has no
-    /// Valid pair or the signature holds no word of this phase. Else it looks up the set's words where they are no more than
-    /// the cache's sets, and at every place where they are more. Takes no memory.
+    /// Drops what may be stale at a grant: the Valid pairs whose word is in the set and, by the signature, may have been
+    /// written under the lock in this phase. The other pairs keep their order. If the cache has no Valid pair, or the signature
+    /// holds no word of this phase, no place is looked at. Otherwise it looks up each word of the set if these are no more than
+    /// the cache's sets, and else goes through all places. Takes no memory.
     pub fn drop_signed(&mut self, signature: &Signature, phase: PhaseId, words: &WordSet)
         ensures { self.new ≡ record self.old { pairs = dropped_signed signature.now phase.0 words.now self.old.pairs } }
     {

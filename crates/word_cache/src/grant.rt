@@ -93,7 +93,7 @@ fn drop_each(
     }
 }
 
-/// Whether intervals have so many words at most.
+/// Whether the intervals together have at most `most` words.
 fn are_within(intervals: &[Interval], most: usize) -> bool
     ensures { result ≡ nat_le (interval_words intervals.now) most }
 {
@@ -108,8 +108,8 @@ fn are_within(intervals: &[Interval], most: usize) -> bool
     true
 }
 
-/// Drops what may be stale at a grant. A word takes a look at one set and a sweep at all of them, so it goes word by word
-/// where the words are no more than the sets, else place by place.
+/// Drops what may be stale at a grant. A look-up of a word passes over one set, and a sweep over all of them. So it goes word
+/// by word if the words are no more than the sets, otherwise place by place.
 fn drop_listed(
     places: &mut Row,
     sets: u32,
@@ -129,7 +129,7 @@ fn drop_listed(
     }
 }
 
-/// Whether a pair may be stale at a grant: there is a copy, and the signature has a bit of this phase.
+/// Whether some pair may be stale at a grant: there is a copy, and the signature has a bit of this phase.
 fn may_have_stale(places: &Row, signature: &Signature, phase: PhaseId) -> bool
     ensures { result ≡ false → (words : List Interval) → dropped_signed signature.now phase.0 words (pairs_by_use places.now) ≡ pairs_by_use places.now }
 {

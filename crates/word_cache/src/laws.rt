@@ -1,5 +1,5 @@
 //! What the changes of a cache's list come to, for proofs about a core's entries.
-//! These are laws: functions that do nothing, whose contracts say it.
+//! A law is a function without effect; its contract states the theorem.
 ghost use Rattle.std.specs.Prelude.{◌≡◌, ◌≢◌, ℕ, ◌+◌, ◌%◌, ◌<◌, ◌≤◌, ◌==◌, ◌||◌, Bool, true, false, Some, None, List, [], if◌then◌else◌, count_by};
 ghost use Rattle.std.specs.Option.{option_map, is_some};
 ghost use Rattle.dn_base.specs.declared.ids.WordId.{WordId};
@@ -8,8 +8,7 @@ ghost use Rattle.write_signature.specs.declared.signature.Signature.{Signature};
 ghost use Rattle.word_cache.specs.declared.row.Entry.{Entry};
 ghost use Rattle.word_cache.specs.Cache.{Cache, IsCache, with_pairs, Pair, AreDifferent, lookup, without, put, changed, touched, has_room, is_stuck, victim_of, pending_count, pending_bit, dropped_written, dropped_signed, entry_after_phase, entry_after_grant};
 
-/// What a word has after another entry is put for some word, changed or taken out: those words alone change. A use changes
-/// no word's entry.
+/// The entries of words after an entry is put, changed or removed: only the entry of that word changes. A use changes no entry.
 pub fn an_entry_changes_alone()
     ensures put { (word : WordId) (e : Entry) (v : ℕ) (ps : List Pair) → lookup v (put word e ps) ≡ (if word.0 == v then Some e else lookup v ps) }
     ensures without { (w v : ℕ) (ps : List Pair) → lookup v (without w ps) ≡ (if w == v then None else lookup v ps) }
@@ -17,13 +16,13 @@ pub fn an_entry_changes_alone()
     ensures touched { (word : WordId) (v : ℕ) (ps : List Pair) → lookup v (touched word ps) ≡ lookup v ps }
 {}
 
-/// What is left of each word's entry at a phase's end and at a grant.
+/// The entry of each word after a phase's end and after a grant: it depends only on that word's entry before.
 pub fn each_entry_is_judged_alone()
     ensures phase { (words : List Interval) (v : ℕ) (ps : List Pair) → AreDifferent ps → lookup v (dropped_written words ps) ≡ entry_after_phase words v (lookup v ps) }
     ensures grant { (s : Signature) (phase : ℕ) (words : List Interval) (v : ℕ) (ps : List Pair) → AreDifferent ps → lookup v (dropped_signed s phase words ps) ≡ entry_after_grant s phase words v (lookup v ps) }
 {}
 
-/// How many entries are pending after each change: what is put or changed counts anew, what goes counts no more.
+/// The number of pending entries after each change.
 pub fn pending_entries_are_counted()
     ensures put { (word : WordId) (e : Entry) (ps : List Pair) → AreDifferent ps → pending_count (put word e ps) + pending_bit (lookup word.0 ps) ≡ pending_count ps + pending_bit (Some e) }
     ensures without { (w : ℕ) (ps : List Pair) → AreDifferent ps → pending_count (without w ps) + pending_bit (lookup w ps) ≡ pending_count ps }
@@ -35,7 +34,7 @@ pub fn pending_entries_are_counted()
     ensures none { (ps : List Pair) → AreDifferent ps → ((w : ℕ) → pending_bit (lookup w ps) ≡ 0) → pending_count ps ≡ 0 }
 {}
 
-/// Each change leaves a cache: the words of its pairs differ, and no set has more pairs than it may have.
+/// Each change leaves a cache: its pairs are of different words, and no set has more pairs than ways.
 pub fn a_cache_stays_a_cache()
     ensures empty { (sets ways : ℕ) → IsCache (record { sets = sets; ways = ways; pairs = [] }) }
     ensures put { (c : Cache) (word : WordId) (e : Entry) → IsCache c → (is_some (lookup word.0 c.pairs) || has_room c word.0) ≡ true → IsCache (with_pairs c (put word e c.pairs)) }
@@ -46,7 +45,7 @@ pub fn a_cache_stays_a_cache()
     ensures grant { (c : Cache) (s : Signature) (phase : ℕ) (words : List Interval) → IsCache c → IsCache (with_pairs c (dropped_signed s phase words c.pairs)) }
 {}
 
-/// Where a set is full and has no victim, one of its words is pending or leaving.
+/// If a set is full and has no victim, one of its words is pending or leaving.
 pub fn a_full_set_waits()
     ensures { (c : Cache) (w : ℕ) → IsCache c → 0 < c.ways → has_room c w ≡ false → victim_of c w ≡ None → (v : ℕ) × (v % c.sets ≡ w % c.sets) × (is_stuck (lookup v c.pairs) ≡ true) }
 {}

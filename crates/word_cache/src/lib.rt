@@ -1,8 +1,8 @@
-//! The private cache of a core: words with their states, in sets of a few places each.
+//! The private cache of a core: words with their states, in sets of up to 16 places.
 //!
-//! The states are DeNovo's (PACT 2011): a word without a pair is Invalid, and else Valid or Registered; an entry that is
-//! given back and not yet acknowledged is Leaving, which is this project's own. The mark of a Valid entry is the article's
-//! touched bit.
+//! The states are DeNovo's (PACT 2011): a word without a pair is Invalid, otherwise it is Valid or Registered. Leaving is this
+//! project's own state: the word was written back, and its home hasn't acknowledged that yet. The mark of a Valid entry is the
+//! article's touched bit.
 #![tactic(auto)]
 
 mod cache;

@@ -36,7 +36,7 @@ pub(crate) fn find_word(row: &Row, sets: u32, ways: u32, word: WordId) -> Found
     let mut own: Option<usize> = None;
     let mut free: Option<usize> = None;
 
-    // goes on where the pair is found: an exit that depends on the word costs more than the places after it
+    // the loop goes on after the pair is found: an exit that depends on the word costs more than looking at the places after it
     for index in start..start + ways as usize {
         if row.has_word(index, word) {
             own = Some(index);
@@ -80,7 +80,7 @@ pub(crate) fn spot_of(row: &Row, sets: u32, ways: u32, word: WordId) -> Spot
     }
 }
 
-/// As `spot_of`. The hint is where the word's pair may stand: where it stands there, no other place is looked at.
+/// As `spot_of`. The hint is where the word's pair may be; if it is there, no other place is looked at.
 pub(crate) fn spot_near(row: &Row, sets: u32, ways: u32, word: WordId, hint: Option<usize>) -> Spot
     requires { IsPlaceRow sets ways row.now }
     ensures { IsSpot sets ways word.0 row.now result }
@@ -119,8 +119,8 @@ pub(crate) fn entry_at(row: &[Place], place: usize) -> Option<Entry>
     }
 }
 
-/// The place for the word's pair: the one that it has, or a free one of its set. The word has a pair, or its set has room. The
-/// hint is where its pair may stand.
+/// The place for the word's pair: the place that it has, or a free one of its set. The word has a pair, or its set has room.
+/// The hint is where its pair may be.
 pub(crate) fn choose(row: &Row, sets: u32, ways: u32, word: WordId, hint: Option<usize>) -> usize
     requires row { IsPlaceRow sets ways row.now }
     requires room { (is_some (lookup word.0 (pairs_by_use row.now)) || nat_lt (set_count sets word.0 (pairs_by_use row.now)) ways) ≡ true }
@@ -135,7 +135,7 @@ pub(crate) fn choose(row: &Row, sets: u32, ways: u32, word: WordId, hint: Option
     }
 }
 
-/// A place for the pair of a word that has none, whose set has room. The hint is a place of the set that may be free: where it
+/// A place for the pair of a word that has none, and whose set has room. The hint is a place of the set that may be free; if it
 /// is, no other place is looked at.
 pub(crate) fn choose_free(
     row: &Row,
@@ -160,7 +160,7 @@ pub(crate) fn choose_free(
     }
 }
 
-/// The one that was used earlier of the best place so far and this one.
+/// Of the best place so far and this one, the one that was used earlier.
 fn earlier_of(row: &[Place], best: Option<usize>, index: usize) -> usize
     requires index { index < length row.now }
     requires best { IfSome best (λ k. k < length row.now) }
@@ -197,7 +197,7 @@ pub(crate) fn victim_place(row: &[Place], sets: u32, ways: u32, word: WordId) ->
     best
 }
 
-/// The place with the least time from this one on; None where every place was used before it.
+/// The place with the least time that is at least `time`; None if every place was used before it.
 pub(crate) fn least_from(row: &[Place], time: u64) -> Option<usize>
     ensures { IsLeastUsed (is_from time) row.now 0 (length row.now) result }
 {

@@ -10,11 +10,11 @@ use std::marker::Model;
 /// What a core's cache has for a word.
 #[derive(Clone, Copy, Debug, PartialEq, Eq)]
 pub enum Entry {
-    /// A copy of the word; `marked` where the core has read it in this phase by its plain effects.
+    /// A copy of the word. `marked` says that the core's task has read it in this phase by its plain effects.
     Valid { value: u32, marked: bool },
-    /// The core is the word's registrant; `pending` until its home has said so.
+    /// The core is the word's registrant. `pending` says that the home hasn't acknowledged it yet.
     Registered { value: u32, pending: bool },
-    /// The word goes back to its home, with this value, and the home hasn't said that it has it.
+    /// The word was written back to its home with this value, and the home hasn't acknowledged that yet.
     Leaving(u32),
 }
 
@@ -44,9 +44,9 @@ impl Entry {
 /// What a cache has for a word.
 #[derive(Clone, Copy, Debug, PartialEq, Eq)]
 pub enum Probe {
-    /// The word has this entry. `place` is a hint: the calls that take it find the word's pair at once.
+    /// The word has this entry. `place` is a hint, with which later calls find the word's pair at once.
     Hit { place: usize, entry: Entry },
-    /// The word has no entry, and its set has room for one. `place` is a hint: `add_at` finds the room at once.
+    /// The word has no entry, and its set has room for one. `place` is a hint, with which `add_at` finds the room at once.
     Room { place: usize },
     /// The word has no entry, and its set has no room for one.
     Full,
@@ -59,10 +59,10 @@ pub struct Place {
     pub used: u64,
 }
 
-/// The places of a cache. Beside them are kept the words alone, since a pass over a set reads those, which lie closer
-/// together; and how many places have a pending entry, and how many a copy.
+/// The places of a cache. The words are also stored by themselves: a pass over a set reads only those, and they lie closer
+/// together. Counters tell how many places have a pending entry, and how many a copy.
 ///
-/// A contract sees the list of places.
+/// Contracts see the list of places.
 #[derive(Debug, Drop)]
 pub(crate) struct Row {
     places: Vec<Place>,
@@ -110,7 +110,7 @@ fn has_copy(place: &Place) -> bool
     matches!(place.pair, Some((_, Entry::Valid { .. })))
 }
 
-/// How many places pass a test, once one that did or didn't is replaced by one that does or doesn't.
+/// How many places pass a test after one place is replaced: `did` and `does` tell whether the old and the new place pass it.
 fn recount(count: usize, did: bool, does: bool) -> usize
     requires did { (if did then 1 else 0) ≤ count }
     requires count { count < 9223372036854775808 }

@@ -6,7 +6,7 @@ use dn_base::{PhaseId, WordId};
 use region_table::WordSet;
 use write_signature::Signature;
 
-/// What is left of a pair at a phase's end.
+/// The pair after a phase's end.
 fn pair_kept(pair: Option<(WordId, Entry)>, words: &WordSet) -> Option<(WordId, Entry)>
     ensures { result ≡ pair_after_phase words.now pair }
 {
@@ -28,7 +28,7 @@ fn pair_kept(pair: Option<(WordId, Entry)>, words: &WordSet) -> Option<(WordId, 
     }
 }
 
-/// Drops what a phase leaves stale, place by place.
+/// Drops what may be stale after a phase, place by place.
 pub(crate) fn sweep_phase(places: &mut Row, words: &WordSet)
     ensures { places.new ≡ map (after_phase words.now) places.old }
 {

@@ -7,8 +7,8 @@ use crate::row::{Place, Row};
 /// The last time of the clock.
 pub(crate) const LAST: u64 = u64::MAX;
 
-/// Numbers the times of a row's places from 1 in their order, and gives the next time. Takes no memory: the place with the
-/// least time that isn't renumbered yet gets the next number, until none is left.
+/// Numbers the times of a row's places from 1 in their order, and gives the next time. Takes no memory: in each step the place
+/// with the least time that isn't renumbered yet gets the next number.
 fn renumber(places: &mut Row, sets: u32, ways: u32) -> u64
     requires { IsPlaceRow sets ways places.old }
     ensures row { IsPlaceRow sets ways places.new }
@@ -27,7 +27,7 @@ fn renumber(places: &mut Row, sets: u32, ways: u32) -> u64
     time
 }
 
-/// A time after those of all places. Only where the clock stands at its last time, all are numbered from 1 again.
+/// A time after those of all places. Only if the clock is at its last time, all places are numbered from 1 again.
 fn free_time(places: &mut Row, clock: u64, sets: u32, ways: u32) -> u64
     requires { IsCacheRow sets ways clock places.old }
     ensures row { IsPlaceRow sets ways places.new }
@@ -44,7 +44,7 @@ fn free_time(places: &mut Row, clock: u64, sets: u32, ways: u32) -> u64
     }
 }
 
-/// A time after those of all places, and the clock after it.
+/// A time after those of all places; the clock moves on to the next.
 pub(crate) fn tick(places: &mut Row, clock: &mut u64, sets: u32, ways: u32) -> u64
     requires { IsCacheRow sets ways clock.old places.old }
     ensures row { IsPlaceRow sets ways places.new }
