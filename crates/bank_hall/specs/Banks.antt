@@ -1,4 +1,4 @@
--- A bank that callers share: what one call of it answers and leaves.
+-- A bank that callers share: what one call of it answers, and what it leaves.
 use Rattle.std.specs.Prelude.{ℕ, ◌+◌, List, Option, Some, None}
 use Rattle.message_net.specs.declared.actor.Actor.{Actor}
 use Rattle.message_net.specs.declared.actor.Actor.TheVariants.{Bank}
@@ -14,7 +14,7 @@ use Rattle.bank_hall.specs.declared.bank.BankOut.TheVariants.{Kept, Stepped}
 use Rattle.bank_hall.specs.Stamps.{may_handle, stamp_after, handling_note}
 use Rattle.bank_hall.specs.Inbox.{with_mail, picked_out}
 
--- a bank with its inbox, the number of its next mail, and its clock
+-- a bank, its inbox, the number of its next mail, and its clock
 pub record BankState : Type 0 where
   pub bank : BankParts
   pub inbox : List Posted
@@ -34,12 +34,12 @@ abbrev pub reply_of : Actor → ℕ → ℕ → Option Outgoing → Option Poste
 reply_of actor next stamp None = None
 reply_of actor next stamp (Some out) = Some (record { mail = mail_of actor next out; stamp = stamp })
 
--- the number of its mail after that
+-- the number of the actor's next mail after that
 abbrev pub next_after : ℕ → Option Outgoing → ℕ
 next_after next None = next
 next_after next (Some out) = next + 1
 
--- A mail was taken, and left this inbox. The bank is then what `row` has first, and sends what `row` has second
+-- A mail was taken from the inbox, which is now this one. `row` has the bank after it, and what the bank sends
 abbrev pub bank_row : BankState → Posted → List Posted → BankParts × Option Outgoing → BankState × Option Handled
 bank_row s p inbox row = (
   record { bank = row.0; inbox = inbox; next = next_after s.next row.1; clock = stamp_after s.clock p },
@@ -53,14 +53,14 @@ abbrev pub bank_handles : BankState → Option Posted × List Posted → BankSta
 bank_handles s (None, inbox) = (s, None)
 bank_handles s (Some p, inbox) = bank_row s p inbox (bank_gets s.bank p.mail.message)
 
--- a step takes the mail that the pick names and handles it; where there is none, or the bank is spent, it changes nothing
+-- a step takes the mail that the pick names, and handles it; if there is none, or the bank is spent, it changes nothing
 abbrev pub bank_steps : BankState → ℕ → BankState × Option Handled
 bank_steps s pick = bank_handles s (picked_out (may_handle s.clock s.next) s.inbox pick)
 
 abbrev pub bank_stepped : BankState × Option Handled → BankState × BankOut
 bank_stepped row = (row.0, Stepped row.1)
 
--- what a call leaves and answers: a mail is put into the inbox, or there is one step
+-- what a call leaves and answers: a mail is put into the inbox, or a step is made
 unfoldable pub bank_call : BankState → BankIn → BankState × BankOut
 bank_call s (Post p) = (record s { inbox = with_mail s.inbox p }, Kept)
 bank_call s (Step pick) = bank_stepped (bank_steps s pick)

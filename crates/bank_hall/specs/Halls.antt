@@ -68,7 +68,7 @@ pub record Calls : Type 0 where
   pub ports : ℕ → List PortEntry
   pub keeper : List KeeperEntry
 
--- the pass made these calls more
+-- the pass made exactly these further calls
 pub record HasMadeCalls (old new : PassView) (more : Calls) : Type 0 where
   pub banks : (b : ℕ) → made_of new.banks b ≡ made_of old.banks b ++ more.banks b
   pub ports : (c : ℕ) → made_of new.ports c ≡ made_of old.ports c ++ more.ports c
@@ -118,7 +118,8 @@ keeper_answer s input = (keeper_call s input).1
 abbrev pub keeper_next : KeeperState → KeeperIn → KeeperState
 keeper_next s input = (keeper_call s input).0
 
--- one call of a bank by a pass, by what it is given and answers: the pass has seen a history that ends with it, and its other passes are as before
+-- one call of a bank by a pass, with its input and output: the pass has seen a history that ends with this call, and its other
+-- passes are as before
 pub record BankCall (hall : HallView) (bank : ℕ) (input : BankIn) (output : BankOut) (old new : PassView) : Type 0 where
   pub call : HasCalled bank_state bank_answer bank_next hall.banks bank (entry (pass_number old) input output) old.banks.passes new.banks.passes
   pub ports : new.ports ≡ old.ports
@@ -144,7 +145,7 @@ PostCall hall p Keeper old new = KeeperCall hall (keeper_in.TheVariants.Post p) 
 abbrev pub IsInboxOf : Actor → List Posted → Type 0
 IsInboxOf actor inbox = All (λ (p : Posted). (p.mail.to ≡ actor) × (p.stamp ≤ 2 ^ 63)) inbox
 
--- what a hall may begin with
+-- the parts that a hall may be started with
 pub record AreHallParts (banks : List BankActorParts) (ports : List PortParts) (keeper : KeeperActorParts) : Type 0 where
   pub some_bank : 1 ≤ length banks
   pub few_banks : length banks ≤ 16

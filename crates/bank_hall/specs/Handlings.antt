@@ -1,4 +1,5 @@
--- What an actor did in a history of its calls: the mails that it handled, in their order, and what it told of each. Only laws
+-- What an actor did in a history of its calls: the mails that it handled, in order, and what it told of each. Only laws cite
+-- this.
 -- speak of it.
 use Rattle.std.specs.Prelude.{◌≡◌, ℕ, ◌^◌, ◌<◌, ◌≤◌, Bool, true, List, [], ◌∷◌, ◌++◌, All, Option, Some, None}
 use Rattle.std.specs.List.{AllPairs}
@@ -37,8 +38,8 @@ module _ {N : Type 0} where
   handling_of (Some p) (Some told) = record { mail = p; told = told } ∷ []
   handling_of _ _ = []
 
-  -- An actor with this clock handled these mails one after the other: each stamp exceeds the clock, the mail's stamp and the
-  -- stamps before it, none is above 2^63, and each tells of this actor
+  -- An actor with this clock handled these mails one after the other. Each stamp is greater than the clock, the mail's stamp
+  -- and the stamps before it. None is above 2^63, and each tells of this actor
   pub record AreStamped (stamped : N → Stamped) (actor : Actor) (clock : ℕ) (handlings : List (Handling N)) : Type 0 where
     pub rising : AllPairs (λ (g h : Handling N). (stamped g.told).stamp < (stamped h.told).stamp) handlings
     pub later : All (λ (h : Handling N). (clock < (stamped h.told).stamp) × (h.mail.stamp < (stamped h.told).stamp)) handlings
@@ -46,7 +47,7 @@ module _ {N : Type 0} where
     pub own : All (λ (h : Handling N). (stamped h.told).actor ≡ actor) handlings
 
 module _ {S N : Type 0} where
-  -- From one state to another the actor may handle each of these mails when its time comes, and tells just this of it
+  -- From one state to another, the actor may handle each of these mails in turn, and tells exactly this of it
   abbrev pub GoesByMails : (S → Posted → Bool) → (S → Posted → S × Option N) → S → List (Handling N) → S → Type 0
   GoesByMails may does s [] end = s ≡ end
   GoesByMails may does s (h ∷ hs) end = ((may s h.mail ≡ true) × ((does s h.mail).1 ≡ Some h.told)) × GoesByMails may does (does s h.mail).0 hs end

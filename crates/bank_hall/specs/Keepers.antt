@@ -1,4 +1,4 @@
--- The keeper that callers share: what one call of it answers and leaves.
+-- The keeper that callers share: what one call of it answers, and what it leaves.
 use Rattle.std.specs.Prelude.{ℕ, ◌+◌, ◌*◌, List, length, Option, Some, None}
 use Rattle.message_net.specs.declared.actor.Actor.TheVariants.{Keeper}
 use Rattle.phase_barrier.specs.declared.keeper.Verdict.{Verdict}
@@ -13,7 +13,7 @@ use Rattle.bank_hall.specs.Stamps.{may_handle, stamp_after, handling_note}
 use Rattle.bank_hall.specs.Inbox.{with_mail, picked_out}
 use Rattle.bank_hall.specs.Note.{KeeperNote}
 
--- a keeper with its inbox, the number of its next mail, and its clock
+-- a keeper, its inbox, the number of its next mail, and its clock
 pub record KeeperState : Type 0 where
   pub keeper : Barrier
   pub inbox : List Posted
@@ -29,7 +29,7 @@ pub record KeeperActorParts : Type 0 where
 abbrev pub next_after_verdict : KeeperState → Verdict → ℕ
 next_after_verdict s verdict = s.next + letter_count verdict * length s.keeper.arrived
 
--- A mail was taken, and left this inbox. The keeper is then what `row` has first, with the verdict that `row` has second
+-- A mail was taken from the inbox, which is now this one. `row` has the keeper after it, and the verdict
 abbrev pub keeper_row : KeeperState → Posted → List Posted → Barrier × Verdict → KeeperState × Option KeeperNote
 keeper_row s p inbox row = (
   record { keeper = row.0; inbox = inbox; next = next_after_verdict s row.1; clock = stamp_after s.clock p },
@@ -40,14 +40,14 @@ abbrev pub keeper_handles : KeeperState → Option Posted × List Posted → Kee
 keeper_handles s (None, inbox) = (s, None)
 keeper_handles s (Some p, inbox) = keeper_row s p inbox (keeper_gets s.keeper p.mail.message)
 
--- a step takes the mail that the pick names and handles it; where there is none, or the keeper is spent, it changes nothing
+-- a step takes the mail that the pick names, and handles it; if there is none, or the keeper is spent, it changes nothing
 abbrev pub keeper_steps : KeeperState → ℕ → KeeperState × Option KeeperNote
 keeper_steps s pick = keeper_handles s (picked_out (may_handle s.clock s.next) s.inbox pick)
 
 abbrev pub keeper_stepped : KeeperState × Option KeeperNote → KeeperState × KeeperOut
 keeper_stepped row = (row.0, Stepped row.1)
 
--- what a call leaves and answers: a mail is put into the inbox, or there is one step
+-- what a call leaves and answers: a mail is put into the inbox, or a step is made
 unfoldable pub keeper_call : KeeperState → KeeperIn → KeeperState × KeeperOut
 keeper_call s (Post p) = (record s { inbox = with_mail s.inbox p }, Kept)
 keeper_call s (Step pick) = keeper_stepped (keeper_steps s pick)

@@ -1,4 +1,4 @@
--- A core's inbox that callers share: what one call of it answers and leaves.
+-- A core's inbox that callers share: what one call of it answers, and what it leaves.
 use Rattle.std.specs.Prelude.{ℕ, List, Option}
 use Rattle.bank_hall.specs.declared.posted.Posted.{Posted}
 use Rattle.bank_hall.specs.declared.port.PortIn.{PortIn}
@@ -16,7 +16,7 @@ pub record PortParts : Type 0 where
 abbrev pub port_taken : Option Posted × List Posted → List Posted × PortOut
 port_taken row = (row.1, Taken row.0)
 
--- what a call leaves and answers: a mail is put into the inbox, or the one that the pick names is taken
+-- what a call leaves and answers: a mail is put into the inbox, or the mail that the pick names is taken
 unfoldable pub port_call : List Posted → PortIn → List Posted × PortOut
 port_call inbox (Post p) = (with_mail inbox p, Kept)
 port_call inbox (Take pick) = port_taken (picked_out is_early inbox pick)

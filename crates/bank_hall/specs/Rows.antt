@@ -31,12 +31,12 @@ module _ {O I U : Type 0} where
   abbrev pub no_call : ℕ → List (Entry O I U)
   no_call i = []
 
-  -- the caller made these calls more, of each object
+  -- the caller made exactly these further calls of each object
   abbrev pub HasMade : Tokens O I U → Tokens O I U → (ℕ → List (Entry O I U)) → Type 0
   HasMade old new more = (i : ℕ) → made_of new i ≡ made_of old i ++ more i
 
--- A call of the object at a place. The caller's pass of it has then seen a history that a single thread could have made. It
--- begins with what the pass had seen and ends with this call, whose answer is the object's for what it holds there
+-- A call of the object at an index. The caller's pass of it has then seen a history that a single thread could have made. It
+-- begins with what the pass had seen, and ends with this call, whose answer is that of the object's content at that point
 pub record HasCalled {O I U C : Type 0} (content : O → C) (answer : C → I → U) (next : C → I → C) (turns : List (Sharing O)) (place : ℕ) (call : Entry O I U) (old new : List (Token O I U)) : Type 0 where
   pub turn : Sharing O
   pub before : Token O I U
@@ -70,25 +70,27 @@ module _ {O I U : Type 0} where
   AreNew turns number [] = Unit {0}
   AreNew turns number (c ∷ cs) = IsNew turns number c × AreNew turns (number + 1) cs
 
-  -- each caller has one pass more, before its others
+  -- each caller has one more pass, before its others
   abbrev pub handed : List (Tokens O I U) → List (Token O I U) → List (Tokens O I U)
   handed [] ps = []
   handed (c ∷ cs) [] = c ∷ cs
   handed (c ∷ cs) (p ∷ ps) = record c { passes = p ∷ c.passes } ∷ handed cs ps
 
-  -- each caller has one pass more, after its others
+  -- each caller has one more pass, after its others
   abbrev pub with_passes : List (Tokens O I U) → List (Token O I U) → List (Tokens O I U)
   with_passes [] ps = []
   with_passes (c ∷ cs) [] = c ∷ cs
   with_passes (c ∷ cs) (p ∷ ps) = record c { passes = c.passes ++ p ∷ [] } ∷ with_passes cs ps
 
-  -- of each object, the history begins with what the pass has seen, and has of the pass's calls just those that it made, in its order
+  -- for each object, the history begins with what the pass has seen, and its calls by the pass are exactly those that the pass
+  -- made, in order
   abbrev pub AreTold : List (List (Entry O I U)) → List (Token O I U) → Type 0
   AreTold [] [] = Unit {0}
   AreTold (h ∷ hs) (p ∷ ps) = IsTold h p × AreTold hs ps
   AreTold _ _ = ⊥
 
-  -- of each object, a single thread could have made the history, from the object as it began to the one that is handed back, and each call is of one of the passes
+  -- for each object, a single thread could have made the history, from the object at the start to the one that is handed back,
+  -- and each call is of one of the passes
   abbrev pub AreClosed : {C : Type 0} → (O → C) → (C → I → U) → (C → I → C) → List (Sharing O) → List O → List (List (Entry O I U)) → Type 0
   AreClosed content answer next [] [] [] = Unit {0}
   AreClosed content answer next (t ∷ ts) (o ∷ os) (h ∷ hs) =

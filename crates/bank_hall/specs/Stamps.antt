@@ -1,4 +1,4 @@
--- Stamps, and when an actor can go on no longer.
+-- Stamps, and when an actor is spent.
 use Rattle.std.specs.Prelude.{ℕ, ◌+◌, ◌^◌, Bool, ◌&&◌, nat_lt, max, None}
 use Rattle.message_net.specs.declared.actor.Actor.{Actor}
 use Rattle.message_net.specs.declared.event.Event.TheVariants.{Handle}
@@ -11,11 +11,11 @@ use Rattle.bank_hall.specs.declared.posted.Posted.{Posted}
 abbrev pub is_early : Posted → Bool
 is_early p = nat_lt p.stamp (2 ^ 63)
 
--- an actor with this clock and this number for its next mail that isn't spent
+-- an actor with this clock and this number for its next mail isn't spent
 abbrev pub has_numbers_left : ℕ → ℕ → Bool
 has_numbers_left clock next = nat_lt clock (2 ^ 63) && nat_lt next 4294967000
 
--- whether a mail may be taken, by whether its actor goes on
+-- whether a mail may be taken; the first argument says whether its actor isn't spent
 abbrev pub may_take : Bool → Posted → Bool
 may_take going p = going && is_early p
 

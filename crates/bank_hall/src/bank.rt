@@ -9,32 +9,32 @@ use registry_bank::Bank;
 use std::marker::Model;
 use turn_lock::Object;
 
-/// What a bank's step tells its caller: what was noted, and the mail that the bank sends, which the caller is to post.
+/// What a bank's step returns to its caller: its note, and the mail that the bank sends, which the caller has to post.
 #[derive(Clone, Copy, Debug, PartialEq, Eq)]
 pub struct Handled {
     pub stamped: Stamped,
     pub reply: Option<Posted>,
 }
 
-/// What a call of a bank is given: a mail that comes, or the pick of the one that is handled.
+/// The input of a call of a bank: a mail to put in, or the pick of the mail to handle.
 #[derive(Clone, Copy, Debug, PartialEq, Eq)]
 pub enum BankIn {
     Post(Posted),
     Step { pick: u32 },
 }
 
-/// What a call of a bank answers: the mail is in the inbox, or what the step did.
+/// The output of a call of a bank: the mail is in the inbox, or what the step did.
 #[derive(Clone, Copy, Debug, PartialEq, Eq)]
 pub enum BankOut {
     Kept,
-    /// None exactly where the inbox was empty or the bank was spent; nothing changed then.
+    /// None exactly if the inbox was empty or the bank was spent; nothing changed then.
     Stepped(Option<Handled>),
 }
 
 /// A bank of the memory with its inbox, the number of its next mail, and its clock.
 ///
-/// It is spent once its clock has come to 2^63, or the stamp of the mail that is picked has, or its next mail would have the
-/// number 4,294,967,000.
+/// It is spent if its clock or the stamp of the picked mail is 2^63, or if its next mail would have the number 4,294,967,000
+/// (this project's profile).
 #[derive(Drop)]
 pub struct BankActor {
     bank: Bank,
@@ -89,7 +89,7 @@ impl BankActor {
         (bank, inbox, next, clock)
     }
 
-    /// Handles the mail that the pick names, where there is one and the bank isn't spent.
+    /// Handles the mail that the pick names, if there is one and the bank isn't spent.
     fn handle(&mut self, pick: u32) -> Option<Handled>
         ensures state { self.new.state ≡ (bank_steps self.old.state pick).0 }
         ensures handled { result ≡ (bank_steps self.old.state pick).1 }

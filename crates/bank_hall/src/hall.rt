@@ -22,8 +22,8 @@ use std::marker::Model;
 use std::sync::Wait;
 use turn_lock::Entry;
 
-/// The banks, the ports and the keeper of one run, each under a turn of its own. Any number of threads may call through a
-/// `&Hall`, each with a pass of its own.
+/// The banks, the ports and the keeper of one round, each under a turn of its own. Any number of threads may make calls through
+/// a `&Hall`, each with a pass of its own.
 #[derive(Drop)]
 pub struct Hall {
     pub(crate) banks: Row<BankActor>,
@@ -66,13 +66,13 @@ pub struct HallParts {
     pub keeper: KeeperActor,
 }
 
-/// What a hall was when it was closed: its parts, and of each of them all calls that were made of it, in their one order.
+/// What a closed hall gives back: its parts, and all calls of each of them in one order.
 #[derive(Drop)]
 pub struct HallEnd {
     pub parts: HallParts,
-    /// Of the bank at each place.
+    /// The calls of each bank, by its index.
     pub banks: Vec<Vec<Entry<BankActor>>>,
-    /// Of the port at each place.
+    /// The calls of each port, by its index.
     pub ports: Vec<Vec<Entry<Port>>>,
     pub keeper: Vec<Entry<KeeperActor>>,
 }
@@ -149,11 +149,11 @@ fn only(
 impl Hall {
     /// Shares 1 to 16 banks, 1 to 16 ports and the keeper among 1 to 17 callers, whose passes have the numbers from 0 on.
     ///
-    /// The bank at place b has the number b, the keeper as many cores as there are ports, and each mail in an inbox goes to that
-    /// inbox's actor and has a stamp of at most 2^63.
+    /// The bank at index b must have the number b, the keeper as many cores as there are ports, and each mail in an inbox must
+    /// go to that inbox's actor and have a stamp of at most 2^63.
     ///
     /// # Errors
-    /// `Memory` where there is no room; the parts are dropped.
+    /// `Memory` if there is no room; the parts are dropped.
     pub fn start(alloc: Global, parts: HallParts, passes: u32) -> Result<(Hall, Vec<Pass>), Memory>
         requires some { 1 ≤ passes }
         requires few { passes ≤ 17 }
@@ -184,11 +184,11 @@ impl Hall {
         ))
     }
 
-    /// Waits for the turn of a core's port, and takes the mail that the pick names. None exactly where, at the call's place in the
-    /// port's history, the inbox was empty or the picked mail's stamp 2^63 or more.
+    /// Waits for the turn of a core's port, and takes the mail that the pick names. None exactly if, at this call's position in
+    /// the port's history, the inbox was empty or the picked mail's stamp was 2^63 or more.
     ///
     /// # Errors
-    /// `Memory` where there is no room: nothing was taken, and the pass is as before.
+    /// `Memory` if there is no room: nothing was taken, and the pass is as before.
     pub fn take<R: Wait>(
         &self,
         rt: &R,
@@ -214,12 +214,12 @@ impl Hall {
         }
     }
 
-    /// Waits for the turn of a bank, calls the gate within it, and handles the mail that the pick names. What the step told is
-    /// handed back with the mail that the bank sends, which the caller is to post. None exactly where, at the call's place in the
+    /// Waits for the turn of a bank, calls the gate within it, and handles the mail that the pick names. Returns what the step
+    /// did, with the mail that the bank sends, which the caller has to post. None exactly if, at this call's position in the
     /// bank's history, the inbox was empty or the bank was spent.
     ///
     /// # Errors
-    /// `Memory` where there is no room: nothing was handled, and the pass is as before.
+    /// `Memory` if there is no room: nothing was handled, and the pass is as before.
     pub fn bank_step<R: Wait, G: Gate>(
         &self,
         rt: &R,
@@ -248,12 +248,12 @@ impl Hall {
         }
     }
 
-    /// Waits for the turn of the keeper, and handles the mail that the pick names. What the step told is handed back; the caller is
-    /// to post its letters. None exactly where, at the call's place in the keeper's history, the inbox was empty or the keeper
+    /// Waits for the turn of the keeper, and handles the mail that the pick names. Returns what the step did; the caller has to
+    /// post its letters. None exactly if, at this call's position in the keeper's history, the inbox was empty or the keeper
     /// was spent.
     ///
     /// # Errors
-    /// `Memory` where there is no room: nothing was handled, and the pass is as before.
+    /// `Memory` if there is no room: nothing was handled, and the pass is as before.
     pub fn keeper_step<R: Wait>(
         &self,
         rt: &R,
@@ -350,7 +350,7 @@ impl Hall {
     /// Waits for the turn of the actor that the mail goes to, and puts it into that actor's inbox, at the end.
     ///
     /// # Errors
-    /// `Memory` where there is no room: nothing was posted, the pass is as before, and the mail comes back.
+    /// `Memory` if there is no room: nothing was posted, the pass is as before, and the mail is given back.
     pub fn post<R: Wait>(
         &self,
         rt: &R,
@@ -373,12 +373,12 @@ impl Hall {
         }
     }
 
-    /// Ends the sharing, with all passes of the hall: its parts, and of each bank, of each port and of the keeper all calls that
-    /// were made of it, in their one order. A single thread could have made them, and each pass made just those that have its
-    /// number, in its order.
+    /// Ends the sharing, with all passes of the hall. Gives the parts back, and all calls of each bank, each port and the
+    /// keeper in one order. A single thread could have made these calls, and each pass made exactly those with its number, in
+    /// this order.
     ///
     /// # Errors
-    /// `Memory` where there is no room; the hall and the passes are dropped.
+    /// `Memory` if there is no room; the hall and the passes are dropped.
     pub fn close(self, alloc: Global, passes: Vec<Pass>) -> Result<HallEnd, Memory>
         requires { AreAllHallPasses self passes.items }
         ensures banks { IfOk result (λ end. IsClosedRow bank_state bank_answer bank_next self.banks (length passes.items) end.parts.banks.items (map (λ h. h.items) end.banks.items)) }

@@ -11,8 +11,8 @@ use phase_barrier::{Keeper, Verdict};
 use std::marker::Model;
 use turn_lock::Object;
 
-/// What the keeper's step tells its caller: what was noted, the verdict, and the number of the letter to core 0. The letters to
-/// the cores, which the caller is to post, are numbered from there on.
+/// What the keeper's step returns to its caller: its note, the verdict, and the number of the letter to core 0. The letters to
+/// the cores, which the caller has to post, are numbered from there on.
 #[derive(Clone, Copy, Debug)]
 pub struct KeeperHandled {
     pub stamped: Stamped,
@@ -35,7 +35,7 @@ impl Model for KeeperHandled {
 }
 
 impl KeeperHandled {
-    /// The mail that tells a core of the verdict; None exactly at Wait.
+    /// The letter that tells a core the verdict; None exactly for Wait.
     pub fn letter(&self, core: CoreId) -> Option<Posted>
         requires { core.0 < 16 }
         ensures { result ≡ letter_to self.now core.0 }
@@ -49,25 +49,25 @@ impl KeeperHandled {
     }
 }
 
-/// What a call of the keeper is given: a mail that comes, or the pick of the one that is handled.
+/// The input of a call of the keeper: a mail to put in, or the pick of the mail to handle.
 #[derive(Clone, Copy, Debug, PartialEq, Eq)]
 pub enum KeeperIn {
     Post(Posted),
     Step { pick: u32 },
 }
 
-/// What a call of the keeper answers: the mail is in the inbox, or what the step did.
+/// The output of a call of the keeper: the mail is in the inbox, or what the step did.
 #[derive(Clone, Copy, Debug)]
 pub enum KeeperOut {
     Kept,
-    /// None exactly where the inbox was empty or the keeper was spent; nothing changed then.
+    /// None exactly if the inbox was empty or the keeper was spent; nothing changed then.
     Stepped(Option<KeeperHandled>),
 }
 
 /// The keeper of the barrier with its inbox, the number of its next mail, and its clock.
 ///
-/// It is spent once its clock has come to 2^63, or the stamp of the mail that is picked has, or its next mail would have the
-/// number 4,294,967,000.
+/// It is spent if its clock or the stamp of the picked mail is 2^63, or if its next mail would have the number 4,294,967,000
+/// (this project's profile).
 #[derive(Debug, Drop)]
 pub struct KeeperActor {
     keeper: Keeper,
@@ -86,7 +86,7 @@ impl Model for KeeperActor {
     ghost view = { λ k. record { state = record { keeper = k.keeper; inbox = k.inbox.items; next = k.next; clock = k.clock }; spare = vec_capacity k.inbox - vec_len k.inbox } };
 }
 
-/// How many letters a verdict has, where there are so many cores.
+/// How many letters a verdict has, for this number of cores.
 fn letters(verdict: Verdict, cores: u32) -> u32
     ensures { result ≡ letter_count verdict * cores }
 {
@@ -122,7 +122,7 @@ impl KeeperActor {
         (keeper, inbox, next, clock)
     }
 
-    /// Handles the mail that the pick names, where there is one and the keeper isn't spent.
+    /// Handles the mail that the pick names, if there is one and the keeper isn't spent.
     fn handle(&mut self, pick: u32) -> Option<KeeperHandled>
         ensures state { self.new.state ≡ (keeper_steps self.old.state pick).0 }
         ensures handled { result ≡ (keeper_steps self.old.state pick).1 }

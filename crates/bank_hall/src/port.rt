@@ -6,23 +6,23 @@ use dn_base::Memory;
 use std::marker::Model;
 use turn_lock::Object;
 
-/// What a call of a port is given: a mail that comes, or the pick of the one that is taken.
+/// The input of a call of a port: a mail to put in, or the pick of the mail to take.
 #[derive(Clone, Copy, Debug, PartialEq, Eq)]
 pub enum PortIn {
     Post(Posted),
     Take { pick: u32 },
 }
 
-/// What a call of a port answers: the mail is in the inbox, or what was taken of it.
+/// The output of a call of a port: the mail is in the inbox, or the mail that was taken.
 #[derive(Clone, Copy, Debug, PartialEq, Eq)]
 pub enum PortOut {
     Kept,
-    /// None exactly where the inbox was empty, or the picked mail's stamp is 2^63 or more.
+    /// None exactly if the inbox was empty, or the picked mail's stamp was 2^63 or more.
     Taken(Option<Posted>),
 }
 
-/// A core's inbox. A mail comes at its end. A take has the mail at the place that its pick names, modulo how many there are,
-/// and the last mail moves into the free place.
+/// A core's inbox. A mail is put in at its end. A take gives the mail at the pick, modulo the number of mails, and the last
+/// mail moves to its index.
 #[derive(Debug, Drop)]
 pub struct Port {
     inbox: Vec<Posted>,

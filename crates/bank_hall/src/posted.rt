@@ -5,28 +5,28 @@ ghost use Rattle.bank_hall.specs.Inbox.{picked_index, picked_out};
 use grant_log::Stamped;
 use message_net::{Actor, Event, Mail};
 
-/// A mail on its way, with the stamp of the event that sent it.
+/// A mail in flight, with the stamp of the event that sent it.
 #[derive(Clone, Copy, Debug, PartialEq, Eq)]
 pub struct Posted {
     pub mail: Mail,
     pub stamp: u64,
 }
 
-/// From this stamp on a mail isn't handled, and an actor with this clock handles none.
+/// A mail with this stamp or a greater one isn't handled, and an actor with this clock handles none.
 const LAST_STAMP: u64 = 1 << 63;
 
-/// From this number for its next mail on an actor handles no mail.
+/// An actor whose next mail would have this number or a greater one handles no mail.
 const LAST_NUMBER: u32 = 4_294_967_000;
 
-/// Whether an actor with this clock and this number for its next mail isn't spent (this project's profile): both are below the
-/// numbers from which on it does nothing more.
+/// Whether an actor with this clock and this number for its next mail isn't spent: both are below their limits (this project's
+/// profile).
 pub fn has_numbers_left(clock: u64, next: u32) -> bool
     ensures { result ≡ has_numbers_left clock next }
 {
     clock < LAST_STAMP && next < LAST_NUMBER
 }
 
-/// The place that a pick names; None in an empty inbox.
+/// The index that a pick names; None for an empty inbox.
 fn place_of(inbox: &[Posted], pick: u32) -> Option<usize>
     ensures some { IfSome result (λ place. (place ≡ picked_index inbox.now pick) × (place < length inbox.now)) }
     ensures none { IfNone result (slice_get inbox.now (picked_index inbox.now pick) ≡ None) }
@@ -37,8 +37,8 @@ fn place_of(inbox: &[Posted], pick: u32) -> Option<usize>
     Some(pick as usize % inbox.len())
 }
 
-/// Takes the mail that the pick names out of the inbox, where there is one with a stamp below 2^63, and its actor has numbers left.
-/// The last mail moves into the free place.
+/// Takes the mail that the pick names out of the inbox, if there is one, its stamp is below 2^63, and its actor isn't spent.
+/// The last mail moves to its index.
 pub(crate) fn take_picked(inbox: &mut Vec<Posted>, pick: u32, has_numbers: bool) -> Option<Posted>
     ensures mail { result ≡ (picked_out (may_take has_numbers) inbox.old.items pick).0 }
     ensures rest { inbox.new.items ≡ (picked_out (may_take has_numbers) inbox.old.items pick).1 }

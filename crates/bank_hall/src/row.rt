@@ -48,7 +48,7 @@ impl<O: Object> RowPass<O> {
         Ok(())
     }
 
-    /// Gives up the last pass.
+    /// Removes the last pass, and gives it.
     fn give_up(&mut self) -> TurnPass<O>
         requires { 0 < length self.old.passes }
         ensures { self.old ≡ record self.new { passes = self.new.passes ++ result ∷ [] } }
@@ -57,7 +57,7 @@ impl<O: Object> RowPass<O> {
     }
 }
 
-/// Takes the last item.
+/// Removes the last item, and gives it.
 pub(crate) fn take_last<T>(items: &mut Vec<T>) -> T
     requires { 0 < length items.old.items }
     ensures { items.old.items ≡ items.new.items ++ result ∷ [] }
@@ -68,7 +68,7 @@ pub(crate) fn take_last<T>(items: &mut Vec<T>) -> T
     }
 }
 
-/// Takes the last pass of each caller.
+/// Removes the last pass of each caller.
 fn take_column<O: Object>(
     alloc: Global,
     callers: &mut Vec<RowPass<O>>,
@@ -133,7 +133,7 @@ impl<O: Object> Row<O> {
     /// Shares each of the objects among `passes` callers, which have the numbers from 0 on.
     ///
     /// # Errors
-    /// `Memory` where there is no room; the objects are dropped.
+    /// `Memory` if there is no room; the objects are dropped.
     pub(crate) fn start(
         alloc: Global,
         mut objects: Vec<O>,
@@ -157,10 +157,10 @@ impl<O: Object> Row<O> {
         Ok((Row { turns }, all))
     }
 
-    /// Waits for the turn of the object at this place, and makes one call of it. `inside` is called within the turn.
+    /// Waits for the turn of the object at this index, and makes one call of it. `inside` is called within the turn.
     ///
     /// # Errors
-    /// `Memory` where there is no room: no call was made, the caller's passes are as before, and the input comes back.
+    /// `Memory` if there is no room: no call was made, the caller's passes are as before, and the input is given back.
     pub(crate) fn call<R: Wait, F: FnOnce()>(
         &self,
         rt: &R,
@@ -181,10 +181,10 @@ impl<O: Object> Row<O> {
         self.turns[place].call(rt, &mut caller.passes[place], input, inside)
     }
 
-    /// Ends the sharing: the objects, and of each object all calls that were made of it, in their one order.
+    /// Ends the sharing. Gives the objects, and all calls of each object in one order.
     ///
     /// # Errors
-    /// `Memory` where there is no room; all is dropped.
+    /// `Memory` if there is no room; everything is dropped.
     pub(crate) fn close(
         self,
         alloc: Global,

@@ -1,4 +1,4 @@
--- Whose event an event is.
+-- Which actor makes an event.
 use Rattle.std.specs.Prelude.{Option, Some, None}
 use Rattle.message_net.specs.declared.actor.Actor.{Actor}
 use Rattle.message_net.specs.declared.actor.Actor.TheVariants.{Core}
@@ -13,8 +13,8 @@ abbrev pub receiver_of : Option Mail → Option Actor
 receiver_of None = None
 receiver_of (Some m) = Some m.to
 
--- the actor that makes an event: a core makes its own events, and a mail in flight is handled by the actor that it goes to;
--- None where no mail in flight has the id
+-- the actor that makes an event: a core makes its own events, and a mail in flight is handled by its receiver; None if no mail
+-- in flight has the id
 unfoldable pub actor_in : State → Event → Option Actor
 actor_in S (Instr core) = Some (Core core)
 actor_in S (Evict core word) = Some (Core core)

@@ -1,4 +1,4 @@
--- What changes in a machine as events come, as a part of its state.
+-- What events change in a machine: a part of its state.
 use Rattle.std.specs.Prelude.{◌≡◌, ℕ, ◌+◌, ◌-◌, ◌<◌, ◌≤◌, List, ◌++◌, length, map, replicate, slice_get, slice_index, Option, Some, None}
 use Rattle.message_net.specs.declared.actor.Actor.{Actor}
 use Rattle.message_net.specs.declared.event.Event.{Event}
@@ -15,7 +15,7 @@ abbrev pub state_of : Setting → Content → State
 state_of C c =
     record { setting = C; nodes = c.nodes.items; banks = c.banks.items; keeper = c.keeper; mails = c.pool.mails; numbers = c.numbers }
 
--- the own events of the cores in their order, in a row that has a place for each of 16 cores
+-- the own events of the cores in their order, in a row with a place for each of 16 cores
 abbrev pub in_row : List (Option Event) → List (Option Event)
 in_row own = own ++ replicate (16 - length own) None
 
@@ -23,8 +23,8 @@ in_row own = own ++ replicate (16 - length own) None
 abbrev pub KnowsOwn : Setting → Content → Type 0
 KnowsOwn C c = c.own ≡ in_row (map (own_event C) c.nodes.items)
 
--- an actor that has sent so many mails may send more: there is room for a mail to each core, each is counted with 32 bits,
--- and no mail in flight has a number that is still to come
+-- every actor may send more mails: there is room for a mail to each core, the numbers of mails fit 32 bits, and no mail in
+-- flight has a number that is still to be used
 pub record MaySend (S : State) : Type 0 where
   pub room : length S.mails + S.setting.shape.cores < 4294967295
   pub few : (place : ℕ) → slice_index S.numbers place + S.setting.shape.cores < 4294967295

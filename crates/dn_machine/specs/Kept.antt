@@ -1,4 +1,4 @@
--- A machine as its calls' clauses see it.
+-- A machine as the clauses of its calls see it.
 use Rattle.std.specs.Prelude.{◌≡◌, ℕ, ◌≤◌, List, length}
 use Rattle.dn_base.specs.declared.ids.Shape.{Shape}
 use Rattle.region_table.specs.Program.{ProgramParts}
@@ -15,8 +15,8 @@ pub record Made : Type 0 where
   pub state : State
   pub made : ℕ
 
--- events that may come, so many, lead from the initial machine of a checked program to the state, except for the order of its
--- mails in flight
+-- `made` events, each of which may come in its turn, lead from the initial machine of a checked program to the state, except
+-- for the order of the mails in flight
 pub record IsLeftByRun (S : State) (made : ℕ) : Type 0 where
   pub ready : IsReady S.setting
   pub events : List Event
@@ -24,8 +24,8 @@ pub record IsLeftByRun (S : State) (made : ℕ) : Type 0 where
   pub count : length events ≡ made
   pub leads : IsReordered (after (initial_state S.setting) events) S
 
--- what is true of every machine: a run leaves it. So it has 1 to 16 cores, its state is sound and coherent, and it is the
--- initial one where no event has come
+-- what holds of every machine: it is left by a run. So it has 1 to 16 cores, its state is sound and coherent, and it is the
+-- initial one if no event has come
 pub record IsKept (S : State) (made : ℕ) : Type 0 where
   pub left : IsLeftByRun S made
   pub some : 1 ≤ S.setting.shape.cores

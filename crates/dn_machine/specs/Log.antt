@@ -1,4 +1,4 @@
--- What a picked event comes to, and what a run notes of its events.
+-- The result of a picked event, and what a run notes of its events.
 use Rattle.std.specs.Prelude.{◌≡◌, ℕ, List, [], ◌∷◌, ◌++◌, slice_get, Option, Some, None}
 use Rattle.dn_base.specs.declared.ids.CoreId.{CoreId}
 use Rattle.dn_base.specs.declared.ids.Grant.{Grant}
@@ -43,7 +43,7 @@ abbrev pub end_there : State → Option CoreId → Option TaskEnd
 end_there T None = None
 end_there T (Some core) = end_at (slice_get T.nodes core.0)
 
--- an event came in a state: what was observed of it, and how the task of the core that it changed stands then
+-- an event came in state S and led to T: what was observed of it, and how the task of the core that it changed stands then
 pub record HasCome (S T : State) (h : Happened) : Type 0 where
   pub next : T ≡ next S h.event
   pub observed : h.observed ≡ observed S h.event
@@ -67,7 +67,7 @@ with_told event kind granted end log =
 abbrev pub with_event : Happened → Log → Log
 with_event h log = with_told h.event h.observed.kind h.observed.granted h.end log
 
--- an event came in a state, which led to another one, and is the last one of the log now
+-- an event came in state S, led to T, and is now the last one of the log
 pub record CameAndNoted (S T : State) (e : Event) (log more : Log) : Type 0 where
   pub told : Happened
   pub event : told.event ≡ e

@@ -8,7 +8,7 @@ cores_with core [] = []
 cores_with core (None ∷ os) = cores_with (core + 1) os
 cores_with core (Some e ∷ os) = core ∷ cores_with (core + 1) os
 
--- the row has a place for each of 16 cores, and the first so many of these numbers are those of the cores that have an own event
+-- the row has a place for each of 16 cores, and the first `count` numbers are those of the cores that have an own event
 pub record IsListed (own : List (Option Event)) (cores : List ℕ) (count : ℕ) : Type 0 where
   pub whole : length own ≡ 16
   pub listed : take count cores ≡ cores_with 0 own

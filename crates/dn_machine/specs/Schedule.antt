@@ -1,4 +1,4 @@
--- The events of a run by a seed.
+-- The events that a seed picks.
 use Rattle.std.specs.Prelude.{◌≡◌, ℕ, List, [], ◌∷◌, Some, None}
 use Rattle.rand_core.specs.Pcg32Seed.{pcg32_seed}
 use Rattle.rand_pcg.specs.Lcg.{Lcg}
@@ -18,17 +18,17 @@ word_of g = (pcg32 g).0
 unfoldable pub after_word : Lcg → Lcg
 after_word g = (pcg32 g).1
 
--- the generator after so many words
+-- the generator after as many words as there are events
 abbrev pub after_words : List Event → Lcg → Lcg
 after_words [] g = g
 after_words (e ∷ es) g = after_words es (after_word g)
 
--- each event is the one that the next word of the generator picks in its turn
+-- each event is the one that the generator's next word picks in its turn
 abbrev pub ArePicked : State → Lcg → List Event → Type 0
 ArePicked S g [] = Unit {0}
 ArePicked S g (e ∷ es) = (pick S (word_of g) ≡ Some e) × ArePicked (next S e) (after_word g) es
 
--- the events are those that the words of the generator pick one after another, until none is picked
+-- the events are those that the generator's words pick one after the other, until no event may come
 abbrev pub IsPicked : State → Lcg → List Event → Type 0
 IsPicked S g [] = pick S (word_of g) ≡ None
 IsPicked S g (e ∷ es) = (pick S (word_of g) ≡ Some e) × IsPicked (next S e) (after_word g) es

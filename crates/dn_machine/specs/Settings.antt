@@ -1,4 +1,4 @@
--- What the machine of a program, a shape and a fuel is told.
+-- The setting of a program, a shape and a fuel.
 use Rattle.std.specs.Prelude.{◌≡◌, ℕ, List}
 use Rattle.dn_base.specs.declared.ids.Shape.{Shape}
 use Rattle.region_table.specs.Program.{ProgramParts}
@@ -9,7 +9,7 @@ use Rattle.machine_rules.specs.State.{initial_state}
 use Rattle.machine_rules.specs.Runs.{IsRun}
 use Rattle.dn_machine.specs.Plans.{AreInOneForm}
 
--- the program with its plans, the shape and the fuel; there is one such setting
+-- the program with its plans, the shape and the fuel; there is exactly one such setting
 pub record IsSettingOf (P : ProgramParts) (machine : Shape) (most : ℕ) (C : Setting) : Type 0 where
   pub program : C.program ≡ P
   pub plans : ArePlans P C.plans

@@ -8,7 +8,7 @@ use crate::machine::Machine;
 use crate::posting::next_number;
 use message_net::{Actor, Event, Mail, MailId, Pool};
 
-/// The mail with this id, which is in flight.
+/// The mail in flight with this id; there is one.
 fn mail_with(pool: &Pool, id: MailId) -> Mail
     requires { 1 ≤ count_of id pool.now.mails }
     ensures { (removed id pool.now.mails).0 ≡ Some result }

@@ -13,7 +13,7 @@ pub(crate) fn generator(seed: u64) -> Pcg32
     Pcg32::seed_from_u64(seed)
 }
 
-/// The next word of a generator, with which it goes on to the word after.
+/// The next word of a generator, which moves on to the word after it.
 #[tactic(auto, unfolding(crate::specs::Schedule::word_of, crate::specs::Schedule::after_word))]
 pub fn draw(generator: &mut Pcg32) -> u32
     ensures word { result ≡ word_of generator.old }

@@ -1,5 +1,5 @@
 //! What a pick tells of a state, and what a complete run comes to, for proofs about runs.
-//! These are laws: functions that do nothing, whose contracts say it.
+//! A law is a function without effect; its contract states the theorem.
 ghost use Rattle.std.specs.Prelude.{◌≡◌, ◌↔◌, ℕ, List, Some, None, true};
 ghost use Rattle.message_net.specs.declared.event.Event.{Event};
 ghost use Rattle.registration_protocol.specs.Node.{Setting};
@@ -12,20 +12,20 @@ ghost use Rattle.dn_machine.specs.Run.{IsRecord, IsCoherentRun};
 ghost use Rattle.dn_machine.specs.Schedule.{IsScheduled};
 ghost use Rattle.dn_machine.specs.declared.record.RunRecord.{RunRecord};
 
-/// A picked event may come, and none is picked exactly where no event may come.
+/// A picked event may come, and none is picked exactly if no event may come.
 pub fn a_pick_is_an_event_that_may_come()
     ensures comes { (S : State) (draw : ℕ) (e : Event) → IsMachine S → pick S draw ≡ Some e → enabled S e ≡ true }
     ensures none { (S : State) (draw : ℕ) → IsMachine S → (pick S draw ≡ None) ↔ IsOver S }
 {}
 
-/// The events of a seed are a complete run, and a seed has no other events.
+/// The events that a seed picks are a complete run, and a seed picks no other list of events.
 pub fn a_seed_gives_one_complete_run()
     ensures complete { (S : State) (made seed : ℕ) (events : List Event) → IsSound S made → IsScheduled S seed events → IsCompleteRun S events }
     ensures one { (S : State) (seed : ℕ) (events others : List Event) → IsScheduled S seed events → IsScheduled S seed others → events ≡ others }
 {}
 
-/// Whoever picks the events, a complete run of the initial machine comes to all that is promised of runs, if the record tells what is
-/// read off its events.
+/// However its events were picked, a complete run of the initial machine keeps the promises of runs, if its record tells what
+/// is read off its events.
 pub fn a_complete_run_keeps_the_promises_of_runs()
     ensures { (C : Setting) (r : RunRecord) → IsReady C → IsCompleteRun (initial_state C) r.events → IsRecord (initial_state C) r → IsCoherentRun (initial_state C) r }
 {}

@@ -1,5 +1,5 @@
-//! The multicore machine: the cores' nodes, the banks, the keeper of the barrier and the mails in flight, and the events that
-//! lead it from state to state.
+//! The multicore machine as code: the cores' nodes, the banks, the keeper of the barrier, the mails in flight, and the events
+//! that lead from state to state. One thread makes its events; a seed picks them.
 #![tactic(auto)]
 
 mod actors;

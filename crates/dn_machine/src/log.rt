@@ -14,12 +14,12 @@ use region_table::{Phase, TaskDecl};
 use rv_core::{Ending, TaskEnd};
 use std::alloc::Global;
 
-/// For how many events a log has room at first. The system gives memory as it is written: so a short run takes no more, and a
-/// longer one is spared most of the moves of its events to a larger place.
+/// For how many events a log has room at first. The operating system gives memory only when it is written. So a short run takes
+/// no more memory, and a long one moves its events less often.
 const FIRST_EVENTS: usize = 65536;
 
-/// An event that came: what was observed of it, and how the task of the core that it changed stands, where it has ended or
-/// waits for a lock.
+/// An event that came: what was observed of it, and how the task of the core that it changed stands, if that has ended or waits
+/// for a lock.
 #[derive(Clone, Copy, Debug)]
 pub struct Happened {
     pub event: Event,
@@ -27,8 +27,8 @@ pub struct Happened {
     pub end: Option<TaskEnd>,
 }
 
-/// What a run notes of its events: these, the grants, how many events of each kind there were, and how each task stood when
-/// its node last had it, in a table with a place for each phase and each of sixteen cores.
+/// What a run notes of its events: the events, the grants, how many events of each kind there were, and how each task stood
+/// when its node last had it, in a table with a place for each phase and each of 16 cores.
 #[derive(Debug, Drop)]
 pub struct Log {
     pub events: Sequence<Event>,
@@ -52,7 +52,7 @@ fn note_end(table: &mut Sequence<Option<TaskEnd>>, end: Option<TaskEnd>)
 {
     if let Some(end) = end {
         let place = MOST_CORES * end.phase.0 as usize + end.core.0 as usize;
-        // an end of a run always has its place; that any other is passed over is what the definition says
+        // the end of a task of the run always has a place; the definition ignores any other end
         if place < table.len() {
             table.set(place, Some(end));
         }
@@ -60,10 +60,10 @@ fn note_end(table: &mut Sequence<Option<TaskEnd>>, end: Option<TaskEnd>)
 }
 
 impl Log {
-    /// The log of no event, for a program of so many phases. Asks for room for 65,536 events at once.
+    /// The log without events, for a program with this number of phases. Reserves room for 65,536 events at once.
     ///
     /// # Errors
-    /// `Memory` where there is no room.
+    /// `Memory` if there is no room.
     pub(crate) fn new(alloc: Global, phases: usize) -> Result<Log, Memory>
         requires { phases ≤ 64 }
         ensures { IfOk result (λ log. log ≡ no_log phases) }
@@ -76,10 +76,10 @@ impl Log {
         })
     }
 
-    /// Notes an event of a kind, and the grant that it tells. The kind's count is below the greatest of its type.
+    /// Notes an event by its kind, and the grant that it tells. The count of the kind must be below 2^64 - 1.
     ///
     /// # Errors
-    /// `Memory` where there is no room; the log is then of no more use.
+    /// `Memory` if there is no room; the log can't be used any more then.
     #[inline(always)]
     pub(crate) fn note_event(
         &mut self,
@@ -98,10 +98,10 @@ impl Log {
         Ok(())
     }
 
-    /// Notes an event. Its kind's count is below the greatest of its type.
+    /// Notes an event. The count of its kind must be below 2^64 - 1.
     ///
     /// # Errors
-    /// `Memory` where there is no room; the log is then of no more use.
+    /// `Memory` if there is no room; the log can't be used any more then.
     #[inline(always)]
     pub fn note(&mut self, happened: Happened) -> Result<(), Memory>
         requires { kind_count happened.observed.kind self.old.counts < 18446744073709551615 }

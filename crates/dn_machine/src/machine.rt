@@ -25,10 +25,10 @@ use rv_core::{DecodedProgram, TaskEnd};
 use std::alloc::Global;
 use std::marker::Model;
 
-/// The multicore machine: a checked program with its decoded code and the plans of its phases, the machine's size, the fuel of each
-/// task, what changes as events come, and how many have come.
+/// The multicore machine: a checked program with its decoded code and the plans of its phases, the machine's size, the fuel of
+/// each task, what events change, and how many events have come.
 ///
-/// A contract sees the state, and the number of events that have led to it.
+/// Contracts see the state, and the number of events that led to it.
 #[derive(Drop)]
 pub struct Machine {
     pub(crate) decoded: DecodedProgram,
@@ -69,12 +69,12 @@ pub(crate) fn context_of<'a>(
 }
 
 impl Machine {
-    /// The machine of a checked program as a run begins: each node in the first phase, the first memory in the banks, and no
-    /// mail in flight. The shape has the cores that the program needs, 1 to 16 banks, 1 to 256 sets and 1 to 16 ways, and a
-    /// task may retire `fuel` instructions, 1 to 32,768.
+    /// The machine of a checked program when a run begins: each node is in the first phase, the banks hold the initial memory,
+    /// and no mail is in flight. The shape must have as many cores as the program needs, 1 to 16 banks, 1 to 256 sets and 1 to
+    /// 16 ways, and `fuel`, the number of instructions that a task may retire, must be 1 to 32,768.
     ///
     /// # Errors
-    /// `Memory` where there is no room.
+    /// `Memory` if there is no room.
     pub fn start(
         alloc: Global,
         checked: Checked,
@@ -119,11 +119,11 @@ impl Machine {
         self.content.enabled(&context, event)
     }
 
-    /// Makes an event, which may come: the state is the one after it then, and the answer is what it tells. There are fewer
-    /// than 4,000,000,000 events before it.
+    /// Makes an event, which must be one that may come, and gives what it tells. Fewer than 4,000,000,000 events must have come
+    /// before.
     ///
     /// # Errors
-    /// `Memory` where there is no room for the mails; the machine is then as before.
+    /// `Memory` if there is no room for the mails; the machine is as before then.
     pub fn step(&mut self, event: Event) -> Result<Stepped, Memory>
         requires may { enabled self.old.state event ≡ true }
         requires made { self.old.made < 4000000000 }
@@ -139,8 +139,9 @@ impl Machine {
         Ok(stepped)
     }
 
-    /// The event that a draw picks: of each core's own event in the order of cores, and then the handling of each mail in the order
-    /// of the pool, the one at the draw modulo their number; None exactly where no event may come.
+    /// The event that a draw picks. The candidates are each core's own event, in the order of cores, and then the handling of
+    /// each mail, in the order of the pool. The one at the draw, modulo their number, is picked; None exactly if no event may
+    /// come.
     #[tactic(auto, unfolding(crate::specs::Pick::pick))]
     pub fn pick(&self, draw: u32) -> Option<Event>
         ensures picked { result ≡ pick self.now.state draw }
@@ -150,8 +151,8 @@ impl Machine {
         pick_from(&self.content.own, &self.content.pool, draw)
     }
 
-    /// The value of a data word: that of its pending entry where a core has one, else the one at its home, or the one in its
-    /// registrant's entry; 0 for another word.
+    /// The value of a data word: that of its pending entry if a core has one, otherwise the one at its home or in its
+    /// registrant's entry; 0 for any other word.
     pub fn word(&self, word: WordId) -> u32
         ensures { result ≡ word_value self.now.state word.0 }
     {
@@ -159,21 +160,22 @@ impl Machine {
         self.content.word(&context, word)
     }
 
-    /// How the task of a core stands; None where it has none, and where it hasn't ended and waits for no lock.
+    /// How the task of a core stands; None if the core has no task, or its task is running and waits for no lock.
     pub fn task_end(&self, core: CoreId) -> Option<TaskEnd>
         ensures { result ≡ end_at (slice_get self.now.state.nodes core.0) }
     {
         self.content.task_end(core)
     }
 
-    /// Runs the initial machine until no event may come: each event is the one that the next word of the seed's generator picks.
+    /// Runs the initial machine until no event may come. Each event is the one that the next word of the seed's generator
+    /// picks.
     ///
-    /// After each event the state is coherent, and its words are the memory to which the stores were applied as they retired; and
-    /// the grants so far lead the flat machine to a state in which the loads of each task begin with those so far. At the end the
-    /// flat machine's run by the grants ends with the run's loads and ending.
+    /// After each event the state is coherent, and its words are the memory to which the stores were applied as they retired.
+    /// The grants so far lead the flat machine to a state in which the loads of each task begin with its loads so far. At the
+    /// end the flat machine's run by the grants has the run's loads and ending.
     ///
     /// # Errors
-    /// `Memory` where there is no room for the mails or the record.
+    /// `Memory` if there is no room for the mails or the record.
     pub fn run(self, alloc: Global, seed: u32) -> Result<RunRecord, Memory>
         requires { self.made ≡ 0 }
         ensures { IfOk result (IsSeedsRunOf self.state seed) }
@@ -191,8 +193,8 @@ impl Machine {
     }
 }
 
-/// Every machine is what a run of the initial machine of a checked program leaves, except for the order of its mails: so it has 1 to 16
-/// cores, is sound and coherent, and is the initial one where no event has come.
+/// Every machine is left by a run of the initial machine of a checked program, except for the order of its mails. So it has 1
+/// to 16 cores, is sound and coherent, and is the initial one if no event has come.
 pub fn a_machine_is_kept(machine: &Machine)
     ensures { IsKept machine.now.state machine.now.made }
 {

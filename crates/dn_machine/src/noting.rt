@@ -1,4 +1,4 @@
-//! What whoever makes a machine's events one by one needs to tell of them what a run tells.
+//! For callers that step a machine themselves: the empty log, and the final `Ending`.
 ghost use Rattle.std.specs.Prelude.{◌≡◌, length, IfOk};
 ghost use Rattle.dn_machine.specs.Ends.{noted_ending};
 ghost use Rattle.dn_machine.specs.Log.{no_log};
@@ -10,7 +10,7 @@ use rv_core::Ending;
 use std::alloc::Global;
 
 impl Machine {
-    /// The log of no event, for a run of the machine. Asks for room for 65,536 events at once.
+    /// The log without events, for a run of the machine. Reserves room for 65,536 events at once.
     ///
     /// # Errors
     /// `Memory` where there is no room.
@@ -21,7 +21,7 @@ impl Machine {
         Log::new(alloc, program.phases.len())
     }
 
-    /// The ending that the machine's state and the ends in a log tell.
+    /// The ending of a run, from the machine's last state and the ends in its log.
     ///
     /// # Errors
     /// `Memory` where there is no room.

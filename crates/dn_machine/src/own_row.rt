@@ -6,10 +6,10 @@ use dn_base::MOST_CORES;
 use message_net::Event;
 use std::marker::Model;
 
-/// The own event of each core, where it has one, and which cores have one: so the event at a place among those that there are is
-/// found without a search.
+/// The own event of each core, if it has one, and a list of the cores that have one. So the own event at a position among those
+/// that exist is found without a search.
 ///
-/// A contract sees the own events alone, with a place for each of 16 cores.
+/// Contracts see only the own events, with a place for each of 16 cores.
 #[derive(Drop)]
 pub(crate) struct OwnRow {
     own: [Option<Event>; MOST_CORES],
@@ -30,14 +30,14 @@ impl Model for OwnRow {
     ghost invariant = { λ r. IsListed r.own r.cores r.count };
 }
 
-/// Puts the numbers of the cores that have an own event, in rising order, into the first places; how many there are.
+/// Writes the numbers of the cores that have an own event, in rising order, to the first places, and gives how many there are.
 fn list_cores(own: &[Option<Event>; MOST_CORES], cores: &mut [u8; MOST_CORES]) -> usize
     ensures listed { take result cores.new ≡ cores_with 0 own.now }
     ensures most { result ≤ 16 }
 {
     let mut count = 0;
     for core in 0..MOST_CORES {
-        // Each core is put there, and written over by the next one where it has no event: so the loop needs no branch.
+        // Each core is written there, and overwritten by the next one if it has no event. So the loop needs no branch.
         cores[count] = core as u8;
         if own[core].is_some() {
             count += 1;
@@ -56,7 +56,7 @@ impl OwnRow {
         OwnRow { own, cores, count }
     }
 
-    /// Puts in the own event of a core, or that it has none.
+    /// Sets or clears the own event of a core.
     #[inline(always)]
     pub(crate) fn set(&mut self, core: usize, event: Option<Event>)
         requires { core < 16 }
@@ -78,7 +78,7 @@ impl OwnRow {
         self.count as u32
     }
 
-    /// The own event after so many others, in the order of cores.
+    /// The own event at this position among those that exist, in the order of cores.
     #[inline(always)]
     pub(crate) fn at(&self, place: u32) -> Option<Event>
         ensures { result ≡ slice_get (known_events self.now) place }

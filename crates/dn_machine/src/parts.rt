@@ -77,9 +77,9 @@ impl Machine {
         }
     }
 
-    /// The machine of these parts. They are what a run of `made` events leaves of the initial machine of a checked program, with
-    /// their mails in any order, and the program's code words decoded: `what_a_run_leaves_is_kept` says what follows of that. Takes
-    /// no memory.
+    /// The machine of these parts. They must be what a run of `made` events leaves of the initial machine of a checked program,
+    /// with the mails in any order, and the program's code words decoded. The law `what_a_run_leaves_is_kept` says what follows
+    /// from that. Takes no memory.
     pub fn join(parts: MachineParts) -> Machine
         requires { AreLeftByRun parts }
         ensures { result ≡ made_in parts }
@@ -119,8 +119,8 @@ impl Machine {
     }
 }
 
-/// What a run leaves, with its mails in any order, is sound and coherent, and all that is true of a machine. It stays so at every
-/// run that goes on from it, and in another order of its mails.
+/// What a run leaves, with its mails in any order, has all that holds of machines: it is sound and coherent. The same holds
+/// after every further run, and for any order of its mails.
 pub fn what_a_run_leaves_is_kept()
     ensures left { (S : State) (made : ℕ) → IsLeftByRun S made → IsKept S made }
     ensures initial { (C : Setting) → IsReady C → IsKept (initial_state C) 0 }

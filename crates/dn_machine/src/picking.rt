@@ -12,13 +12,13 @@ pub(crate) enum Choice {
     Mail(u32),
 }
 
-/// The place among so many candidates, at least one, that a draw leads to.
+/// The position that a draw picks among `count` candidates, of which there is at least one.
 #[inline(always)]
 fn place_of(draw: u32, count: u64) -> u32
     requires { 0 < count }
     ensures { result ≡ draw % count }
 {
-    // Most often the count is the smaller one, and a division of 32 bits takes less time than one of 64.
+    // Mostly the count is the smaller number. And a division of 32 bits is faster than one of 64.
     if (draw as u64) < count {
         draw
     } else {
@@ -26,7 +26,7 @@ fn place_of(draw: u32, count: u64) -> u32
     }
 }
 
-/// What a draw picks: of the own events and the handlings of the mails the one at the draw, modulo their number.
+/// What a draw picks: of the own events and then the handlings of the mails, the one at the draw, modulo their number.
 #[inline(always)]
 pub(crate) fn choose(own: &OwnRow, pool: &Pool, draw: u32) -> Option<Choice>
     ensures picked { chosen pool.now.mails result ≡ picked (candidates own.now pool.now.mails) draw }

@@ -75,7 +75,7 @@ impl Content {
         }
     }
 
-    /// The own event of a core, which may come, and is noted.
+    /// Makes and notes the own event of a core, which may come.
     ///
     /// # Errors
     /// `Memory` where there is no room for the log.
@@ -90,14 +90,14 @@ impl Content {
         ensures came { OnOk result (CameAndNoted (state_of (setting context.now) self.old) (state_of (setting context.now) self.new) event log.old log.new) }
         ensures known { KnowsOwn (setting context.now) self.new }
     {
-        // It is noted first, so that it needn't be kept until it has come. It grants nothing.
+        // It is noted first, so that it needn't be kept until it was made. It grants nothing.
         log.note_event(event, event.own_kind(), None)?;
         self.act(context, event);
         self.note_end(own_core(event), log);
         Ok(())
     }
 
-    /// The handling of the mail at a place of the pool, which is taken from there; it is noted.
+    /// Removes the mail at an index of the pool, makes its handling, and notes it.
     ///
     /// # Errors
     /// `Memory` where there is no room for the log.
@@ -125,7 +125,8 @@ impl Content {
         Ok(())
     }
 
-    /// The event that a draw picks, if one may come, and is noted; there is room for the mails. Whether one came.
+    /// Makes and notes the event that a draw picks, if any event may come. There is room for its mails. Returns whether an
+    /// event came.
     ///
     /// # Errors
     /// `Memory` where there is no room for the log.
@@ -155,7 +156,7 @@ impl Content {
         }
     }
 
-    /// The event that a draw picks, if one may come, and is noted. Whether one came.
+    /// Makes and notes the event that a draw picks, if any event may come. Returns whether an event came.
     ///
     /// # Errors
     /// `Memory` where there is no room for the mails or the log.
@@ -175,7 +176,7 @@ impl Content {
         self.make(context, draw, log)
     }
 
-    /// Makes the events that the words of a seed pick one after another, until none may come, and notes them.
+    /// Makes and notes the events that the words of a seed pick one after the other, until none may come.
     ///
     /// # Errors
     /// `Memory` where there is no room for the mails or the log.
@@ -196,7 +197,7 @@ impl Content {
         Ok(())
     }
 
-    /// The ending that the last state of a run and the noted ends tell.
+    /// The ending of a run, from its last state and the noted ends.
     ///
     /// # Errors
     /// `Memory` where there is no room for it.
@@ -222,7 +223,7 @@ impl Content {
     }
 }
 
-/// The record of the run of a seed, by a machine as a run begins.
+/// The record of the run of a seed, from the initial machine.
 ///
 /// # Errors
 /// `Memory` where there is no room for the mails or the record.

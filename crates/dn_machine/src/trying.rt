@@ -15,7 +15,7 @@ use message_net::{Actor, Event, MailId};
 use registration_protocol::Context;
 
 impl Content {
-    /// The handling of the mail with this id, where one in flight has it. It is looked for once.
+    /// Handles the mail with this id, if one in flight has it. It is looked for once.
     fn try_handle(&mut self, context: &Context<'_>, id: MailId) -> Option<(Actor, Stepped)>
         requires whole { IsWhole (state_of (setting context.now) self.old) }
         requires known { KnowsOwn (setting context.now) self.old }
@@ -33,7 +33,7 @@ impl Content {
         Some((mail.to, stepped))
     }
 
-    /// An event, where it may come.
+    /// Makes an own event if it may come.
     fn try_own(&mut self, context: &Context<'_>, event: Event) -> Option<Stepped>
         requires whole { IsWhole (state_of (setting context.now) self.old) }
         requires known { KnowsOwn (setting context.now) self.old }
@@ -49,7 +49,7 @@ impl Content {
         Some(self.act(context, event))
     }
 
-    /// An event, where it may come, and the actor that makes it.
+    /// Makes an event if it may come, and gives the actor that makes it and what it tells.
     #[tactic(auto, unfolding(crate::specs::Actors::actor_in))]
     pub(crate) fn try_event(
         &mut self,
@@ -74,12 +74,12 @@ impl Content {
 }
 
 impl Machine {
-    /// Makes an event, where it may come, and tells the actor that made it and what it tells; None exactly where it may not come,
-    /// and the machine is then as before. There are fewer than 4,000,000,000 events before it. A mail that is handled is found in
+    /// Makes an event if it may come, and gives the actor that made it and what it tells. None exactly if it may not come; the
+    /// machine is as before then. Fewer than 4,000,000,000 events must have come before. A mail that is handled is found in
     /// constant time, however many mails are in flight.
     ///
     /// # Errors
-    /// `Memory` where there is no room for the mails; the machine is then as before.
+    /// `Memory` if there is no room for the mails; the machine is as before then.
     pub fn try_step(&mut self, event: Event) -> Result<Option<(Actor, Stepped)>, Memory>
         requires made { self.old.made < 4000000000 }
         ensures tried { IfOk result (IsTried self.old.state self.new.state event) }

@@ -12,7 +12,7 @@ use registry_bank::BankWord;
 use std::alloc::Global;
 use word_cache::Entry;
 
-/// The value that a core is about to register for a word. A cache is searched only where some entry of it is pending.
+/// The value of a word that a core is about to register. A cache is searched only if it has a pending entry.
 fn pending_at(node: &Node, word: WordId) -> Option<u32>
     ensures { result ≡ pending_value (entry_of node.now word.0) }
 {
@@ -60,7 +60,7 @@ fn value_at(nodes: &[Node], core: CoreId, word: WordId) -> u32
 }
 
 impl Content {
-    /// The value that the home of a word has, or its registrant.
+    /// The value that the home of a word holds, or that its registrant's entry has.
     fn kept_value(&self, context: &Context<'_>, word: WordId) -> u32
         requires banks { 0 < (setting context.now).shape.banks }
         ensures { result ≡ kept_value (state_of (setting context.now) self.now) word.0 (home_at (state_of (setting context.now) self.now) word.0) }

@@ -1,4 +1,4 @@
--- Worlds by the tasks that a phase declares: how each stands on its core. Only laws speak of them.
+-- Worlds by the tasks that a phase declares: how each stands on its core. Only laws cite this.
 use Rattle.std.specs.Prelude.{◌≡◌, ◌≢◌, ℕ, ◌+◌, true, List, map, slice_get, Option, Some, None}
 use Rattle.std.specs.List.{IsAmong}
 use Rattle.dn_base.specs.declared.ids.Grant.{Grant}
@@ -13,11 +13,11 @@ use Rattle.flat_machine.specs.Phases.{Flat}
 use Rattle.flat_machine.specs.Laws.{at_memory}
 use Rattle.flat_agreement.specs.Worlds.{LeadsToRun}
 
--- the world in phase number `phase`, which is p: the tasks of the phases before it, each task of p as `task` says, and a memory
+-- the world in phase number `phase`, which is p: the tasks of the earlier phases, each task of p as `task` says, and a memory
 abbrev pub world_of : ℕ → List Started → Phase → (TaskDecl → Started) → List ℕ → Flat
 world_of phase past p task m = record { begun = phase + 1; past = past; tasks = map task p.tasks; memory = m }
 
--- one task has become x, and those of other cores are as they were
+-- one task has become x; those of other cores are as before
 pub record ChangesOne (d : TaskDecl) (x : Started) (old new : TaskDecl → Started) : Type 0 where
   pub own : new d ≡ x
   pub others : (e : TaskDecl) → e.core.0 ≢ d.core.0 → new e ≡ old e

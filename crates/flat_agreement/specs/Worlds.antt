@@ -1,4 +1,4 @@
--- Worlds, and what it means that one leads to a state of the flat machine. Only laws speak of them.
+-- Worlds, and what it means that a world leads to a state of the flat machine. Only laws cite this.
 use Rattle.std.specs.Prelude.{◌≡◌, ◌≢◌, ℕ, ◌+◌, Bool, true, false, List, ◌++◌, length, map, slice_get, slice_index, Option, Some, None}
 use Rattle.dn_base.specs.declared.ids.Grant.{Grant}
 use Rattle.dn_base.specs.declared.ids.LoadSeen.{LoadSeen}
@@ -14,8 +14,8 @@ use Rattle.flat_machine.specs.Phases.{Flat, settled}
 use Rattle.flat_machine.specs.Grants.{is_free, with_task, so_far}
 use Rattle.flat_machine.specs.Laws.{at_memory, EndsSegment, HoldApart, HasTasks}
 
--- A world is a value of the type `Flat`: how many phases have begun, the tasks of the phases before the last of them, those of
--- that one, and one memory. A state of the flat machine is a world in which every task has gone on as far as it can.
+-- A world is a value of the type `Flat`: how many phases have begun, the tasks of the earlier phases, the tasks of the current
+-- phase, and one memory. A state of the flat machine is a world in which every task has run as far as it can.
 
 -- whether a task may store a word, with the locks that it holds
 abbrev pub stores : Started → ℕ → Bool
@@ -25,20 +25,20 @@ stores r w = may_store r.decl r.state.held w
 abbrev pub loads : Started → ℕ → Bool
 loads r w = may_load r.decl r.state.held w
 
--- what a task comes to where it goes on alone, on the memory m
+-- the state that a task gets if it runs its segment alone, on the memory m
 abbrev pub segment_alone : ProgramParts → ℕ → List ℕ → Started → At
 segment_alone P fuel m r = segment P fuel (at_memory r m)
 
 -- the tasks of a world are those of the phases that have begun, none has retired more instructions than it may, and no lock is
--- held by two tasks of the last phase
+-- held by two tasks of the current phase
 pub record IsWorld (P : ProgramParts) (fuel : ℕ) (W : Flat) : Type 0 where
   pub tasks : HasTasks P W
   pub words : length W.memory ≡ length P.memory
   pub within : (i : ℕ) (r : Started) → slice_get W.tasks i ≡ Some r → IsWithin fuel r
   pub held : (i j : ℕ) (a b : Started) → i ≢ j → slice_get W.tasks i ≡ Some a → slice_get W.tasks j ≡ Some b → HoldApart a.state.held b.state.held
 
--- each task of W, where it goes on alone, comes to the task of F at its place; a word that a task may store comes to the word
--- of F by that task alone, and a word that no task may store is that of F already
+-- Each task of W, if it runs its segment alone, gets the state of the task of F at its index. A word that a task may store then
+-- has its value in F by that task alone, and a word that no task may store has that value already
 pub record LeadsTo (P : ProgramParts) (fuel : ℕ) (W F : Flat) : Type 0 where
   pub begun : W.begun ≡ F.begun
   pub past : W.past ≡ F.past
@@ -73,7 +73,7 @@ abbrev pub with_phase : Flat → Phase → Flat
 with_phase W p =
     record { begun = W.begun + 1; past = W.past ++ W.tasks; tasks = map (fresh W.begun) p.tasks; memory = W.memory }
 
--- every task of the last phase has ended or wants a lock
+-- every task of the current phase has ended or wants a lock
 abbrev pub IsResting : ProgramParts → ℕ → Flat → Type 0
 IsResting P fuel W = (i : ℕ) (r : Started) → slice_get W.tasks i ≡ Some r → EndsSegment (wish P fuel r)
 
@@ -83,11 +83,11 @@ IsStopped tasks None = Unit {0}
 IsStopped tasks (Some (Acquire lock)) = is_free tasks lock.0 ≡ false
 IsStopped tasks _ = ⊥
 
--- every task of the last phase has ended, or wants a lock that some task holds
+-- every task of the current phase has ended, or wants a lock that some task holds
 abbrev pub AreStopped : ProgramParts → ℕ → Flat → Type 0
 AreStopped P fuel W = (i : ℕ) (r : Started) → slice_get W.tasks i ≡ Some r → IsStopped W.tasks (wish P fuel r)
 
--- at place i stands what the task of x has loaded in all: what x says, and maybe more
+-- at index i stand all loads of the task of x: those of x, and maybe more
 pub record HasLoadedFirst (all : List TaskLoads) (i : ℕ) (x : TaskLoads) : Type 0 where
   pub task : TaskLoads
   pub there : slice_get all i ≡ Some task
@@ -96,6 +96,6 @@ pub record HasLoadedFirst (all : List TaskLoads) (i : ℕ) (x : TaskLoads) : Typ
   pub more : List LoadSeen
   pub loads : task.loads ≡ x.loads ++ more
 
--- the loads of each task are a prefix of those at its place in the second list
+-- the loads of each task are a prefix of those at its index in the second list
 abbrev pub AreFronts : List TaskLoads → List TaskLoads → Type 0
 AreFronts some all = (i : ℕ) (x : TaskLoads) → slice_get some i ≡ Some x → HasLoadedFirst all i x

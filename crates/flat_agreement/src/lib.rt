@@ -1,8 +1,9 @@
-//! The agreement of any machine that runs the tasks of a phase side by side with the flat machine, whatever it does with its
-//! words between the tasks' own instructions.
+//! Why any machine that runs the tasks of a phase side by side agrees with the flat machine, whatever it does with its words
+//! between the tasks' own instructions.
 //!
-//! It speaks of worlds: the tasks of the phases that have begun, each as far as it has come, and one memory. A step of any
-//! task, a grant, and the beginning of a phase each keep that the world leads to the flat machine's run by the grants so far.
+//! The laws speak of worlds: the tasks of the phases that have begun, each at any point, and one memory. Three steps keep that
+//! the world leads to the flat machine's run by the grants so far: an instruction of any task, a grant, and the beginning of a
+//! phase.
 #![tactic(auto)]
 
 mod laws;

@@ -44,7 +44,8 @@ OneOf a b c = a + b + c ≡ 1
 abbrev pub IsInFlight : State → Mail → Type 0
 IsInFlight S m = (place : ℕ) × (slice_get S.mails place ≡ Some m)
 
--- how a core has a word: registered and not yet acknowledged, registered, or on its way back to its home with a value
+-- how a core has a word: registered and not yet acknowledged; registered and acknowledged; or on its way back to its home, with
+-- a value
 abbrev pub IsPending : State → ℕ → ℕ → Type 0
 IsPending S c w = (value : ℕ) × (entry_at S c w ≡ Some (Registered value true))
 
@@ -93,11 +94,11 @@ abbrev pub is_alive : Option NodeParts → Bool
 is_alive None = false
 is_alive (Some n) = n.arrived && not n.halted
 
--- whether a core waits in the keeper's set, which isn't whole yet
+-- whether a core waits in the keeper's set, which is incomplete
 abbrev pub waits_at_keeper : State → ℕ → ℕ
 waits_at_keeper S c = bit (not (all_arrived S.keeper) && slice_index_or S.keeper.arrived c false)
 
--- a node is in the keeper's phase, or in the one before, has arrived in it, and is told to go on
+-- a node is in the keeper's phase; or it is in the phase before, has arrived in it, and its Go is in flight
 abbrev pub IsInPhase : State → ℕ → NodeParts → Type 0
 IsInPhase S c n =
     (n.phase ≡ S.keeper.phase) ⊎ (n.phase + 1 ≡ S.keeper.phase) × (n.arrived ≡ true) × (1 ≤ flight S (is_go_to c))
@@ -108,7 +109,7 @@ pub record HasArrived (n : NodeParts) : Type 0 where
   pub waiting : n.waiting ≡ wait.TheVariants.None
   pub over : is_running n.task ≡ false
 
--- whether the task of a core that the keeper counts in its set was bad
+-- whether the task of a core that the keeper has counted was bad
 abbrev pub counts_bad : State → ℕ → Bool
 counts_bad S c = slice_index_or S.keeper.arrived c false && bad_in (slice_get S.nodes c)
   where
@@ -119,11 +120,11 @@ counts_bad S c = slice_index_or S.keeper.arrived c false && bad_in (slice_get S.
 -- 1. Phases.
 pub record ArePhases (S : State) : Type 0 where
   pub phase : (c : ℕ) (n : NodeParts) → slice_get S.nodes c ≡ Some n → n.halted ≡ false → IsInPhase S c n
-  -- of a core that has arrived and isn't halted its arrival is in flight, or it waits in the keeper's set, or it is told to
-  -- go on or to halt, and exactly one of these; of another core none
+  -- for a core that has arrived and isn't halted exactly one of these holds: its Arrived is in flight; it waits in the keeper's
+  -- set; a Go or Halt to it is in flight. For any other core none holds
   pub whereabouts : (c : ℕ) → flight S (is_arrival_of c) + waits_at_keeper S c + (flight S (is_go_to c) + flight S (is_halt_to c)) ≡ bit (is_alive (slice_get S.nodes c))
   pub arrived : (c : ℕ) (n : NodeParts) → slice_get S.nodes c ≡ Some n → n.arrived ≡ true → HasArrived n
-  -- an arrival says truly whether the task was bad, and so does the keeper of those that it has counted
+  -- an Arrived says truly whether the task was bad, and so does the keeper for the cores that it has counted
   pub said : (m : Mail) (core : CoreId) (bad : Bool) → IsInFlight S m → m.message ≡ Arrived core bad
       → (n : NodeParts) → slice_get S.nodes core.0 ≡ Some n → bad ≡ task_ended_badly n.task
   pub bad : S.keeper.bad ≡ true → (c : ℕ) × (counts_bad S c ≡ true)
@@ -134,15 +135,17 @@ pub record ArePhases (S : State) : Type 0 where
 pub record AreLocks (S : State) : Type 0 where
   -- nobody waits for a lock without a holder
   pub free : (l : ℕ) (h : Lock) → lock_at S l ≡ Some h → h.holder ≡ None → h.queue ≡ []
-  -- of the core that the home has as the lock's holder the grant is in flight, or its task holds the lock, or its release is in
-  -- flight, and exactly one of these; of another core none
+  -- for the core that the home has as the lock's holder exactly one of these holds: its Grant is in flight; its task holds the
+  -- lock; its Release is in flight. For any other core none holds
   pub held : (l c : ℕ) → flight S (is_grant_to l c) + bit (has_lock S c l) + flight S (is_release_of l c) ≡ holder_in c (lock_at S l)
-  -- of a core that waits for the lock its request, its place in the queue and its grant: exactly one; of other cores none
+  -- for a core that waits for the lock exactly one of these holds: its Acquire is in flight; it stands in the queue; its Grant
+  -- is in flight. For any other core none holds
   pub awaited : (l c : ℕ) → flight S (is_acquire_of l c) + queued_in c (lock_at S l) + flight S (is_grant_to l c) ≡ bit (node_is_locking l (slice_get S.nodes c))
-  -- a grant carries the kept signature
+  -- a grant in flight carries the signature of the lock's home
   pub granted : (m : Mail) (lock : LockId) (s : Signature) → IsInFlight S m → m.message ≡ Grant lock s
       → (h : Lock) → lock_at S lock.0 ≡ Some h → s ≡ h.kept
-  -- no signature is of a later phase, and those of a node are of its phase, which is no later one
+  -- no signature at a home is of a later phase than the keeper's, and those of a node are of its own phase, which isn't later
+  -- either
   pub kept : (l : ℕ) (h : Lock) → lock_at S l ≡ Some h → tag h.kept ≤ S.keeper.phase
   pub sent : (m : Mail) (lock : LockId) (core : CoreId) (s : Signature) → IsInFlight S m → m.message ≡ Release lock core s → tag s ≤ S.keeper.phase
   pub own : (c : ℕ) (n : NodeParts) → slice_get S.nodes c ≡ Some n → All (λ (s : Signature). tag s ≡ n.phase) n.signatures
@@ -150,9 +153,9 @@ pub record AreLocks (S : State) : Type 0 where
 
 -- 3. Registrants.
 pub record AreRegistrants (S : State) : Type 0 where
-  -- a registrant has the word, registered or leaving
+  -- a registrant has the word registered or leaving
   pub has : (c w : ℕ) → IsRegistrant S c w → IsPending S c w ⊎ (IsSettled S c w ⊎ ((value : ℕ) × IsLeaving S c w value))
-  -- who has it registered is its registrant, or is about to hear who is
+  -- a core that has a word registered is its registrant, or a RegFwd to it is in flight
   pub hears : (c w : ℕ) → IsSettled S c w → IsRegistrant S c w ⊎ (1 ≤ flight S (is_reg_fwd_to w c))
 
 -- the task of a core may store a word with the locks that it holds
@@ -183,7 +186,7 @@ pub record AreLeaving (S : State) : Type 0 where
 abbrev pub NeedsValue : State → NodeParts → WordId → Type 0
 NeedsValue S n word = (need_now S.setting n ≡ Some (Load word)) ⊎ (need_now S.setting n ≡ Some (Store word false))
 
--- a node reads a word: it has no entry of it, and room
+-- a node waits to read a word: it has no entry of it, and room
 pub record IsReading (S : State) (c : ℕ) (word : WordId) : Type 0 where
   pub node : NodeParts
   pub found : slice_get S.nodes c ≡ Some node
@@ -192,11 +195,11 @@ pub record IsReading (S : State) (c : ℕ) (word : WordId) : Type 0 where
   pub room : has_room node.cache word.0 ≡ true
   pub wants : NeedsValue S node word
 
--- a word's registrant is this core, or its home has it
+-- a word's registrant is this core, or the word is at home
 abbrev pub IsAtOrHome : State → ℕ → ℕ → Type 0
 IsAtOrHome S d w = IsRegistrant S d w ⊎ ((value : ℕ) × (home_at S w ≡ Some (Home value)))
 
--- the value of an entry that a read can be answered from
+-- the value of an entry that a forwarded read can be answered from
 abbrev pub owned_value : Option Entry → Option ℕ
 owned_value (Some (Registered value pending)) = Some value
 owned_value (Some (Leaving value)) = Some value
@@ -214,7 +217,7 @@ pub record AreReads (S : State) : Type 0 where
   pub filled : (c : ℕ) (n : NodeParts) (word : WordId) → slice_get S.nodes c ≡ Some n → n.waiting ≡ wait.TheVariants.Filled word
       → ((value : ℕ) × (marked : Bool) × (entry_of n word.0 ≡ Some (Valid value marked))) × NeedsValue S n word
 
--- who awaits a message, by where it goes: nobody sends another one
+-- some actor awaits this message, and it goes to this receiver; no other message is expected
 abbrev pub IsExpected : State → Actor → Message → Type 0
 IsExpected S (Bank bank) (RegReq word core) = (bank.0 ≡ word.0 % S.setting.shape.banks) × IsPending S core.0 word.0
 IsExpected S (Core core) (RegFwd word other) = IsPending S other.0 word.0
@@ -232,7 +235,7 @@ IsExpected S (Core core) (Go phase) = (phase.0 ≡ S.keeper.phase) × (is_alive 
 IsExpected S (Core core) Halt = is_alive (slice_get S.nodes core.0) ≡ true
 IsExpected S _ _ = ⊥
 
--- 7. No strays.
+-- 7. No strays: each message in flight is awaited.
 abbrev pub AreExpected : State → Type 0
 AreExpected S = (m : Mail) → IsInFlight S m → IsExpected S m.to m.message
 
@@ -249,7 +252,7 @@ abbrev pub first_release : ℕ → List Mail → Option Signature
 first_release l [] = None
 first_release l (m ∷ ms) = option_or (release_in l m.message) (first_release l ms)
 
--- the words written under a lock so far: those that its home knows of, and those of its holder, or of its release
+-- the words written under a lock so far: those that its home knows of, and those of its holder, or of the Release in flight
 abbrev pub with_carried : Signature → Option Signature → Signature
 with_carried kept None = kept
 with_carried kept (Some s) = joined kept s
@@ -262,7 +265,7 @@ with_holder S l kept (Some c) =
 abbrev pub lock_signature : State → ℕ → Lock → Signature
 lock_signature S l h = with_holder S l h.kept h.holder
 
--- another core's task of the keeper's phase writes the word: whatever it holds
+-- the task of another core, in the keeper's phase, may write the word without a lock
 pub record HasWriter (S : State) (c w : ℕ) : Type 0 where
   pub core : ℕ
   pub other : core ≢ c
@@ -270,8 +273,8 @@ pub record HasWriter (S : State) (c w : ℕ) : Type 0 where
   pub declares : declared S.setting.program S.keeper.phase core ≡ Some decl
   pub writes : has decl.effects.writes w ≡ true
 
--- another core's task of the keeper's phase may write the word under a lock that the core's task doesn't hold, and the
--- lock's signature may hold it
+-- the task of another core, in the keeper's phase, may write the word under a lock that this core's task doesn't hold, and the
+-- lock's signature may hold the word
 pub record HasGuardedWriter (S : State) (c w : ℕ) : Type 0 where
   pub core : ℕ
   pub other : core ≢ c
@@ -284,7 +287,7 @@ pub record HasGuardedWriter (S : State) (c w : ℕ) : Type 0 where
   pub there : lock_at S lock ≡ Some state
   pub signed : may_hold (lock_signature S lock state) w S.keeper.phase ≡ true
 
--- a core is still in the phase before the keeper's, which may have written the word, and its copy isn't marked
+-- a core is still in the phase before the keeper's, that phase may have written the word, and the core's copy isn't marked
 pub record IsBehind (S : State) (c w : ℕ) (marked : Bool) : Type 0 where
   pub node : NodeParts
   pub found : slice_get S.nodes c ≡ Some node
@@ -292,11 +295,11 @@ pub record IsBehind (S : State) (c w : ℕ) (marked : Bool) : Type 0 where
   pub written : has (written_in (slice_get S.setting.plans node.phase)) w ≡ true
   pub unmarked : marked ≡ false
 
--- a copy has the word's value, or it may be old: its core will drop it before it reads it
+-- a copy has the word's value, or its core drops it before it reads it
 abbrev pub IsFresh : State → ℕ → ℕ → ℕ → Type 0
 IsFresh S c w value = value ≡ word_value S w
 
--- the task of a core in its phase uses a word plainly
+-- the task of a core in its phase uses a word without a lock
 pub record UsesPlainly (S : State) (c w : ℕ) : Type 0 where
   pub node : NodeParts
   pub found : slice_get S.nodes c ≡ Some node

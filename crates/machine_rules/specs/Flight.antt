@@ -1,4 +1,4 @@
--- How many mails in flight are of a kind: each is a test of an address and a message.
+-- How many mails in flight are of a kind. Each definition is a test of the receiver and the message.
 use Rattle.std.specs.Prelude.{ℕ, ◌==◌, Bool, true, false, ◌&&◌, cond, sum_by}
 use Rattle.message_net.specs.declared.actor.Actor.{Actor}
 use Rattle.message_net.specs.declared.actor.Actor.TheVariants.{Core}
@@ -10,7 +10,7 @@ use Rattle.machine_rules.specs.State.{State}
 abbrev pub bit : Bool → ℕ
 bit b = cond b 1 0
 
--- a test of a mail, by where it goes and what it says
+-- a test of a mail, by its receiver and its message
 abbrev pub Test : Type 0
 Test = Actor → Message → Bool
 
@@ -24,17 +24,17 @@ mail_count test m = bit (test m.to m.message)
 abbrev pub flight : State → Test → ℕ
 flight S test = weighs S (mail_count test)
 
--- whether an address is this core
+-- whether the receiver is this core
 abbrev pub is_to : ℕ → Actor → Bool
 is_to c (Core core) = core.0 == c
 is_to c _ = false
 
--- a request of core c to be the registrant of word w
+-- RegReq: core c asks to be the registrant of word w
 abbrev pub is_reg_req_of : ℕ → ℕ → Test
 is_reg_req_of w c to (RegReq word core) = (word.0 == w) && (core.0 == c)
 is_reg_req_of w c to _ = false
 
--- word that core c is the registrant of w now, on its way to an earlier one: to any core, and to core d
+-- RegFwd: core c is the registrant of w now; to any core, and to core d
 abbrev pub is_reg_fwd_of : ℕ → ℕ → Test
 is_reg_fwd_of w c to (RegFwd word core) = (word.0 == w) && (core.0 == c)
 is_reg_fwd_of w c to _ = false
@@ -43,17 +43,17 @@ abbrev pub is_reg_fwd_to : ℕ → ℕ → Test
 is_reg_fwd_to w d to (RegFwd word core) = (word.0 == w) && is_to d to
 is_reg_fwd_to w d to _ = false
 
--- a RegFwd for a core to that core itself
+-- a RegFwd that goes to the core that it names
 abbrev pub is_reg_fwd_to_itself : ℕ → ℕ → Test
 is_reg_fwd_to_itself w c to (RegFwd word core) = (word.0 == w) && ((core.0 == c) && is_to c to)
 is_reg_fwd_to_itself w c to _ = false
 
--- the acknowledgement of core c's registration
+-- RegAck to core c
 abbrev pub is_reg_ack_to : ℕ → ℕ → Test
 is_reg_ack_to w c to (RegAck word) = (word.0 == w) && is_to c to
 is_reg_ack_to w c to _ = false
 
--- a write-back of w by core c, with any value and with value v, and its acknowledgement
+-- WriteBack of w by core c, with any value and with value v, and its WbAck
 abbrev pub is_write_back_of : ℕ → ℕ → Test
 is_write_back_of w c to (WriteBack word value core) = (word.0 == w) && (core.0 == c)
 is_write_back_of w c to _ = false
@@ -66,7 +66,7 @@ abbrev pub is_wb_ack_to : ℕ → ℕ → Test
 is_wb_ack_to w c to (WbAck word) = (word.0 == w) && is_to c to
 is_wb_ack_to w c to _ = false
 
--- a read of w for core c: at its home, passed on to any core, and answered; a read of w that is passed on to core d
+-- a read of w for core c: ReadReq, ReadFwd to any core, and DataReply; and a ReadFwd to core d
 abbrev pub is_read_req_of : ℕ → ℕ → Test
 is_read_req_of w c to (ReadReq word reader) = (word.0 == w) && (reader.0 == c)
 is_read_req_of w c to _ = false
@@ -83,12 +83,12 @@ abbrev pub is_data_reply_to : ℕ → ℕ → Test
 is_data_reply_to w c to (DataReply word value) = (word.0 == w) && is_to c to
 is_data_reply_to w c to _ = false
 
--- an answer with a value that isn't the word's in a memory
+-- a DataReply whose value isn't that of the word in a memory
 abbrev pub is_false_data_reply : (ℕ → ℕ) → Test
 is_false_data_reply memory to (DataReply word value) = cond (value == memory word.0) false true
 is_false_data_reply memory to _ = false
 
--- core c asks for lock l, gives it up, and gets it
+-- Acquire, Release and Grant of lock l, for core c
 abbrev pub is_acquire_of : ℕ → ℕ → Test
 is_acquire_of l c to (Acquire lock core) = (lock.0 == l) && (core.0 == c)
 is_acquire_of l c to _ = false
@@ -101,7 +101,7 @@ abbrev pub is_grant_to : ℕ → ℕ → Test
 is_grant_to l c to (Grant lock signature) = (lock.0 == l) && is_to c to
 is_grant_to l c to _ = false
 
--- core c has arrived; the next phase begins for it; the run is over for it
+-- Arrived of core c, Go to it, and Halt to it
 abbrev pub is_arrival_of : ℕ → Test
 is_arrival_of c to (Arrived core bad) = core.0 == c
 is_arrival_of c to _ = false

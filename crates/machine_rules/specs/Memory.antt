@@ -1,4 +1,4 @@
--- The value of each data word: as a state shows it, and as the stores of a run leave it.
+-- The value of each data word: as a state shows it, and by the stores of a run.
 use Rattle.std.specs.Prelude.{ℕ, true, List, [], ◌∷◌, length, map, slice_get, slice_set, Option, Some, None}
 use Rattle.std.specs.Option.{option_or}
 use Rattle.std.specs.List.{range_with_len}
@@ -30,7 +30,7 @@ value_in_entry (Some (Valid value marked)) = value
 value_in_entry (Some (Registered value pending)) = value
 value_in_entry (Some (Leaving value)) = value
 
--- the value that the home of a word has, or its registrant
+-- the value that the home of a word holds, or that its registrant's entry has
 abbrev pub kept_value : State → ℕ → Option BankWord → ℕ
 kept_value S w None = 0
 kept_value S w (Some (Home value)) = value
@@ -40,8 +40,8 @@ abbrev pub value_or_kept : State → ℕ → Option ℕ → ℕ
 value_or_kept S w (Some value) = value
 value_or_kept S w None = kept_value S w (home_at S w)
 
--- the value of a word in a state: that of its pending entry where a core has one, else the one at its home, or the one in
--- its registrant's entry
+-- the value of a word in a state: that of its pending entry if some core has one; otherwise the one at its home; or else the
+-- one in its registrant's entry
 unfoldable pub word_value : State → ℕ → ℕ
 word_value S w = value_or_kept S w (pending_among S.nodes w)
 
@@ -49,7 +49,7 @@ word_value S w = value_or_kept S w (pending_among S.nodes w)
 abbrev pub memory_of : State → List ℕ
 memory_of S = map (word_value S) (range_with_len 0 (length S.setting.program.memory))
 
--- the word that the instruction of a core stores, if it stores one and retires, and what it stores
+-- the word that the instruction of a core stores, if it is a store that retires, and its new value
 abbrev pub store_of : Setting → Option NodeParts → Option (WordId × ℕ)
 store_of C None = None
 store_of C (Some n) = written_now C n

@@ -26,7 +26,7 @@ use Rattle.registration_protocol.specs.Messages.{node_gets}
 use Rattle.machine_rules.specs.State.{State}
 use Rattle.machine_rules.specs.declared.stepped.Stepped.{Stepped}
 
--- where an actor stands among the actors, and the number of its next mail
+-- the index of an actor among the actors, and the number of its next mail
 abbrev pub actor_index_in : State → Actor → ℕ
 actor_index_in S actor = actor_index S.setting.shape.cores S.setting.shape.banks actor
 
@@ -48,14 +48,14 @@ abbrev pub posts : State → List Outgoing → State
 posts S sent =
     record S { mails = all_mails Keeper (next_number S Keeper) sent S.mails; numbers = slice_set S.numbers (actor_index_in S Keeper) (next_number S Keeper + length sent) }
 
--- a core's node becomes another, and a bank another, with what they send
+-- a core's node becomes another one, or a bank does, and what it sends is in flight
 abbrev pub core_does : State → CoreId → NodeParts → Option Outgoing → State
 core_does S core n sent = sends (record S { nodes = slice_set S.nodes core.0 n }) (Core core) sent
 
 abbrev pub bank_does : State → ℕ → BankParts → Option Outgoing → Actor → State
 bank_does S bank b sent from = sends (record S { banks = slice_set S.banks bank b }) from sent
 
--- a core's own events, where the core is there
+-- a core's own events, if the core exists
 abbrev pub does_instr : State → CoreId → Option NodeParts → State
 does_instr S core None = S
 does_instr S core (Some n) = core_does S core (instructed S.setting n).0 (instructed S.setting n).1.sent
@@ -85,7 +85,7 @@ gets S (Core core) message = core_gets S core message (slice_get S.nodes core.0)
 gets S (Bank bank) message = bank_handles S (Bank bank) bank.0 message (slice_get S.banks bank.0)
 gets S Keeper message = keeper_handles S (keeper_gets S.keeper message)
 
--- a mail that has been taken out of those in flight is handled by the actor that it goes to
+-- a mail that has been removed from those in flight is handled by its receiver
 abbrev pub delivers : State → Option Mail → State
 delivers S None = S
 delivers S (Some m) = gets S m.to m.message
@@ -100,7 +100,7 @@ next S (Evict core word) = does_evict S core word (slice_get S.nodes core.0)
 next S (Arrive core) = does_arrive S core (slice_get S.nodes core.0)
 next S (Handle id) = handles S (removed id S.mails)
 
--- whether a node there is passes a test
+-- whether a node that exists passes a test
 abbrev pub when_there : (NodeParts → Bool) → Option NodeParts → Bool
 when_there test None = false
 when_there test (Some n) = test n
@@ -138,7 +138,7 @@ unfoldable pub granted_in : State → Event → Option Granted
 granted_in S (Handle id) = granted_with S (removed id S.mails).0
 granted_in S _ = None
 
--- the kind of an event: for the handling of a mail it is that of its message
+-- the kind of an event; for the handling of a mail it is the kind of the message
 abbrev pub kind_with : Option Mail → EventKind
 kind_with None = kind.TheVariants.Instr
 kind_with (Some m) = kind_of m.message

@@ -1,4 +1,4 @@
--- What a state is in which no event may come any more.
+-- States in which no event may come any more.
 use Rattle.std.specs.Prelude.{◌≡◌, ◌≢◌, ◌⊎◌, ℕ, true, slice_get, Some}
 use Rattle.dn_base.specs.declared.ids.LockId.{LockId}
 use Rattle.registration_protocol.specs.declared.node.NodeWait as wait
@@ -25,11 +25,11 @@ pub record IsLockedOut (S : State) (c : ℕ) : Type 0 where
   pub other : holder ≢ c
   pub has : has_lock S holder lock.0 ≡ true
 
--- some task of the phase hasn't ended, and each such task waits for a lock that another one holds
+-- some task of the phase hasn't ended, and each such task waits for a lock that another core's task holds
 pub record IsStuck (S : State) : Type 0 where
   pub some : (c : ℕ) × HasOpenTask S c
   pub each : (c : ℕ) → HasOpenTask S c → IsLockedOut S c
 
--- nothing is left to do, or each task that hasn't ended waits for another
+-- all nodes are halted, or each task that hasn't ended waits for a lock that another core's task holds
 abbrev pub IsAtRest : State → Type 0
 IsAtRest S = AllHalted S ⊎ IsStuck S

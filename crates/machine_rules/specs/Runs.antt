@@ -38,7 +38,7 @@ pub record IsCompleteRun (S : State) (events : List Event) : Type 0 where
   pub run : IsRun S events
   pub over : IsOver (after S events)
 
--- what each event of a list tells, if it tells anything, in their order
+-- what the events of a list tell, in their order; an event that tells nothing is left out
 abbrev pub read_off : {X : Type 0} → (State → Event → Option X) → State → List Event → List X
 read_off tell S [] = []
 read_off tell S (e ∷ es) = told_first (tell S e) (read_off tell (next S e) es)
@@ -75,13 +75,13 @@ abbrev pub memory_after : List ℕ → State → List Event → List ℕ
 memory_after memory S [] = memory
 memory_after memory S (e ∷ es) = memory_after (with_store (store_in S e) memory) (next S e) es
 
--- how the task of a core in a phase stands: None where the core's node isn't in that phase, where it has no task, and
--- where its task hasn't ended and waits for no lock
+-- how the task of a core in a phase stands: None if the core's node isn't in that phase, has no task, or has a running task
+-- that waits for no lock
 abbrev pub end_in_phase : ℕ → Option NodeParts → Option TaskEnd
 end_in_phase phase None = None
 end_in_phase phase (Some n) = if n.phase == phase then end_of n n.task else None
 
--- how it stood when its node last had it
+-- how the task stood when its node last had it
 abbrev pub last_end : ℕ → ℕ → State → List Event → Option TaskEnd
 last_end phase core S [] = end_in_phase phase (slice_get S.nodes core)
 last_end phase core S (e ∷ es) = option_or (last_end phase core (next S e) es) (end_in_phase phase (slice_get S.nodes core))

@@ -1,4 +1,4 @@
--- What is well formed in a state by itself, whatever the mails in flight say.
+-- What holds of a state by itself, whatever the messages in flight are.
 use Rattle.std.specs.Prelude.{◌≡◌, ℕ, ◌+◌, ◌*◌, ◌<◌, ◌≤◌, nat_lt, length, slice_get, slice_index, Some}
 use Rattle.std.specs.Option.{is_some}
 use Rattle.region_table.specs.Program.{IsProgram}
@@ -13,13 +13,13 @@ use Rattle.machine_rules.specs.State.{State, home_at, lock_at}
 use Rattle.machine_rules.specs.Next.{actor_index_in}
 use Rattle.machine_rules.specs.Flight.{bit}
 
--- a setting of a machine: a program that is checked, and plans, a shape and fuel of it
+-- a setting of a machine: a checked program, with its plans, and a shape and fuel that fit it
 pub record IsReady (C : Setting) : Type 0 where
   pub context : IsContext C
   pub program : IsProgram C.program
   pub checked : IsChecked C.program
 
--- a node of the machine at its place, and a bank at its place
+-- a node of the machine at its index, and a bank at its index
 pub record IsNodeAt (S : State) (place : ℕ) (n : NodeParts) : Type 0 where
   pub fits : Fits S.setting n
   pub core : n.core ≡ place
@@ -30,8 +30,8 @@ pub record IsBankAt (S : State) (place : ℕ) (b : BankParts) : Type 0 where
   pub banks : b.banks ≡ S.setting.shape.banks
   pub cores : b.cores ≡ S.setting.shape.cores
 
--- a state of the machine of its setting: the program is a checked one, there are as many nodes, banks and numbers as it has
--- actors, each is well formed and in its place, and the mails have ids of their own
+-- a state of the machine of its setting: the program is checked, there are as many nodes, banks and numbers as the machine has
+-- actors, each is well formed and at its index, and no two mails have the same id
 pub record IsMachine (S : State) : Type 0 where
   pub context : IsContext S.setting
   pub program : IsProgram S.setting.program
@@ -41,7 +41,7 @@ pub record IsMachine (S : State) : Type 0 where
   pub numbers : length S.numbers ≡ S.setting.shape.cores + S.setting.shape.banks + 1
   pub node : (core : ℕ) (n : NodeParts) → slice_get S.nodes core ≡ Some n → IsNodeAt S core n
   pub bank : (bank : ℕ) (b : BankParts) → slice_get S.banks bank ≡ Some b → IsBankAt S bank b
-  -- a word, and a lock too, has a home exactly where the program has it
+  -- a word has a home exactly if the program has the word, and so does a lock
   pub words : (w : ℕ) → is_some (home_at S w) ≡ nat_lt w (length S.setting.program.memory)
   pub locks : (l : ℕ) → is_some (lock_at S l) ≡ nat_lt l (length S.setting.program.locks)
   pub cores : length S.keeper.arrived ≡ S.setting.shape.cores
@@ -50,11 +50,11 @@ pub record IsMachine (S : State) : Type 0 where
   pub distinct : AreDistinct S.mails
   pub numbered : (place : ℕ) (m : Mail) → slice_get S.mails place ≡ Some m → m.id.number < slice_index S.numbers (actor_index_in S m.id.sender)
 
--- how often the keeper has posted letters, at most
+-- an upper bound for how often the keeper has posted letters
 abbrev pub rounds : State → ℕ
 rounds S = S.keeper.phase + bit (all_arrived S.keeper)
 
--- a state that so many events have led to: each sends one mail, except for those in which the keeper sends one to each core
+-- a state after `made` events: each sends at most one mail, except for those in which the keeper sends one to each core
 pub record IsSound (S : State) (made : ℕ) : Type 0 where
   pub machine : IsMachine S
   pub mails : length S.mails ≤ made + S.setting.shape.cores * rounds S

@@ -10,8 +10,8 @@ use Rattle.phase_barrier.specs.Barrier.{Barrier}
 use Rattle.phase_barrier.specs.Barrier.{initial_barrier}
 use Rattle.registration_protocol.specs.Node.{NodeParts, Setting, entry_of, initial_node}
 
--- the program with its plans, shape and fuel; a node for each core and a bank for each number, in the order of their
--- numbers; the keeper; the mails in flight; and the number of the next mail of each actor: cores, banks, keeper
+-- the program with its plans, shape and fuel; the nodes and the banks, in the order of their numbers; the keeper; the mails in
+-- flight; and the number of the next mail of each actor: cores, banks, keeper
 pub record State : Type 0 where
   pub setting : Setting
   pub nodes : List NodeParts
@@ -20,11 +20,11 @@ pub record State : Type 0 where
   pub mails : List Mail
   pub numbers : List ℕ
 
--- the banks as a run begins
+-- the banks when a run begins
 abbrev pub initial_banks : Setting → List BankParts
 initial_banks C = map (λ (bank : ℕ). initial_bank bank C.shape.banks C.shape.cores C.program.memory (length C.program.locks)) (range_with_len 0 C.shape.banks)
 
--- the machine as a run begins: each node in the first phase, the first memory in the banks, and no mail in flight
+-- the machine when a run begins: each node is in the first phase, the banks hold the initial memory, and no mail is in flight
 unfoldable pub initial_state : Setting → State
 initial_state C =
     record {

@@ -1,5 +1,5 @@
 //! What holds of the machine's states and runs, for proofs about them.
-//! These are laws: functions that do nothing, whose contracts say it.
+//! A law is a function without effect; its contract states the theorem.
 ghost use Rattle.std.specs.Prelude.{◌≡◌, ℕ, ◌+◌, ◌*◌, ◌≤◌, true, List, length, Some, slice_index};
 ghost use Rattle.dn_base.specs.declared.ids.LoadSeen.{LoadSeen};
 ghost use Rattle.message_net.specs.declared.event.Event.{Event};
@@ -14,12 +14,12 @@ ghost use Rattle.machine_rules.specs.Rest.{IsAtRest};
 ghost use Rattle.machine_rules.specs.Sound.{IsReady, IsSound};
 ghost use Rattle.machine_rules.specs.Reordered.{IsReordered, GoOnAlike};
 
-/// A sound state stays sound at every event that may come, whatever the mails in flight say.
+/// A sound state stays sound by every event that may come, whatever the messages in flight are.
 pub fn a_state_stays_sound()
     ensures { (S : State) (made : ℕ) (e : Event) → IsSound S made → enabled S e ≡ true → IsSound (next S e) (made + 1) }
 {}
 
-/// The machine of a checked program is sound as a run begins.
+/// The machine of a checked program is sound when a run begins.
 pub fn the_opened_machine_is_sound()
     ensures { (C : Setting) → IsReady C → IsSound (initial_state C) 0 }
 {}
@@ -42,26 +42,26 @@ pub fn each_load_reads_the_stores_before_it()
         → seen.value ≡ slice_index (memory_after C.program.memory (initial_state C) events) seen.word.0 }
 {}
 
-/// Where no event may come any more, each node is halted, or some task of the phase hasn't ended and each such task waits for
-/// a lock that the task of another core holds.
+/// If no event may come any more, all nodes are halted; or some task of the phase hasn't ended, and each such task waits for a
+/// lock that the task of another core holds.
 pub fn a_complete_run_is_at_rest()
     ensures { (C : Setting) (events : List Event) → IsReady C → IsCompleteRun (initial_state C) events → IsAtRest (after (initial_state C) events) }
 {}
 
-/// The events of a run, complete or not, are at most 12 for each instruction that a task has retired and for each task that
-/// has started, and 3 for each core in each phase of the program.
+/// A run, complete or not, has at most 12 events for each instruction that a task has retired and for each task that has
+/// started, and 3 for each core in each phase of the program.
 pub fn a_run_has_few_events()
     ensures { (C : Setting) (events : List Event) → IsReady C → IsRun (initial_state C) events
         → length events ≤ 12 * (retired_in (initial_state C) events + started_in (initial_state C) events) + 3 * (C.shape.cores * length C.program.phases) }
 {}
 
-/// No run goes on forever: within the limits of programs and of their fuel none has more events than this.
+/// Every run terminates: within the limits of programs and fuel, none has more than 25,169,664 events.
 pub fn no_run_goes_on_for_ever()
     ensures { (C : Setting) (events : List Event) → IsReady C → IsRun (initial_state C) events → length events ≤ 25169664 }
 {}
 
-/// The order of the mails in flight tells nothing: in another order the same events may come, tell the same and lead to states that
-/// differ in that order alone; the state is coherent or not as before, and it has the same runs.
+/// The order of the mails in flight doesn't matter. In another order the same events may come. They tell the same, and lead to
+/// states that differ only in that order. The state is coherent or not as before, and it has the same runs.
 pub fn mails_may_stand_in_any_order()
     ensures sound { (S T : State) (made : ℕ) → IsSound S made → IsReordered S T → IsSound T made }
     ensures alike { (S T : State) (made : ℕ) → IsSound S made → IsReordered S T → GoOnAlike S T }

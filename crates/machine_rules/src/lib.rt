@@ -1,5 +1,5 @@
-//! What the multicore machine is: its states, which events may come in a state and what each makes of it, runs, what is read
-//! off a run, and when a state is coherent.
+//! The multicore machine as a definition: its states, which events may come in a state, the state after each, runs, what is
+//! read off a run, and when a state is coherent. The protocol is that of DeNovo (PACT 2011) and DeNovoND (ASPLOS 2013).
 #![tactic(auto)]
 
 mod laws;

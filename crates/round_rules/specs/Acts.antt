@@ -1,4 +1,4 @@
--- What a worker does: the calls that it makes of a hall, and the events that come of them.
+-- The acts of a worker: the calls that it makes of a hall, and the events that result.
 use Rattle.std.specs.Prelude.{ℕ, Bool, List, [], ◌∷◌, ◌++◌, map, filter, filter_map, Option, Some, None, option_map, option_to_list, if◌then◌else◌}
 use Rattle.std.specs.List.{range_with_len}
 use Rattle.dn_base.specs.declared.ids.CoreId.{CoreId}
@@ -26,7 +26,7 @@ use Rattle.round_rules.specs.Steps.{Done, Step}
 
 -- one act of a worker
 pub data Act : Type 0 where
-  -- a take from a core's port, by a pick; where it gave a mail, the core handled it
+  -- a take from a core's port, by a pick; if it gave a mail, the core handled it
   Took : CoreId → ℕ → Option (Posted × Done) → Act
   -- an event of a core's own
   Made : CoreId → Event → Done → Act
@@ -34,7 +34,7 @@ pub data Act : Type 0 where
   Stepped : BankId → ℕ → Option Handled → Act
   Kept : ℕ → Option KeeperNote → Act
 
--- whose act it is
+-- the actor of an act
 abbrev pub actor_of : Act → Actor
 actor_of (Took core pick taken) = Core core
 actor_of (Made core event done) = Core core
@@ -54,7 +54,7 @@ keeper_done cores note = record { stamped = note.stamped; sent = filter_map (let
 abbrev pub taken_done : Posted × Done → Done
 taken_done t = t.1
 
--- the event that came of an act, if one did
+-- the event of an act, if it made one
 abbrev pub act_done : Shape → Act → Option Done
 act_done shape (Took core pick taken) = option_map taken_done taken
 act_done shape (Made core event done) = Some done
@@ -88,7 +88,7 @@ core_step _ = None
 abbrev pub steps_by : CoreId → List Act → List Step
 steps_by core acts = filter_map core_step (filter (is_act_of (Core core)) acts)
 
--- whose object an act takes or steps, if it does
+-- the actor whose object an act takes from or steps, if there is one
 abbrev pub tried_in : Act → Option Actor
 tried_in (Took core pick taken) = Some (Core core)
 tried_in (Made core event done) = None
@@ -118,7 +118,7 @@ try_calls number (Stepped bank pick handled) =
     bank_calls bank.0 (entry number (bank_in.TheVariants.Step pick) (bank_out.TheVariants.Stepped handled))
 try_calls number (Kept pick answer) = keeper_calls (entry number (keeper_in.TheVariants.Step pick) (keeper_out.TheVariants.Stepped answer))
 
--- a mail is posted where the machine has the actor that it goes to
+-- a mail is posted if the machine has its receiver
 abbrev pub posting : Shape → ℕ → Posted → Calls
 posting shape number p = if has_actor shape.cores shape.banks p.mail.to then post_calls number p p.mail.to else no_calls
 
@@ -130,7 +130,7 @@ abbrev pub posted_by : Option Done → List Posted
 posted_by None = []
 posted_by (Some d) = d.sent
 
--- the calls of an act: its take or step, and then a post of each mail that its event sent
+-- the calls of an act: its take or step, and then the posts of the mails that its event sent
 abbrev pub act_calls : Shape → ℕ → Act → Calls
 act_calls shape number act = and_then (try_calls number act) (postings shape number (posted_by (act_done shape act)))
 

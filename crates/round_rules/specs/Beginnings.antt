@@ -1,4 +1,4 @@
--- How a round begins, and that whoever has something to do then does something in it.
+-- How a round begins, and that every actor that has something to do makes an event in it.
 use Rattle.std.specs.Prelude.{◌≡◌, ◌≢◌, ℕ, ◌<◌, List, [], ◌∷◌, filter, slice_get, Option, Some, None}
 use Rattle.dn_base.specs.declared.ids.CoreId.{CoreId}
 use Rattle.dn_base.specs.declared.ids.BankId.{BankId}
@@ -21,13 +21,13 @@ use Rattle.round_rules.specs.Rounds.{Round, owner}
 abbrev pub acts_of : Round → Actor → List Act
 acts_of r a = filter (is_act_of a) (r.work (owner r.workers a))
 
--- where the first take of a core gave nothing, its node's own event came next
+-- if the first take of a core gave nothing, its node's own event came next
 abbrev pub OwnComesNext : Setting → State → CoreId → Option (Posted × Done) → List Act → Type 0
 OwnComesNext C S core (Some t) rest = Unit {0}
 OwnComesNext C S core None rest =
     (n : NodeParts) (e : Event) → slice_get S.nodes core.0 ≡ Some n → own_event C n ≡ Some e → (done : Done) × (more : List Act) × (rest ≡ Made core e done ∷ more)
 
--- The worker of a core took from its port first
+-- The worker of a core first took from the core's port
 pub record HasBegun (C : Setting) (S : State) (r : Round) (core : CoreId) : Type 0 where
   pub pick : ℕ
   pub taken : Option (Posted × Done)
@@ -35,18 +35,18 @@ pub record HasBegun (C : Setting) (S : State) (r : Round) (core : CoreId) : Type
   pub acts : acts_of r (Core core) ≡ Took core pick taken ∷ rest
   pub own : OwnComesNext C S core taken rest
 
--- every worker made a pass: it took from the port of each core, and then made the node's own event if the take gave nothing;
--- and it made a step of each bank, and the first worker one of the keeper
+-- every worker made a pass: for each of its cores it took from the core's port, and made the node's own event if the take gave
+-- nothing; it made a step of each of its banks, and the first worker one of the keeper
 pub record HaveBegun (C : Setting) (S : State) (r : Round) : Type 0 where
   pub cores : (core : CoreId) → core.0 < C.shape.cores → HasBegun C S r core
   pub banks : (bank : BankId) → bank.0 < C.shape.banks → (pick : ℕ) × (handled : Option Handled) × (rest : List Act) × (acts_of r (Bank bank) ≡ Stepped bank pick handled ∷ rest)
   pub keeper : (pick : ℕ) × (answer : Option KeeperNote) × (rest : List Act) × (acts_of r Keeper ≡ Kept pick answer ∷ rest)
 
--- the one list has an event of the actor
+-- the merged list has an event of the actor
 abbrev pub HasEvent : Round → Actor → Type 0
 HasEvent r a = filter (of_actor a) r.merged ≢ []
 
--- whoever had something to do in S did something: each actor to which a mail in flight goes, and each core whose node has an
+-- each actor that had something to do in S made an event: each receiver of a mail in flight, and each core whose node has an
 -- own event
 pub record AllHaveActed (C : Setting) (S : State) (r : Round) : Type 0 where
   pub mails : (place : ℕ) (m : Mail) → slice_get S.mails place ≡ Some m → HasEvent r m.to

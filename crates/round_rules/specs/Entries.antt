@@ -1,4 +1,4 @@
--- What the one list of a round has of each actor, by the histories of the hall.
+-- The entries of each actor in the merged list of a round, by the histories of the hall.
 use Rattle.std.specs.Prelude.{◌≡◌, ℕ, ◌<◌, List, filter, filter_map, Option, Some, None, option_map}
 use Rattle.message_net.specs.declared.actor.Actor.{Actor}
 use Rattle.message_net.specs.declared.actor.Actor.TheVariants.{Keeper}
@@ -15,7 +15,7 @@ use Rattle.bank_hall.specs.Halls.{BankEntry, PortEntry, KeeperEntry}
 use Rattle.bank_hall.specs.Handlings.{bank_told, keeper_told, port_took}
 use Rattle.round_rules.specs.Rounds.{Round, core_at, bank_at}
 
--- the entries of an actor in the one list
+-- the entries of an actor in the merged list
 abbrev pub entries_of : Round → Actor → List Stamped
 entries_of r a = filter (of_actor a) r.merged
 
@@ -39,7 +39,7 @@ id_of p = p.mail.id
 abbrev pub port_gave : PortEntry → Option MailId
 port_gave call = option_map id_of (port_took call.output)
 
--- the mail that an entry tells the handling of, if it does
+-- the mail whose handling an entry tells, if it tells one
 abbrev pub mail_handled : Event → Option MailId
 mail_handled (Handle id) = Some id
 mail_handled _ = None
@@ -47,11 +47,11 @@ mail_handled _ = None
 abbrev pub handled_by : Stamped → Option MailId
 handled_by entry = mail_handled entry.event
 
--- the entries of each bank, and of the keeper, are just what its history answered, in its order
+-- the entries of each bank, and of the keeper, are exactly the answers of its history, in order
 pub record AreAnswers (C : Setting) (r : Round) : Type 0 where
   pub banks : (b : ℕ) → b < C.shape.banks → entries_of r (bank_at b) ≡ filter_map bank_answered (r.histories.banks b)
   pub keeper : entries_of r Keeper ≡ filter_map keeper_answered r.histories.keeper
 
--- the mails that each core handles are just those that the history of its port gave, in its order
+-- the mails that each core handles are exactly those that the history of its port gave, in order
 pub record AreGivenMails (C : Setting) (r : Round) : Type 0 where
   pub cores : (c : ℕ) → c < C.shape.cores → filter_map handled_by (entries_of r (core_at c)) ≡ filter_map port_gave (r.histories.ports c)

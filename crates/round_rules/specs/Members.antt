@@ -1,4 +1,4 @@
--- What an actor of the machine is by itself, and what it makes of a mail or does by itself.
+-- An actor of the machine by itself, and what it does with a mail or by its own event.
 use Rattle.std.specs.Prelude.{◌≡◌, ℕ, ◌+◌, true, ⊤, List, [], length, slice_get, Option, Some, None, option_to_list}
 use Rattle.dn_base.specs.declared.ids.Grant.{Grant}
 use Rattle.rv_core.specs.declared.ending.TaskEnd.{TaskEnd}
@@ -69,8 +69,8 @@ abbrev pub deed_kind : Deed → EventKind
 deed_kind (Handles p) = kind_of p.mail.message
 deed_kind (Makes e) = own_kind e
 
--- what comes of a deed: what the actor is then, what it sends, the lock that was granted to it, and how the task of a core
--- that arrived at the barrier has ended
+-- the result of a deed: the actor after it, what it sends, the lock that was granted to it, and how the task of a core that
+-- arrived has ended
 pub record Came : Type 0 where
   pub parts : ActorParts
   pub sent : List Outgoing

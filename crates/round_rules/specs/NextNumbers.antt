@@ -8,8 +8,8 @@ use Rattle.machine_rules.specs.Runs.{after}
 use Rattle.round_rules.specs.Members.{IsIn}
 use Rattle.round_rules.specs.Rounds.{Round, events_of}
 
--- the number of each actor's next mail is at most 25,169,664, the most events of a run: after each front of the round's events,
--- and in T, where the round ended
+-- the number of each actor's next mail is at most 25,169,664, the greatest number of events of a run: after each prefix of the
+-- round's events, and in T, where the round ended
 pub record AreNumbersLow (C : Setting) (S T : State) (r : Round) : Type 0 where
   pub along : (count : ℕ) (a : Actor) → IsIn C a → next_number (after S (take count (events_of r.merged))) a ≤ 25169664
   pub ended : (a : Actor) → IsIn C a → next_number T a ≤ 25169664

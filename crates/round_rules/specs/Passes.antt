@@ -17,8 +17,8 @@ use Rattle.round_rules.specs.Members.{NodeIs, Member}
 use Rattle.round_rules.specs.Steps.{Done, Step, Goes, clock_after}
 use Rattle.round_rules.specs.Acts.{Act, Took, Made, is_act_of, tried_in, events_in, events_by, notes_by, steps_by, taken_step, calls_in}
 
--- a core in the hand of the worker that owns it: its node, its clock, the number of its next mail, what was noted of its
--- events, and how its tasks had ended as it arrived at the barrier
+-- a core owned by a worker: its node, its clock, the number of its next mail, the notes of its events, and how its tasks had
+-- ended when it arrived at the barrier
 pub record Held : Type 0 where
   pub node : NodeParts
   pub clock : ℕ
@@ -36,14 +36,14 @@ seen_at stamp (Some end) = Some (record { stamp = stamp; end = end })
 abbrev pub end_seen : Done → Option EndSeen
 end_seen d = seen_at d.stamped.stamp d.end
 
--- a core after a worker's acts: its node made the steps of those that are the core's, and its log and its ends tell of them
+-- a core after a worker's acts: its node made the steps of its own acts, and its log and its ends tell of them
 pub record HasGone (C : Setting) (acts : List Act) (core : CoreId) (old new : Held) : Type 0 where
   pub goes : Goes C (Core core) old.clock (held_member old) (steps_by core acts) (held_member new)
   pub clock : new.clock ≡ clock_after old.clock (steps_by core acts)
   pub log : new.log ≡ old.log ++ notes_by C.shape (Core core) acts
   pub ends : new.ends ≡ old.ends ++ filter_map end_seen (events_by C.shape (Core core) acts)
 
--- the act of a node's own event, where the worker goes on with the core and the node has one
+-- the act of a node's own event, if the core has numbers left and the node has an own event
 abbrev pub own_acts : CoreId → Bool → Option Event → Done → List Act
 own_acts core true (Some e) done = Made core e done ∷ []
 own_acts core _ _ done = []
@@ -63,13 +63,13 @@ pub record IsCorePass (C : Setting) (acts : List Act) (core : CoreId) (old : Hel
   pub acts_are : filter (is_act_of (Core core)) acts
       ≡ Took core pick taken ∷ own_acts core (has_numbers_left (clock_after old.clock (taken_steps taken)) next) (own_event C node) done
 
--- the actors that a worker tries in one pass: each core with which it goes on, each of its banks, and the keeper if it has it
+-- the actors that a worker tries in one pass: each core that has numbers left, each of its banks, and the keeper if it owns it
 abbrev pub tries_of : List CoreId → List BankId → Bool → List Actor
 tries_of cores banks true = map Core cores ++ (map Bank banks ++ Keeper ∷ [])
 tries_of cores banks false = map Core cores ++ map Bank banks
 
--- one pass of a worker: the hall's pass made the calls of its acts and no other, and it tries each of these actors once, in
--- their order
+-- one pass of a worker: the hall's pass made exactly the calls of its acts, and it tries each of these actors once, in their
+-- order
 pub record HasPassed (C : Setting) (old new : PassView) (tries : List Actor) (acts : List Act) (count : ℕ) : Type 0 where
   pub calls : HasMadeCalls old new (calls_in C.shape (pass_number old) acts)
   pub tried : filter_map tried_in acts ≡ tries

@@ -1,5 +1,5 @@
--- A round: workers act on a hall, each on its own crew, until all are joined and the hall is closed. And what a round comes
--- to: one run of the machine.
+-- A round: workers act on a hall, each with its own crew, until all have ended and the hall is closed. The result of a round is
+-- one run of the machine.
 use Rattle.std.specs.Prelude.{◌≡◌, ℕ, Bool, ◌+◌, ◌<◌, ◌≤◌, ◌%◌, List, [], ◌∷◌, ◌++◌, length, map, filter, flat_map, filter_map, slice_get, Option, Some, None, All, AllPairs, IsPermutation}
 use Rattle.std.specs.List.{range_with_len}
 use Rattle.dn_base.specs.declared.ids.CoreId.{CoreId}
@@ -28,7 +28,7 @@ use Rattle.round_rules.specs.Members.{member, IsIn}
 use Rattle.round_rules.specs.Steps.{Done, Goes, with_stamp}
 use Rattle.round_rules.specs.Acts.{Act, actor_of, note_of, notes_by, events_by, steps_by, calls_in}
 
--- the worker that owns an actor: they go round the workers by their numbers, and the keeper is the first one's
+-- the worker that owns an actor: number n is owned by worker `n mod workers`, and the keeper by worker 0
 abbrev pub owner : ℕ → Actor → ℕ
 owner workers (Core core) = core.0 % workers
 owner workers (Bank bank) = bank.0 % workers
@@ -51,8 +51,8 @@ pub record IsReached (C : Setting) (S : State) : Type 0 where
   pub run : IsRun (initial_state C) before
   pub leads : S ≡ after (initial_state C) before
 
--- a round: how many workers there were and what each did, all calls of each object of the hall, the inbox of each actor as it
--- began and as it ended, and what was noted of all events, in one list
+-- a round: how many workers there were and what each did, all calls of each object of the hall, the inbox of each actor at the
+-- start and at the end, and the merged notes of all events
 pub record Round : Type 0 where
   pub workers : ℕ
   pub work : ℕ → List Act
@@ -68,7 +68,7 @@ bank_in S b bank inbox clock = record { bank = bank; inbox = inbox; next = next_
 abbrev pub keeper_in : State → List Posted → ℕ → KeeperState
 keeper_in S inbox clock = record { keeper = S.keeper; inbox = inbox; next = next_number S Keeper; clock = clock }
 
--- the history of a bank leads from what it was in S to what it is in T
+-- the history of a bank leads from the bank in S to the bank in T
 pub record IsBankClosed (S T : State) (r : Round) (b : ℕ) : Type 0 where
   pub first : BankParts
   pub last : BankParts
@@ -77,7 +77,7 @@ pub record IsBankClosed (S T : State) (r : Round) (b : ℕ) : Type 0 where
   pub clock : ℕ
   pub legal : Legal bank_answer bank_next (bank_in S b first (r.began (bank_at b)) 0) (r.histories.banks b) (bank_in T b last (r.left (bank_at b)) clock)
 
--- so does the keeper's, and that of a port leads from the inbox as it began to the inbox as it ended
+-- the same for the keeper; and the history of a port leads from the inbox at the start to the inbox at the end
 pub record IsKeeperClosed (S T : State) (r : Round) : Type 0 where
   pub clock : ℕ
   pub legal : Legal keeper_answer keeper_next (keeper_in S (r.began Keeper) 0) r.histories.keeper (keeper_in T (r.left Keeper) clock)
@@ -97,7 +97,7 @@ pub record AreCallsOf (number : ℕ) (histories calls : Calls) : Type 0 where
   pub ports : (c : ℕ) → calls_by number (histories.ports c) ≡ calls.ports c
   pub keeper : calls_by number histories.keeper ≡ calls.keeper
 
--- the histories have no calls but the workers'
+-- all calls in the histories are the workers'
 pub record AreNamed (workers : ℕ) (histories : Calls) : Type 0 where
   pub banks : (b : ℕ) → All (λ (e : BankEntry). e.pass < workers) (histories.banks b)
   pub ports : (c : ℕ) → All (λ (e : PortEntry). e.pass < workers) (histories.ports c)
@@ -107,7 +107,7 @@ pub record AreNamed (workers : ℕ) (histories : Calls) : Type 0 where
 abbrev pub IsOwn : Setting → ℕ → ℕ → Act → Type 0
 IsOwn C workers number act = IsIn C (actor_of act) × (owner workers (actor_of act) ≡ number)
 
--- each worker acted on its own crew, by the calls that the histories have of it; and its cores went from S to T by its acts
+-- each worker acted on its own crew, by its calls in the histories, and its cores went from S to T by its acts
 pub record HaveWorked (C : Setting) (S T : State) (r : Round) : Type 0 where
   pub own : (k : ℕ) → k < r.workers → All (IsOwn C r.workers k) (r.work k)
   pub calls : (k : ℕ) → k < r.workers → AreCallsOf k r.histories (calls_in C.shape k (r.work k))
@@ -118,7 +118,7 @@ pub record HaveWorked (C : Setting) (S T : State) (r : Round) : Type 0 where
 abbrev pub IsNoLater : Stamped → Stamped → Type 0
 IsNoLater a b = a.stamp ≤ b.stamp
 
--- the one list has of each actor what was noted of its events, in their order, and nothing else; and its stamps don't fall
+-- the merged list has exactly the notes of each actor's events, in their order, and its stamps don't fall
 pub record IsMerged (C : Setting) (r : Round) : Type 0 where
   pub parts : (a : Actor) → IsIn C a → filter (of_actor a) r.merged ≡ notes_by C.shape a (r.work (owner r.workers a))
   pub inside : All (λ (e : Stamped). IsIn C e.actor) r.merged
@@ -131,7 +131,7 @@ mail_in p = p.mail
 abbrev pub IsInbox : Actor → List Posted → Type 0
 IsInbox a inbox = All (λ (p : Posted). p.mail.to ≡ a) inbox
 
--- the inboxes began with the mails in flight in S, each with stamp 0, and what they ended with is in flight in T
+-- the inboxes began with the mails in flight in S, each with stamp 0, and the mails in them at the end are in flight in T
 pub record AreInboxes (C : Setting) (S T : State) (r : Round) : Type 0 where
   pub began : IsPermutation (map (with_stamp 0) S.mails) (flat_map r.began (actors C))
   pub addressed : (a : Actor) → IsIn C a → IsInbox a (r.began a)
@@ -144,7 +144,7 @@ pub record HasSameSizes (C : Setting) (S T : State) : Type 0 where
   pub banks : length T.banks ≡ length S.banks
   pub numbers : length T.numbers ≡ length S.numbers
 
--- T is what the workers joined after a round that began in S
+-- T is the state that the workers leave after a round that began in S
 pub record IsJoined (C : Setting) (S T : State) (r : Round) : Type 0 where
   pub some : 1 ≤ r.workers
   pub alike : HasSameSizes C S T
@@ -185,7 +185,7 @@ pub record AreToldInOrder (C : Setting) (S : State) (r : Round) (told : List Don
   pub ends : filter_map end_of_done told ≡ read_off end_observed S (events_of r.merged)
 
 -- The round is a run of the machine. Its events may come one after the other from S on, and lead to T except for the order of
--- the mails in flight; their kinds, grants and ends are the run's; and each has a stamp that is at most its place
+-- the mails in flight. Their kinds, grants and ends are the run's, and the stamp of each is at most its position
 pub record IsRoundOf (C : Setting) (S T : State) (r : Round) : Type 0 where
   pub run : IsRun S (events_of r.merged)
   pub mails : IsPermutation (after S (events_of r.merged)).mails T.mails

@@ -1,4 +1,4 @@
--- That no object of a hall is spent in a round: a step or a take gives nothing only where the inbox is empty.
+-- No object of a hall is spent in a round: a step or a take gives nothing only if the inbox is empty.
 use Rattle.std.specs.Prelude.{◌≡◌, ℕ, ◌<◌, List, [], ◌∷◌, ◌++◌, slice_get, Some, None}
 use Rattle.message_net.specs.declared.actor.Actor.TheVariants.{Keeper}
 use Rattle.registry_bank.specs.Bank.{BankParts}
@@ -15,7 +15,7 @@ use Rattle.bank_hall.specs.Keepers.{KeeperState}
 use Rattle.bank_hall.specs.Halls.{BankEntry, PortEntry, KeeperEntry, bank_answer, bank_next, port_answer, port_next, keeper_answer, keeper_next}
 use Rattle.round_rules.specs.Rounds.{Round, core_at, bank_at, bank_in, keeper_in}
 
--- a call stands in the history of an object, which held this as the call came
+-- a call stands in the history of an object, which had this content before the call
 pub record IsCallAt {O I U C : Type 0} (answer : C → I → U) (next : C → I → C) (start : C) (history : List (Entry O I U)) (there : C) (call : Entry O I U) : Type 0 where
   pub before : List (Entry O I U)
   pub behind : List (Entry O I U)

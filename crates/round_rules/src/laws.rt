@@ -1,5 +1,5 @@
 //! What holds of rounds, for callers that let workers make them.
-//! These are laws: functions that do nothing, whose contracts say it.
+//! A law is a function without effect; its contract states the theorem.
 ghost use Rattle.std.specs.Prelude.{◌≡◌, ℕ, ◌≤◌, List, ◌++◌};
 ghost use Rattle.dn_base.specs.declared.ids.CoreId.{CoreId};
 ghost use Rattle.dn_base.specs.declared.ids.Shape.{Shape};
@@ -16,14 +16,13 @@ ghost use Rattle.round_rules.specs.Owners.{AreOwners};
 ghost use Rattle.round_rules.specs.Entries.{AreAnswers, AreGivenMails};
 ghost use Rattle.round_rules.specs.NextNumbers.{AreNumbersLow};
 
-/// What the workers of a round leave is what one run of the machine leaves: that of the events that they noted, in the order of
-/// their stamps.
+/// The state that the workers of a round leave is that of one run of the machine: its events are those that they noted, in the
+/// order of their stamps.
 pub fn a_round_is_a_run()
     ensures { (C : Setting) (S T : State) (r : Round) → IsReached C S → IsJoined C S T r → IsRoundOf C S T r }
 {}
 
-/// The acts of two passes of a worker, one after the other, make the calls of both, lead each core as both do, and note what both
-/// note.
+/// The acts of two consecutive passes of a worker make the calls of both, change each core as both do, and note what both note.
 pub fn passes_follow_one_another()
     ensures calls { (shape : Shape) (number : ℕ) (first more : List Act) (old between new : PassView) → HasMadeCalls old between (calls_in shape number first)
         → HasMadeCalls between new (calls_in shape number more) → HasMadeCalls old new (calls_in shape number (first ++ more)) }
@@ -32,32 +31,32 @@ pub fn passes_follow_one_another()
     ensures notes { (shape : Shape) (a : Actor) (first more : List Act) → notes_by shape a (first ++ more) ≡ notes_by shape a first ++ notes_by shape a more }
 {}
 
-/// Where every worker makes at least one pass, a round has an event of each actor to which a mail was in flight as it began, and
-/// of each core whose node had an event of its own.
+/// If every worker makes at least one pass, a round has an event of each actor to which a mail was in flight at the start, and
+/// of each core whose node had an own event.
 pub fn whoever_has_something_to_do_acts()
     ensures { (C : Setting) (S T : State) (r : Round) → IsReached C S → C.shape.cores ≤ 16 → IsJoined C S T r → HaveBegun C S r → AllHaveActed C S r }
 {}
 
-/// In a round no object of the hall is spent: a step or a take gives nothing only where the inbox is empty.
+/// In a round no object of the hall is spent: a step or a take gives nothing only if the inbox is empty.
 pub fn no_object_is_spent()
     ensures { (C : Setting) (S T : State) (r : Round) → IsReached C S → C.shape.cores ≤ 16 → IsJoined C S T r → AreUnspent C S r }
 {}
 
-/// Each step of a bank, each take from a core's port and each step of the keeper is, in the histories of a round, a call of the
+/// In the histories of a round, each step of a bank, each take from a core's port and each step of the keeper is a call by the
 /// worker that owns it.
 pub fn steps_are_of_owners()
     ensures { (C : Setting) (S T : State) (r : Round) → IsJoined C S T r → AreOwners r }
 {}
 
-/// In the one list of a round the entries of a bank, and of the keeper, are what its history answered, and the mails that a core
-/// handles are those that the history of its port gave, each in the history's order.
+/// In the merged list of a round, the entries of a bank, and of the keeper, are the answers of its history, and the mails that
+/// a core handles are those that the history of its port gave, in the order of the histories.
 pub fn the_one_list_tells_the_histories()
     ensures answers { (C : Setting) (S T : State) (r : Round) → IsJoined C S T r → AreAnswers C r }
     ensures mails { (C : Setting) (S T : State) (r : Round) → IsJoined C S T r → AreGivenMails C r }
 {}
 
-/// No actor's next mail ever has a number greater than 25,169,664, the most events of a run: each mail that was sent was handled
-/// or may still be, so that it has an event of one run.
+/// No actor's next mail ever has a number above 25,169,664, the greatest number of events of a run: each mail that was sent has
+/// been handled or still can be, so it has an event of one run.
 pub fn mail_numbers_stay_low()
     ensures { (C : Setting) (S T : State) (r : Round) → IsReached C S → IsJoined C S T r → AreNumbersLow C S T r }
 {}

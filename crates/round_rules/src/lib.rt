@@ -1,4 +1,4 @@
-//! Rounds of host workers: what a worker does in a pass over a hall, what the workers of a round leave, and that a round is a
+//! Rounds of host workers: what a worker does in a pass over a hall, what the workers of a round leave, and why a round is a
 //! run of the machine.
 #![tactic(auto)]
 

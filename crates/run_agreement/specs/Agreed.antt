@@ -1,5 +1,5 @@
 -- How the tasks of a run stand, and what it means that a state of the machine agrees with the flat machine's run. No contract
--- cites this: it is what the proofs of the laws keep from event to event.
+-- cites this: it is the invariant by which the laws are proved.
 use Rattle.std.specs.Prelude.{◌≡◌, ℕ, ◌+◌, ◌<◌, List, [], ◌∷◌, ◌++◌, map, take, slice_get, slice_index, Option, Some, None}
 use Rattle.std.specs.Option.{option_or}
 use Rattle.dn_base.specs.declared.ids.Grant.{Grant}
@@ -20,14 +20,14 @@ use Rattle.machine_rules.specs.State.{State}
 use Rattle.machine_rules.specs.Next.{granted_in}
 use Rattle.machine_rules.specs.Runs.{load_of, end_in_phase}
 
--- by phase and core: how the core's task of the phase stands, or stood when the phase was over, and what it has loaded
+-- by phase and core: how the core's task of the phase stands, or stood when the phase was over, and its loads
 abbrev pub States : Type 0
 States = ℕ → ℕ → TaskState
 
 abbrev pub Loads : Type 0
 Loads = ℕ → ℕ → List LoadSeen
 
--- by phase and core: how the core's task of the phase was last seen to stand, if it was seen that it had ended or waited for a lock
+-- by phase and core: the last state in which the core's task of the phase was seen to have ended or to wait for a lock
 abbrev pub Ends : Type 0
 Ends = ℕ → ℕ → Option TaskEnd
 
@@ -41,20 +41,19 @@ abbrev pub tasks_from : States → Loads → ℕ → List Phase → List Started
 tasks_from states loads phase [] = []
 tasks_from states loads phase (p ∷ ps) = map (stands states loads phase) p.tasks ++ tasks_from states loads (phase + 1) ps
 
--- the nodes of a state have the tasks that stand so: a node's task is that of its phase, and those of later phases are at their
--- start
+-- the nodes of a state have these tasks: a node's task is that of its phase, and tasks of later phases are at their start
 pub record AreShown (S : State) (states : States) (loads : Loads) : Type 0 where
   pub here : (c : ℕ) (n : NodeParts) (t : TaskState) → slice_get S.nodes c ≡ Some n → n.task ≡ Some t → states n.phase c ≡ t
   pub ahead : (c phase : ℕ) (n : NodeParts) (d : TaskDecl) → slice_get S.nodes c ≡ Some n → n.phase < phase → declared S.setting.program phase c ≡ Some d → states phase c ≡ started d
   pub unread : (c phase : ℕ) (n : NodeParts) → slice_get S.nodes c ≡ Some n → n.phase < phase → loads phase c ≡ []
 
--- the task of a phase that stands so has ended, and this end is seen of it
+-- the task of a phase has ended, and was seen to end so
 pub record TaskHasEnded (phase : ℕ) (d : TaskDecl) (t : TaskState) (seen : Option TaskEnd) : Type 0 where
   pub by : End
   pub over : t.end ≡ Some by
   pub shown : seen ≡ Some (record { phase = record { 0 = phase }; core = d.core; end = shown_end by; retired = t.retired })
 
--- the tasks of the phases before that of their node have ended, and these ends are seen of them
+-- the tasks of the phases before their node's phase have ended, and were seen to end so
 abbrev pub AreEnded : State → States → Ends → Type 0
 AreEnded S states ends =
     (c phase : ℕ) (n : NodeParts) (d : TaskDecl) → slice_get S.nodes c ≡ Some n → phase < n.phase → declared S.setting.program phase c ≡ Some d → TaskHasEnded phase d (states phase c) (ends phase c)
@@ -64,8 +63,8 @@ abbrev pub IsWorldAt : Setting → List Grant → States → Loads → ℕ → P
 IsWorldAt C gs states loads phase p memory =
     IsAgreed C.program C.fuel gs phase (tasks_from states loads 0 (take phase C.program.phases)) p (stands states loads phase) memory
 
--- a state of the machine, with the memory M to which the stores so far were applied, agrees with the flat machine's run by the
--- grants so far, where each task has done these loads and these ends of tasks were seen
+-- a state of the machine agrees with the flat machine's run by the grants so far; M is the memory to which the stores so far
+-- were applied, each task has done these loads, and the tasks were seen to end so
 pub record Agreed (S : State) (M : ℕ → ℕ) (gs : List Grant) (loads : Loads) (ends : Ends) : Type 0 where
   pub states : States
   pub shown : AreShown S states loads

@@ -1,4 +1,4 @@
--- What it means that a complete run has the end of the flat machine's run by its grants.
+-- What it means that a complete run has the same end as the flat machine's run by its grants.
 use Rattle.std.specs.Prelude.{◌≡◌, List, Some}
 use Rattle.message_net.specs.declared.event.Event.{Event}
 use Rattle.registration_protocol.specs.Node.{Setting}
@@ -7,7 +7,7 @@ use Rattle.flat_machine.specs.Ending.{flat_end}
 use Rattle.machine_rules.specs.State.{initial_state}
 use Rattle.machine_rules.specs.Runs.{grants_of, all_loads, ending_of_run}
 
--- the run's grants are whole; the loads of the flat machine's run by them are the run's, task by task, and so is its ending: the
+-- The run's grants are a whole list. The flat machine's run by them has the same loads, task by task, and the same ending: the
 -- outcome, how each task that started ended, and the memory
 pub record HasFlatEnd (C : Setting) (events : List Event) : Type 0 where
   pub end' : FlatEnd

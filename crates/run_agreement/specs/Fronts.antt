@@ -21,8 +21,8 @@ pub record HasStartedWith (F : Flat) (phase : ℕ) (d : TaskDecl) (loads : List 
   pub more : List LoadSeen
   pub front : task.loads ≡ loads ++ more
 
--- the run's grants lead the flat machine to F, and of each task of a phase that has begun in the run the loads so far are a front
--- of its loads in F
+-- the run's grants lead the flat machine to F, and for each task of a phase that has begun, the loads so far are a prefix of
+-- its loads in F
 pub record IsFrontOf (C : Setting) (events : List Event) (F : Flat) : Type 0 where
   pub leads : so_far C.program C.fuel (grants_of (initial_state C) events) ≡ Some F
   pub fronts : (phase : ℕ) (p : Phase) (d : TaskDecl) → phase ≤ (after (initial_state C) events).keeper.phase → slice_get C.program.phases phase ≡ Some p → IsAmong p.tasks d

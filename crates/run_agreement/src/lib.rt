@@ -1,7 +1,7 @@
-//! The agreement of every run of the machine with the flat machine's run by the grants that it made.
+//! Why every run of the machine agrees with the flat machine's run by the same grants.
 //!
-//! Each event of a run keeps that the machine's state, its tasks as their nodes have them and the memory to which the stores were
-//! applied, leads to the state to which the grants so far lead the flat machine.
+//! Each event keeps an invariant. The world of a state is made of its tasks, as their nodes have them, and of the memory to
+//! which the stores were applied. This world leads to the state to which the grants so far lead the flat machine.
 #![tactic(auto)]
 
 mod laws;
