@@ -1,4 +1,4 @@
-//! From a text to its checked program, or to the line that refuses it: what every program does first that takes a text.
+//! From a text to its checked program, or to the line that refuses it: the first step of every program that takes a text.
 #![tactic(auto)]
 
 mod programs;

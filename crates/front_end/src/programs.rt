@@ -15,12 +15,12 @@ use run_report::{Refusal, refusal_line};
 use rv_assembler::{SourceFault, assemble};
 use std::alloc::Global;
 
-/// Why nothing is done with a text or a document.
+/// Why a text or a document gives no result.
 #[derive(Debug, Drop)]
 pub enum Stop {
     /// It is refused with this line.
     Refused(Sequence<u8>),
-    /// There is no memory.
+    /// There wasn't enough memory.
     Memory,
 }
 
@@ -48,7 +48,7 @@ fn refusal(alloc: Global, why: &Refusal) -> Stop
 /// The program of a text, unchecked.
 ///
 /// # Errors
-/// `Refused` with the line of the text's first fault, and `Memory` where there is no room.
+/// `Refused` with the line of the text's first fault, and `Memory` if there is no room.
 pub fn program_of(alloc: Global, text: &[u8]) -> Result<Program, Stop>
     ensures ok { IfOk result (λ program. source text.now ≡ Ok program) }
     ensures names { IfOk result (λ program. AreDeclaredNames (names_of program)) }
@@ -61,10 +61,10 @@ pub fn program_of(alloc: Global, text: &[u8]) -> Result<Program, Stop>
     }
 }
 
-/// The program of a text, checked: its tasks keep out of each other's words.
+/// The program of a text, checked: its tasks don't conflict.
 ///
 /// # Errors
-/// `Refused` with the line of the text's first fault, or of its program's least conflict, and `Memory` where there is no room.
+/// `Refused` with the line of the text's first fault, or of its program's least conflict, and `Memory` if there is no room.
 pub fn checked_of(alloc: Global, text: &[u8]) -> Result<Checked, Stop>
     ensures ok { IfOk result (λ program. source text.now ≡ Ok program) }
     ensures checked { IfOk result IsChecked }

@@ -23,11 +23,11 @@ owned_core o = o.core
 abbrev pub bank_of : BankLog → BankId
 bank_of b = b.bank
 
--- whether the worker goes on with an owned core
+-- whether an owned core has numbers left: its clock and the number of its next mail are below their limits
 abbrev pub owned_has_numbers : Owned → Bool
 owned_has_numbers o = has_numbers_left o.clock o.next
 
--- there is room for the notes of so many more events of the core, and for the ends that they may tell
+-- there is room for the notes of this many more events of the core, and for the ends that they may tell
 abbrev pub HasRoom : Owned → ℕ → Type 0
 HasRoom o more = (vec_len o.log + more ≤ vec_capacity o.log) × (vec_len o.ends + more ≤ vec_capacity o.ends)
 
@@ -43,6 +43,6 @@ pub record IsCrew (C : Setting) (crew : Crew) : Type 0 where
   pub banks : All (λ (b : BankLog). b.bank.0 < C.shape.banks) crew.banks.items
   pub banks_rise : AllPairs (λ (a b : BankLog). a.bank.0 < b.bank.0) crew.banks.items
 
--- what was noted of the keeper's events, if the worker has it
+-- the notes of the keeper's events, if the worker owns the keeper
 abbrev pub keeper_log : Crew → Option (List Stamped)
 keeper_log crew = option_map (λ log. log.items) crew.keeper

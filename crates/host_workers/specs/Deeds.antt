@@ -37,7 +37,7 @@ pub record HasMoved (C : Setting) (core : CoreId) (steps : List Step) (old new :
   pub log : new.log ≡ old.log ++ map step_note steps
   pub ends : new.ends ≡ old.ends ++ filter_map step_end steps
 
--- an event with a stamp and what came of it are noted, and the mail that the core sends is this one, if it sends one
+-- an event is noted with its stamp and result, and the core sends this mail, if it sends one
 pub record IsNoted (core : CoreId) (stamp : ℕ) (event : Event) (kind : EventKind) (came : NodeCame) (old new : Held) (sent : Option Posted) : Type 0 where
   pub node : new.node ≡ old.node
   pub clock : new.clock ≡ stamp
@@ -46,7 +46,7 @@ pub record IsNoted (core : CoreId) (stamp : ℕ) (event : Event) (kind : EventKi
   pub ends : new.ends ≡ old.ends ++ option_to_list (seen_at stamp came.end)
   pub mail : option_to_list sent ≡ map (with_stamp stamp) (mails_of (Core core) old.next (option_to_list came.sent))
 
--- the step of a node's own event, where the worker goes on with the core and the node has one
+-- the step of a node's own event, if the core has numbers left and the node has an own event
 abbrev pub own_steps : Bool → Option Event → Done → List Step
 own_steps true (Some e) done = record { deed = Makes e; done = done } ∷ []
 own_steps _ _ done = []

@@ -1,4 +1,4 @@
--- How the tasks ended that arrived at the barrier in a round, and in a whole run.
+-- How the tasks had ended that arrived at the barrier, in a round and in a whole run.
 use Rattle.std.specs.Prelude.{◌≡◌, ℕ, ◌<◌, ◌==◌, List, [], ◌∷◌, length, map, filter, filter_map, drop, slice_get, slice_index, slice_index_or, Option, Some, None, All, AllPairs, if◌then◌else◌}
 use Rattle.rv_core.specs.declared.ending.TaskEnd.{TaskEnd}
 use Rattle.message_net.specs.declared.actor.Actor.{Actor}
@@ -24,18 +24,18 @@ IsStampedBefore a b = a.actor ≡ b.actor → a.stamp < b.stamp
 abbrev pub EndIsOfCore : ℕ → Done → Type 0
 EndIsOfCore cores d = (end : TaskEnd) → d.end ≡ Some end → (core : ℕ) × (core < cores) × (d.stamped.actor ≡ core_at core)
 
--- These events are noted in the one list, and what each worker saw of its cores' ends is told by them
+-- The merged list has the notes of these events, and they tell the ends that each worker saw of its cores
 pub record AreEndsOf (merged : List Stamped) (ends : List (List EndSeen)) (told : List Done) : Type 0 where
   pub notes : map note_of told ≡ merged
   pub rising : AllPairs IsStampedBefore merged
   pub of_cores : All (EndIsOfCore (length ends)) told
   pub seen : (core : ℕ) (es : List EndSeen) → slice_get ends core ≡ Some es → es ≡ filter_map end_seen (filter (done_by (core_at core)) told)
 
--- what is left of the ends that were seen of each core, where so many of them are done with
+-- the ends seen of each core that are left after the first ones were used
 abbrev pub left_of : List (List EndSeen) → List ℕ → ℕ → List EndSeen
 left_of ends done core = drop (slice_index done core) (slice_index_or ends core [])
 
--- the first of them, where it was seen at an event with this stamp, and what is left after that event
+-- the first of them, if it was seen at an event with this stamp, and what is left after that event
 abbrev pub first_at : ℕ → List EndSeen → Option TaskEnd
 first_at stamp [] = None
 first_at stamp (x ∷ xs) = if x.stamp == stamp then Some x.end else None
@@ -44,7 +44,7 @@ abbrev pub behind_at : ℕ → List EndSeen → List EndSeen
 behind_at stamp [] = []
 behind_at stamp (x ∷ xs) = if x.stamp == stamp then xs else x ∷ xs
 
--- the end of the task of the core that made an event, where its worker saw one at that event, and what is left of each core then
+-- the end of the task of the core that made an event, if its worker saw one at that event, and what is left of each core then
 abbrev pub end_at_stamp : Actor → ℕ → (ℕ → List EndSeen) → Option TaskEnd
 end_at_stamp (Core core) stamp left = first_at stamp (left core.0)
 end_at_stamp _ stamp left = None
@@ -58,13 +58,13 @@ abbrev pub with_ends : List TaskEnd → EndTable → EndTable
 with_ends [] table = table
 with_ends (e ∷ es) table = with_ends es (with_end (Some e) table)
 
--- how the tasks stand that the nodes of a state have
+-- how the tasks of the nodes of a state stand
 abbrev pub node_standing : NodeParts → Option TaskEnd
 node_standing n = end_of n n.task
 
 abbrev pub last_ends : State → List TaskEnd
 last_ends S = filter_map node_standing S.nodes
 
--- the ends with which tasks arrived in a run, and then how the tasks of its last state stand
+-- the ends with which tasks arrived in a run, and how the tasks of its last state stand
 abbrev pub ends_of_run : State → List Event → EndTable
 ends_of_run S events = with_ends (last_ends (after S events)) (with_ends (read_off end_observed S events) (no_ends (length S.setting.program.phases)))

@@ -1,4 +1,4 @@
--- How a round of workers ends: the work of all is done, the hall is closed, and what they own is gathered.
+-- How a round of workers ends: all workers have done their work, the hall is closed, and what they own is gathered.
 use Rattle.std.specs.Prelude.{◌≡◌, ℕ, ◌<◌, ◌≤◌, List, [], ◌∷◌, ◌++◌, length, map, slice_get, Some, All}
 use Rattle.registration_protocol.specs.Node.{Setting}
 use Rattle.machine_rules.specs.State.{State}
@@ -38,8 +38,7 @@ bank_histories f = map (λ h. h.items) f.banks.items
 abbrev pub port_histories : Finished → List (List PortEntry)
 port_histories f = map (λ h. h.items) f.ports.items
 
--- The hall was closed with the workers' passes; its objects, taken apart, and the roster that the crews make up, taken apart, are
--- these
+-- The hall was closed with the workers' passes. These are its objects, taken apart, and the roster of the crews, taken apart
 pub record IsFinished (cores banks : ℕ) (hall : HallView) (dones : List Job) (f : Finished) : Type 0 where
   pub objects : Objects
   pub banks_closed : IsClosedRow bank_state bank_answer bank_next hall.banks (length dones) objects.banks (bank_histories f)
@@ -67,7 +66,7 @@ left_in C f =
       numbers = f.parted.next.items ++ f.objects.next.items;
     }
 
--- What is left of a round, before it is put together: the machine stood for S, the round was opened on it, all workers have made
+-- What is left of a round before it is put together: the machine stood for S, the round was opened on it, all workers have made
 -- their passes, and the hall was closed
 pub record IsRoundLeft (S M : State) (made workers : ℕ) (f : Finished) : Type 0 where
   pub some : 1 ≤ workers

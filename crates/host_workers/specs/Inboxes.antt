@@ -1,4 +1,4 @@
--- The inboxes of all actors, and the parts of a hall that are made of them.
+-- The inboxes of all actors, and the parts of a hall that are made from them.
 use Rattle.std.specs.Prelude.{◌≡◌, ℕ, Bool, List, [], ◌∷◌, ◌++◌, map, filter, flat_map, slice_get, slice_set, slice_index_or, Some}
 use Rattle.std.specs.List.{range_with_len}
 use Rattle.dn_base.specs.declared.ids.Shape.{Shape}
@@ -25,7 +25,7 @@ pub record InboxParts : Type 0 where
 abbrev pub inboxes_of : Inboxes → InboxParts
 inboxes_of i = record { cores = map (λ v. v.items) i.cores.items; banks = map (λ v. v.items) i.banks.items; keeper = i.keeper.items }
 
--- a mail is put at the end of the inbox at a place, and of the inbox of an actor, if there is one
+-- a mail is put at the end of the inbox at an index, or of the inbox of an actor, if there is one
 abbrev pub put_at : Posted → ℕ → List (List Posted) → List (List Posted)
 put_at p place inboxes = slice_set inboxes place (slice_index_or inboxes place [] ++ p ∷ [])
 
@@ -41,7 +41,7 @@ goes_to a m = same_actor a m.to
 abbrev pub mails_to : Actor → List Mail → List Mail
 mails_to a mails = filter (goes_to a) mails
 
--- the inbox of an actor as a round begins: the mails in flight that go to it, in their order, each with stamp 0
+-- the inbox of an actor when a round begins: the mails in flight that go to it, in their order, each with stamp 0
 abbrev pub inbox_at_first : List Mail → Actor → List Posted
 inbox_at_first mails a = map (with_stamp 0) (mails_to a mails)
 
@@ -65,7 +65,7 @@ inbox_of inboxes Keeper = inboxes.keeper
 abbrev pub all_posted : InboxParts → List Posted
 all_posted inboxes = flat_map (λ ps. ps) inboxes.cores ++ (flat_map (λ ps. ps) inboxes.banks ++ inboxes.keeper)
 
--- the banks as the objects of a hall hold them: each with its inbox, the number of its next mail and a clock
+-- the banks in the objects of a hall: each with its inbox, the number of its next mail and a clock
 abbrev pub bank_parts : BankActorParts → BankParts
 bank_parts b = b.state.bank
 
@@ -81,8 +81,8 @@ bank_clock b = b.state.clock
 abbrev pub port_mails : PortParts → List Posted
 port_mails p = p.inbox
 
--- the objects of a hall hold these banks, this keeper, these inboxes and these numbers of the next mails: of the banks in their
--- order, and then of the keeper
+-- the objects of a hall have these banks, this keeper, these inboxes and these numbers of next mails: first the banks' in their
+-- order, then the keeper's
 pub record AreObjectsOf (banks : List BankParts) (keeper : Barrier) (inboxes : InboxParts) (next : List ℕ) (bank_objects : List BankActorParts) (ports : List PortParts) (keeper_object : KeeperActorParts) : Type 0 where
   pub bank_parts_are : map bank_parts bank_objects ≡ banks
   pub bank_inboxes : map bank_inbox bank_objects ≡ inboxes.banks

@@ -1,4 +1,4 @@
--- What a round of workers comes to.
+-- The result of a round of workers.
 use Rattle.std.specs.Prelude.{◌≡◌, ℕ, ◌+◌, length, map, AllPairs}
 use Rattle.message_net.specs.declared.actor.Actor.{Actor}
 use Rattle.registration_protocol.specs.Node.{Setting}
@@ -20,11 +20,11 @@ use Rattle.host_workers.specs.declared.round.Round.{Round}
 use Rattle.host_workers.specs.Inboxes.{inbox_at_first}
 use Rattle.host_workers.specs.Opening.{StandsFor}
 
--- the setting of a machine, which a round leaves as it is
+-- the setting of a machine, which a round doesn't change
 abbrev pub fixed_setting : FixedParts → Setting
 fixed_setting fixed = record { program = fixed.decoded; plans = fixed.plans.items; shape = fixed.shape; fuel = fixed.fuel }
 
--- the machine of the parts that a round leaves as they are, and of those that it changes
+-- the machine made of the parts that a round doesn't change, and of those that it changes
 abbrev pub made_from_parts : FixedParts → Moving → Made
 made_from_parts fixed moving =
     record {
@@ -40,13 +40,14 @@ made_from_parts fixed moving =
       made = fixed.made;
     }
 
--- what a round leaves of a machine in a state as it is
+-- the parts of a machine that a round doesn't change
 abbrev pub AreFixedPartsOf : State → FixedParts → Type 0
 AreFixedPartsOf M fixed = M.setting ≡ fixed_setting fixed
 
 -- The round that workers made of a machine in state M, which stands for S: what each did, and which calls its hall had. It is a
--- run of the machine from S on, to a state for which the machine stands that is handed back. The entries of the one list stand by
--- their stamps, and those with one stamp by their actors; and each bank, each core's port and the keeper has one history
+-- run of the machine from S on, to a state for which the machine stands that is handed back. The entries of the merged list are
+-- ordered by their stamps, and those with the same stamp by their actors. Each bank, each core's port and the keeper has one
+-- history
 pub record IsMadeRound (S M : State) (made workers : ℕ) (out : Round) : Type 0 where
   pub round : rules.Round
   pub workers_are : round.workers ≡ workers

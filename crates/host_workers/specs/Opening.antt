@@ -30,7 +30,7 @@ crew_of job = job.crew
 abbrev pub pass_of : Job → PassView
 pass_of job = job.pass
 
--- what changes in a machine of this shape as events come is that of a state, whose mails go to actors of the machine
+-- what events change in a machine of this shape is that of a state, whose mails go to actors of the machine
 pub record IsMovingOf (shape : Shape) (S : State) (m : Moving) : Type 0 where
   pub machine : IsMachine S
   pub shape_is : S.setting.shape ≡ shape
@@ -43,14 +43,14 @@ pub record IsMovingOf (shape : Shape) (S : State) (m : Moving) : Type 0 where
   pub numbers : S.numbers ≡ m.next.items
   pub addressed : All (λ (mail : Mail). has_actor shape.cores shape.banks mail.to ≡ true) S.mails
 
--- the objects that a hall shares as a round begins
+-- the objects that a hall shares when a round begins
 pub record Objects : Type 0 where
   pub banks : List BankActorParts
   pub ports : List PortParts
   pub keeper : KeeperActorParts
 
--- The hall holds the banks, the keeper and the mails in flight of a state of the machine, with clocks at 0; and each worker has a
--- fresh pass of it and its part of the cores and banks, of which nothing is noted yet
+-- The hall has the banks, the keeper and the mails in flight of a state of the machine, with clocks at 0. Each worker has an
+-- unused pass of it, and its part of the cores and banks, without notes
 pub record IsInitialRound (C : Setting) (S : State) (workers : ℕ) (hall : HallView) (jobs : List Job) : Type 0 where
   pub inboxes : InboxParts
   pub objects : Objects

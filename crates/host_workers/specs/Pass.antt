@@ -35,7 +35,7 @@ pub record IsSameCrew (had has : Crew) : Type 0 where
   pub cores : map owned_core has.cores.items ≡ map owned_core had.cores.items
   pub banks : map bank_of has.banks.items ≡ map bank_of had.banks.items
 
--- the acts of a core are a take and its own event where the worker goes on with it, and else there are none
+-- the acts of a core are a take and its own event, if it has numbers left; otherwise there are none
 pub record IsTurnOf (C : Setting) (acts : List Act) (had : Owned) : Type 0 where
   pub turn : owned_has_numbers had ≡ true → IsCorePass C acts had.core (held_of had)
   pub stays : owned_has_numbers had ≡ false → filter (is_act_of (Core had.core)) acts ≡ []
@@ -46,26 +46,26 @@ pub record IsStepOf (acts : List Act) (had : BankLog) : Type 0 where
   pub handled : Option Handled
   pub acts_are : filter (is_act_of (Bank had.bank)) acts ≡ Stepped had.bank pick handled ∷ []
 
--- so are those of the keeper, if the worker has it
+-- the same for the keeper, if the worker owns it
 abbrev pub IsKeptOf : List Act → Bool → Type 0
 IsKeptOf acts false = filter (is_act_of Keeper) acts ≡ []
 IsKeptOf acts true = (pick : ℕ) × (answer : Option KeeperNote) × (filter (is_act_of Keeper) acts ≡ Kept pick answer ∷ [])
 
--- the acts of one pass of a worker: the turn of each of its cores, a step of each of its banks and, if it has it, one of the
--- keeper
+-- the acts of one pass of a worker: the turn of each of its cores, a step of each of its banks, and a step of the keeper if the
+-- worker owns it
 pub record AreActsOfPass (C : Setting) (acts : List Act) (had : Crew) : Type 0 where
   pub turns : (i : ℕ) (o : Owned) → slice_get had.cores.items i ≡ Some o → IsTurnOf C acts o
   pub steps : (i : ℕ) (b : BankLog) → slice_get had.banks.items i ≡ Some b → IsStepOf acts b
   pub kept : IsKeptOf acts (is_some had.keeper)
 
--- what the keeper's log, if there is one, has more
+-- what was appended to the keeper's log, if there is one
 abbrev pub HasMore : List Stamped → Option (List Stamped) → Option (List Stamped) → Type 0
 HasMore notes None None = Unit {0}
 HasMore notes (Some had) (Some has) = has ≡ had ++ notes
 HasMore notes _ _ = ⊥
 
--- A crew after a worker's acts, each of an actor of the crew: each core went by its acts, and each log has the notes of its actor's
--- events more
+-- A crew after a worker's acts, each of an actor of the crew: each core changed by its acts, and the notes of its events were
+-- appended to each actor's log
 pub record IsCrewAfter (C : Setting) (had has : Crew) (acts : List Act) : Type 0 where
   pub own : All (IsActOf had) acts
   pub same : IsSameCrew had has
@@ -74,18 +74,18 @@ pub record IsCrewAfter (C : Setting) (had has : Crew) (acts : List Act) : Type 0
       → d.log.items ≡ b.log.items ++ notes_by C.shape (Bank b.bank) acts
   pub keeper : HasMore (notes_by C.shape Keeper acts) (keeper_log had) (keeper_log has)
 
--- a worker's acts: the hall's pass made their calls and no other, and its crew is the one after them
+-- a worker's acts: the hall's pass made exactly their calls, and its crew is the one after them
 pub record IsWork (C : Setting) (old new : PassView) (had has : Crew) (acts : List Act) : Type 0 where
   pub calls : HasMadeCalls old new (calls_in C.shape (pass_number old) acts)
   pub crew : IsCrewAfter C had has acts
 
--- an act comes before another only where its actor isn't one that comes later: cores come first, then banks, each by number, then
--- the keeper
+-- an act may come before another only if its actor doesn't come later in the order: cores first, then banks, each by number,
+-- then the keeper
 abbrev pub InTurn : Act → Act → Type 0
 InTurn a b = actor_order (actor_of a) (actor_of b) ≢ Greater
 
--- One pass of a worker, of which so many events came. All that its cores do comes before the first step of a bank, and all of its
--- banks' steps before the keeper's
+-- One pass of a worker, which made `count` events. All acts of its cores come before the first step of a bank, and all steps of
+-- its banks before the keeper's
 pub record HasWorked (C : Setting) (old new : PassView) (had has : Crew) (count : ℕ) : Type 0 where
   pub acts : List Act
   pub work : IsWork C old new had has acts
@@ -93,8 +93,8 @@ pub record HasWorked (C : Setting) (old new : PassView) (had has : Crew) (count 
   pub is_pass : AreActsOfPass C acts had
   pub order : AllPairs InTurn acts
 
--- One pass of a worker for which there was no room: what it made until then. The hall's pass has the calls of its acts, except for the
--- posts of some mails that the last event sent; and the crew is the one after all these acts, so that each mail that a take gave was
+-- One pass of a worker that ran out of memory: what it made until then. The hall's pass has the calls of its acts, except for
+-- the posts of some mails that the last event sent. The crew is the one after all these acts, so each mail that was taken is
 -- handled and noted
 pub record HasWorkedPartly (C : Setting) (old new : PassView) (had has : Crew) : Type 0 where
   pub acts : List Act

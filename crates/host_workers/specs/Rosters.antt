@@ -1,4 +1,4 @@
--- A roster: the cores, the banks and the keeper's log that workers own, and how they are dealt out to crews.
+-- A roster: the cores, the banks and the keeper's log that workers own, and how they are dealt to crews.
 use Rattle.std.specs.Prelude.{◌≡◌, ℕ, ◌==◌, List, [], ◌∷◌, ◌++◌, length, map, filter, slice_get, slice_index, Some, None, if◌then◌else◌}
 use Rattle.grant_log.specs.declared.log.Stamped.{Stamped}
 use Rattle.message_net.specs.declared.actor.Actor.{Actor}
@@ -12,7 +12,7 @@ use Rattle.host_workers.specs.declared.owned.Owned.{Owned}
 use Rattle.host_workers.specs.declared.roster.Roster.{Roster}
 use Rattle.host_workers.specs.Crews.{keeper_log}
 
--- the cores and the banks in the order of their numbers, and what was noted of the keeper's events
+-- the cores and the banks in the order of their numbers, and the notes of the keeper's events
 pub record RosterParts : Type 0 where
   pub cores : List Owned
   pub banks : List BankLog
@@ -27,14 +27,14 @@ core_actor o = Core o.core
 abbrev pub bank_actor : BankLog → Actor
 bank_actor b = Bank b.bank
 
--- the roster of a machine of so many cores and banks, each in the place of its number
+-- the roster of a machine with these numbers of cores and banks, each at the index of its number
 pub record IsRoster (cores banks : ℕ) (roster : RosterParts) : Type 0 where
   pub core_count : length roster.cores ≡ cores
   pub core_at : (i : ℕ) (o : Owned) → slice_get roster.cores i ≡ Some o → o.core.0 ≡ i
   pub bank_count : length roster.banks ≡ banks
   pub bank_at : (i : ℕ) (b : BankLog) → slice_get roster.banks i ≡ Some b → b.bank.0 ≡ i
 
--- a core of which nothing is noted yet: its node, its clock at 0, and the number of its next mail
+-- a core without notes: its node, its clock at 0, and the number of its next mail
 pub record IsFreshCore (nodes : List NodeParts) (next : List ℕ) (i : ℕ) (o : Owned) : Type 0 where
   pub node : slice_get nodes i ≡ Some o.node
   pub next_is : o.next ≡ slice_index next i
@@ -42,7 +42,7 @@ pub record IsFreshCore (nodes : List NodeParts) (next : List ℕ) (i : ℕ) (o :
   pub log : o.log.items ≡ []
   pub ends : o.ends.items ≡ []
 
--- the roster of these nodes as a round begins, by the numbers of all actors' next mails
+-- the roster of these nodes when a round begins, by the numbers of all actors' next mails
 pub record IsFreshRoster (nodes : List NodeParts) (banks : ℕ) (next : List ℕ) (roster : RosterParts) : Type 0 where
   pub whole : IsRoster (length nodes) banks roster
   pub cores : (i : ℕ) (o : Owned) → slice_get roster.cores i ≡ Some o → IsFreshCore nodes next i o
@@ -60,7 +60,7 @@ pub record IsCrewOf (workers : ℕ) (roster : RosterParts) (number : ℕ) (crew 
   pub banks : crew.banks.items ≡ owned_by bank_actor workers number roster.banks
   pub keeper : keeper_log crew ≡ (if number == 0 then Some roster.keeper else None)
 
--- the roster is dealt out to so many workers' crews, in the order of the workers
+-- the roster is dealt to the crews of this many workers, in the order of the workers
 pub record AreCrewsOf (workers : ℕ) (roster : RosterParts) (crews : List Crew) : Type 0 where
   pub count : length crews ≡ workers
   pub each : (k : ℕ) (crew : Crew) → slice_get crews k ≡ Some crew → IsCrewOf workers roster k crew
@@ -69,7 +69,7 @@ pub record AreCrewsOf (workers : ℕ) (roster : RosterParts) (crews : List Crew)
 abbrev pub AreDealt : ℕ → ℕ → List Crew → Type 0
 AreDealt cores banks crews = (roster : RosterParts) × IsRoster cores banks roster × AreCrewsOf (length crews) roster crews
 
--- whatever roster of so many cores and banks was dealt out, it is this one
+-- any roster of this many cores and banks that was dealt to the crews is this one
 abbrev pub IsTheDealt : ℕ → ℕ → List Crew → RosterParts → Type 0
 IsTheDealt cores banks crews this = (roster : RosterParts) → IsRoster cores banks roster → AreCrewsOf (length crews) roster crews → this ≡ roster
 
@@ -83,12 +83,12 @@ abbrev pub HaveGotBanks : List BankLog → List Crew → List Crew → Type 0
 HaveGotBanks banks old new =
     (roster : RosterParts) → AreCrewsOf (length old) (record roster { banks = [] }) old → AreCrewsOf (length old) (record roster { banks = banks }) new
 
--- whatever roster of so many cores was dealt out, these are its cores, and the crews have the rest of it
+-- for any roster of this many cores that was dealt to the crews, these are its cores, and the crews have the rest of it
 abbrev pub HaveGivenCores : ℕ → List Crew → List Crew → List Owned → Type 0
 HaveGivenCores count old new cores =
     (roster : RosterParts) (banks : ℕ) → IsRoster count banks roster → AreCrewsOf (length old) roster old → (cores ≡ roster.cores) × AreCrewsOf (length old) (record roster { cores = [] }) new
 
--- the same of the banks
+-- the same for the banks
 abbrev pub HaveGivenBanks : ℕ → List Crew → List Crew → List BankLog → Type 0
 HaveGivenBanks count old new banks =
     (roster : RosterParts) (cores : ℕ) → IsRoster cores count roster → AreCrewsOf (length old) roster old → (banks ≡ roster.banks) × AreCrewsOf (length old) (record roster { banks = [] }) new

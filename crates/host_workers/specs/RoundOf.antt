@@ -1,4 +1,4 @@
--- What one round of workers makes of a machine, and how rounds add up to a run.
+-- What one round of workers does to a machine, and how rounds add up to a run.
 use Rattle.std.specs.Prelude.{◌≡◌, ◌≢◌, ◌+◌, ◌≤◌, true, List, [], ◌++◌, length, map}
 use Rattle.message_net.specs.declared.event.Event.{Event}
 use Rattle.message_net.specs.declared.event.EventKind.{EventKind}
@@ -18,8 +18,8 @@ use Rattle.round_rules.specs.Rounds.{IsReached, events_of, noted_kind, end_obser
 use Rattle.host_workers.specs.declared.round.Round.{Round}
 use Rattle.host_workers.specs.Ends.{with_ends}
 
--- the events of a round are a run from a state on; the machine's state then is the one to which they lead except for the order of the
--- mails in flight; and their kinds, their grants and the ends that they tell are the run's
+-- the events of a round are a run from state S on; the machine's state after it is the one to which they lead, except for the
+-- order of the mails in flight; and their kinds, grants and ends are the run's
 pub record IsRoundFrom (S : State) (r : Round) : Type 0 where
   pub run : IsRun S (events_of r.merged.items)
   pub leads : IsReordered (after S (events_of r.merged.items)) r.machine.state
@@ -27,7 +27,8 @@ pub record IsRoundFrom (S : State) (r : Round) : Type 0 where
   pub grants : grants_in r.merged.items ≡ grants_of S (events_of r.merged.items)
   pub ends : r.ends.items ≡ read_off end_observed S (events_of r.merged.items)
 
--- a round of the workers of a machine: a run from each state of which the machine's is another order, and at least one event where
+-- a round of the workers of a machine: a run from each state that differs from the machine's only in the order of mails, with
+-- at least one event if any may come
 -- one may come
 pub record IsRoundBy (m : Made) (r : Round) : Type 0 where
   pub runs : (S : State) → IsReached m.state.setting S → IsReordered S m.state → IsRoundFrom S r
@@ -35,7 +36,7 @@ pub record IsRoundBy (m : Made) (r : Round) : Type 0 where
   pub made : r.machine.made ≡ m.made + length r.merged.items
   pub some : (e : Event) → enabled m.state e ≡ true → r.merged.items ≢ []
 
--- the counts of a log are those of some events, of which there are no more than it notes
+-- the counts of a log are those of some events, and it notes at least as many events
 pub record IsTallied (kinds : List EventKind) (log : Log) : Type 0 where
   pub all : length log.counts.kinds ≡ 17
   pub counts : AreCounts kinds log.counts
@@ -48,8 +49,8 @@ pub record HasNoted (entries : List Stamped) (old new : Log) : Type 0 where
   pub counts : (kinds : List EventKind) → IsTallied kinds old → IsTallied (kinds ++ map noted_kind entries) new
   pub ends : new.ends ≡ old.ends
 
--- rounds so far: their events are a run of the initial machine, the machine is in the state to which they lead except for the order of
--- the mails in flight, and the log tells of them, with the ends with which tasks arrived
+-- the rounds so far: their events are a run of the initial machine; the machine is in the state to which they lead, except for
+-- the order of the mails in flight; and the log tells of them, with the ends with which tasks arrived
 pub record IsRunSoFar (C : Setting) (m : Made) (log : Log) : Type 0 where
   pub ready : IsReady C
   pub run : IsRun (initial_state C) log.events

@@ -29,11 +29,11 @@ pub record MayAct (C : Setting) (hall : HallView) (pass : PassView) : Type 0 whe
   pub ports : length hall.ports ≡ C.shape.cores
   pub banks : length hall.banks ≡ C.shape.banks
 
--- it is a pass of the hall still, with the same number
+-- it is still a pass of the hall, with the same number
 abbrev pub KeepsNumber : HallView → PassView → PassView → Type 0
 KeepsNumber hall old new = IsHallPass hall new × (pass_number new ≡ pass_number old)
 
--- the hall's pass made the calls of these acts, of which so many events came
+-- the hall's pass made the calls of these acts, which made `count` events
 pub record HasActed (C : Setting) (old new : PassView) (acts : List Act) (count : ℕ) : Type 0 where
   pub calls : HasMadeCalls old new (calls_in C.shape (pass_number old) acts)
   pub counted : count ≡ length (events_in C.shape acts)
@@ -44,20 +44,20 @@ pub record Splits (whole first more : Calls) : Type 0 where
   pub ports : (c : ℕ) → whole.ports c ≡ first.ports c ++ more.ports c
   pub keeper : whole.keeper ≡ first.keeper ++ more.keeper
 
--- of these mails the first were posted, and then there was no room
+-- of these mails the first ones were posted, and then there was no memory
 pub record HasBegunPosts (shape : Shape) (old new : PassView) (mails : List Posted) : Type 0 where
   pub posted : List Posted
   pub unsent : List Posted
   pub mails_are : mails ≡ posted ++ unsent
   pub calls : HasMadeCalls old new (postings shape (pass_number old) posted)
 
--- the mails that the event of the last of some acts sent
+-- the mails that the event of the last act sent
 abbrev pub last_sent : Shape → List Act → List Posted
 last_sent shape [] = []
 last_sent shape (act ∷ []) = posted_by (act_done shape act)
 last_sent shape (act ∷ next ∷ acts) = last_sent shape (next ∷ acts)
 
--- The hall's pass made the calls of these acts, and then there was no room: what isn't made are the posts of some mails, the last of
+-- The hall's pass made the calls of these acts until there was no memory. Only the posts of some mails are missing, the last of
 -- those that the last act's event sent
 pub record HasStopped (C : Setting) (old new : PassView) (acts : List Act) : Type 0 where
   pub posted : List Posted
@@ -67,13 +67,13 @@ pub record HasStopped (C : Setting) (old new : PassView) (acts : List Act) : Typ
   pub calls : HasMadeCalls old new made
   pub all : Splits (calls_in C.shape (pass_number old) acts) made (postings C.shape (pass_number old) unsent)
 
--- a take from the core's port was made, and the mail handled that it gave
+-- a take from the core's port was made, and the mail that it gave was handled
 pub record HasTaken (C : Setting) (core : CoreId) (pick : ℕ) (old new : PassView) (had has : Held) (count : ℕ) : Type 0 where
   pub taken : Option (Posted × Done)
   pub moved : HasMoved C core (taken_steps taken) had has
   pub acted : HasActed C old new (Took core pick taken ∷ []) count
 
--- the core's own event was made, where the worker goes on with the core and the node has one
+-- the core's own event was made, if the core has numbers left and the node has an own event
 pub record HasMadeOwn (C : Setting) (core : CoreId) (old new : PassView) (had has : Held) (count : ℕ) : Type 0 where
   pub done : Done
   pub moved : HasMoved C core (own_steps (has_numbers_left had.clock had.next) (own_event C had.node) done) had has
@@ -83,7 +83,7 @@ pub record HasMadeOwn (C : Setting) (core : CoreId) (old new : PassView) (had ha
 abbrev pub AreOf : Actor → List Act → Type 0
 AreOf a acts = AllByRecursion (λ (act : Act). actor_of act ≡ a) acts
 
--- the acts of a core with which the worker goes on: a take, and then the core's own event
+-- the acts of a core that has numbers left: a take, and then the core's own event
 pub record IsTurn (C : Setting) (core : CoreId) (had : Held) (acts : List Act) : Type 0 where
   pub pick : ℕ
   pub taken : Option (Posted × Done)
@@ -92,14 +92,14 @@ pub record IsTurn (C : Setting) (core : CoreId) (had : Held) (acts : List Act) :
   pub handled : HasMoved C core (taken_steps taken) had between
   pub acts_are : acts ≡ Took core pick taken ∷ own_acts core (has_numbers_left between.clock between.next) (own_event C between.node) done
 
--- a core went by these acts, which are its own, and its log and its ends tell of them
+-- a core changed by these acts, which are its own, and its log and its ends tell of them
 pub record IsMoved (C : Setting) (had has : Owned) (acts : List Act) : Type 0 where
   pub core : has.core ≡ had.core
   pub fits : Fits C has.node
   pub own : AreOf (Core had.core) acts
   pub moved : HasMoved C had.core (filter_map core_step acts) (held_of had) (held_of has)
 
--- a core was served by these acts: it has its turn, or nothing is done where the worker doesn't go on with it
+-- a core was served by these acts: it had its turn, or nothing was done since it has no numbers left
 pub record IsCoreServed (C : Setting) (had has : Owned) (acts : List Act) : Type 0 where
   pub moves : IsMoved C had has acts
   pub turn : owned_has_numbers had ≡ true → IsTurn C had.core (held_of had) acts
@@ -123,7 +123,7 @@ pub record IsNotedKeeper (C : Setting) (had has : List Stamped) (acts : List Act
   pub own : AreOf Keeper acts
   pub log : has ≡ had ++ map note_of (events_in C.shape acts)
 
--- its log does, if the worker has it, and else there are no acts
+-- the same if the worker owns the keeper; otherwise there are no acts
 abbrev pub IsNotedIf : Setting → Option (List Stamped) → Option (List Stamped) → List Act → Type 0
 IsNotedIf C None None acts = acts ≡ []
 IsNotedIf C (Some had) (Some has) acts = IsNotedKeeper C had has acts
@@ -153,13 +153,13 @@ module _ {A : Type 0} where
     pub acted : HasActed C old new acts count
     pub does : Does had has acts
 
-  -- something was done by some acts, before there was no room
+  -- something was done by some acts, until there was no memory
   pub record HasDonePartly (Does : A → A → List Act → Type 0) (C : Setting) (old new : PassView) (had has : A) : Type 0 where
     pub acts : List Act
     pub stopped : HasStopped C old new acts
     pub does : Does had has acts
 
-  -- the same to each of several, each by acts of its own
+  -- the same to each of several, each by its own acts
   abbrev pub Each : (A → A → List Act → Type 0) → List A → List A → List (List Act) → Type 0
   Each Does [] [] [] = ⊤
   Each Does (x ∷ xs) (y ∷ ys) (acts ∷ rest) = Does x y acts × Each Does xs ys rest

@@ -2,14 +2,14 @@ use crate::owned::Owned;
 use dn_base::BankId;
 use grant_log::Stamped;
 
-/// A bank that a worker owns, with what it noted of the bank's events.
+/// A bank that a worker owns, with the notes of the bank's events.
 #[derive(Debug, Drop)]
 pub struct BankLog {
     pub bank: BankId,
     pub log: Vec<Stamped>,
 }
 
-/// What one worker owns: some cores and some banks, each in rising order, and with worker 0 what is noted of the keeper's events.
+/// What one worker owns: some cores and some banks, each in rising order. Worker 0 also has the notes of the keeper's events.
 #[derive(Drop)]
 pub struct Crew {
     pub worker: u32,

@@ -12,8 +12,8 @@ use message_net::{Event, Outgoing};
 use registration_protocol::{Context, Node, an_own_event_may_come};
 use rv_core::TaskEnd;
 
-/// What came of a node's event: the lock that was granted, the message that is sent, and how the task of a node that arrived had
-/// ended.
+/// The result of a node's event: the lock that was granted, the message that is sent, and how the task of a node that arrived
+/// had ended.
 #[derive(Clone, Copy, Debug)]
 pub(crate) struct NodeCame {
     pub(crate) granted: Option<Grant>,
@@ -21,7 +21,7 @@ pub(crate) struct NodeCame {
     pub(crate) end: Option<TaskEnd>,
 }
 
-/// What comes of an event that may send a message, and no more.
+/// The result of an event that may only send a message.
 fn sends(sent: Option<Outgoing>) -> NodeCame
     ensures { result ≡ record { granted = None; sent = sent; end = None } }
 {

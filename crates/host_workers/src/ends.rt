@@ -1,4 +1,4 @@
-//! How the tasks ended that arrived at the barrier in a round, in the order of the one list.
+//! How the tasks had ended that arrived at the barrier in a round, in the order of the merged list.
 ghost use Rattle.std.specs.Prelude.{◌≡◌, ◌≢◌, ◌<◌, ℕ, filter_map, length, map, slice_get, slice_index, List, None, IfOk};
 ghost use Rattle.round_rules.specs.Steps.{Done};
 ghost use Rattle.round_rules.specs.Rounds.{end_of_done};
@@ -11,7 +11,7 @@ use round_rules::EndSeen;
 use rv_core::TaskEnd;
 use std::alloc::Global;
 
-/// The next end that was seen of a core, where so many of each core's are done with.
+/// The next end seen of a core, where `done` says how many of each core's ends were used.
 fn next_seen(ends: &[Vec<EndSeen>], done: &[usize], core: usize) -> Option<EndSeen>
     requires { length done.now ≡ length ends.now }
     ensures next { result ≡ slice_get (left_of (map (λ e. e.items) ends.now) done.now core) 0 }
@@ -27,8 +27,8 @@ fn next_seen(ends: &[Vec<EndSeen>], done: &[usize], core: usize) -> Option<EndSe
     }
 }
 
-/// The end that the worker of a core saw at an event of this actor with this stamp, if the actor is a core and its next end is
-/// that one, which is done with then.
+/// The end that the worker of a core saw at the event of this actor with this stamp, if the actor is a core and its next end is
+/// that one. That end counts as used then.
 fn take_end(actor: Actor, stamp: u64, ends: &[Vec<EndSeen>], done: &mut [usize]) -> Option<TaskEnd>
     requires { length done.old ≡ length ends.now }
     ensures end { result ≡ end_at_stamp actor stamp (left_of (map (λ e. e.items) ends.now) done.old) }
@@ -53,7 +53,7 @@ fn take_end(actor: Actor, stamp: u64, ends: &[Vec<EndSeen>], done: &mut [usize])
     }
 }
 
-/// The ends of the tasks that arrived, in the order of the merged list: `ends` has what was seen of each core, in the order of
+/// The ends of the tasks that arrived, in the order of the merged list. `ends` has the ends seen of each core, in the order of
 /// the core's events.
 ///
 /// # Errors

@@ -14,7 +14,7 @@ use dn_base::{Memory, Shape};
 use std::alloc::Global;
 use turn_lock::Entry;
 
-/// What a round leaves: the cores with all logs, the objects of the hall, and all calls of each.
+/// What a round leaves: the cores, all logs, the objects of the hall, and all calls of each object.
 #[derive(Drop)]
 pub(crate) struct Finished {
     pub(crate) parted: Parted,
@@ -44,7 +44,7 @@ fn passes_and_crews(alloc: Global, mut jobs: Vec<Job>) -> Result<(Vec<Pass>, Vec
 /// Finishes a round: closes the hall with all its passes, and gathers what the workers own.
 ///
 /// # Errors
-/// `Memory` where there is no room; what was handed in is dropped.
+/// `Memory` if there is no room; what was handed in is dropped.
 pub(crate) fn finish(
     alloc: Global,
     hall: Hall,

@@ -1,4 +1,4 @@
-//! The mails in flight, each in the inbox of the actor that it goes to, as the objects of a hall hold them.
+//! The mails in flight, each in the inbox of its receiver, in the form in which the objects of a hall have them.
 ghost use Rattle.std.specs.Prelude.{◌≡◌, ◌<◌, ◌+◌, ◌++◌, ◌∷◌, [], length, map, flat_map, All, IfOk, OnOk};
 ghost use Rattle.std.specs.List.{range_with_len};
 ghost use Rattle.message_net.specs.Pool.{AreDistinct};
@@ -30,7 +30,7 @@ pub(crate) struct Objects {
     pub(crate) inboxes: Inboxes,
 }
 
-/// So many inboxes without mails.
+/// `count` inboxes without mails.
 fn empty_inboxes(alloc: Global, count: u32) -> Result<Vec<Vec<Posted>>, Memory>
     ensures { IfOk result (λ inboxes. map (λ v. v.items) inboxes.items ≡ map (λ i. []) (range_with_len 0 count)) }
 {
@@ -41,7 +41,7 @@ fn empty_inboxes(alloc: Global, count: u32) -> Result<Vec<Vec<Posted>>, Memory>
     Ok(inboxes)
 }
 
-/// Puts a mail into the inbox at a place, at the end, if there is one.
+/// Puts a mail at the end of the inbox at an index, if there is one.
 fn put_at(inboxes: &mut Vec<Vec<Posted>>, place: usize, posted: Posted) -> Result<(), Memory>
     ensures { OnOk result (map (λ v. v.items) inboxes.new.items ≡ put_at posted place (map (λ v. v.items) inboxes.old.items)) }
 {
@@ -63,7 +63,7 @@ fn post_all(pool: &mut Pool, inbox: &[Posted]) -> Result<(), Memory>
     Ok(())
 }
 
-/// Adds the mails of several inboxes to a pool, of one after the other.
+/// Adds the mails of several inboxes to a pool, one inbox after the other.
 fn post_each(pool: &mut Pool, inboxes: &[Vec<Posted>]) -> Result<(), Memory>
     requires distinct { AreDistinct (pool.old.mails ++ all_mails_in (map (λ v. v.items) inboxes.now)) }
     requires few { length (pool.old.mails ++ all_mails_in (map (λ v. v.items) inboxes.now)) < 4294967295 }
@@ -123,7 +123,7 @@ impl Inboxes {
         })
     }
 
-    /// Puts a mail into the inbox of the actor that it goes to, at the end, if that actor has one.
+    /// Puts a mail at the end of the inbox of its receiver, if that has one.
     fn put(&mut self, posted: Posted) -> Result<(), Memory>
         ensures { OnOk result (inboxes_of self.new ≡ put_in posted posted.mail.to (inboxes_of self.old)) }
     {
@@ -137,8 +137,8 @@ impl Inboxes {
         }
     }
 
-    /// The inboxes of a machine's actors as a round begins: each mail in flight, in the pool's order, with stamp 0, in the inbox of
-    /// the actor that it goes to. One pass over the pool.
+    /// The inboxes of a machine's actors when a round begins: each mail in flight, in the pool's order and with stamp 0, in the
+    /// inbox of its receiver. One pass over the pool makes them.
     ///
     /// # Errors
     /// `Memory` where there is no room.
@@ -180,7 +180,7 @@ impl Inboxes {
         })
     }
 
-    /// The pool of all mails in the inboxes, which have ids of their own.
+    /// The pool of all mails in the inboxes. No two of them have the same id.
     ///
     /// # Errors
     /// `Memory` where there is no room.

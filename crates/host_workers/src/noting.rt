@@ -12,7 +12,7 @@ use rv_core::TaskEnd;
 /// Notes the events of a round.
 ///
 /// # Errors
-/// `Memory` where there is no room; the log is then of no more use.
+/// `Memory` if there is no room; the log can't be used any more then.
 pub(crate) fn note_events(log: &mut Log, merged: &[Stamped]) -> Result<(), Memory>
     requires counted { (kinds : List EventKind) × IsTallied kinds log.old }
     requires few { length log.old.events + length merged.now ≤ 25169664 }

@@ -18,7 +18,7 @@ use registration_protocol::Node;
 use registry_bank::Bank;
 use std::alloc::Global;
 
-/// What changes in a machine as events come, handed out to the workers of a round; `next` has the numbers of all actors' next mails.
+/// What events change in a machine, as it is dealt to the workers of a round; `next` has the numbers of all actors' next mails.
 #[derive(Drop)]
 pub(crate) struct Moving {
     pub(crate) nodes: Vec<Node>,
@@ -43,7 +43,7 @@ fn draws_of(worker: u32, seed: u32) -> Pcg32
     Pcg32::seed_from_u64(((worker as u64) << 32) + seed as u64)
 }
 
-/// The jobs of all workers: each has the pass and the crew of its number.
+/// The jobs of all workers: each has the pass and the crew with its number.
 ///
 /// # Errors
 /// `Memory` where there is no room.
@@ -71,7 +71,7 @@ fn jobs_of(
 /// Opens a round: shares the banks, the keeper and the inboxes in a hall, and deals the cores and banks out to the workers.
 ///
 /// # Errors
-/// `Memory` where there is no room; what was handed in is dropped.
+/// `Memory` if there is no room; what was handed in is dropped.
 pub(crate) fn open(
     alloc: Global,
     moving: Moving,

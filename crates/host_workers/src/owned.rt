@@ -20,7 +20,7 @@ use registration_protocol::{Context, Node};
 use round_rules::EndSeen;
 use rv_core::TaskEnd;
 
-/// A core that a worker owns: its node, its clock, the number of its next mail, what it noted of its events, and the ends of the
+/// A core that a worker owns: its node, its clock, the number of its next mail, the notes of its events, and the ends of the
 /// tasks with which it arrived.
 #[derive(Drop)]
 pub struct Owned {
@@ -43,7 +43,7 @@ fn letter(core: CoreId, next: u32, stamp: u64, sent: Option<Outgoing>) -> Option
     })
 }
 
-/// Adds how a task had ended, if it had. There is room for it.
+/// Appends how a task had ended, if it had. There is room for it.
 fn push_end(ends: &mut Vec<EndSeen>, stamp: u64, end: Option<TaskEnd>)
     requires room { vec_len ends.old < vec_capacity ends.old }
     ensures items { ends.new.items ≡ ends.old.items ++ option_to_list (seen_at stamp end) }
@@ -56,17 +56,18 @@ fn push_end(ends: &mut Vec<EndSeen>, stamp: u64, end: Option<TaskEnd>)
 }
 
 impl Owned {
-    /// Whether the worker goes on with the core: its clock and the number of its next mail are below their limits.
+    /// Whether the core has numbers left: its clock and the number of its next mail are below their limits. If not, the worker
+    /// leaves the core alone.
     pub(crate) fn has_numbers_left(&self) -> bool
         ensures { result ≡ owned_has_numbers self.now }
     {
         has_numbers_left(self.clock, self.next)
     }
 
-    /// Makes room for what one pass notes, at most two events, so that no mail is taken that can't be noted.
+    /// Makes room for what one pass notes, at most two events, so that no mail is taken that couldn't be noted.
     ///
     /// # Errors
-    /// `Memory` where there is no such room.
+    /// `Memory` if there isn't that much room.
     pub(crate) fn reserve(&mut self) -> Result<(), Memory>
         ensures room { OnOk result (HasRoom self.new 2) }
         ensures held { held_of self.new ≡ held_of self.old }
@@ -77,8 +78,7 @@ impl Owned {
         Ok(())
     }
 
-    /// Notes an event with its stamp and with what came of it, for which there is room. The answer is the mail that the core sends,
-    /// if it sends one.
+    /// Notes an event with its stamp and result; there is room for it. Gives the mail that the core sends, if it sends one.
     fn note(&mut self, stamp: u64, event: Event, kind: EventKind, came: NodeCame) -> Option<Posted>
         requires next { self.old.next < 4294967000 }
         requires room { HasRoom self.old 1 }
@@ -103,7 +103,7 @@ impl Owned {
         sent
     }
 
-    /// The core handles a mail, and notes it, for which there is room. The answer is the mail that it sends then, if it sends one.
+    /// The core handles a mail, and notes it; there is room for that. Gives the mail that the core sends, if it sends one.
     pub(crate) fn handle(&mut self, context: &Context<'_>, posted: Posted) -> Option<Posted>
         requires context { IsContext (setting context.now) }
         requires fits { Fits (setting context.now) self.old.node }
@@ -123,8 +123,7 @@ impl Owned {
         self.note(stamp, Event::Handle(posted.mail.id), kind, came)
     }
 
-    /// The core makes its own event, and notes it, for which there is room. The answer is the mail that it sends then, if it sends
-    /// one.
+    /// The core makes its own event, and notes it; there is room for that. Gives the mail that the core sends, if it sends one.
     pub(crate) fn make(&mut self, context: &Context<'_>, event: Event) -> Option<Posted>
         requires context { IsContext (setting context.now) }
         requires fits { Fits (setting context.now) self.old.node }

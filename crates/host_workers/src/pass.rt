@@ -14,16 +14,15 @@ use region_table::a_program_is_well_formed;
 use registration_protocol::Context;
 use std::sync::Wait;
 
-/// One pass of a worker over the hall: each core that it owns has its turn, a take whose mail the core handles and then the core's
-/// own event; each bank that it owns makes a step; and so does the keeper, if it is the worker's. Each mail that an event sends is
-/// posted at once. The worker doesn't go on with a core whose clock is at 2^63 or whose next mail would have the number
-/// 4,294,967,000.
+/// One pass of a worker over the hall. Each of its cores has its turn: it takes a mail and handles it, and then makes its own
+/// event. Then each of its banks makes a step, and so does the keeper, if it is the worker's. Each mail that an event sends is
+/// posted at once. A core whose clock is at 2^63, or whose next mail would have the number 4,294,967,000, is left alone.
 ///
-/// The answer is the number of events that the pass made.
+/// Returns the number of events that the pass made.
 ///
 /// # Errors
-/// `Memory` where there is no room: the pass and the crew hold what was made until then. Each mail that was taken is handled and noted;
-/// of the mails that the last event sent, some may not be posted.
+/// `Memory` if there is no room: the pass and the crew hold what was made until then. Each mail that was taken is handled and
+/// noted. Of the mails that the last event sent, some may not be posted.
 pub fn worker_pass<R: Wait, G: Gate>(
     rt: &R,
     hall: &Hall,

@@ -1,4 +1,4 @@
-//! All that workers own of a machine: dealt out to their crews as a round begins, and gathered again as it ends.
+//! All that workers own of a machine. It is dealt to their crews when a round begins, and gathered when it ends.
 ghost use Rattle.std.specs.Prelude.{◌≡◌, ℕ, ◌≤◌, [], ◌++◌, map, length, slice_get, Some, IfOk, OnOk};
 ghost use Rattle.host_workers.specs.declared.crew.BankLog.{BankLog as OneBank};
 ghost use Rattle.host_workers.specs.declared.owned.Owned.{Owned as OneCore};
@@ -12,7 +12,7 @@ use registration_protocol::Node;
 use round_rules::EndSeen;
 use std::alloc::Global;
 
-/// The cores and the banks of a machine in the order of their numbers, as workers own them, and what was noted of the keeper's
+/// The cores and the banks of a machine in the order of their numbers, as workers own them, and the notes of the keeper's
 /// events.
 #[derive(Drop)]
 pub(crate) struct Roster {
@@ -30,7 +30,7 @@ pub(crate) struct Parted {
     pub(crate) logs: Vec<Vec<Stamped>>,
 }
 
-/// A core as a round begins: its clock is at 0, and nothing is noted of it.
+/// A core when a round begins: its clock is at 0, and it has no notes.
 fn fresh_core(alloc: Global, number: u32, node: Node, next: u32) -> Owned
     ensures core { result.core.0 ≡ number }
     ensures node { result.node ≡ node }
@@ -67,7 +67,7 @@ fn fresh_cores(alloc: Global, nodes: Vec<Node>, next: &[u32]) -> Result<Vec<Owne
     Ok(cores)
 }
 
-/// So many banks, of which nothing is noted yet.
+/// `count` banks without notes.
 fn fresh_banks(alloc: Global, count: u32) -> Result<Vec<BankLog>, Memory>
     ensures count { IfOk result (λ banks. length banks.items ≡ count) }
     ensures places { IfOk result (λ banks. (i : ℕ) (b : OneBank) → slice_get banks.items i ≡ Some b → b.bank.0 ≡ i) }
@@ -83,7 +83,7 @@ fn fresh_banks(alloc: Global, count: u32) -> Result<Vec<BankLog>, Memory>
     Ok(banks)
 }
 
-/// A crew that owns no core and no bank yet.
+/// A crew that owns no core and no bank.
 fn empty_crew(alloc: Global, worker: u32, keeper: Option<Vec<Stamped>>) -> Crew
     ensures worker { result.worker ≡ worker }
     ensures cores { result.cores.items ≡ [] }
@@ -98,7 +98,7 @@ fn empty_crew(alloc: Global, worker: u32, keeper: Option<Vec<Stamped>>) -> Crew
     }
 }
 
-/// The crews of so many workers, to which no core and no bank is dealt yet.
+/// The crews of `workers` workers, without cores and banks.
 fn empty_crews(alloc: Global, workers: u32, keeper: Vec<Stamped>) -> Result<Vec<Crew>, Memory>
     requires some { 1 ≤ workers }
     ensures { IfOk result (λ crews. AreCrewsOf workers (record { cores = []; banks = []; keeper = keeper.items }) crews.items) }
@@ -111,7 +111,7 @@ fn empty_crews(alloc: Global, workers: u32, keeper: Vec<Stamped>) -> Result<Vec<
     Ok(crews)
 }
 
-/// Deals cores out to the crews, which have none yet.
+/// Deals cores to the crews, which have none.
 fn deal_cores(crews: &mut Vec<Crew>, cores: Vec<Owned>) -> Result<(), Memory>
     requires some { 1 ≤ length crews.old.items }
     ensures count { OnOk result (length crews.new.items ≡ length crews.old.items) }
@@ -124,7 +124,7 @@ fn deal_cores(crews: &mut Vec<Crew>, cores: Vec<Owned>) -> Result<(), Memory>
     Ok(())
 }
 
-/// Deals banks out to the crews, which have none yet.
+/// Deals banks to the crews, which have none.
 fn deal_banks(crews: &mut Vec<Crew>, banks: Vec<BankLog>) -> Result<(), Memory>
     requires some { 1 ≤ length crews.old.items }
     ensures count { OnOk result (length crews.new.items ≡ length crews.old.items) }
@@ -171,7 +171,7 @@ fn gather_banks(alloc: Global, crews: &mut Vec<Crew>, count: u32) -> Result<Vec<
     Ok(banks)
 }
 
-/// Takes the cores apart. The logs are those of the cores alone.
+/// Takes the cores apart. The logs are only those of the cores.
 fn part_cores(alloc: Global, cores: Vec<Owned>) -> Result<Parted, Memory>
     ensures nodes { IfOk result (λ p. p.nodes.items ≡ map node_of cores.items) }
     ensures next { IfOk result (λ p. p.next.items ≡ map next_of cores.items) }
@@ -229,8 +229,8 @@ impl Roster {
         })
     }
 
-    /// Deals the roster out to the crews of 1 to 16 workers: each has the cores and banks whose number it is modulo the workers,
-    /// and the first one has the keeper's log.
+    /// Deals the roster to the crews of 1 to 16 workers. Each gets the cores and banks with its number modulo the number of
+    /// workers, and worker 0 the keeper's log.
     ///
     /// # Errors
     /// `Memory` where there is no room.

@@ -27,8 +27,8 @@ use std::sync::Wait;
 use std::thread::Threads;
 use turn_lock::Entry;
 
-/// What a round leaves: the machine, what was noted of all events in their order, the ends of the tasks whose cores arrived at the
-/// barrier, in that order, and of each bank, each core's port and the keeper all calls in their one order.
+/// What a round leaves: the machine; the merged notes of all events; the ends of the tasks whose cores arrived at the barrier,
+/// in the same order; and for each bank, each core's port and the keeper all calls in one order.
 #[derive(Drop)]
 pub struct Round {
     pub machine: Machine,
@@ -39,8 +39,8 @@ pub struct Round {
     pub keeper: Vec<Entry<KeeperActor>>,
 }
 
-/// What a round leaves of a machine as it is: the program with its decoded code and its plans, the size, and the fuel. How many
-/// events the machine had made before the round stands with them.
+/// What a round doesn't change of a machine: the program with its decoded code and its plans, the size, and the fuel. It also
+/// has the number of events before the round.
 #[derive(Drop)]
 struct FixedParts {
     decoded: DecodedProgram,
@@ -50,7 +50,7 @@ struct FixedParts {
     made: u64,
 }
 
-/// Takes a machine apart: what a round leaves as it is, and what it changes. Takes no memory.
+/// Takes a machine apart into what a round changes and what it doesn't. Takes no memory.
 fn parts_of(machine: Machine) -> (FixedParts, Moving)
     ensures parts { made_from_parts result.0 result.1 ≡ machine }
     ensures kept { IsKept (made_from_parts result.0 result.1).state result.0.made }
@@ -86,7 +86,7 @@ impl FixedParts {
         }
     }
 
-    /// The machine of these parts and of those that the round changed, after so many events more. Takes no memory.
+    /// The machine made of these parts and of those that the round changed, after `more` events. Takes no memory.
     fn machine(self, moving: Moving, more: u64) -> Machine
         requires most { self.made + more < 18446744073709551616 }
         requires left { IsLeftByRun (made_from_parts self moving).state (self.made + more) }
@@ -110,7 +110,7 @@ impl FixedParts {
     }
 }
 
-/// Puts a round together of what is left of it: what was noted is merged, and the machine is joined again.
+/// Puts a round together from what is left of it: the notes are merged, and the machine is joined again.
 ///
 /// # Errors
 /// `Memory` where there is no room.
@@ -146,16 +146,17 @@ fn put_together(alloc: Global, fixed: FixedParts, finished: Finished) -> Result<
     })
 }
 
-/// One round: so many workers, each on a thread of its own where one can be made, own the cores and banks whose number is theirs
-/// modulo the workers, and the first one the keeper. They make passes over a hall of the machine's objects until nothing more comes,
-/// 4,096 at most. What was noted of all events is one list then, and the machine is what its events make of it.
+/// One round. There are `workers` workers, each on a thread of its own if one can be made. Worker w owns the cores and banks
+/// whose number modulo the number of workers is w, and worker 0 the keeper. They make passes over a hall of the machine's
+/// objects until no more events come, at most 4,096. Then the notes of all events are merged into one list, and the machine is
+/// the one to which these events lead.
 ///
-/// There are 1 to 16 workers, and the machine has made fewer than 3,000,000,000 events. What is promised holds from each state S that
-/// stands for the machine: a run leads to S, and the machine's state is S except for the order of its mails. Every machine has such a
-/// state (`a_machine_is_kept`).
+/// There must be 1 to 16 workers, and the machine must have made fewer than 3,000,000,000 events. The promises hold from each
+/// state S for which the machine stands: a run leads to S, and the machine's state is S except for the order of its mails.
+/// Every machine stands for some state (`a_machine_is_kept`).
 ///
 /// # Errors
-/// `Memory` where there is no room; the workers have all ended by then, and the machine is dropped.
+/// `Memory` if there is no room. All workers have ended by then, and the machine is dropped.
 pub fn run_round<R: Threads + Wait + Sync, G: Gate + Sync>(
     rt: &R,
     alloc: Global,

@@ -15,26 +15,27 @@ use std::alloc::{AllocError, Global};
 use std::sync::Wait;
 use std::thread::Threads;
 
-/// As large a block as makes the C library's allocator keep what is freed, up to twice its size (glibc, mallopt(3)): 32 MiB less 8 KiB.
+/// The largest block that makes the C library's allocator keep what is freed, up to twice its size (glibc, mallopt(3)): 32 MiB
+/// less 8 KiB.
 const KEPT_BYTES: usize = 33_546_240;
 
-/// Has the allocator keep freed memory for the next round; `run_workers` says why.
+/// Makes the allocator keep freed memory for the next round; `run_workers` says why.
 fn keep_freed_memory(alloc: Global) {
     let block: Result<Vec<u8>, AllocError> = Vec::with_capacity(alloc, KEPT_BYTES);
     drop(block);
 }
 
-/// The seed of the round that follows one with this seed: it is 1 higher modulo 2^32.
+/// The seed of the next round: it is 1 greater, modulo 2^32.
 fn seed_after(seed: u32) -> u32
     ensures { result ≡ (seed + 1) % 2 ^ 32 }
 {
     seed.wrapping_add(1)
 }
 
-/// Makes one round more, and notes it.
+/// Makes one more round, and notes it.
 ///
 /// # Errors
-/// `Memory` where there is no room; the log is then of no more use.
+/// `Memory` if there is no room; the log can't be used any more then.
 fn go_on<R: Threads + Wait + Sync, G: Gate + Sync>(
     rt: &R,
     alloc: Global,
@@ -65,7 +66,7 @@ fn go_on<R: Threads + Wait + Sync, G: Gate + Sync>(
     Ok(left)
 }
 
-/// The record of the run whose rounds a log tells, by the machine after it.
+/// The record of the run of which a log tells, by the machine after it.
 ///
 /// # Errors
 /// `Memory` where there is no room for the record.
@@ -81,19 +82,20 @@ fn recorded(alloc: Global, machine: Machine, mut log: Log) -> Result<RunRecord, 
     Ok(log.record(ending))
 }
 
-/// The whole run of a machine by 1 to 16 workers, in rounds: where an event may come after a round, there is another one, with a
-/// seed that is 1 higher modulo 2^32. The machine is one as a run begins.
+/// The whole run of a machine by 1 to 16 workers, in rounds. If an event may come after a round, there is another round, with a
+/// seed that is 1 greater modulo 2^32. The machine must be an initial one.
 ///
 /// # Memory
-/// The run begins with a block of 32 MB (33,546,240 bytes) that it takes and frees at once. A round hands back all calls of its objects,
-/// some 300 bytes each, and the next round takes as much again. After such a block was freed, the allocator of glibc keeps up to
-/// 64 MB of what is freed, as long as the process lives. Before, it gives the blocks of each round back to the system, and each
-/// of their pages is taken anew in the next round: on 2026-11-28 (commit 0becdb6) a run of 457,000 events took 105,000 page faults so,
-/// and two fifths of its processor time. The block costs two calls of the system and no memory, since none of its pages is touched.
-/// Where there is no room for it the run goes on without it, and with another allocator it changes nothing.
+/// At its start the run allocates a block of 32 MB (33,546,240 bytes) and frees it at once. A round hands back all calls of its
+/// objects, some 300 bytes each, and the next round needs as much again. After such a block was freed, the allocator of glibc
+/// keeps up to 64 MB of freed memory as long as the process lives. Without it, the blocks of each round go back to the
+/// operating system, and each of their pages has to be mapped again in the next round. On 2026-11-28 (commit 0becdb6) a run of
+/// 457,000 events had 105,000 page faults for this reason, which took two fifths of its processor time. The block costs two
+/// system calls and no memory, since none of its pages is touched. If there is no room for it the run goes on without it. With
+/// another allocator it has no effect.
 ///
 /// # Errors
-/// `Memory` where there is no room.
+/// `Memory` if there is no room.
 pub fn run_workers<R: Threads + Wait + Sync, G: Gate + Sync>(
     rt: &R,
     alloc: Global,

@@ -13,7 +13,7 @@ use rand_pcg::Pcg32;
 use registration_protocol::Context;
 use std::sync::Wait;
 
-/// Takes a mail from the core's port, which the core handles. The answer is the number of events.
+/// Takes a mail from the core's port; the core handles it. Returns the number of events.
 fn take_mail<R: Wait>(
     rt: &R,
     hall: &Hall,
@@ -42,7 +42,7 @@ fn take_mail<R: Wait>(
     Ok(1)
 }
 
-/// The core makes its own event, if the worker goes on with it and it has one. The answer is the number of events.
+/// The core makes its own event, if it has numbers left and an own event. Returns the number of events.
 fn make_own<R: Wait>(
     rt: &R,
     hall: &Hall,
@@ -71,7 +71,7 @@ fn make_own<R: Wait>(
     Ok(1)
 }
 
-/// Gives a core its turn: a take, and then its own event. The answer is the number of events.
+/// Gives a core its turn: a take, and then its own event. Returns the number of events.
 fn serve_core<R: Wait>(
     rt: &R,
     hall: &Hall,
@@ -97,7 +97,7 @@ fn serve_core<R: Wait>(
     Ok(handled + own)
 }
 
-/// Gives each core its turn. The answer is the number of events.
+/// Gives each core its turn. Returns the number of events.
 pub(crate) fn serve_cores<R: Wait>(
     rt: &R,
     hall: &Hall,

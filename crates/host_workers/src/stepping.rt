@@ -15,7 +15,7 @@ use region_table::a_program_is_well_formed;
 use registration_protocol::Context;
 use std::sync::Wait;
 
-/// Steps a bank. The answer is the number of events.
+/// Makes a step of a bank. Returns the number of events.
 fn step_bank<R: Wait, G: Gate>(
     rt: &R,
     hall: &Hall,
@@ -42,7 +42,7 @@ fn step_bank<R: Wait, G: Gate>(
     Ok(1)
 }
 
-/// Steps each bank. The answer is the number of events.
+/// Makes a step of each bank. Returns the number of events.
 pub(crate) fn step_banks<R: Wait, G: Gate>(
     rt: &R,
     hall: &Hall,
@@ -79,7 +79,7 @@ pub(crate) fn step_banks<R: Wait, G: Gate>(
     Ok(made)
 }
 
-/// Steps the keeper. The answer is the number of events.
+/// Makes a step of the keeper. Returns the number of events.
 fn step_keeper<R: Wait>(
     rt: &R,
     hall: &Hall,
@@ -105,7 +105,7 @@ fn step_keeper<R: Wait>(
     Ok(1)
 }
 
-/// Steps the keeper, if the worker has it. The answer is the number of events.
+/// Makes a step of the keeper, if the worker owns it. Returns the number of events.
 pub(crate) fn keep<R: Wait>(
     rt: &R,
     hall: &Hall,

@@ -15,13 +15,13 @@ use std::alloc::Global;
 use std::sync::Wait;
 use std::thread::{self, Threads};
 
-/// The most passes of a worker in a round.
+/// The greatest number of passes of a worker in a round.
 const MOST_PASSES: u32 = 4_096;
 
-/// After so many passes in a row without an event a worker ends its round.
+/// After this many passes in a row without an event a worker ends its round.
 const IDLE_PASSES: u32 = 64;
 
-/// A worker with its pass of the hall, its crew and its draws.
+/// A worker's job: its pass of the hall, its crew and its generator.
 #[derive(Drop)]
 pub(crate) struct Job {
     pub(crate) pass: Pass,
@@ -29,11 +29,11 @@ pub(crate) struct Job {
     pub(crate) draws: Pcg32,
 }
 
-/// The passes of a worker in a round: 4,096, or fewer where 64 in a row had no event. After a pass without one the processor goes
-/// to another thread.
+/// The passes of a worker in a round: 4,096, or fewer if 64 in a row had no event. After a pass without an event the processor
+/// is given to another thread.
 ///
 /// # Errors
-/// `Memory` where there is no room; the worker ends its round, and what it holds is dropped.
+/// `Memory` if there is no room; the worker ends its round, and what it holds is dropped.
 pub(crate) fn work<R: Wait, G: Gate>(
     rt: &R,
     hall: &Hall,
@@ -66,10 +66,10 @@ pub(crate) fn work<R: Wait, G: Gate>(
     Ok(Job { pass, crew, draws })
 }
 
-/// The jobs that all workers have done, where none had no room.
+/// The jobs of all workers after their work, if none ran out of memory.
 ///
 /// # Errors
-/// `Memory` where a worker had no room, or there is none for the list.
+/// `Memory` if a worker ran out of memory, or there is no room for the list.
 fn all_done(alloc: Global, mut dones: Vec<Result<Job, Memory>>) -> Result<Vec<Job>, Memory>
     ensures { IfOk result (λ jobs. dones.items ≡ map Ok jobs.items) }
 {
@@ -80,10 +80,10 @@ fn all_done(alloc: Global, mut dones: Vec<Result<Job, Memory>>) -> Result<Vec<Jo
     Ok(jobs)
 }
 
-/// The passes of all workers in a round, each on a thread of its own where one can be made.
+/// The passes of all workers in a round, each on a thread of its own if one can be made.
 ///
 /// # Errors
-/// `Memory` where there is no room for what a worker notes or sends; all workers have ended their round by then.
+/// `Memory` if there is no room for what a worker notes or sends; all workers have ended their round by then.
 pub(crate) fn work_all<R: Threads + Wait + Sync, G: Gate + Sync>(
     rt: &R,
     alloc: Global,

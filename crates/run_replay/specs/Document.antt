@@ -1,4 +1,4 @@
--- The document of a run: what of a machine and of a run it tells, and how that is written.
+-- The document of a run: what it tells of the machine and the run, and how that is written.
 use Rattle.std.specs.Prelude.{◌≡◌, ℕ, ◌<◌, ◌≤◌, ◌^◌, All, List, [], ◌++◌, length, codes, flat_map}
 use Rattle.message_net.specs.declared.actor.Actor.{Actor}
 use Rattle.message_net.specs.declared.actor.Actor.TheVariants.{Core, Bank, Keeper}
@@ -13,7 +13,7 @@ use Rattle.document_parts.specs.Parts.{source_part}
 
 -- ---- what may be told
 
--- a machine has 1 to 16 banks, 1 to 256 sets and 1 to 16 ways, and a task the fuel for 1 to 32,768 instructions
+-- a machine has 1 to 16 banks, 1 to 256 sets and 1 to 16 ways, and a task may retire 1 to 32,768 instructions
 pub record IsTraceShape (s : TraceShape) : Type 0 where
   pub banks : IsFrom 1 16 s.banks
   pub sets : IsFrom 1 256 s.sets
@@ -37,7 +37,8 @@ FitsDocument (Evict core word) = (core.0 < 16) × (word.0 < 65536)
 FitsDocument (Arrive core) = core.0 < 16
 FitsDocument (Handle id) = IsMail id
 
--- what stands before the events: the machine, the source text of at most 1,048,576 bytes, and that there are at most 25,169,664 events
+-- what comes before the events: the machine, the source text of at most 1,048,576 bytes, and the number of events, at most
+-- 25,169,664
 pub record Head : Type 0 where
   pub shape : TraceShape
   pub text : List ℕ
@@ -61,7 +62,7 @@ unfoldable pub shape_line : TraceShape → List ℕ
 shape_line s =
     field (codes "banks ") space s.banks ++ field (codes "sets ") space s.sets ++ field (codes "ways ") space s.ways ++ field (codes "fuel ") newline s.fuel
 
--- the first line: what the bytes are, and in which version
+-- the first line: the kind of document, and its version
 unfoldable pub title : List ℕ
 title = codes "denovo-trace 1" ++ newline
 
@@ -87,7 +88,7 @@ event_lines events = flat_map event_line events
 abbrev pub document_of : Trace → List ℕ
 document_of t = head_text (head_of t) ++ event_lines t.events
 
--- the bytes are the document of a trace that may be told
+-- the bytes are the document of a trace that is within the limits
 pub record IsDocument (bytes : List ℕ) (t : Trace) : Type 0 where
   pub told : IsTrace t
   pub is : bytes ≡ document_of t

@@ -10,14 +10,14 @@ use Rattle.run_replay.specs.Document.{FitsDocument, Head, IsHead, head_text, eve
 abbrev pub most_bytes : ℕ
 most_bytes = 536870912
 
--- the bytes, which are not too many, begin with a head and the lines of some events, and after these stands the rest
+-- the bytes, which aren't too many, begin with a head and the lines of some events, and the rest follows
 pub record BeginsWithEvents (bytes : List ℕ) (h : Head) (events : List Event) (rest : List ℕ) : Type 0 where
   pub within : length bytes ≤ most_bytes
   pub head : IsHead h
   pub told : All FitsDocument events
   pub parts : bytes ≡ head_text h ++ (event_lines events ++ rest)
 
--- the first event line that isn't there whole in its form is that of this number, from 0; the head announces it
+-- the event line of this number, from 0, is the first that isn't complete and of its form; the head announces it
 pub record IsBrokenAt (bytes : List ℕ) (number : ℕ) : Type 0 where
   pub head : Head
   pub before : List Event
@@ -27,7 +27,7 @@ pub record IsBrokenAt (bytes : List ℕ) (number : ℕ) : Type 0 where
   pub announced : number < head.count
   pub none : NoneStands FitsDocument event_line rest
 
--- bytes stand after the last of the announced event lines
+-- bytes follow the last of the announced event lines
 pub record GoesOn (bytes : List ℕ) : Type 0 where
   pub head : Head
   pub events : List Event

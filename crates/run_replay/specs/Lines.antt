@@ -16,7 +16,7 @@ told_by h = record { shape = h.shape; text = h.text.now; count = h.count }
 unfoldable pub two_fields : List ℕ → ℕ → ℕ → List ℕ
 two_fields name first second = field name space first ++ field [] newline second
 
--- at the start of some bytes stand a number below 16 and another of at most `most`, which end a line, and after them the rest
+-- the bytes begin with a number below 16 and another of at most `most`, which end a line, and the rest follows
 pub record StandTwo (name : List ℕ) (most : ℕ) (bytes : List ℕ) (first second : ℕ) (rest : List ℕ) : Type 0 where
   pub first_from : IsFrom 0 15 first
   pub second_from : IsFrom 0 most second
@@ -26,12 +26,12 @@ pub record StandTwo (name : List ℕ) (most : ℕ) (bytes : List ℕ) (first sec
 abbrev pub mail_text : MailId → List ℕ
 mail_text id = mail_line id.sender id.number
 
--- at the start of some bytes stand the lines of events, and after them the rest
+-- the bytes begin with the lines of events, and the rest follows
 pub record AreLines (bytes : List ℕ) (events : List Event) (rest : List ℕ) : Type 0 where
   pub told : All FitsDocument events
   pub parts : bytes ≡ event_lines events ++ rest
 
--- the line of this number, below the count, is the first that isn't there
+-- the line of this number, which is below the count, is the first that isn't there
 pub record IsBroken (bytes : List ℕ) (count number : ℕ) : Type 0 where
   pub before : List Event
   pub rest : List ℕ
@@ -40,7 +40,7 @@ pub record IsBroken (bytes : List ℕ) (count number : ℕ) : Type 0 where
   pub announced : number < count
   pub none : NoneStands FitsDocument event_line rest
 
--- bytes stand after the last of so many lines
+-- bytes follow the last of `count` lines
 pub record IsLonger (bytes : List ℕ) (count : ℕ) : Type 0 where
   pub events : List Event
   pub rest : List ℕ
@@ -48,7 +48,7 @@ pub record IsLonger (bytes : List ℕ) (count : ℕ) : Type 0 where
   pub all : length events ≡ count
   pub some : 0 < length rest
 
--- why some bytes aren't so many lines
+-- why some bytes aren't `count` lines
 abbrev pub FailsLines : List ℕ → ℕ → TraceFault → Type 0
 FailsLines bytes count TooLarge = ⊥
 FailsLines bytes count NoHead = ⊥

@@ -1,4 +1,4 @@
--- What a replay of events on the machine tells.
+-- The result of a replay of events on the machine.
 use Rattle.std.specs.Prelude.{◌≡◌, ℕ, List, ◌∷◌, ◌++◌, length, true, false}
 use Rattle.dn_base.specs.declared.ids.Grant.{Grant}
 use Rattle.dn_base.specs.declared.ids.Shape.{Shape}
@@ -17,13 +17,13 @@ use Rattle.dn_machine.specs.Settings.{IsSettingOf}
 use Rattle.run_replay.specs.declared.replaying.Replayed.{Replayed}
 use Rattle.run_replay.specs.declared.replaying.Replayed.TheVariants.{Complete, NotEnabled, Incomplete}
 
--- the events are a complete run of the initial machine, whose record has this ending, these grants and these counts, one of each of
--- the seventeen kinds of event; so it keeps what is promised of runs
+-- the events are a complete run of the initial machine, with this ending, these grants and these counts, one for each of the
+-- seventeen kinds of event; so the promise of runs holds
 pub record IsRunWith (C : Setting) (events : List Event) (ending : Ending) (grants : List Grant) (counts : Counts) : Type 0 where
   pub run : IsCoherentRun (initial_state C) (record { events = events; grants = grants; counts = counts; ending = ending })
   pub each_kind : length counts.kinds ≡ 17
 
--- the event of this number, from 0, is the first that may not come after those before it
+-- the event of this number, from 0, is the first that may not come in its turn
 pub record IsFirstNotEnabled (C : Setting) (events : List Event) (number : ℕ) : Type 0 where
   pub before : List Event
   pub event : Event
@@ -33,7 +33,7 @@ pub record IsFirstNotEnabled (C : Setting) (events : List Event) (number : ℕ) 
   pub run : IsRun (initial_state C) before
   pub stopped : enabled (after (initial_state C) before) event ≡ false
 
--- each event may come in its turn, and then another one
+-- each event may come in its turn, and after them another one
 pub record IsUnfinished (C : Setting) (events : List Event) : Type 0 where
   pub run : IsRun (initial_state C) events
   pub more : Event
@@ -45,14 +45,14 @@ IsTrueOf C events (Complete ending grants counts) = IsRunWith C events ending gr
 IsTrueOf C events (NotEnabled number) = IsFirstNotEnabled C events number
 IsTrueOf C events Incomplete = IsUnfinished C events
 
--- whether another event may come in a state, or else what the state and a log tell
+-- whether another event may come in a state; if not, the ending, grants and counts that the state and a log tell
 abbrev pub IsReplayOutcome : State → Log → Replayed → Type 0
 IsReplayOutcome S log (Complete ending grants counts) =
     IsOver S × (ending ≡ noted_ending log.ends S) × (grants ≡ log.grants) × (counts ≡ log.counts) × (length counts.kinds ≡ 17)
 IsReplayOutcome S log (NotEnabled number) = ⊥
 IsReplayOutcome S log Incomplete = (e : Event) × (enabled S e ≡ true)
 
--- it is the answer of the machine of a program with this shape and fuel
+-- it is the answer for the machine of a program with this shape and fuel
 pub record IsReplayOf (P : ProgramParts) (shape : Shape) (fuel : ℕ) (events : List Event) (r : Replayed) : Type 0 where
   pub setting : Setting
   pub setting_is : IsSettingOf P shape fuel setting

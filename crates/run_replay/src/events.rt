@@ -9,8 +9,8 @@ use document_parts::field;
 use message_net::{Actor, Event, MailId};
 use std::alloc::Global;
 
-/// The number below 16 and the number of at most `most` that stand at the start of some bytes after a name, and end a line; and what
-/// stands after them.
+/// Reads a number below 16 after a name, and a number of at most `most`, which end a line, at the start of some bytes. Gives
+/// them and the bytes after them.
 fn two_numbers<'a>(bytes: &'a [u8], name: &[u8], most: u32) -> Option<(u32, u32, &'a [u8])>
     ensures some { IfSome result (λ f. StandTwo name.now most bytes.now f.0 f.1 f.2.now) }
     ensures none { IfNone result ((first second : ℕ) (rest : List ℕ) → StandTwo name.now most bytes.now first second rest → ⊥) }
@@ -20,7 +20,7 @@ fn two_numbers<'a>(bytes: &'a [u8], name: &[u8], most: u32) -> Option<(u32, u32,
     Some((first, second, rest))
 }
 
-/// The mail in the line of its handling, at the start of some bytes, and what follows that.
+/// Reads the line of the handling of a mail at the start of some bytes. Gives the mail and the bytes after it.
 fn mail(bytes: &[u8]) -> Option<(MailId, &[u8])>
     ensures some { IfSome result (λ f. Stands IsMail mail_text bytes.now f.0 f.1.now) }
     ensures none { IfNone result (NoneStands IsMail mail_text bytes.now) }
@@ -38,7 +38,7 @@ fn mail(bytes: &[u8]) -> Option<(MailId, &[u8])>
     Some((MailId { sender, number }, rest))
 }
 
-/// The event whose line stands at the start of some bytes, and what follows that.
+/// Reads the line of an event at the start of some bytes. Gives the event and the bytes after it.
 pub(crate) fn event(bytes: &[u8]) -> Option<(Event, &[u8])>
     ensures some { IfSome result (λ f. Stands FitsDocument event_line bytes.now f.0 f.1.now) }
     ensures none { IfNone result (NoneStands FitsDocument event_line bytes.now) }
@@ -56,10 +56,10 @@ pub(crate) fn event(bytes: &[u8]) -> Option<(Event, &[u8])>
     Some((Event::Handle(id), rest))
 }
 
-/// The events whose lines these bytes are, so many of them.
+/// The events of these bytes, which should be `count` event lines.
 ///
 /// # Errors
-/// `Line` where a line isn't there whole in its form, `Rest` where bytes stand after the lines, and `Memory`.
+/// `Line` if a line isn't complete and of its form, `Rest` if bytes follow the lines, and `Memory`.
 pub(crate) fn events(alloc: Global, count: u32, bytes: &[u8]) -> Result<Sequence<Event>, TraceFault>
     ensures count { IfOk result (λ events. length events ≡ count) }
     ensures lines { IfOk result (λ events. AreLines bytes.now events []) }

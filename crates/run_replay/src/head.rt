@@ -7,7 +7,7 @@ use crate::trace::TraceShape;
 use dn_base::MOST_EVENTS;
 use document_parts::{behind, field, source};
 
-/// What stands before the events of a document, and the bytes after it.
+/// The head of a document, and the bytes after it.
 #[derive(Clone, Copy)]
 pub(crate) struct Heading<'a> {
     pub(crate) shape: TraceShape,
@@ -16,7 +16,7 @@ pub(crate) struct Heading<'a> {
     pub(crate) rest: &'a [u8],
 }
 
-/// What follows the first line of a document, if that is there.
+/// The bytes after the first line of a document; None if they don't begin with that line.
 #[tactic(auto, unfolding(crate::specs::Document::title))]
 fn behind_title(bytes: &[u8]) -> Option<&[u8]>
     ensures some { IfSome result (λ rest. bytes.now ≡ title ++ rest.now) }
@@ -25,7 +25,7 @@ fn behind_title(bytes: &[u8]) -> Option<&[u8]>
     behind(bytes, b"denovo-trace 1\n")
 }
 
-/// The shape and fuel whose line stands at the start of some bytes, and what follows it.
+/// Reads the line with the shape and the fuel at the start of some bytes. Gives these and the bytes after it.
 fn shape(bytes: &[u8]) -> Option<(TraceShape, &[u8])>
     ensures some { IfSome result (λ f. Stands IsTraceShape shape_line bytes.now f.0 f.1.now) }
     ensures none { IfNone result (NoneStands IsTraceShape shape_line bytes.now) }
@@ -43,7 +43,7 @@ fn shape(bytes: &[u8]) -> Option<(TraceShape, &[u8])>
     Some((shape, bytes))
 }
 
-/// What stands before the events of a document, and the bytes after it.
+/// Reads the head of a document. Gives it and the bytes after it.
 pub(crate) fn read_heading(bytes: &[u8]) -> Option<Heading<'_>>
     ensures some { IfSome result (λ h. Stands IsHead head_text bytes.now (told_by h) h.rest.now) }
     ensures none { IfNone result (NoneStands IsHead head_text bytes.now) }

@@ -1,5 +1,5 @@
 //! What the definitions come to, for proofs about documents and replays.
-//! These are laws: functions that do nothing, whose contracts say it.
+//! A law is a function without effect; its contract states the theorem.
 ghost use Rattle.std.specs.Prelude.{◌≡◌, ◌≤◌, List, length};
 ghost use Rattle.std.specs.List.{All};
 ghost use Rattle.message_net.specs.declared.event.Event.{Event};
@@ -12,18 +12,18 @@ ghost use Rattle.run_replay.specs.declared.replaying.Replayed.{Replayed};
 ghost use Rattle.run_replay.specs.Document.{FitsDocument, IsTrace, document_of};
 ghost use Rattle.run_replay.specs.Replay.{IsTrueOf};
 
-/// A document is that of one trace.
+/// A document is the document of exactly one trace.
 pub fn a_document_is_of_one_trace()
     ensures { (t u : Trace) → IsTrace t → IsTrace u → document_of t ≡ document_of u → t ≡ u }
 {}
 
-/// No document is larger than one may be.
+/// A document doesn't exceed the greatest size.
 pub fn a_document_is_not_too_large()
     ensures { (t : Trace) → IsTrace t → length (document_of t) ≤ 536870912 }
 {}
 
-/// Events have one replay on the machine of a setting. So they are complete, stopped at an event or unfinished exactly where the
-/// replay says so.
+/// Events have exactly one replay on the machine of a setting. So they are a complete run, stop at an event that may not come,
+/// or are unfinished, exactly as the replay says.
 pub fn events_have_one_replay()
     ensures { (C : Setting) (events : List Event) (r s : Replayed) → IsTrueOf C events r → IsTrueOf C events s → r ≡ s }
 {}

@@ -1,7 +1,8 @@
 //! A run of the machine as a document that anybody can check: it is written, read back, and its events are replayed one by one.
 //!
-//! A document has the machine's size, the source text of the program and the events of the run. Bytes are the document of one run
-//! at most. A replay makes the events on the machine of the program, each in its turn, and answers what a run by them tells.
+//! A document has the machine's size, the source text of the program, and the events of the run. It is the document of at most
+//! one run. A replay makes the events on the machine of the program, each in its turn, and gives what a run with these events
+//! tells.
 #![tactic(auto)]
 
 mod events;

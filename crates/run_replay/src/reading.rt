@@ -31,12 +31,12 @@ fn read(alloc: Global, bytes: &[u8]) -> Result<Trace, TraceFault>
     })
 }
 
-/// What a document tells of a run.
+/// The trace that a document tells.
 ///
-/// It takes memory in proportion to the bytes, whatever numbers these tell.
+/// The memory is proportional to the number of bytes, whatever numbers they tell.
 ///
 /// # Errors
-/// `TooLarge`, `Head`, `Line` or `Rest` exactly where that is the fault of the bytes, and `Memory` where there is no room.
+/// `TooLarge`, `Head`, `Line` or `Rest` exactly if that is the fault of the bytes, and `Memory` if there is no room.
 pub fn read_trace(alloc: Global, bytes: &[u8]) -> Result<Trace, TraceFault>
     ensures ok { IfOk result (IsDocument bytes.now) }
     ensures err { IfErr result (λ f. f ≢ NoMemory → HasFault bytes.now f) }

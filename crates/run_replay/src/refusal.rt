@@ -13,9 +13,9 @@ use text_pieces::{push, push_decimal};
 pub enum TraceRefusal {
     /// The bytes are no document.
     Fault(TraceFault),
-    /// The event of this number, from 0, may not come in its turn; all before it may.
+    /// The event of this number, from 0, may not come in its turn; all events before it may.
     NotEnabled { number: u32 },
-    /// After the events another may come.
+    /// Another event may come after the events.
     Incomplete,
 }
 
@@ -37,10 +37,10 @@ fn push_fault(out: &mut Vec<u8>, fault: TraceFault) -> Result<(), Memory>
 
 /// The line that says why a document is refused.
 ///
-/// Want of memory is no refusal: the fault `TraceFault::Memory` isn't asked for.
+/// Out of memory is no refusal: the fault `TraceFault::Memory` must not be passed.
 ///
 /// # Errors
-/// `Memory` where there is no room for the line.
+/// `Memory` if there is no room for the line.
 #[tactic(auto, unfolding(crate::specs::Refusal::refusal_text))]
 pub fn trace_line(alloc: Global, refusal: &TraceRefusal) -> Result<Vec<u8>, Memory>
     requires { refusal.now ≢ OfFault NoMemory }

@@ -14,11 +14,11 @@ use message_net::{Actor, Event};
 use rv_core::{Ending, TaskEnd};
 use std::alloc::Global;
 
-/// What a replay of events tells.
+/// The result of a replay.
 #[derive(Debug, Drop)]
 pub enum Replayed {
-    /// The events are a complete run, with this ending, these grants in the order in which the cores handled them, and so many
-    /// events of each kind.
+    /// The events are a complete run, with this ending, these grants in the order in which the cores handled them, and these
+    /// counts of events of each kind.
     Complete {
         ending: Ending,
         grants: Sequence<Grant>,
@@ -28,7 +28,7 @@ pub enum Replayed {
     NotEnabled {
         number: u32,
     },
-    /// Each event may come in its turn, and after them another.
+    /// Each event may come in its turn, and after them another one.
     Incomplete,
 }
 
@@ -43,10 +43,10 @@ fn task_end(machine: &Machine, actor: Actor) -> Option<TaskEnd>
     }
 }
 
-/// Makes an event, where it may come; None where it may not.
+/// Makes an event if it may come; None if it may not.
 ///
 /// # Errors
-/// `Memory` where there is no room for the mails.
+/// `Memory` if there is no room for the mails.
 fn advance(machine: &mut Machine, event: Event) -> Result<Option<Happened>, Memory>
     requires { machine.old.made < 4000000000 }
     ensures { IfOk result (HasAdvanced machine.old machine.new event) }
@@ -64,7 +64,7 @@ fn advance(machine: &mut Machine, event: Event) -> Result<Option<Happened>, Memo
     }))
 }
 
-/// What the events so far come to, where all of them came: a complete run, or none yet.
+/// The result of a replay in which all events came: a complete run, or an unfinished one.
 fn finish(alloc: Global, machine: &Machine, log: Log) -> Result<Replayed, Memory>
     ensures tells { IfOk result (IsReplayOutcome machine.now.state log) }
     ensures kept { IsKept machine.now.state machine.now.made }
@@ -88,7 +88,7 @@ fn finish(alloc: Global, machine: &Machine, log: Log) -> Result<Replayed, Memory
     })
 }
 
-/// Replays events on a machine as a run begins.
+/// Replays events on an initial machine.
 fn follow_on(alloc: Global, machine: &mut Machine, events: &[Event]) -> Result<Replayed, Memory>
     requires initial { machine.old.state ≡ initial_state machine.old.state.setting }
     requires made { machine.old.made ≡ 0 }
@@ -108,7 +108,7 @@ fn follow_on(alloc: Global, machine: &mut Machine, events: &[Event]) -> Result<R
     finish(alloc, machine, log)
 }
 
-/// The same, and drops the machine. The loop is apart from the machine's owner, which keeps the proofs of both small.
+/// The same, and drops the machine. The loop is in a function of its own, which keeps the proofs of both small.
 fn follow(alloc: Global, mut machine: Machine, events: &[Event]) -> Result<Replayed, Memory>
     requires initial { machine.state ≡ initial_state machine.state.setting }
     requires made { machine.made ≡ 0 }
@@ -118,18 +118,18 @@ fn follow(alloc: Global, mut machine: Machine, events: &[Event]) -> Result<Repla
     follow_on(alloc, &mut machine, events)
 }
 
-/// Replays events on the machine of a checked program as a run begins: each in its turn, as long as it may come.
+/// Replays events on the initial machine of a checked program, each in its turn, as long as they may come.
 ///
-/// The answer is `Complete` exactly where the events are a complete run, and tells its ending, grants and counts; `NotEnabled`
-/// exactly where the event of that number is the first that may not come after those before it; and `Incomplete` exactly where each
-/// may come in its turn and then another one. A complete run ends as the flat machine's run by its grants.
+/// The answer is `Complete` exactly if the events are a complete run, with its ending, grants and counts. It is `NotEnabled`
+/// exactly if the event of that number is the first that may not come in its turn. It is `Incomplete` exactly if each may come
+/// in its turn and then another one. A complete run ends as the flat machine's run by its grants.
 ///
-/// The shape has the cores that the program needs, 1 to 16 banks, 1 to 256 sets and 1 to 16 ways, a task may retire `fuel`
-/// instructions, 1 to 32,768, and there are at most 25,169,664 events. The mail that is handled is found by its id in
-/// constant time, however many are in flight.
+/// The shape must have as many cores as the program needs, 1 to 16 banks, 1 to 256 sets and 1 to 16 ways. `fuel`, the number of
+/// instructions that a task may retire, must be 1 to 32,768, and there must be at most 25,169,664 events. A mail that is
+/// handled is found by its id in constant time, however many are in flight.
 ///
 /// # Errors
-/// `Memory` where there is no room for the machine, its mails or what is noted of the events.
+/// `Memory` if there is no room for the machine, its mails or the notes of the events.
 pub fn replay(
     alloc: Global,
     checked: Checked,

@@ -25,7 +25,7 @@ fn push_title(out: &mut Vec<u8>) -> Result<(), Memory>
     push(out, b"denovo-trace 1\n")
 }
 
-/// Adds what stands before so many events.
+/// Appends the head for this number of events.
 #[tactic(auto, unfolding(crate::specs::Document::head_text))]
 fn push_head(out: &mut Vec<u8>, shape: TraceShape, text: &[u8], count: u32) -> Result<(), Memory>
     requires { length text.now ≤ 1048576 }
@@ -79,13 +79,13 @@ fn push_events(out: &mut Vec<u8>, events: &[Event]) -> Result<(), Memory>
     Ok(())
 }
 
-/// The document of a run: its first lines tell the machine's size and its tasks' fuel, then comes the source text after the number
-/// of its bytes, then the number of events and a line for each event in its turn. Numbers are decimal, without leading zeros.
+/// The document of a run. The first lines tell the machine's size and the fuel. Then come the source text, after its number of
+/// bytes, the number of events, and a line for each event in order. Numbers are decimal, without leading zeros.
 ///
-/// What it tells is within the limits of `Trace`: cores and banks have numbers below 16, and words below 65,536.
+/// The arguments must be within the limits of `Trace`: cores and banks have numbers below 16, and words below 65,536.
 ///
 /// # Errors
-/// `Memory` where there is no room for the document.
+/// `Memory` if there is no room for the document.
 pub fn trace_text(
     alloc: Global,
     text: &[u8],

@@ -53,12 +53,12 @@ unfoldable pub word_line : ℕ → ℕ → List ℕ
 word_line w value =
     if value == 0 then [] else codes "word " ++ hexadecimal (268435456 + 4 * w) ++ space ++ hexadecimal value ++ newline
 
--- the lines of the data words from w on
+-- the lines of the data words from w on; a word that is 0 has none
 abbrev pub word_lines : ℕ → List ℕ → List ℕ
 word_lines w [] = []
 word_lines w (value ∷ values) = word_line w value ++ word_lines (w + 1) values
 
--- the outcome, the tasks that started, how many data words there are, and those that aren't 0
+-- the outcome, the tasks that started, the number of data words, and the data words that aren't 0
 unfoldable pub answer_of : Ending → List ℕ
 answer_of e =
     outcome_line e.outcome ++ flat_map task_line e.tasks ++ words_line (length e.memory) ++ word_lines 0 e.memory

@@ -1,4 +1,4 @@
--- The lines that say why words or a text are refused.
+-- The lines that say why command words or a text are refused.
 use Rattle.std.specs.Prelude.{ℕ, List, ◌++◌, codes}
 use Rattle.std.specs.Fmt.{decimal}
 use Rattle.rv_assembler.specs.declared.fault.SourceFault.{SourceFault}
@@ -24,7 +24,7 @@ source_text (source.TheVariants.Misplaced line) = decimal line ++ codes " mispla
 source_text (source.TheVariants.Limit line) = decimal line ++ codes " limit"
 source_text source.TheVariants.Memory = codes "memory"
 
--- a conflict of a phase: its kind, two numbers with what stands between them, and the word
+-- a conflict of a phase: its kind, two numbers with a text between them, and the word
 unfoldable pub conflict_text : ℕ → List ℕ → ℕ → List ℕ → ℕ → ℕ → List ℕ
 conflict_text phase kind first between second word =
     codes "phase " ++ decimal phase ++ kind ++ decimal first ++ between ++ decimal second ++ codes " word " ++ decimal word

@@ -39,7 +39,7 @@ all_kinds =
     ∷ kind.TheVariants.Release ∷ kind.TheVariants.Grant ∷ kind.TheVariants.Arrived ∷ kind.TheVariants.Go
     ∷ kind.TheVariants.Halt ∷ []
 
--- a word and how many events it counts
+-- a word, and how many events there were of its kind
 unfoldable pub counted_line : List ℕ → ℕ → List ℕ
 counted_line word count = codes "count " ++ word ++ space ++ decimal count ++ newline
 
@@ -55,6 +55,6 @@ counts_text counts = counted_line (codes "events") (sum counts.kinds) ++ flat_ma
 unfoldable pub run_text : List Grant → Counts → List ℕ
 run_text grants counts = grant_lines grants ++ counts_text counts
 
--- the answer of a run, and then how it was made
+-- the answer of a run, then its grants and counts
 unfoldable pub report_of : Ending → List Grant → Counts → List ℕ
 report_of ending grants counts = answer_of ending ++ run_text grants counts

@@ -19,7 +19,7 @@ sum_line memory = codes "sum " ++ hexadecimal (sum memory % 2 ^ 32) ++ newline
 abbrev pub retired_by_all : List TaskEnd → ℕ
 retired_by_all tasks = sum_by (λ (t : TaskEnd). t.retired) tasks
 
--- the outcome, how many tasks started, how many instructions they retired, how many data words there are, and their sum
+-- the outcome, the number of tasks that started, of the instructions that they retired, and of data words, and the words' sum
 unfoldable pub summary_of : Ending → List ℕ
 summary_of e =
     outcome_line e.outcome ++ count_line (codes "tasks ") (length e.tasks) ++ count_line (codes "retired ") (retired_by_all e.tasks)

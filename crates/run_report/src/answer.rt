@@ -6,7 +6,7 @@ use rv_core::{EndShown, Ending, TaskEnd, TrapKind};
 use std::alloc::Global;
 use text_pieces::{push, push_decimal, push_hexadecimal};
 
-/// An outcome, as it is printed.
+/// The printed name of an outcome.
 pub fn outcome_name(outcome: Outcome) -> &'static [u8]
     ensures { result.now ≡ outcome_word outcome }
 {
@@ -18,7 +18,7 @@ pub fn outcome_name(outcome: Outcome) -> &'static [u8]
     }
 }
 
-/// The kind of a trap, as it is printed.
+/// The printed name of a kind of trap.
 pub fn kind_name(kind: TrapKind) -> &'static [u8]
     ensures { result.now ≡ kind_word kind }
 {
@@ -46,7 +46,8 @@ pub(crate) fn push_outcome(out: &mut Vec<u8>, outcome: Outcome) -> Result<(), Me
     push(out, b"\n")
 }
 
-/// Adds how a task stands, as the line of the task has it: `finished`, `fuel`, `waits 0`, or a trap with its kind, address and value.
+/// Appends how a task stands, as the task's line has it: `finished`, `fuel`, `waits 0`, or a trap with its kind, address and
+/// value.
 ///
 /// # Errors
 /// `Memory` where there is no room.

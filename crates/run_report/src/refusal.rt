@@ -13,11 +13,11 @@ use text_pieces::{push, push_decimal};
 /// Why command words or a text are refused.
 #[derive(Clone, Copy, Debug, PartialEq, Eq)]
 pub enum Refusal {
-    /// The words aren't of the command.
+    /// The command doesn't take the words.
     Usage,
     /// The text is no program.
     Source(SourceFault),
-    /// Two tasks of the program contend for a word.
+    /// Two tasks of the program conflict on a word.
     Check(CheckFault),
 }
 
@@ -107,9 +107,9 @@ fn push_check(out: &mut Vec<u8>, fault: CheckFault) -> Result<(), Memory>
     }
 }
 
-/// The line that says why words or a text are refused.
+/// The line that says why command words or a text are refused.
 ///
-/// Want of memory is no refusal: the fault `SourceFault::Memory` isn't asked for.
+/// Out of memory is no refusal: the fault `SourceFault::Memory` must not be passed.
 ///
 /// # Errors
 /// `Memory` where there is no room for the line.

@@ -36,7 +36,7 @@ fn kinds() -> [EventKind; 17]
     ]
 }
 
-/// The word for a kind of event, as texts have it.
+/// The printed name of a kind of event.
 pub fn event_name(kind: EventKind) -> &'static [u8]
     ensures { result.now ≡ event_word kind }
 {
@@ -99,10 +99,10 @@ fn push_counts(out: &mut Vec<u8>, counts: &Counts) -> Result<(), Memory>
     push_kinds(out, counts, &kinds())
 }
 
-/// The answer of a run, and then how it was made: a line for each grant of a lock, in their order, and lines with the
-/// number of events and the number of events of each kind.
+/// The answer of a run, and then how it was made: a line for each grant of a lock, in order, and lines with the number of
+/// events and the number of events of each kind.
 ///
-/// The ending has at most 65,536 words and 64 tasks, and the counts add up to a number of 64 bits.
+/// The ending must have at most 65,536 words and 64 tasks, and the sum of the counts must fit 64 bits.
 ///
 /// # Errors
 /// `Memory` where there is no room for the text.

@@ -57,10 +57,10 @@ fn push_sum(out: &mut Vec<u8>, memory: &[u32]) -> Result<(), Memory>
     push(out, b"\n")
 }
 
-/// The summary of a run: a line each with the outcome, the number of tasks that started, of the instructions that they
-/// retired and of data words, and the sum of all data words modulo 2^32.
+/// The summary of a run: a line each with the outcome, the number of tasks that started, of the instructions that they retired
+/// and of data words, and the sum of all data words modulo 2^32.
 ///
-/// The ending has at most 65,536 words and 64 tasks.
+/// The ending must have at most 65,536 words and 64 tasks.
 ///
 /// # Errors
 /// `Memory` where there is no room for the text.

@@ -24,7 +24,7 @@ abbrev pub last_of : List ℕ → Option ℕ
 last_of [] = None
 last_of (i ∷ is) = Some (last_from i is)
 
--- number i finishes at this: the greatest cost of a chain that ends with it
+-- the finish of number i: the greatest cost of a chain that ends with it
 pub record IsFinish (Depends : ℕ → ℕ → Type 0) (n : ℕ) (ticks : ℕ → ℕ) (i finish : ℕ) : Type 0 where
   pub chain : List ℕ
   pub is_chain : IsChain Depends n chain

@@ -11,7 +11,7 @@ use Rattle.machine_rules.specs.Next.{kind_in}
 use Rattle.machine_rules.specs.Runs.{after}
 use Rattle.dn_machine.specs.Actors.{actor_in}
 
--- the state in which event number i of a list comes, the first of which is number 0 and comes in state S
+-- the state in which event number i of a list comes; number 0 comes in state S
 abbrev pub state_at : State → List Event → ℕ → State
 state_at S events i = after S (take i events)
 
@@ -30,7 +30,7 @@ kind_if_any S (Some e) = Some (kind_in S e)
 abbrev pub kind_at : State → List Event → ℕ → Option EventKind
 kind_at S events i = kind_if_any (state_at S events i) (slice_get events i)
 
--- event number i is the one before event number j among those of j's own actor
+-- event number i is the last event before event number j of the same actor
 pub record IsOwnBefore (S : State) (events : List Event) (i j : ℕ) : Type 0 where
   pub earlier : i < j
   pub actor : Actor
@@ -38,7 +38,7 @@ pub record IsOwnBefore (S : State) (events : List Event) (i j : ℕ) : Type 0 wh
   pub makes_next : actor_at S events j ≡ Some actor
   pub none_between : (k : ℕ) → i < k → k < j → actor_at S events k ≢ Some actor
 
--- event number i sends the mail with this id: it is in flight after the event, and isn't before it
+-- event number i sends the mail with this id: it is in flight after the event, and not before it
 pub record Sends (S : State) (events : List Event) (i : ℕ) (id : MailId) : Type 0 where
   pub absent : count_of id (state_at S events i).mails ≡ 0
   pub in_flight : 1 ≤ count_of id (state_at S events (i + 1)).mails

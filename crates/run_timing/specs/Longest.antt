@@ -34,19 +34,20 @@ pub record IsLinkOf (ticks : Ticks) (S : State) (events : List Event) (link : Li
   pub kind : kind_at S events link.event ≡ Some link.kind
   pub finish : FinishesAt ticks S events link.event link.finish
 
--- the links are the longest chain of the events that come from state S on, and tell when each of its events finishes
+-- the links are the longest chain of the events from state S on, and tell when each of its events finishes
 pub record IsLongest (ticks : Ticks) (S : State) (events : List Event) (timing : Timing) : Type 0 where
-  -- the links' events are a chain that takes the total, and none takes longer
+  -- the links' events are a chain that takes the total, and no chain takes longer
   pub chain : IsEventChain S events (numbers_in timing.links.items)
   pub takes : time_of ticks S events (numbers_in timing.links.items) ≡ timing.total
   pub longest : (other : List ℕ) → IsEventChain S events other → time_of ticks S events other ≤ timing.total
-  -- a link's finish is the time of the links up to it and with it, and its event finishes then
+  -- a link's finish is the time of the links up to and including it, and its event finishes then
   pub finishes : (k : ℕ) (link : Link) → slice_get timing.links.items k ≡ Some link → link.finish ≡ time_of ticks S events (take (k + 1) (numbers_in timing.links.items))
   pub links : (k : ℕ) (link : Link) → slice_get timing.links.items k ≡ Some link → IsLinkOf ticks S events link
-  -- of all chains that take as long the links' ends with the least event
+  -- of all longest chains, the links are one that ends with the least event
   pub least : (other : List ℕ) (i j : ℕ) → IsEventChain S events other → time_of ticks S events other ≡ timing.total → last_of (numbers_in timing.links.items) ≡ Some i
       → last_of other ≡ Some j → i ≤ j
-  -- where the event before it of its own actor and the sender of its mail finish alike, the link before a link is its own actor's
+  -- if the own actor's event before and the sender of the mail finish at the same time, the link before a link is the own
+  -- actor's event
   pub own : (k : ℕ) (before link : Link) (i j finish : ℕ) → slice_get timing.links.items k ≡ Some before → slice_get timing.links.items (k + 1) ≡ Some link
       → IsOwnBefore S events i link.event → IsSender S events j link.event → FinishesAt ticks S events i finish → FinishesAt ticks S events j finish → before.event ≡ i
   pub bound : timing.total < 35184372088832

@@ -1,4 +1,4 @@
--- What is noted of all events of a run.
+-- The notes of all events of a run.
 use Rattle.std.specs.Prelude.{List, length}
 use Rattle.message_net.specs.declared.event.Event.{Event}
 use Rattle.machine_rules.specs.State.{State}

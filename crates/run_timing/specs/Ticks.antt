@@ -17,7 +17,7 @@ ticks_of ticks kind = slice_index_or ticks.kinds (kind_index kind) 0
 abbrev pub AreWithinLimits : Ticks → Type 0
 AreWithinLimits ticks = (kind : EventKind) → (1 ≤ ticks_of ticks kind) × (ticks_of ticks kind ≤ 1000000)
 
--- the ticks of a kind where a core's own events take so many, those that a bank handles so many, and all others so many
+-- the ticks of a kind: `core` for a core's own events, `bank` for those that a bank handles, and `mail` for all others
 abbrev pub place_ticks : (core : ℕ) → (bank : ℕ) → (mail : ℕ) → EventKind → ℕ
 place_ticks core bank mail kind.TheVariants.Instr = core
 place_ticks core bank mail kind.TheVariants.Evict = core

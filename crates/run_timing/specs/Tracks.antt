@@ -1,5 +1,5 @@
--- What is noted of actors and mails: by an actor's place the last of its events, and by that and a mail's number the event that
--- sent it.
+-- Notes of actors and mails: for each actor, by its index, its last event; and for each of its mails, by the mail's number, the
+-- event that sent it.
 use Rattle.std.specs.Prelude.{ℕ, List, [], ◌++◌, replicate, slice_get, slice_set, slice_index_or, Option, Some, None}
 use Rattle.message_net.specs.declared.event.Event.{Event}
 use Rattle.message_net.specs.declared.event.Event.TheVariants.{Handle}
@@ -11,14 +11,14 @@ last_at last place = slice_index_or last place None
 abbrev pub senders_at : List (List ℕ) → ℕ → List ℕ
 senders_at senders place = slice_index_or senders place []
 
--- an event of the actor at a place comes, and sends so many mails
+-- an event of the actor at an index comes, and sends this many mails
 abbrev pub noted_last : ℕ → ℕ → List (Option ℕ) → List (Option ℕ)
 noted_last place event last = slice_set last place (Some event)
 
 abbrev pub noted_senders : ℕ → ℕ → ℕ → List (List ℕ) → List (List ℕ)
 noted_senders place count event senders = slice_set senders place (senders_at senders place ++ replicate count event)
 
--- the event that sent the mail that an event handles, in a machine of so many cores and banks
+-- the event that sent the mail that an event handles, in a machine with these numbers of cores and banks
 abbrev pub sender_in : ℕ → ℕ → List (List ℕ) → Event → Option ℕ
 sender_in cores banks senders (Handle id) = slice_get (senders_at senders (actor_index cores banks id.sender)) id.number
 sender_in cores banks senders _ = None

@@ -5,10 +5,9 @@ use dn_base::{Memory, Sequence};
 use std::alloc::Global;
 use std::marker::Model;
 
-/// After which event each event of a run finishes, if after any.
+/// For each event of a run, the event after which it comes, if any.
 ///
-/// It takes 4 bytes an event, where an `Option<u32>` takes 8: there is one for each event of a run, so the room counts. It keeps
-/// the number of the event and 1 more, or 0 where there is none.
+/// Each takes 4 bytes, where an `Option<u32>` would take 8. The number of the event plus 1 is stored, or 0 if there is none.
 #[derive(Debug, Drop)]
 pub(crate) struct Befores {
     numbers: Sequence<u32>,
@@ -20,7 +19,7 @@ impl Model for Befores {
     ghost view = { λ befores. map decoded_before befores.numbers };
 }
 
-/// The number that is kept for an event, or for none.
+/// The number that is stored for an event, or for none.
 fn kept(event: Option<u32>) -> u32
     requires { (i : ℕ) → event ≡ Some i → i < 4294967295 }
     ensures { decoded_before result ≡ event }
@@ -31,7 +30,7 @@ fn kept(event: Option<u32>) -> u32
     }
 }
 
-/// The event for which this number is kept, or none.
+/// The event that this stored number stands for, if any.
 fn event_of(number: u32) -> Option<u32>
     ensures { result ≡ decoded_before number }
 {
@@ -42,7 +41,7 @@ fn event_of(number: u32) -> Option<u32>
 }
 
 impl Befores {
-    /// None of no event, with room for so many events: 4 bytes for each.
+    /// Empty, with room for this many events: 4 bytes for each.
     ///
     /// # Errors
     /// `Memory` where there is no room.
@@ -54,7 +53,7 @@ impl Befores {
         })
     }
 
-    /// Adds the event before one more event.
+    /// Adds the event after which one more event comes.
     ///
     /// # Errors
     /// `Memory` where there is no room.
@@ -65,7 +64,7 @@ impl Befores {
         self.numbers.push(kept(before))
     }
 
-    /// The event after which this one finishes.
+    /// The event after which this one comes.
     pub(crate) fn get(&self, event: u32) -> Option<u32>
         requires { event < length self.now }
         ensures { result ≡ slice_index_or self.now event None }
@@ -73,8 +72,8 @@ impl Befores {
         event_of(self.numbers.as_slice()[event as usize])
     }
 
-    /// How many events lead to this one, with it: itself, the one after which it finishes, the one after which that does, and
-    /// so on to one that finishes after none.
+    /// How many events lead to this one, itself included: the event after which it comes, the event after which that one comes,
+    /// and so on, to one that comes after none.
     pub(crate) fn count_to(&self, last: Option<u32>) -> usize
         requires earlier { IsEarlier self.now }
         requires within { (i : ℕ) → last ≡ Some i → i < length self.now }

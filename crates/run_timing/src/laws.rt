@@ -1,5 +1,5 @@
 //! What holds of every timing, for proofs about them.
-//! These are laws: functions that do nothing, whose contracts say it.
+//! A law is a function without effect; its contract states the theorem.
 ghost use Rattle.std.specs.Prelude.{◌≡◌, ℕ, List};
 ghost use Rattle.dn_base.specs.declared.ids.Shape.{Shape};
 ghost use Rattle.message_net.specs.declared.event.Event.{Event};
@@ -9,7 +9,7 @@ ghost use Rattle.run_timing.specs.declared.timing.Timing.{Timing};
 ghost use Rattle.run_timing.specs.Longest.{IsTimingOf};
 ghost use Rattle.run_timing.specs.Ticks.{AreWithinLimits};
 
-/// The events of a run and the ticks of their kinds have one timing: its total and each of its links.
+/// The events of a run and the ticks of their kinds have exactly one timing: its total and each of its links.
 pub fn a_run_has_one_timing()
     ensures { (P : ProgramParts) (machine : Shape) (most : ℕ) (events : List Event) (ticks : Ticks) (t u : Timing) → AreWithinLimits ticks
         → IsTimingOf P machine most events ticks t → IsTimingOf P machine most events ticks u → (t.total ≡ u.total) × (t.links.items ≡ u.links.items) }

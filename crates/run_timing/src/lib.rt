@@ -1,5 +1,5 @@
-//! How long a run of the machine takes when an event of each kind takes a stated number of ticks, and which chain of events,
-//! each of which depends on the one before it, makes it so long.
+//! How long a run of the machine takes if an event of each kind takes a given number of ticks, and the longest chain of events,
+//! each of which depends on the one before it. The ticks are this project's profile.
 #![tactic(auto)]
 
 mod befores;

@@ -37,7 +37,7 @@ pub(crate) fn make(machine: &mut Machine, event: Event) -> Result<Happened, Memo
     }
 }
 
-/// How many mails the actor at a place has sent that are not noted yet.
+/// How many mails the actor at an index has sent that aren't noted yet.
 pub(crate) fn sent_since(machine: &Machine, tracks: &Tracks, actor: Actor, place: usize) -> u32
     requires there { has_actor machine.now.state.setting.shape.cores machine.now.state.setting.shape.banks actor ≡ true }
     requires grows { length (senders_at tracks.now.senders.items place) ≤ next_number machine.now.state actor }

@@ -11,7 +11,7 @@ use dn_base::{Memory, Shape};
 use message_net::Event;
 
 impl Tracks {
-    /// The event that sent the mail that an event handles; None where it handles none.
+    /// The event that sent the mail that an event handles; None if it handles none.
     pub(crate) fn sender_of(&self, event: Event, shape: Shape) -> Option<u32>
         ensures { result ≡ sender_in shape.cores shape.banks self.now.senders.items event }
     {
@@ -21,7 +21,7 @@ impl Tracks {
         }
     }
 
-    /// Of the event before an event of the actor at a place and the one that sent its mail, the one that finishes later.
+    /// Of the event before an event of the actor at an index and the sender of its mail, the one that finishes later.
     pub(crate) fn before(
         &self,
         rows: &Rows,
@@ -38,7 +38,7 @@ impl Tracks {
     }
 }
 
-/// Notes when an event finishes that came, after which event, and its kind.
+/// Notes an event that came: when it finishes, after which event it comes, and its kind.
 ///
 /// # Errors
 /// `Memory` where there is no room.

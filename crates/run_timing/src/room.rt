@@ -5,7 +5,7 @@ use dn_base::{Memory, Shape};
 use message_net::Event;
 use std::alloc::Global;
 
-/// Counts one more at a place, where there is one.
+/// Counts one more at an index, if there is one.
 fn raise(counts: &mut [u32], place: usize)
     ensures { length counts.new ≡ length counts.old }
 {
@@ -14,8 +14,8 @@ fn raise(counts: &mut [u32], place: usize)
     }
 }
 
-/// How many mails of each actor the events handle, by the index of the actor, of so many. In a run to its end these are all that
-/// the actor sends, so a row with that much room doesn't grow.
+/// How many mails of each actor the events handle, by the index of the actor. In a complete run these are all mails that the
+/// actor sends, so rows with that much room don't grow.
 ///
 /// # Errors
 /// `Memory` where there is no room.
@@ -38,7 +38,7 @@ fn handled_mails(
 }
 
 impl Tracks {
-    /// What is noted of no event, of so many actors, with room for the mails that the events handle.
+    /// Empty notes for this many actors, with room for the mails that the events handle.
     ///
     /// # Errors
     /// `Memory` where there is no room.

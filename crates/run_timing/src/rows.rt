@@ -8,7 +8,7 @@ use std::alloc::Global;
 
 const _: () = prove!(size_of::<EventKind>() == 1);
 
-/// What is noted of each event of a run: when it finishes, the event after which it does, and its kind.
+/// The notes of each event of a run: when it finishes, the event after which it comes, and its kind.
 #[derive(Debug, Drop)]
 pub(crate) struct Rows {
     pub(crate) finishes: Sequence<u64>,
@@ -17,7 +17,7 @@ pub(crate) struct Rows {
 }
 
 impl Rows {
-    /// The rows of no event, with room for so many: 13 bytes for each.
+    /// Empty, with room for this many events: 13 bytes for each.
     ///
     /// # Errors
     /// `Memory` where there is no room.
@@ -31,7 +31,7 @@ impl Rows {
         })
     }
 
-    /// When an event finishes, and 0 where there is none.
+    /// When an event finishes; 0 if there is none.
     pub(crate) fn finish(&self, event: Option<u32>) -> u64
         requires { (i : ℕ) → event ≡ Some i → i < length self.now.finishes }
         ensures { result ≡ behind (finish_in self.now) event }
@@ -42,7 +42,7 @@ impl Rows {
         }
     }
 
-    /// Of an event and a second one the one that finishes later; the first where both finish alike.
+    /// Of two events the one that finishes later; the first one if both finish at the same time.
     pub(crate) fn later(&self, first: Option<u32>, second: Option<u32>) -> Option<u32>
         requires first { (i : ℕ) → first ≡ Some i → i < length self.now.finishes }
         requires second { (i : ℕ) → second ≡ Some i → i < length self.now.finishes }
@@ -61,7 +61,7 @@ impl Rows {
         }
     }
 
-    /// Notes one more event, of this kind and so many ticks, after another.
+    /// Notes one more event, of this kind and this many ticks, after another.
     ///
     /// # Errors
     /// `Memory` where there is no room.
@@ -82,7 +82,7 @@ impl Rows {
         self.kinds.push(kind)
     }
 
-    /// The event that finishes last, the first of them where several do; None where there is no event.
+    /// The event that finishes last, the first of them if there are several; None if there is no event.
     pub(crate) fn latest(&self) -> Option<u32>
         requires few { length self.now.finishes ≤ 25169664 }
         requires some { (i : ℕ) → i < length self.now.finishes → 1 ≤ finish_in self.now i }

@@ -78,10 +78,10 @@ fn rows_by(
     Ok(rows)
 }
 
-/// The rows of a run's events, which the initial machine makes one by one. They take 13 bytes for each event, and while they are
-/// made 4 more for each mail, of which a run to its end has no more than events: the room for a whole run is taken at once.
+/// The rows of a run's events, which the initial machine makes one by one. They take 13 bytes for each event, and while they
+/// are made 4 more for each mail. A complete run has no more mails than events. The room for a whole run is allocated at once.
 ///
-/// The machine is lent once here, and then dropped: a loop that owned it would be dear to prove.
+/// The machine is borrowed once here, and then dropped: the proof of a loop that owned it would take minutes.
 ///
 /// # Errors
 /// `Memory` where there is no room for the rows or the mails.

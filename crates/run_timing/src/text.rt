@@ -47,11 +47,11 @@ fn push_links(out: &mut Vec<u8>, links: &[Link]) -> Result<(), Memory>
     Ok(())
 }
 
-/// Adds the timing as it is printed to a text: how many ticks the run takes, how many links the chain has, and a line for each link
-/// in their order with the number of its event, the event's kind and when it finishes. Each line is written once, in its place.
+/// Appends the printed timing to a text: how many ticks the run takes, how many links the chain has, and for each link, in
+/// order, a line with the number of its event, the event's kind and when it finishes.
 ///
 /// # Errors
-/// `Memory` where there is no room; what is added then is no part of a text.
+/// `Memory` if there is no room; the text may have part of the timing then.
 #[tactic(auto, unfolding(crate::specs::Text::timing_of))]
 pub fn push_timing(out: &mut Vec<u8>, timing: &Timing) -> Result<(), Memory>
     ensures { OnOk result (out.new.items ≡ out.old.items ++ timing_of timing.now) }
@@ -61,7 +61,7 @@ pub fn push_timing(out: &mut Vec<u8>, timing: &Timing) -> Result<(), Memory>
     push_links(out, timing.links.as_slice())
 }
 
-/// The timing as it is printed, as a text of its own: what `push_timing` adds.
+/// The printed timing as a text of its own: what `push_timing` appends.
 ///
 /// # Errors
 /// `Memory` where there is no room for the text.

@@ -11,8 +11,8 @@ pub struct Ticks {
 }
 
 impl Ticks {
-    /// The ticks of each kind by the place of its events: a core's own take `core`, those that a bank handles `bank`, and all
-    /// others `mail`. Each is 1 to 1,000,000.
+    /// The ticks of each kind: `core` for a core's own events, `bank` for those that a bank handles, and `mail` for all others.
+    /// Each must be 1 to 1,000,000.
     #[tactic(auto, unfolding(run_report::specs::Run::all_kinds))]
     pub fn by_place(core: u32, bank: u32, mail: u32) -> Ticks
         requires core { IsInRange 1 1000000 core }
@@ -36,7 +36,7 @@ impl Ticks {
         self.kinds[kind as usize]
     }
 
-    /// The same, where they are within their limits.
+    /// The same if they are within their limits.
     pub(crate) fn of(&self, kind: EventKind) -> u32
         requires { AreWithinLimits self.now }
         ensures value { result ≡ ticks_of self.now kind }

@@ -14,23 +14,23 @@ use effect_checker::Checked;
 use message_net::Event;
 use std::alloc::Global;
 
-/// How long a run takes, and the longest chain of its events, each of which depends on the one before it: that is the event
-/// before it of its own actor, or the one that sent the mail that it handles.
+/// How long a run takes, and its longest chain of events, in which each depends on the one before it. An event depends on the
+/// previous event of its own actor, and on the event that sent the mail which it handles.
 ///
-/// The events are a run of the initial machine of the checked program, this shape and this fuel, and at most 25,169,664. The shape
-/// has the cores that the program needs, 1 to 16 banks, 1 to 256 sets and 1 to 16 ways, and a task may retire `fuel`
-/// instructions, 1 to 32,768. An event of each kind takes 1 to 1,000,000 ticks.
+/// The events must be a run of the initial machine of the checked program, this shape and this fuel, and at most 25,169,664.
+/// The shape must have as many cores as the program needs, 1 to 16 banks, 1 to 256 sets and 1 to 16 ways. A task may retire
+/// `fuel` instructions, 1 to 32,768. An event of each kind takes 1 to 1,000,000 ticks.
 ///
-/// Of the chains that take longest the links are one that ends with the least event, and where two events before a link finish alike
-/// it comes after the one of its own actor.
+/// Of the longest chains, the links are one that ends with the least event. If the two events on which a link depends finish at
+/// the same time, the link before it is that of its own actor.
 ///
-/// Beside the events it takes 13 bytes for each, and 4 more for each mail that they handle, while they are timed; then 5 for each,
-/// and 16 for each link. So it is at most 21 bytes an event, the links that are handed back among them, and some that don't grow
-/// with the run: the machine, and a few for each actor. In a run that is cut short mails may still be in flight; where an actor
-/// sent more than were handled, what is noted of its mails doubles as it grows.
+/// Besides the events, it takes 13 bytes for each event, and 4 for each mail that they handle, while they are timed; then 5
+/// bytes for each event, and 16 for each link. So it takes at most 21 bytes an event, including the links that are handed back,
+/// and an amount that doesn't grow with the run: the machine, and some bytes for each actor. A run that isn't complete may
+/// leave mails in flight. If an actor sent more mails than were handled, the notes of its mails double as they grow.
 ///
 /// # Errors
-/// `Memory` where there is no room for the machine, for what is noted of each event, or for the links.
+/// `Memory` if there is no room for the machine, for the notes of each event, or for the links.
 pub fn time_run(
     alloc: Global,
     checked: Checked,

@@ -1,7 +1,7 @@
 use message_net::EventKind;
 
-/// An event of the longest chain: its number among the run's events from 0, its kind, and the ticks from the run's beginning to
-/// its end.
+/// An event of the longest chain: its number among the run's events, from 0, its kind, and at which tick from the run's start
+/// it finishes.
 #[derive(Clone, Copy, Debug, PartialEq, Eq)]
 pub struct Link {
     pub event: u32,

@@ -4,15 +4,15 @@ ghost use Rattle.run_timing.specs.Tracks.{last_at, noted_last, noted_senders, se
 use dn_base::{Memory, Sequence};
 use std::alloc::Global;
 
-/// What is noted of the events so far: by the place of an actor the last of its events, and by that and the number of a mail
-/// among those that the actor has sent the event that sent it.
+/// Notes of the events so far: for each actor, by its index, its last event; and for each of its mails, by the mail's number,
+/// the event that sent it.
 #[derive(Debug, Drop)]
 pub(crate) struct Tracks {
     pub(crate) last: Sequence<Option<u32>>,
     pub(crate) senders: Vec<Sequence<u32>>,
 }
 
-/// A row without mails for each actor, with room for so many.
+/// A row without mails for each actor, with room for this many.
 fn empty_rows(alloc: Global, mails: &[u32]) -> Result<Vec<Sequence<u32>>, Memory>
     ensures { IfOk result (λ rows. rows.items ≡ replicate (length mails.now) []) }
 {
@@ -24,7 +24,7 @@ fn empty_rows(alloc: Global, mails: &[u32]) -> Result<Vec<Sequence<u32>>, Memory
     Ok(rows)
 }
 
-/// Adds so many mails that an event sent.
+/// Appends the mails that an event sent.
 fn push_mails(row: &mut Sequence<u32>, count: u32, event: u32) -> Result<(), Memory>
     ensures { OnOk result (row.new ≡ row.old ++ replicate count event) }
 {
@@ -34,7 +34,7 @@ fn push_mails(row: &mut Sequence<u32>, count: u32, event: u32) -> Result<(), Mem
     Ok(())
 }
 
-/// The same in the row at a place.
+/// The same in the row at an index.
 fn push_at(
     rows: &mut Vec<Sequence<u32>>,
     place: usize,
@@ -49,7 +49,7 @@ fn push_at(
 }
 
 impl Tracks {
-    /// What is noted of no event, with room for so many mails of each actor.
+    /// Empty notes, with room for this many mails of each actor.
     ///
     /// # Errors
     /// `Memory` where there is no room.
@@ -63,7 +63,7 @@ impl Tracks {
         })
     }
 
-    /// The last event of the actor at a place; None where it has made none.
+    /// The last event of the actor at an index; None if it has made none.
     pub(crate) fn last_event(&self, place: usize) -> Option<u32>
         requires { place < length self.now.last }
         ensures { result ≡ last_at self.now.last place }
@@ -81,7 +81,7 @@ impl Tracks {
         }
     }
 
-    /// Notes that an event of the actor at a place came, and sent so many mails.
+    /// Notes an event of the actor at an index, and that it sent this many mails.
     ///
     /// # Errors
     /// `Memory` where there is no room.

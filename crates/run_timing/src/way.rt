@@ -17,11 +17,10 @@ fn kind_at(kinds: &Sequence<EventKind>, event: u32) -> EventKind
     kinds.as_slice()[event as usize]
 }
 
-/// The links that lead to an event, from one that finishes after none.
+/// The links that lead to an event, from one that comes after none.
 ///
-/// The finishes are given back before there are links, which take 16 bytes each: where the event before finishes is known from
-/// where this one does and its ticks. There is room for all links from the beginning, so 5 bytes stay for each event and 16 for
-/// each link.
+/// The finishes are freed before the links are made, which take 16 bytes each: when the event before finishes follows from this
+/// one's finish and ticks. There is room for all links from the start, so 5 bytes stay for each event and 16 for each link.
 ///
 /// # Errors
 /// `Memory` where there is no room for them.
