@@ -1,4 +1,4 @@
--- What an account counts: in which group an item is, and how many items of a measure a group has.
+-- What an account counts: the group of an item, and how many items of a measure a group has.
 use Rattle.std.specs.Prelude.{◌≡◌, ℕ, ◌+◌, ◌<◌, ◌==◌, Bool, true, false, ◌&&◌, List, [], ◌∷◌, ◌++◌, length, map, replicate, slice_get, Option, Some, None, count_by, sum}
 use Rattle.std.specs.List.{range_with_len}
 use Rattle.dn_base.specs.declared.ids.WordId.{WordId}
@@ -11,8 +11,8 @@ use Rattle.account_table.specs.declared.item.Grouping.{Grouping}
 use Rattle.account_table.specs.declared.item.Grouping.TheVariants as by
 use Rattle.account_table.specs.Measure.{same_measure}
 
--- the region of each word in the order of words, where the first region is number `number`: the regions lie one after the other
--- from word 0 on
+-- the region of each word, in the order of words, where the first region is number `number`; the regions are adjacent from word
+-- 0 on
 abbrev pub regions_from : ℕ → List Region → List ℕ
 regions_from number [] = []
 regions_from number (r ∷ rs) = replicate r.len number ++ regions_from (number + 1) rs
@@ -51,11 +51,11 @@ count_in regions by m group items = count_by (counts_for regions by m group) ite
 abbrev pub items_of_measure : Measure → List Item → ℕ
 items_of_measure m items = count_by (λ (item : Item). same_measure m item.measure) items
 
--- the numbers of all groups for a measure, added up
+-- the sum of the numbers of all groups for a measure
 abbrev pub sum_of_groups : List ℕ → Grouping → ℕ → Measure → List Item → ℕ
 sum_of_groups regions by groups m items = sum (map (λ (group : ℕ). count_in regions by m group items) (range_with_len 0 groups))
 
--- an item is in one of so many groups
+-- the group of an item is below the number of groups
 abbrev pub IsGrouped : List ℕ → Grouping → ℕ → Item → Type 0
 IsGrouped regions by groups item = (group : ℕ) × (group_of regions by item ≡ Some group) × (group < groups)
 

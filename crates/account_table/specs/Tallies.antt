@@ -1,4 +1,4 @@
--- The numbers of an account, as items are counted one by one.
+-- The numbers of an account, while items are counted one by one.
 use Rattle.std.specs.Prelude.{ℕ, ◌+◌, List, [], ◌∷◌, min, replicate, slice_set, slice_index_or, Option, Some, None}
 use Rattle.region_table.specs.Program.{ProgramParts}
 use Rattle.account_table.specs.declared.measure.Measure.{Measure}
@@ -7,7 +7,7 @@ use Rattle.account_table.specs.declared.item.Grouping.{Grouping}
 use Rattle.account_table.specs.Measure.{measure_index}
 use Rattle.account_table.specs.Items.{group_of, groups_in, regions_from}
 
--- what the groups are, the region of each word, and by group and measure how many items there were
+-- what the groups are, the region of each word, and the numbers by group and measure
 pub record Tallies : Type 0 where
   pub by : Grouping
   pub regions : List ℕ
@@ -22,11 +22,11 @@ no_tallies P cores by =
 abbrev pub tally_of : Measure → ℕ → Tallies → ℕ
 tally_of m group t = slice_index_or (slice_index_or t.numbers group []) (measure_index m) 0
 
--- a number of 64 bits stands still at the end of its type
+-- a number of 64 bits stays at its greatest value
 abbrev pub capped : ℕ → ℕ
 capped n = min n 18446744073709551615
 
--- one more of a measure, in a group's row, and in a group if there is one
+-- one more of a measure, in the row of a group, and in the table if there is such a group
 abbrev pub one_more_at : ℕ → List ℕ → List ℕ
 one_more_at index row = slice_set row index (capped (slice_index_or row index 0 + 1))
 

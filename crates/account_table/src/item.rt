@@ -1,8 +1,8 @@
 use crate::measure::Measure;
 use dn_base::{CoreId, PhaseId, WordId};
 
-/// One thing that an account counts: the measure that it counts for, the core that it belongs to, the phase of that core, and
-/// the word that it is about, if it is about one.
+/// One item of an account: the measure that it counts for, its core, the phase of that core, and the word that it is about, if
+/// any.
 #[derive(Clone, Copy, Debug, PartialEq, Eq)]
 pub struct Item {
     pub measure: Measure,
@@ -11,10 +11,10 @@ pub struct Item {
     pub word: Option<WordId>,
 }
 
-/// What the groups of an account are. They are numbered from 0.
+/// The groups of an account. They are numbered from 0.
 #[derive(Clone, Copy, Debug, PartialEq, Eq)]
 pub enum Grouping {
-    /// The whole run is the one group.
+    /// One group: the whole run.
     Run,
     /// The phases of the program, in their order.
     Phase,

@@ -1,4 +1,5 @@
-//! What an account of a run counts, and the table of its numbers by run, by phase, by core or by region.
+//! What an account of a run counts, and the table of its numbers, by run, by phase, by core or by region. The measures are this
+//! project's profile.
 #![tactic(auto)]
 
 mod item;

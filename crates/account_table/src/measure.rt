@@ -8,9 +8,9 @@ pub enum Measure {
     Loads,
     /// Stores that retire.
     Stores,
-    /// Loads that retire while the core waits for nothing: no message was needed.
+    /// Loads that retire while the core waits for nothing, so that no message was needed.
     LoadsLocal,
-    /// Stores that retire at a registered entry: nobody is told.
+    /// Stores that retire at a registered entry, so that no message was sent.
     StoresSilent,
     /// Stores that send RegReq.
     Registers,
@@ -18,29 +18,30 @@ pub enum Measure {
     Misses,
     /// Misses of a word of which the core had no entry before.
     MissesFirst,
-    /// Misses of a word whose last entry went at a Go.
+    /// Misses of a word whose last entry was dropped at a Go.
     MissesPhase,
-    /// Misses of a word whose last entry went at a Grant.
+    /// Misses of a word whose last entry was dropped at a Grant.
     MissesLock,
     /// Misses of a word whose last entry was evicted.
     MissesEvicted,
-    /// Misses of a word whose last entry went by a RegFwd.
+    /// Misses of a word whose last entry was removed by a RegFwd.
     MissesTaken,
-    /// Copies that go at a Go.
+    /// Copies that are dropped at a Go.
     DroppedPhase,
-    /// Copies that go at a Grant.
+    /// Copies that are dropped at a Grant.
     DroppedLock,
-    /// Copies that go at a Go and have the word's value: dropped without need.
+    /// Copies that are dropped at a Go although they have the word's value: needlessly.
     DroppedPhaseCurrent,
-    /// Copies that go at a Grant and have the word's value: dropped without need.
+    /// Copies that are dropped at a Grant although they have the word's value: needlessly.
     DroppedLockCurrent,
-    /// Copies of words that the phase may have written which stay at a Go, because they are marked.
+    /// Copies of words that the phase may have written which stay at a Go because they are marked.
     KeptTouched,
-    /// Copies of words that the lock guards which stay at a Grant, because the signature doesn't hold them.
+    /// Copies of words that the lock guards which stay at a Grant because the signature doesn't hold them.
     KeptSignature,
-    /// Other cores' copies of a word at the store that registers it.
+    /// Copies of a word that other cores have when a store registers the word. A directory protocol would have to tell these
+    /// cores.
     UntoldCopies,
-    /// Entries that go by a RegFwd.
+    /// Entries that are removed by a RegFwd.
     Taken,
     /// DataReply mails that a bank sent.
     RepliesHome,
@@ -54,7 +55,7 @@ pub enum Measure {
     EvictedRegistered,
     /// Grants of a lock that was free.
     GrantsAtOnce,
-    /// Grants of a lock that was handed on.
+    /// Grants of a lock that was handed on to the next core of its queue.
     GrantsQueued,
 }
 

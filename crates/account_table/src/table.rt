@@ -105,7 +105,7 @@ fn region(regions: &Sequence<u32>, word: Option<WordId>) -> Option<u32>
 }
 
 impl AccountTable {
-    /// No item of any measure, in the groups of a program on so many cores.
+    /// A table without items, with the groups of a program on `cores` cores.
     ///
     /// # Errors
     /// `Memory` where there is no room.
@@ -138,7 +138,7 @@ impl AccountTable {
         self.numbers.len()
     }
 
-    /// The group of an item; None where it is in none.
+    /// The group of an item; None if it is in none.
     fn group(&self, item: Item) -> Option<u32>
         ensures { result ≡ group_of self.now.regions self.now.by item }
     {
@@ -150,7 +150,7 @@ impl AccountTable {
         }
     }
 
-    /// Counts an item. A number that has come to the end of its type stands still. Takes no memory.
+    /// Counts an item. A number of 64 bits stays at its greatest value. Takes no memory.
     #[tactic(auto, unfolding(crate::specs::Tallies::with_item))]
     pub fn add(&mut self, item: Item)
         ensures { self.new ≡ with_item self.old item }
@@ -159,7 +159,7 @@ impl AccountTable {
         raise_in(&mut self.numbers, group, item.measure.index());
     }
 
-    /// The number of a measure in a group, and 0 where there is no such group. Takes no memory.
+    /// The number of a measure in a group; 0 if there is no such group. Takes no memory.
     pub fn number(&self, measure: Measure, group: usize) -> u64
         ensures { result ≡ tally_of measure group self.now }
     {

@@ -1,4 +1,5 @@
--- An account as it is printed: as a table with a row for each measure and a column for each group, and as lines for other programs.
+-- An account as it is printed: as a table with a row for each measure and a column for each group, or as csv lines for other
+-- programs.
 use Rattle.std.specs.Prelude.{ℕ, ◌-◌, List, [], ◌++◌, length, replicate, codes, flat_map, if◌then◌else◌, Bool, true, nat_lt}
 use Rattle.std.specs.List.{range_with_len}
 use Rattle.std.specs.Fmt.{decimal}
@@ -47,7 +48,7 @@ csv_head = codes "measure,group,count" ++ newline
 unfoldable pub csv_fields : List ℕ → List ℕ → ℕ → List ℕ
 csv_fields measure group count = measure ++ codes "," ++ group ++ codes "," ++ decimal count ++ newline
 
--- by region a measure without an item has no line
+-- by region a measure without items has no line
 abbrev pub has_csv_line : Grouping → ℕ → Bool
 has_csv_line by.Run count = true
 has_csv_line by.Phase count = true

@@ -1,8 +1,8 @@
 /// How an account is printed.
 #[derive(Clone, Copy, Debug, PartialEq, Eq)]
 pub enum Form {
-    /// A table for readers: a row for each measure, a column for each group.
+    /// A table for readers: a row for each measure and a column for each group.
     Text,
-    /// Lines for other programs: the measure, the group and the count, with commas between them.
+    /// Csv lines for other programs: the measure, the group and the count.
     Csv,
 }

@@ -8,10 +8,10 @@ use account_table::AccountTable;
 use dn_base::Memory;
 use region_table::Program;
 
-/// Adds an account in one of its forms: the numbers of a table, whose groups are those of this program.
+/// Appends an account in one of its forms: the numbers of a table, whose groups are those of this program.
 ///
-/// The table has a row for each measure, in their order, below a row with the names of the groups. The lines with commas have
-/// the measure, the group and the count, below a head line; by region a measure without an item there has no line.
+/// The table has a row with the names of the groups, and then a row for each measure, in order. The csv lines have the measure,
+/// the group and the count, after a head line; by region, a measure without items has no line there.
 ///
 /// # Errors
 /// `Memory` where there is no room for the text.

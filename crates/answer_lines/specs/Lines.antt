@@ -137,11 +137,11 @@ answer_line (line.TheVariants.Fixed f) = fixed_line f
 
 -- ---- the end of a task's line, part by part
 
--- what stands before the address in the line of a trap
+-- the line of a trap up to its address
 abbrev pub trap_front : TrapKind → List ℕ
 trap_front k = codes "trap " ++ kind_word k ++ codes " pc "
 
--- the end of a task's line after such a front
+-- the end of a trap's line, where `front` is its beginning up to the address
 unfoldable pub trap_rest : List ℕ → Trapped → List ℕ
 trap_rest front t =
     front ++ hexadecimal t.pc ++ codes " value " ++ hexadecimal t.value ++ field (codes " retired ") newline t.retired
@@ -175,7 +175,7 @@ pub record StandWord (bytes : List ℕ) (address value : ℕ) (rest : List ℕ) 
 
 -- ---- what is counted
 
--- what stands before the number in the line of a count
+-- the line of a count up to its number
 abbrev pub count_front : Count → List ℕ
 count_front count.TheVariants.Words = codes "words "
 count_front count.TheVariants.Events = codes "count events "
@@ -186,7 +186,7 @@ count_front count.TheVariants.Links = codes "chain "
 count_front count.TheVariants.WholeEvents = codes "refused trace event "
 count_front count.TheVariants.EnabledEvents = codes "refused trace not-enabled "
 
--- no line of a count stands at the start of some bytes
+-- the bytes begin with no line of a count
 abbrev pub NoCount : List ℕ → Type 0
 NoCount bytes = (c : Count) → NoneStands IsNumber (field (count_front c) newline) bytes
 
@@ -206,7 +206,7 @@ all_counts =
 
 -- ---- the lines of programs, sums, times and refusals
 
--- what stands before the ticks in the line of an event of the longest chain
+-- the line of an event of the longest chain up to its ticks
 abbrev pub kind_front : EventKind → List ℕ
 kind_front k = event_word k ++ codes " "
 
@@ -214,7 +214,7 @@ pub record StandUnbounded (bytes : List ℕ) (phase core pc : ℕ) (rest : List 
   pub numbers : HasUnboundedNumbers phase core pc
   pub parts : bytes ≡ unbounded_line phase core pc ++ rest
 
--- the lines that are looked for after those of a run's answer
+-- the lines that are tried after those of a run's answer
 abbrev pub IsOtherLine : AnswerLine → Type 0
 IsOtherLine (line.TheVariants.Sum value) = IsWord value
 IsOtherLine (line.TheVariants.Time ticks) = IsTicks ticks

@@ -8,11 +8,11 @@ use Rattle.document_parts.specs.Field.{field, IsFrom}
 abbrev pub IsNumber : ℕ → Type 0
 IsNumber n = IsFrom 0 4294967295 n
 
--- two numbers after names: a blank ends the first, and the byte `stop` the second
+-- two numbers, each after a name: a blank ends the first, and the byte `stop` the second
 unfoldable pub pair_fields : List ℕ → List ℕ → ℕ → ℕ → ℕ → List ℕ
 pair_fields first second stop a b = field first space a ++ field second (stop ∷ []) b
 
--- at the start of some bytes stand two such numbers, and after them the rest
+-- the bytes begin with two such numbers, and the rest follows
 pub record StandPair (first second : List ℕ) (stop : ℕ) (bytes : List ℕ) (a b : ℕ) (rest : List ℕ) : Type 0 where
   pub first_from : IsNumber a
   pub second_from : IsNumber b

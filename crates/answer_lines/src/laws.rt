@@ -1,4 +1,4 @@
-//! What the definitions come to, as laws: functions that do nothing, whose contracts say it.
+//! Laws of the lines of an answer. A law is a function without effect; its contract states the theorem.
 ghost use Rattle.std.specs.Prelude.{◌≡◌, ◌++◌, ℕ, List, flat_map};
 ghost use Rattle.dn_base.specs.declared.ids.Grant.{Grant as GrantOf};
 ghost use Rattle.grant_log.specs.declared.counts.Counts.{Counts as CountsOf};
@@ -11,12 +11,12 @@ ghost use Rattle.answer_lines.specs.declared.line.AnswerLine.{AnswerLine as Line
 ghost use Rattle.answer_lines.specs.Answers.{ending_lines, run_lines, summary_lines, size_line};
 ghost use Rattle.answer_lines.specs.Lines.{IsAnswerLine, answer_line};
 
-/// At the start of some bytes stands one line at most, and what follows it is the same.
+/// Bytes begin with at most one line, and what follows it is determined.
 pub fn a_line_is_read_in_one_way()
     ensures { (x y : LineOf) (r s : List ℕ) → IsAnswerLine x → IsAnswerLine y → answer_line x ++ r ≡ answer_line y ++ s → (x ≡ y) × (r ≡ s) }
 {}
 
-/// What is printed of a run's ending, of its grants and counts, as its summary, and of a checked program's size is these lines.
+/// The printed ending of a run, its grants and counts, its summary, and the size of a checked program consist of these lines.
 pub fn printed_answers_are_lines()
     ensures ending { (e : EndingOf) → answer_of e ≡ flat_map answer_line (ending_lines e) }
     ensures run { (grants : List GrantOf) (counts : CountsOf) → run_text grants counts ≡ flat_map answer_line (run_lines grants counts) }

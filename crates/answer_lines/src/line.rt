@@ -17,7 +17,7 @@ pub enum Count {
     Retired,
     /// The events of its longest chain.
     Links,
-    /// The events of a refused document before the first whose line isn't there whole.
+    /// The events of a refused document before the first whose line isn't complete.
     WholeEvents,
     /// The events of a refused document before the first that may not come.
     EnabledEvents,
@@ -26,17 +26,17 @@ pub enum Count {
 /// A line without a number.
 #[derive(Clone, Copy, Debug, PartialEq, Eq)]
 pub enum FixedLine {
-    /// No run of the program can end a task by a trap outside.
+    /// No run of the program ends a task by the trap `outside`.
     Inside,
-    /// The words of the command are refused.
+    /// The command words are refused.
     Usage,
     /// The document of a run is refused: it has too many bytes,
     TooLarge,
     /// or doesn't begin as a document,
     Head,
-    /// or goes on after its last event,
+    /// or has bytes after its last event,
     Rest,
-    /// or its run isn't at its end.
+    /// or its run isn't complete.
     Incomplete,
 }
 
@@ -46,7 +46,7 @@ pub struct Link {
     /// The number of the event, from 0.
     pub event: u32,
     pub kind: EventKind,
-    /// When the event finishes, in ticks from the run's beginning.
+    /// When the event finishes, in ticks from the start of the run.
     pub finish: u64,
 }
 
@@ -61,7 +61,7 @@ pub enum AnswerLine {
     Word { word: u32, value: u32 },
     /// A lock was granted.
     Grant(Grant),
-    /// How many there were of something.
+    /// How many of something there were.
     Count { of: Count, number: u32 },
     /// The sum of all data words modulo 2^32.
     Sum { value: u32 },
@@ -69,9 +69,9 @@ pub enum AnswerLine {
     Time { ticks: u64 },
     /// An event of the longest chain.
     Link(Link),
-    /// A checked program has so many phases, tasks and data words.
+    /// A checked program has this many phases, tasks and data words.
     Checked { phases: u32, tasks: u32, words: u32 },
-    /// The prover doesn't know of the instruction at this address that it keeps to what its task declares.
+    /// The prover can't say that the instruction at this address only uses what its task declares.
     Unbounded { phase: u32, core: u32, pc: u32 },
     Fixed(FixedLine),
 }

@@ -9,7 +9,7 @@ ghost use Rattle.answer_lines.specs.Parts.{IsTicks};
 
 use document_parts::behind;
 
-/// The most ticks that a run takes: 25,169,664 events of 1,000,000 ticks.
+/// The greatest number of ticks of a run: 25,169,664 events of 1,000,000 ticks.
 const MOST_TICKS: u64 = 25_169_664_000_000;
 
 /// The value of the digits at the start of some bytes, if it is at most `MOST_TICKS`, and how many digits there are.
@@ -33,7 +33,7 @@ fn digits(bytes: &[u8]) -> Option<(u64, usize)>
     Some((value, length))
 }
 
-/// Whether so many digits at the start of some bytes are at least one, and don't begin with 0 unless they are 0 alone.
+/// Whether the number of digits is at least one, and the first isn't 0 unless it is the only one.
 fn is_plain(bytes: &[u8], count: usize) -> bool
     requires { count ≤ length bytes.now }
     ensures { IsTrue result ↔ ((0 < count) × (slice_index bytes.now 0 ≡ 48 → count ≡ 1)) }
@@ -41,8 +41,8 @@ fn is_plain(bytes: &[u8], count: usize) -> bool
     count == 1 || (count > 1 && bytes[0] != b'0')
 }
 
-/// The number of ticks that stands at the start of some bytes in decimal digits without leading zeros, with no digit after it; and
-/// what stands there.
+/// Reads a number of ticks at the start of some bytes, in decimal digits without leading zeros. Gives it and what follows,
+/// which doesn't begin with a digit.
 fn numeral(bytes: &[u8]) -> Option<(u64, &[u8])>
     ensures within { IfSome result (λ f. IsTicks f.0) }
     ensures parts { IfSome result (λ f. bytes.now ≡ decimal f.0 ++ f.1.now) }
@@ -56,7 +56,7 @@ fn numeral(bytes: &[u8]) -> Option<(u64, &[u8])>
     Some((value, &bytes[count..]))
 }
 
-/// The number of ticks that stands at the start of some bytes between a name and a newline, and what follows it.
+/// Reads a number of ticks between a name and a newline at the start of some bytes. Gives it and what follows.
 pub(crate) fn ticks<'a>(bytes: &'a [u8], name: &[u8]) -> Option<(u64, &'a [u8])>
     ensures some { IfSome result (λ f. Stands IsTicks (field name.now newline) bytes.now f.0 f.1.now) }
     ensures none { IfNone result (NoneStands IsTicks (field name.now newline) bytes.now) }

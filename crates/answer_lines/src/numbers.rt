@@ -5,8 +5,8 @@ ghost use Rattle.answer_lines.specs.Parts.{StandPair, StandThree};
 
 use document_parts::field;
 
-/// The number that stands at the start of some bytes between a name and a blank, the one after it between another name and the byte
-/// `stop`, which is no digit, and what follows them.
+/// Reads two numbers at the start of some bytes: one between a name and a blank, and one between another name and the byte
+/// `stop`, which is no digit. Gives them and what follows.
 pub(crate) fn two_numbers<'a>(
     bytes: &'a [u8],
     first: &[u8],
@@ -22,7 +22,7 @@ pub(crate) fn two_numbers<'a>(
     Some((one, other, rest))
 }
 
-/// The three numbers that stand at the start of some bytes in a line after a name, and what follows them.
+/// Reads a line of three numbers after a name at the start of some bytes. Gives them and what follows.
 pub(crate) fn three_numbers<'a>(bytes: &'a [u8], name: &[u8]) -> Option<(u32, u32, u32, &'a [u8])>
     ensures some { IfSome result (λ f. StandThree name.now bytes.now f.0 f.1 f.2 f.3.now) }
     ensures none { IfNone result ((a b c : ℕ) (rest : List ℕ) → StandThree name.now bytes.now a b c rest → ⊥) }

@@ -58,7 +58,7 @@ fn read_other(bytes: &[u8]) -> Option<(AnswerLine, &[u8])>
     Some((AnswerLine::Fixed(line), rest))
 }
 
-/// The line of an answer that stands at the start of some bytes, and what follows it; None where no such line stands there.
+/// Reads a line of an answer at the start of some bytes. Gives it and the bytes after it; None if no such line stands there.
 pub fn read_line(bytes: &[u8]) -> Option<(AnswerLine, &[u8])>
     ensures some { IfSome result (λ f. Stands IsAnswerLine answer_line bytes.now f.0 f.1.now) }
     ensures none { IfNone result (NoneStands IsAnswerLine answer_line bytes.now) }

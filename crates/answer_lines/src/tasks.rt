@@ -44,7 +44,8 @@ fn trap_front(kind: TrapKind) -> &'static [u8]
     }
 }
 
-/// The trap that stands at the start of some bytes after this front, and what follows it.
+/// Reads the end of a trap's line at the start of some bytes, where `front` is its beginning up to the address. Gives the trap
+/// and what follows.
 fn trap_behind<'a>(bytes: &'a [u8], front: &[u8]) -> Option<(Trapped, &'a [u8])>
     ensures some { IfSome result (λ f. Stands HasTrapNumbers (trap_rest front.now) bytes.now f.0 f.1.now) }
     ensures none { IfNone result (NoneStands HasTrapNumbers (trap_rest front.now) bytes.now) }

@@ -1,4 +1,4 @@
--- The front of a claim that stands alone: a question, or a question with the order of the grants.
+-- A question alone, or a question with the order of the grants alone: prefixes of a claim.
 use Rattle.std.specs.Prelude.{◌≡◌, ℕ, ◌<◌, ◌≤◌, All, List, ◌++◌, length, flat_map}
 use Rattle.dn_base.specs.declared.ids.Grant.{Grant}
 use Rattle.document_parts.specs.Field.{Stands, NoneStands}
@@ -18,7 +18,7 @@ pub record IsQuestionDocument (bytes : List ℕ) (q : Question) : Type 0 where
   pub within : length bytes ≤ most_bytes
   pub is : bytes ≡ question_text q
 
--- the bytes, which are not too many, begin with a question, and after it stands the rest
+-- the bytes, which aren't too many, begin with a question, and the rest follows
 pub record BeginsWithQuestion (bytes : List ℕ) (q : Question) (rest : List ℕ) : Type 0 where
   pub within : length bytes ≤ most_bytes
   pub question : Stands IsQuestion question_text bytes q rest

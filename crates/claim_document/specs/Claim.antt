@@ -21,7 +21,7 @@ most_bytes = 536870912
 abbrev pub IsNumber : ℕ → Type 0
 IsNumber n = IsFrom 0 4294967295 n
 
--- what is claimed of: a source text of at most 1,048,576 bytes, each of whose tasks may retire 1 to 32,768 instructions
+-- what a claim is about: a source text of at most 1,048,576 bytes, each of whose tasks may retire 1 to 32,768 instructions
 pub record IsQuestion (q : Question) : Type 0 where
   pub fuel : IsFrom 1 32768 q.fuel
   pub text : IsSource q.text
@@ -57,7 +57,7 @@ pub record IsTask (t : TaskLoads) : Type 0 where
   pub head : IsTaskHead (head_of_task t)
   pub loads : All IsLoad t.loads
 
--- how many tasks' loads are claimed; None where nothing is claimed of loads
+-- of how many tasks loads are claimed; None if nothing is claimed of loads
 abbrev pub IsLoadsHead : Option ℕ → Type 0
 IsLoadsHead count = IfSome count IsNumber
 
@@ -79,7 +79,7 @@ pub record IsClaim (c : Claim) : Type 0 where
 
 -- ---- how it is written
 
--- the first line: what the bytes are, and in which version
+-- the first line: the kind of document, and its version
 unfoldable pub title : List ℕ
 title = codes "denovo-claim 1" ++ newline
 

@@ -1,4 +1,4 @@
--- What stands in front of bytes that should be a claim, part by part, and why some bytes are none.
+-- What bytes that should be a claim begin with, part by part, and why some bytes are no claim.
 use Rattle.std.specs.Prelude.{◌≡◌, ℕ, ◌<◌, ◌≤◌, List, Option, Some, length}
 use Rattle.dn_base.specs.declared.ids.Grant.{Grant}
 use Rattle.document_parts.specs.Field.{Stands, NoneStands}
@@ -8,12 +8,12 @@ use Rattle.claim_document.specs.declared.claim.ClaimFault.TheVariants.{TooLarge,
 use Rattle.claim_document.specs.declared.rows.TaskHead.{TaskHead}
 use Rattle.claim_document.specs.Claim.{most_bytes, Head, IsHead, head_text, IsGrant, grant_row, IsLoadsHead, loads_head_row, IsTask, task_rows, IsTaskHead, task_head_row, IsLoad, load_row}
 
--- the bytes, which are not too many, begin with a head, and after it stands the rest
+-- the bytes, which aren't too many, begin with a head, and the rest follows
 pub record BeginsWithHead (bytes : List ℕ) (h : Head) (rest : List ℕ) : Type 0 where
   pub within : length bytes ≤ most_bytes
   pub head : Stands IsHead head_text bytes h rest
 
--- and with the lines of all the grants that the head announces
+-- and with the lines of all grants that the head announces
 pub record BeginsWithGrants (bytes : List ℕ) (h : Head) (gs : List Grant) (rest : List ℕ) : Type 0 where
   pub behind : List ℕ
   pub head : BeginsWithHead bytes h behind
@@ -28,14 +28,14 @@ pub record BeginsWithLoads (bytes : List ℕ) (count : Option ℕ) (rest : List 
   pub begins : BeginsWithGrants bytes head grants behind
   pub loads : Stands IsLoadsHead loads_head_row behind count rest
 
--- of these tasks the one of this number, from 0, is the first that isn't there whole, and the rest is there in its place
+-- of these tasks the one of this number, from 0, is the first that isn't complete, and `rest` is there in its place
 pub record IsBrokenTask (bytes : List ℕ) (number : ℕ) (rest : List ℕ) : Type 0 where
   pub count : ℕ
   pub behind : List ℕ
   pub begins : BeginsWithLoads bytes (Some count) behind
   pub broken : IsBrokenAt IsTask task_rows behind count number rest
 
--- of this task's loads the one of this number, from 0, is the first that isn't there whole
+-- of this task's loads the one of this number, from 0, is the first that isn't complete
 pub record IsBrokenLoad (bytes : List ℕ) (number : ℕ) : Type 0 where
   pub task : TaskHead
   pub behind : List ℕ
@@ -43,8 +43,8 @@ pub record IsBrokenLoad (bytes : List ℕ) (number : ℕ) : Type 0 where
   pub head : Stands IsTaskHead task_head_row bytes task behind
   pub broken : IsBrokenAt IsLoad load_row behind task.count number rest
 
--- no head stands there; the line of a grant isn't there; no line on loads stands after the grants; a task's line isn't there, or one
--- of its loads'. Want of memory says nothing of the bytes
+-- there is no head; the line of a grant isn't there; no line on loads follows the grants; a task's line isn't there, or one of
+-- its loads. Out of memory says nothing of the bytes
 abbrev pub HasFault : List ℕ → ClaimFault → Type 0
 HasFault bytes TooLarge = most_bytes < length bytes
 HasFault bytes NoHead = (length bytes ≤ most_bytes) × NoneStands IsHead head_text bytes

@@ -17,25 +17,25 @@ asked_by o = record { fuel = o.fuel; text = o.text.now }
 abbrev pub told_by : Heading → Head
 told_by h = record { question = record { fuel = h.fuel; text = h.text.now }; count = h.count }
 
--- at the start of some bytes stand three numbers, which end a line, and after them the rest
+-- the bytes begin with three numbers, which end a line, and the rest follows
 pub record StandThree (name bytes : List ℕ) (first second third : ℕ) (rest : List ℕ) : Type 0 where
   pub first_from : IsNumber first
   pub second_from : IsNumber second
   pub third_from : IsNumber third
   pub parts : bytes ≡ three_fields name first second third ++ rest
 
--- these are so many values, one after the other
+-- these are `count` values, one after the other
 pub record AreCounted {X : Type 0} (Fits : X → Type 0) (write : X → List ℕ) (bytes : List ℕ) (count : ℕ) (xs : List X) (rest : List ℕ) : Type 0 where
   pub stand : StandAll Fits write bytes xs rest
   pub all : length xs ≡ count
 
--- a task more was read
+-- one more task was read
 pub record IsTaskMore (bytes : List ℕ) (before after : List TaskLoads) (rest : List ℕ) : Type 0 where
   pub task : TaskLoads
   pub stands : Stands IsTask task_rows bytes task rest
   pub more : after ≡ before ++ task ∷ []
 
--- why some bytes aren't the lines of so many grants
+-- why some bytes aren't the lines of `count` grants
 abbrev pub FailsGrants : List ℕ → ℕ → ClaimFault → Type 0
 FailsGrants bytes count (NoGrant number) = (rest : List ℕ) × IsBrokenAt IsGrant grant_row bytes count number rest
 FailsGrants bytes count Memory = Unit {0}
@@ -46,7 +46,7 @@ FailsGrants bytes count NoLoads = ⊥
 FailsGrants bytes count (NoTask number) = ⊥
 FailsGrants bytes count (NoLoad task number) = ⊥
 
--- why some bytes aren't the lines of so many loads of this task
+-- why some bytes aren't the lines of `count` loads of this task
 abbrev pub FailsLoads : List ℕ → ℕ → ℕ → ClaimFault → Type 0
 FailsLoads bytes count place (NoLoad task number) = (task ≡ place) × (rest : List ℕ) × IsBrokenAt IsLoad load_row bytes count number rest
 FailsLoads bytes count place Memory = Unit {0}
@@ -57,7 +57,7 @@ FailsLoads bytes count place NoLoads = ⊥
 FailsLoads bytes count place (NoGrant number) = ⊥
 FailsLoads bytes count place (NoTask number) = ⊥
 
--- why no task stands at the start of some bytes, which should be this one
+-- why some bytes don't begin with a task, which should be the one of this number
 abbrev pub FailsTask : List ℕ → ℕ → ClaimFault → Type 0
 FailsTask bytes place (NoTask number) = (number ≡ place) × NoneStands IsTaskHead task_head_row bytes
 FailsTask bytes place (NoLoad task number) = (task ≡ place) × IsBrokenLoad bytes number
@@ -68,7 +68,7 @@ FailsTask bytes place NoHead = ⊥
 FailsTask bytes place NoLoads = ⊥
 FailsTask bytes place (NoGrant number) = ⊥
 
--- why some bytes aren't so many tasks
+-- why some bytes aren't `count` tasks
 abbrev pub FailsTasks : List ℕ → ℕ → ClaimFault → Type 0
 FailsTasks bytes count (NoTask number) = (rest : List ℕ) × IsBrokenAt IsTask task_rows bytes count number rest × NoneStands IsTaskHead task_head_row rest
 FailsTasks bytes count (NoLoad task number) = (rest : List ℕ) × IsBrokenAt IsTask task_rows bytes count task rest × IsBrokenLoad rest number
@@ -92,12 +92,12 @@ pub record HasBrokenTasks (bytes : List ℕ) (f : ClaimFault) : Type 0 where
   pub head : Stands IsLoadsHead loads_head_row bytes (Some count) behind
   pub fails : FailsTasks behind count f
 
--- what a claim says of loads, and after it its answer
+-- what a claim says of loads, and after that its answer
 abbrev pub IsLoadsPart : List ℕ → Option (List TaskLoads) → List ℕ → Type 0
 IsLoadsPart bytes None rest = Stands IsLoadsHead loads_head_row bytes None rest
 IsLoadsPart bytes (Some tasks) rest = HasTasks bytes tasks rest
 
--- why nothing that a claim may say of loads stands at the start of some bytes
+-- why some bytes don't begin with what a claim may say of loads
 abbrev pub FailsPart : List ℕ → ClaimFault → Type 0
 FailsPart bytes NoLoads = NoneStands IsLoadsHead loads_head_row bytes
 FailsPart bytes (NoTask number) = HasBrokenTasks bytes (NoTask number)

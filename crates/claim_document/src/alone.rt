@@ -64,8 +64,8 @@ fn order(alloc: Global, bytes: &[u8]) -> Result<GrantOrder, ClaimFault>
 /// The question that a document tells: the first three parts of a claim, alone.
 ///
 /// # Errors
-/// `TooLarge`, `Head` or `After` exactly where that is the fault of the bytes, and `Memory` where there is no room.
-/// Nothing is taken of memory before `TooLarge` and `Head` are told.
+/// `TooLarge`, `Head` or `Behind` exactly if that is the fault of the bytes, and `Memory` if there is no room. `TooLarge` and
+/// `Head` are found before any memory is taken.
 pub fn read_question(alloc: Global, bytes: &[u8]) -> Result<Question, ClaimFault>
     ensures ok { IfOk result (IsQuestionDocument bytes.now) }
     ensures err { IfErr result (λ f. f ≢ NoMemory → HasQuestionFault bytes.now f) }
@@ -79,11 +79,11 @@ pub fn read_question(alloc: Global, bytes: &[u8]) -> Result<Question, ClaimFault
 
 /// The question and the order of the grants that a document tells: the first four parts of a claim, alone.
 ///
-/// It takes memory in proportion to the bytes, whatever numbers these tell.
+/// The memory is proportional to the number of bytes, whatever numbers they tell.
 ///
 /// # Errors
-/// `TooLarge`, `Head`, `Grant` or `After` exactly where that is the fault of the bytes, and `Memory` where there is no room.
-/// Nothing is taken of memory before `TooLarge` and `Head` are told.
+/// `TooLarge`, `Head`, `Grant` or `Behind` exactly if that is the fault of the bytes, and `Memory` if there is no room.
+/// `TooLarge` and `Head` are found before any memory is taken.
 pub fn read_order(alloc: Global, bytes: &[u8]) -> Result<GrantOrder, ClaimFault>
     ensures ok { IfOk result (IsOrderDocument bytes.now) }
     ensures err { IfErr result (λ f. f ≢ NoMemory → HasOrderFault bytes.now f) }

@@ -4,23 +4,23 @@ use dn_base::{Grant, Memory as NoRoom, Sequence};
 use flat_machine::TaskLoads;
 use std::alloc::{AllocError, AllocFailed};
 
-/// What a claim is about: the program of a source text, at most 1,048,576 bytes, each of whose tasks may retire `fuel` instructions,
-/// from 1 to 32,768.
+/// What a claim is about: the program of a source text of at most 1,048,576 bytes, each of whose tasks may retire `fuel`
+/// instructions, from 1 to 32,768.
 #[derive(Debug, Drop)]
 pub struct Question {
     pub fuel: u32,
     pub text: Sequence<u8>,
 }
 
-/// What a run is asked for by: a question, and the order in which locks are granted.
+/// What determines a run: a question, and the order in which locks are granted.
 #[derive(Debug, Drop)]
 pub struct GrantOrder {
     pub question: Question,
     pub grants: Sequence<Grant>,
 }
 
-/// What a simulator says of a run: in which order locks were granted, the loads of each task that started, in the order of the
-/// phases and cores, or None where nothing is said of loads, and the answer, as the mode run prints it.
+/// What a simulator says of a run: the order of its lock grants; the loads of each task that started, in the order of the
+/// phases and cores, or None if nothing is said of loads; and the answer, as the mode run prints it.
 #[derive(Debug, Drop)]
 pub struct Claim {
     pub question: Question,
@@ -29,25 +29,26 @@ pub struct Claim {
     pub answer: Sequence<u8>,
 }
 
-/// Why some bytes are no claim, or no front of one that stands alone. The first of these that is true of the bytes is told.
+/// Why some bytes are no claim, or no prefix of a claim that stands alone. The first of these that is true of the bytes is
+/// given.
 #[derive(Clone, Copy, Debug, PartialEq, Eq)]
 pub enum ClaimFault {
     /// There are more than 536,870,912 bytes.
     TooLarge,
-    /// The bytes don't begin with a head: the first lines and the source text, up to the line that says how many grants follow. Where
-    /// a question is read, the head is the question.
+    /// The bytes don't begin with a head: the first lines and the source text, up to the line with the number of grants. If a
+    /// question is read, the head is the question.
     Head,
-    /// The grant line of this number, from 0, isn't there whole in its form; all before it are.
+    /// The grant line of this number, from 0, isn't complete and of its form; all lines before it are.
     Grant { number: u32 },
-    /// After the grants there is no line that says of how many tasks the loads are claimed.
+    /// After the grants there is no line with the number of tasks whose loads are claimed.
     Loads,
-    /// The line of this task, from 0, isn't there whole in its form.
+    /// The line of this task, from 0, isn't complete and of its form.
     Task { number: u32 },
-    /// Of the loads of this task, from 0, the one of this number, from 0, isn't there whole in its form.
+    /// The line of this load, from 0, of this task, from 0, isn't complete and of its form.
     Load { task: u32, number: u32 },
-    /// Something stands after the question, or the grants, that should stand alone. It is no fault of a claim.
+    /// Something follows the question, or the grants, that should stand alone. A claim can't have this fault.
     Behind,
-    /// There was no memory.
+    /// There wasn't enough memory.
     Memory,
 }
 
@@ -86,7 +87,7 @@ impl<T: Drop> From<AllocFailed<T>> for ClaimFault {
 pub enum ClaimTextError {
     /// It would have more than 536,870,912 bytes.
     TooLarge,
-    /// There was no memory.
+    /// There wasn't enough memory.
     Memory,
 }
 

@@ -5,12 +5,12 @@ ghost use Rattle.claim_document.specs.declared.claim.ClaimFault.{ClaimFault as F
 ghost use Rattle.claim_document.specs.Claim.{IsClaimDocument};
 ghost use Rattle.claim_document.specs.Faults.{HasFault};
 
-/// Bytes are the document of one claim at most.
+/// Bytes are the document of at most one claim.
 pub fn a_document_is_of_one_claim()
     ensures { (bytes : List ℕ) (c d : ClaimOf) → IsClaimDocument bytes c → IsClaimDocument bytes d → c ≡ d }
 {}
 
-/// Bytes have one fault at most, and none where they are a claim.
+/// Bytes have at most one fault, and none if they are a claim.
 pub fn bytes_have_one_fault()
     ensures one { (bytes : List ℕ) (f g : FaultOf) → HasFault bytes f → HasFault bytes g → f ≡ g }
     ensures none { (bytes : List ℕ) (c : ClaimOf) (f : FaultOf) → IsClaimDocument bytes c → HasFault bytes f → ⊥ }

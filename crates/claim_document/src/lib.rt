@@ -1,5 +1,6 @@
-//! The claim of a run: what a simulator says of the run of a text, as a document. It lists the grants in their order, the value of
-//! each load, and the answer. A claim is written, and read back; of bytes that are none the first thing that is wrong is told.
+//! The claim of a run: what a simulator says of the run of a text, as a document. It lists the grants in their order, the value
+//! of each load, and the answer. The crate writes claims and reads them back. For bytes that are no claim it names the first
+//! fault.
 #![tactic(auto)]
 
 mod alone;

@@ -1,14 +1,14 @@
-//! That the numbers of a claim are within the limits of a document, because of their types.
+//! Why the numbers of a claim are within the limits of a document: by their types.
 ghost use Rattle.std.specs.Prelude.{◌≡◌, ◌<◌, All, IfOk, IfErr};
 ghost use Rattle.claim_document.specs.Claim.{IsNumber, IsGrant, IsLoad, most_bytes};
 
 use crate::claim::ClaimTextError;
 use dn_base::{Grant, LoadSeen};
 
-/// A number of lines, which a document tells in 32 bits.
+/// The number of lines, as a document tells it in 32 bits.
 ///
 /// # Errors
-/// `TooLarge` where there are 2^32 or more: each line has a byte at least, so that no document has room for so many.
+/// `TooLarge` if there are 2^32 or more: each line has at least a byte, so no document has room for so many.
 pub(crate) fn told(lines: usize) -> Result<u32, ClaimTextError>
     ensures count { IfOk result (λ count. count ≡ lines) }
     ensures number { IfOk result (λ count. IsNumber lines) }

@@ -13,10 +13,10 @@ use dn_base::{MOST_OF_DOCUMENT, Sequence};
 use flat_machine::TaskLoads;
 use std::alloc::Global;
 
-/// Puts what some bytes say of loads into `loads`, which is None. The answer is what follows that.
+/// Puts what some bytes say of loads into `loads`, which is None before. The answer is what follows that.
 ///
 /// # Errors
-/// `Loads`, `Task` or `Load` where a line isn't there whole in its form, and `Memory`.
+/// `Loads`, `Task` or `Load` if a line isn't complete and of its form, and `Memory`.
 fn put_loads<'a>(
     alloc: Global,
     loads: &mut Option<Sequence<TaskLoads>>,
@@ -69,13 +69,13 @@ fn read(alloc: Global, bytes: &[u8]) -> Result<Claim, ClaimFault>
     })
 }
 
-/// What a document claims of a run.
+/// The claim that a document tells.
 ///
-/// It takes memory in proportion to the bytes, whatever numbers these tell.
+/// The memory is proportional to the number of bytes, whatever numbers they tell.
 ///
 /// # Errors
-/// `TooLarge`, `Head`, `Grant`, `Loads`, `Task` or `Load` exactly where that is the fault of the bytes, and `Memory` where there
-/// is no room. Nothing is taken of memory before `TooLarge` and `Head` are told.
+/// `TooLarge`, `Head`, `Grant`, `Loads`, `Task` or `Load` exactly if that is the fault of the bytes, and `Memory` if there is
+/// no room. `TooLarge` and `Head` are found before any memory is taken.
 pub fn read_claim(alloc: Global, bytes: &[u8]) -> Result<Claim, ClaimFault>
     ensures ok { IfOk result (IsClaimDocument bytes.now) }
     ensures err { IfErr result (λ f. f ≢ NoMemory → HasFault bytes.now f) }

@@ -36,10 +36,10 @@ fn push_fault(out: &mut Vec<u8>, fault: ClaimFault) -> Result<(), Memory>
 
 /// The line that says why a claim is refused.
 ///
-/// Want of memory is no refusal: the fault `ClaimFault::Memory` isn't asked for.
+/// Out of memory is no refusal: the fault `ClaimFault::Memory` must not be passed.
 ///
 /// # Errors
-/// `Memory` where there is no room for the line.
+/// `Memory` if there is no room for the line.
 #[tactic(auto, unfolding(crate::specs::Refusal::refusal_text))]
 pub fn claim_line(alloc: Global, fault: ClaimFault) -> Result<Vec<u8>, Memory>
     requires { fault ≢ NoMemory }

@@ -190,15 +190,15 @@ fn within_limit(document: &[u8]) -> Result<(), ClaimTextError>
     Ok(())
 }
 
-/// The document of a claim: its first lines tell the fuel and the source text, then come a line for each grant, the loads task by
-/// task or the line that nothing is claimed of them, and the answer as it is. Numbers are decimal, without leading zeros, and values
-/// are in eight hexadecimal digits.
+/// The document of a claim. Its first lines tell the fuel and the source text. Then come a line for each grant, the loads task
+/// by task or the line that says that none are claimed, and the answer as it is. Numbers are decimal, without leading zeros;
+/// values are in eight hexadecimal digits.
 ///
-/// The text has at most 1,048,576 bytes. Where the fuel is from 1 to 32,768, `read_claim` gives the claim again.
+/// The text must have at most 1,048,576 bytes. If the fuel is from 1 to 32,768, `read_claim` gives the claim again.
 ///
 /// # Errors
-/// `TooLarge` where the document would have more than 536,870,912 bytes, and `Memory` where there is no room for it; where both are
-/// true either may come.
+/// `TooLarge` if the document would have more than 536,870,912 bytes, and `Memory` if there is no room for it. If both are
+/// true, either may be returned.
 pub fn claim_text(alloc: Global, claim: &Claim) -> Result<Vec<u8>, ClaimTextError>
     requires { length claim.now.question.text ≤ 1048576 }
     ensures text { IfOk result (λ document. document.items ≡ text_of claim.now) }

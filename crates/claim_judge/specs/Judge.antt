@@ -1,4 +1,4 @@
--- What is to be said of a claim: what its grants come to on one memory, and where the claim differs first from that run.
+-- The verdict on a claim: the run by its grants on one memory, and where the claim first differs from that run.
 use Rattle.std.specs.Prelude.{◌≡◌, ℕ, ◌≤◌, nat_eq, if◌then◌else◌, List, [], ◌∷◌, length, slice_get, Option, Some, None, is_none, unwrap_or, IfSome}
 use Rattle.std.specs.Option.{option_or}
 use Rattle.region_table.specs.Program.{ProgramParts}
@@ -16,7 +16,7 @@ use Rattle.claim_verdict.specs.declared.verdict.Verdict.TheVariants.{Agrees, Gra
 use Rattle.claim_judge.specs.Differences.{first_difference, is_same_load, is_same_task}
 use Rattle.claim_judge.specs.Lines.{newlines_before, line_of_number}
 
--- a claim that can be judged: what it tells is within its limits, and the answer is no longer than a whole claim may be
+-- a claim that can be judged: it is within its limits, and the answer is no longer than a whole claim may be
 pub record IsJudgeable (c : Claim) : Type 0 where
   pub told : IsClaim c
   pub answer : length c.answer ≤ most_bytes
@@ -39,7 +39,7 @@ tasks_verdict [] right = None
 tasks_verdict (c ∷ cs) [] = None
 tasks_verdict (c ∷ cs) (r ∷ rs) = option_or (task_verdict c r) (tasks_verdict cs rs)
 
--- loads may be left out; otherwise they are of the tasks that started, in their order, and of these tasks no load is wrong
+-- loads may be left out; otherwise they have to be of the tasks that started, in their order, and no load of these may be wrong
 abbrev pub loads_verdict : Option (List TaskLoads) → List TaskLoads → Option Verdict
 loads_verdict None right = None
 loads_verdict (Some claimed) right =
@@ -47,7 +47,7 @@ loads_verdict (Some claimed) right =
 
 -- ---- the answer
 
--- the byte at this place of an answer is the first that is wrong: so many lines are right before its line
+-- the byte at this index of an answer is the first that is wrong, so all lines before its line are right
 abbrev pub line_verdict : List ℕ → Option ℕ → Verdict
 line_verdict right None = Agrees
 line_verdict right (Some place) =
@@ -58,7 +58,7 @@ answer_verdict claimed right = line_verdict right (first_difference nat_eq claim
 
 -- ---- the claim
 
--- what is said where the claimed grants lead to this end: loads are compared before the answer
+-- the verdict if the claimed grants lead to this end: loads are compared before the answer
 unfoldable pub end_verdict : Claim → FlatEnd → Verdict
 end_verdict c e = unwrap_or (loads_verdict c.loads e.loads) (answer_verdict c.answer (answer_of e.ending))
 
@@ -66,14 +66,13 @@ abbrev pub verdict_of : Claim → FlatRun → Verdict
 verdict_of c (Refused place) = Grants place
 verdict_of c (Whole e) = end_verdict c e
 
--- what is to be said of a claim: the claimed grants come to this run
+-- the verdict on a claim, by the run to which its grants lead
 pub record IsVerdict (P : ProgramParts) (c : Claim) (v : Verdict) : Type 0 where
   pub run : FlatRun
   pub by : IsRunBy P c.question.fuel c.grants run
   pub is : v ≡ verdict_of c run
 
--- the run by the claimed grants has an end, whose loads are the claimed ones, where loads are claimed, and whose answer is the
--- claimed one
+-- the run by the claimed grants has an end. It has the claimed loads, if loads are claimed, and the claimed answer
 pub record AgreesWithRun (P : ProgramParts) (c : Claim) : Type 0 where
   pub end' : FlatEnd
   pub run : flat_end P c.question.fuel c.grants ≡ Some end'

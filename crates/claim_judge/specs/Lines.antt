@@ -14,7 +14,7 @@ line_end text = unwrap_or (position is_newline text) (length text)
 abbrev pub behind_line : List ℕ → List ℕ
 behind_line text = drop (line_end text + 1) text
 
--- a text without so many of its first lines
+-- a text without its first `count` lines
 abbrev pub behind_lines : ℕ → List ℕ → List ℕ
 behind_lines zero text = text
 behind_lines (suc n) text = behind_line (behind_lines n text)
@@ -23,6 +23,6 @@ behind_lines (suc n) text = behind_line (behind_lines n text)
 abbrev pub first_line : List ℕ → Option (List ℕ)
 first_line text = if length text == 0 then None else Some (take (line_end text) text)
 
--- the line of this number, from 0, without its newline, where the text has so many
+-- the line of this number, from 0, without its newline, if the text has that many lines
 unfoldable pub line_of_number : ℕ → List ℕ → Option (List ℕ)
 line_of_number number text = first_line (behind_lines number text)

@@ -12,7 +12,7 @@ use Rattle.claim_document.specs.declared.claim.Claim.{Claim}
 use Rattle.claim_judge.specs.declared.right.RightClaim.{RightClaim}
 use Rattle.claim_judge.specs.declared.right.RightClaim.TheVariants.{Whole, Refused}
 
--- the claim of a run that these grants lead to this end
+-- the claim of a run whose grants lead to this end
 abbrev pub claim_of_run : Question → List Grant → FlatEnd → Claim
 claim_of_run q gs e = record { question = q; grants = gs; loads = Some e.loads; answer = answer_of e.ending }
 
@@ -22,7 +22,7 @@ pub record IsRightClaim (P : ProgramParts) (q : Question) (gs : List Grant) (c :
   pub run : flat_end P q.fuel gs ≡ Some end'
   pub is : c ≡ claim_of_run q gs end'
 
--- what a list of grants comes to: a claim, or the first grant that may not come
+-- the result of a list of grants: a claim, or the first grant that isn't legal
 abbrev pub IsRightBy : ProgramParts → Question → List Grant → RightClaim → Type 0
 IsRightBy P q gs (Whole c) = IsRightClaim P q gs c
 IsRightBy P q gs (Refused place) = IsFirstRefused P q.fuel gs place

@@ -95,14 +95,14 @@ fn judge_end(alloc: Global, claim: &Claim, end: &FlatEnd) -> Result<Verdict, Mem
     judge_answer(alloc, claim.answer.as_slice(), &right)
 }
 
-/// What is to be said of a claim of the run of a checked program, with the fuel of the claim's question.
+/// The verdict on a claim of the run of a checked program, with the fuel of the claim's question.
 ///
-/// The claim tells nothing beyond the limits of a document. Whether the program is that of the question's text isn't looked at.
+/// The claim must be within the limits of a document. It isn't checked that the program is that of the question's text.
 ///
-/// The first of these that is true of the claim is said: a grant may not come; loads are claimed, and not of the tasks that started; a
-/// load is wrong; the answer is wrong. Otherwise the claim agrees.
+/// The first of these that is true of the claim is the verdict: a grant isn't legal; loads are claimed, and not of the tasks
+/// that started; a load is wrong; the answer is wrong. Otherwise the claim agrees.
 ///
-/// The time is in proportion to the bytes of the claim and the instructions that retire.
+/// The time is proportional to the bytes of the claim and the retired instructions.
 ///
 /// # Errors
 /// `Memory` where there is no room for the run and its answer.

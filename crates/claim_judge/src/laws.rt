@@ -10,19 +10,19 @@ ghost use Rattle.claim_verdict.specs.declared.verdict.Verdict.TheVariants.{Agree
 ghost use Rattle.claim_judge.specs.Judge.{IsJudgeable, IsVerdict, AgreesWithRun};
 ghost use Rattle.claim_judge.specs.Right.{IsRightClaim};
 
-/// One verdict is to be said of a claim.
+/// A claim has exactly one verdict.
 pub fn a_claim_has_one_verdict()
     ensures some { (P : ProgramParts) (c : ClaimOf) → (v : VerdictOf) × IsVerdict P c v }
     ensures one { (P : ProgramParts) (c : ClaimOf) (v w : VerdictOf) → IsVerdict P c v → IsVerdict P c w → v ≡ w }
 {}
 
-/// A claim is said to agree exactly where the run by its grants has an end, with the claimed loads, where loads are claimed, and
-/// the claimed answer.
+/// The verdict is that a claim agrees exactly if the run by its grants has an end, with the claimed loads, if loads are
+/// claimed, and the claimed answer.
 pub fn a_claim_agrees_where_its_run_does()
     ensures { (P : ProgramParts) (c : ClaimOf) → IsVerdict P c SaysAgrees ↔ AgreesWithRun P c }
 {}
 
-/// The claim that `right_claim` gives is said to agree.
+/// The verdict on a claim that `right_claim` gives is that it agrees.
 pub fn a_right_claim_agrees()
     ensures { (P : ProgramParts) (q : QuestionOf) (gs : List GrantOf) (c : ClaimOf) → IsRightClaim P q gs c → IsVerdict P c SaysAgrees }
 {}

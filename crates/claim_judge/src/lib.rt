@@ -1,5 +1,5 @@
-//! The judge of claims: it runs the program on one memory by the claimed grants, and says whether that run has the claimed loads and
-//! the claimed answer, or where the claim differs first. It also makes the claims that are right.
+//! The judge of claims. It runs the program on one memory by the claimed grants, and says whether that run has the claimed
+//! loads and the claimed answer, or where the claim first differs. It also makes right claims.
 #![tactic(auto)]
 
 mod alike;

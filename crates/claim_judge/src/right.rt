@@ -8,13 +8,13 @@ use flat_machine::{FlatEnd, FlatRun, flat_run, least_run};
 use run_report::answer_text;
 use std::alloc::Global;
 
-/// What a list of grants comes to, told as a claim.
+/// The result of a list of grants, as a claim.
 #[derive(Debug, Drop)]
 pub enum RightClaim {
     /// The list is legal and whole, and this is the claim of the run by it, with all its loads.
     Whole(Claim),
-    /// The first grant of the list that may not come is the one at this place, from 0; the place after the last grant says that the
-    /// list ends while the lock that some task waits for is free.
+    /// The first grant that isn't legal is the one at this index, from 0. The index after the last grant says that at the end
+    /// of the list some task waits for a free lock.
     Refused { place: usize },
 }
 
@@ -42,9 +42,9 @@ fn claim_of(
     })
 }
 
-/// The claim of the run of a checked program by a list of grants, with all its loads, or the first grant that may not come.
+/// The claim of the run of a checked program by a list of grants, with all its loads, or the first grant that isn't legal.
 ///
-/// The question's fuel is from 1 to 32,768. Whether the program is that of the question's text isn't looked at.
+/// The question's fuel must be from 1 to 32,768. It isn't checked that the program is that of the question's text.
 ///
 /// # Errors
 /// `Memory` where there is no room for the run and its answer.
@@ -69,7 +69,7 @@ pub fn right_claim(
 
 /// The claim of the run of a checked program by the least list of grants, with all its loads.
 ///
-/// The question's fuel is from 1 to 32,768. Whether the program is that of the question's text isn't looked at.
+/// The question's fuel must be from 1 to 32,768. It isn't checked that the program is that of the question's text.
 ///
 /// # Errors
 /// `Memory` where there is no room for the run and its answer.

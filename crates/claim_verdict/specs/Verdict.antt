@@ -1,4 +1,4 @@
--- The lines that say how a claim agrees, or where it differs first.
+-- The lines that say that a claim agrees, or where it first differs.
 use Rattle.std.specs.Prelude.{ℕ, List, [], ◌++◌, codes, Option, Some, None}
 use Rattle.std.specs.Fmt.{decimal}
 use Rattle.dn_base.specs.declared.ids.LoadSeen.{LoadSeen}

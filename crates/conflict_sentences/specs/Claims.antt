@@ -1,5 +1,5 @@
--- Which lines of a text have effects that give a data word to one of the two tasks that contend for it. The effects of a family of tasks
--- stand after the family's line, and before the next one or the next phase.
+-- Which lines of a text have effects that give a data word to one of the two tasks that conflict on it. The effects of a family
+-- of tasks stand after the family's line, and before the next family or phase.
 use Rattle.std.specs.Prelude.{ℕ, ℤ, pos, neg_ℤ, ◌+ℤ◌, ◌*ℤ◌, Bool, true, false, ◌&&◌, ◌||◌, ◌==◌, nat_le, nat_lt, List, [], ◌∷◌, ◌++◌, length, Option, Some, None, option_map, slice_get, bytes_eq, if◌then◌else◌}
 use Rattle.region_table.specs.declared.declared.Region.{Region}
 use Rattle.src_text.specs.declared.token.Token.{Token}
@@ -19,12 +19,12 @@ use Rattle.text_places.specs.declared.words.WordPlace.{WordPlace}
 use Rattle.text_places.specs.Words.{word_place}
 use Rattle.conflict_sentences.specs.declared.claims.Contention.{Contention}
 
--- whether an index is in an interval that is moved on by so much; no region has words that are more than 65536 apart
+-- whether an index is in an interval that is moved by this much; indices of a region differ by at most 65,536
 abbrev pub moved_has : ℤ → ℤ → ℤ → ℕ → Bool
 moved_has lo hi moved index = is_within (neg_ℤ (pos 65536)) (pos 65537) moved && is_within (lo +ℤ moved) (hi +ℤ moved) (pos index)
 
--- whether an effect gives the word of this index in its region to the family's task of this number: the interval of the first task is
--- moved on by the step from each task to the next
+-- whether an effect gives the word with this index in its region to the family's task of this number. The interval of the first
+-- task is moved by the step for each next task
 abbrev pub extent_has : Extent → ℕ → ℕ → Bool
 extent_has extent.TheVariants.Whole part index = true
 extent_has (extent.TheVariants.Part lo hi) part index = is_within lo hi (pos index)
@@ -61,7 +61,7 @@ abbrev pub claim_on : List ℕ → List Region → Contention → ℕ → Readin
 claim_on text regions c family (Bad f) = []
 claim_on text regions c family (Good s) = line_if (statement_claims text regions c family s.statement) s.line
 
--- the line of the current family after a statement; 0 where there is none
+-- the line of the current family after a statement; 0 if there is none
 abbrev pub family_by : ℕ → ℕ → Statement → ℕ
 family_by family line statement.TheVariants.Phase = 0
 family_by family line (statement.TheVariants.Tasks f) = line
@@ -84,7 +84,7 @@ claims_of text regions c = claims_behind text regions c 0 (readings text)
 abbrev pub claims_in : List ℕ → List Region → Contention → List ℕ
 claims_in text regions c = if nat_lt 1048576 (length text) then [] else claims_of text regions c
 
--- two tasks that contend for a word, if a region has it
+-- the two tasks that conflict on a word, if a region has the word
 abbrev pub contended : Option TaskPlace → Option TaskPlace → WordPlace → Contention
 contended first second place = record { place = place; first = first; second = second }
 

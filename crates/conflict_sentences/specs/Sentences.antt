@@ -1,5 +1,5 @@
--- What is said of a conflict: which tasks contend for which word, where in the text they stand, and how that is mended. Each line is
--- indented, so that it can be told from the lines of an answer.
+-- The sentences on a conflict: which tasks conflict on which word, where they stand in the text, and how to mend it. Each line
+-- is indented, which tells it from the lines of an answer.
 use Rattle.std.specs.Prelude.{ℕ, ◌-◌, ◌==◌, List, [], ◌++◌, length, take, flat_map, Option, Some, None, codes, find, if◌then◌else◌}
 use Rattle.std.specs.Fmt.{decimal}
 use Rattle.text_pieces.specs.Pieces.{newline}
@@ -92,7 +92,7 @@ contenders_text l (conflict.TheVariants.PlainConflict phase a b w) = plain_text 
 contenders_text l (conflict.TheVariants.GuardedPlain phase lock core w) = guarded_plain_text l phase.0 lock.0 core.0 w.0
 contenders_text l (conflict.TheVariants.TwoLocks phase a b w) = two_locks_text l phase.0 a.0 b.0 w.0
 
--- how it is mended
+-- how to mend it
 abbrev pub conflict_remedy : CheckFault → List ℕ
 conflict_remedy (conflict.TheVariants.PlainConflict phase a b w) = apart_remedy
 conflict_remedy (conflict.TheVariants.GuardedPlain phase lock core w) = guard_remedy
@@ -127,7 +127,7 @@ claiming_line text line = codes "  " ++ quoted_line text line
 unfoldable pub more_claims : ℕ → List ℕ
 more_claims n = if n == 0 then [] else codes "  and " ++ decimal n ++ codes " more" ++ newline
 
--- the first four of the lines, and how many there are after them
+-- the first four of the lines, and how many more there are
 unfoldable pub some_claims : List ℕ → List ℕ → List ℕ
 some_claims text lines = claimed_by ++ flat_map (claiming_line text) (take 4 lines) ++ more_claims (length lines - 4)
 

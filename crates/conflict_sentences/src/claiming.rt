@@ -11,7 +11,7 @@ use place_texts::push_quoted_line;
 use text_pieces::{push, push_long};
 use text_places::{Located, Places, TaskPlace};
 
-/// At most so many lines are quoted.
+/// The greatest number of lines that are quoted.
 const MOST_QUOTED: usize = 4;
 
 fn task_on(places: &Places, phase: u32, core: Option<u32>) -> Option<TaskPlace>
@@ -118,7 +118,7 @@ fn push_more_claims(out: &mut Vec<u8>, number: usize) -> Result<(), Memory>
     push(out, b" more\n")
 }
 
-/// Adds the first four of the lines, and how many there are after them.
+/// Adds the first four of the lines, and how many more there are.
 #[tactic(auto, unfolding(crate::specs::Sentences::some_claims))]
 fn push_some_claims(out: &mut Vec<u8>, text: &[u8], lines: &[u32]) -> Result<(), Memory>
     ensures { OnOk result (out.new.items ≡ out.old.items ++ some_claims text.now lines.now) }

@@ -1,4 +1,4 @@
-//! Which lines of a text have effects that give a data word to one of the two tasks that contend for it.
+//! Which lines of a text have effects that give a data word to one of the two tasks that conflict on it.
 ghost use Rattle.std.specs.Prelude.{◌≡◌, ◌≤◌, ◌++◌, length, map, slice_get, bytes_eq, pos, neg_ℤ, ◌+ℤ◌, ◌*ℤ◌, ◌≤ℤ◌, ◌<ℤ◌, IfOk, OnOk};
 ghost use Rattle.rv_assembler.specs.Number.{is_within};
 ghost use Rattle.rv_assembler.specs.Operand.{bytes_of};
@@ -12,7 +12,7 @@ use src_text::{Line, Token, tokens};
 use std::alloc::Global;
 use text_places::{TaskPlace, WordPlace, region_of_word};
 
-/// Two tasks, and the word that they contend for.
+/// Two tasks, and the word on which they conflict.
 #[derive(Clone, Copy)]
 pub(crate) struct Contention {
     pub(crate) place: WordPlace,
@@ -39,7 +39,7 @@ pub(crate) fn contention_at(
     }
 }
 
-/// By how much the interval of an effect is moved on for the family's task of this number.
+/// By how much the interval of an effect is moved for the family's task of this number.
 fn moved_for(part: u32, step: i64) -> i128
     ensures { result ≡ pos part *ℤ step }
 {
@@ -200,7 +200,7 @@ fn family_by(family: u32, line: u32, statement: &Statement) -> u32
     }
 }
 
-/// The line of the current family after one more line; 0 where there is none.
+/// The line of the current family after one more line; 0 if there is none.
 fn family_behind(family: u32, reading: &Reading) -> u32
     ensures { result ≡ family_behind family reading.now }
 {

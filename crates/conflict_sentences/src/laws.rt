@@ -1,4 +1,4 @@
-//! What holds of effects and claims, as laws: functions that do nothing, whose contracts say it.
+//! Laws: what holds of effects and claims. A law is a function without effect; its contract states the theorem.
 ghost use Rattle.std.specs.Prelude.{◌≡◌, ◌+◌, ◌<◌, ℕ, pos, int_le, int_lt, true, false, List, Some, Ok};
 ghost use Rattle.std.specs.List.{IsAmong};
 ghost use Rattle.region_table.specs.Program.{ProgramParts};
@@ -18,17 +18,17 @@ ghost use Rattle.conflict_sentences.specs.Claims.{extent_has, claim_has, claims_
 ghost use Rattle.conflict_sentences.specs.TableClaims.{AreTasksOf, IsClaimedOn, conflict_word};
 ghost use Rattle.conflict_sentences.specs.Sentences.{contention_of};
 
-/// An effect gives a task of its family exactly the words of its region that the definition of the language lets the effect claim for
-/// that task. This holds where the effect isn't out of range, and the region has at most 65,536 words.
+/// An effect gives a task of its family exactly the words of its region that it claims for that task by the definition of the
+/// language. The premises are that the effect isn't out of range, and that the region has at most 65,536 words.
 pub fn an_effect_gives_the_words_that_it_claims()
     ensures { (phase : ℕ) (family : Cores) (u : Usage) (p : Span) (e : Extent) (part index : ℕ) → part < family.count → int_lt (pos index) p.len ≡ true → int_le p.len (pos 65536) ≡ true → extent_far (Some p) e family.count ≡ false → extent_has e part index ≡ claim_has (use_at phase family u p e part) (p.start + index) }
 {}
 
-/// Each line whose effect is quoted of a conflict gives the tables of the language's definition a claim of the word, for one of the two
-/// tasks that contend for it: it is an effect of the task's own family, names the word's region, and has the word for this task.
+/// Each line that is quoted for a conflict is an effect of the family of one of its two tasks, names the word's region, and has
+/// the word for this task. So it gives the tables of the language's definition a claim of the word for that task.
 ///
-/// The clause `quoted` says it of the lines of a conflict, in a text with its program and the places of its parts. The clause `effect` says
-/// it of the lines that claim a word for two tasks of the text, whichever these are.
+/// The clause `quoted` says this of the lines of a conflict, in a text with its program and the lines of its parts. The clause
+/// `effect` says it of the lines that claim a word for any two tasks of the text.
 pub fn a_quoted_effect_claims_the_word_for_its_task()
     ensures effect { (text : List ℕ) (program : ProgramParts) (c : ContentionOf) (word line : ℕ) → source text ≡ Ok program → IsWordPlace program.regions word c.place
         → AreTasksOf text c → IsAmong (claims_in text program.regions c) line → IsClaimedOn text c word line }

@@ -1,4 +1,4 @@
-//! Sentences on a conflict of two tasks: where in the text they stand, which word they contend for, and how that is mended.
+//! Sentences on a conflict of two tasks: where they stand in the text, on which word they conflict, and how to mend it.
 #![tactic(auto)]
 
 mod claiming;

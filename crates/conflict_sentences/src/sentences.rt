@@ -209,7 +209,7 @@ fn push_two_locks(
     push(out, b".\n")
 }
 
-/// Adds which two tasks, or which two locks, contend for which word.
+/// Adds which two tasks, or which two locks, conflict on which word.
 fn push_contenders(out: &mut Vec<u8>, located: &Located, conflict: CheckFault) -> Result<(), Memory>
     ensures { OnOk result (out.new.items ≡ out.old.items ++ contenders_text located.now conflict) }
 {
@@ -235,7 +235,7 @@ fn push_contenders(out: &mut Vec<u8>, located: &Located, conflict: CheckFault) -
     }
 }
 
-/// Adds how a conflict is mended.
+/// Adds how to mend a conflict.
 fn push_remedy(out: &mut Vec<u8>, conflict: CheckFault) -> Result<(), Memory>
     ensures { OnOk result (out.new.items ≡ out.old.items ++ conflict_remedy conflict) }
 {
@@ -246,11 +246,11 @@ fn push_remedy(out: &mut Vec<u8>, conflict: CheckFault) -> Result<(), Memory>
     }
 }
 
-/// Adds what is said of a conflict of the text's program: the tasks that contend for a word, by the lines that declare them, the lines
-/// of the effects that claim the word for them, and how that is mended.
+/// Appends the sentences on a conflict of the text's program: the tasks that conflict on a word, with the lines that declare
+/// them, the lines of the effects that claim the word for them, and how to mend it.
 ///
 /// # Errors
-/// `Memory` where there is no room; what is then added is no part of a text.
+/// `Memory` if there is no room; the text may have a part of the sentences then.
 pub fn push_conflict(
     out: &mut Vec<u8>,
     text: &[u8],

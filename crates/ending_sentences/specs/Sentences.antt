@@ -1,5 +1,5 @@
--- What is said of a task that didn't finish: where in the text it stands, why, and how that is mended. Each line is indented, so that
--- it can be told from the lines of an answer.
+-- The sentences on a task that didn't finish: where it stands in the text, why, and how to mend it. Each line is indented,
+-- which tells it from the lines of an answer.
 use Rattle.std.specs.Prelude.{ℕ, ◌-◌, ◌/◌, ◌%◌, ◌==◌, ◌&&◌, nat_le, List, [], ◌++◌, Option, Some, None, codes, slice_get, find, if◌then◌else◌}
 use Rattle.std.specs.Fmt.{decimal}
 use Rattle.text_pieces.specs.Pieces.{newline, hexadecimal}
@@ -57,7 +57,7 @@ abbrev pub line_at : List ℕ → Option CodePlace → List ℕ
 line_at text (Some p) = stands_at text p
 line_at text None = codes " ended where there is no code." ++ newline
 
--- what is wrong, around the value of the trap, and how it is mended
+-- what is wrong, with the value of the trap in the middle, and how to mend it
 abbrev pub said_before : TrapKind → List ℕ
 said_before kind.TheVariants.Fetch = codes "There is no code word at the address "
 said_before kind.TheVariants.Illegal = codes "The code word "
@@ -101,7 +101,7 @@ remedy kind.TheVariants.HeldEnd = codes "Release it first, by `li a7, 2` and `ec
 unfoldable pub data_text : ProgramParts → ℕ → List ℕ
 data_text p value = hexadecimal value ++ codes " (" ++ address_text p.regions value ++ codes ")"
 
--- the value of a trap, as what it is
+-- the value of a trap, by its meaning
 abbrev pub value_text : ProgramParts → TrapKind → ℕ → List ℕ
 value_text p kind.TheVariants.Fetch value = hexadecimal value
 value_text p kind.TheVariants.Illegal value = hexadecimal value
@@ -135,7 +135,7 @@ use_text p word_use.TheVariants.Reads = codes "  It declares the word in `.reads
 use_text p (word_use.TheVariants.Guarded lock) = guarded_text p lock
 use_text p word_use.TheVariants.Undeclared = codes "  None of its effects has the word." ++ newline
 
--- what the task declares of the word that it may not use so
+-- what the task declares of the word that it may not use in that way
 abbrev pub declares_text : ProgramParts → TrapKind → Option WordUse → List ℕ
 declares_text p kind.TheVariants.Outside (Some u) = use_text p u
 declares_text p _ _ = []
@@ -158,7 +158,7 @@ holds_it = codes " holds this lock." ++ newline
 unfoldable pub holder_untold : List ℕ
 holder_untold = codes "  The grants in this answer don't tell which task holds the lock." ++ newline
 
--- which task of the phase holds a lock, where its core is known
+-- which task of the phase holds a lock, if its core is known
 abbrev pub holder_text : Places → ℕ → Option ℕ → List ℕ
 holder_text places phase (Some core) = task_text places phase core ++ holds_it
 holder_text places phase None = holder_untold
@@ -169,7 +169,7 @@ wait_remedy = indent ++ codes "Have each task release what it acquires, and all 
 unfoldable pub wait_text : ProgramParts → ℕ → List ℕ
 wait_text p lock = codes " waits for " ++ lock_text p.locks lock ++ not_given_up
 
--- what is said of how a task stands; `holder` is the core whose task holds the lock that it waits for, where that is known
+-- the sentences on how a task stands; `holder` is the core whose task holds the lock that it waits for, if that is known
 abbrev pub end_sentences : List ℕ → Located → Option ℕ → ℕ → ℕ → EndShown → List ℕ
 end_sentences text l holder phase core shown.TheVariants.Finished = []
 end_sentences text l holder phase core shown.TheVariants.Fuel = task_text l.places phase core ++ fuel_text

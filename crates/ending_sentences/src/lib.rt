@@ -1,4 +1,4 @@
-//! Sentences on a task that didn't finish: where in the text it stands, why, and how that is mended.
+//! Sentences on a task that didn't finish: where it stands in the text, why, and how to mend it.
 #![tactic(auto)]
 
 mod sentences;

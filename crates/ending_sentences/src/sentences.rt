@@ -144,7 +144,7 @@ fn push_holder_untold(out: &mut Vec<u8>) -> Result<(), Memory>
     )
 }
 
-/// Adds which task of the phase holds a lock, where its core is known.
+/// Adds which task of the phase holds a lock, if its core is known.
 fn push_holder(
     out: &mut Vec<u8>,
     places: &Places,
@@ -172,12 +172,12 @@ fn push_wait_remedy(out: &mut Vec<u8>) -> Result<(), Memory>
     )
 }
 
-/// Adds what is said of how a task of the text's program stands at the end of a run; nothing where it has finished.
+/// Appends the sentences on how a task of the text's program stands at the end of a run; nothing if it has finished.
 ///
-/// `holder` is the core whose task holds the lock that this task waits for; None where that isn't known, or the task doesn't wait.
+/// `holder` is the core whose task holds the lock that this task waits for; None if that isn't known, or the task doesn't wait.
 ///
 /// # Errors
-/// `Memory` where there is no room; what is then added is no part of a text.
+/// `Memory` if there is no room; the text may have a part of the sentences then.
 pub fn push_ending(
     out: &mut Vec<u8>,
     text: &[u8],

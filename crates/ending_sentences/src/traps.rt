@@ -48,7 +48,7 @@ fn said_behind(kind: TrapKind) -> &'static [u8]
     }
 }
 
-/// How a trap is mended.
+/// How to mend a trap.
 fn remedy(kind: TrapKind) -> &'static [u8]
     ensures { result.now ≡ remedy kind }
 {
@@ -81,7 +81,7 @@ fn push_data(out: &mut Vec<u8>, program: &Program, address: u32) -> Result<(), M
     push(out, b")")
 }
 
-/// Adds the value of a trap, as what it is: an address, a word of code, a number, or a lock.
+/// Adds the value of a trap by its meaning: an address, a code word, a number, or a lock.
 fn push_value(
     out: &mut Vec<u8>,
     program: &Program,
@@ -158,7 +158,7 @@ fn push_use(out: &mut Vec<u8>, program: &Program, word_use: WordUse) -> Result<(
     }
 }
 
-/// Adds what the task declares of the word that it may not use so.
+/// Adds what the task declares of the word that it may not use in that way.
 pub(crate) fn push_declares(
     out: &mut Vec<u8>,
     program: &Program,

@@ -79,8 +79,8 @@ fn declaration(program: &Program, phase: u32, core: u32) -> Option<&TaskDecl>
     }
 }
 
-/// What the task of a core in a phase declares of the word at an address; None where there is no such task, or the address isn't one of
-/// data.
+/// What the task of a core in a phase declares of the word at an address; None if there is no such task, or no data word at the
+/// address.
 pub(crate) fn task_use(program: &Program, phase: u32, core: u32, address: u32) -> Option<WordUse>
     ensures { result ≡ task_use program.now phase core address }
 {

@@ -1,4 +1,4 @@
--- What each reason says of a state.
+-- What each reason states about a state.
 use Rattle.std.specs.Prelude.{◌≡◌, ◌≢◌, ℕ, ◌%◌, true, false, Option, Some, None, slice_get}
 use Rattle.std.specs.Option.{is_some}
 use Rattle.message_net.specs.declared.event.Event.{Event}
@@ -13,7 +13,7 @@ use Rattle.machine_rules.specs.State.{State}
 use Rattle.event_reasons.specs.declared.reason.Reason.{Reason}
 use Rattle.event_reasons.specs.declared.reason.Reason as reason
 
--- what a reason says of the core whose event may not come
+-- what a reason states about the core whose event may not come
 abbrev pub HoldsOf : Setting → NodeParts → Reason → Type 0
 HoldsOf C n reason.TheVariants.NoCore = ⊥
 HoldsOf C n reason.TheVariants.Halted = n.halted ≡ true
@@ -34,12 +34,12 @@ HoldsOf C n (reason.TheVariants.OtherSet word wanted) =
     (wanted_by n (need_now C n) ≡ Some wanted) × (word.0 % n.cache.sets ≢ wanted.0 % n.cache.sets)
 HoldsOf C n reason.TheVariants.NoMail = ⊥
 
--- of a core that the machine may not have
+-- the same for a core that the machine may not have
 abbrev pub HoldsAtCore : Setting → Option NodeParts → Reason → Type 0
 HoldsAtCore C None r = r ≡ reason.TheVariants.NoCore
 HoldsAtCore C (Some n) r = HoldsOf C n r
 
--- a reason against an event holds in a state
+-- a reason against an event is true in a state
 abbrev pub HoldsIn : State → Event → Reason → Type 0
 HoldsIn S (Instr core) r = HoldsAtCore S.setting (slice_get S.nodes core.0) r
 HoldsIn S (Evict core word) r = HoldsAtCore S.setting (slice_get S.nodes core.0) r

@@ -1,4 +1,4 @@
--- Why an event may not come: the conditions of the tables in their order, and the first of them that stands in the way.
+-- Why an event may not come: the conditions of the tables in their order, and the first of them that isn't met.
 use Rattle.std.specs.Prelude.{◌%◌, ◌==◌, Bool, Option, Some, None, slice_get, if◌then◌else◌}
 use Rattle.std.specs.Option.{is_some, option_or}
 use Rattle.dn_base.specs.declared.ids.WordId.{WordId}
@@ -21,7 +21,7 @@ use Rattle.event_reasons.specs.declared.reason.Reason as reason
 
 -- ---- the conditions
 
--- a reason where a test holds, and none else
+-- a reason if a test is true, otherwise none
 abbrev pub reason_if : Bool → Reason → Option Reason
 reason_if test r = if test then Some r else None
 
@@ -29,12 +29,12 @@ reason_if test r = if test then Some r else None
 abbrev pub inactive_reason : NodeParts → Option Reason
 inactive_reason n = option_or (reason_if n.halted reason.TheVariants.Halted) (reason_if n.arrived reason.TheVariants.Arrived)
 
--- an instruction and an eviction are those of a task that hasn't ended
+-- an instruction or an eviction needs a task that hasn't ended
 abbrev pub task_reason : Option TaskState → Option Reason
 task_reason None = Some reason.TheVariants.NoTask
 task_reason (Some t) = reason_if (is_some t.end) reason.TheVariants.TaskEnded
 
--- and not of one that waits for a word or a lock
+-- and a node that waits for no word and no lock
 abbrev pub wait_reason : NodeWait → Option Reason
 wait_reason (wait.TheVariants.Reading word) = Some (reason.TheVariants.WaitsForWord word)
 wait_reason (wait.TheVariants.Locking lock) = Some (reason.TheVariants.WaitsForLock lock)
@@ -45,11 +45,11 @@ abbrev pub filled_reason : NodeWait → Option Reason
 filled_reason (wait.TheVariants.Filled word) = Some (reason.TheVariants.HasValue word)
 filled_reason _ = None
 
--- a release and an arrival wait until no entry is pending
+-- a release and an arrival have to wait until no entry is pending
 abbrev pub pending_reason : NodeParts → Option Reason
 pending_reason n = if is_settled n then None else Some reason.TheVariants.HasPending
 
--- a load or store of a word, by the word's entry: it stalls while the word is leaving, and where there is no entry it needs room
+-- a load or store of a word, by the word's entry: it stalls while the word is leaving, and without an entry it needs room
 abbrev pub access_reason : NodeParts → WordId → Option Entry → Option Reason
 access_reason n word None = if has_room n.cache word.0 then None else Some (reason.TheVariants.NoRoom word)
 access_reason n word (Some (Valid value marked)) = None
@@ -63,14 +63,14 @@ need_reason n (Some (need.TheVariants.Store word whole)) = access_reason n word 
 need_reason n (Some (need.TheVariants.Release lock)) = pending_reason n
 need_reason n _ = None
 
--- a word may be evicted that has an entry which is neither pending nor leaving
+-- only a word with an entry that is neither pending nor leaving may be evicted
 abbrev pub entry_reason : WordId → Option Entry → Option Reason
 entry_reason word None = Some (reason.TheVariants.NoEntry word)
 entry_reason word (Some (Valid value marked)) = None
 entry_reason word (Some (Registered value pending)) = reason_if pending (reason.TheVariants.IsPending word)
 entry_reason word (Some (Leaving value)) = Some (reason.TheVariants.IsLeaving word)
 
--- an eviction makes room for the word that lacks it, if there is one, and is of a word of the same set
+-- an eviction has to make room for the word that lacks it, and be of a word in the same set
 abbrev pub room_reason : NodeParts → WordId → Option WordId → Option Reason
 room_reason n word None = Some reason.TheVariants.NeedsNoRoom
 room_reason n word (Some wanted) =
@@ -99,7 +99,7 @@ abbrev pub core_reason : (NodeParts → Option Reason) → Option NodeParts → 
 core_reason why None = Some reason.TheVariants.NoCore
 core_reason why (Some n) = why n
 
--- why an event may not come in a state: the first of its conditions that isn't met; None where all are
+-- why an event may not come in a state: the first of its conditions that isn't met; None if all are met
 unfoldable pub reason_against : State → Event → Option Reason
 reason_against S (Instr core) = core_reason (instr_reason S.setting) (slice_get S.nodes core.0)
 reason_against S (Evict core word) = core_reason (evict_reason S.setting word) (slice_get S.nodes core.0)

@@ -39,7 +39,7 @@ fn push_evictions(
     Ok(())
 }
 
-/// Adds the events of a node by itself that may come.
+/// Adds the own events of a node that may come.
 fn push_own(
     alloc: Global,
     events: &mut Sequence<Event>,
@@ -54,7 +54,7 @@ fn push_own(
     push_if(events, machine, Event::Arrive(node.core()))
 }
 
-/// Adds the events of all cores by themselves that may come.
+/// Adds the own events of all cores that may come.
 fn push_cores(alloc: Global, events: &mut Sequence<Event>, machine: &Machine) -> Result<(), Memory>
     ensures { OnOk result (events.new ≡ events.old ++ flat_map (enabled_own machine.now.state) machine.now.state.nodes) }
 {
@@ -87,8 +87,8 @@ fn list_events(alloc: Global, machine: &Machine) -> Result<Sequence<Event>, Memo
     Ok(events)
 }
 
-/// The events that may come, and no others: of each core, in the order of cores, its instruction, its evictions and its arrival,
-/// and then the handling of each mail, in the order of the pool. It looks at each place of the caches once.
+/// Exactly the events that may come: for each core, in the order of cores, its instruction, its evictions and its arrival; then
+/// the handling of each mail, in the order of the pool. It looks at each place of the caches once.
 ///
 /// # Errors
 /// `Memory` where there is no room.

@@ -11,7 +11,7 @@ use registration_protocol::{Node, NodeWait};
 use rv_core::Need;
 use word_cache::{Entry, Probe};
 
-/// Why a core makes no event by itself.
+/// Why a core makes no own event.
 pub(crate) fn inactive(node: &Node) -> Option<Reason>
     ensures { result ≡ inactive_reason node.now }
 {
@@ -35,7 +35,7 @@ pub(crate) fn without_task(node: &Node) -> Option<Reason>
     }
 }
 
-/// That a core's task goes on, which keeps the core from arriving.
+/// A core's task hasn't ended, which keeps the core from arriving.
 pub(crate) fn with_task(node: &Node) -> Option<Reason>
     ensures { result ≡ reason_if (is_running node.now.task) TaskRuns }
 {
@@ -66,7 +66,7 @@ pub(crate) fn filled(wait: NodeWait) -> Option<Reason>
     }
 }
 
-/// That some entry is pending.
+/// Some entry is pending.
 pub(crate) fn pending(node: &Node) -> Option<Reason>
     ensures { result ≡ pending_reason node.now }
 {
@@ -77,7 +77,7 @@ pub(crate) fn pending(node: &Node) -> Option<Reason>
     }
 }
 
-/// Why a load or store of a word may not go on.
+/// Why a load or store of a word stalls.
 fn stalled(node: &Node, word: WordId) -> Option<Reason>
     ensures { result ≡ access_reason node.now word (entry_of node.now word.0) }
 {
@@ -91,7 +91,7 @@ fn stalled(node: &Node, word: WordId) -> Option<Reason>
     }
 }
 
-/// Why an instruction with this need may not go on.
+/// Why an instruction with this need stalls.
 pub(crate) fn needing(node: &Node, need: Option<Need>) -> Option<Reason>
     ensures { result ≡ need_reason node.now need }
 {
@@ -102,7 +102,7 @@ pub(crate) fn needing(node: &Node, need: Option<Need>) -> Option<Reason>
     }
 }
 
-/// The word, where it has no entry and its set has no room.
+/// The word, if it has no entry and its set has no room.
 fn lacking(node: &Node, word: WordId) -> Option<WordId>
     ensures { result ≡ crowded node.now word }
 {
@@ -112,7 +112,7 @@ fn lacking(node: &Node, word: WordId) -> Option<WordId>
     }
 }
 
-/// The word for which an instruction with this need lacks a place, if there is one.
+/// The word that lacks a place in the cache for an instruction with this need, if there is one.
 pub(crate) fn wanted(node: &Node, need: Option<Need>) -> Option<WordId>
     ensures { result ≡ wanted_by node.now need }
 {

@@ -1,6 +1,6 @@
 use dn_base::{LockId, WordId};
 
-/// Why an event may not come. Each reason but the last speaks of the core whose event it is.
+/// Why an event may not come. Each reason but the last is about the core whose event it is.
 #[derive(Clone, Copy, Debug, PartialEq, Eq)]
 pub enum Reason {
     /// The machine has no such core.
@@ -33,7 +33,7 @@ pub enum Reason {
     HasPending,
     /// The next instruction needs no room, so nothing is evicted.
     NeedsNoRoom,
-    /// The word isn't of the set in which the next instruction needs room, for the wanted word.
+    /// The word isn't in the set in which the next instruction needs room for the wanted word.
     OtherSet { word: WordId, wanted: WordId },
     /// No mail in flight has the id.
     NoMail,

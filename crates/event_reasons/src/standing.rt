@@ -96,7 +96,7 @@ fn first_reason(machine: &Machine, event: &Event) -> Option<Reason>
     }
 }
 
-/// Why an event may not come: the first of its conditions, in the order of the tables, that isn't met; None exactly where the
+/// Why an event may not come: the first of its conditions, in the order of the tables, that isn't met. None exactly if the
 /// event may come. Takes no memory.
 pub fn reason_against(machine: &Machine, event: &Event) -> Option<Reason>
     ensures first { result ≡ reason_against machine.now.state event.now }

@@ -7,7 +7,7 @@ use Rattle.rv_assembler.specs.Source.{good}
 use Rattle.fault_sentences.specs.declared.examples.Form.{Form}
 use Rattle.fault_sentences.specs.declared.examples.Form as form
 
--- a line by itself; None where it has no byte
+-- a line by itself; None for no bytes
 abbrev pub line_alone : List ℕ → Option Line
 line_alone bytes = slice_get (lines_of bytes) 0
 
@@ -42,7 +42,7 @@ operands_as form.TheVariants.Family = codes "0, 4, name, 7, 1"
 unfoldable pub takes : ℕ → List ℕ → Form → Bool
 takes version word f = is_taken version (word ++ codes " " ++ operands_as f)
 
--- All words but the effects have one form; a form whose example is one of other forms too stands after those.
+-- All words but those of effects have one form. A form whose example also fits other forms comes after those.
 abbrev pub forms : List Form
 forms =
     form.TheVariants.Nothing

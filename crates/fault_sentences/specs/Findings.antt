@@ -1,5 +1,5 @@
--- What exactly is wrong on a line: which part of it, and why. A line is read by itself, so that places are counted from its first byte;
--- what other lines declare is asked of the whole text.
+-- What exactly is wrong on a line: which part of it, and why. The line is read by itself, and positions are counted from its
+-- first byte. What other lines declare is looked up in the whole text.
 use Rattle.std.specs.Prelude.{ℕ, ◌+◌, ℤ, pos, neg_ℤ, Bool, true, false, not, ◌&&◌, ◌||◌, nat_lt, ◌==◌, List, [], ◌∷◌, drop, length, Option, Some, None, option_map, slice_get, find, if◌then◌else◌}
 use Rattle.std.specs.List.{prefix_len}
 use Rattle.rv_isa.specs.Table.{is_shift}
@@ -74,7 +74,7 @@ abbrev pub at_byte : List ℕ → Option ℕ → Option Finding
 at_byte bytes None = None
 at_byte bytes (Some i) = Some (record { part = record { start = i; end = i + 1 + prefix_len is_high (drop (i + 1) bytes) }; cause = cause.TheVariants.Byte })
 
--- a part that is to be a number and is none
+-- a part that should be a number and isn't one
 abbrev pub at_part : Option Part → Option Finding
 at_part None = None
 at_part (Some p) = Some (record { part = p; cause = cause.TheVariants.NoNumber })
@@ -87,7 +87,7 @@ at_range low high ts = at_number (cause.TheVariants.Range low high) ts
 abbrev pub at_offset : ℤ → ℤ → Token → Finding
 at_offset low high t = finding_at (cause.TheVariants.Offset low high) t
 
--- the number or the target of an instruction, which is out of its range
+-- the number or the target of an instruction that is out of range
 unfoldable pub code_out_of_range : List Token → Code → Option Finding
 code_out_of_range ts (code.TheVariants.Upper adds_pc rd n) = at_range (pos 0) (pos 1048575) ts
 code_out_of_range ts (code.TheVariants.Jump rd t) = Some (at_offset (neg_ℤ (pos 1048576)) (pos 1048574) t)
@@ -152,7 +152,7 @@ abbrev pub declared_at_token : List ℕ → List ℕ → Option Token → Option
 declared_at_token text bytes None = None
 declared_at_token text bytes (Some t) = declared_finding t (known_in text (bytes_of bytes t))
 
--- the label, if an earlier line declares it, and else the name of the statement
+-- the label, if an earlier line declares it, otherwise the name of the statement
 unfoldable pub doubled_at : List ℕ → List ℕ → ℕ → Saying → Option Finding
 doubled_at text bytes line s =
     declared_at_token text bytes (doubled_token s.statement s.label (is_before line (known_token text bytes s.label)))
@@ -160,7 +160,7 @@ doubled_at text bytes line s =
 abbrev pub wanted_as : Wanted → Token → Want
 wanted_as w t = record { token = t; as_what = w }
 
--- a name that isn't declared, or not as what is wanted
+-- a name that isn't declared, or isn't declared as what is wanted
 abbrev pub unknown_finding : Want → Option Known → Finding
 unknown_finding w None = finding_at (cause.TheVariants.Undeclared w.as_what) w.token
 unknown_finding w (Some k) = finding_at (cause.TheVariants.Unfit w.as_what k.sort k.line) w.token
@@ -211,7 +211,7 @@ misplaced_at text line ts (statement.TheVariants.Tasks f) = standing_finding ts 
 misplaced_at text line ts (statement.TheVariants.Uses e) = at_word cause.TheVariants.NoTask ts
 misplaced_at text line ts _ = None
 
--- of which there are more than there may be
+-- what there is too much of
 abbrev pub excess : Statement → Option Cause
 excess (statement.TheVariants.Instruction k) = Some cause.TheVariants.CodeWords
 excess (statement.TheVariants.Region name len) = Some cause.TheVariants.Regions
@@ -227,7 +227,7 @@ at_word_if ts (Some c) = at_word c ts
 unfoldable pub limit_at : List Token → Statement → Option Finding
 limit_at ts s = at_word_if ts (excess s)
 
--- what stands in the place of the statement's word isn't one, or the operands are others
+-- in place of the statement's word there is something else, or the operands are wrong
 abbrev pub word_or_operands : ℕ → List ℕ → Token → Cause
 word_or_operands version bytes t =
     if is_name t.kind then cause.TheVariants.Operands (form_for version (bytes_of bytes t)) else cause.TheVariants.NoWord

@@ -1,4 +1,4 @@
--- The first part of a line that is to be a number and is none.
+-- The first part of a line that should be a number and isn't one.
 use Rattle.std.specs.Prelude.{ℕ, ◌+◌, Bool, true, false, ◌&&◌, List, [], ◌∷◌, length, Option, Some, None, slice_index, if◌then◌else◌}
 use Rattle.src_text.specs.Lexeme.{begins_token, front, before_comment}
 use Rattle.src_text.specs.declared.line.Line.{Line}
@@ -19,17 +19,17 @@ has_number_fault (Some l) = is_number_fault l.fault
 unfoldable pub is_no_number : List ℕ → Bool
 is_no_number bytes = has_number_fault (line_alone bytes)
 
--- whether a token begins at the first byte, which stands after `before`, and is a bad number
+-- whether a token begins at the first byte, which follows `before`, and is a bad number
 abbrev pub begins_no_number : ℕ → List ℕ → Bool
 begins_no_number before bytes = begins_token before (slice_index bytes 0) && is_no_number (front bytes)
 
--- the first token that is a bad number, in bytes after `before` of which the first has the place `place`
+-- the first token that is a bad number; the bytes follow `before`, and the first of them has the position `place`
 abbrev pub no_number_from : ℕ → ℕ → List ℕ → Option Part
 no_number_from before place [] = None
 no_number_from before place (b ∷ bs) =
     if begins_no_number before (b ∷ bs) then Some (record { start = place; end = place + length (front (b ∷ bs)) })
     else no_number_from b (place + 1) bs
 
--- the first of a line; the line begins as if after a blank
+-- the first such token of a line; the line begins as if after a blank
 unfoldable pub no_number_in : List ℕ → Option Part
 no_number_in bytes = no_number_from 32 0 (before_comment bytes)

@@ -1,5 +1,5 @@
--- What is said of a text that is refused: the line that has the fault, what is wrong on it, and how that is mended. Each line is
--- indented, so that it can be told from the lines of an answer.
+-- The sentences on a text that is refused: the line with the fault, what is wrong on it, and how to mend it. Each line is
+-- indented, which tells it from the lines of an answer.
 use Rattle.std.specs.Prelude.{ℕ, ℤ, ◌||◌, nat_lt, List, [], ◌++◌, length, Option, Some, None, codes, if◌then◌else◌}
 use Rattle.std.specs.Fmt.{decimal, signed_decimal}
 use Rattle.text_pieces.specs.Pieces.{newline}
@@ -21,7 +21,7 @@ use Rattle.fault_sentences.specs.Examples.{operands_as}
 use Rattle.fault_sentences.specs.Findings.{finding_of}
 use Rattle.fault_sentences.specs.Others.{others}
 
--- the line that has the fault; none where it is no line's
+-- the line with the fault; none if the fault isn't that of a line
 abbrev pub faulty_line : SourceFault → Option ℕ
 faulty_line fault.TheVariants.TooLarge = None
 faulty_line (fault.TheVariants.BadByte line) = Some line
@@ -51,7 +51,7 @@ complaint (fault.TheVariants.Misplaced line) = codes "This statement may not sta
 complaint (fault.TheVariants.Limit line) = codes "With this line the program is larger than a program may be."
 complaint fault.TheVariants.Memory = codes "There was no memory."
 
--- how it is mended, by the kind of the fault
+-- how to mend it, by the kind of the fault
 abbrev pub amendment : SourceFault → List ℕ
 amendment fault.TheVariants.TooLarge = codes "Leave out blanks and comments, or make two programs of it."
 amendment (fault.TheVariants.BadByte line) = codes "Leave the byte out. If it belongs to a comment, put `#` before it."
@@ -66,7 +66,7 @@ amendment (fault.TheVariants.Misplaced line) = codes "Tasks stand behind a `.pha
 amendment (fault.TheVariants.Limit line) = codes "A program has at most 16384 code words, 65536 data words, 256 regions (4096 in version 2), 32 locks, 64 phases and 64 tasks."
 amendment fault.TheVariants.Memory = codes "Give it more memory."
 
--- how a number or a label is mended that is out of its range
+-- how to mend a number or a label that is out of range
 abbrev pub range_amendment : Cause → List ℕ
 range_amendment (cause.TheVariants.Range low high) = codes "Write a number of this range; `li` makes a larger one in a register."
 range_amendment cause.TheVariants.Length = codes "Write a number of this range. All regions of a text have at most 65536 words together."
@@ -77,7 +77,7 @@ range_amendment cause.TheVariants.Cores = codes "Use cores from 0 to 15: the fir
 range_amendment cause.TheVariants.Address = codes "Write a label, or the address of an instruction."
 range_amendment c = codes "Write a number of its range, or a label that is nearer."
 
--- how it is mended, by what is wrong with a part of the line, if that is known
+-- how to mend it, by what is wrong with a part of the line, if that is known
 abbrev pub finding_amendment : SourceFault → Option Finding → List ℕ
 finding_amendment (fault.TheVariants.OutOfRange line) (Some x) = range_amendment x.cause
 finding_amendment f x = amendment f
@@ -203,7 +203,7 @@ cause_text c = plain_cause c
 unfoldable pub finding_text : ℕ → List ℕ → Finding → List ℕ
 finding_text line bytes x = mark_line line bytes x.part ++ marked_text bytes x.part ++ cause_text x.cause ++ newline
 
--- what is wrong: by the finding, and where there is none by the kind of the fault
+-- what is wrong: by the finding, or without one by the kind of the fault
 abbrev pub finding_or_kind : ℕ → List ℕ → SourceFault → Option Finding → List ℕ
 finding_or_kind line bytes f None = sentence (complaint f)
 finding_or_kind line bytes f (Some x) = finding_text line bytes x
@@ -212,7 +212,7 @@ finding_or_kind line bytes f (Some x) = finding_text line bytes x
 abbrev pub finding_if_small : List ℕ → List ℕ → SourceFault → Option Finding
 finding_if_small text bytes f = if nat_lt 1048576 (length text) || nat_lt 1048576 (length bytes) then None else finding_of text bytes f
 
--- the line, what is wrong on it, the names beside one that isn't declared as what is wanted, and how it is mended
+-- the line, what is wrong on it, the names that are declared as what is wanted, and how to mend it
 abbrev pub finding_sentences : List ℕ → SourceFault → ℕ → List ℕ → Option Finding → List ℕ
 finding_sentences text f line bytes x =
     indented_line text line ++ finding_or_kind line bytes f x ++ others text x ++ sentence (finding_amendment f x)
@@ -220,7 +220,7 @@ finding_sentences text f line bytes x =
 unfoldable pub line_sentences : List ℕ → SourceFault → ℕ → List ℕ → List ℕ
 line_sentences text f line bytes = finding_sentences text f line bytes (finding_if_small text bytes f)
 
--- what is wrong and how it is mended, by the kind of the fault alone
+-- what is wrong and how to mend it, by the kind of the fault alone
 abbrev pub kind_sentences : SourceFault → List ℕ
 kind_sentences f = sentence (complaint f) ++ sentence (amendment f)
 

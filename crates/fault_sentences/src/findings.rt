@@ -43,15 +43,15 @@ pub(crate) struct Want {
 /// Why a part of a line is wrong.
 #[derive(Clone, Copy)]
 pub(crate) enum Cause {
-    /// It may not stand outside of comments.
+    /// It may not stand outside comments.
     Byte,
-    /// It is the word of no statement.
+    /// It is no statement's word.
     Word,
-    /// It is no word, and stands where one is to stand.
+    /// It stands where a word should stand, and isn't one.
     NoWord,
     /// It is a label, and begins with `.`.
     Dotted,
-    /// It is a word that has other operands, of this form.
+    /// It is a word that takes other operands, of this form.
     Operands {
         form: Option<Form>,
     },
@@ -61,20 +61,20 @@ pub(crate) enum Cause {
         low: i32,
         high: i32,
     },
-    /// It is no number of words that a region may have.
+    /// It is no number of words for a region.
     Length,
-    /// A number that isn't such an even offset, or a label that isn't so far away.
+    /// It is no even offset in this range, or a label that is too far away.
     Offset {
         low: i32,
         high: i32,
     },
     Cores,
     Address,
-    /// It is no index of a region of so many words.
+    /// It is no index of a region with this many words.
     Index {
         words: u64,
     },
-    /// It begins no interval of a region of so many words.
+    /// It begins no interval of a region with this many words.
     Interval {
         words: u64,
     },
@@ -93,7 +93,7 @@ pub(crate) enum Cause {
         line: u32,
     },
     NoPhase,
-    /// It wants a core for which a line of the phase declares a task.
+    /// It asks for a core for which a line of the phase already declares a task.
     CoreInUse {
         line: u32,
     },

@@ -5,7 +5,7 @@ ghost use Rattle.fault_sentences.specs.Sentences.{faulty_line, complaint, amendm
 use crate::findings::{Cause, Finding};
 use rv_assembler::SourceFault;
 
-/// The line that has the fault; None where it is no line's.
+/// The line with the fault; None if the fault isn't that of a line.
 pub(crate) fn faulty_line(fault: SourceFault) -> Option<u32>
     ensures { result ≡ faulty_line fault }
 {
@@ -49,7 +49,7 @@ pub(crate) fn complaint(fault: SourceFault) -> &'static [u8]
     }
 }
 
-/// How it is mended, by the kind of the fault.
+/// How to mend it, by the kind of the fault.
 pub(crate) fn amendment(fault: SourceFault) -> &'static [u8]
     ensures { result.now ≡ amendment fault }
 {
@@ -78,7 +78,7 @@ pub(crate) fn amendment(fault: SourceFault) -> &'static [u8]
     }
 }
 
-/// How a number or a label is mended that is out of its range.
+/// How to mend a number or a label that is out of range.
 fn range_amendment(cause: Cause) -> &'static [u8]
     ensures { result.now ≡ range_amendment cause }
 {
@@ -99,7 +99,7 @@ fn range_amendment(cause: Cause) -> &'static [u8]
     }
 }
 
-/// How it is mended, by what is wrong with a part of the line, if that is known.
+/// How to mend it, by what is wrong with a part of the line, if that is known.
 pub(crate) fn finding_amendment(fault: SourceFault, finding: Option<Finding>) -> &'static [u8]
     ensures { result.now ≡ finding_amendment fault finding }
 {

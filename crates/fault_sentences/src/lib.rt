@@ -1,4 +1,4 @@
-//! Sentences on a text that is refused: the line that has the fault, what is wrong on it, and how that is mended.
+//! Sentences on a text that is refused: the line with the fault, what is wrong on it, and how to mend it.
 #![tactic(auto)]
 
 mod examples;

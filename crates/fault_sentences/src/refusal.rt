@@ -117,11 +117,11 @@ fn push_sentences_at(
     }
 }
 
-/// Adds what is said of a text that the assembler refuses with this fault: the line that has the fault after its number, a mark under
-/// the part that is wrong, why it is, and how that is mended.
+/// Appends the sentences on a text that the assembler refuses with this fault: the line with the fault after its number, a mark
+/// under the part that is wrong, why it is wrong, and how to mend it.
 ///
 /// # Errors
-/// `Memory` where there is no room; what is then added is no part of a text.
+/// `Memory` if there is no room; the text may have a part of the sentences then.
 pub fn push_refusal(out: &mut Vec<u8>, text: &[u8], fault: SourceFault) -> Result<(), Memory>
     requires { source text.now ≡ Err fault }
     ensures { OnOk result (out.new.items ≡ out.old.items ++ refusal_sentences text.now fault) }

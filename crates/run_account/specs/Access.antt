@@ -1,4 +1,4 @@
--- What is counted of an instruction, by what it needs and by the entry of its word: what `instr_items` comes to.
+-- What is counted of an instruction, by what it needs and by the entry of its word. `instr_items` gives the same.
 use Rattle.std.specs.Prelude.{Bool, List, [], ◌∷◌, replicate, Option, Some, None, count_by, if◌then◌else◌}
 use Rattle.dn_base.specs.declared.ids.WordId.{WordId}
 use Rattle.rv_core.specs.declared.need.Need as need

@@ -1,4 +1,4 @@
--- The account of a run: what is counted of its events, and the numbers that this comes to.
+-- The account of a run: the items of its events, and their numbers.
 use Rattle.std.specs.Prelude.{ℕ, nat_lt, Bool, List, [], ◌∷◌, ◌++◌}
 use Rattle.message_net.specs.declared.event.Event.{Event}
 use Rattle.machine_rules.specs.State.{State}
@@ -14,12 +14,12 @@ use Rattle.run_account.specs.Departures.{Departures, no_departures, departures_a
 use Rattle.run_account.specs.Handings.{Handings, no_handings, handings_after}
 use Rattle.run_account.specs.Events.{items_in}
 
--- what is counted of the events that come from a state on, event by event
+-- the items of the events from a state on, event by event
 abbrev pub items_from : State → Departures → Handings → List Event → List Item
 items_from S D H [] = []
 items_from S D H (e ∷ es) = items_in S D H e ++ items_from (next S e) (departures_after S e D) (handings_after S e H) es
 
--- what is counted of a run's events
+-- the items of a run's events
 abbrev pub items_of_run : State → List Event → List Item
 items_of_run S events = items_from S (no_departures S.setting) (no_handings S.setting) events
 
@@ -30,7 +30,7 @@ number_in_run by m group S events = count_in (regions_from 0 S.setting.program.r
 abbrev pub number_of_run : Measure → State → List Event → ℕ
 number_of_run m S events = items_of_measure m (items_of_run S events)
 
--- the numbers of all groups of a run, added up
+-- the sum of the numbers of all groups of a run
 abbrev pub sum_of_run : Grouping → Measure → State → List Event → ℕ
 sum_of_run by m S events =
     sum_of_groups (regions_from 0 S.setting.program.regions) by (groups_in S.setting.program S.setting.shape.cores by) m (items_of_run S events)
@@ -49,7 +49,7 @@ pub record Accounted : Type 0 where
 abbrev pub no_account : Setting → Grouping → Accounted
 no_account C by = record { tallies = no_tallies C.program C.shape.cores by; departures = no_departures C; handings = no_handings C }
 
--- the same with so many more items
+-- the same with these items added
 abbrev pub adding : Accounted → List Item → Accounted
 adding A items = record A { tallies = with_items A.tallies items }
 

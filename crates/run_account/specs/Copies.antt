@@ -15,7 +15,7 @@ use Rattle.run_account.specs.Departures.{Departures, departed}
 use Rattle.run_account.specs.Events.{remains, pair_items}
 use Rattle.run_account.specs.Account.{Accounted}
 
--- whether a pair is a copy that goes, and why
+-- whether a pair is a copy that is dropped, and why
 abbrev pub has_gone : NodeParts → Occasion → List Interval → Pair → Bool
 has_gone n o words p = is_valid p.1 && not (remains n o words p)
 

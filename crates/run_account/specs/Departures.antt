@@ -1,4 +1,4 @@
--- Why a core has no entry of a word any more: what last happened to its entry.
+-- Why a core no longer has an entry of a word: what last happened to its entry.
 use Rattle.std.specs.Prelude.{ℕ, Bool, ◌&&◌, ◌==◌, not, List, [], length, map, replicate, slice_get, slice_set, slice_index_or, Option, Some, None, if◌then◌else◌}
 use Rattle.std.specs.List.{enumerate_from}
 use Rattle.std.specs.Option.{is_some, option_or}
@@ -17,11 +17,11 @@ use Rattle.machine_rules.specs.State.{State}
 use Rattle.run_account.specs.declared.departure.Departure.{Departure}
 use Rattle.run_account.specs.declared.departure.Departure.TheVariants as why
 
--- whether a node's entry of a word goes as the node becomes another
+-- whether a node's entry of a word is removed when the node becomes another one
 abbrev pub goes : NodeParts → NodeParts → ℕ → Bool
 goes before after w = is_some (entry_of before w) && not (is_some (entry_of after w))
 
--- why an entry goes at a message
+-- why an entry is removed at a message
 abbrev pub reason : Message → Option Departure
 reason (Go phase) = Some why.Phase
 reason (Grant lock signature) = Some why.Lock
@@ -29,14 +29,14 @@ reason (WbAck word) = Some why.Evicted
 reason (RegFwd word core) = Some why.Taken
 reason _ = None
 
--- why a node's entry of a word goes at an eviction, and at a message, if it goes
+-- why a node's entry of a word is removed at an eviction, and at a message, if it is removed
 abbrev pub gone_by_eviction : Setting → NodeParts → ℕ → NodeParts → Option Departure
 gone_by_eviction C n w after = if goes n after w then Some why.Evicted else None
 
 abbrev pub gone_by_message : NodeParts → ℕ → Message → NodeParts → Option Departure
 gone_by_message n w message after = if goes n after w then reason message else None
 
--- why the entry that a core has of a word goes at an event, if it goes
+-- why a core's entry of a word is removed at an event, if it is removed
 abbrev pub gone_at_eviction : State → Option NodeParts → Event → ℕ → Option Departure
 gone_at_eviction S (Some n) (Evict core word) w = gone_by_eviction S.setting n w (evicted S.setting n word).0
 gone_at_eviction S _ _ w = None
@@ -58,8 +58,8 @@ gone_in S (Evict core word) c w = if core.0 == c then gone_at_eviction S (slice_
 gone_in S (Handle id) c w = gone_with S c w (removed id S.mails).0
 gone_in S _ c w = None
 
--- what last happened to each core's entry of each word: a row for each core, with a place for each word; None where the core
--- had no entry of the word that went
+-- what last happened to each core's entry of each word: a row for each core, with a place for each word; None if no entry of
+-- the core for the word was ever removed
 abbrev pub Departures : Type 0
 Departures = List (List (Option Departure))
 
@@ -72,7 +72,7 @@ departures_at D c = slice_index_or D c []
 abbrev pub departure_at : Departures → ℕ → ℕ → Option Departure
 departure_at D c w = slice_index_or (departures_at D c) w None
 
--- the same where the entry of a word goes, and where those go that a function says
+-- the same after the entry of one word is removed, and after those are removed that a function says
 abbrev pub departed : Departures → ℕ → ℕ → Departure → Departures
 departed D c w why = slice_set D c (slice_set (departures_at D c) w (Some why))
 

@@ -1,4 +1,4 @@
--- What an account counts of an event: the event is looked at with the state before it.
+-- What an account counts of an event, by the state before the event.
 use Rattle.std.specs.Prelude.{ℕ, Bool, true, false, ◌&&◌, ◌==◌, not, List, [], ◌∷◌, ◌++◌, replicate, slice_get, Option, Some, None, count_by, if◌then◌else◌}
 use Rattle.std.specs.List.{flat_map}
 use Rattle.dn_base.specs.declared.ids.LoadSeen.{LoadSeen}
@@ -43,18 +43,18 @@ item_of m n word = record { measure = m; phase = record { 0 = n.phase }; core = 
 abbrev pub item_at : Measure → NodeParts → WordId → Item
 item_at m n word = item_of m n (Some word)
 
--- one item where a test holds, and none else
+-- one item if a test is true, otherwise none
 abbrev pub item_if : Bool → Item → List Item
 item_if test item = if test then item ∷ [] else []
 
 -- ---- instructions
 
--- a load that retires; it is local where the core waited for nothing
+-- a load that retires; it is local if the core waited for nothing
 abbrev pub load_items : NodeParts → Option LoadSeen → List Item
 load_items n None = []
 load_items n (Some seen) = item_at measure.TheVariants.Loads n seen.word ∷ item_if (waits_for_nothing n.waiting) (item_at measure.TheVariants.LoadsLocal n seen.word)
 
--- a store that retires; it is silent where its word is registered
+-- a store that retires; it is silent if its word is registered
 abbrev pub is_registered : Option Entry → Bool
 is_registered (Some (Registered value pending)) = true
 is_registered _ = false
@@ -107,12 +107,12 @@ evict_items n word (Some (Leaving value)) = []
 
 -- ---- copies at a Go and at a Grant
 
--- which copies remain: at a Go by the words that the ended phase may have written, at a Grant by those that the lock guards
+-- which copies stay: at a Go by the words that the ended phase may have written, at a Grant by those that the lock guards
 abbrev pub remains : NodeParts → Occasion → List Interval → Pair → Bool
 remains n Go words p = stays words p
 remains n (Grant signature) words p = is_fresh signature n.phase words p
 
--- the measures of the copies that go, of those that have the word's value, and of those that remain
+-- the measures of the copies that are dropped, of those of them that have the word's value, and of those that stay
 abbrev pub dropped_at : Occasion → Measure
 dropped_at Go = measure.TheVariants.DroppedPhase
 dropped_at (Grant signature) = measure.TheVariants.DroppedLock
@@ -125,7 +125,7 @@ abbrev pub kept_at : Occasion → Measure
 kept_at Go = measure.TheVariants.KeptTouched
 kept_at (Grant signature) = measure.TheVariants.KeptSignature
 
--- a copy goes, perhaps with the word's value; or it remains though its word is one of those that are looked at
+-- a copy is dropped, possibly with the word's value; or it stays although its word is one of those that are looked at
 abbrev pub copy_items : State → NodeParts → Occasion → List Interval → Pair → List Item
 copy_items S n o words p =
     if remains n o words p then item_if (has words p.0.0) (item_at (kept_at o) n p.0)
@@ -192,7 +192,7 @@ abbrev pub handle_items : State → Handings → Option Mail → List Item
 handle_items S H None = []
 handle_items S H (Some m) = mail_items S H m.id.sender m.to m.message
 
--- what is counted of an event, by what last happened to each core's entries and how each lock was last granted
+-- the items of an event, by what last happened to each core's entries and how each lock was last granted
 unfoldable pub items_in : State → Departures → Handings → Event → List Item
 items_in S D H (Instr core) = at_node (instr_items S D) (slice_get S.nodes core.0)
 items_in S D H (Evict core word) = at_node (λ (n : NodeParts). evict_items n word (entry_of n word.0)) (slice_get S.nodes core.0)

@@ -1,4 +1,4 @@
--- How each lock came to the core that it was last granted to.
+-- How each lock came to the core to which it was last granted.
 use Rattle.std.specs.Prelude.{ℕ, Bool, false, ◌==◌, List, length, map, replicate, slice_get, slice_index_or, Option, Some, None, if◌then◌else◌}
 use Rattle.std.specs.List.{enumerate_from}
 use Rattle.std.specs.Option.{unwrap_or}
@@ -49,7 +49,7 @@ unfoldable pub handed_in : State → Event → ℕ → Option Handing
 handed_in S (Handle id) l = handed_with S l (removed id S.mails).0
 handed_in S _ l = None
 
--- how each lock was last granted, in the order of locks; one that wasn't granted yet counts as free
+-- how each lock was last granted, in the order of locks; a lock that wasn't granted yet counts as free
 abbrev pub Handings : Type 0
 Handings = List Handing
 
@@ -59,7 +59,7 @@ no_handings C = replicate (length C.program.locks) AtOnce
 abbrev pub handing_of : Handings → ℕ → Handing
 handing_of H l = slice_index_or H l AtOnce
 
--- the same where those locks are granted that a function says
+-- the same after those locks are granted that a function says
 unfoldable pub handings_with : (ℕ → Option Handing) → Handings → Handings
 handings_with with_handing H = map (λ (last : ℕ × Handing). unwrap_or (with_handing last.0) last.1) (enumerate_from 0 H)
 

@@ -11,10 +11,10 @@ use Rattle.machine_rules.specs.Coherent.{Coherent}
 abbrev pub is_kind : EventKind → EventKind → Bool
 is_kind kind other = kind_index kind == kind_index other
 
--- how many of the events that come from a state on are of a kind
+-- how many of the events from a state on are of a kind
 abbrev pub events_of_kind : EventKind → State → List Event → ℕ
 events_of_kind kind S events = count_by (is_kind kind) (kinds_of S events)
 
--- every run that goes on from a state leads to a coherent one
+-- every run from a state leads to a coherent one
 abbrev pub StaysCoherent : State → Type 0
 StaysCoherent S = (events : List Event) → IsRun S events → Coherent (after S events)

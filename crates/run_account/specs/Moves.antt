@@ -1,5 +1,5 @@
--- What an event changes in the departures and in how locks were granted, by the entry or the lock that it is about: what
--- `departures_after` and `handings_after` come to.
+-- How an event changes the departures and how locks were granted, by the entry or the lock that it is about. `departures_after`
+-- and `handings_after` give the same.
 use Rattle.std.specs.Prelude.{ℕ, Bool, false, ◌&&◌, ◌==◌, not, nat_lt, ◌+◌, List, [], ◌∷◌, length, slice_get, slice_set, Option, Some, None, if◌then◌else◌}
 use Rattle.std.specs.List.{fold}
 use Rattle.dn_base.specs.declared.ids.CoreId.{CoreId}
@@ -43,7 +43,7 @@ abbrev pub given_departs : Departures → NodeParts → WordId → Option Entry 
 given_departs D n word (Some (Leaving value)) = departed D n.core word.0 why.Evicted
 given_departs D n word _ = D
 
--- the copies that go at a Go that begins a phase, and at a Grant that the core waits for
+-- the copies that are dropped at a Go that begins a phase, and at a Grant for which the core waits
 abbrev pub copies_depart : NodeParts → Occasion → List Interval → Departures → Departures
 copies_depart n o words D = fold (gone_pair n o words) D n.cache.pairs
 
@@ -90,7 +90,7 @@ abbrev pub release_hands : CoreId → Option Lock → Option Handing
 release_hands core None = None
 release_hands core (Some h) = holder_hands core h.holder h.queue
 
--- a message that names a core is of use where the machine has that core
+-- a message that names a core has an effect only if the machine has that core
 abbrev pub hands_if : BankParts → CoreId → Option Handing → Option Handing
 hands_if b core how = if nat_lt core.0 b.cores then how else None
 

@@ -21,7 +21,7 @@ type Departures = Sequence<Option<Departure>>;
 /// The account of the events so far: its table, what last happened to each core's entry of each word, and how each lock was
 /// last granted.
 ///
-/// Beside the table it takes 1 byte for each data word on each core, and 1 for each lock.
+/// Besides the table it takes 1 byte for each data word and core, and 1 for each lock.
 #[derive(Drop)]
 pub struct Account {
     table: AccountTable,
@@ -48,7 +48,7 @@ fn no_departures(alloc: Global, cores: u32, words: usize) -> Result<Vec<Departur
     Ok(rows)
 }
 
-/// Notes in a core's row why its entry of a word went.
+/// Notes in a core's row why its entry of a word was removed.
 fn depart_in(row: &mut Departures, word: usize, why: Departure)
     ensures { row.new ≡ slice_set row.old word (Some why) }
 {
@@ -57,7 +57,7 @@ fn depart_in(row: &mut Departures, word: usize, why: Departure)
     }
 }
 
-/// Notes why a core's entry of a word went.
+/// Notes why a core's entry of a word was removed.
 fn depart(rows: &mut Vec<Departures>, core: CoreId, word: WordId, why: Departure)
     ensures { rows.new.items ≡ departed rows.old.items core.0 word.0 why }
 {
@@ -67,7 +67,7 @@ fn depart(rows: &mut Vec<Departures>, core: CoreId, word: WordId, why: Departure
 }
 
 impl Account {
-    /// The account of no event of a machine, in these groups.
+    /// The account of a machine without events, in these groups.
     ///
     /// # Errors
     /// `Memory` where there is no room.
@@ -98,7 +98,7 @@ impl Account {
         self.table.add(item(node, measure, word));
     }
 
-    /// Notes why a core's entry of a word goes.
+    /// Notes why a core's entry of a word is removed.
     pub(crate) fn gone(&mut self, core: CoreId, word: WordId, why: Departure)
         ensures { self.new ≡ record self.old { departures = departed self.old.departures core.0 word.0 why } }
     {

@@ -18,7 +18,7 @@ use registration_protocol::Node;
 use word_cache::{Entry, Place};
 
 impl Occasion {
-    /// The measure of the copies that go.
+    /// The measure of the copies that are dropped.
     fn dropped(self) -> Measure
         ensures { result ≡ dropped_at self }
     {
@@ -28,7 +28,7 @@ impl Occasion {
         }
     }
 
-    /// The measure of the copies that go and have the word's value.
+    /// The measure of the copies that are dropped and have the word's value.
     fn current(self) -> Measure
         ensures { result ≡ current_at self }
     {
@@ -69,7 +69,7 @@ impl Occasion {
 }
 
 impl Account {
-    /// Counts a copy that goes.
+    /// Counts a copy that is dropped.
     fn note_gone(
         &mut self,
         machine: &Machine,
@@ -134,7 +134,8 @@ impl Account {
         }
     }
 
-    /// Counts the copies of a core: those that go, and those of the words that stay. It looks at each place of the cache once.
+    /// Counts the copies of a core: those that are dropped, and those of the given words that stay. It looks at each place of
+    /// the cache once.
     pub(crate) fn note_copies(
         &mut self,
         machine: &Machine,

@@ -1,5 +1,5 @@
 //! Which numbers of an account add up, for readers of an account.
-//! These are laws: functions that do nothing, whose contracts say it.
+//! A law is a function without effect; its contract states the theorem.
 ghost use Rattle.std.specs.Prelude.{◌≡◌, ℕ, ◌+◌, ◌<◌, ◌≤◌, true, List};
 ghost use Rattle.message_net.specs.declared.event.Event.{Event};
 ghost use Rattle.message_net.specs.declared.event.EventKind.TheVariants.{DataReply, Grant, Evict};
@@ -16,37 +16,37 @@ ghost use Rattle.account_table.specs.declared.measure.Measure.TheVariants.{Loads
 ghost use Rattle.run_account.specs.Account.{no_account, account_of_run, number_in_run, number_of_run, sum_of_run, is_of_words};
 ghost use Rattle.run_account.specs.Kinds.{events_of_kind, StaysCoherent};
 
-/// The numbers of the account of a run are the run's: how many of its items are of the measure and in the group.
+/// The numbers of the account of a run are those of the run: how many of its items are of the measure and in the group.
 pub fn a_run_has_the_numbers_of_its_account()
     ensures { (S : State) (events : List Event) (by : Grouping) (m : Measure) (group : ℕ) → group < groups_in S.setting.program S.setting.shape.cores by
         → tally_of m group (account_of_run S (no_account S.setting by) events).tallies ≡ capped (number_in_run by m group S events) }
 {}
 
-/// In each group every miss has one of the five reasons.
+/// In each group every miss has exactly one of the five reasons.
 pub fn each_miss_has_one_reason()
     ensures { (S : State) (events : List Event) (by : Grouping) (group : ℕ)
         → number_in_run by Misses group S events ≡ number_in_run by MissesFirst group S events + number_in_run by MissesPhase group S events
         + number_in_run by MissesLock group S events + number_in_run by MissesEvicted group S events + number_in_run by MissesTaken group S events }
 {}
 
-/// In each group the local loads are some of the loads.
+/// In each group there are at most as many local loads as loads.
 pub fn local_loads_are_loads()
     ensures { (S : State) (events : List Event) (by : Grouping) (group : ℕ) → number_in_run by LoadsLocal group S events ≤ number_in_run by Loads group S events }
 {}
 
-/// Each DataReply that is handled is a reply of a bank or of a core, where every run leads to a coherent state.
+/// Each DataReply that is handled was sent by a bank or by a core, if every run leads to a coherent state.
 pub fn replies_add_up()
     ensures { (S : State) (events : List Event) → StaysCoherent S → IsRun S events
         → events_of_kind DataReply S events ≡ number_of_run RepliesHome S events + number_of_run RepliesCore S events }
 {}
 
-/// Each Grant that is handled is of a lock that was free or of one that was handed on, where every run leads to a coherent state.
+/// Each Grant that is handled is of a lock that was free or of one that was handed on, if every run leads to a coherent state.
 pub fn grants_add_up()
     ensures { (S : State) (events : List Event) → StaysCoherent S → IsRun S events
         → events_of_kind Grant S events ≡ number_of_run GrantsAtOnce S events + number_of_run GrantsQueued S events }
 {}
 
-/// Each eviction is of a copy or of a registered word, where every run leads to a coherent state.
+/// Each eviction is of a copy or of a registered word, if every run leads to a coherent state.
 pub fn evictions_add_up()
     ensures { (S : State) (events : List Event) → StaysCoherent S → IsRun S events
         → events_of_kind Evict S events ≡ number_of_run EvictedCopies S events + number_of_run EvictedRegistered S events }
@@ -64,8 +64,8 @@ pub fn cores_add_up()
         → sum_of_run Core m (initial_state C) events ≡ number_of_run m (initial_state C) events }
 {}
 
-/// In a run of the machine of a checked program the numbers of the regions add up to those of the run, for each measure but those
-/// of grants, which have no word.
+/// In a run of the machine of a checked program the numbers of the regions add up to those of the run, for every measure except
+/// those of grants, which have no word.
 pub fn regions_add_up()
     ensures { (C : Setting) (events : List Event) (m : Measure) → is_of_words m ≡ true → IsReady C → IsRun (initial_state C) events
         → sum_of_run Region m (initial_state C) events ≡ number_of_run m (initial_state C) events }

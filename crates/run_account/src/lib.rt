@@ -1,4 +1,4 @@
-//! What a run cost and why, in numbers: which items its events have, by what happened before.
+//! What a run cost and why, in numbers: the items that its events count for, by what happened before.
 #![tactic(auto)]
 
 mod accesses;

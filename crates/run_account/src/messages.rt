@@ -242,7 +242,7 @@ fn given_up(bank: &Bank, lock: LockId, core: CoreId) -> Option<Handing>
 }
 
 impl Account {
-    /// Notes how a bank grants a lock at a message, if it does. The machine has so many cores.
+    /// Notes how a bank grants a lock at a message, if it does. The machine has `cores` cores.
     pub(crate) fn note_bank(&mut self, bank: &Bank, cores: u32, message: Message)
         requires { bank.now.cores ≡ cores }
         ensures { self.new ≡ record self.old { handings = message_hands bank.now self.old.handings message } }

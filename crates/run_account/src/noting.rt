@@ -89,7 +89,7 @@ impl Account {
         }
     }
 
-    /// Notes an event, which comes next on the machine. Takes no memory. A Go or a Grant looks at each place of one cache once, a
+    /// Notes an event that comes next on the machine. Takes no memory. A Go or a Grant looks once at each place of one cache, a
     /// store that registers its word at one entry of each core, and any other event at a few entries.
     #[tactic(auto, using(crate::proofs::After::after_arrive))]
     pub fn note(&mut self, machine: &Machine, event: Event)
@@ -104,8 +104,8 @@ impl Account {
     }
 }
 
-/// The account of events that come on a machine, in these groups; None where one of them may not come. Fewer than 4,000,000,000
-/// events have come on the machine then.
+/// The account of the events that come on a machine, in these groups; None if one of them may not come. Fewer than
+/// 4,000,000,000 events must have come on the machine after them.
 ///
 /// # Errors
 /// `Memory` where there is no room.
@@ -123,7 +123,7 @@ pub fn account_of(
     let mut machine = machine;
     let mut account = Account::new(alloc, &machine, by)?;
     for event in events {
-        // noted before it comes: it is looked at with the state before it
+        // it is noted before it comes, with the state before it
         account.note(&machine, *event);
         let came = machine.try_step(*event)?;
         match came {

@@ -1,4 +1,4 @@
--- What changes make of a core's state, part by part, where they are applied one after the other.
+-- How changes, applied one after the other, change a core's state, part by part.
 use Rattle.std.specs.Prelude.{◌≡◌, ℕ, ◌+◌, ◌==◌, ◌||◌, Bool, true, false, List, [], ◌∷◌, Option, Some, None, if◌then◌else◌}
 use Rattle.std.specs.List.{fold}
 use Rattle.rv_core.specs.declared.task.End.{End}
@@ -26,13 +26,13 @@ abbrev pub phase_step : ℕ → Change → ℕ
 phase_step p (change.Begins q) = q.0
 phase_step p _ = p
 
--- what the core waits for; it waits for nothing as a phase begins
+-- what the core waits for; when a phase begins it waits for nothing
 abbrev pub wait_step : NodeWait → Change → NodeWait
 wait_step x (change.Waits y) = y
 wait_step x (change.Begins q) = wait.None
 wait_step x _ = x
 
--- whether it has arrived, which it hasn't as a phase begins, and whether it has halted
+-- whether it has arrived, which it hasn't when a phase begins, and whether it has halted
 abbrev pub arrived_step : Bool → Change → Bool
 arrived_step x change.Arrived = true
 arrived_step x (change.Begins q) = false
@@ -42,7 +42,7 @@ abbrev pub halted_step : Bool → Change → Bool
 halted_step x change.Halted = true
 halted_step x _ = x
 
--- the signature for a lock, which is empty as a phase begins
+-- the signature for a lock, which is empty when a phase begins
 abbrev pub signature_step : ℕ → Signature → Change → Signature
 signature_step l s (change.Signed lock t) = if lock.0 == l then t else s
 signature_step l s (change.Begins q) = empty q.0
@@ -55,7 +55,7 @@ hold_step l x (change.Gives lock) = if lock.0 == l then false else x
 hold_step l x (change.Begins q) = false
 hold_step l x _ = x
 
--- the pc of a task that a phase has begun, how many instructions have retired, and how the task has ended
+-- the pc of a task in a phase that has begun, how many instructions have retired, and how the task has ended
 abbrev pub pc_step : ℕ → Change → ℕ
 pc_step x (change.Retired pc) = pc
 pc_step x (change.At pc retired) = pc
@@ -83,24 +83,24 @@ abbrev pub is_among : ℕ → List EntryBefore → Bool
 is_among w [] = false
 is_among w (e ∷ es) = (e.word.0 == w) || is_among w es
 
--- the words that were looked at had their entries before, and every other word's entry stays
+-- the words that were looked at had these entries before, and every other word's entry stays
 pub record AreLookedAt (n m : NodeParts) (entries : List EntryBefore) : Type 0 where
   pub before : AreEntriesOf n entries
   pub others : (w : ℕ) → is_among w entries ≡ false → entry_of m w ≡ entry_of n w
 
--- what a word's home has for it
+-- what a word's home holds for it
 abbrev pub home_step : ℕ → Option BankWord → Change → Option BankWord
 home_step w x (change.Home word there) = if word.0 == w then Some there else x
 home_step w x _ = x
 
--- changes lead from a core's phase, wait and flags to another's
+-- the changes lead from a core's phase, wait and flags to those of another node
 pub record StatusFollows (n : NodeParts) (changes : List Change) (m : NodeParts) : Type 0 where
   pub phase : fold phase_step n.phase changes ≡ m.phase
   pub waiting : fold wait_step n.waiting changes ≡ m.waiting
   pub arrived : fold arrived_step n.arrived changes ≡ m.arrived
   pub halted : fold halted_step n.halted changes ≡ m.halted
 
--- changes lead from a task's pc, its retired instructions and its end to another's
+-- the changes lead from a task's pc, retired instructions and end to those of another task
 pub record TaskFollows (t : TaskState) (changes : List Change) (u : TaskState) : Type 0 where
   pub pc : fold pc_step t.pc changes ≡ u.pc
   pub retired : fold retired_step t.retired changes ≡ u.retired

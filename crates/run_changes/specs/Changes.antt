@@ -1,4 +1,5 @@
--- What becomes of an actor's state, change by change: the difference of what was looked at before an event and the state after it.
+-- How an actor's state changes, change by change: the difference between what was looked at before an event and the state after
+-- it.
 use Rattle.std.specs.Prelude.{ℕ, zero, suc, ◌+◌, ◌==◌, Bool, true, false, ◌&&◌, not, List, [], ◌∷◌, ◌++◌, length, flat_map, slice_get, slice_index_or, Option, Some, None, if◌then◌else◌}
 use Rattle.std.specs.Option.{is_some}
 use Rattle.dn_base.specs.declared.ids.CoreId.{CoreId}
@@ -32,7 +33,7 @@ use Rattle.run_changes.specs.declared.look.Look.{Look}
 use Rattle.run_changes.specs.declared.look.Look.TheVariants.{Nothing, Node, Word, Keeper}
 use Rattle.run_changes.specs.declared.look.Look.TheVariants.{Lock as LockAt}
 
--- a change where a test fails, and none where it holds
+-- a change if a test fails, and none if it holds
 abbrev pub change_unless : Bool → Change → List Change
 change_unless same c = if same then [] else c ∷ []
 
@@ -46,7 +47,7 @@ same_entry (Registered a false) (Registered b false) = a == b
 same_entry (Leaving a) (Leaving b) = a == b
 same_entry _ _ = false
 
--- what becomes of the entry of a word
+-- how the entry of a word changes
 abbrev pub entry_change : WordId → Option Entry → Option Entry → List Change
 entry_change word None None = []
 entry_change word (Some before) None = change.Gone word ∷ []
@@ -73,7 +74,7 @@ abbrev pub task_change : Option TaskState → Option TaskState → List Change
 task_change (Some before) (Some after) = end_change before after after.end
 task_change _ _ = []
 
--- the locks that a task holds; none where there is no task
+-- the locks that a task holds; none if there is no task
 abbrev pub locks_held : Option TaskState → ℕ
 locks_held None = 0
 locks_held (Some t) = t.held
@@ -90,7 +91,7 @@ wait_change before after = change_unless (same_wait before after) (change.Waits 
 
 -- ---- locks and signatures of a core
 
--- a lock that is held now or isn't any more
+-- a lock is held now, or isn't held any more
 abbrev pub hold_change : ℕ → Bool → Bool → List Change
 hold_change lock false true = change.Takes (record { 0 = lock }) ∷ []
 hold_change lock true false = change.Gives (record { 0 = lock }) ∷ []
@@ -99,7 +100,8 @@ hold_change lock _ _ = []
 abbrev pub sign_change : ℕ → Signature → Signature → List Change
 sign_change lock before after = change_unless (same_signature before after) (change.Signed (record { 0 = lock }) after)
 
--- of the locks from one on, with the locks that are held before and after, all signatures before, and these locks' signatures after
+-- the changes for the locks from one on, by the locks held before and after, all signatures before, and these locks' signatures
+-- after
 abbrev pub lock_changes : ℕ → ℕ → List Signature → ℕ → List Signature → List Change
 lock_changes before after signatures lock [] = []
 lock_changes before after signatures lock (s ∷ ss) =
@@ -114,7 +116,7 @@ flag_change _ _ c = []
 
 -- ---- a core's node
 
--- what becomes of a node that stays in its phase
+-- how a node changes that stays in its phase
 abbrev pub part_changes : NodeLook → NodeParts → List Change
 part_changes look n =
     task_change look.task n.task
@@ -122,13 +124,13 @@ part_changes look n =
     ++ (lock_changes (locks_held look.task) (locks_held n.task) look.signatures 0 n.signatures
     ++ (flag_change look.arrived n.arrived change.Arrived ++ flag_change look.halted n.halted change.Halted)))
 
--- what becomes of a node: a phase begins, or its parts change one by one; entries change either way
+-- how a node changes: a phase begins, or its parts change one by one; entries change in both cases
 unfoldable pub node_changes : NodeLook → NodeParts → List Change
 node_changes look n =
     if look.phase.0 == n.phase then entry_changes n look.entries ++ part_changes look n
     else change.Begins (record { 0 = n.phase }) ∷ entry_changes n look.entries
 
--- the load that retired, and the store, which left the value of its entry
+-- the load that retired, and the store, which left its value in the entry
 abbrev pub load_change : Option LoadSeen → List Change
 load_change None = []
 load_change (Some seen) = change.Loaded seen ∷ []
@@ -142,7 +144,7 @@ store_change look n (Some (need.TheVariants.Store word whole)) =
     if has_retired look.task n.task then change.Stored word (value_in_entry (entry_of n word.0)) ∷ [] else []
 store_change look n _ = []
 
--- what an event changes at a core, and what its instruction read and wrote
+-- how an event changes a core, and what its instruction read and wrote
 abbrev pub core_changes : NodeLook → Option LoadSeen → Option NodeParts → List Change
 core_changes look seen None = []
 core_changes look seen (Some n) = node_changes look n ++ (load_change seen ++ store_change look n look.needs)
@@ -163,8 +165,8 @@ same_holder None None = true
 same_holder (Some a) (Some b) = a.0 == b.0
 same_holder _ _ = false
 
--- whether a lock has the same holder and as many cores that wait: then the same ones wait, as a core joins at the end or the first
--- becomes the holder
+-- whether a lock has the same holder and as many waiting cores as before. Then the same cores wait, since a core can only join
+-- at the end, and only the first can become the holder
 abbrev pub same_queue : LockLook → Lock → Bool
 same_queue look h = same_holder look.holder h.holder && (look.waiting == length h.queue)
 
@@ -181,12 +183,12 @@ abbrev pub arrived_core : ℕ → Bool → List CoreId
 arrived_core core true = record { 0 = core } ∷ []
 arrived_core core false = []
 
--- of so many cores from one on those that have arrived
+-- of `count` cores from one on, those that have arrived
 abbrev pub arrived_from : Barrier → ℕ → ℕ → List CoreId
 arrived_from k core zero = []
 arrived_from k core (suc n) = arrived_core core (has_arrived core k) ++ arrived_from k (core + 1) n
 
--- what the keeper is, which is told whole
+-- the keeper's whole state
 abbrev pub barrier_change : Barrier → Change
 barrier_change k = change.Barrier (record { 0 = k.phase }) k.bad (arrived_from k 0 (length k.arrived))
 

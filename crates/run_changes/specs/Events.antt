@@ -21,7 +21,7 @@ use Rattle.run_changes.specs.Changes.{changes_by}
 unfoldable pub event_changes : State → Event → List Change
 event_changes S e = changes_by (look_at S e) (seen_in S e) (next S e)
 
--- how many mails are left in flight before an event sends any: one that is handled leaves
+-- how many mails are left in flight before an event sends any: a mail that is handled has been removed
 abbrev pub count_left_by : List Mail → Event → ℕ
 count_left_by mails (Handle id) = length mails - 1
 count_left_by mails _ = length mails
@@ -39,7 +39,7 @@ outgoing_of m = record { to = m.to; message = m.message }
 unfoldable pub sent_in : State → Event → List Outgoing
 sent_in S e = map outgoing_of (drop (count_left_by S.mails e) (next S e).mails)
 
--- the actor that makes an event; one that may come is some actor's
+-- the actor that makes an event; an event that may come has one
 abbrev pub maker_of : Option Actor → Actor
 maker_of None = Keeper
 maker_of (Some a) = a

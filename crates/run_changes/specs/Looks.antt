@@ -1,4 +1,4 @@
--- What is looked at of an event's actor before the event: all that the event may change.
+-- What is looked at before an event: all that the event may change of its actor.
 use Rattle.std.specs.Prelude.{ℕ, zero, suc, ◌+◌, List, [], ◌∷◌, ◌++◌, length, map, slice_get, Option, Some, None}
 use Rattle.std.specs.List.{filter}
 use Rattle.dn_base.specs.declared.ids.BankId.{BankId}
@@ -35,7 +35,7 @@ entry_before n word = record { word = word; entry = entry_of n word.0 }
 abbrev pub pair_before : Pair → EntryBefore
 pair_before p = record { word = p.0; entry = Some p.1 }
 
--- the words of so many sets of a cache from one on: set by set, in each the least recently used first
+-- the words of `count` sets of a cache from one on: set by set, in each the least recently used first
 abbrev pub cached_from : Cache → ℕ → ℕ → List EntryBefore
 cached_from c set zero = []
 cached_from c set (suc n) = map pair_before (filter (in_set c.sets set) c.pairs) ++ cached_from c (set + 1) n
@@ -52,7 +52,7 @@ words_needed n (Some (need.TheVariants.Load word)) = entry_before n word ∷ []
 words_needed n (Some (need.TheVariants.Store word whole)) = entry_before n word ∷ []
 words_needed n _ = []
 
--- the words whose entries a message may change: at a Grant and at a Go each copy may go
+-- the words whose entries a message may change: a Grant and a Go may drop any copy
 abbrev pub words_of_message : NodeParts → Message → List EntryBefore
 words_of_message n (message.DataReply word value) = entry_before n word ∷ []
 words_of_message n (message.RegAck word) = entry_before n word ∷ []
@@ -62,7 +62,7 @@ words_of_message n (message.Grant lock signature) = cached n.cache
 words_of_message n (message.Go phase) = cached n.cache
 words_of_message n _ = []
 
--- a node of which these words are looked at
+-- a node, of which the entries of these words are looked at
 abbrev pub node_look : NodeParts → Option Need → List EntryBefore → NodeLook
 node_look n needs entries =
     record {
@@ -88,7 +88,7 @@ arrive_look n = node_look n None []
 abbrev pub message_look : Message → NodeParts → NodeLook
 message_look m n = node_look n None (words_of_message n m)
 
--- a core is looked at so, if it is there
+-- what is looked at of a core, if it exists
 abbrev pub core_look : CoreId → (NodeParts → NodeLook) → Option NodeParts → Look
 core_look core look None = Nothing
 core_look core look (Some n) = Node core (look n)

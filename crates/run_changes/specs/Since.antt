@@ -1,4 +1,4 @@
--- What is different in a state from the beginning of its machine: the changes that lead there from the beginning.
+-- How a state differs from the initial state of its machine: the changes that lead from there to it.
 use Rattle.std.specs.Prelude.{ℕ, zero, suc, ◌+◌, ◌%◌, false, List, [], ◌∷◌, ◌++◌, length, map, replicate, slice_get, Option, Some, None}
 use Rattle.std.specs.List.{filter}
 use Rattle.message_net.specs.declared.actor.Actor.{Actor}
@@ -31,7 +31,7 @@ abbrev pub held_from : Cache → ℕ → ℕ → List Change
 held_from c set zero = []
 held_from c set (suc n) = map pair_held (filter (in_set c.sets set) c.pairs) ++ held_from c (set + 1) n
 
--- how a task has ended, and where it is; the end comes first, as the instruction that finishes a task retires
+-- how a task has ended, and where it is; the end comes first, since the instruction that finishes a task retires
 abbrev pub end_since : Option End → List Change
 end_since None = []
 end_since (Some by) = change.Ended by ∷ []
@@ -40,7 +40,7 @@ abbrev pub task_since : Option TaskState → List Change
 task_since None = []
 task_since (Some t) = end_since t.end ++ change.At t.pc t.retired ∷ []
 
--- what is different of a node from one in which its phase begins without entries
+-- how a node differs from one in which its phase begins without entries
 abbrev pub node_since : NodeParts → List Change
 node_since n =
     change.Begins (record { 0 = n.phase })
@@ -63,11 +63,11 @@ cores_since S core (suc n) = core_since core (slice_get S.nodes core) ++ cores_s
 abbrev pub home_of : State → ℕ → Actor
 home_of S number = actor.Bank (record { 0 = number % S.setting.shape.banks })
 
--- a word at its home, with its first value
+-- a word at its home, compared with its initial value
 abbrev pub word_since : State → ℕ → ℕ → List ActorChanges
 word_since S w value = changes_of (home_of S w) (home_change (record { 0 = w }) (Some (Home value)) (home_at S w))
 
--- of the words from one on, with their first values
+-- the words from one on, compared with their initial values
 abbrev pub words_since : State → ℕ → List ℕ → List ActorChanges
 words_since S w [] = []
 words_since S w (value ∷ values) = word_since S w value ++ words_since S (w + 1) values
@@ -85,7 +85,7 @@ abbrev pub locks_since : State → ℕ → ℕ → List ActorChanges
 locks_since S l zero = []
 locks_since S l (suc n) = lock_since S l ++ locks_since S (l + 1) n
 
--- of all actors: the cores, the homes of words and locks, and the keeper
+-- the changes of all actors: the cores, the homes of words and locks, and the keeper
 unfoldable pub changes_since : State → List ActorChanges
 changes_since S =
     cores_since S 0 S.setting.shape.cores

@@ -9,54 +9,54 @@ use write_signature::Signature;
 /// One change of an actor's state, or what its event read or wrote.
 #[derive(Debug, Drop)]
 pub enum Change {
-    /// The core has no entry of the word any more.
+    /// The core no longer has an entry of the word.
     Gone(WordId),
-    /// The core's entry of the word is this one now.
+    /// The core's entry of the word is now this one.
     Holds(WordId, Entry),
-    /// An instruction of the core's task has retired, and the program counter is this one now.
+    /// An instruction of the core's task has retired, and the program counter is now this one.
     Retired {
         pc: u32,
     },
-    /// The core's task is at this program counter and has retired so many instructions. No event makes this change: it says where a
-    /// task is since a run began.
+    /// The core's task is at this program counter and has retired this many instructions. No event makes this change: it only
+    /// occurs in the changes since a run began.
     At {
         pc: u32,
         retired: u32,
     },
-    /// The core's task has ended so. The instruction that finishes a task retires.
+    /// The core's task has ended in this way. The instruction that finishes a task retires.
     Ended(End),
-    /// The core waits for this now.
+    /// The core now waits for this.
     Waits(NodeWait),
     /// The core's task holds the lock.
     Takes(LockId),
-    /// The core's task doesn't hold the lock any more.
+    /// The core's task no longer holds the lock.
     Gives(LockId),
-    /// At a core: its signature for the lock is this one now. At a bank: the one that is kept at the lock's home.
+    /// At a core: its signature for the lock is now this one. At a bank: the signature at the lock's home is.
     Signed(LockId, Signature),
     /// The core has arrived at the barrier.
     Arrived,
     /// The core has halted.
     Halted,
-    /// A phase has begun for the core: it has the phase's task at its entry, if there is one, waits for nothing, has empty
-    /// signatures of the phase and hasn't arrived.
+    /// A phase has begun for the core: it has the phase's task at its entry, if there is one; it waits for nothing; it has
+    /// empty signatures of the phase; and it hasn't arrived.
     Begins(PhaseId),
-    /// The home of the word has this for it now.
+    /// The home of the word now holds this for it.
     Home(WordId, BankWord),
-    /// The lock's holder and queue at its home, the first that waits first.
+    /// The lock's holder and queue at its home, in the order in which the cores wait.
     Queue {
         lock: LockId,
         holder: Option<CoreId>,
         waiting: Sequence<CoreId>,
     },
-    /// The keeper is in this phase, has heard of a task that ended badly or not, and these cores have arrived.
+    /// The keeper's phase, whether it has heard of a task that ended badly, and the cores that have arrived.
     Barrier {
         phase: PhaseId,
         bad: bool,
         arrived: Sequence<CoreId>,
     },
-    /// No change: the load that retired read this.
+    /// Not a change: the load that retired read this.
     Loaded(LoadSeen),
-    /// No change: the store that retired left this value in the word.
+    /// Not a change: the store that retired left this value in the word.
     Stored(WordId, u32),
 }
 
@@ -67,7 +67,7 @@ pub struct ActorChanges {
     pub changes: Sequence<Change>,
 }
 
-/// An event that was made: its actor, its kind, what it changed in the actor's state, and what the actor sent.
+/// An event that was made: its actor, its kind, the changes of the actor's state, and what the actor sent.
 #[derive(Debug, Drop)]
 pub struct EventMade {
     pub actor: Actor,

@@ -1,5 +1,5 @@
-//! What an event changes: the state of its actor, change by change, what the actor sends, and what is different in a state from the
-//! beginning of its run.
+//! The changes that an event makes in its actor's state, what the actor sends, and how a state differs from the beginning of
+//! its run.
 #![tactic(auto)]
 
 mod banks;

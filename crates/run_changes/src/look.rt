@@ -12,12 +12,12 @@ pub struct EntryBefore {
     pub entry: Option<Entry>,
 }
 
-/// What a node is before an event: all that the event may change of it.
+/// A node before an event: all that the event may change of it.
 #[derive(Debug, Drop)]
 pub struct NodeLook {
     pub phase: PhaseId,
     pub task: Option<TaskState>,
-    /// What the instruction needs, where the event is one.
+    /// What the instruction needs, if the event is one.
     pub needs: Option<Need>,
     pub wait: NodeWait,
     pub signatures: Sequence<Signature>,
@@ -27,7 +27,7 @@ pub struct NodeLook {
     pub entries: Sequence<EntryBefore>,
 }
 
-/// What a lock's home is before an event: the holder, how many wait, and the signature.
+/// A lock's home before an event: the holder, how many cores wait, and the signature.
 #[derive(Clone, Copy, Debug, PartialEq, Eq)]
 pub struct LockLook {
     pub holder: Option<CoreId>,
@@ -38,7 +38,7 @@ pub struct LockLook {
 /// What is looked at of an event's actor before the event.
 #[derive(Debug, Drop)]
 pub enum Look {
-    /// Nothing: the event changes nothing of an actor.
+    /// Nothing: the event changes nothing in an actor's state.
     Nothing,
     Node(CoreId, NodeLook),
     Word(BankId, WordId, Option<BankWord>),

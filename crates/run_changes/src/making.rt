@@ -1,4 +1,4 @@
-//! An event is made, and what it changes and sends is told.
+//! Makes an event, and tells what it changes and sends.
 ghost use Rattle.std.specs.Prelude.{◌≡◌, ◌-◌, ◌+◌, ◌<◌, ◌≤◌, ◌++◌, true, false, length, drop, map, slice_get, IfOk, IfSome, IfNone, OnOk};
 ghost use Rattle.machine_rules.specs.Next.{next, enabled};
 ghost use Rattle.machine_rules.specs.Sound.{IsMachine};
@@ -18,7 +18,7 @@ use message_net::{Actor, Event, Outgoing, Pool};
 use registry_bank::BankWord;
 use std::alloc::Global;
 
-/// What an event changed at a core.
+/// Notes what an event changed at a core.
 fn note_core_at(
     out: &mut Vec<Change>,
     machine: &Machine,
@@ -36,7 +36,7 @@ fn note_core_at(
     }
 }
 
-/// What an event changed of a word at its home.
+/// Notes what an event changed of a word at its home.
 fn note_home_at(
     out: &mut Vec<Change>,
     machine: &Machine,
@@ -54,7 +54,7 @@ fn note_home_at(
     }
 }
 
-/// What an event changed of a lock at its home.
+/// Notes what an event changed of a lock at its home.
 fn note_queue_at(
     alloc: Global,
     out: &mut Vec<Change>,
@@ -73,7 +73,7 @@ fn note_queue_at(
     }
 }
 
-/// What an event changed, by what was looked at before it and the load that it completed.
+/// Notes what an event changed, by what was looked at before it and the load that it completed.
 #[tactic(auto, unfolding(crate::specs::Changes::changes_by))]
 fn note_changes(
     alloc: Global,
@@ -104,7 +104,7 @@ fn count_left_by(pool: &Pool, event: Event) -> u32
     }
 }
 
-/// What the mails from a place on carry, and where to.
+/// The messages of the mails from an index on, with their receivers.
 fn sent_from(alloc: Global, pool: &Pool, left: u32) -> Result<Sequence<Outgoing>, Memory>
     ensures { IfOk result (λ sent. sent ≡ map outgoing_of (drop left pool.now.mails)) }
 {
@@ -119,7 +119,7 @@ fn sent_from(alloc: Global, pool: &Pool, left: u32) -> Result<Sequence<Outgoing>
     Ok(sent)
 }
 
-/// Tells what an event did that came: what it changed, by what was looked at before it, and which mails stand after those that were left.
+/// Tells what an event did: what it changed, by what was looked at before it, and which mails stand after those that were left.
 fn told(
     alloc: Global,
     machine: &Machine,
@@ -141,14 +141,14 @@ fn told(
     })
 }
 
-/// Makes an event, where it may come, and tells its actor, its kind, what it changed and what it sent; None exactly where it may not
-/// come, and the machine is then as before. There are fewer than 4,000,000,000 events before it.
+/// Makes an event if it may come. Gives its actor, its kind, what it changed and what it sent. None exactly if it may not come;
+/// the machine is as before then. Fewer than 4,000,000,000 events must have come before.
 ///
-/// A Go and a Grant look at each place of one cache, an event that handles a lock's message at the cores that wait, and any other event
-/// at one word, at each lock and at what is sent.
+/// A Go or a Grant looks at each place of one cache. An event that handles a lock's message looks at the cores that wait. Any
+/// other event looks at one word, at each lock, and at what is sent.
 ///
 /// # Errors
-/// `Memory` where there is no room; the event may have come then, and nothing says so.
+/// `Memory` if there is no room. The event may or may not have come then.
 pub fn make(alloc: Global, machine: &mut Machine, event: Event) -> Result<Option<EventMade>, Memory>
     requires { machine.old.made < 4000000000 }
     ensures none { IfOk result (λ came. IfNone came ((enabled machine.old.state event ≡ false) × (machine.new ≡ machine.old))) }

@@ -1,4 +1,4 @@
-//! What is different in a state from the beginning of its machine.
+//! How a machine's state differs from the beginning of its run.
 ghost use Rattle.std.specs.Prelude.{◌≡◌, ◌++◌, ◌<◌, ◌≤◌, ◌∷◌, [], length, map, replicate, slice_get, Some, IfOk, OnOk};
 ghost use Rattle.std.specs.List.{filter};
 ghost use Rattle.word_cache.specs.Cache.{in_set};
@@ -89,7 +89,7 @@ fn empty_signatures(alloc: Global, phase: PhaseId, locks: usize) -> Result<Vec<S
     Ok(vec![in alloc; Signature::empty(phase); locks]?)
 }
 
-/// What is different of the locks of a node from those of one that holds none and has empty signatures.
+/// How the locks of a node differ from those of a node that holds none and has empty signatures.
 fn note_own_locks(alloc: Global, out: &mut Vec<Change>, node: &Node) -> Result<(), Memory>
     requires { length node.now.signatures ≤ 32 }
     ensures { OnOk result (out.new.items ≡ out.old.items ++ lock_changes 0 (locks_held node.now.task) (replicate (length node.now.signatures) (empty node.now.phase)) 0 node.now.signatures) }
@@ -100,7 +100,7 @@ fn note_own_locks(alloc: Global, out: &mut Vec<Change>, node: &Node) -> Result<(
     note_locks(out, 0, held, before.as_slice(), signatures)
 }
 
-/// What is different of a node from one in which its phase begins without entries.
+/// How a node differs from one in which its phase begins without entries.
 fn node_since(alloc: Global, node: &Node) -> Result<Vec<Change>, Memory>
     requires { length node.now.signatures ≤ 32 }
     ensures { IfOk result (λ changes. changes.items ≡ node_since node.now) }
@@ -133,7 +133,7 @@ fn add_changes(
     })
 }
 
-/// What is different of a core, which is there.
+/// How a core differs; the core exists.
 fn add_core(
     alloc: Global,
     out: &mut Sequence<ActorChanges>,
@@ -148,7 +148,7 @@ fn add_core(
     add_changes(out, Actor::Core(CoreId(core)), changes)
 }
 
-/// What is different of so many cores, which are there.
+/// How the first `count` cores differ; they exist.
 fn add_cores(
     alloc: Global,
     out: &mut Sequence<ActorChanges>,
@@ -174,7 +174,7 @@ fn home_of(machine: &Machine, number: u32) -> BankId
     BankId(remainder(number, machine.shape().banks))
 }
 
-/// What is different of a word at its home from its first value.
+/// How a word at its home differs from its initial value.
 fn add_word(
     alloc: Global,
     out: &mut Sequence<ActorChanges>,
@@ -192,7 +192,7 @@ fn add_word(
     add_changes(out, Actor::Bank(bank), changes)
 }
 
-/// What is different of each word at its home, by the first values of the words.
+/// How each word at its home differs, by the initial values of the words.
 fn add_words(
     alloc: Global,
     out: &mut Sequence<ActorChanges>,
@@ -222,7 +222,7 @@ fn free_look() -> LockLook
     }
 }
 
-/// What is different of a lock at its home from a free one.
+/// How a lock at its home differs from a free one.
 fn add_lock(
     alloc: Global,
     out: &mut Sequence<ActorChanges>,
@@ -239,7 +239,7 @@ fn add_lock(
     add_changes(out, Actor::Bank(bank), changes)
 }
 
-/// What is different of so many locks at their homes.
+/// How the first `count` locks at their homes differ.
 fn add_locks(
     alloc: Global,
     out: &mut Sequence<ActorChanges>,
@@ -268,11 +268,11 @@ fn add_keeper(
     add_changes(out, Actor::Keeper, changes)
 }
 
-/// What is different in a machine's state from the beginning of its run: the changes that lead there from a machine whose homes have the
-/// first values, whose locks are free and in which each core is in phase 0 without entries. Each core's changes begin with those of
-/// a phase that begins, and the keeper is told whole.
+/// How a machine's state differs from the beginning of its run: the changes that lead there from a machine whose homes hold the
+/// initial values, whose locks are free, and in which each core is in phase 0 without entries. Each core's changes begin with
+/// the beginning of its phase, and the keeper's whole state is told.
 ///
-/// It looks at each place of the caches, at each data word and at each lock once.
+/// It looks once at each place of the caches, at each data word and at each lock.
 ///
 /// # Errors
 /// `Memory` where there is no room.
